@@ -1,13 +1,16 @@
-// A library with one function.
+//! The words of a line and of a text: names, numbers, and how a line and a text are cut into words.
 #![tactic(auto)]
 
-ghost use Rattle.std.specs.Prelude.{◌≡◌};
-ghost use Rattle.rr_words.specs.Echo.{echo_of};
+pub mod laws;
+pub mod line;
+pub mod name;
+pub mod numeral;
+pub mod text;
 
-// The `ensures` clause is the contract: what `echo` returns is `echo_of` of its argument, a definition
-// in `specs/Echo.antt`, which a caller's clause can cite too.
-pub fn echo(x: usize) -> usize
-    ensures { result ≡ echo_of x }
-{
-    x
-}
+pub use line::{split_word, words};
+pub use name::{HexName, Name};
+pub use numeral::{number, small_number};
+pub use text::{Row, rows};
+
+#[cfg(test)]
+mod tests;

@@ -1,0 +1,50 @@
+//! How a run of the program ends.
+ghost use Rattle.std.specs.Prelude.{◌≡◌};
+ghost use Rattle.rr_cli.specs.Ending.{status_of};
+
+/// How a run of the program ends.
+#[derive(Clone, Copy, Debug, PartialEq, Eq)]
+pub enum Ending {
+    /// It did what the words asked.
+    Done,
+    /// The words were refused.
+    WordsRefused,
+    /// It ended with the fault of this number.
+    Faulted(u8),
+}
+
+/// The exit status of a run that ends so: 0 where it did its work, 2 where the words were refused,
+/// 3 where a text of the kit or the store itself is wrong, and 4 where the device, a stream or
+/// memory failed.
+pub fn status(ending: Ending) -> u8
+    ensures { result ≡ status_of ending }
+{
+    match ending {
+        Ending::Done => 0,
+        Ending::WordsRefused => 2,
+        Ending::Faulted(3..=7 | 63 | 64) => 3,
+        Ending::Faulted(_) => 4,
+    }
+}
+
+#[cfg(test)]
+mod tests {
+    use super::*;
+
+    #[test]
+    fn statuses(rt: HostRuntime) {
+        for (ending, expected) in [
+            (Ending::Done, 0),
+            (Ending::WordsRefused, 2),
+            (Ending::Faulted(3), 3),
+            (Ending::Faulted(7), 3),
+            (Ending::Faulted(63), 3),
+            (Ending::Faulted(64), 3),
+            (Ending::Faulted(60), 4),
+            (Ending::Faulted(69), 4),
+            (Ending::Faulted(70), 4),
+        ] {
+            assert_eq!(rt; status(ending), expected, "at {ending:?}");
+        }
+    }
+}

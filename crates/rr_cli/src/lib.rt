@@ -1,0 +1,13 @@
+//! The command line of the program `moderate`: what its words ask for, and with which status it
+//! ends.
+#![tactic(auto)]
+
+mod arguments;
+mod ending;
+mod fault;
+mod plans;
+
+pub use arguments::plan;
+pub use ending::{Ending, status};
+pub use fault::Fault;
+pub use plans::Plan;

@@ -1,0 +1,4 @@
+pub mod LineLemmas
+pub mod ReadingLemmas
+pub mod ServingLemmas
+pub mod SplitLemmas
