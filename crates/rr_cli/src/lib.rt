@@ -2,11 +2,13 @@
 //! ends.
 #![tactic(auto)]
 
+mod acting;
 mod arguments;
 mod ending;
 mod fault;
 mod plans;
 
+pub use acting::{act, refuse};
 pub use arguments::plan;
 pub use ending::{Ending, status};
 pub use fault::Fault;

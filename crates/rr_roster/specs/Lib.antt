@@ -1,1 +1,5 @@
 pub mod Company
+pub mod Terms
+pub mod Reading
+pub mod Rules
+pub mod Spelled

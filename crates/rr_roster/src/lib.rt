@@ -2,5 +2,15 @@
 #![tactic(auto)]
 
 mod company;
+mod document;
+mod fault;
+mod numbers;
+mod roster;
+mod rules;
+mod spelled;
+#[cfg(test)]
+mod tests;
 
 pub use company::{Corp, Kind, Private};
+pub use fault::{Fault, Rule};
+pub use roster::Roster;

@@ -23,7 +23,9 @@ pub struct Row<'a> {
 ///
 /// Only memory can fail.
 pub fn rows(alloc: Global, text: &str) -> Result<Option<Vec<Row<'_>>>, AllocError>
-    ensures rows { IfOk result (λ read. MatchOption read (¬ IsSmallAscii text.now) (λ rows. IsSmallAscii text.now × (map row_of rows.items ≡ rows_of text.now))) }
+    ensures rows { IfOk result (λ read. MatchOption read
+        (¬ IsSmallAscii text.now)
+        (λ rows. IsSmallAscii text.now × (map row_of rows.items ≡ rows_of text.now))) }
     ensures bounded { IfOk result (λ read. IfSome read (λ rows. All (λ row. IsRowUpTo 65536 (row_of row)) rows.items)) }
 {
     if text.len() > TEXT_BYTES || !text.is_ascii() {

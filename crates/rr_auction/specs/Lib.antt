@@ -1,0 +1,4 @@
+pub mod Fault
+pub mod Rules
+pub mod Progress
+pub mod Opening

@@ -1,0 +1,9 @@
+pub mod Fault
+pub mod Same
+pub mod Book
+pub mod Shares
+pub mod State
+pub mod StateLaws
+pub mod ShareLaws
+pub mod Opening
+pub mod Totals

@@ -1,0 +1,23 @@
+//! The books of a table: a list of entries, oldest first, and the running balances and places that stand for it.
+#![tactic(auto)]
+
+mod acts;
+mod certificates;
+mod entries;
+mod faults;
+pub mod laws;
+mod ledger;
+mod parties;
+mod start;
+
+pub use acts::{Act, Names, ShareSource, TrainSource, Words};
+pub use certificates::{Cert, ShareNumber, Train};
+pub use entries::{Cell, Entry, Marker};
+pub use faults::Fault;
+pub use ledger::Books;
+pub use parties::{Money, Party, Place, Seat};
+pub use rr_roster::{Corp, Kind, Private};
+pub use start::{certificate_limit, starting_money};
+
+#[cfg(test)]
+mod tests;

@@ -1,0 +1,4 @@
+pub mod NamedLemmas
+pub mod PlayersLemmas
+pub mod TextLemmas
+pub mod WordsLemmas

@@ -1,0 +1,98 @@
+-- The queries, and the one text of each.
+use Rattle.std.specs.Prelude.{ℕ, List, [], ◌∷◌, Option, Some, None, option_map, option_and_then, bytes_eq, codes, if◌then◌else◌}
+use Rattle.std.specs.List.{find}
+use Rattle.rr_words.specs.Name.{is_player_name, table_name_of, IsTableName, IsPlayerName}
+use Rattle.rr_roster.specs.declared.company.Corp.{Corp}
+use Rattle.rr_roster.specs.Company.{corp_name, corps}
+use Rattle.rr_code.specs.declared.query.Query.{Query}
+use Rattle.rr_code.specs.declared.query.Query.TheVariants.{Tables, Stamp, Cash, Limit, Asked, Privates}
+use Rattle.rr_code.specs.declared.query.Account.{Account}
+use Rattle.rr_code.specs.declared.query.Account.TheVariants as A
+use Rattle.rr_code.specs.declared.query.Owner.{Owner}
+use Rattle.rr_code.specs.declared.query.Owner.TheVariants as O
+
+-- the word of an account
+abbrev pub account_word : Account → List ℕ
+account_word A.Bank = codes "bank"
+account_word (A.Corp corp) = corp_name corp
+account_word (A.Player name) = name
+
+abbrev pub IsAccount : Account → Type 0
+IsAccount A.Bank = Unit {0}
+IsAccount (A.Corp corp) = Unit {0}
+IsAccount (A.Player name) = IsPlayerName name
+
+-- the word of an owner
+abbrev pub owner_word : Owner → List ℕ
+owner_word (O.Corp corp) = corp_name corp
+owner_word (O.Player name) = name
+
+abbrev pub IsOwner : Owner → Type 0
+IsOwner (O.Corp corp) = Unit {0}
+IsOwner (O.Player name) = IsPlayerName name
+
+-- the words of a query
+abbrev pub query_words : Query → List (List ℕ)
+query_words Tables = codes "tables" ∷ []
+query_words (Stamp table) = codes "stamp" ∷ table ∷ []
+query_words (Cash table of) = codes "cash" ∷ table ∷ account_word of ∷ []
+query_words (Limit table) = codes "limit" ∷ table ∷ []
+query_words (Asked table) = codes "asked" ∷ table ∷ []
+query_words (Privates table of) = codes "privates" ∷ table ∷ owner_word of ∷ []
+
+-- its parts are what they stand for
+abbrev pub IsQuery : Query → Type 0
+IsQuery Tables = Unit {0}
+IsQuery (Stamp table) = IsTableName table
+IsQuery (Cash table of) = IsTableName table × IsAccount of
+IsQuery (Limit table) = IsTableName table
+IsQuery (Asked table) = IsTableName table
+IsQuery (Privates table of) = IsTableName table × IsOwner of
+
+-- what words are read as, form by form
+abbrev pub corp_of : List ℕ → Option Corp
+corp_of word = find (λ corp. bytes_eq word (corp_name corp)) corps
+
+abbrev pub account_of : List ℕ → Option Account
+account_of word =
+    if is_player_name word then Some (A.Player word) else
+    if bytes_eq word (codes "bank") then Some A.Bank else
+    option_map A.Corp (corp_of word)
+
+abbrev pub owner_of : List ℕ → Option Owner
+owner_of word = if is_player_name word then Some (O.Player word) else option_map O.Corp (corp_of word)
+
+abbrev pub read_tables : List (List ℕ) → Option Query
+read_tables [] = Some Tables
+read_tables _ = None
+
+abbrev pub read_stamp : List (List ℕ) → Option Query
+read_stamp (table ∷ []) = option_map Stamp (table_name_of table)
+read_stamp _ = None
+
+abbrev pub read_cash : List (List ℕ) → Option Query
+read_cash (table ∷ of ∷ []) = option_and_then (λ t. option_map (Cash t) (account_of of)) (table_name_of table)
+read_cash _ = None
+
+abbrev pub read_limit : List (List ℕ) → Option Query
+read_limit (table ∷ []) = option_map Limit (table_name_of table)
+read_limit _ = None
+
+abbrev pub read_asked : List (List ℕ) → Option Query
+read_asked (table ∷ []) = option_map Asked (table_name_of table)
+read_asked _ = None
+
+abbrev pub read_privates : List (List ℕ) → Option Query
+read_privates (table ∷ of ∷ []) = option_and_then (λ t. option_map (Privates t) (owner_of of)) (table_name_of table)
+read_privates _ = None
+
+abbrev pub read_query_words : List (List ℕ) → Option Query
+read_query_words [] = None
+read_query_words (head ∷ rest) =
+    if bytes_eq head (codes "tables") then read_tables rest else
+    if bytes_eq head (codes "stamp") then read_stamp rest else
+    if bytes_eq head (codes "cash") then read_cash rest else
+    if bytes_eq head (codes "limit") then read_limit rest else
+    if bytes_eq head (codes "asked") then read_asked rest else
+    if bytes_eq head (codes "privates") then read_privates rest else
+    None

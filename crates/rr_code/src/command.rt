@@ -1,0 +1,138 @@
+ghost use Rattle.std.specs.Prelude.{◌≡◌, ℕ, List, ◌∷◌, ◌++◌, codes, IfSome, MatchResult, OnOk, OnErr, IsOkUnless};
+ghost use Rattle.rr_code.specs.Command.{Continues, IsCommand, SpellsCommand, SpellsRecord, spelling, text, read_words, read_open, read_buy, read_record_words};
+ghost use Rattle.rr_words.specs.Name.{IsTableName};
+
+use crate::fault::Fault;
+use crate::players::Players;
+use crate::words::Words;
+use rr_words::Name;
+
+/// What a player or the keeper asks of a table.
+#[derive(Clone, Copy, Debug, PartialEq, Eq)]
+pub enum Command {
+    /// The table is opened with these players.
+    Open { players: Players },
+    /// A player buys the cheapest private that is unsold.
+    BuyPrivate { player: Name },
+}
+
+impl Command {
+    /// Reads the words of a command as a table keeps them, without its stamp and the table's name.
+    ///
+    /// # Errors
+    /// `Malformed` where the bytes are no command's text.
+    pub fn read(words: &[u8]) -> Result<Command, Fault>
+        ensures found { MatchResult result (λ c. SpellsCommand words.now c) (λ fault. fault ≡ Fault.Malformed) }
+        ensures only { (c : Command) → SpellsCommand words.now c → result ≡ Ok c }
+    {
+        let mut words = Words::of(words);
+        Command::from_words(&mut words).ok_or(Fault::Malformed)
+    }
+
+    pub(crate) fn from_words(words: &mut Words) -> Option<Command>
+        ensures exact { result ≡ read_words words.old }
+        ensures found { IfSome result (λ c. IsCommand c × (words.old ≡ spelling c)) }
+    {
+        let head = words.next()?;
+        if head == b"open".as_slice() {
+            return read_open(words);
+        }
+        if head == b"buy".as_slice() {
+            return read_buy(words);
+        }
+        None
+    }
+
+    /// Appends the command's words, as `read` reads them.
+    ///
+    /// # Errors
+    /// `OutOfMemory` where `out` can't grow; its bytes are then as they were.
+    pub fn write(&self, out: &mut Vec<u8>) -> Result<(), Fault>
+        ensures ok { OnOk result (out.new.items ≡ out.old.items ++ text self.now) }
+        ensures err { OnErr result (out.new.items ≡ out.old.items) }
+        ensures memory { IsOkUnless result Fault.OutOfMemory }
+    {
+        let before = out.len();
+        if self.write_words(out).is_err() {
+            out.truncate(before);
+            return Err(Fault::OutOfMemory);
+        }
+        Ok(())
+    }
+
+    fn write_words(&self, out: &mut Vec<u8>) -> Result<(), Fault>
+        ensures ok { OnOk result (out.new.items ≡ out.old.items ++ text self.now) }
+        ensures kept { Continues out.old.items out.new.items }
+    {
+        match self {
+            Command::Open { players } => write_open(players, out),
+            Command::BuyPrivate { player } => write_buy(player, out),
+        }
+    }
+}
+
+fn read_open(words: &mut Words) -> Option<Command>
+    ensures exact { result ≡ read_open words.old }
+    ensures found { IfSome result (λ c. IsCommand c × (codes "open" ∷ words.old ≡ spelling c)) }
+{
+    let players = Players::read(words)?;
+    Some(Command::Open { players })
+}
+
+fn read_buy(words: &mut Words) -> Option<Command>
+    ensures exact { result ≡ read_buy words.old }
+    ensures found { IfSome result (λ c. IsCommand c × (codes "buy" ∷ words.old ≡ spelling c)) }
+{
+    let player = Name::player(words.next()?)?;
+    words.end()?;
+    Some(Command::BuyPrivate { player })
+}
+
+fn write_open(players: &Players, out: &mut Vec<u8>) -> Result<(), Fault>
+    ensures ok { OnOk result (out.new.items ≡ out.old.items ++ text (Command.Open players.now)) }
+    ensures kept { Continues out.old.items out.new.items }
+{
+    out.extend_from_slice(b"open")?;
+    for player in players.as_slice() {
+        write_word(player.as_bytes(), out)?;
+    }
+    Ok(())
+}
+
+fn write_buy(player: &Name, out: &mut Vec<u8>) -> Result<(), Fault>
+    ensures ok { OnOk result (out.new.items ≡ out.old.items ++ text (Command.BuyPrivate player.now)) }
+    ensures kept { Continues out.old.items out.new.items }
+{
+    out.extend_from_slice(b"buy")?;
+    write_word(player.as_bytes(), out)
+}
+
+fn write_word(word: &[u8], out: &mut Vec<u8>) -> Result<(), Fault>
+    ensures ok { OnOk result (out.new.items ≡ out.old.items ++ 32 ∷ word.now) }
+    ensures kept { Continues out.old.items out.new.items }
+{
+    out.push(b' ')?;
+    out.extend_from_slice(word)?;
+    Ok(())
+}
+
+/// Reads a journal's record: the name of a table, and the words of a command.
+///
+/// # Errors
+/// `Malformed` where the bytes are no record's text.
+pub fn read_record(bytes: &[u8]) -> Result<(Name, Command), Fault>
+    ensures found { MatchResult result (λ r. SpellsRecord bytes.now r.0 r.1) (λ fault. fault ≡ Fault.Malformed) }
+    ensures only { (table : List ℕ) (c : Command) → SpellsRecord bytes.now table c → result ≡ Ok (table, c) }
+{
+    let mut words = Words::of(bytes);
+    record_from_words(&mut words).ok_or(Fault::Malformed)
+}
+
+pub(crate) fn record_from_words(words: &mut Words) -> Option<(Name, Command)>
+    ensures exact { result ≡ read_record_words words.old }
+    ensures found { IfSome result (λ r. IsTableName r.0 × IsCommand r.1 × (words.old ≡ r.0 ∷ spelling r.1)) }
+{
+    let table = Name::table(words.next()?)?;
+    let command = Command::from_words(words)?;
+    Some((table, command))
+}

@@ -1,0 +1,19 @@
+//! The lines that a keeper of tables reads: one spelling for each command and each query.
+#![tactic(auto)]
+
+mod command;
+mod fault;
+pub mod laws;
+mod line;
+mod players;
+mod query;
+mod words;
+
+pub use command::{Command, read_record};
+pub use fault::Fault;
+pub use line::{Line, unstamped};
+pub use players::Players;
+pub use query::{Account, Owner, Query};
+
+#[cfg(test)]
+mod tests;

@@ -1,0 +1,73 @@
+ghost use Rattle.std.specs.Prelude.{◌≡◌, ◌≤◌, ℕ, List, ◌∷◌, length, IfSome, MatchResult};
+ghost use Rattle.rr_code.specs.Line.{IsLine, SpellsLine, line_words, read_line_words};
+ghost use Rattle.rr_code.specs.Command.{SpellsRecord};
+ghost use Rattle.rr_words.specs.Line.{is_space, words_of};
+ghost use Rattle.std.specs.List.{after_first};
+
+use crate::command::{Command, record_from_words};
+use crate::fault::Fault;
+use crate::query::Query;
+use crate::words::Words;
+use rr_words::{Name, number, split_word};
+
+/// A line that a user sends.
+#[derive(Clone, Copy, Debug, PartialEq, Eq)]
+pub enum Line {
+    /// A command to a table, with the stamp by which it is told from the one before it.
+    Command {
+        stamp: u64,
+        table: Name,
+        command: Command,
+    },
+    /// A question.
+    Query(Query),
+}
+
+impl Line {
+    /// Reads a line, without the line feed at its end.
+    ///
+    /// # Errors
+    /// `Malformed` where the bytes have none of the forms.
+    pub fn read(line: &[u8]) -> Result<Line, Fault>
+        ensures found { MatchResult result (λ l. SpellsLine line.now l) (λ fault. fault ≡ Fault.Malformed) }
+        ensures only { (l : Line) → SpellsLine line.now l → result ≡ Ok l }
+    {
+        match Line::from_words(line) {
+            Some(line) => Ok(line),
+            None => Err(Fault::Malformed),
+        }
+    }
+
+    fn from_words(line: &[u8]) -> Option<Line>
+        ensures exact { result ≡ read_line_words (words_of line.now) }
+        ensures found { IfSome result (λ l. IsLine l × (words_of line.now ≡ line_words l)) }
+    {
+        let mut words = Words::of(line);
+        match number(words.next()?) {
+            Some(stamp) => {
+                let (table, command) = record_from_words(&mut words)?;
+                Some(Line::Command {
+                    stamp,
+                    table,
+                    command,
+                })
+            }
+            None => {
+                let query = Query::from_words(&mut Words::of(line))?;
+                Some(Line::Query(query))
+            }
+        }
+    }
+}
+
+/// What stands behind a command's stamp, as it is journaled. A line of one word has nothing there.
+pub fn unstamped(line: &[u8]) -> &[u8]
+    ensures record { (stamp : ℕ) (table : List ℕ) (c : Command) → SpellsLine line.now (Line.Command stamp table c) → SpellsRecord result.now table c }
+    ensures behind { result.now ≡ after_first is_space line.now }
+    ensures shorter { length result.now ≤ length line.now }
+{
+    match split_word(line) {
+        (_, Some(rest)) => rest,
+        (_, None) => &[],
+    }
+}

@@ -1,0 +1,163 @@
+ghost use Rattle.std.specs.Prelude.{◌≡◌, ◌∷◌, codes, IfSome};
+ghost use Rattle.rr_code.specs.Query.{IsQuery, IsAccount, IsOwner, query_words, account_word, owner_word, account_of, owner_of, corp_of, read_query_words, read_tables, read_stamp, read_cash, read_limit, read_asked, read_privates};
+ghost use Rattle.rr_roster.specs.Company.{corp_name};
+
+use crate::words::Words;
+use rr_roster::Corp;
+use rr_words::Name;
+
+/// A question, which changes nothing.
+#[derive(Clone, Copy, Debug, PartialEq, Eq)]
+pub enum Query {
+    /// The names of all tables.
+    Tables,
+    /// The stamp of a table's last command.
+    Stamp { table: Name },
+    /// What an account of a table has.
+    Cash { table: Name, of: Account },
+    /// The certificate limit of a table.
+    Limit { table: Name },
+    /// What the cheapest private costs that is unsold.
+    Asked { table: Name },
+    /// The privates that somebody at a table owns.
+    Privates { table: Name, of: Owner },
+}
+
+/// Whose money it is.
+#[derive(Clone, Copy, Debug, PartialEq, Eq)]
+pub enum Account {
+    /// The bank's.
+    Bank,
+    /// A corporation's.
+    Corp(Corp),
+    /// A player's.
+    Player(Name),
+}
+
+/// Who owns a private.
+#[derive(Clone, Copy, Debug, PartialEq, Eq)]
+pub enum Owner {
+    /// A corporation.
+    Corp(Corp),
+    /// A player.
+    Player(Name),
+}
+
+impl Account {
+    fn read(word: &[u8]) -> Option<Account>
+        ensures exact { result ≡ account_of word.now }
+        ensures found { IfSome result (λ account. IsAccount account × (word.now ≡ account_word account)) }
+    {
+        if let Some(name) = Name::player(word) {
+            return Some(Account::Player(name));
+        }
+        if word == b"bank".as_slice() {
+            return Some(Account::Bank);
+        }
+        let corp = read_corp(word)?;
+        Some(Account::Corp(corp))
+    }
+}
+
+impl Owner {
+    fn read(word: &[u8]) -> Option<Owner>
+        ensures exact { result ≡ owner_of word.now }
+        ensures found { IfSome result (λ owner. IsOwner owner × (word.now ≡ owner_word owner)) }
+    {
+        if let Some(name) = Name::player(word) {
+            return Some(Owner::Player(name));
+        }
+        let corp = read_corp(word)?;
+        Some(Owner::Corp(corp))
+    }
+}
+
+fn read_corp(word: &[u8]) -> Option<Corp>
+    ensures exact { result ≡ corp_of word.now }
+    ensures found { IfSome result (λ corp. word.now ≡ corp_name corp) }
+{
+    Corp::from_name(word)
+}
+
+impl Query {
+    pub(crate) fn from_words(words: &mut Words) -> Option<Query>
+        ensures exact { result ≡ read_query_words words.old }
+        ensures found { IfSome result (λ query. IsQuery query × (words.old ≡ query_words query)) }
+    {
+        let head = words.next()?;
+        if head == b"tables".as_slice() {
+            return read_tables(words);
+        }
+        if head == b"stamp".as_slice() {
+            return read_stamp(words);
+        }
+        if head == b"cash".as_slice() {
+            return read_cash(words);
+        }
+        if head == b"limit".as_slice() {
+            return read_limit(words);
+        }
+        if head == b"asked".as_slice() {
+            return read_asked(words);
+        }
+        if head == b"privates".as_slice() {
+            return read_privates(words);
+        }
+        None
+    }
+}
+
+fn read_tables(words: &mut Words) -> Option<Query>
+    ensures exact { result ≡ read_tables words.old }
+    ensures found { IfSome result (λ query. IsQuery query × (codes "tables" ∷ words.old ≡ query_words query)) }
+{
+    words.end()?;
+    Some(Query::Tables)
+}
+
+fn read_stamp(words: &mut Words) -> Option<Query>
+    ensures exact { result ≡ read_stamp words.old }
+    ensures found { IfSome result (λ query. IsQuery query × (codes "stamp" ∷ words.old ≡ query_words query)) }
+{
+    let table = Name::table(words.next()?)?;
+    words.end()?;
+    Some(Query::Stamp { table })
+}
+
+fn read_cash(words: &mut Words) -> Option<Query>
+    ensures exact { result ≡ read_cash words.old }
+    ensures found { IfSome result (λ query. IsQuery query × (codes "cash" ∷ words.old ≡ query_words query)) }
+{
+    let table = Name::table(words.next()?)?;
+    let of = Account::read(words.next()?)?;
+    words.end()?;
+    Some(Query::Cash { table, of })
+}
+
+fn read_limit(words: &mut Words) -> Option<Query>
+    ensures exact { result ≡ read_limit words.old }
+    ensures found { IfSome result (λ query. IsQuery query × (codes "limit" ∷ words.old ≡ query_words query)) }
+{
+    let table = Name::table(words.next()?)?;
+    words.end()?;
+    Some(Query::Limit { table })
+}
+
+fn read_asked(words: &mut Words) -> Option<Query>
+    ensures exact { result ≡ read_asked words.old }
+    ensures found { IfSome result (λ query. IsQuery query × (codes "asked" ∷ words.old ≡ query_words query)) }
+{
+    let table = Name::table(words.next()?)?;
+    words.end()?;
+    Some(Query::Asked { table })
+}
+
+fn read_privates(words: &mut Words) -> Option<Query>
+    ensures exact { result ≡ read_privates words.old }
+    ensures found { IfSome result (λ query. IsQuery query × (codes "privates" ∷ words.old ≡ query_words query)) }
+{
+    let table = Name::table(words.next()?)?;
+    let of = Owner::read(words.next()?)?;
+    words.end()?;
+    Some(Query::Privates { table, of })
+}

@@ -1,0 +1,11 @@
+pub mod Cached
+pub mod CallLog
+pub mod Choice
+pub mod Disk
+pub mod Faulty
+pub mod File
+pub mod Memory
+pub mod Moments
+pub mod Plan
+pub mod Range
+pub mod Replay

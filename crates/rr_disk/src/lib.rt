@@ -1,0 +1,25 @@
+//! The disk as a store sees it, with what a stop may leave of it, and three disks: one in memory, one that
+//! fails where it is told to, and a file.
+#![tactic(auto)]
+
+mod bytes;
+mod cached;
+mod call;
+mod call_log;
+mod choice;
+mod disk;
+mod fault;
+mod faulty;
+mod file;
+mod memory;
+mod plan;
+
+pub use choice::{Choice, Kept};
+pub use disk::Disk;
+pub use fault::Fault;
+pub use faulty::FaultyDisk;
+pub use file::FileDisk;
+pub use memory::MemoryDisk;
+
+#[cfg(test)]
+mod tests;

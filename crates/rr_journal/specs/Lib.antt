@@ -1,0 +1,7 @@
+pub mod Buffer
+pub mod Faults
+pub mod Law
+pub mod Layout
+pub mod Reading
+pub mod Run
+pub mod Stops

@@ -1,0 +1,20 @@
+//! The journal of a store: numbered records in two halves of a file, each record made durable by two writes and two
+//! syncs, and read again up to the first slot that holds no record of the expected number.
+#![tactic(auto)]
+
+mod buffer;
+mod fault;
+mod half;
+mod law;
+mod layout;
+mod reading;
+
+pub use buffer::RecordBuffer;
+pub use fault::Fault;
+pub use half::Half;
+pub use law::halves_have_one_run;
+pub use layout::HalfIndex;
+pub use reading::{RunEnd, Scanned, scan};
+
+#[cfg(test)]
+mod tests;

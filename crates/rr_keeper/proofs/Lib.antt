@@ -1,0 +1,4 @@
+pub mod Kits
+pub mod Places
+pub mod Slots
+pub mod Stores

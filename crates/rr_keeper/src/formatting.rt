@@ -1,0 +1,46 @@
+ghost use Rattle.std.specs.Prelude.{◌≡◌, ◌⊎◌, ◌+◌, ◌<◌, ◌≤◌, length, OnOk, IfErr, IsErrOf};
+ghost use Rattle.rr_disk.specs.Disk.{counted};
+ghost use Rattle.rr_disk.specs.Moments.{EachImage};
+ghost use Rattle.rr_keeper.specs.Fault.{CountsFault};
+ghost use Rattle.rr_keeper.specs.File.{IsNewStore};
+
+use crate::device::put;
+use crate::fault::Fault;
+use crate::root::root_of;
+use crate::texts::{KIT_PAGE, KIT_PLACE, Texts, spell_kit};
+use rr_disk::Disk;
+use std::alloc::Global;
+
+/// Makes a store without a record of an empty file: the kit's texts first, and then the root that makes them count.
+///
+/// A file that isn't empty is refused as `NotEmpty` and stays as it is, and so does an empty one where memory was wanted.
+/// After `DeviceFailed`, or a stop within the call, the file may hold anything.
+pub fn format<D: Disk>(alloc: Global, disk: &mut D, texts: Texts<'_>) -> Result<(), Fault>
+    requires chart { length texts.chart.now ≤ 65536 }
+    requires roster { length texts.roster.now ≤ 65536 }
+    requires tiles { length texts.tiles.now ≤ 65536 }
+    requires board { length texts.board.now ≤ 65536 }
+
+    ensures store { OnOk result (D.Honest disk.new → IsNewStore (D.state disk.new).content
+        record { chart = texts.entry.chart.now; roster = texts.entry.roster.now; tiles = texts.entry.tiles.now; board = texts.entry.board.now }) }
+    ensures each { OnOk result (D.Honest disk.new → EachImage (D.state disk.new) (λ image. IsNewStore image
+        record { chart = texts.entry.chart.now; roster = texts.entry.roster.now; tiles = texts.entry.tiles.now; board = texts.entry.board.now })) }
+
+    ensures not_empty { IsErrOf result Fault.NotEmpty → D.Honest disk.new → 0 < length (D.state disk.old).content }
+    ensures empty { D.Honest disk.new → 0 < length (D.state disk.old).content → result ≡ Err Fault.NotEmpty }
+    ensures unchanged { (result ≡ Err Fault.NotEmpty) ⊎ (result ≡ Err Fault.OutOfMemory) → disk.new ≡ disk.old }
+    ensures others { IfErr result (λ fault. (fault ≡ Fault.NotEmpty) ⊎ (fault ≡ Fault.OutOfMemory) ⊎ (fault ≡ Fault.DeviceFailed)) }
+
+    ensures fault { CountsFault (D.fault_count disk.old) (D.fault_count disk.new) result }
+    ensures honest { D.Honest disk.new → D.Honest disk.old }
+    ensures calls { OnOk result ((D.write_count disk.new ≡ counted (counted (D.write_count disk.old))) × (D.sync_count disk.new ≡ counted (counted (D.sync_count disk.old)))) }
+{
+    if disk.len() != 0 {
+        return Err(Fault::NotEmpty);
+    }
+    let kit = spell_kit(alloc, texts)?;
+    let pages = KIT_PAGE + kit.len() as u64 / 4096;
+    put(disk, KIT_PLACE, &kit)?;
+    put(disk, 0, &root_of(pages))?;
+    Ok(())
+}

@@ -1,0 +1,112 @@
+ghost use Rattle.std.specs.Prelude.{◌≡◌, ◌⊎◌, ◌↔◌, ◌+◌, ◌^◌, ◌<◌, ◌≤◌, [], ◌∷◌, ◌++◌, List, ℕ, Bool, true, false, length, OnOk, IfErr, IsErrOf, IsTrue};
+ghost use Rattle.rr_disk.specs.Disk.{DiskState, after_sync, after_write};
+ghost use Rattle.rr_disk.specs.Moments.{LeavesOnly};
+ghost use Rattle.rr_journal.specs.Layout.{HasRoom, slots_for, spelling};
+ghost use Rattle.rr_journal.specs.Stops.{next_gate};
+ghost use Rattle.rr_keeper.specs.Fault.{CountsFault};
+ghost use Rattle.rr_keeper.specs.File.{Kit, IsStore};
+
+use crate::fault::Fault;
+use rr_disk::Disk;
+use rr_journal::{Half, RecordBuffer};
+
+/// An open store: the disk, and where the next line goes.
+#[derive(Drop)]
+pub struct Keeper<D: Drop> {
+    disk: D,
+    half: Half,
+    buffer: RecordBuffer,
+    next_number: u64,
+    broken: bool,
+    ghost few: { next_number ≤ half.next_slot + 1 },
+}
+
+impl<D: Disk + Drop> Keeper<D> {
+    ghost use Rattle.rr_keeper.specs.Keeper.{disk_of, half_of, number_of_next, is_broken, IsUnchanged, Keeps};
+
+    pub(crate) fn new(disk: D, half: Half, buffer: RecordBuffer, next_number: u64) -> Keeper<D>
+        requires { next_number ≤ half.next_slot + 1 }
+        ensures disk { disk_of result ≡ disk }
+        ensures half { half_of result ≡ half }
+        ensures number { number_of_next result ≡ next_number }
+        ensures whole { is_broken result ≡ false }
+    {
+        Keeper {
+            disk,
+            half,
+            buffer,
+            next_number,
+            broken: false,
+        }
+    }
+
+    /// Appends a line's record. After `Ok` the line is safe on the disk. It takes no memory.
+    ///
+    /// `HalfFull` where the journal has no room for the line, and `OpenAgain` where a device call failed before: then
+    /// nothing has changed. After `DeviceFailed` the line may be on the disk or not, and the keeper is broken.
+    pub fn append(&mut self, line: &[u8]) -> Result<(), Fault>
+        requires { 0 < length line.now }
+
+        // From `Ok` on what a stop leaves has the line, and so does what a read gives.
+        ensures acknowledged { OnOk result (D.Honest (disk_of self.new) → (kit : Kit) (lines : List (List ℕ)) → Keeps self.old (D.state (disk_of self.old)) kit lines
+            → Keeps self.new (D.state (disk_of self.new)) kit (lines ++ line.now ∷ [])) }
+        ensures store { OnOk result (D.Honest (disk_of self.new) → (kit : Kit) (lines : List (List ℕ)) → Keeps self.old (D.state (disk_of self.old)) kit lines
+            → IsStore (D.state (disk_of self.new)).content kit (lines ++ line.now ∷ [])) }
+
+        // A stop at any moment of the call leaves the store with the line or without.
+        ensures before_or_after { D.Honest (disk_of self.new) → (kit : Kit) (lines : List (List ℕ)) → Keeps self.old (D.state (disk_of self.old)) kit lines
+            → LeavesOnly (D.past (disk_of self.old)) (D.state (disk_of self.old)) (D.past (disk_of self.new)) (D.state (disk_of self.new))
+            (λ image. IsStore image kit lines ⊎ IsStore image kit (lines ++ line.now ∷ [])) }
+
+        // The whole record was written, and synced.
+        ensures written { OnOk result (D.Honest (disk_of self.new) → D.state (disk_of self.new) ≡ after_sync (after_write (D.state (disk_of self.old)) (next_gate (half_of self.old)) (spelling (number_of_next self.old) line.now))) }
+        ensures half { OnOk result (half_of self.new ≡ record { index = (half_of self.old).index; next_slot = (half_of self.old).next_slot + slots_for (length line.now) }) }
+        ensures number { OnOk result (number_of_next self.new ≡ number_of_next self.old + 1) }
+
+        ensures again { IsErrOf result Fault.OpenAgain ↔ IsTrue (is_broken self.old) }
+        ensures full { IsErrOf result Fault.HalfFull ↔ ((is_broken self.old ≡ false) × (HasRoom (half_of self.old).next_slot (length line.now) → ⊥)) }
+        ensures unchanged { (result ≡ Err Fault.OpenAgain) ⊎ (result ≡ Err Fault.HalfFull) → IsUnchanged self.old self.new }
+        ensures kept { IsErrOf result Fault.HalfFull → (state : DiskState) (kit : Kit) (lines : List (List ℕ)) → Keeps self.old state kit lines → Keeps self.new state kit lines }
+        ensures others { IfErr result (λ fault. (fault ≡ Fault.OpenAgain) ⊎ (fault ≡ Fault.HalfFull) ⊎ (fault ≡ Fault.DeviceFailed)) }
+        ensures breaks { result ≡ Err Fault.DeviceFailed → IsTrue (is_broken self.new) }
+        ensures goes_on { OnOk result (is_broken self.new ≡ false) }
+
+        ensures fault { CountsFault (D.fault_count (disk_of self.old)) (D.fault_count (disk_of self.new)) result }
+        ensures honest { D.Honest (disk_of self.new) → D.Honest (disk_of self.old) }
+        ensures writes { D.write_count (disk_of self.new) ≤ D.write_count (disk_of self.old) + 2 }
+        ensures syncs { D.sync_count (disk_of self.new) ≤ D.sync_count (disk_of self.old) + 2 }
+    {
+        if self.broken {
+            return Err(Fault::OpenAgain);
+        }
+        match self
+            .half
+            .append(&mut self.disk, &mut self.buffer, self.next_number, line)
+        {
+            Ok(()) => {
+                self.next_number += 1;
+                Ok(())
+            }
+            Err(rr_journal::Fault::HalfFull) => Err(Fault::HalfFull),
+            Err(rr_journal::Fault::Disk(_)) => {
+                self.broken = true;
+                Err(Fault::DeviceFailed)
+            }
+            Err(rr_journal::Fault::OutOfMemory) => Err(Fault::OutOfMemory),
+        }
+    }
+
+    /// A device call failed, and each append is refused until the file is opened again.
+    pub fn is_broken(&self) -> bool
+        ensures { result ≡ is_broken self.now }
+    {
+        self.broken
+    }
+
+    /// The disk that the store stood on.
+    pub fn into_disk(self) -> D
+        ensures { result ≡ disk_of self }
+    {
+        self.disk
+    }
+}

@@ -1,0 +1,258 @@
+ghost use Rattle.std.specs.Prelude.{◌≡◌, ◌+◌, ◌^◌, ◌<◌, ◌≤◌, ◌∷◌, List, ℕ, length, vec_len, OnOk, OnErr, IfOk, IfErr, IsErrOf, IsOkUnless};
+ghost use Rattle.rr_disk.specs.Disk.{IsAt, after_sync, counted};
+ghost use Rattle.rr_journal.specs.Reading.{lines};
+ghost use Rattle.rr_journal.specs.Run.{Run, slots_of};
+ghost use Rattle.rr_keeper.specs.Fault.{Counts, CountsFault};
+ghost use Rattle.rr_keeper.specs.File.{Kit, IsRoot, IsTextAt, IsKitAt, IsStore, number_from, kit_place};
+ghost use Rattle.rr_keeper.specs.Keeper.{disk_of, Keeps};
+ghost use Rattle.rr_keeper.specs.Opening.{kit_of, Refuses, IsOfReading, SyncsOnce};
+
+use crate::device::{read, sync};
+use crate::fault::Fault;
+use crate::keeper::Keeper;
+use crate::numbers::u32_from;
+use crate::root::{ROOT_BYTES, is_root};
+use crate::texts::{KIT_PLACE, KitTexts, TEXT_LIMIT};
+use rr_disk::Disk;
+use rr_journal::{Half, HalfIndex, RecordBuffer, RunEnd, Scanned, scan};
+use std::alloc::Global;
+
+/// What an opening gives.
+#[derive(Drop)]
+pub struct Opened<D: Drop> {
+    pub keeper: Keeper<D>,
+    pub texts: KitTexts,
+    /// The lines of the records, the first one first.
+    pub lines: Vec<Vec<u8>>,
+}
+
+/// Why an opening was refused, and the disk, whose bytes are as they were.
+#[derive(Drop)]
+pub struct Refused<D: Drop> {
+    pub fault: Fault,
+    pub disk: D,
+}
+
+/// What an opening reads.
+struct Found {
+    buffer: RecordBuffer,
+    half: Half,
+    texts: KitTexts,
+    lines: Vec<Vec<u8>>,
+}
+
+/// Opens a store: one sync, and then reads alone.
+///
+/// `NotAStore` for a file of another form, `Damaged` with clause 8 where the record of the next number is none,
+/// `DeviceFailed` where a call on the disk failed.
+pub fn open<D: Disk + Drop>(alloc: Global, mut disk: D) -> Result<Opened<D>, Refused<D>>
+    // The file was a store with what is given, and whatever a stop leaves from now on is that store.
+    ensures store { IfOk result (λ opened. D.Honest (disk_of opened.keeper) → IsStore (D.state disk).content (kit_of opened.texts) (lines opened.lines.items)) }
+    ensures keeps { IfOk result (λ opened. D.Honest (disk_of opened.keeper) → Keeps opened.keeper (D.state (disk_of opened.keeper)) (kit_of opened.texts) (lines opened.lines.items)) }
+
+    // A file that is a store with other texts or lines is none of those.
+    ensures only { IfOk result (λ opened. D.Honest (disk_of opened.keeper) → (kit : Kit) (all : List (List ℕ)) → IsStore (D.state disk).content kit all
+        → (kit ≡ kit_of opened.texts) × (all ≡ lines opened.lines.items)) }
+    ensures refused { IfErr result (λ refused. Refuses (D.Honest refused.disk) (D.state disk).content refused.fault) }
+
+    // It syncs, and writes nothing.
+    ensures synced { IfOk result (λ opened. D.Honest (disk_of opened.keeper) → (D.state (disk_of opened.keeper) ≡ after_sync (D.state disk)) × (D.past (disk_of opened.keeper) ≡ D.state disk ∷ D.past disk)) }
+    ensures left { IfErr result (λ refused. D.Honest refused.disk → SyncsOnce (D.past disk) (D.state disk) (D.past refused.disk) (D.state refused.disk)) }
+
+    ensures no_fault { IfOk result (λ opened. D.fault_count (disk_of opened.keeper) ≡ D.fault_count disk) }
+    ensures fault { IfErr result (λ refused. Counts (D.fault_count disk) (D.fault_count refused.disk) refused.fault) }
+    ensures honest { IfOk result (λ opened. D.Honest (disk_of opened.keeper) → D.Honest disk) }
+    ensures honest_left { IfErr result (λ refused. D.Honest refused.disk → D.Honest disk) }
+    ensures writes { IfOk result (λ opened. D.write_count (disk_of opened.keeper) ≡ D.write_count disk) }
+    ensures writes_left { IfErr result (λ refused. D.write_count refused.disk ≡ D.write_count disk) }
+{
+    match read_store(alloc, &mut disk) {
+        Ok(found) => {
+            let Found {
+                buffer,
+                half,
+                texts,
+                lines,
+            } = found;
+            let next_number = 1 + lines.len() as u64;
+            Ok(Opened {
+                keeper: Keeper::new(disk, half, buffer, next_number),
+                texts,
+                lines,
+            })
+        }
+        Err(fault) => Err(Refused { fault, disk }),
+    }
+}
+
+fn read_store<D: Disk>(alloc: Global, disk: &mut D) -> Result<Found, Fault>
+    ensures store { IfOk result (λ found. D.Honest disk.new → IsStore (D.state disk.old).content (kit_of found.texts) (lines found.lines.items)) }
+    ensures half { IfOk result (λ found. (found.half.index ≡ HalfIndex.First) × (found.half.next_slot ≡ slots_of (lines found.lines.items))) }
+    ensures few { IfOk result (λ found. vec_len found.lines ≤ found.half.next_slot) }
+    ensures refused { IfErr result (Refuses (D.Honest disk.new) (D.state disk.old).content) }
+
+    ensures synced { OnOk result (D.Honest disk.new → (D.state disk.new ≡ after_sync (D.state disk.old)) × (D.past disk.new ≡ D.state disk.old ∷ D.past disk.old)) }
+    ensures left { OnErr result (D.Honest disk.new → SyncsOnce (D.past disk.old) (D.state disk.old) (D.past disk.new) (D.state disk.new)) }
+
+    ensures fault { CountsFault (D.fault_count disk.old) (D.fault_count disk.new) result }
+    ensures honest { D.Honest disk.new → D.Honest disk.old }
+    ensures writes { D.write_count disk.new ≡ D.write_count disk.old }
+{
+    let buffer = RecordBuffer::new(alloc)?;
+    sync(disk)?;
+    read_root(disk)?;
+    let texts = read_texts(alloc, disk)?;
+    let scanned = read_records(alloc, disk)?;
+    match scanned.end {
+        RunEnd::Closed => Ok(Found {
+            buffer,
+            half: scanned.half,
+            texts,
+            lines: scanned.records,
+        }),
+        RunEnd::OtherNumber => Err(Fault::NotAStore),
+        RunEnd::Damaged => Err(Fault::Damaged(8)),
+    }
+}
+
+fn read_root<D: Disk>(disk: &mut D) -> Result<(), Fault>
+    ensures found { OnOk result (D.Honest disk.new → IsRoot (D.state disk.old).content) }
+    ensures none { IsErrOf result Fault.NotAStore → D.Honest disk.new → IsRoot (D.state disk.old).content → length (D.state disk.old).content < kit_place }
+    ensures only { IfErr result IsOfReading }
+
+    ensures fault { CountsFault (D.fault_count disk.old) (D.fault_count disk.new) result }
+    ensures honest { D.Honest disk.new → D.Honest disk.old }
+    ensures same_state { D.Honest disk.new → D.state disk.new ≡ D.state disk.old }
+    ensures same_past { D.Honest disk.new → D.past disk.new ≡ D.past disk.old }
+    ensures writes { D.write_count disk.new ≡ D.write_count disk.old }
+{
+    if disk.len() < KIT_PLACE {
+        return Err(Fault::NotAStore);
+    }
+    let mut root = [0u8; ROOT_BYTES];
+    read(disk, 0, &mut root)?;
+    if is_root(&root) {
+        Ok(())
+    } else {
+        Err(Fault::NotAStore)
+    }
+}
+
+fn read_texts<D: Disk>(alloc: Global, disk: &mut D) -> Result<KitTexts, Fault>
+    ensures found { IfOk result (λ texts. D.Honest disk.new → IsKitAt (D.state disk.old).content kit_place (kit_of texts)) }
+    ensures none { IsErrOf result Fault.NotAStore → D.Honest disk.new → (kit : Kit) → IsKitAt (D.state disk.old).content kit_place kit → ⊥ }
+    ensures only { IfErr result IsOfReading }
+
+    ensures fault { CountsFault (D.fault_count disk.old) (D.fault_count disk.new) result }
+    ensures honest { D.Honest disk.new → D.Honest disk.old }
+    ensures same_state { D.Honest disk.new → D.state disk.new ≡ D.state disk.old }
+    ensures same_past { D.Honest disk.new → D.past disk.new ≡ D.past disk.old }
+    ensures writes { D.write_count disk.new ≡ D.write_count disk.old }
+{
+    let chart = read_text(alloc, disk, KIT_PLACE)?;
+    let place = behind(KIT_PLACE, &chart);
+    let roster = read_text(alloc, disk, place)?;
+    let place = behind(place, &roster);
+    let tiles = read_text(alloc, disk, place)?;
+    let place = behind(place, &tiles);
+    let board = read_text(alloc, disk, place)?;
+    Ok(KitTexts {
+        chart,
+        roster,
+        tiles,
+        board,
+    })
+}
+
+fn read_text<D: Disk>(alloc: Global, disk: &mut D, place: u64) -> Result<Vec<u8>, Fault>
+    ensures found { IfOk result (λ text. D.Honest disk.new → IsTextAt (D.state disk.old).content place text.items) }
+    ensures none { IsErrOf result Fault.NotAStore → D.Honest disk.new → (text : List ℕ) → IsTextAt (D.state disk.old).content place text → ⊥ }
+    ensures only { IfErr result IsOfReading }
+    ensures fits { IfOk result (λ text. place + 4 + vec_len text < 2 ^ 64) }
+
+    ensures fault { CountsFault (D.fault_count disk.old) (D.fault_count disk.new) result }
+    ensures honest { D.Honest disk.new → D.Honest disk.old }
+    ensures same_state { D.Honest disk.new → D.state disk.new ≡ D.state disk.old }
+    ensures same_past { D.Honest disk.new → D.past disk.new ≡ D.past disk.old }
+    ensures writes { D.write_count disk.new ≡ D.write_count disk.old }
+{
+    let len = disk.len();
+    if len < 4 {
+        return Err(Fault::NotAStore);
+    }
+    if len - 4 < place {
+        return Err(Fault::NotAStore);
+    }
+    let count = read_count(disk, place)?;
+    if count > TEXT_LIMIT {
+        return Err(Fault::NotAStore);
+    }
+    if len - 4 - place < count as u64 {
+        return Err(Fault::NotAStore);
+    }
+    let text = read_bytes(alloc, disk, place + 4, count)?;
+    Ok(text)
+}
+
+// The count of a text's bytes, which stands at this place.
+fn read_count<D: Disk>(disk: &mut D, place: u64) -> Result<usize, Fault>
+    ensures found { IfOk result (λ count. D.Honest disk.new → number_from (D.state disk.old).content place 4 ≡ count) }
+    ensures only { IsOkUnless result Fault.DeviceFailed }
+
+    ensures fault { CountsFault (D.fault_count disk.old) (D.fault_count disk.new) result }
+    ensures honest { D.Honest disk.new → D.Honest disk.old }
+    ensures same_state { D.Honest disk.new → D.state disk.new ≡ D.state disk.old }
+    ensures same_past { D.Honest disk.new → D.past disk.new ≡ D.past disk.old }
+    ensures writes { D.write_count disk.new ≡ D.write_count disk.old }
+{
+    let mut count = [0u8; 4];
+    read(disk, place, &mut count)?;
+    Ok(u32_from(&count, 0) as usize)
+}
+
+fn read_bytes<D: Disk>(
+    alloc: Global,
+    disk: &mut D,
+    place: u64,
+    count: usize,
+) -> Result<Vec<u8>, Fault>
+    ensures found { IfOk result (λ bytes. D.Honest disk.new → IsAt (D.state disk.old).content place bytes.items) }
+    ensures count { IfOk result (λ bytes. length bytes.items ≡ count) }
+    ensures only { IfErr result IsOfReading }
+    ensures never_none { IsErrOf result Fault.NotAStore → ⊥ }
+
+    ensures fault { CountsFault (D.fault_count disk.old) (D.fault_count disk.new) result }
+    ensures honest { D.Honest disk.new → D.Honest disk.old }
+    ensures same_state { D.Honest disk.new → D.state disk.new ≡ D.state disk.old }
+    ensures same_past { D.Honest disk.new → D.past disk.new ≡ D.past disk.old }
+    ensures writes { D.write_count disk.new ≡ D.write_count disk.old }
+{
+    let mut bytes = vec![in alloc; 0u8; count]?;
+    read(disk, place, &mut bytes)?;
+    Ok(bytes)
+}
+
+// The place behind a text that stands at this place.
+fn behind(place: u64, text: &[u8]) -> u64
+    requires { place + 4 + length text.now < 2 ^ 64 }
+    ensures { result ≡ place + 4 + length text.now }
+{
+    place + 4 + text.len() as u64
+}
+
+// The records of the journal's first half, numbered from 1.
+fn read_records<D: Disk>(alloc: Global, disk: &mut D) -> Result<Scanned, Fault>
+    ensures found { IfOk result (λ scanned. D.Honest disk.new → Run (D.state disk.old).content HalfIndex.First 0 1 (lines scanned.records.items) scanned.end) }
+    ensures half { IfOk result (λ scanned. (scanned.half.index ≡ HalfIndex.First) × (scanned.half.next_slot ≡ slots_of (lines scanned.records.items))) }
+    ensures only { IfErr result IsOfReading }
+    ensures never_none { IsErrOf result Fault.NotAStore → ⊥ }
+
+    ensures fault { CountsFault (D.fault_count disk.old) (D.fault_count disk.new) result }
+    ensures honest { D.Honest disk.new → D.Honest disk.old }
+    ensures same_state { D.Honest disk.new → D.state disk.new ≡ D.state disk.old }
+    ensures same_past { D.Honest disk.new → D.past disk.new ≡ D.past disk.old }
+    ensures writes { D.write_count disk.new ≡ D.write_count disk.old }
+{
+    let scanned = scan(alloc, disk, HalfIndex::First, 1)?;
+    Ok(scanned)
+}

@@ -1,0 +1,150 @@
+use super::*;
+use rr_disk::{Disk, FaultyDisk, MemoryDisk};
+use std::alloc::Global;
+use std::test::Fail;
+
+// Room for a file of 515 pages, and for the records of a whole half.
+const ROOM: usize = 1 << 22;
+
+// The byte where the texts begin.
+const PLACE: usize = 2_105_344;
+
+fn formatted(alloc: Global) -> Result<MemoryDisk, Fail> {
+    let mut disk = MemoryDisk::new(alloc, ROOM)?;
+    let texts = Texts {
+        chart: b"c1",
+        roster: b"r",
+        tiles: b"",
+        board: b"bd",
+    };
+    format(alloc, &mut disk, texts)?;
+    Ok(disk)
+}
+
+// A new store with other bytes at some places.
+fn changed(alloc: Global, changes: &[(usize, u8)]) -> Result<MemoryDisk, Fail> {
+    let disk = formatted(alloc)?;
+    let mut bytes = Vec::new(alloc);
+    bytes.extend_from_slice(disk.content())?;
+    for (place, byte) in changes {
+        if *place < bytes.len() {
+            bytes[*place] = *byte;
+        }
+    }
+    Ok(MemoryDisk::from_bytes(alloc, ROOM, &bytes)?)
+}
+
+fn reopened<D: Disk + Drop>(alloc: Global, disk: D) -> Result<Opened<D>, Fault> {
+    match open(alloc, disk) {
+        Ok(opened) => Ok(opened),
+        Err(refused) => Err(refused.fault),
+    }
+}
+
+#[test]
+fn bytes_of_a_new_store(rt: HostRuntime) -> Result<(), Fail> {
+    let alloc = rt.alloc();
+    let mut disk = formatted(alloc)?;
+    let file = disk.content();
+    assert_eq!(rt; file.len(), 2_109_440);
+    let root = [
+        0xa5, 0, 0, 0, 0, 0, 0, 0, 1, 0, 0, 0, 0, 0, 0, 2, 2, 0, 0, 0, 0, 0, 0, 0, 0, 1, 0, 0, 0,
+        0, 0, 0, 2, 3, 0, 0,
+    ];
+    assert!(rt; file.starts_with(root.as_slice()));
+    let texts = [
+        0, 0, 0, 2, b'c', b'1', 0, 0, 0, 1, b'r', 0, 0, 0, 0, 0, 0, 0, 2, b'b', b'd', 0,
+    ];
+    assert_eq!(rt; &file[PLACE..2_105_366], texts.as_slice());
+    assert_eq!(rt; file[8192], 0);
+    let texts = Texts {
+        chart: b"",
+        roster: b"",
+        tiles: b"",
+        board: b"",
+    };
+    assert_eq!(rt;
+        format(alloc, &mut disk, texts).err(),
+        Some(Fault::NotEmpty)
+    );
+    Ok(())
+}
+
+#[test]
+fn lines_are_kept(rt: HostRuntime) -> Result<(), Fail> {
+    let alloc = rt.alloc();
+    let Opened {
+        mut keeper,
+        texts,
+        lines,
+    } = reopened(alloc, formatted(alloc)?)?;
+    assert_eq!(rt; texts.chart.as_slice(), b"c1".as_slice());
+    assert_eq!(rt; texts.roster.as_slice(), b"r".as_slice());
+    assert_eq!(rt; texts.tiles.len(), 0);
+    assert_eq!(rt; texts.board.as_slice(), b"bd".as_slice());
+    assert_eq!(rt; lines.len(), 0);
+    keeper.append(b"g1 open a b c d")?;
+    keeper.append(b"g1 pass")?;
+    let opened = reopened(alloc, keeper.into_disk())?;
+    assert_eq!(rt; opened.lines.len(), 2);
+    assert_eq!(rt; opened.lines[0].as_slice(), b"g1 open a b c d".as_slice());
+    assert_eq!(rt; opened.lines[1].as_slice(), b"g1 pass".as_slice());
+    Ok(())
+}
+
+#[test]
+fn files_that_are_no_store(rt: HostRuntime) -> Result<(), Fail> {
+    let alloc = rt.alloc();
+    let empty = MemoryDisk::new(alloc, ROOM)?;
+    assert_eq!(rt; reopened(alloc, empty).err(), Some(Fault::NotAStore));
+    let closed: &[(usize, u8)] = &[(0, 0xa4)];
+    let later_version: &[(usize, u8)] = &[(35, 1)];
+    let long_text: &[(usize, u8)] = &[(PLACE + 1, 1), (PLACE + 3, 1)];
+    let other_number: &[(usize, u8)] = &[(8192, 0xa5), (8200, 2)];
+    for changes in [closed, later_version, long_text, other_number] {
+        let disk = changed(alloc, changes)?;
+        assert_eq!(rt; reopened(alloc, disk).err(), Some(Fault::NotAStore));
+    }
+    let empty_record = changed(alloc, &[(8192, 0xa5), (8200, 1)])?;
+    let fault = reopened(alloc, empty_record).err();
+    assert_eq!(rt; fault, Some(Fault::Damaged(8)));
+    assert_eq!(rt; fault.map(|fault| fault.number()), Some(63));
+    Ok(())
+}
+
+#[test]
+fn a_full_half_and_a_broken_keeper(rt: HostRuntime) -> Result<(), Fail> {
+    let alloc = rt.alloc();
+    let mut keeper = reopened(alloc, formatted(alloc)?)?.keeper;
+    for _ in 0..255 {
+        keeper.append(b"g1 pass")?;
+    }
+    assert_eq!(rt; keeper.append(b"g1 pass").err(), Some(Fault::HalfFull));
+    assert!(rt; !keeper.is_broken());
+
+    // An opening makes eleven device calls here: a sync, and the reads of the root, of each text's length and bytes,
+    // and of slot 0.
+    let mut keeper = reopened(alloc, FaultyDisk::once(formatted(alloc)?, 11, 0))?.keeper;
+    assert_eq!(rt; keeper.append(b"g1 pass").err(), Some(Fault::DeviceFailed));
+    assert!(rt; keeper.is_broken());
+    assert_eq!(rt; keeper.append(b"g1 pass").err(), Some(Fault::OpenAgain));
+    let opened = reopened(alloc, keeper.into_disk())?;
+    assert_eq!(rt; opened.lines.len(), 0);
+    Ok(())
+}
+
+#[test]
+fn displays(rt: HostRuntime) -> Result<(), Fail> {
+    for (fault, want) in [
+        (Fault::DeviceFailed, "device failed"),
+        (Fault::HalfFull, "half full"),
+        (Fault::Damaged(8), "damaged 8"),
+        (Fault::NotAStore, "not a store"),
+        (Fault::NotEmpty, "not empty"),
+        (Fault::OpenAgain, "open again"),
+        (Fault::OutOfMemory, "out of memory"),
+    ] {
+        assert_eq!(rt; format!(in rt.alloc(); "{fault}")?.as_str(), want);
+    }
+    Ok(())
+}

@@ -1,0 +1,72 @@
+ghost use Rattle.std.specs.Prelude.{◌≡◌, ◌+◌, ◌≤◌, [], ◌++◌, length, decimal, IfOk};
+ghost use Rattle.std.specs.Fmt.{signed_decimal};
+
+use itoa::Buffer;
+use std::alloc::{AllocError, Global};
+use std::marker::Model;
+
+/// The bytes of one reply. Its room is taken when it is made, so that writing a reply asks for no memory.
+#[derive(Drop)]
+pub struct Reply {
+    bytes: Vec<u8>,
+}
+
+impl Model for Reply {
+    ghost use Rattle.std.specs.Prelude.{List, ℕ, vec_capacity, ◌≤◌};
+
+    ghost Value = { List ℕ };
+
+    ghost view = { λ reply. reply.bytes.items };
+
+    ghost invariant = { λ reply. 4096 ≤ vec_capacity reply.bytes };
+}
+
+impl Reply {
+    /// An empty reply with room for 4,096 bytes.
+    pub fn new(alloc: Global) -> Result<Reply, AllocError>
+        ensures { IfOk result (λ reply. reply ≡ []) }
+    {
+        Ok(Reply {
+            bytes: Vec::with_capacity(alloc, 4096)?,
+        })
+    }
+
+    /// The bytes written since the reply was made or cleared.
+    pub fn as_bytes(&self) -> &[u8]
+        ensures { result.now ≡ self.now }
+    {
+        self.bytes.as_slice()
+    }
+
+    pub fn clear(&mut self)
+        ensures { self.new ≡ [] }
+    {
+        self.bytes.clear();
+    }
+
+    pub fn text(&mut self, text: &[u8])
+        requires { length self.old + length text.now ≤ 4096 }
+        ensures text { self.new ≡ self.old ++ text.now }
+        ensures len { length self.new ≡ length self.old + length text.now }
+    {
+        self.bytes.extend_from_slice(text).unwrap();
+    }
+
+    pub fn number(&mut self, number: u64)
+        requires { length self.old + 20 ≤ 4096 }
+        ensures digits { self.new ≡ self.old ++ decimal number }
+        ensures bounded { length self.new ≤ length self.old + 20 }
+    {
+        let mut buffer = Buffer::new();
+        self.text(buffer.format(number).as_bytes());
+    }
+
+    pub fn signed(&mut self, number: i64)
+        requires { length self.old + 20 ≤ 4096 }
+        ensures digits { self.new ≡ self.old ++ signed_decimal number }
+        ensures bounded { length self.new ≤ length self.old + 20 }
+    {
+        let mut buffer = Buffer::new();
+        self.text(buffer.format(number).as_bytes());
+    }
+}

@@ -1,0 +1,10 @@
+pub mod Corporations
+pub mod Documents
+pub mod Filled
+pub mod FirstBroken
+pub mod Names
+pub mod Orders
+pub mod Pigeonhole
+pub mod SameLines
+pub mod Sound
+pub mod UniqueLines
