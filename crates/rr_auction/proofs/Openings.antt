@@ -1,10 +1,8 @@
 -- The auction of a table that opens.
-use Rattle.std.specs.Prelude.{◌≡◌, ℕ, List, [], ◌∷◌, ◌++◌, Option, None, fold, length, refl}
+use Rattle.std.specs.Prelude.{◌≡◌, ℕ, List, [], ◌∷◌, ◌++◌, None, fold, length, refl}
 use Rattle.std.proofs.Common.{sym, ◌∙◌, ap, subst}
 use Rattle.rr_roster.specs.declared.company.Private.{Private}
-use Rattle.rr_roster.specs.declared.company.Private.TheVariants as Private
 use Rattle.rr_roster.specs.Terms.{Terms, order_of}
-use Rattle.rr_books.specs.declared.parties.Seat.{Seat}
 use Rattle.rr_books.specs.declared.parties.Place.TheVariants as L
 use Rattle.rr_books.specs.declared.certificates.Cert.{Cert}
 use Rattle.rr_books.specs.declared.certificates.Cert.TheVariants as C
@@ -12,7 +10,7 @@ use Rattle.rr_books.specs.declared.certificates.Train.{Train}
 use Rattle.rr_books.specs.declared.entries.Entry.{Entry}
 use Rattle.rr_books.specs.declared.entries.Entry.TheVariants as E
 use Rattle.rr_books.specs.declared.entries.Marker.TheVariants as M
-use Rattle.rr_books.specs.Book.{Book, players}
+use Rattle.rr_books.specs.Book.{players}
 use Rattle.rr_books.specs.State.{State, IsStateOf}
 use Rattle.rr_books.specs.StateLaws.{stays}
 use Rattle.rr_books.specs.Opening.{opening_entries, opening_payments, opening_moves, opening_trains, start_of, trains_of, kinds}

@@ -1,10 +1,8 @@
 -- Whose turn it is, and who owes a par, after a purchase.
-use Rattle.std.specs.Prelude.{◌≡◌, ℕ, ◌+◌, Bool, true, false, cond, max, pos, List, [], ◌∷◌, ◌++◌, Option, None, Some, find, fold, map, refl}
+use Rattle.std.specs.Prelude.{◌≡◌, ℕ, Bool, true, false, cond, max, pos, List, [], ◌∷◌, ◌++◌, Option, None, Some, find, fold, map, refl}
 use Rattle.std.proofs.Common.{sym, ◌∙◌, ap, arith}
 use Rattle.rr_roster.specs.declared.company.Private.{Private}
-use Rattle.rr_roster.specs.declared.company.Private.TheVariants as Private
 use Rattle.rr_roster.specs.declared.company.Corp.{Corp}
-use Rattle.rr_roster.specs.declared.company.Corp.TheVariants as Corp
 use Rattle.rr_roster.specs.Terms.{Terms}
 use Rattle.rr_books.specs.declared.parties.Money.{Money}
 use Rattle.rr_books.specs.declared.parties.Seat.{Seat}
@@ -19,7 +17,7 @@ use Rattle.rr_books.specs.declared.entries.Marker.TheVariants as M
 use Rattle.rr_books.specs.declared.acts.Act.TheVariants as A
 use Rattle.rr_books.specs.Book.{Book, holder, players, players_after, players-append}
 use Rattle.rr_books.specs.Shares.{is_at, share_numbers}
-use Rattle.rr_desk.specs.Effects.{lowest_share, moves_if}
+use Rattle.rr_desk.specs.Effects.{moves_if}
 use Rattle.rr_auction.specs.Rules.{cheapest, last_turn, last_turn_after, left_of, next_turn, par_due, par_due_after, price, purchase, purchase_of, turn}
 use Rattle.rr_auction.specs.Progress.{Progress, IsProgressOf, owing_after}
 use Rattle.rr_auction.proofs.Folds.{last_turn-append, par_due-append}

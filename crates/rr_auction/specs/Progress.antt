@@ -1,7 +1,6 @@
 -- How far an auction has come, as the code keeps it.
 use Rattle.std.specs.Prelude.{◌≡◌, Option, Some}
 use Rattle.rr_roster.specs.declared.company.Private.{Private}
-use Rattle.rr_roster.specs.declared.company.Private.TheVariants as Private
 use Rattle.rr_books.specs.declared.parties.Seat.{Seat}
 use Rattle.rr_books.specs.Book.{Book}
 use Rattle.rr_auction.specs.Rules.{turn, par_due}

@@ -1,7 +1,6 @@
 -- The rules of the auction, from a table's book alone.
-use Rattle.std.specs.Prelude.{ℕ, ◌+◌, ℤ, pos, int_lt, Bool, true, false, not, List, [], ◌∷◌, Option, None, Some, fold, find, if◌then◌else◌, ◌==◌}
+use Rattle.std.specs.Prelude.{ℕ, ◌+◌, pos, int_lt, Bool, true, false, not, [], ◌∷◌, Option, None, Some, fold, find, if◌then◌else◌, ◌==◌}
 use Rattle.rr_roster.specs.declared.company.Private.{Private}
-use Rattle.rr_roster.specs.declared.company.Private.TheVariants as Private
 use Rattle.rr_roster.specs.declared.company.Corp.TheVariants as Corp
 use Rattle.rr_roster.specs.Terms.{Terms, face_of}
 use Rattle.rr_books.specs.declared.parties.Money.{Money}

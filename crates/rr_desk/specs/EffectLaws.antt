@@ -1,5 +1,5 @@
 -- How a desk takes effects, one after another.
-use Rattle.std.specs.Prelude.{◌≡◌, true, List, [], ◌∷◌, ◌++◌, refl}
+use Rattle.std.specs.Prelude.{◌≡◌, List, [], ◌∷◌, ◌++◌, refl}
 use Rattle.std.proofs.Common.{sym, ◌∙◌, ap, subst, append_assoc, append-nil}
 use Rattle.rr_books.specs.declared.entries.Entry.{Entry}
 use Rattle.rr_books.specs.declared.entries.Entry.TheVariants as E
@@ -7,7 +7,7 @@ use Rattle.rr_books.specs.declared.entries.Marker.{Marker}
 use Rattle.rr_books.specs.Book.{Book}
 use Rattle.rr_books.specs.State.{State, IsStateOf, Extends}
 use Rattle.rr_books.specs.StateLaws.{stays}
-use Rattle.rr_desk.specs.Desk.{OnDesk, Holds}
+use Rattle.rr_desk.specs.Desk.{OnDesk}
 use Rattle.rr_desk.specs.Effects.{Effect, Takes, adds, in_turn}
 
 -- one entry, by which the books grew too

@@ -1,11 +1,11 @@
 -- Texts in a file: that there is one at each place, which bytes they stand on, and how they are read and spelled.
-use Rattle.std.proofs.Common.{◌≡◌, ◌⊎◌, inl, inr, ℕ, ◌+◌, ◌-◌, ◌^◌, ◌<◌, ◌≤◌, List, [], ◌++◌, length, replicate, get_or, slice_index, refl, sym, ap, ◌∙◌, subst, arith, length-append}
+use Rattle.std.proofs.Common.{◌≡◌, ℕ, ◌+◌, ◌-◌, ◌<◌, ◌≤◌, List, ◌++◌, length, slice_index, refl, sym, ap, ◌∙◌, subst, arith, length-append}
 use Rattle.std.proofs.lemmas.List.{ext_get_or, get_or_append_left, get_or-append_right}
-use Rattle.byteorder.specs.Endian.{big_from, big_bytes}
+use Rattle.byteorder.specs.Endian.{big_bytes}
 use Rattle.byteorder.specs.Numbers.{big_number-reads_back, length-bytes_high_first}
 use Rattle.rr_disk.specs.Disk.{IsAt}
 use Rattle.rr_journal.specs.Layout.{StandsAt}
-use Rattle.rr_journal.proofs.Bytes.{at_index, at_same, stands, big_from-same}
+use Rattle.rr_journal.proofs.Bytes.{at_index, at_same, big_from-same}
 use Rattle.rr_keeper.specs.File.{Kit, IsRoot, IsTextAt, IsKitAt, behind, behind_kit, number_from, spelled_text, spelled_kit}
 use Rattle.rr_keeper.proofs.Places.{number_from-same, number_from-part}
 

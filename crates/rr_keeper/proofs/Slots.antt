@@ -1,5 +1,5 @@
 -- How many records there are.
-use Rattle.std.proofs.Common.{◌≡◌, ℕ, ◌+◌, ◌≤◌, List, [], ◌∷◌, length, map, Vec, refl, arith}
+use Rattle.std.proofs.Common.{◌≡◌, ℕ, ◌≤◌, List, [], ◌∷◌, length, Vec, refl, arith}
 use Rattle.std.specs.declared.alloc.Global.{Global}
 use Rattle.rr_journal.specs.Reading.{lines}
 use Rattle.rr_journal.specs.Run.{slots_of}

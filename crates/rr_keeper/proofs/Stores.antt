@@ -1,5 +1,5 @@
 -- What a stop leaves of a store, and what a new store is.
-use Rattle.std.proofs.Common.{◌≡◌, ◌⊎◌, inl, inr, ℕ, max, ◌+◌, ◌-◌, ◌*◌, ◌/◌, ◌^◌, ◌<◌, ◌≤◌, List, [], ◌∷◌, ◌++◌, length, replicate, get_or, slice_index, refl, sym, ap, ◌∙◌, subst, arith, length-append}
+use Rattle.std.proofs.Common.{◌≡◌, ◌⊎◌, inl, inr, ℕ, ◌+◌, ◌-◌, ◌*◌, ◌/◌, ◌^◌, ◌<◌, ◌≤◌, List, [], ◌∷◌, ◌++◌, length, replicate, slice_index, refl, sym, ap, ◌∙◌, subst, arith, length-append}
 use Rattle.std.proofs.lemmas.Bool.{cases_lt}
 use Rattle.std.proofs.lemmas.List.{length-replicate, get_or_append_left, get_or_past}
 use Rattle.rr_disk.specs.Disk.{DiskState, IsImage, written, after_write, after_sync}
@@ -9,7 +9,7 @@ use Rattle.rr_journal.specs.declared.half.Half.{Half}
 use Rattle.rr_journal.specs.declared.layout.HalfIndex.{HalfIndex}
 use Rattle.rr_journal.specs.declared.layout.HalfIndex.TheVariants.{First}
 use Rattle.rr_journal.specs.declared.reading.RunEnd.TheVariants.{Closed}
-use Rattle.rr_journal.specs.Layout.{start_page, StandsAt, slots_for, HasRoom, spelling}
+use Rattle.rr_journal.specs.Layout.{start_page, slots_for, HasRoom, spelling}
 use Rattle.rr_journal.specs.Run.{Run, slots_of}
 use Rattle.rr_journal.specs.Stops as Stops
 use Rattle.rr_journal.specs.Stops.{next_gate, MayLeave}
@@ -19,8 +19,8 @@ use Rattle.rr_journal.proofs.Moments.{before_or_after}
 use Rattle.rr_journal.proofs.Runs.{run_fits, some_slot}
 use Rattle.rr_journal.proofs.Spelling.{length_behind}
 use Rattle.rr_keeper.specs.File.{Kit, IsRoot, IsKitAt, IsStore, IsNewStore, kit_place, behind_kit, number_from, spelled_kit}
-use Rattle.rr_keeper.proofs.Places.{number_from-same, number_from-part}
-use Rattle.rr_keeper.proofs.Kits.{root_on, kit_on, kit_spelled, stands_front, length-spelled_kit}
+use Rattle.rr_keeper.proofs.Places.{number_from-same}
+use Rattle.rr_keeper.proofs.Kits.{root_on, kit_on, kit_spelled, length-spelled_kit}
 
 -- there are no more records than slots
 pub few_lines : (lines : List (List ℕ)) → length lines ≤ slots_of lines

@@ -1,5 +1,5 @@
 -- The form of the file. Numbers are big-endian.
-use Rattle.std.specs.Prelude.{◌≡◌, ℕ, ◌+◌, ◌*◌, ◌<◌, ◌≤◌, List, [], ◌∷◌, ◌++◌, length, slice_index}
+use Rattle.std.specs.Prelude.{◌≡◌, ℕ, ◌+◌, ◌*◌, ◌<◌, ◌≤◌, List, [], ◌++◌, length, slice_index}
 use Rattle.byteorder.specs.Endian.{big_from, big_bytes}
 use Rattle.rr_journal.specs.declared.layout.HalfIndex.TheVariants.{First}
 use Rattle.rr_journal.specs.declared.reading.RunEnd.{RunEnd}
@@ -20,7 +20,7 @@ number_from file place count = big_from place count file
 
 -- page 0 is an open root with these fields: number, directory page, half, first record number, version
 pub record IsRoot (file : List ℕ) : Type 0 where
-  pub open_gate : slice_index file 0 ≡ 165
+  pub open_gate : slice_index file 0 ≡ 0xa5
   pub number : number_from file 1 8 ≡ 1
   pub directory : number_from file 9 8 ≡ 514
   pub half : slice_index file 17 ≡ 0
@@ -71,7 +71,7 @@ pub record IsNewStore (file : List ℕ) (kit : Kit) : Type 0 where
   pub before_kit : (i : ℕ) → 36 ≤ i → i < kit_place → slice_index file i ≡ 0
   pub behind : (i : ℕ) → behind_kit kit_place kit ≤ i → slice_index file i ≡ 0
 
--- a text as it is spelled in the file, and a kit
+-- the bytes of a text in the file, and of a kit
 abbrev pub spelled_text : List ℕ → List ℕ
 spelled_text text = big_bytes 4 (length text) ++ text
 

@@ -1,4 +1,5 @@
 pub mod Fault
 pub mod File
 pub mod Keeper
+pub mod Lent
 pub mod Opening

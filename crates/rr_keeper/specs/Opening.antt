@@ -1,5 +1,5 @@
 -- What an opening tells of a file.
-use Rattle.std.specs.Prelude.{◌≡◌, ◌≢◌, ℕ, List, ◌∷◌}
+use Rattle.std.specs.Prelude.{◌≡◌, ℕ, List, ◌∷◌}
 use Rattle.rr_disk.specs.Disk.{DiskState, after_sync}
 use Rattle.rr_journal.specs.declared.reading.RunEnd.{RunEnd}
 use Rattle.rr_journal.specs.declared.reading.RunEnd.TheVariants.{OtherNumber, Damaged}

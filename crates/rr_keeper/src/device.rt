@@ -25,8 +25,10 @@ pub(crate) fn read<D: Disk>(disk: &mut D, at: u64, into: &mut [u8]) -> Result<()
 
 // One sync.
 pub(crate) fn sync<D: Disk>(disk: &mut D) -> Result<(), Fault>
-    ensures settled { OnOk result (D.Honest disk.new → D.state disk.new ≡ after_sync (D.state disk.old)) }
-    ensures passed { OnOk result (D.Honest disk.new → D.past disk.new ≡ D.state disk.old ∷ D.past disk.old) }
+    ensures settled { OnOk result (D.Honest disk.new
+        → D.state disk.new ≡ after_sync (D.state disk.old)) }
+    ensures passed { OnOk result (D.Honest disk.new
+        → D.past disk.new ≡ D.state disk.old ∷ D.past disk.old) }
     ensures failed_state { OnErr result (D.Honest disk.new → D.state disk.new ≡ D.state disk.old) }
     ensures failed_past { OnErr result (D.Honest disk.new → D.past disk.new ≡ D.past disk.old) }
 
@@ -43,8 +45,10 @@ pub(crate) fn sync<D: Disk>(disk: &mut D) -> Result<(), Fault>
 
 // One write, and the sync that makes it durable.
 pub(crate) fn put<D: Disk>(disk: &mut D, at: u64, bytes: &[u8]) -> Result<(), Fault>
-    ensures done { OnOk result (D.Honest disk.new → D.state disk.new ≡ after_sync (after_write (D.state disk.old) at bytes.now)) }
-    ensures passed { OnOk result (D.Honest disk.new → D.past disk.new ≡ after_write (D.state disk.old) at bytes.now ∷ D.state disk.old ∷ D.past disk.old) }
+    ensures done { OnOk result (D.Honest disk.new
+        → D.state disk.new ≡ after_sync (after_write (D.state disk.old) at bytes.now)) }
+    ensures passed { OnOk result (D.Honest disk.new
+        → D.past disk.new ≡ after_write (D.state disk.old) at bytes.now ∷ D.state disk.old ∷ D.past disk.old) }
 
     ensures only { IsOkUnless result Fault.DeviceFailed }
     ensures fault { CountsFault (D.fault_count disk.old) (D.fault_count disk.new) result }

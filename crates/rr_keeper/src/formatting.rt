@@ -3,6 +3,7 @@ ghost use Rattle.rr_disk.specs.Disk.{counted};
 ghost use Rattle.rr_disk.specs.Moments.{EachImage};
 ghost use Rattle.rr_keeper.specs.Fault.{CountsFault};
 ghost use Rattle.rr_keeper.specs.File.{IsNewStore};
+ghost use Rattle.rr_keeper.specs.Lent.{lent_kit};
 
 use crate::device::put;
 use crate::fault::Fault;
@@ -21,19 +22,23 @@ pub fn format<D: Disk>(alloc: Global, disk: &mut D, texts: Texts<'_>) -> Result<
     requires tiles { length texts.tiles.now ≤ 65536 }
     requires board { length texts.board.now ≤ 65536 }
 
-    ensures store { OnOk result (D.Honest disk.new → IsNewStore (D.state disk.new).content
-        record { chart = texts.entry.chart.now; roster = texts.entry.roster.now; tiles = texts.entry.tiles.now; board = texts.entry.board.now }) }
-    ensures each { OnOk result (D.Honest disk.new → EachImage (D.state disk.new) (λ image. IsNewStore image
-        record { chart = texts.entry.chart.now; roster = texts.entry.roster.now; tiles = texts.entry.tiles.now; board = texts.entry.board.now })) }
+    // What a read gives, and whatever a stop leaves from now on, is a new store with these texts.
+    ensures store { OnOk result (D.Honest disk.new
+        → IsNewStore (D.state disk.new).content (lent_kit texts.entry)) }
+    ensures each { OnOk result (D.Honest disk.new
+        → EachImage (D.state disk.new) (λ image. IsNewStore image (lent_kit texts.entry))) }
 
+    // When each refusal comes.
     ensures not_empty { IsErrOf result Fault.NotEmpty → D.Honest disk.new → 0 < length (D.state disk.old).content }
     ensures empty { D.Honest disk.new → 0 < length (D.state disk.old).content → result ≡ Err Fault.NotEmpty }
     ensures unchanged { (result ≡ Err Fault.NotEmpty) ⊎ (result ≡ Err Fault.OutOfMemory) → disk.new ≡ disk.old }
-    ensures others { IfErr result (λ fault. (fault ≡ Fault.NotEmpty) ⊎ (fault ≡ Fault.OutOfMemory) ⊎ (fault ≡ Fault.DeviceFailed)) }
+    ensures others { IfErr result (λ fault.
+        (fault ≡ Fault.NotEmpty) ⊎ (fault ≡ Fault.OutOfMemory) ⊎ (fault ≡ Fault.DeviceFailed)) }
 
     ensures fault { CountsFault (D.fault_count disk.old) (D.fault_count disk.new) result }
     ensures honest { D.Honest disk.new → D.Honest disk.old }
-    ensures calls { OnOk result ((D.write_count disk.new ≡ counted (counted (D.write_count disk.old))) × (D.sync_count disk.new ≡ counted (counted (D.sync_count disk.old)))) }
+    ensures writes { OnOk result (D.write_count disk.new ≡ counted (counted (D.write_count disk.old))) }
+    ensures syncs { OnOk result (D.sync_count disk.new ≡ counted (counted (D.sync_count disk.old))) }
 {
     if disk.len() != 0 {
         return Err(Fault::NotEmpty);

@@ -48,26 +48,44 @@ impl<D: Disk + Drop> Keeper<D> {
         requires { 0 < length line.now }
 
         // From `Ok` on what a stop leaves has the line, and so does what a read gives.
-        ensures acknowledged { OnOk result (D.Honest (disk_of self.new) → (kit : Kit) (lines : List (List ℕ)) → Keeps self.old (D.state (disk_of self.old)) kit lines
+        ensures acknowledged { OnOk result (D.Honest (disk_of self.new)
+            → (kit : Kit) (lines : List (List ℕ))
+            → Keeps self.old (D.state (disk_of self.old)) kit lines
             → Keeps self.new (D.state (disk_of self.new)) kit (lines ++ line.now ∷ [])) }
-        ensures store { OnOk result (D.Honest (disk_of self.new) → (kit : Kit) (lines : List (List ℕ)) → Keeps self.old (D.state (disk_of self.old)) kit lines
+        ensures store { OnOk result (D.Honest (disk_of self.new)
+            → (kit : Kit) (lines : List (List ℕ))
+            → Keeps self.old (D.state (disk_of self.old)) kit lines
             → IsStore (D.state (disk_of self.new)).content kit (lines ++ line.now ∷ [])) }
 
         // A stop at any moment of the call leaves the store with the line or without.
-        ensures before_or_after { D.Honest (disk_of self.new) → (kit : Kit) (lines : List (List ℕ)) → Keeps self.old (D.state (disk_of self.old)) kit lines
-            → LeavesOnly (D.past (disk_of self.old)) (D.state (disk_of self.old)) (D.past (disk_of self.new)) (D.state (disk_of self.new))
+        ensures before_or_after { D.Honest (disk_of self.new)
+            → (kit : Kit) (lines : List (List ℕ))
+            → Keeps self.old (D.state (disk_of self.old)) kit lines
+            → LeavesOnly (D.past (disk_of self.old)) (D.state (disk_of self.old))
+            (D.past (disk_of self.new)) (D.state (disk_of self.new))
             (λ image. IsStore image kit lines ⊎ IsStore image kit (lines ++ line.now ∷ [])) }
 
         // The whole record was written, and synced.
-        ensures written { OnOk result (D.Honest (disk_of self.new) → D.state (disk_of self.new) ≡ after_sync (after_write (D.state (disk_of self.old)) (next_gate (half_of self.old)) (spelling (number_of_next self.old) line.now))) }
-        ensures half { OnOk result (half_of self.new ≡ record { index = (half_of self.old).index; next_slot = (half_of self.old).next_slot + slots_for (length line.now) }) }
+        ensures written { OnOk result (D.Honest (disk_of self.new)
+            → D.state (disk_of self.new) ≡ after_sync (after_write (D.state (disk_of self.old))
+            (next_gate (half_of self.old)) (spelling (number_of_next self.old) line.now))) }
+        ensures half { OnOk result (half_of self.new ≡ record {
+          index = (half_of self.old).index;
+          next_slot = (half_of self.old).next_slot + slots_for (length line.now);
+        }) }
         ensures number { OnOk result (number_of_next self.new ≡ number_of_next self.old + 1) }
 
+        // When each refusal comes, and what it leaves.
         ensures again { IsErrOf result Fault.OpenAgain ↔ IsTrue (is_broken self.old) }
-        ensures full { IsErrOf result Fault.HalfFull ↔ ((is_broken self.old ≡ false) × (HasRoom (half_of self.old).next_slot (length line.now) → ⊥)) }
-        ensures unchanged { (result ≡ Err Fault.OpenAgain) ⊎ (result ≡ Err Fault.HalfFull) → IsUnchanged self.old self.new }
-        ensures kept { IsErrOf result Fault.HalfFull → (state : DiskState) (kit : Kit) (lines : List (List ℕ)) → Keeps self.old state kit lines → Keeps self.new state kit lines }
-        ensures others { IfErr result (λ fault. (fault ≡ Fault.OpenAgain) ⊎ (fault ≡ Fault.HalfFull) ⊎ (fault ≡ Fault.DeviceFailed)) }
+        ensures full { IsErrOf result Fault.HalfFull
+            ↔ ((is_broken self.old ≡ false) × (HasRoom (half_of self.old).next_slot (length line.now) → ⊥)) }
+        ensures unchanged { (result ≡ Err Fault.OpenAgain) ⊎ (result ≡ Err Fault.HalfFull)
+            → IsUnchanged self.old self.new }
+        ensures kept { IsErrOf result Fault.HalfFull
+            → (state : DiskState) (kit : Kit) (lines : List (List ℕ))
+            → Keeps self.old state kit lines → Keeps self.new state kit lines }
+        ensures others { IfErr result (λ fault.
+            (fault ≡ Fault.OpenAgain) ⊎ (fault ≡ Fault.HalfFull) ⊎ (fault ≡ Fault.DeviceFailed)) }
         ensures breaks { result ≡ Err Fault.DeviceFailed → IsTrue (is_broken self.new) }
         ensures goes_on { OnOk result (is_broken self.new ≡ false) }
 

@@ -32,7 +32,8 @@ pub(crate) fn u32_from(bytes: &[u8], place: usize) -> u32
 pub(crate) fn put_u64(bytes: &mut [u8], place: usize, number: u64)
     requires { place + 8 ≤ length bytes.old }
     ensures number { number_from bytes.new place 8 ≡ number }
-    ensures elsewhere { (i : ℕ) → (i < place) ⊎ (place + 8 ≤ i) → slice_index bytes.new i ≡ slice_index bytes.old i }
+    ensures elsewhere { (i : ℕ) → (i < place) ⊎ (place + 8 ≤ i)
+        → slice_index bytes.new i ≡ slice_index bytes.old i }
 {
     BigEndian::write_u64(&mut bytes[place..], number);
 }

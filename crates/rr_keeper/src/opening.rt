@@ -47,23 +47,32 @@ struct Found {
 /// `DeviceFailed` where a call on the disk failed.
 pub fn open<D: Disk + Drop>(alloc: Global, mut disk: D) -> Result<Opened<D>, Refused<D>>
     // The file was a store with what is given, and whatever a stop leaves from now on is that store.
-    ensures store { IfOk result (λ opened. D.Honest (disk_of opened.keeper) → IsStore (D.state disk).content (kit_of opened.texts) (lines opened.lines.items)) }
-    ensures keeps { IfOk result (λ opened. D.Honest (disk_of opened.keeper) → Keeps opened.keeper (D.state (disk_of opened.keeper)) (kit_of opened.texts) (lines opened.lines.items)) }
+    ensures store { IfOk result (λ opened. D.Honest (disk_of opened.keeper)
+        → IsStore (D.state disk).content (kit_of opened.texts) (lines opened.lines.items)) }
+    ensures keeps { IfOk result (λ opened. D.Honest (disk_of opened.keeper)
+        → Keeps opened.keeper (D.state (disk_of opened.keeper)) (kit_of opened.texts) (lines opened.lines.items)) }
 
     // A file that is a store with other texts or lines is none of those.
-    ensures only { IfOk result (λ opened. D.Honest (disk_of opened.keeper) → (kit : Kit) (all : List (List ℕ)) → IsStore (D.state disk).content kit all
+    ensures only { IfOk result (λ opened. D.Honest (disk_of opened.keeper)
+        → (kit : Kit) (all : List (List ℕ)) → IsStore (D.state disk).content kit all
         → (kit ≡ kit_of opened.texts) × (all ≡ lines opened.lines.items)) }
     ensures refused { IfErr result (λ refused. Refuses (D.Honest refused.disk) (D.state disk).content refused.fault) }
 
     // It syncs, and writes nothing.
-    ensures synced { IfOk result (λ opened. D.Honest (disk_of opened.keeper) → (D.state (disk_of opened.keeper) ≡ after_sync (D.state disk)) × (D.past (disk_of opened.keeper) ≡ D.state disk ∷ D.past disk)) }
-    ensures left { IfErr result (λ refused. D.Honest refused.disk → SyncsOnce (D.past disk) (D.state disk) (D.past refused.disk) (D.state refused.disk)) }
+    ensures synced { IfOk result (λ opened. D.Honest (disk_of opened.keeper)
+        → (D.state (disk_of opened.keeper) ≡ after_sync (D.state disk))
+        × (D.past (disk_of opened.keeper) ≡ D.state disk ∷ D.past disk)) }
+    ensures left { IfErr result (λ refused. D.Honest refused.disk
+        → SyncsOnce (D.past disk) (D.state disk) (D.past refused.disk) (D.state refused.disk)) }
 
-    ensures no_fault { IfOk result (λ opened. D.fault_count (disk_of opened.keeper) ≡ D.fault_count disk) }
+    // The device failed exactly where that is told.
+    ensures no_fault { IfOk result (λ opened.
+        D.fault_count (disk_of opened.keeper) ≡ D.fault_count disk) }
     ensures fault { IfErr result (λ refused. Counts (D.fault_count disk) (D.fault_count refused.disk) refused.fault) }
     ensures honest { IfOk result (λ opened. D.Honest (disk_of opened.keeper) → D.Honest disk) }
     ensures honest_left { IfErr result (λ refused. D.Honest refused.disk → D.Honest disk) }
-    ensures writes { IfOk result (λ opened. D.write_count (disk_of opened.keeper) ≡ D.write_count disk) }
+    ensures writes { IfOk result (λ opened.
+        D.write_count (disk_of opened.keeper) ≡ D.write_count disk) }
     ensures writes_left { IfErr result (λ refused. D.write_count refused.disk ≡ D.write_count disk) }
 {
     match read_store(alloc, &mut disk) {
@@ -86,13 +95,18 @@ pub fn open<D: Disk + Drop>(alloc: Global, mut disk: D) -> Result<Opened<D>, Ref
 }
 
 fn read_store<D: Disk>(alloc: Global, disk: &mut D) -> Result<Found, Fault>
-    ensures store { IfOk result (λ found. D.Honest disk.new → IsStore (D.state disk.old).content (kit_of found.texts) (lines found.lines.items)) }
-    ensures half { IfOk result (λ found. (found.half.index ≡ HalfIndex.First) × (found.half.next_slot ≡ slots_of (lines found.lines.items))) }
+    ensures store { IfOk result (λ found. D.Honest disk.new
+        → IsStore (D.state disk.old).content (kit_of found.texts) (lines found.lines.items)) }
+    ensures half { IfOk result (λ found. (found.half.index
+        ≡ HalfIndex.First) × (found.half.next_slot ≡ slots_of (lines found.lines.items))) }
     ensures few { IfOk result (λ found. vec_len found.lines ≤ found.half.next_slot) }
     ensures refused { IfErr result (Refuses (D.Honest disk.new) (D.state disk.old).content) }
 
-    ensures synced { OnOk result (D.Honest disk.new → (D.state disk.new ≡ after_sync (D.state disk.old)) × (D.past disk.new ≡ D.state disk.old ∷ D.past disk.old)) }
-    ensures left { OnErr result (D.Honest disk.new → SyncsOnce (D.past disk.old) (D.state disk.old) (D.past disk.new) (D.state disk.new)) }
+    ensures synced { OnOk result (D.Honest disk.new
+        → (D.state disk.new ≡ after_sync (D.state disk.old)) × (D.past disk.new
+        ≡ D.state disk.old ∷ D.past disk.old)) }
+    ensures left { OnErr result (D.Honest disk.new
+        → SyncsOnce (D.past disk.old) (D.state disk.old) (D.past disk.new) (D.state disk.new)) }
 
     ensures fault { CountsFault (D.fault_count disk.old) (D.fault_count disk.new) result }
     ensures honest { D.Honest disk.new → D.Honest disk.old }
@@ -117,7 +131,8 @@ fn read_store<D: Disk>(alloc: Global, disk: &mut D) -> Result<Found, Fault>
 
 fn read_root<D: Disk>(disk: &mut D) -> Result<(), Fault>
     ensures found { OnOk result (D.Honest disk.new → IsRoot (D.state disk.old).content) }
-    ensures none { IsErrOf result Fault.NotAStore → D.Honest disk.new → IsRoot (D.state disk.old).content → length (D.state disk.old).content < kit_place }
+    ensures none { IsErrOf result Fault.NotAStore → D.Honest disk.new
+        → IsRoot (D.state disk.old).content → length (D.state disk.old).content < kit_place }
     ensures only { IfErr result IsOfReading }
 
     ensures fault { CountsFault (D.fault_count disk.old) (D.fault_count disk.new) result }
@@ -139,8 +154,10 @@ fn read_root<D: Disk>(disk: &mut D) -> Result<(), Fault>
 }
 
 fn read_texts<D: Disk>(alloc: Global, disk: &mut D) -> Result<KitTexts, Fault>
-    ensures found { IfOk result (λ texts. D.Honest disk.new → IsKitAt (D.state disk.old).content kit_place (kit_of texts)) }
-    ensures none { IsErrOf result Fault.NotAStore → D.Honest disk.new → (kit : Kit) → IsKitAt (D.state disk.old).content kit_place kit → ⊥ }
+    ensures found { IfOk result (λ texts. D.Honest disk.new
+        → IsKitAt (D.state disk.old).content kit_place (kit_of texts)) }
+    ensures none { IsErrOf result Fault.NotAStore → D.Honest disk.new → (kit : Kit)
+        → IsKitAt (D.state disk.old).content kit_place kit → ⊥ }
     ensures only { IfErr result IsOfReading }
 
     ensures fault { CountsFault (D.fault_count disk.old) (D.fault_count disk.new) result }
@@ -165,8 +182,10 @@ fn read_texts<D: Disk>(alloc: Global, disk: &mut D) -> Result<KitTexts, Fault>
 }
 
 fn read_text<D: Disk>(alloc: Global, disk: &mut D, place: u64) -> Result<Vec<u8>, Fault>
-    ensures found { IfOk result (λ text. D.Honest disk.new → IsTextAt (D.state disk.old).content place text.items) }
-    ensures none { IsErrOf result Fault.NotAStore → D.Honest disk.new → (text : List ℕ) → IsTextAt (D.state disk.old).content place text → ⊥ }
+    ensures found { IfOk result (λ text. D.Honest disk.new
+        → IsTextAt (D.state disk.old).content place text.items) }
+    ensures none { IsErrOf result Fault.NotAStore → D.Honest disk.new → (text : List ℕ)
+        → IsTextAt (D.state disk.old).content place text → ⊥ }
     ensures only { IfErr result IsOfReading }
     ensures fits { IfOk result (λ text. place + 4 + vec_len text < 2 ^ 64) }
 
@@ -196,7 +215,8 @@ fn read_text<D: Disk>(alloc: Global, disk: &mut D, place: u64) -> Result<Vec<u8>
 
 // The count of a text's bytes, which stands at this place.
 fn read_count<D: Disk>(disk: &mut D, place: u64) -> Result<usize, Fault>
-    ensures found { IfOk result (λ count. D.Honest disk.new → number_from (D.state disk.old).content place 4 ≡ count) }
+    ensures found { IfOk result (λ count. D.Honest disk.new
+        → number_from (D.state disk.old).content place 4 ≡ count) }
     ensures only { IsOkUnless result Fault.DeviceFailed }
 
     ensures fault { CountsFault (D.fault_count disk.old) (D.fault_count disk.new) result }
@@ -216,7 +236,8 @@ fn read_bytes<D: Disk>(
     place: u64,
     count: usize,
 ) -> Result<Vec<u8>, Fault>
-    ensures found { IfOk result (λ bytes. D.Honest disk.new → IsAt (D.state disk.old).content place bytes.items) }
+    ensures found { IfOk result (λ bytes. D.Honest disk.new
+        → IsAt (D.state disk.old).content place bytes.items) }
     ensures count { IfOk result (λ bytes. length bytes.items ≡ count) }
     ensures only { IfErr result IsOfReading }
     ensures never_none { IsErrOf result Fault.NotAStore → ⊥ }
@@ -242,8 +263,10 @@ fn behind(place: u64, text: &[u8]) -> u64
 
 // The records of the journal's first half, numbered from 1.
 fn read_records<D: Disk>(alloc: Global, disk: &mut D) -> Result<Scanned, Fault>
-    ensures found { IfOk result (λ scanned. D.Honest disk.new → Run (D.state disk.old).content HalfIndex.First 0 1 (lines scanned.records.items) scanned.end) }
-    ensures half { IfOk result (λ scanned. (scanned.half.index ≡ HalfIndex.First) × (scanned.half.next_slot ≡ slots_of (lines scanned.records.items))) }
+    ensures found { IfOk result (λ scanned. D.Honest disk.new
+        → Run (D.state disk.old).content HalfIndex.First 0 1 (lines scanned.records.items) scanned.end) }
+    ensures half { IfOk result (λ scanned. (scanned.half.index
+        ≡ HalfIndex.First) × (scanned.half.next_slot ≡ slots_of (lines scanned.records.items))) }
     ensures only { IfErr result IsOfReading }
     ensures never_none { IsErrOf result Fault.NotAStore → ⊥ }
 

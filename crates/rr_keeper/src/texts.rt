@@ -1,5 +1,6 @@
 ghost use Rattle.std.specs.Prelude.{◌≡◌, ◌+◌, ◌-◌, ◌*◌, ◌/◌, ◌<◌, ◌≤◌, ◌++◌, length, replicate, OnOk, IfOk, IfErr, IsOkUnless, vec_len};
 ghost use Rattle.rr_keeper.specs.File.{spelled_text, spelled_kit};
+ghost use Rattle.rr_keeper.specs.Lent.{lent_kit};
 
 use crate::fault::Fault;
 use byteorder::{BigEndian, ByteOrder};
@@ -38,7 +39,7 @@ pub(crate) fn spell_kit(alloc: Global, texts: Texts<'_>) -> Result<Vec<u8>, Faul
     requires roster { length texts.roster.now ≤ 65536 }
     requires tiles { length texts.tiles.now ≤ 65536 }
     requires board { length texts.board.now ≤ 65536 }
-    ensures bytes { IfOk result (λ kit. kit.items ≡ spelled_kit record { chart = texts.entry.chart.now; roster = texts.entry.roster.now; tiles = texts.entry.tiles.now; board = texts.entry.board.now }
+    ensures bytes { IfOk result (λ kit. kit.items ≡ spelled_kit (lent_kit texts.entry)
         ++ replicate (vec_len kit - (16 + length texts.entry.chart.now + length texts.entry.roster.now + length texts.entry.tiles.now + length texts.entry.board.now)) 0) }
     ensures enough { IfOk result (λ kit. 16 + length texts.entry.chart.now + length texts.entry.roster.now + length texts.entry.tiles.now + length texts.entry.board.now ≤ vec_len kit) }
     ensures no_longer { IfOk result (λ kit. vec_len kit < 16 + length texts.entry.chart.now + length texts.entry.roster.now + length texts.entry.tiles.now + length texts.entry.board.now + 4096) }

@@ -1,4 +1,4 @@
-use Rattle.std.proofs.Common.{◌≡◌, ℕ, ◌+◌, ◌-◌, ◌*◌, ◌/◌, ◌<◌, ◌≤◌, List, length, vec_len, sym, ap, ◌∙◌, subst, arith, rules}
+use Rattle.std.proofs.Common.{◌≡◌, ℕ, List, length, vec_len, sym, ◌∙◌, subst, arith, rules}
 use Rattle.rr_disk.specs.Disk.{DiskState, after_write, after_sync}
 use Rattle.rr_disk.specs.Moments.{EachImage}
 use Rattle.rr_disk.proofs.ImageLemmas.{each_synced}

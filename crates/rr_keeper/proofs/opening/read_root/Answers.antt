@@ -1,5 +1,4 @@
-use Rattle.std.proofs.Common.{◌≡◌, ◌<◌, List, length, true, arith, rules}
-use Rattle.rr_disk.specs.Disk.{IsAt}
+use Rattle.std.proofs.Common.{◌≡◌, length, true, rules}
 use Rattle.rr_keeper.proofs.Kits.{root_read, root_here}
 use Rattle.rr_keeper.proofs.opening.read_root.Goals as goal
 

@@ -1,6 +1,4 @@
-use Rattle.rr_books.specs.State.{holder_in}
-use Rattle.std.proofs.Common.{rules, ◌≡◌, ◌∙◌, ap, ◌++◌}
-use Rattle.rr_books.specs.Book.{Book}
+use Rattle.std.proofs.Common.{◌∙◌, ap, ◌++◌}
 use Rattle.rr_books.specs.Shares.{Holders}
 use Rattle.rr_books.specs.ShareLaws.{holder-of_state}
 use Rattle.rr_desk.specs.Effects.{lowest_share}

@@ -1,10 +1,10 @@
-use Rattle.std.proofs.Common.{◌≡◌, ◌⊎◌, inl, inr, ℕ, ◌+◌, List, [], ◌∷◌, ◌++◌, length, Err, refl, sym, ap, ◌∙◌, subst, arith, rules, length-append}
+use Rattle.std.proofs.Common.{◌≡◌, ◌⊎◌, inl, inr, [], ◌∷◌, ◌++◌, length, ap, ◌∙◌, arith, length-append}
 use Rattle.rr_disk.proofs.MomentLemmas.{weaker}
 use Rattle.rr_journal.specs.Layout.{HasRoom}
 use Rattle.rr_journal.specs.declared.half.Half.{Half}
 use Rattle.rr_journal.specs.declared.layout.HalfIndex.TheVariants.{First}
 use Rattle.rr_journal.proofs.Moments.{keeps_ready}
-use Rattle.rr_keeper.specs.File.{Kit, IsStore}
+use Rattle.rr_keeper.specs.File.{IsStore}
 use Rattle.rr_keeper.proofs.Stores.{in_journal, one_or_other, with_record, room_or_not}
 use Rattle.rr_keeper.proofs.keeper.Keeper.append.Goals as goal
 
