@@ -1,4 +1,9 @@
 //! What the program does with a plan, over a disk, a reader and a writer.
+ghost use Rattle.std.specs.Prelude.{◌≡◌, ◌⊎◌, IsTrue};
+ghost use Rattle.std.specs.Io.KnownBytes.{Appends};
+ghost use Rattle.rr_moderator.specs.Fault.{refusal_of};
+ghost use Rattle.rr_cli.specs.Acting.{IsAcknowledged, IsRefused};
+
 use crate::{Ending, Plan, status};
 use rr_disk::Disk;
 use rr_moderator::{Fault, Moderator, Refused, Reply, Texts};
@@ -19,7 +24,9 @@ pub fn act<D: Disk + Drop, R: Read, W: Write>(
     disk: D,
     reader: &mut R,
     writer: &mut W,
-) -> (u8, D) {
+) -> (u8, D)
+    ensures { (result.0 ≡ 0) ⊎ (result.0 ≡ 3) ⊎ (result.0 ≡ 4) }
+{
     match plan {
         Plan::Format { .. } => format(alloc, texts, disk, writer),
         Plan::Serve { .. } => serve(alloc, disk, reader, writer),
@@ -31,7 +38,9 @@ fn format<D: Disk + Drop, W: Write>(
     texts: Texts<'_>,
     mut disk: D,
     writer: &mut W,
-) -> (u8, D) {
+) -> (u8, D)
+    ensures { (result.0 ≡ 0) ⊎ (result.0 ≡ 3) ⊎ (result.0 ≡ 4) }
+{
     let ending = match rr_moderator::format(alloc, &mut disk, texts) {
         Ok(()) => acknowledge(writer),
         Err(fault) => refuse(alloc, fault, writer),
@@ -44,7 +53,9 @@ fn serve<D: Disk + Drop, R: Read, W: Write>(
     disk: D,
     reader: &mut R,
     writer: &mut W,
-) -> (u8, D) {
+) -> (u8, D)
+    ensures { (result.0 ≡ 0) ⊎ (result.0 ≡ 3) ⊎ (result.0 ≡ 4) }
+{
     match Moderator::open(alloc, disk) {
         Ok(mut moderator) => {
             let ending = match moderator.serve(reader, writer) {
@@ -62,33 +73,50 @@ fn serve<D: Disk + Drop, R: Read, W: Write>(
 }
 
 /// Writes `ok`.
-fn acknowledge<W: Write>(writer: &mut W) -> Ending {
+fn acknowledge<W: Write>(writer: &mut W) -> Ending
+    ensures { IsAcknowledged (W.contents writer.old) (W.contents writer.new) result }
+{
     if write_line(b"ok\n", writer) {
         Ending::Done
     } else {
-        Ending::Faulted(Fault::StreamFailed.number())
+        Ending::Faulted(69)
     }
 }
 
-/// Writes the refusal as one line.
-pub fn refuse<W: Write>(alloc: Global, fault: Fault, writer: &mut W) -> Ending {
-    let written = match Reply::new(alloc) {
+/// Writes the refusal as one line, and tells how the program ends. Where no memory is left to make the line,
+/// it is that of `OutOfMemory`.
+pub fn refuse<W: Write>(alloc: Global, fault: Fault, writer: &mut W) -> Ending
+    ensures { IsRefused fault (W.contents writer.old) (W.contents writer.new) result
+        ⊎ IsRefused Fault.OutOfMemory (W.contents writer.old) (W.contents writer.new) result }
+{
+    match Reply::new(alloc) {
         Ok(mut reply) => {
             fault.write(&mut reply);
-            write_line(reply.as_bytes(), writer)
+            write_refusal(fault, reply.as_bytes(), writer)
         }
-        Err(_) => write_line(OUT_OF_MEMORY, writer),
-    };
-    if written {
+        Err(_) => write_refusal(Fault::OutOfMemory, OUT_OF_MEMORY, writer),
+    }
+}
+
+fn write_refusal<W: Write>(fault: Fault, line: &[u8], writer: &mut W) -> Ending
+    requires { line.now ≡ refusal_of fault }
+    ensures { IsRefused fault (W.contents writer.old) (W.contents writer.new) result }
+{
+    if write_line(line, writer) {
         Ending::Faulted(fault.number())
     } else {
-        Ending::Faulted(Fault::StreamFailed.number())
+        Ending::Faulted(69)
     }
 }
 
 /// Writes the whole line and lets the writer hold nothing back.
-fn write_line<W: Write>(line: &[u8], writer: &mut W) -> bool {
-    writer.write_all(line).is_ok() && writer.flush().is_ok()
+fn write_line<W: Write>(line: &[u8], writer: &mut W) -> bool
+    ensures { IsTrue result → Appends (W.contents writer.old) (W.contents writer.new) line.now }
+{
+    if writer.write_all(line).is_err() {
+        return false;
+    }
+    writer.flush().is_ok()
 }
 
 #[cfg(test)]

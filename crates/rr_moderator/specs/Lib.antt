@@ -1,1 +1,4 @@
 pub mod Fault
+pub mod Answer
+pub mod World
+pub mod Keeping

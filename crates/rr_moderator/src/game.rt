@@ -1,4 +1,13 @@
-ghost use Rattle.std.specs.Prelude.{◌≡◌, ◌+◌, ◌<◌, ◌≤◌, length, IfOk};
+ghost use Rattle.std.specs.Prelude.{◌≡◌, ◌+◌, ◌<◌, ◌≤◌, ◌++◌, ◌⊎◌, List, ℕ, None, Some, length, option_map, position, bytes_eq, IfOk, IfSome, MatchResult};
+ghost use Rattle.rr_roster.specs.Terms.{Terms};
+ghost use Rattle.rr_books.specs.Book.{Book};
+ghost use Rattle.rr_books.specs.Opening.{certificate_limit};
+ghost use Rattle.rr_books.specs.Shares.{is_at};
+ghost use Rattle.rr_books.specs.State.{IsStateOf, cash_of, holder_in};
+ghost use Rattle.rr_auction.specs.Progress.{IsProgressOf};
+ghost use Rattle.rr_auction.specs.Rules.{asked};
+ghost use Rattle.rr_auction.specs.Opening.{opened};
+ghost use Rattle.rr_moderator.specs.World.{MayRefuse, act_of, command_entries, command_verdict, owner_place, party_of, seat_of};
 
 use crate::fault::Fault;
 use rr_auction::{Auction, open_table};
@@ -21,7 +30,10 @@ pub(crate) struct Game {
 impl Game {
     /// The game of a table that opens with these players.
     pub(crate) fn open(players: Players, roster: &Roster) -> Game
-        ensures { result.books.payments ≤ 6 }
+        ensures payments { result.books.payments ≤ 6 }
+        ensures players { result.players ≡ players }
+        ensures books { IsStateOf (opened players roster.now) result.books }
+        ensures auction { IsProgressOf (opened players roster.now) result.auction }
     {
         let count = players.as_slice().len() as u8;
         let (books, auction) = open_table(count, roster);
@@ -40,7 +52,15 @@ impl Game {
         roster: &Roster,
     ) -> Result<Game, Fault>
         requires { self.now.books.payments < 400000000 }
-        ensures { IfOk result (λ game. game.books.payments ≤ self.now.books.payments + 1) }
+        ensures payments { IfOk result (λ game. game.books.payments ≤ self.now.books.payments + 1) }
+        ensures players { IfOk result (λ game. game.players ≡ self.now.players) }
+        ensures verdict { (book : Book) → IsStateOf book self.now.books → IsProgressOf book self.now.auction → MatchResult result
+            (λ _. command_verdict roster.now self.now.players book command.now ≡ None)
+            (λ fault. MayRefuse (command_verdict roster.now self.now.players book command.now) fault) }
+        ensures books { IfOk result (λ game. (book : Book) → IsStateOf book self.now.books → IsProgressOf book self.now.auction →
+            IsStateOf (book ++ command_entries roster.now self.now.players book command.now) game.books) }
+        ensures auction { IfOk result (λ game. (book : Book) → IsStateOf book self.now.books → IsProgressOf book self.now.auction →
+            IsProgressOf (book ++ command_entries roster.now self.now.players book command.now) game.auction) }
     {
         let act = self.act(command)?;
         let mut auction = self.auction;
@@ -55,7 +75,11 @@ impl Game {
     }
 
     /// The command with seats in place of names.
-    fn act(&self, command: &Command) -> Result<Act, Fault> {
+    fn act(&self, command: &Command) -> Result<Act, Fault>
+        ensures { MatchResult result
+            (λ act. act_of self.now.players command.now ≡ Some act)
+            (λ fault. (act_of self.now.players command.now ≡ None) × ((roster : Terms) (book : Book) → command_verdict roster self.now.players book command.now ≡ Some fault)) }
+    {
         match command {
             Command::Open { .. } => Err(Fault::WrongStep),
             Command::BuyPrivate { player } => Ok(Act::BuyPrivate {
@@ -65,20 +89,23 @@ impl Game {
     }
 
     /// The seat of a player.
-    fn seat(&self, player: &Name) -> Result<Seat, Fault> {
-        match self
-            .players
-            .as_slice()
-            .iter()
-            .position(|name| name == player)
-        {
+    fn seat(&self, player: &Name) -> Result<Seat, Fault>
+        ensures { MatchResult result
+            (λ seat. seat_of self.now.players player.now ≡ Some seat)
+            (λ fault. (fault ≡ Fault.NoSuchName) × (seat_of self.now.players player.now ≡ None)) }
+    {
+        match place_among(player, self.players.as_slice()) {
             Some(seat) => Ok(Seat(seat as u8)),
             None => Err(Fault::NoSuchName),
         }
     }
 
     /// What an account has.
-    pub(crate) fn cash(&self, account: &Account) -> Result<Money, Fault> {
+    pub(crate) fn cash(&self, account: &Account) -> Result<Money, Fault>
+        ensures { MatchResult result
+            (λ money. option_map (cash_of self.now.books) (party_of self.now.players account.now) ≡ Some money.0)
+            (λ fault. (fault ≡ Fault.NoSuchName) × (party_of self.now.players account.now ≡ None)) }
+    {
         let party = match account {
             Account::Bank => Party::Bank,
             Account::Corp(corp) => Party::Corp(*corp),
@@ -88,7 +115,11 @@ impl Game {
     }
 
     /// The place of an owner.
-    pub(crate) fn place(&self, owner: &Owner) -> Result<Place, Fault> {
+    pub(crate) fn place(&self, owner: &Owner) -> Result<Place, Fault>
+        ensures { MatchResult result
+            (λ place. owner_place self.now.players owner.now ≡ Some place)
+            (λ fault. (fault ≡ Fault.NoSuchName) × (owner_place self.now.players owner.now ≡ None)) }
+    {
         match owner {
             Owner::Corp(corp) => Ok(Place::Corp(*corp)),
             Owner::Player(player) => Ok(Place::Seat(self.seat(player)?)),
@@ -96,17 +127,31 @@ impl Game {
     }
 
     /// The private is at the place.
-    pub(crate) fn owns(&self, place: Place, private: Private) -> bool {
+    pub(crate) fn owns(&self, place: Place, private: Private) -> bool
+        ensures { result ≡ is_at (holder_in self.now.books (Cert.Private private)) place }
+    {
         self.books.holder(Cert::Private(private)) == place
     }
 
     /// The certificate limit of the table.
-    pub(crate) fn limit(&self) -> u8 {
+    pub(crate) fn limit(&self) -> u8
+        ensures { result ≡ certificate_limit self.now.books.players }
+    {
         rr_books::certificate_limit(self.books.players())
     }
 
     /// The cheapest private that isn't sold, and its price.
-    pub(crate) fn asked(&self, roster: &Roster) -> Option<(Private, Money)> {
+    pub(crate) fn asked(&self, roster: &Roster) -> Option<(Private, Money)>
+        ensures { (book : Book) → IsStateOf book self.now.books → result ≡ asked roster.now book }
+    {
         self.auction.asked(&self.books, roster)
     }
+}
+
+/// The place of a name among others.
+fn place_among(name: &Name, names: &[Name]) -> Option<usize>
+    ensures value { result ≡ position (λ other. bytes_eq other name.now) names.now }
+    ensures bound { IfSome result (λ place. place < length names.now) }
+{
+    names.iter().position(|other| *other == *name)
 }

@@ -1,4 +1,7 @@
-ghost use Rattle.std.specs.Prelude.{◌≡◌, ◌+◌, ◌<◌, ◌≤◌, false, length, vec_capacity, vec_len};
+ghost use Rattle.std.specs.Prelude.{◌≡◌, ◌+◌, ◌<◌, ◌≤◌, false, true, length, vec_capacity, vec_len, None, Some, [], ◌∷◌, ◌++◌, IfOk, IfErr, OnOk, OnErr, MatchResult, bytes_eq, option_map};
+ghost use Rattle.indexmap.specs.IndexMap.{get, index_map_len};
+ghost use Rattle.rr_moderator.specs.Keeping.{IsGameOf};
+ghost use Rattle.rr_moderator.specs.World.{MayRefuse, is_full, is_outside, opening_verdict, table_of, table_verdict, with_command};
 
 use crate::fault::Fault;
 use crate::game::Game;
@@ -35,7 +38,8 @@ pub(crate) struct Table {
 pub(crate) trait Journal {
     /// Keeps the record. After `Ok` it is safe.
     fn keep(&mut self, record: &[u8]) -> Result<(), Fault>
-        requires { 0 < length record.now };
+        requires { 0 < length record.now }
+        ensures { IfErr result (λ fault. is_outside fault ≡ true) };
 }
 
 /// Records that stand in the file already.
@@ -65,6 +69,10 @@ pub(crate) struct Tables {
 impl Table {
     fn open(alloc: Global, command: Command, game: Game) -> Result<Table, Fault>
         requires { game.books.payments ≤ 6 }
+        ensures accepted { IfOk result (λ table. table.accepted.items ≡ command ∷ []) }
+        ensures stamp { IfOk result (λ table. table.stamp ≡ 1) }
+        ensures game { IfOk result (λ table. table.game ≡ game) }
+        ensures fault { IfErr result (λ fault. fault ≡ Fault.OutOfMemory) }
     {
         let mut accepted = Vec::with_capacity(alloc, MOST_COMMANDS)?;
         accepted.push(command)?;
@@ -75,11 +83,15 @@ impl Table {
         })
     }
 
-    pub(crate) fn game(&self) -> &Game {
+    pub(crate) fn game(&self) -> &Game
+        ensures { result.now ≡ self.now.game }
+    {
         &self.game
     }
 
-    pub(crate) fn stamp(&self) -> u64 {
+    pub(crate) fn stamp(&self) -> u64
+        ensures { result ≡ self.now.stamp }
+    {
         self.stamp
     }
 
@@ -94,6 +106,36 @@ impl Table {
         journal: &mut J,
     ) -> Result<u64, Fault>
         requires { 0 < length record.now }
+        ensures verdict { IsGameOf roster.now self.old.accepted.items self.old.game → MatchResult result
+            (λ _. table_verdict roster.now (table_of self.old.accepted.items self.old.stamp) stamp command.now ≡ None)
+            (λ fault. MayRefuse (table_verdict roster.now (table_of self.old.accepted.items self.old.stamp) stamp command.now) fault) }
+        ensures accepted { OnOk result (table_of self.new.accepted.items self.new.stamp ≡ with_command (table_of self.old.accepted.items self.old.stamp) command.now) }
+        ensures stamp { IfOk result (λ stamp. stamp ≡ self.new.stamp) }
+        ensures played { OnOk result (IsGameOf roster.now self.old.accepted.items self.old.game → IsGameOf roster.now self.new.accepted.items self.new.game) }
+        ensures err { OnErr result (self.new ≡ self.old) }
+    {
+        let game = self.judge(alloc, stamp, command, roster)?;
+        journal.keep(record)?;
+        self.add(*command, game);
+        Ok(self.stamp)
+    }
+
+    /// The game after a command with this stamp.
+    fn judge(
+        &self,
+        alloc: Global,
+        stamp: u64,
+        command: &Command,
+        roster: &Roster,
+    ) -> Result<Game, Fault>
+        ensures verdict { IsGameOf roster.now self.now.accepted.items self.now.game → MatchResult result
+            (λ _. table_verdict roster.now (table_of self.now.accepted.items self.now.stamp) stamp command.now ≡ None)
+            (λ fault. MayRefuse (table_verdict roster.now (table_of self.now.accepted.items self.now.stamp) stamp command.now) fault) }
+        ensures played { IsGameOf roster.now self.now.accepted.items self.now.game →
+            IfOk result (IsGameOf roster.now (self.now.accepted.items ++ command.now ∷ [])) }
+        ensures room { OnOk result (vec_len self.now.accepted < 4096) }
+        ensures stamp { OnOk result (self.now.stamp < 4000000000) }
+        ensures payments { IfOk result (λ game. game.books.payments ≤ vec_len self.now.accepted + 7) }
     {
         if self.stamp != stamp {
             return Err(Fault::StaleStamp(self.stamp));
@@ -101,17 +143,26 @@ impl Table {
         if self.is_full() {
             return Err(Fault::TooManyCommands);
         }
-        let game = self.game.step(alloc, command, roster)?;
-        journal.keep(record)?;
+        self.game.step(alloc, command, roster)
+    }
+
+    /// Lets a command count, after which the game is the given one.
+    fn add(&mut self, command: Command, game: Game)
+        requires room { vec_len self.old.accepted < 4096 }
+        requires stamp { self.old.stamp < 4000000000 }
+        requires payments { game.books.payments ≤ vec_len self.old.accepted + 7 }
+        ensures state { table_of self.new.accepted.items self.new.stamp ≡ with_command (table_of self.old.accepted.items self.old.stamp) command }
+        ensures game { self.new.game ≡ game }
+    {
         self.game = game;
-        self.accepted.push(*command).unwrap();
+        self.accepted.push(command).unwrap();
         self.stamp += 1;
-        Ok(self.stamp)
     }
 
     /// The table has all the commands that it can keep, or its last stamp.
     fn is_full(&self) -> bool
-        ensures { result ≡ false → (vec_len self.now.accepted < 4096) × (self.now.stamp < 4000000000) }
+        ensures value { result ≡ is_full (table_of self.now.accepted.items self.now.stamp) }
+        ensures room { result ≡ false → (vec_len self.now.accepted < 4096) × (self.now.stamp < 4000000000) }
     {
         self.accepted.len() >= MOST_COMMANDS || self.stamp >= LAST_STAMP
     }

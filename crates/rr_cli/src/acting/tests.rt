@@ -110,7 +110,10 @@ fn first_game_with_a_new_start_for_each_line(rt: HostRuntime) -> Result<(), Fail
     let content = disk.content();
     assert!(rt; content.len() > 8221);
     // The first record: its open gate, number 1, length 15, and the words.
-    assert_eq!(rt; content[8192..8220].iter().as_slice(), b"\xa5\0\0\0\0\0\0\0\x01\0\0\0\x0fg1 open a b c d".as_slice());
+    assert_eq!(rt;
+        content[8192..8220].iter().as_slice(),
+        b"\xa5\0\0\0\0\0\0\0\x01\0\0\0\x0fg1 open a b c d".as_slice()
+    );
     Ok(())
 }
 
@@ -125,17 +128,24 @@ fn lines_of_every_length(rt: HostRuntime) -> Result<(), Fail> {
     input.extend_from_slice(b"\n\ntables")?;
     let (status, output, _) = served(&rt, disk, input.as_slice())?;
     assert_eq!(rt; status, 0);
-    assert_eq!(rt; output.as_slice(), b"no 67 line too long\n= -\nno 55 malformed line\nno 55 malformed line\nno 55 malformed line\n".as_slice());
+    assert_eq!(rt;
+        output.as_slice(),
+        b"no 67 line too long\n= -\nno 55 malformed line\nno 55 malformed line\nno 55 malformed line\n".as_slice()
+    );
     Ok(())
 }
 
 #[test]
 fn refusals_of_lines(rt: HostRuntime) -> Result<(), Fail> {
     let (_, _, disk) = formatted(&rt, ROSTER)?;
-    let input = b"0 g1 open a b\n0 g1 open a b\n1 g2 open a b\n1 g1 buy c\n1 g1 buy b\n0 g1 buy b\n1 g3 buy a\ncash g3 a\ncash g1 c\n1 g1 open a b\n";
+    let input =
+        b"0 g1 open a b\n0 g1 open a b\n1 g2 open a b\n1 g1 buy c\n1 g1 buy b\n0 g1 buy b\n1 g3 buy a\ncash g3 a\ncash g1 c\n1 g1 open a b\n";
     let (status, output, _) = served(&rt, disk, input)?;
     assert_eq!(rt; status, 0);
-    assert_eq!(rt; output.as_slice(), b"ok g1 1\nno 52 stale stamp 1\nno 52 stale stamp 0\nno 1 no such name\nno 20 not your turn\nno 52 stale stamp 1\nno 68 no such table\nno 68 no such table\nno 1 no such name\nno 52 stale stamp 1\n".as_slice());
+    assert_eq!(rt;
+        output.as_slice(),
+        b"ok g1 1\nno 52 stale stamp 1\nno 52 stale stamp 0\nno 1 no such name\nno 20 not your turn\nno 52 stale stamp 1\nno 68 no such table\nno 68 no such table\nno 1 no such name\nno 52 stale stamp 1\n".as_slice()
+    );
     Ok(())
 }
 

@@ -1,0 +1,5 @@
+pub mod CellLemmas
+pub mod FrontLemmas
+pub mod ParLemmas
+pub mod RefusalLemmas
+pub mod RowLemmas

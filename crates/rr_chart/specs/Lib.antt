@@ -1,0 +1,4 @@
+pub mod Cell
+pub mod Chart
+pub mod Fault
+pub mod Reading

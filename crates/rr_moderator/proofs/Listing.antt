@@ -1,0 +1,28 @@
+-- Lists that grow by one.
+use Rattle.std.proofs.Common.{◌≡◌, ℕ, ◌+◌, ◌<◌, ◌++◌, Bool, List, [], ◌∷◌, length, map, filter, take, get_or, cond, refl, ap, sym, ◌∙◌, append_assoc, codes}
+use Rattle.std.proofs.lemmas.List.{map-append, take_more}
+use Rattle.std.proofs.lemmas.List.Elements.{filter-append}
+use Rattle.std.proofs.lemmas.List.Concat.{flat_map-append}
+use Rattle.rr_roster.specs.declared.company.Private.{Private}
+use Rattle.rr_roster.specs.Company.{private_name}
+use Rattle.rr_moderator.specs.Answer.{spaced}
+
+pub listed_more : (t : Private → Bool) (ps : List Private) (i : ℕ) (d : Private) → i < length ps →
+    spaced (map private_name (filter t (take (i + 1) ps)))
+    ≡ spaced (map private_name (filter t (take i ps))) ++ spaced (map private_name (filter t (get_or ps i d ∷ [])))
+listed_more t ps i d h =
+    ap (λ l. spaced (map private_name (filter t l))) (take_more ps i d h)
+    ∙ ap (λ l. spaced (map private_name l)) (filter-append t (take i ps) (get_or ps i d ∷ []))
+    ∙ ap spaced (map-append private_name (filter t (take i ps)) (filter t (get_or ps i d ∷ [])))
+    ∙ flat_map-append (λ word. codes " " ++ word) (map private_name (filter t (take i ps))) (map private_name (filter t (get_or ps i d ∷ [])))
+
+-- a list with one name more, behind what was written
+pub written_more : (t : Private → Bool) (ps : List Private) (i : ℕ) (d : Private) (before old new : List ℕ) → i < length ps →
+    old ≡ before ++ spaced (map private_name (filter t (take i ps))) →
+    new ≡ old ++ spaced (map private_name (filter t (get_or ps i d ∷ []))) →
+    new ≡ before ++ spaced (map private_name (filter t (take (i + 1) ps)))
+written_more t ps i d before old new h so_far step =
+    step
+    ∙ ap (λ l. l ++ spaced (map private_name (filter t (get_or ps i d ∷ [])))) so_far
+    ∙ append_assoc before (spaced (map private_name (filter t (take i ps)))) (spaced (map private_name (filter t (get_or ps i d ∷ []))))
+    ∙ ap (λ l. before ++ l) (sym (listed_more t ps i d h))
