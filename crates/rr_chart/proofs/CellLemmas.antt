@@ -1,15 +1,14 @@
 -- What a word spells: the cells whose word it is, and no other.
-use Rattle.std.proofs.Common.{◌≡◌, ℕ, ◌+◌, ◌-◌, ◌*◌, ◌^◌, ◌<◌, ◌≤◌, suc, refl, sym, ap, ◌∙◌, Bool, true, false, List, [], ◌∷◌, ◌++◌, length, get_or, take, append-nil, length-append, Option, None, Some, option_map, MatchOption, IfSome, inl, inr, arith, lit≤, decimal}
+use Rattle.std.proofs.Common.{◌≡◌, ℕ, ◌+◌, ◌-◌, ◌^◌, ◌<◌, ◌≤◌, refl, sym, ap, ◌∙◌, Bool, true, false, List, [], ◌∷◌, ◌++◌, length, get_or, take, append-nil, length-append, Option, None, Some, option_map, MatchOption, inl, inr, arith, decimal}
 use Rattle.std.specs.Prelude.{codes, ◌==◌, ◌&&◌}
 use Rattle.std.specs.Int.{IsInRange}
 use Rattle.std.proofs.Math.Seq.{take-append_seam, get_or-append_seam}
 use Rattle.std.proofs.lemmas.List.{take_more, take_all}
-use Rattle.std.proofs.lemmas.Bool.{cases_Bool, eqb-true, ne_eqb, and_cases, and_parts}
-use Rattle.std.proofs.lemmas.Bool.Decides.{nat_tests}
+use Rattle.std.proofs.lemmas.Bool.{cases_Bool, eqb-true, ne_eqb, and_parts}
 use Rattle.std.proofs.lemmas.Fmt.{digits_decimal, decimal_nonempty}
 use Rattle.rr_words.specs.Numeral.{SpellsNumberWithin, small_number_of}
 use Rattle.rr_words.proofs.NumeralLemmas.{small_number_of-decimal, small_number_of-spelled, digits_model, digit_in_range}
-use Rattle.rr_chart.specs.Cell.{IsCell, IsSound, word_of, zone_letter, mark_of, priced, ending, cell_of}
+use Rattle.rr_chart.specs.Cell.{IsSound, word_of, mark_of, priced, ending, cell_of}
 use Rattle.rr_chart.specs.declared.cell.Cell.{Cell}
 use Rattle.rr_chart.specs.declared.cell.Zone.{Zone}
 use Rattle.rr_chart.specs.declared.cell.Zone.TheVariants.{White, Yellow, Orange, Brown}

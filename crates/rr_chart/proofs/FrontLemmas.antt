@@ -1,5 +1,5 @@
 -- A word more of a row, and a row more.
-use Rattle.std.proofs.Common.{◌≡◌, ◌≢◌, ℕ, ◌+◌, ◌-◌, ◌<◌, ◌≤◌, suc, zero, refl, sym, ap, ◌∙◌, subst, Bool, true, false, List, [], ◌∷◌, ◌++◌, length, map, get_or, take, drop, append-nil, append_assoc, length-append, Option, None, Some, option_to_list, option_and_then, inl, inr, arith, lit≤}
+use Rattle.std.proofs.Common.{◌≡◌, ◌≢◌, ℕ, ◌+◌, ◌<◌, ◌≤◌, suc, zero, refl, sym, ap, ◌∙◌, subst, true, false, List, [], ◌∷◌, ◌++◌, length, map, get_or, take, drop, append-nil, length-append, Option, None, Some, option_to_list, option_and_then, inl, inr, arith}
 use Rattle.std.specs.Prelude.{◌==◌, All, AllPairs}
 use Rattle.std.proofs.Math.Seq.{get_or-append_seam}
 use Rattle.std.proofs.lemmas.List.{take_more, take_all, map-append, get_or_append_left, take-append-drop, length-map}
@@ -13,7 +13,7 @@ use Rattle.rr_words.specs.Text.{NumberedWords}
 use Rattle.rr_chart.specs.Cell.{IsSound, cell_of, word_of}
 use Rattle.rr_chart.specs.Chart.{Row, par_at, pars_of, HaveDifferentPrices, IsFront}
 use Rattle.rr_chart.specs.Reading.{has_price, is_double, undoubled, next_cell, IsFirstWrongInLine, IsRowRead}
-use Rattle.rr_chart.proofs.CellLemmas.{Spelled, cell_of-word_of, cell_of-found}
+use Rattle.rr_chart.proofs.CellLemmas.{cell_of-word_of, cell_of-found}
 use Rattle.rr_chart.proofs.ParLemmas.{pars_of-cell, pars_of-empty_row}
 use Rattle.rr_chart.specs.declared.cell.Cell.{Cell}
 use Rattle.rr_chart.specs.declared.cell.Place.{Place}

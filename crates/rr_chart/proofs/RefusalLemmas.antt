@@ -1,12 +1,12 @@
 -- A text spells one chart at most, and none where a word is wrong.
-use Rattle.std.proofs.Common.{◌≡◌, ℕ, ◌+◌, ◌<◌, ◌≤◌, suc, refl, sym, ap, ◌∙◌, subst, List, [], ◌∷◌, ◌++◌, length, map, get_or, append_assoc, length-append, Option, None, Some, arith}
+use Rattle.std.proofs.Common.{◌≡◌, ℕ, ◌+◌, ◌<◌, ◌≤◌, refl, sym, ap, ◌∙◌, subst, List, [], ◌∷◌, ◌++◌, length, map, get_or, append_assoc, length-append, Option, Some, arith}
 use Rattle.std.specs.Prelude.{All, AllPairs}
 use Rattle.std.proofs.Math.Seq.{get_or-append_seam}
 use Rattle.std.proofs.lemmas.List.{map-append, get_or_append_left}
-use Rattle.std.proofs.lemmas.List.Elements.{All-head, All-tail, All-nil}
+use Rattle.std.proofs.lemmas.List.Elements.{All-head, All-tail}
 use Rattle.rr_words.specs.Text.{NumberedWords, rows_of, IsSmallAscii}
 use Rattle.rr_chart.specs.Cell.{IsSound, cell_of, word_of}
-use Rattle.rr_chart.specs.Chart.{Row, pars_of, HaveDifferentPrices, IsFront, IsChart}
+use Rattle.rr_chart.specs.Chart.{Row, pars_of, HaveDifferentPrices, IsFront}
 use Rattle.rr_chart.specs.Reading.{words_in, words_for, Spells, IsFirstWrongInLine, IsFirstWrong, IsWithoutPar, IsBadAt, NotSmallAscii, WithoutPar, WrongWord, IsRefusal, AreRowsRead, IsRowsFault}
 use Rattle.rr_chart.proofs.CellLemmas.{cell_of-word_of}
 use Rattle.rr_chart.proofs.FrontLemmas.{AllPairs-left}

@@ -1,5 +1,5 @@
 -- The rows that are read, one after another.
-use Rattle.std.proofs.Common.{◌≡◌, ℕ, ◌+◌, ◌<◌, ◌≤◌, suc, refl, sym, ap, ◌∙◌, subst, List, [], ◌∷◌, ◌++◌, length, map, get_or, take, drop, append_assoc, length-append, arith, lit≤}
+use Rattle.std.proofs.Common.{◌≡◌, ℕ, ◌+◌, ◌<◌, ◌≤◌, suc, refl, sym, ap, ◌∙◌, subst, List, [], ◌∷◌, ◌++◌, length, map, get_or, take, drop, arith}
 use Rattle.std.specs.Prelude.{All, AllPairs}
 use Rattle.std.proofs.Math.Seq.{drop-cons}
 use Rattle.std.proofs.lemmas.List.{map-append, take_more, take-append-drop}
@@ -7,8 +7,8 @@ use Rattle.std.proofs.lemmas.List.Elements.{All-nil}
 use Rattle.rr_words.specs.Text.{NumberedWords, row_of}
 use Rattle.rr_words.specs.declared.text.Row.{Row as Line}
 use Rattle.rr_chart.specs.Cell.{IsSound, word_of}
-use Rattle.rr_chart.specs.Chart.{Row, pars_of, HaveDifferentPrices, IsFront}
-use Rattle.rr_chart.specs.Reading.{words_in, words_for, IsRowRead, IsRowFault, AreRowsRead, IsRowsFault, IsFirstWrong, IsFirstWrongInLine}
+use Rattle.rr_chart.specs.Chart.{Row, HaveDifferentPrices}
+use Rattle.rr_chart.specs.Reading.{words_for, IsRowRead, IsRowFault, AreRowsRead, IsRowsFault}
 use Rattle.rr_chart.proofs.ParLemmas.{pars_of-empty_row, pars_of-none}
 use Rattle.rr_chart.specs.declared.cell.ParCell.{ParCell}
 use Rattle.rr_chart.specs.declared.fault.Fault.{Fault}

@@ -1,5 +1,5 @@
 -- The places of a chart, which is a list of rows from the top, each of cells from the left.
-use Rattle.std.specs.Prelude.{◌≡◌, ◌≢◌, ℕ, ◌+◌, ◌-◌, ◌≤◌, ◌<◌, ◌==◌, List, [], ◌∷◌, ◌++◌, length, slice_get, find, filter_map, flat_map, if◌then◌else◌, Option, None, Some, option_map, option_and_then, is_some, All, AllPairs}
+use Rattle.std.specs.Prelude.{◌≡◌, ◌≢◌, ℕ, ◌+◌, ◌-◌, ◌≤◌, ◌<◌, ◌==◌, true, List, [], ◌∷◌, ◌++◌, length, slice_get, find, filter_map, flat_map, if◌then◌else◌, Option, None, Some, option_map, option_and_then, is_some, All, AllPairs}
 use Rattle.std.specs.List.{enumerate_from}
 use Rattle.std.specs.Option.{option_map_or}
 use Rattle.rr_chart.specs.Cell.{IsSound}
@@ -48,6 +48,13 @@ pars_in at = filter_map (par_in at.0) (enumerate_from 0 at.1)
 -- the par cells, in reading order
 unfoldable pub pars_of : List Row → List ParCell
 pars_of rows = flat_map pars_in (enumerate_from 0 rows)
+
+-- the chart has a par cell of the price at the place
+pub record IsParOf (rows : List Row) (par : ParCell) : Type 0 where
+  pub cell : Cell
+  pub at_place : cell_at rows par.place ≡ Some cell
+  pub price : cell.price ≡ par.price
+  pub is_par : cell.is_par ≡ true
 
 -- the place of the first par cell of a price
 abbrev pub par_place : List Row → ℕ → Option Place

@@ -1,5 +1,5 @@
 -- How a text spells a chart, and which word is wrong where it spells none.
-use Rattle.std.specs.Prelude.{◌≡◌, ℕ, ◌+◌, ◌≤◌, ◌==◌, ◌||◌, nat_le, Bool, false, List, [], ◌∷◌, ◌++◌, length, map, if◌then◌else◌, Option, None, Some, option_and_then}
+use Rattle.std.specs.Prelude.{◌≡◌, ℕ, ◌+◌, ◌==◌, ◌||◌, nat_le, Bool, false, List, [], ◌∷◌, ◌++◌, length, map, if◌then◌else◌, Option, None, Some, option_and_then}
 use Rattle.std.specs.List.{list_any}
 use Rattle.rr_words.specs.Text.{NumberedWords, rows_of, IsSmallAscii}
 use Rattle.rr_chart.specs.Cell.{cell_of, word_of}

@@ -3,7 +3,8 @@ ghost use Rattle.rr_chart.specs.Cell.{cell_of, priced};
 
 use rr_words::small_number;
 
-/// The colour of a cell, which says what a share whose price stands there is exempt from.
+/// The colour of a cell. Which limits hold for the shares of a corporation depends on the colour of
+/// the cell at which its price stands.
 #[derive(Clone, Copy, Debug, PartialEq, Eq)]
 pub enum Zone {
     White,

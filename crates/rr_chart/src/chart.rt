@@ -1,4 +1,4 @@
-ghost use Rattle.std.specs.Prelude.{◌≡◌, List, IfOk, MatchResult};
+ghost use Rattle.std.specs.Prelude.{◌≡◌, ◌≤◌, length, List, All, AllPairs, IfOk, IfSome, MatchResult};
 
 use crate::cell::{Cell, ParCell, Place};
 use crate::fault::Fault;
@@ -27,9 +27,16 @@ impl Model for Chart {
 
 impl Chart {
     ghost use Rattle.rr_chart.specs.Reading.{Spells, IsRefusal};
-    ghost use Rattle.rr_chart.specs.Chart.{Row, cell_at, right_of, left_of, up_of, down_of, pars_of, par_place, with_cell, width_of};
+    ghost use Rattle.rr_chart.specs.Cell.{IsSound};
+    ghost use Rattle.rr_chart.specs.Chart.{IsChart, IsParOf, HaveDifferentPrices, Row, cell_at, right_of, left_of, up_of, down_of, pars_of, par_place, with_cell, width_of};
 
     /// Reads a chart from its text.
+    ///
+    /// A line is a row from the top, and its words are the row's places from the left: `.` has no
+    /// cell, and a number from 1 to 999 is a white cell. Behind the number `y`, `o` and `b` make it
+    /// yellow, orange and brown, and `p` makes it a par cell. Empty lines, lines of spaces alone and
+    /// lines that begin with `#` are skipped, but are counted. There are at most 16 rows of at most 24
+    /// places, and at least one par cell; no two par cells have the same price.
     ///
     /// # Errors
     ///
@@ -51,7 +58,9 @@ impl Chart {
 
     /// The cell at a place, if there is one.
     pub fn cell(&self, place: Place) -> Option<Cell>
-        ensures { result ≡ cell_at self.now place }
+        ensures cell { result ≡ cell_at self.now place }
+        ensures sound { IsSound result }
+        ensures chart { IsChart self.now }
     {
         match self.rows.get(place.row) {
             Some(row) => row.cell(place.column),
@@ -113,13 +122,23 @@ impl Chart {
 
     /// The par cells, in reading order.
     pub fn par_cells(&self) -> &[ParCell]
-        ensures { result.now ≡ pars_of self.now }
+        ensures pars { result.now ≡ pars_of self.now }
+        ensures places { All (IsParOf self.now) result.now }
+        ensures different { AllPairs HaveDifferentPrices result.now }
+        ensures some { 1 ≤ length result.now }
     {
         &self.pars
     }
 
     /// The place of the par cell of a price, if there is one.
     pub fn par_cell(&self, price: u16) -> Option<Place>
+        ensures first { result ≡ par_place self.now price }
+        ensures place { IfSome result (λ place. IsParOf self.now (record { price = price; place = place })) }
+    {
+        self.first_par(price)
+    }
+
+    fn first_par(&self, price: u16) -> Option<Place>
         ensures { result ≡ par_place self.now price }
     {
         let par = self.pars.iter().find(|par| par.price == price)?;

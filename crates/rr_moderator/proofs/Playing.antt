@@ -1,5 +1,5 @@
 -- The book of a table that takes one command more.
-use Rattle.std.proofs.Common.{◌≡◌, true, List, [], ◌∷◌, ◌++◌, ◌==◌, false, refl, sym, ap, ◌∙◌, subst, IfOk, Result, Ok, Err, ℕ}
+use Rattle.std.proofs.Common.{◌≡◌, true, List, [], ◌∷◌, ◌++◌, ◌==◌, false, refl, sym, ap, ◌∙◌, subst, IfOk, IsOk, OnOk, OnErr, Result, Ok, Err, ℕ}
 use Rattle.std.proofs.lemmas.List.Sums.{fold-append}
 use Rattle.rr_roster.specs.Terms.{Terms}
 use Rattle.rr_code.specs.declared.command.Command.{Command}
@@ -69,3 +69,13 @@ pub stepped_ok : (roster : Terms) (accepted : List Command) (c : Command) (old :
 stepped_ok roster accepted c old (Ok new) h same books auction =
     stepped roster accepted c old new h same (books _ h.books h.auction) (auction _ h.books h.auction)
 stepped_ok roster accepted c old (Err fault) h same books auction = tt
+
+-- what holds at success, of a result that is one
+pub at_ok : {A E : Type 0} (r : Result A E) (P : Type 0) → IsOk r → OnOk r P → P
+at_ok (Ok x) P h p = p
+at_ok (Err e) P h p = absurd cc
+
+-- what follows from a fact at a refusal
+pub on_err_map : {A E : Type 0} (r : Result A E) (P Q : Type 0) → (P → Q) → OnErr r P → OnErr r Q
+on_err_map (Ok x) P Q f p = tt
+on_err_map (Err e) P Q f p = f p

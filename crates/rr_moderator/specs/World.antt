@@ -121,3 +121,17 @@ is_outside _ = false
 -- what a taker of commands may answer where this is the verdict
 abbrev pub MayRefuse : Option Fault → Fault → Type 0
 MayRefuse verdict fault = (verdict ≡ Some fault) ⊎ ((verdict ≡ None) × (is_outside fault ≡ true))
+
+-- why a command is refused, if it is, by the table of its name and the number of tables
+abbrev pub step_verdict : Terms → Option TableState → ℕ → Command → Option Fault
+step_verdict roster None stamp command = Some F.NoSuchTable
+step_verdict roster (Some t) stamp command = table_verdict roster t stamp command
+
+abbrev pub world_verdict : Terms → Option TableState → ℕ → ℕ → Command → Option Fault
+world_verdict roster table tables stamp (Open players) = opening_verdict table tables stamp
+world_verdict roster table tables stamp (BuyPrivate player) = step_verdict roster table stamp (BuyPrivate player)
+
+-- the table after an accepted command
+abbrev pub state_after : Option TableState → Command → TableState
+state_after None command = record { accepted = command ∷ []; stamp = 1 }
+state_after (Some t) command = with_command t command

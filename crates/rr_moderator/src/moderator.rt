@@ -1,4 +1,10 @@
-ghost use Rattle.std.specs.Prelude.{◌<◌, length};
+ghost use Rattle.std.specs.Prelude.{◌≡◌, ◌<◌, ◌≤◌, ℕ, List, None, Some, false, Err, OnErr, MatchResult, bytes_eq, length, option_map};
+ghost use Rattle.indexmap.specs.IndexMap.{get, index_map_len};
+ghost use Rattle.rr_code.specs.declared.line.Line.{Line};
+ghost use Rattle.rr_code.specs.Line.{SpellsLine};
+ghost use Rattle.rr_moderator.specs.Answer.{accepted_text};
+ghost use Rattle.rr_moderator.specs.Refusing.{RefusesBadLine};
+ghost use Rattle.rr_moderator.specs.World.{MayRefuse, state_after, table_of, world_verdict};
 
 use crate::fault::Fault;
 use crate::opening::replay;
@@ -135,7 +141,8 @@ fn make_buffers(alloc: Global) -> Result<(Reply, LineBuffer), Fault> {
 }
 
 impl<D: Disk + Drop> Machine for State<D> {
-    ghost Answers = { λ _ _ _. Unit {0} };
+    // A line that is too long, or of no form, is refused with these words, and changes no table.
+    ghost Answers = { λ old line new. RefusesBadLine line new.reply (new.tables.map.entries ≡ old.tables.map.entries) };
 
     ghost reply_of = { λ state. state.reply };
 
@@ -152,7 +159,12 @@ impl<D: Disk + Drop> Machine for State<D> {
 
 impl<D: Disk + Drop> State<D> {
     /// Makes the reply to a line, unless it is refused.
-    fn respond(&mut self, line: &[u8]) -> Result<(), Fault> {
+    fn respond(&mut self, line: &[u8]) -> Result<(), Fault>
+        ensures long { 8000 < length line.now → result ≡ Err Fault.LineTooLong }
+        ensures malformed { length line.now ≤ 8000 → ((l : Line) → SpellsLine line.now l → ⊥) → result ≡ Err Fault.MalformedLine }
+        ensures roster { self.new.tables.roster ≡ self.old.tables.roster }
+        ensures err { OnErr result (self.new.tables.map.entries ≡ self.old.tables.map.entries) }
+    {
         if line.len() > LONGEST_LINE {
             return Err(Fault::LineTooLong);
         }
@@ -179,6 +191,14 @@ impl<D: Disk + Drop> State<D> {
         record: &[u8],
     ) -> Result<(), Fault>
         requires { 0 < length record.now }
+        ensures verdict { MatchResult result
+            (λ _. (world_verdict self.old.tables.roster (option_map (λ t. table_of t.accepted.items t.stamp) (get bytes_eq self.old.tables.map table.now)) (index_map_len self.old.tables.map) stamp command.now ≡ None)
+            × ((option_map (λ t. table_of t.accepted.items t.stamp) (get bytes_eq self.new.tables.map table.now)) ≡ Some (state_after (option_map (λ t. table_of t.accepted.items t.stamp) (get bytes_eq self.old.tables.map table.now)) command.now))
+            × (self.new.reply ≡ accepted_text table.now (state_after (option_map (λ t. table_of t.accepted.items t.stamp) (get bytes_eq self.old.tables.map table.now)) command.now).stamp))
+            (λ fault. MayRefuse (world_verdict self.old.tables.roster (option_map (λ t. table_of t.accepted.items t.stamp) (get bytes_eq self.old.tables.map table.now)) (index_map_len self.old.tables.map) stamp command.now) fault) }
+        ensures others { (other : List ℕ) → bytes_eq table.now other ≡ false → get bytes_eq self.new.tables.map other ≡ get bytes_eq self.old.tables.map other }
+        ensures roster { self.new.tables.roster ≡ self.old.tables.roster }
+        ensures err { OnErr result (self.new.tables.map.entries ≡ self.old.tables.map.entries) }
     {
         let stamp = self.tables.take(self.alloc, stamp, table, command, record, &mut self.keeper)?;
         self.reply.accept(table, stamp);

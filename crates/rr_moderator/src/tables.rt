@@ -1,7 +1,8 @@
-ghost use Rattle.std.specs.Prelude.{◌≡◌, ◌+◌, ◌<◌, ◌≤◌, false, true, length, vec_capacity, vec_len, None, Some, [], ◌∷◌, ◌++◌, IfOk, IfErr, OnOk, OnErr, MatchResult, bytes_eq, option_map};
-ghost use Rattle.indexmap.specs.IndexMap.{get, index_map_len};
+ghost use Rattle.std.specs.Prelude.{◌≡◌, ◌+◌, ◌<◌, ◌≤◌, false, true, length, vec_capacity, vec_len, List, ℕ, IfSome, None, Some, [], ◌∷◌, ◌++◌, IfOk, IfErr, OnOk, OnErr, MatchResult, bytes_eq, option_map};
+ghost use Rattle.std.proofs.Props.{props};
+ghost use Rattle.indexmap.specs.IndexMap.{get, index_map_len, spare};
 ghost use Rattle.rr_moderator.specs.Keeping.{IsGameOf};
-ghost use Rattle.rr_moderator.specs.World.{MayRefuse, is_full, is_outside, opening_verdict, table_of, table_verdict, with_command};
+ghost use Rattle.rr_moderator.specs.World.{MayRefuse, is_full, is_outside, opening_verdict, state_after, step_verdict, table_of, table_verdict, world_verdict, with_command};
 
 use crate::fault::Fault;
 use crate::game::Game;
@@ -64,6 +65,8 @@ impl<D: Disk + Drop> Journal for Keeper<D> {
 pub(crate) struct Tables {
     roster: Roster,
     map: IndexMap<Name, Table>,
+    ghost room: { 64 ≤ index_map_len map + spare map },
+    ghost played: { (name : List ℕ) → IfSome (get bytes_eq map name) (λ table. IsGameOf roster table.accepted.items table.game) } by { Prim.hlevel props },
 }
 
 impl Table {
@@ -190,7 +193,12 @@ impl Tables {
     }
 
     /// The table of this name.
-    pub(crate) fn table(&self, name: &Name) -> Result<&Table, Fault> {
+    pub(crate) fn table(&self, name: &Name) -> Result<&Table, Fault>
+        ensures value { MatchResult result
+            (λ table. get bytes_eq self.now.map name.now ≡ Some table.now)
+            (λ fault. (fault ≡ Fault.NoSuchTable) × (get bytes_eq self.now.map name.now ≡ None)) }
+        ensures played { IfOk result (λ table. IsGameOf self.now.roster table.now.accepted.items table.now.game) }
+    {
         match self.map.get(name) {
             Some(table) => Ok(table),
             None => Err(Fault::NoSuchTable),
@@ -217,6 +225,14 @@ impl Tables {
         journal: &mut J,
     ) -> Result<u64, Fault>
         requires { 0 < length record.now }
+        ensures verdict { MatchResult result
+            (λ _. world_verdict self.old.roster (option_map (λ table. table_of table.accepted.items table.stamp) (get bytes_eq self.old.map name.now)) (index_map_len self.old.map) stamp command.now ≡ None)
+            (λ fault. MayRefuse (world_verdict self.old.roster (option_map (λ table. table_of table.accepted.items table.stamp) (get bytes_eq self.old.map name.now)) (index_map_len self.old.map) stamp command.now) fault) }
+        ensures state { IfOk result (λ new. option_map (λ table. table_of table.accepted.items table.stamp) (get bytes_eq self.new.map name.now) ≡ Some (state_after (option_map (λ table. table_of table.accepted.items table.stamp) (get bytes_eq self.old.map name.now)) command.now)) }
+        ensures stamp { IfOk result (λ new. new ≡ (state_after (option_map (λ table. table_of table.accepted.items table.stamp) (get bytes_eq self.old.map name.now)) command.now).stamp) }
+        ensures others { (other : List ℕ) → bytes_eq name.now other ≡ false → get bytes_eq self.new.map other ≡ get bytes_eq self.old.map other }
+        ensures roster { self.new.roster ≡ self.old.roster }
+        ensures err { OnErr result (self.new.map.entries ≡ self.old.map.entries) }
     {
         match command {
             Command::Open { players } => {
@@ -224,14 +240,33 @@ impl Tables {
                 let game = Game::open(*players, &self.roster);
                 let table = Table::open(alloc, *command, game)?;
                 journal.keep(record)?;
-                self.map.insert(*name, table)?;
+                self.add(*name, table);
                 Ok(1)
             }
             _ => self.step(alloc, stamp, name, command, record, journal),
         }
     }
 
-    fn judge_opening(&self, stamp: u64, name: &Name) -> Result<(), Fault> {
+    /// A new table.
+    fn add(&mut self, name: Name, table: Table)
+        requires few { index_map_len self.old.map < 64 }
+        requires absent { get bytes_eq self.old.map name ≡ None }
+        requires played { IsGameOf self.old.roster table.accepted.items table.game }
+        ensures added { get bytes_eq self.new.map name ≡ Some table }
+        ensures others { (other : List ℕ) → bytes_eq name other ≡ false → get bytes_eq self.new.map other ≡ get bytes_eq self.old.map other }
+        ensures last { self.new.map.entries ≡ self.old.map.entries ++ (name, table) ∷ [] }
+        ensures roster { self.new.roster ≡ self.old.roster }
+    {
+        self.map.insert(name, table).unwrap();
+    }
+
+    fn judge_opening(&self, stamp: u64, name: &Name) -> Result<(), Fault>
+        ensures verdict { MatchResult result
+            (λ _. opening_verdict (option_map (λ table. table_of table.accepted.items table.stamp) (get bytes_eq self.now.map name.now)) (index_map_len self.now.map) stamp ≡ None)
+            (λ fault. opening_verdict (option_map (λ table. table_of table.accepted.items table.stamp) (get bytes_eq self.now.map name.now)) (index_map_len self.now.map) stamp ≡ Some fault) }
+        ensures absent { OnOk result (get bytes_eq self.now.map name.now ≡ None) }
+        ensures few { OnOk result (index_map_len self.now.map < 64) }
+    {
         if let Some(table) = self.map.get(name) {
             return Err(Fault::StaleStamp(table.stamp));
         }
@@ -254,6 +289,14 @@ impl Tables {
         journal: &mut J,
     ) -> Result<u64, Fault>
         requires { 0 < length record.now }
+        ensures verdict { MatchResult result
+            (λ _. step_verdict self.old.roster (option_map (λ table. table_of table.accepted.items table.stamp) (get bytes_eq self.old.map name.now)) stamp command.now ≡ None)
+            (λ fault. MayRefuse (step_verdict self.old.roster (option_map (λ table. table_of table.accepted.items table.stamp) (get bytes_eq self.old.map name.now)) stamp command.now) fault) }
+        ensures state { IfOk result (λ new. option_map (λ table. table_of table.accepted.items table.stamp) (get bytes_eq self.new.map name.now) ≡ Some (state_after (option_map (λ table. table_of table.accepted.items table.stamp) (get bytes_eq self.old.map name.now)) command.now)) }
+        ensures stamp { IfOk result (λ new. new ≡ (state_after (option_map (λ table. table_of table.accepted.items table.stamp) (get bytes_eq self.old.map name.now)) command.now).stamp) }
+        ensures others { (other : List ℕ) → bytes_eq name.now other ≡ false → get bytes_eq self.new.map other ≡ get bytes_eq self.old.map other }
+        ensures roster { self.new.roster ≡ self.old.roster }
+        ensures err { OnErr result (self.new.map.entries ≡ self.old.map.entries) }
     {
         match self.map.get_mut(name) {
             Some(table) => table.take(alloc, stamp, command, &self.roster, record, journal),

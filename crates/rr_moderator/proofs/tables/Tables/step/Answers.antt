@@ -1,0 +1,12 @@
+use Rattle.std.proofs.Common.{◌≡◌, ◌∙◌, ap, sym, bytes_eq}
+use Rattle.std.specs.Map.{set_value}
+use Rattle.std.proofs.lemmas.Map.Steps.{set_value_same}
+use Rattle.rr_moderator.proofs.Playing.{on_err_map}
+use Rattle.rr_moderator.proofs.tables.Tables.step.Goals as goal
+
+pub returns-in-Some-clause-err : goal.returns-in-Some-clause-err
+returns-in-Some-clause-err g c = on_err_map _ _ _
+    (λ same. (c.get_mut.follows.holds c.take.new.self).0
+    ∙ ap (λ w. set_value (bytes_eq c.args.name.now) c.args.self.now.map.entries w) same
+    ∙ set_value_same (bytes_eq c.args.name.now) c.args.self.now.map.entries c.in-Some.table.now (sym c.in-Some.ensures.value))
+    c.take.ensures.err
