@@ -120,4 +120,6 @@ fn write_line<W: Write>(line: &[u8], writer: &mut W) -> bool
 }
 
 #[cfg(test)]
+mod refused_requests;
+#[cfg(test)]
 mod tests;

@@ -5,9 +5,9 @@ use std::alloc::{AllocError, Global};
 use std::test::Fail;
 
 /// Room for a file and the record of its calls.
-const ROOM: usize = 8_000_000;
+pub(crate) const ROOM: usize = 8_000_000;
 
-const ROSTER: &[u8] = b"private = [
+pub(crate) const ROSTER: &[u8] = b"private = [
  {name=\"SV\", face=20, income=5}, {name=\"C&SL\", face=40, income=10},
  {name=\"D&H\", face=70, income=15}, {name=\"M&H\", face=110, income=20},
  {name=\"C&A\", face=160, income=25}, {name=\"B&O\", face=220, income=30}]
@@ -22,7 +22,7 @@ train = [
 ";
 
 /// The texts of a kit with this roster.
-fn texts(roster: &[u8]) -> Texts<'_> {
+pub(crate) fn texts(roster: &[u8]) -> Texts<'_> {
     Texts {
         chart: b"100p\n",
         roster,
@@ -31,7 +31,7 @@ fn texts(roster: &[u8]) -> Texts<'_> {
     }
 }
 
-fn format_plan(alloc: Global) -> Result<Plan, AllocError> {
+pub(crate) fn format_plan(alloc: Global) -> Result<Plan, AllocError> {
     Ok(Plan::Format {
         file: String::from_str(alloc, "f")?,
         chart: String::from_str(alloc, "c")?,
@@ -41,7 +41,7 @@ fn format_plan(alloc: Global) -> Result<Plan, AllocError> {
     })
 }
 
-fn serve_plan(alloc: Global) -> Result<Plan, AllocError> {
+pub(crate) fn serve_plan(alloc: Global) -> Result<Plan, AllocError> {
     Ok(Plan::Serve {
         file: String::from_str(alloc, "f")?,
     })

@@ -1,0 +1,88 @@
+/*
+ * Refuses one request for memory of a program, by LD_PRELOAD.
+ *
+ * The requests are counted from the program's first request of exactly START bytes, by which a test says that it
+ * begins; the one of the number in REFUSED_REQUEST is refused, and no other. At the program's end the file named
+ * in REFUSAL_REPORT gets a line: "refused", or "unreached" where the program made fewer requests.
+ */
+#define _GNU_SOURCE
+#include <dlfcn.h>
+#include <errno.h>
+#include <stdio.h>
+#include <stdlib.h>
+
+enum { START = 1000003 };
+
+static void *(*real_malloc)(size_t);
+static void *(*real_calloc)(size_t, size_t);
+static void *(*real_realloc)(void *, size_t);
+static int (*real_posix_memalign)(void **, size_t, size_t);
+static void *(*real_aligned_alloc)(size_t, size_t);
+
+static long wanted = -1;
+static long counted = -1;
+static int refused = 0;
+
+__attribute__((constructor)) static void begin(void) {
+    real_malloc = dlsym(RTLD_NEXT, "malloc");
+    real_calloc = dlsym(RTLD_NEXT, "calloc");
+    real_realloc = dlsym(RTLD_NEXT, "realloc");
+    real_posix_memalign = dlsym(RTLD_NEXT, "posix_memalign");
+    real_aligned_alloc = dlsym(RTLD_NEXT, "aligned_alloc");
+    const char *number = getenv("REFUSED_REQUEST");
+    if (number != NULL) wanted = atol(number);
+}
+
+__attribute__((destructor)) static void end(void) {
+    wanted = -1;
+    const char *path = getenv("REFUSAL_REPORT");
+    FILE *report = path == NULL ? NULL : fopen(path, "w");
+    if (report == NULL) return;
+    fputs(refused ? "refused\n" : "unreached\n", report);
+    fclose(report);
+}
+
+/* Whether this request, of so many bytes, is the one to refuse. */
+static int refuses(size_t size) {
+    if (counted < 0) {
+        if (size == START) counted = 0;
+        return 0;
+    }
+    counted += 1;
+    if (counted != wanted) return 0;
+    refused = 1;
+    errno = ENOMEM;
+    return 1;
+}
+
+void *malloc(size_t size) {
+    if (real_malloc == NULL) real_malloc = dlsym(RTLD_NEXT, "malloc");
+    return refuses(size) ? NULL : real_malloc(size);
+}
+
+void *calloc(size_t items, size_t size) {
+    /* The search for calloc may itself ask for memory: it gets none, which it takes. */
+    static int searching = 0;
+    if (real_calloc == NULL) {
+        if (searching) return NULL;
+        searching = 1;
+        real_calloc = dlsym(RTLD_NEXT, "calloc");
+        searching = 0;
+    }
+    return refuses(items * size) ? NULL : real_calloc(items, size);
+}
+
+void *realloc(void *old, size_t size) {
+    if (real_realloc == NULL) real_realloc = dlsym(RTLD_NEXT, "realloc");
+    return refuses(size) ? NULL : real_realloc(old, size);
+}
+
+int posix_memalign(void **place, size_t alignment, size_t size) {
+    if (real_posix_memalign == NULL) real_posix_memalign = dlsym(RTLD_NEXT, "posix_memalign");
+    return refuses(size) ? ENOMEM : real_posix_memalign(place, alignment, size);
+}
+
+void *aligned_alloc(size_t alignment, size_t size) {
+    if (real_aligned_alloc == NULL) real_aligned_alloc = dlsym(RTLD_NEXT, "aligned_alloc");
+    return refuses(size) ? NULL : real_aligned_alloc(alignment, size);
+}
