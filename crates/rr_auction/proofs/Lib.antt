@@ -1,3 +1,9 @@
-pub mod Folds
+pub mod Following
+pub mod Quiet
 pub mod Openings
-pub mod Purchases
+pub mod Tables
+pub mod Standing
+pub mod Fitting
+pub mod Bidders
+pub mod Settlements
+pub mod Turns

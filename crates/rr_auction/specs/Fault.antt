@@ -10,6 +10,10 @@ abbrev pub number_of : Fault → ℕ
 number_of F.NoSuchName = 1
 number_of F.TooLittleCash = 2
 number_of F.NotYourTurn = 20
+number_of (F.BidTooLow least) = 21
+number_of F.NotForSale = 22
+number_of F.CashTiedUp = 23
+number_of F.NotAPar = 31
 number_of F.WrongStep = 42
 number_of F.OutOfMemory = 70
 

@@ -1,4 +1,10 @@
 pub mod Fault
-pub mod Rules
+pub mod Unsold
+pub mod Bids
 pub mod Progress
+pub mod Rules
+pub mod Effects
+pub mod Plays
+pub mod PlayLaws
+pub mod Fit
 pub mod Opening

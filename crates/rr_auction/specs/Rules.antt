@@ -1,129 +1,153 @@
 -- The rules of the auction, from a table's book alone.
-use Rattle.std.specs.Prelude.{ℕ, ◌+◌, pos, int_lt, Bool, true, false, not, [], ◌∷◌, Option, None, Some, fold, find, if◌then◌else◌, ◌==◌}
+use Rattle.std.specs.Prelude.{ℕ, ◌-◌, ◌*◌, pos, ℤ, ◌-ℤ◌, int_lt, nat_lt, Bool, true, false, not, Option, None, Some, is_some, unwrap_or, if◌then◌else◌, ◌==◌, ◌&&◌, ◌||◌}
 use Rattle.rr_roster.specs.declared.company.Private.{Private}
-use Rattle.rr_roster.specs.declared.company.Corp.TheVariants as Corp
+use Rattle.rr_roster.specs.declared.company.Corp.{Corp}
 use Rattle.rr_roster.specs.Terms.{Terms, face_of}
 use Rattle.rr_books.specs.declared.parties.Money.{Money}
 use Rattle.rr_books.specs.declared.parties.Seat.{Seat}
+use Rattle.rr_books.specs.declared.parties.Party.{Party}
 use Rattle.rr_books.specs.declared.parties.Party.TheVariants as P
-use Rattle.rr_books.specs.declared.parties.Place.TheVariants as L
-use Rattle.rr_books.specs.declared.certificates.Cert.TheVariants as C
-use Rattle.rr_books.specs.declared.entries.Entry.{Entry}
-use Rattle.rr_books.specs.declared.entries.Entry.TheVariants as E
-use Rattle.rr_books.specs.declared.entries.Marker.TheVariants as M
 use Rattle.rr_books.specs.declared.acts.Act.{Act}
 use Rattle.rr_books.specs.declared.acts.Act.TheVariants as A
-use Rattle.rr_books.specs.Book.{Book, balance, players, holder}
-use Rattle.rr_books.specs.Shares.{Holders, is_at, privates}
+use Rattle.rr_books.specs.Book.{Book, balance, holder}
+use Rattle.rr_books.specs.Shares.{Holders}
 use Rattle.rr_books.specs.Same.{same_seat}
-use Rattle.rr_desk.specs.Effects.{Effect, adds, in_turn, moves_lowest_share}
 use Rattle.rr_auction.specs.declared.due.Due.{Due}
 use Rattle.rr_auction.specs.declared.due.Due.TheVariants as D
 use Rattle.rr_auction.specs.declared.fault.Fault.{Fault}
 use Rattle.rr_auction.specs.declared.fault.Fault.TheVariants as F
+use Rattle.rr_auction.specs.Unsold.{cheapest, is_private, is_unsold}
+use Rattle.rr_auction.specs.Bids.{least_bid, tied_up}
+use Rattle.rr_auction.specs.Progress.{Progress, progress, raise_due}
 
--- the cheapest private that isn't sold
-abbrev pub cheapest : Holders → Option Private
-cheapest holder = find (λ p. is_at (holder (C.Private p)) L.Offer) privates
+-- the money of each party
+abbrev pub Accounts : Type 0
+Accounts = Party → ℤ
 
--- what a private costs now
-abbrev pub price : Terms → Book → Private → ℕ
-price roster book p = face_of roster p
+-- what a private costs, once the first one's price has fallen so often by 5
+abbrev pub price : Terms → ℕ → Private → ℕ
+price roster falls Private.Sv = face_of roster Private.Sv - 5 * falls
+price roster falls p = face_of roster p
 
--- what the cheapest private costs now, and nothing once all are sold
-abbrev pub cost_of : Terms → Book → Option Private → ℕ
-cost_of roster book None = 0
-cost_of roster book (Some p) = price roster book p
+-- what the auction waits for, by who owes a par, what is for sale, and who is to raise
+abbrev pub due_by : Option Seat → Option Private → Option Seat → Progress → Due
+due_by (Some owing) for_sale raising a = D.Par owing
+due_by None None raising a = D.Stock a.priority
+due_by None (Some p) (Some s) a = D.Raise s
+due_by None (Some p) None a = D.Turn a.turn
 
-abbrev pub cost : Terms → Book → ℕ
-cost roster book = cost_of roster book (cheapest (holder book))
-
--- the seat on the left, at a table of so many players
-abbrev pub left_of : ℕ → Seat → Seat
-left_of n s = if s.0 + 1 == n then record { 0 = 0 } else record { 0 = s.0 + 1 }
-
--- the seat that took the last turn, after one entry more
-abbrev pub last_turn_after : Option Seat → Entry → Option Seat
-last_turn_after last (E.Step (M.Act (A.BuyPrivate s))) = Some s
-last_turn_after last _ = last
-
--- the seat that took the last turn
-unfoldable pub last_turn : Book → Option Seat
-last_turn book = fold last_turn_after None book
-
--- the seat whose turn it is next: the one on the left of the last, and the first at first
-abbrev pub next_turn : ℕ → Option Seat → Seat
-next_turn n None = record { 0 = 0 }
-next_turn n (Some s) = left_of n s
-
-abbrev pub turn : Book → Seat
-turn book = next_turn (players book) (last_turn book)
-
--- the seat that owes the B&O a par, after one entry more: from the move of the B&O private to it until the par
-abbrev pub par_due_after : Option Seat → Entry → Option Seat
-par_due_after owing (E.Move (C.Private Private.Bo) (L.Seat s)) = Some s
-par_due_after owing (E.Step (M.Act (A.Par s Corp.Bo n))) = None
-par_due_after owing _ = owing
-
--- the seat that owes the B&O a par, if one does
-unfoldable pub par_due : Book → Option Seat
-par_due book = fold par_due_after None book
-
--- what the auction waits for, by who owes a par, what is for sale, and whose turn it is
-abbrev pub due_by : Option Seat → Option Private → Seat → Due
-due_by (Some owing) for_sale next = D.Par owing
-due_by None (Some p) next = D.Turn next
-due_by None None next = D.Nothing
+abbrev pub due_in : Holders → Progress → Due
+due_in holder a = due_by a.par_due (cheapest holder) (raise_due holder a) a
 
 abbrev pub due : Book → Due
-due book = due_by (par_due book) (cheapest (holder book)) (turn book)
+due book = due_in (holder book) (progress book)
+
+-- the turns that have ended: one for each purchase, bid and pass, but a purchase or raise that gets the B&O private
+-- ends its turn with the par
+abbrev pub turns_in : Progress → ℕ
+turns_in a = if is_some a.par_due then a.commands - 1 else a.commands
+
+abbrev pub turns : Book → ℕ
+turns book = turns_in (progress book)
+
+-- the cheapest private that isn't sold, with its price
+abbrev pub asked_of : Terms → ℕ → Option Private → Option (Private × Money)
+asked_of roster falls None = None
+asked_of roster falls (Some p) = Some (p, record { 0 = pos (price roster falls p) })
+
+abbrev pub asked_in : Terms → Holders → Progress → Option (Private × Money)
+asked_in roster holder a = asked_of roster a.falls (cheapest holder)
+
+abbrev pub asked : Terms → Book → Option (Private × Money)
+asked roster book = asked_in roster (holder book) (progress book)
 
 abbrev pub is_turn : Due → Bool
 is_turn (D.Turn s) = true
 is_turn _ = false
 
--- why a seat can't buy the cheapest private, if it can't
-abbrev pub purchase_verdict : Terms → Book → Seat → Option Fault
-purchase_verdict roster book s =
-    if not (is_turn (due book)) then Some F.WrongStep
-    else if not (same_seat s (turn book)) then Some F.NotYourTurn
-    else if int_lt (balance book (P.Seat s)) (pos (cost roster book)) then Some F.TooLittleCash
+-- the seat's money, and what is left of it without its bids on other privates
+abbrev pub cash : Accounts → Seat → ℤ
+cash money s = money (P.Seat s)
+
+abbrev pub free_cash : Accounts → Holders → Progress → Seat → Private → ℤ
+free_cash money holder a s p = cash money s -ℤ pos (tied_up holder a.bids s p)
+
+-- why a seat can't spend an amount on a private, if it can't
+abbrev pub spending_verdict : Accounts → Holders → Progress → Seat → Private → ℕ → Option Fault
+spending_verdict money holder a s p amount =
+    if int_lt (cash money s) (pos amount) then Some F.TooLittleCash
+    else if int_lt (free_cash money holder a s p) (pos amount) then Some F.CashTiedUp
     else None
 
--- why a command is refused, if it is
+-- why a seat can't buy what is for sale, if it can't
+abbrev pub price_verdict : Terms → Accounts → Holders → Progress → Seat → Option Private → Option Fault
+price_verdict roster money holder a s None = Some F.WrongStep
+price_verdict roster money holder a s (Some p) = spending_verdict money holder a s p (price roster a.falls p)
+
+abbrev pub purchase_verdict : Terms → Accounts → Holders → Progress → Seat → Option Fault
+purchase_verdict roster money holder a s =
+    if not (is_turn (due_in holder a)) then Some F.WrongStep
+    else if not (same_seat s a.turn) then Some F.NotYourTurn
+    else price_verdict roster money holder a s (cheapest holder)
+
+-- bids and passes are taken: a private is for sale, no par is due, and the price isn't 0
+abbrev pub is_priced : Terms → ℕ → Option Private → Bool
+is_priced roster falls None = false
+is_priced roster falls (Some p) = nat_lt 0 (price roster falls p)
+
+abbrev pub takes_bids : Terms → Holders → Progress → Bool
+takes_bids roster holder a = not (is_some a.par_due) && is_priced roster a.falls (cheapest holder)
+
+-- the seat that is to bid or pass
+abbrev pub bidder_due : Holders → Progress → Seat
+bidder_due holder a = unwrap_or (raise_due holder a) a.turn
+
+-- the private can be bid on: the one for which several raise, or else any unsold one but the cheapest
+abbrev pub is_open : Holders → Progress → Private → Bool
+is_open holder a p =
+    if is_some (raise_due holder a) then is_private p (cheapest holder)
+    else is_unsold holder p && not (is_private p (cheapest holder))
+
+-- why a bid is refused, if it is
+abbrev pub bid_verdict : Terms → Accounts → Holders → Progress → Seat → Private → ℕ → Option Fault
+bid_verdict roster money holder a s p amount =
+    if not (takes_bids roster holder a) then Some F.WrongStep
+    else if not (same_seat s (bidder_due holder a)) then Some F.NotYourTurn
+    else if not (is_open holder a p) then Some F.NotForSale
+    else if nat_lt amount (least_bid roster a.bids p) then Some (F.BidTooLow (least_bid roster a.bids p))
+    else spending_verdict money holder a s p amount
+
+-- why a pass is refused, if it is
+abbrev pub pass_verdict : Terms → Holders → Progress → Seat → Option Fault
+pass_verdict roster holder a s =
+    if not (takes_bids roster holder a) then Some F.WrongStep
+    else if not (same_seat s (bidder_due holder a)) then Some F.NotYourTurn
+    else None
+
+-- the first prices that a corporation may have
+abbrev pub is_par : ℕ → Bool
+is_par n = (n == 67) || (n == 71) || (n == 76) || (n == 82) || (n == 90) || (n == 100)
+
+abbrev pub is_bo : Corp → Bool
+is_bo Corp.Bo = true
+is_bo _ = false
+
+-- why a par is refused, if it is, by the seat that owes one
+abbrev pub par_verdict : Option Seat → Seat → Corp → ℕ → Option Fault
+par_verdict None s c n = Some F.WrongStep
+par_verdict (Some owing) s c n =
+    if not (same_seat s owing) then Some F.NotYourTurn
+    else if not (is_bo c) then Some F.NotForSale
+    else if not (is_par n) then Some F.NotAPar
+    else None
+
+-- why a command is refused, if it is: by the money and the places of the table, and how far the auction has come
+abbrev pub verdict_in : Terms → Accounts → Holders → Progress → Act → Option Fault
+verdict_in roster money holder a (A.BuyPrivate s) = purchase_verdict roster money holder a s
+verdict_in roster money holder a (A.Bid s p amount) = bid_verdict roster money holder a s p amount
+verdict_in roster money holder a (A.Pass s) = pass_verdict roster holder a s
+verdict_in roster money holder a (A.Par s c n) = par_verdict a.par_due s c n
+verdict_in roster money holder a _ = Some F.WrongStep
+
 abbrev pub verdict : Terms → Book → Act → Option Fault
-verdict roster book (A.BuyPrivate s) = purchase_verdict roster book s
-verdict roster book _ = Some F.WrongStep
-
--- what comes with a private: the lowest share of the PRR on offer with the C&A, the 20% certificate of the B&O with the B&O
-abbrev pub gift : Private → Seat → Effect
-gift Private.Ca s = moves_lowest_share Corp.Prr L.Offer (L.Seat s)
-gift Private.Bo s = adds (E.Move (C.President Corp.Bo) (L.Seat s))
-gift _ s = in_turn []
-
--- a seat buys a private at a price
-abbrev pub purchase : Seat → Private → Money → Effect
-purchase s p amount = in_turn
-    (adds (E.Step (M.Act (A.BuyPrivate s)))
-    ∷ adds (E.Move (C.Private p) (L.Seat s))
-    ∷ adds (E.Pay (P.Seat s) P.Bank amount)
-    ∷ gift p s
-    ∷ [])
-
--- a seat buys what is for sale
-abbrev pub purchase_of : Terms → Seat → Option Private → Effect
-purchase_of roster s None book = []
-purchase_of roster s (Some p) book = purchase s p (record { 0 = pos (price roster book p) }) book
-
--- what a command that isn't refused adds
-abbrev pub entries_of : Terms → Book → Act → Book
-entries_of roster book (A.BuyPrivate s) = purchase_of roster s (cheapest (holder book)) book
-entries_of roster book _ = []
-
--- the cheapest private that isn't sold, with its price
-abbrev pub asked_of : Terms → Book → Option Private → Option (Private × Money)
-asked_of roster book None = None
-asked_of roster book (Some p) = Some (p, record { 0 = pos (price roster book p) })
-
-abbrev pub asked : Terms → Book → Option (Private × Money)
-asked roster book = asked_of roster book (cheapest (holder book))
+verdict roster book act = verdict_in roster (balance book) (holder book) (progress book) act

@@ -1,17 +1,18 @@
-ghost use Rattle.std.specs.Prelude.{◌≡◌, ℕ, ◌+◌, ◌<◌, ◌≤◌, ◌≤ℤ◌, pos, List, length, ◌++◌, Some, None, ◌⊎◌, OnOk, OnErr, IfOk, IfErr, MatchResult};
-ghost use Rattle.rr_roster.specs.Terms.{face_of};
-ghost use Rattle.rr_books.specs.Book.{Book, balance, holder};
-ghost use Rattle.rr_books.specs.Shares.{is_at};
-ghost use Rattle.rr_books.specs.State.{IsStateOf, cash_of, holder_in, place_of};
-ghost use Rattle.rr_desk.specs.Effects.{Takes};
-ghost use Rattle.rr_auction.specs.Rules.{asked, cheapest, due, entries_of, gift, left_of, purchase, purchase_of, purchase_verdict, verdict};
-ghost use Rattle.rr_auction.specs.Progress.{IsProgressOf, owing_after};
-ghost use Rattle.rr_auction.specs.Opening.{opened};
+ghost use Rattle.std.specs.Prelude.{◌≡◌, ◌+◌, ◌-◌, ◌<◌, ◌≤◌, ◌-ℤ◌, ◌≤ℤ◌, pos, ◌++◌, Some, None, ◌⊎◌, OnOk, OnErr, IfOk, IfErr, MatchResult, is_some, if◌then◌else◌};
+ghost use Rattle.rr_roster.specs.Company.{private_index};
+ghost use Rattle.rr_books.specs.Book.{Book};
+ghost use Rattle.rr_books.specs.State.{IsStateOf, cash_of, holder_in};
+ghost use Rattle.rr_auction.specs.Bids.{bids_on, highest, least_bid, raiser, tied_on, tied_up, with_bid};
+ghost use Rattle.rr_auction.specs.Effects.{brings_incomes};
+ghost use Rattle.rr_auction.specs.Fit.{IsFit};
+ghost use Rattle.rr_auction.specs.Progress.{IsProgressOf, after_bid, after_leaving, after_par, after_pass, after_purchase, after_raise, after_last_pass, after_sale, after_turn_bid, after_turn_pass, all_pass, beginning, raise_due};
+ghost use Rattle.rr_auction.specs.Rules.{asked, asked_in, bidder_due, due, due_by, due_in, is_open, price, takes_bids, turns, turns_in};
+ghost use Rattle.rr_auction.specs.Unsold.{cheapest, is_private};
 
+use crate::bids::{bid_in, highest, raiser};
 use crate::due::Due;
-use crate::fault::Fault;
-use rr_books::{Act, Books, Cert, Corp, Marker, Money, Party, Place, Private, Seat};
-use rr_desk::Desk;
+use crate::unsold::{cheapest, is_cheapest, is_unsold, left_of, same_private};
+use rr_books::{Books, Corp, Money, Private, Seat};
 use rr_roster::Roster;
 use std::marker::Model;
 
@@ -19,7 +20,12 @@ use std::marker::Model;
 #[derive(Clone, Copy, Debug)]
 pub struct Auction {
     turn: Seat,
+    passes: u8,
+    falls: u8,
+    bids: [[u64; 6]; 6],
     par_due: Option<Seat>,
+    priority: Seat,
+    commands: u32,
 }
 
 impl Model for Auction {
@@ -27,235 +33,411 @@ impl Model for Auction {
 
     ghost Value = { Progress };
 
-    ghost view = { λ a. record { turn = a.turn; par_due = a.par_due } };
+    ghost view = { λ a. record { turn = a.turn; passes = a.passes; falls = a.falls; bids = a.bids; par_due = a.par_due; priority = a.priority; commands = a.commands } };
 
-    ghost inverse = { λ p. record { turn = p.turn; par_due = p.par_due } };
+    ghost inverse = { λ p. record { turn = p.turn; passes = p.passes; falls = p.falls; bids = p.bids; par_due = p.par_due; priority = p.priority; commands = p.commands } };
 }
 
 impl Auction {
     /// The auction of a table that opens: the first seat is due.
     pub fn open() -> Auction
-        ensures turn { result.turn ≡ record { 0 = 0 } }
-        ensures par_due { result.par_due ≡ None }
+        ensures { result ≡ beginning }
     {
         Auction {
             turn: Seat(0),
+            passes: 0,
+            falls: 0,
+            bids: [[0; 6]; 6],
             par_due: None,
+            priority: Seat(0),
+            commands: 0,
         }
     }
 
     /// What the auction waits for, at a table with these books.
     pub fn due(&self, books: &Books) -> Due
-        ensures { (book : Book) → IsStateOf book books.now → IsProgressOf book self.now → result ≡ due book }
+        ensures shown { result ≡ due_in (holder_in books.now) self.now }
+        ensures book { (book : Book) → IsStateOf book books.now → IsProgressOf book self.now → result ≡ due book }
+    {
+        self.due_now(books)
+    }
+
+    /// The cheapest private that isn't sold, and what it costs now, also while several raise for it.
+    pub fn asked(&self, books: &Books, roster: &Roster) -> Option<(Private, Money)>
+        ensures shown { result ≡ asked_in roster.now (holder_in books.now) self.now }
+        ensures book { (book : Book) → IsStateOf book books.now → IsProgressOf book self.now → result ≡ asked roster.now book }
+    {
+        self.asked_now(books, roster)
+    }
+
+    /// How many turns have ended. Each purchase, bid and pass ends one; where it brings the B&O's par, the par ends it.
+    pub fn turns(&self) -> u32
+        ensures shown { result ≡ turns_in self.now }
+        ensures book { (book : Book) → IsProgressOf book self.now → result ≡ turns book }
+    {
+        self.turns_now()
+    }
+
+    // What the auction waits for.
+    fn due_now(&self, books: &Books) -> Due
+        ensures { result ≡ due_in (holder_in books.now) self.now }
     {
         if let Some(seat) = self.par_due {
             return Due::Par(seat);
         }
         match cheapest(books) {
-            Some(_) => Due::Turn(self.turn),
-            None => Due::Nothing,
+            Some(private) => self.due_for(private),
+            None => Due::Stock(self.priority),
         }
     }
 
-    /// The cheapest private that isn't sold, and what it costs now.
-    pub fn asked(&self, books: &Books, roster: &Roster) -> Option<(Private, Money)>
-        ensures { (book : Book) → IsStateOf book books.now → result ≡ asked roster.now book }
+    // The cheapest private that isn't sold, with its price.
+    fn asked_now(&self, books: &Books, roster: &Roster) -> Option<(Private, Money)>
+        ensures { result ≡ asked_in roster.now (holder_in books.now) self.now }
     {
         match cheapest(books) {
-            Some(private) => Some((private, price(private, roster))),
+            Some(private) => Some((private, Money(i64::from(self.price(private, roster))))),
             None => None,
         }
     }
 
-    /// Takes a command.
-    ///
-    /// # Errors
-    ///
-    /// The first of these that applies: `WrongStep` where the auction waits for something else, `NotYourTurn` where
-    /// another seat is due, `TooLittleCash` where the seat can't pay the price; or `OutOfMemory`. The auction is as
-    /// before then.
-    pub fn step(&mut self, act: &Act, desk: &mut Desk, roster: &Roster) -> Result<(), Fault>
-        requires room { desk.old.books.payments < 400000000 }
-        requires seated { self.old.turn.0 < desk.old.books.players }
-        ensures verdict { (book : Book) → IsStateOf book desk.old.books → IsProgressOf book self.old → MatchResult result
-            (λ _. verdict roster.now book act.now ≡ None)
-            (λ fault. ((fault ≡ Fault.OutOfMemory) × (verdict roster.now book act.now ≡ None)) ⊎ (verdict roster.now book act.now ≡ Some fault)) }
-        ensures takes { OnOk result (Takes (λ book. entries_of roster.now book act.now) desk.old desk.new) }
-        ensures progress { OnOk result ((book : Book) → IsStateOf book desk.old.books → IsProgressOf book self.old → IsProgressOf (book ++ entries_of roster.now book act.now) self.new) }
-        ensures err { OnErr result (self.new ≡ self.old) }
-        ensures refused { IfErr result (λ fault. (fault ≡ Fault.OutOfMemory) ⊎ (desk.new ≡ desk.old)) }
-        ensures seated { self.new.turn.0 < desk.new.books.players }
-        ensures payments { desk.new.books.payments ≤ desk.old.books.payments + 1 }
-        ensures players { desk.new.books.players ≡ desk.old.books.players }
-        ensures trains { desk.new.books.trains ≡ desk.old.books.trains }
-        ensures counts { desk.new.books.counts ≡ desk.old.books.counts }
+    // How many turns have ended.
+    fn turns_now(&self) -> u32
+        ensures { result ≡ turns_in self.now }
     {
-        match act {
-            Act::BuyPrivate { seat } => self.buy(*seat, desk, roster),
-            _ => Err(Fault::WrongStep),
+        match self.par_due {
+            Some(_) => self.commands.saturating_sub(1),
+            None => self.commands,
         }
     }
 
-    // The seat buys the cheapest private.
-    fn buy(&mut self, seat: Seat, desk: &mut Desk, roster: &Roster) -> Result<(), Fault>
-        requires room { desk.old.books.payments < 400000000 }
-        requires seated { self.old.turn.0 < desk.old.books.players }
-        ensures verdict { (book : Book) → IsStateOf book desk.old.books → IsProgressOf book self.old → MatchResult result
-            (λ _. purchase_verdict roster.now book seat ≡ None)
-            (λ fault. ((fault ≡ Fault.OutOfMemory) × (purchase_verdict roster.now book seat ≡ None)) ⊎ (purchase_verdict roster.now book seat ≡ Some fault)) }
-        ensures takes { OnOk result (Takes (λ book. purchase_of roster.now seat (cheapest (holder book)) book) desk.old desk.new) }
-        ensures progress { OnOk result ((book : Book) → IsStateOf book desk.old.books → IsProgressOf book self.old → IsProgressOf (book ++ purchase_of roster.now seat (cheapest (holder book)) book) self.new) }
-        ensures err { OnErr result (self.new ≡ self.old) }
-        ensures refused { IfErr result (λ fault. (fault ≡ Fault.OutOfMemory) ⊎ (desk.new ≡ desk.old)) }
-        ensures seated { self.new.turn.0 < desk.new.books.players }
-        ensures payments { desk.new.books.payments ≤ desk.old.books.payments + 1 }
-        ensures players { desk.new.books.players ≡ desk.old.books.players }
-        ensures trains { desk.new.books.trains ≡ desk.old.books.trains }
-        ensures counts { desk.new.books.counts ≡ desk.old.books.counts }
+    // What the auction waits for while this private is the cheapest and no par is due.
+    fn due_for(&self, private: Private) -> Due
+        ensures { result ≡ due_by None (Some private) (raiser (bids_on self.now.bids private)) self.now }
     {
-        let private = self.judge_purchase(seat, desk.books(), roster)?;
-        let players = desk.books().players();
-        sell(seat, private, price(private, roster), desk)?;
-        self.turn = left_of(seat, players);
-        self.par_due = owing_after(private, seat, self.par_due);
-        Ok(())
+        match self.raiser_on(private) {
+            Some(seat) => Due::Raise(seat),
+            None => Due::Turn(self.turn),
+        }
     }
 
-    // The private that the seat may buy now.
-    fn judge_purchase(&self, seat: Seat, books: &Books, roster: &Roster) -> Result<Private, Fault>
-        ensures verdict { (book : Book) → IsStateOf book books.now → IsProgressOf book self.now → MatchResult result
-            (λ _. purchase_verdict roster.now book seat ≡ None)
-            (λ fault. purchase_verdict roster.now book seat ≡ Some fault) }
-        ensures cheapest { IfOk result (λ private. cheapest (holder_in books.now) ≡ Some private) }
-        ensures turn { OnOk result (seat ≡ self.now.turn) }
-        ensures enough { IfOk result (λ private. pos (face_of roster.now private) ≤ℤ cash_of books.now (Party.Seat seat)) }
+    /// The bids of the seats on the private, 0 without one.
+    pub(crate) fn bids_on(&self, private: Private) -> [u64; 6]
+        ensures { result ≡ bids_on self.now.bids private }
+    {
+        self.bids[row_of(private)]
+    }
+
+    // The seat that is to raise for this private or leave, where several bid on it.
+    fn raiser_on(&self, private: Private) -> Option<Seat>
+        ensures { result ≡ raiser (bids_on self.now.bids private) }
+    {
+        raiser(&self.bids_on(private))
+    }
+
+    /// The seat that is to raise for the cheapest private or leave, where several bid on it.
+    pub(crate) fn raise_due(&self, books: &Books) -> Option<Seat>
+        ensures { result ≡ raise_due (holder_in books.now) self.now }
+    {
+        match cheapest(books) {
+            Some(private) => self.raiser_on(private),
+            None => None,
+        }
+    }
+
+    /// The seat that owes the B&O a par.
+    pub(crate) fn par_due(&self) -> Option<Seat>
+        ensures { result ≡ self.now.par_due }
+    {
+        self.par_due
+    }
+
+    /// The seat of the next turn.
+    pub(crate) fn turn(&self) -> Seat
+        ensures { result ≡ self.now.turn }
+    {
+        self.turn
+    }
+
+    /// The seat that is to bid or pass.
+    pub(crate) fn bidder_due(&self, books: &Books) -> Seat
+        ensures { result ≡ bidder_due (holder_in books.now) self.now }
+    {
+        match self.raise_due(books) {
+            Some(seat) => seat,
+            None => self.turn,
+        }
+    }
+
+    /// Whether bids and passes are taken.
+    pub(crate) fn takes_bids(&self, books: &Books, roster: &Roster) -> bool
+        ensures { result ≡ takes_bids roster.now (holder_in books.now) self.now }
     {
         if let Some(_) = self.par_due {
-            return Err(Fault::WrongStep);
+            return false;
         }
-        let Some(private) = cheapest(books) else {
-            return Err(Fault::WrongStep);
-        };
-        if seat != self.turn {
-            return Err(Fault::NotYourTurn);
+        match cheapest(books) {
+            Some(private) => 0 < self.price(private, roster),
+            None => false,
         }
-        if books.balance(Party::Seat(seat)).0 < price(private, roster).0 {
-            return Err(Fault::TooLittleCash);
+    }
+
+    /// Whether the private can be bid on.
+    pub(crate) fn is_open(&self, private: Private, books: &Books) -> bool
+        ensures { result ≡ is_open (holder_in books.now) self.now private }
+    {
+        match self.raise_due(books) {
+            Some(_) => is_cheapest(private, books),
+            None => is_unsold(private, books) && !is_cheapest(private, books),
         }
-        Ok(private)
+    }
+
+    /// Whether a pass brings the incomes.
+    pub(crate) fn brings_incomes(&self, books: &Books) -> bool
+        requires { self.now.passes < books.now.players }
+        ensures { result ≡ brings_incomes books.now.players (holder_in books.now) self.now }
+    {
+        match self.raise_due(books) {
+            Some(_) => false,
+            None => self.all_pass(books.players()) && !is_cheapest(Private::Sv, books),
+        }
+    }
+
+    // Whether all seats pass in a row with one pass more.
+    fn all_pass(&self, players: u8) -> bool
+        requires { self.now.passes < players }
+        ensures { result ≡ all_pass players self.now }
+    {
+        self.passes + 1 == players
+    }
+
+    /// What the private costs now.
+    pub(crate) fn price(&self, private: Private, roster: &Roster) -> u16
+        ensures value { result ≡ price roster.now self.now.falls private }
+        ensures bound { result ≤ 500 }
+    {
+        let face = roster.face(private);
+        match private {
+            Private::Sv => face.saturating_sub(5 * u16::from(self.falls)),
+            _ => face,
+        }
+    }
+
+    /// The least that may be bid on the private.
+    pub(crate) fn least_bid(&self, private: Private, roster: &Roster) -> u64
+        requires { highest (bids_on self.now.bids private) ≤ 10000000000 }
+        ensures { result ≡ least_bid roster.now self.now.bids private }
+    {
+        let greatest = highest(&self.bids_on(private));
+        greatest.max(u64::from(roster.face(private))) + 5
+    }
+
+    /// The money that the seat has tied up in bids on other privates.
+    pub(crate) fn tied_up(&self, seat: Seat, named: Private, books: &Books) -> u64
+        requires { IsFit books.now self.now }
+        ensures value { result ≡ tied_up (holder_in books.now) self.now.bids seat named }
+        ensures bound { result ≤ 60000000000 }
+    {
+        self.tied_on(seat, named, Private::Sv, books)
+            + self.tied_on(seat, named, Private::Csl, books)
+            + self.tied_on(seat, named, Private::Dh, books)
+            + self.tied_on(seat, named, Private::Mh, books)
+            + self.tied_on(seat, named, Private::Ca, books)
+            + self.tied_on(seat, named, Private::Bo, books)
+    }
+
+    // The money that the seat has tied up in a bid on this private.
+    fn tied_on(&self, seat: Seat, named: Private, private: Private, books: &Books) -> u64
+        requires { IsFit books.now self.now }
+        ensures value { result ≡ tied_on (holder_in books.now) self.now.bids seat named private }
+        ensures bound { result ≤ 10000000000 }
+    {
+        if same_private(private, named) {
+            return 0;
+        }
+        if !is_unsold(private, books) {
+            return 0;
+        }
+        bid_in(&self.bids_on(private), seat)
+    }
+
+    /// The auction once the seat has got the private.
+    pub(crate) fn after_sale(&self, seat: Seat, private: Private, players: u8) -> Auction
+        requires { seat.0 < players }
+        ensures { result ≡ after_sale players private seat self.now }
+    {
+        let mut next = *self;
+        next.priority = left_of(seat, players);
+        if let Private::Bo = private {
+            next.par_due = Some(seat);
+        }
+        next
+    }
+
+    /// The auction once the seat has bought the cheapest private.
+    pub(crate) fn after_purchase(&self, seat: Seat, players: u8) -> Auction
+        requires seated { seat.0 < players }
+        requires commands { self.now.commands < 400000000 }
+        ensures { result ≡ after_purchase players seat self.now }
+    {
+        let mut next = *self;
+        next.turn = left_of(seat, players);
+        next.passes = 0;
+        next.commands += 1;
+        next
+    }
+
+    /// The auction once the seat has bid on a private.
+    pub(crate) fn after_bid(
+        &self,
+        seat: Seat,
+        private: Private,
+        amount: u64,
+        books: &Books,
+    ) -> Auction
+        requires seated { seat.0 < books.now.players }
+        requires commands { self.now.commands < 400000000 }
+        ensures { result ≡ after_bid books.now.players (is_some (raise_due (holder_in books.now) self.now)) seat private amount self.now }
+    {
+        let players = books.players();
+        match self.raise_due(books) {
+            Some(_) => self.after_raise(seat, private, amount),
+            None => self.after_turn_bid(seat, private, amount, players),
+        }
+    }
+
+    // The auction once the seat has raised its bid.
+    fn after_raise(&self, seat: Seat, private: Private, amount: u64) -> Auction
+        requires seated { seat.0 < 6 }
+        requires commands { self.now.commands < 400000000 }
+        ensures { result ≡ after_raise seat private amount self.now }
+    {
+        let mut next = self.with_bid(seat, private, amount);
+        next.commands += 1;
+        next
+    }
+
+    // The auction once the seat has bid in its turn.
+    fn after_turn_bid(&self, seat: Seat, private: Private, amount: u64, players: u8) -> Auction
+        requires seated { seat.0 < players }
+        requires table { players ≤ 6 }
+        requires commands { self.now.commands < 400000000 }
+        ensures { result ≡ after_turn_bid players seat private amount self.now }
+    {
+        let mut next = self.with_bid(seat, private, amount);
+        next.turn = left_of(seat, players);
+        next.passes = 0;
+        next.commands += 1;
+        next
+    }
+
+    /// The auction once the seat has passed.
+    pub(crate) fn after_pass(&self, seat: Seat, books: &Books) -> Auction
+        requires seated { seat.0 < books.now.players }
+        requires passes { self.now.passes < books.now.players }
+        requires falls { self.now.falls ≤ 100 }
+        requires commands { self.now.commands < 400000000 }
+        ensures { result ≡ after_pass books.now.players (is_some (raise_due (holder_in books.now) self.now)) (cheapest (holder_in books.now)) seat self.now }
+    {
+        let players = books.players();
+        if let Some(_) = self.raise_due(books) {
+            return self.after_leaving(seat, books);
+        }
+        if self.all_pass(players) {
+            return self.after_last_pass(seat, books);
+        }
+        self.after_turn_pass(seat, players)
+    }
+
+    // The auction once the seat has left the raising for the cheapest private.
+    fn after_leaving(&self, seat: Seat, books: &Books) -> Auction
+        requires seated { seat.0 < 6 }
+        requires commands { self.now.commands < 400000000 }
+        ensures { result ≡ after_leaving seat (cheapest (holder_in books.now)) self.now }
+    {
+        match cheapest(books) {
+            Some(private) => self.after_raise(seat, private, 0),
+            None => self.after_command(),
+        }
+    }
+
+    // The auction once a command was given.
+    fn after_command(&self) -> Auction
+        requires { self.now.commands < 400000000 }
+        ensures { result ≡ record self.now { commands = self.now.commands + 1 } }
+    {
+        let mut next = *self;
+        next.commands += 1;
+        next
+    }
+
+    // The auction once all seats have passed in a row.
+    fn after_last_pass(&self, seat: Seat, books: &Books) -> Auction
+        requires seated { seat.0 < books.now.players }
+        requires falls { self.now.falls ≤ 100 }
+        requires commands { self.now.commands < 400000000 }
+        ensures { result ≡ after_last_pass books.now.players seat (cheapest (holder_in books.now)) self.now }
+    {
+        let mut next = self.after_command();
+        next.turn = left_of(seat, books.players());
+        next.passes = 0;
+        next.falls = self.falls_after(books);
+        next
+    }
+
+    // How often the first private's price has fallen once all seats have passed in a row.
+    fn falls_after(&self, books: &Books) -> u8
+        requires { self.now.falls ≤ 100 }
+        ensures { result ≡ (if is_private Private.Sv (cheapest (holder_in books.now)) then self.now.falls + 1 else self.now.falls) }
+    {
+        if is_cheapest(Private::Sv, books) {
+            self.falls + 1
+        } else {
+            self.falls
+        }
+    }
+
+    // The auction once the seat has passed in its turn.
+    fn after_turn_pass(&self, seat: Seat, players: u8) -> Auction
+        requires seated { seat.0 < players }
+        requires passes { self.now.passes < players }
+        requires commands { self.now.commands < 400000000 }
+        ensures { result ≡ after_turn_pass players seat self.now }
+    {
+        let mut next = self.after_command();
+        next.turn = left_of(seat, players);
+        next.passes += 1;
+        next
+    }
+
+    /// The auction once the corporation has its par.
+    pub(crate) fn after_par(&self, corp: Corp) -> Auction
+        ensures { result ≡ after_par corp self.now }
+    {
+        let mut next = *self;
+        if let Corp::Bo = corp {
+            next.par_due = None;
+        }
+        next
+    }
+
+    // The auction with this bid of the seat on the private.
+    fn with_bid(&self, seat: Seat, private: Private, amount: u64) -> Auction
+        requires { seat.0 < 6 }
+        ensures { result ≡ record self.now { bids = with_bid self.now.bids private seat amount } }
+    {
+        let mut next = *self;
+        let mut row = self.bids_on(private);
+        row[seat.0 as usize] = amount;
+        next.bids[row_of(private)] = row;
+        next
     }
 }
 
-/// The books and the auction of a table that opens with so many players, once the auction has begun.
-pub fn open_table(players: u8, roster: &Roster) -> (Books, Auction)
-    requires least { 2 ≤ players }
-    requires greatest { players ≤ 6 }
-    ensures books { (names : List (List ℕ)) → length names ≡ players → IsStateOf (opened names roster.now) result.0 }
-    ensures auction { (names : List (List ℕ)) → length names ≡ players → IsProgressOf (opened names roster.now) result.1 }
-    ensures players { result.0.players ≡ players }
-    ensures payments { result.0.payments ≡ players }
-    ensures seated { result.1.turn.0 < result.0.players }
+// Where the bids on the private stand.
+fn row_of(private: Private) -> usize
+    ensures value { result ≡ private_index private }
+    ensures bound { result < 6 }
 {
-    (Books::open(players, roster), Auction::open())
-}
-
-// The cheapest private that isn't sold.
-fn cheapest(books: &Books) -> Option<Private>
-    ensures shown { result ≡ cheapest (holder_in books.now) }
-    ensures book { (book : Book) → IsStateOf book books.now → result ≡ cheapest (holder book) }
-{
-    first_offered(books)
-}
-
-// The first private that is on offer, by the tables of the books.
-fn first_offered(books: &Books) -> Option<Private>
-    ensures { result ≡ cheapest (holder_in books.now) }
-{
-    Private::ALL
-        .iter()
-        .copied()
-        .find(|private| is_offered(*private, books))
-}
-
-// Whether the private is on offer.
-fn is_offered(private: Private, books: &Books) -> bool
-    ensures { result ≡ is_at (holder_in books.now (Cert.Private private)) Place.Offer }
-{
-    books.holder(Cert::Private(private)) == Place::Offer
-}
-
-// What the private costs now.
-fn price(private: Private, roster: &Roster) -> Money
-    ensures value { result.0 ≡ pos (face_of roster.now private) }
-    ensures low { pos 0 ≤ℤ result.0 }
-    ensures high { result.0 ≤ℤ pos 500 }
-{
-    Money(i64::from(roster.face(private)))
-}
-
-// The seat on the left, at a table of so many seats.
-fn left_of(seat: Seat, players: u8) -> Seat
-    requires { seat.0 < players }
-    ensures value { result ≡ left_of players seat }
-    ensures bound { result.0 < players }
-{
-    if seat.0 + 1 == players {
-        Seat(0)
-    } else {
-        Seat(seat.0 + 1)
-    }
-}
-
-// Who owes the B&O a par once the seat has bought the private.
-fn owing_after(private: Private, seat: Seat, owing: Option<Seat>) -> Option<Seat>
-    ensures { result ≡ owing_after private seat owing }
-{
-    match private {
-        Private::Bo => Some(seat),
-        _ => owing,
-    }
-}
-
-// The seat buys the private.
-fn sell(seat: Seat, private: Private, amount: Money, desk: &mut Desk) -> Result<(), Fault>
-    requires room { desk.old.books.payments < 400000000 }
-    requires seated { seat.0 < desk.old.books.players }
-    requires low { pos 0 ≤ℤ amount.0 }
-    requires high { amount.0 ≤ℤ pos 500 }
-    requires enough { amount.0 ≤ℤ cash_of desk.old.books (Party.Seat seat) }
-    ensures fault { IfErr result (λ fault. fault ≡ Fault.OutOfMemory) }
-    ensures takes { OnOk result (Takes (purchase seat private amount) desk.old desk.new) }
-    ensures payments { desk.new.books.payments ≤ desk.old.books.payments + 1 }
-    ensures players { desk.new.books.players ≡ desk.old.books.players }
-    ensures trains { desk.new.books.trains ≡ desk.old.books.trains }
-    ensures counts { desk.new.books.counts ≡ desk.old.books.counts }
-{
-    desk.step(Marker::Act(Act::BuyPrivate { seat }))?;
-    desk.give(Cert::Private(private), Place::Seat(seat))?;
-    desk.pay(Party::Seat(seat), Party::Bank, amount)?;
-    give_gift(seat, private, desk)?;
-    Ok(())
-}
-
-// What comes with a private: a share of the PRR with the C&A, the B&O's presidency with the B&O.
-fn give_gift(seat: Seat, private: Private, desk: &mut Desk) -> Result<(), Fault>
-    requires { seat.0 < desk.old.books.players }
-    ensures fault { IfErr result (λ fault. fault ≡ Fault.OutOfMemory) }
-    ensures takes { OnOk result (Takes (gift private seat) desk.old desk.new) }
-    ensures payments { desk.new.books.payments ≡ desk.old.books.payments }
-    ensures players { desk.new.books.players ≡ desk.old.books.players }
-    ensures trains { desk.new.books.trains ≡ desk.old.books.trains }
-    ensures counts { desk.new.books.counts ≡ desk.old.books.counts }
-{
-    match private {
-        Private::Ca => {
-            desk.give_lowest_share(Corp::Prr, Place::Offer, Place::Seat(seat))?;
-            Ok(())
-        }
-        Private::Bo => {
-            desk.give(Cert::President(Corp::Bo), Place::Seat(seat))?;
-            Ok(())
-        }
-        _ => Ok(()),
-    }
+    private.index()
 }

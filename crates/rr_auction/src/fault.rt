@@ -17,6 +17,18 @@ pub enum Fault {
     /// Another seat is due.
     #[error("not your turn")]
     NotYourTurn,
+    /// The bid is below this least one.
+    #[error("bid too low")]
+    BidTooLow(u64),
+    /// The private can't be bid on now, or the corporation has no par due.
+    #[error("not for sale")]
+    NotForSale,
+    /// The seat has the money, but has bid it on other privates.
+    #[error("cash tied up")]
+    CashTiedUp,
+    /// No corporation may begin at this price.
+    #[error("not a par")]
+    NotAPar,
     /// What is due now isn't this command.
     #[error("wrong step")]
     WrongStep,
@@ -34,6 +46,10 @@ impl Fault {
             Fault::NoSuchName => 1,
             Fault::TooLittleCash => 2,
             Fault::NotYourTurn => 20,
+            Fault::BidTooLow(_) => 21,
+            Fault::NotForSale => 22,
+            Fault::CashTiedUp => 23,
+            Fault::NotAPar => 31,
             Fault::WrongStep => 42,
             Fault::OutOfMemory => 70,
         }

@@ -2,12 +2,20 @@
 #![tactic(auto)]
 
 mod auction;
+mod bids;
 mod due;
 mod fault;
+mod incomes;
+mod judging;
+mod opening;
+mod rows;
+mod settling;
+mod unsold;
 
-pub use auction::{Auction, open_table};
+pub use auction::Auction;
 pub use due::Due;
 pub use fault::Fault;
+pub use opening::open_table;
 
 #[cfg(test)]
 mod tests;

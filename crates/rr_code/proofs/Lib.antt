@@ -1,4 +1,6 @@
 pub mod NamedLemmas
 pub mod PlayersLemmas
+pub mod ReadingLemmas
 pub mod TextLemmas
+pub mod UnspacedLemmas
 pub mod WordsLemmas

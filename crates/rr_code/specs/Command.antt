@@ -1,20 +1,29 @@
 -- The commands of a table, and the one text of each.
-use Rattle.std.specs.Prelude.{◌≡◌, ℕ, List, [], ◌∷◌, length, take, Option, Some, None, option_map, option_and_then, bytes_eq, codes, if◌then◌else◌}
-use Rattle.rr_words.specs.Name.{player_name_of, table_name_of, IsTableName, IsPlayerName}
+use Rattle.std.specs.Prelude.{◌≡◌, ℕ, List, ◌^◌, ◌<◌, decimal, [], ◌∷◌, length, take, codes, Result, Ok, MatchResult}
+use Rattle.rr_words.specs.Name.{IsTableName, IsPlayerName}
 use Rattle.rr_words.specs.Line.{line_of}
-use Rattle.rr_code.specs.Players.{are_players, ArePlayers}
+use Rattle.rr_roster.specs.Company.{corp_name, private_name}
+use Rattle.rr_code.specs.Players.{ArePlayers}
 use Rattle.rr_code.specs.declared.command.Command.{Command}
-use Rattle.rr_code.specs.declared.command.Command.TheVariants.{Open, BuyPrivate}
+use Rattle.rr_code.specs.declared.command.Command.TheVariants.{Open, BuyPrivate, Bid, Pass, Par}
+use Rattle.rr_code.specs.declared.fault.Fault.{Fault}
+use Rattle.rr_code.specs.declared.fault.Fault.TheVariants.{Malformed}
 
 -- the words of a command
 abbrev pub spelling : Command → List (List ℕ)
 spelling (Open players) = codes "open" ∷ players
 spelling (BuyPrivate player) = codes "buy" ∷ player ∷ []
+spelling (Bid player private amount) = codes "bid" ∷ player ∷ private_name private ∷ decimal amount ∷ []
+spelling (Pass player) = codes "pass" ∷ player ∷ []
+spelling (Par player corp price) = codes "par" ∷ player ∷ corp_name corp ∷ decimal price ∷ []
 
 -- its parts are what they stand for
 abbrev pub IsCommand : Command → Type 0
 IsCommand (Open players) = ArePlayers players
 IsCommand (BuyPrivate player) = IsPlayerName player
+IsCommand (Bid player private amount) = IsPlayerName player × (amount < 10 ^ 10)
+IsCommand (Pass player) = IsPlayerName player
+IsCommand (Par player corp price) = IsPlayerName player × (price < 10 ^ 10)
 
 -- the text of a command: its words with one space between each two
 abbrev pub text : Command → List ℕ
@@ -29,32 +38,16 @@ pub record SpellsCommand (bytes : List ℕ) (c : Command) : Type 0 where
   pub command : IsCommand c
   pub spelled : bytes ≡ text c
 
+-- the answer to a reader of a command: just the command that the bytes spell, or else malformed
+pub record IsReadAs (bytes : List ℕ) (answer : Result Command Fault) : Type 0 where
+  pub found : MatchResult answer (λ c. SpellsCommand bytes c) (λ fault. fault ≡ Malformed)
+  pub only : (c : Command) → SpellsCommand bytes c → answer ≡ Ok c
+
 -- the bytes are the text of a record of a table's command
 pub record SpellsRecord (bytes table : List ℕ) (c : Command) : Type 0 where
   pub name : IsTableName table
   pub command : IsCommand c
   pub spelled : bytes ≡ record_text table c
-
--- what words are read as, form by form
-abbrev pub read_open : List (List ℕ) → Option Command
-read_open names = if are_players names then Some (Open names) else None
-
-abbrev pub read_buy : List (List ℕ) → Option Command
-read_buy (player ∷ []) = option_map BuyPrivate (player_name_of player)
-read_buy _ = None
-
-abbrev pub read_words : List (List ℕ) → Option Command
-read_words [] = None
-read_words (head ∷ rest) =
-    if bytes_eq head (codes "open") then read_open rest else
-    if bytes_eq head (codes "buy") then read_buy rest else
-    None
-
--- a record's words
-abbrev pub read_record_words : List (List ℕ) → Option (List ℕ × Command)
-read_record_words [] = None
-read_record_words (table ∷ rest) =
-    option_and_then (λ name. option_map (λ c. (name, c)) (read_words rest)) (table_name_of table)
 
 -- what was written stays, and more may follow
 abbrev pub Continues : List ℕ → List ℕ → Type 0

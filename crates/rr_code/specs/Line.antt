@@ -5,7 +5,8 @@ use Rattle.rr_code.specs.declared.command.Command.{Command}
 use Rattle.rr_words.specs.Name.{IsTableName}
 use Rattle.rr_words.specs.Numeral.{number_of}
 use Rattle.rr_words.specs.Line.{line_of}
-use Rattle.rr_code.specs.Command.{IsCommand, spelling, read_record_words}
+use Rattle.rr_code.specs.Command.{IsCommand, spelling}
+use Rattle.rr_code.specs.Reading.{read_record_words}
 use Rattle.rr_code.specs.Query.{IsQuery, query_words, read_query_words}
 use Rattle.rr_code.specs.declared.line.Line.{Line}
 use Rattle.rr_code.specs.declared.line.Line.TheVariants as L

@@ -1,11 +1,10 @@
 -- The queries, and the one text of each.
 use Rattle.std.specs.Prelude.{ℕ, List, [], ◌∷◌, Option, Some, None, option_map, option_and_then, bytes_eq, codes, if◌then◌else◌}
-use Rattle.std.specs.List.{find}
 use Rattle.rr_words.specs.Name.{is_player_name, table_name_of, IsTableName, IsPlayerName}
-use Rattle.rr_roster.specs.declared.company.Corp.{Corp}
-use Rattle.rr_roster.specs.Company.{corp_name, corps}
+use Rattle.rr_roster.specs.Company.{corp_name}
+use Rattle.rr_code.specs.Company.{corp_of}
 use Rattle.rr_code.specs.declared.query.Query.{Query}
-use Rattle.rr_code.specs.declared.query.Query.TheVariants.{Tables, Stamp, Cash, Limit, Asked, Privates}
+use Rattle.rr_code.specs.declared.query.Query.TheVariants.{Tables, Stamp, Turns, Due, Cash, Limit, Asked, Privates}
 use Rattle.rr_code.specs.declared.query.Account.{Account}
 use Rattle.rr_code.specs.declared.query.Account.TheVariants as A
 use Rattle.rr_code.specs.declared.query.Owner.{Owner}
@@ -35,6 +34,8 @@ IsOwner (O.Player name) = IsPlayerName name
 abbrev pub query_words : Query → List (List ℕ)
 query_words Tables = codes "tables" ∷ []
 query_words (Stamp table) = codes "stamp" ∷ table ∷ []
+query_words (Turns table) = codes "turns" ∷ table ∷ []
+query_words (Due table) = codes "due" ∷ table ∷ []
 query_words (Cash table of) = codes "cash" ∷ table ∷ account_word of ∷ []
 query_words (Limit table) = codes "limit" ∷ table ∷ []
 query_words (Asked table) = codes "asked" ∷ table ∷ []
@@ -44,15 +45,14 @@ query_words (Privates table of) = codes "privates" ∷ table ∷ owner_word of �
 abbrev pub IsQuery : Query → Type 0
 IsQuery Tables = Unit {0}
 IsQuery (Stamp table) = IsTableName table
+IsQuery (Turns table) = IsTableName table
+IsQuery (Due table) = IsTableName table
 IsQuery (Cash table of) = IsTableName table × IsAccount of
 IsQuery (Limit table) = IsTableName table
 IsQuery (Asked table) = IsTableName table
 IsQuery (Privates table of) = IsTableName table × IsOwner of
 
 -- what words are read as, form by form
-abbrev pub corp_of : List ℕ → Option Corp
-corp_of word = find (λ corp. bytes_eq word (corp_name corp)) corps
-
 abbrev pub account_of : List ℕ → Option Account
 account_of word =
     if is_player_name word then Some (A.Player word) else
@@ -69,6 +69,14 @@ read_tables _ = None
 abbrev pub read_stamp : List (List ℕ) → Option Query
 read_stamp (table ∷ []) = option_map Stamp (table_name_of table)
 read_stamp _ = None
+
+abbrev pub read_turns : List (List ℕ) → Option Query
+read_turns (table ∷ []) = option_map Turns (table_name_of table)
+read_turns _ = None
+
+abbrev pub read_due : List (List ℕ) → Option Query
+read_due (table ∷ []) = option_map Due (table_name_of table)
+read_due _ = None
 
 abbrev pub read_cash : List (List ℕ) → Option Query
 read_cash (table ∷ of ∷ []) = option_and_then (λ t. option_map (Cash t) (account_of of)) (table_name_of table)
@@ -91,6 +99,8 @@ read_query_words [] = None
 read_query_words (head ∷ rest) =
     if bytes_eq head (codes "tables") then read_tables rest else
     if bytes_eq head (codes "stamp") then read_stamp rest else
+    if bytes_eq head (codes "turns") then read_turns rest else
+    if bytes_eq head (codes "due") then read_due rest else
     if bytes_eq head (codes "cash") then read_cash rest else
     if bytes_eq head (codes "limit") then read_limit rest else
     if bytes_eq head (codes "asked") then read_asked rest else

@@ -1,29 +1,57 @@
 ghost use Rattle.std.specs.Prelude.{◌≡◌, ℕ, List, ◌∷◌, ◌++◌, codes, IfSome, MatchResult, OnOk, OnErr, IsOkUnless};
-ghost use Rattle.rr_code.specs.Command.{Continues, IsCommand, SpellsCommand, SpellsRecord, spelling, text, read_words, read_open, read_buy, read_record_words};
+ghost use Rattle.rr_code.specs.Command.{Continues, IsCommand, IsReadAs, SpellsCommand, SpellsRecord, spelling, text};
+ghost use Rattle.rr_code.specs.Reading.{read_words, read_open, read_record_words};
 ghost use Rattle.rr_words.specs.Name.{IsTableName};
 
+use crate::auction;
 use crate::fault::Fault;
 use crate::players::Players;
 use crate::words::Words;
+use crate::writing::write_word;
+use rr_roster::{Corp, Private};
 use rr_words::Name;
 
-/// What a player or the keeper asks of a table.
+/// What a player or the keeper asks of a table. A number that a command's words spell has one to ten
+/// digits, so it is below 10^10, and the first of several digits is not 0.
 #[derive(Clone, Copy, Debug, PartialEq, Eq)]
 pub enum Command {
     /// The table is opened with these players.
-    Open { players: Players },
+    Open {
+        players: Players,
+    },
     /// A player buys the cheapest private that is unsold.
-    BuyPrivate { player: Name },
+    BuyPrivate {
+        player: Name,
+    },
+    /// A player bids on a private, in dollars.
+    Bid {
+        player: Name,
+        private: Private,
+        amount: u64,
+    },
+    /// A player passes in the auction.
+    Pass {
+        player: Name,
+    },
+    /// A player sets a corporation's par, the first price of a share, in dollars.
+    Par {
+        player: Name,
+        corp: Corp,
+        price: u64,
+    },
 }
 
 impl Command {
     /// Reads the words of a command as a table keeps them, without its stamp and the table's name.
+    /// Each command has one text: its words with one space between each two, none before and none
+    /// behind, and numbers without a leading zero.
     ///
     /// # Errors
     /// `Malformed` where the bytes are no command's text.
     pub fn read(words: &[u8]) -> Result<Command, Fault>
         ensures found { MatchResult result (λ c. SpellsCommand words.now c) (λ fault. fault ≡ Fault.Malformed) }
         ensures only { (c : Command) → SpellsCommand words.now c → result ≡ Ok c }
+        ensures exact { IsReadAs words.now result }
     {
         let mut words = Words::of(words);
         Command::from_words(&mut words).ok_or(Fault::Malformed)
@@ -38,7 +66,16 @@ impl Command {
             return read_open(words);
         }
         if head == b"buy".as_slice() {
-            return read_buy(words);
+            return auction::read_buy(words);
+        }
+        if head == b"bid".as_slice() {
+            return auction::read_bid(words);
+        }
+        if head == b"pass".as_slice() {
+            return auction::read_pass(words);
+        }
+        if head == b"par".as_slice() {
+            return auction::read_par(words);
         }
         None
     }
@@ -66,7 +103,18 @@ impl Command {
     {
         match self {
             Command::Open { players } => write_open(players, out),
-            Command::BuyPrivate { player } => write_buy(player, out),
+            Command::BuyPrivate { player } => auction::write_buy(player, out),
+            Command::Bid {
+                player,
+                private,
+                amount,
+            } => auction::write_bid(player, *private, *amount, out),
+            Command::Pass { player } => auction::write_pass(player, out),
+            Command::Par {
+                player,
+                corp,
+                price,
+            } => auction::write_par(player, *corp, *price, out),
         }
     }
 }
@@ -79,15 +127,6 @@ fn read_open(words: &mut Words) -> Option<Command>
     Some(Command::Open { players })
 }
 
-fn read_buy(words: &mut Words) -> Option<Command>
-    ensures exact { result ≡ read_buy words.old }
-    ensures found { IfSome result (λ c. IsCommand c × (codes "buy" ∷ words.old ≡ spelling c)) }
-{
-    let player = Name::player(words.next()?)?;
-    words.end()?;
-    Some(Command::BuyPrivate { player })
-}
-
 fn write_open(players: &Players, out: &mut Vec<u8>) -> Result<(), Fault>
     ensures ok { OnOk result (out.new.items ≡ out.old.items ++ text (Command.Open players.now)) }
     ensures kept { Continues out.old.items out.new.items }
@@ -96,23 +135,6 @@ fn write_open(players: &Players, out: &mut Vec<u8>) -> Result<(), Fault>
     for player in players.as_slice() {
         write_word(player.as_bytes(), out)?;
     }
-    Ok(())
-}
-
-fn write_buy(player: &Name, out: &mut Vec<u8>) -> Result<(), Fault>
-    ensures ok { OnOk result (out.new.items ≡ out.old.items ++ text (Command.BuyPrivate player.now)) }
-    ensures kept { Continues out.old.items out.new.items }
-{
-    out.extend_from_slice(b"buy")?;
-    write_word(player.as_bytes(), out)
-}
-
-fn write_word(word: &[u8], out: &mut Vec<u8>) -> Result<(), Fault>
-    ensures ok { OnOk result (out.new.items ≡ out.old.items ++ 32 ∷ word.now) }
-    ensures kept { Continues out.old.items out.new.items }
-{
-    out.push(b' ')?;
-    out.extend_from_slice(word)?;
     Ok(())
 }
 

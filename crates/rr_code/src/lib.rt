@@ -1,13 +1,16 @@
 //! The lines that a keeper of tables reads: one spelling for each command and each query.
 #![tactic(auto)]
 
+mod auction;
 mod command;
+mod companies;
 mod fault;
 pub mod laws;
 mod line;
 mod players;
 mod query;
 mod words;
+mod writing;
 
 pub use command::{Command, read_record};
 pub use fault::Fault;

@@ -1,7 +1,7 @@
 ghost use Rattle.std.specs.Prelude.{◌≡◌, ◌∷◌, codes, IfSome};
-ghost use Rattle.rr_code.specs.Query.{IsQuery, IsAccount, IsOwner, query_words, account_word, owner_word, account_of, owner_of, corp_of, read_query_words, read_tables, read_stamp, read_cash, read_limit, read_asked, read_privates};
-ghost use Rattle.rr_roster.specs.Company.{corp_name};
+ghost use Rattle.rr_code.specs.Query.{IsQuery, IsAccount, IsOwner, query_words, account_word, owner_word, account_of, owner_of, read_query_words, read_tables, read_stamp, read_turns, read_due, read_cash, read_limit, read_asked, read_privates};
 
+use crate::companies::read_corp;
 use crate::words::Words;
 use rr_roster::Corp;
 use rr_words::Name;
@@ -13,6 +13,10 @@ pub enum Query {
     Tables,
     /// The stamp of a table's last command.
     Stamp { table: Name },
+    /// How many commands a table keeps, and how few it can go back to.
+    Turns { table: Name },
+    /// Who is due at a table, and the step that is.
+    Due { table: Name },
     /// What an account of a table has.
     Cash { table: Name, of: Account },
     /// The certificate limit of a table.
@@ -72,13 +76,6 @@ impl Owner {
     }
 }
 
-fn read_corp(word: &[u8]) -> Option<Corp>
-    ensures exact { result ≡ corp_of word.now }
-    ensures found { IfSome result (λ corp. word.now ≡ corp_name corp) }
-{
-    Corp::from_name(word)
-}
-
 impl Query {
     pub(crate) fn from_words(words: &mut Words) -> Option<Query>
         ensures exact { result ≡ read_query_words words.old }
@@ -90,6 +87,12 @@ impl Query {
         }
         if head == b"stamp".as_slice() {
             return read_stamp(words);
+        }
+        if head == b"turns".as_slice() {
+            return read_turns(words);
+        }
+        if head == b"due".as_slice() {
+            return read_due(words);
         }
         if head == b"cash".as_slice() {
             return read_cash(words);
@@ -122,6 +125,24 @@ fn read_stamp(words: &mut Words) -> Option<Query>
     let table = Name::table(words.next()?)?;
     words.end()?;
     Some(Query::Stamp { table })
+}
+
+fn read_turns(words: &mut Words) -> Option<Query>
+    ensures exact { result ≡ read_turns words.old }
+    ensures found { IfSome result (λ query. IsQuery query × (codes "turns" ∷ words.old ≡ query_words query)) }
+{
+    let table = Name::table(words.next()?)?;
+    words.end()?;
+    Some(Query::Turns { table })
+}
+
+fn read_due(words: &mut Words) -> Option<Query>
+    ensures exact { result ≡ read_due words.old }
+    ensures found { IfSome result (λ query. IsQuery query × (codes "due" ∷ words.old ≡ query_words query)) }
+{
+    let table = Name::table(words.next()?)?;
+    words.end()?;
+    Some(Query::Due { table })
 }
 
 fn read_cash(words: &mut Words) -> Option<Query>

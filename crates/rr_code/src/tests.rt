@@ -1,5 +1,7 @@
+mod texts;
+
 use super::*;
-use rr_roster::Corp;
+use rr_roster::{Corp, Private};
 use rr_words::Name;
 use std::process::Abort;
 use std::test::Fail;
@@ -25,6 +27,8 @@ fn reads_each_query(rt: HostRuntime) {
     let queries = [
         (b"tables".as_slice(), Query::Tables),
         (b"stamp t1".as_slice(), Query::Stamp { table }),
+        (b"turns t1".as_slice(), Query::Turns { table }),
+        (b"due t1".as_slice(), Query::Due { table }),
         (
             b"cash t1 bank".as_slice(),
             Query::Cash {
@@ -83,6 +87,26 @@ fn reads_a_command(rt: HostRuntime) {
     assert_eq!(rt; unstamped(b"tables"), b"".as_slice());
     assert_eq!(rt; read_record(b"t1 buy ann"), Ok((table(&rt), buy(&rt))));
     assert_eq!(rt; read_record(b"t1  buy ann"), Err(Fault::Malformed));
+    let ann = player(&rt, b"ann");
+    let bid = Command::Bid {
+        player: ann,
+        private: Private::Bo,
+        amount: 225,
+    };
+    assert_eq!(rt; read_record(b"t1 bid ann B&O 225"), Ok((table(&rt), bid)));
+    let par = Command::Par {
+        player: ann,
+        corp: Corp::Bo,
+        price: 67,
+    };
+    assert_eq!(rt;
+        Line::read(b"0 t1 par ann B&O 67"),
+        Ok(Line::Command {
+            stamp: 0,
+            table: table(&rt),
+            command: par
+        })
+    );
 }
 
 #[test]
@@ -99,7 +123,14 @@ fn reads_six_players(rt: HostRuntime) -> Result<(), Fail> {
 
 #[test]
 fn writes_what_it_reads(rt: HostRuntime) -> Result<(), Fail> {
-    for text in [b"open ann bob".as_slice(), b"open a b c d e f", b"buy ann"] {
+    for text in [
+        b"open ann bob".as_slice(),
+        b"open a b c d e f",
+        b"buy ann",
+        b"bid ann C&SL 45",
+        b"pass ann",
+        b"par ann B&O 100",
+    ] {
         let mut out = Vec::new(rt.alloc());
         out.push(b'>')?;
         Command::read(text)?.write(&mut out)?;
@@ -121,6 +152,11 @@ fn refuses_what_has_no_form(rt: HostRuntime) {
         b"cash T1 ann",
         b"stamp a2345678901234567",
         b"privates t1 bank",
+        b"turns",
+        b"turns t1 t2",
+        b"due t1 ",
+        b"due  t1",
+        b"due B&O",
         b"7 t1 BUY b",
         b" 7 t1 buy a",
         b"7  t1 buy a",
@@ -155,5 +191,6 @@ fn shows_faults(rt: HostRuntime) -> Result<(), Fail> {
     assert_eq!(rt; Fault::Malformed.number(), 55);
     assert_eq!(rt; Fault::OutOfMemory.number(), 70);
     laws::one_meaning();
+    laws::one_spelling();
     Ok(())
 }

@@ -1,3 +1,10 @@
 pub mod Records
 pub mod Listing
 pub mod Playing
+pub mod KitLemmas
+pub mod WorldLemmas
+pub mod Replies
+pub mod ServingLemmas
+pub mod SessionLemmas
+pub mod ReplayLemmas
+pub mod AloneLemmas

@@ -3,43 +3,40 @@ use Rattle.std.proofs.Common.{◌≡◌, true, List, [], ◌∷◌, ◌++◌, �
 use Rattle.std.proofs.lemmas.List.Sums.{fold-append}
 use Rattle.rr_roster.specs.Terms.{Terms}
 use Rattle.rr_code.specs.declared.command.Command.{Command}
-use Rattle.rr_code.specs.declared.command.Command.TheVariants.{Open, BuyPrivate}
+use Rattle.rr_code.specs.declared.command.Command.TheVariants.{Open, BuyPrivate, Bid, Pass, Par}
 use Rattle.rr_auction.specs.Opening.{opened}
 use Rattle.rr_moderator.specs.declared.fault.Fault.{Fault}
-use Rattle.rr_keeper.specs.declared.fault.Fault as keeper
-use Rattle.rr_keeper.specs.declared.fault.Fault.TheVariants as K
-use Rattle.rr_moderator.specs.Fault.{of_keeper}
 use Rattle.rr_books.specs.Book.{Book}
 use Rattle.rr_books.specs.State.{IsStateOf}
 use Rattle.rr_auction.specs.Progress.{IsProgressOf}
 use Rattle.rr_moderator.specs.declared.game.Game.{Game}
 use Rattle.rr_moderator.specs.Keeping.{IsGameOf}
-use Rattle.rr_moderator.specs.World.{TableState, begins_with_opening, command_entries, command_verdict, is_full, is_outside, play, played_on, players_of, table_verdict}
+use Rattle.rr_moderator.specs.World.{TableState, begins_with_opening, command_entries, command_verdict, is_full, play, played_on, players_of, table_verdict}
 
 pub play_more : (roster : Terms) (accepted : List Command) (c : Command) → begins_with_opening accepted ≡ true →
     play roster (accepted ++ c ∷ []) ≡ played_on roster (players_of accepted) (play roster accepted) c
 play_more roster [] c h = absurd (cc)
 play_more roster (Open players ∷ commands) c h = fold-append (played_on roster players) (opened players roster) commands (c ∷ [])
 play_more roster (BuyPrivate player ∷ commands) c h = absurd (cc)
+play_more roster (Bid player private amount ∷ commands) c h = absurd (cc)
+play_more roster (Pass player ∷ commands) c h = absurd (cc)
+play_more roster (Par player corp price ∷ commands) c h = absurd (cc)
 
 pub begins_more : (accepted : List Command) (c : Command) → begins_with_opening accepted ≡ true → begins_with_opening (accepted ++ c ∷ []) ≡ true
 begins_more [] c h = absurd (cc)
 begins_more (Open players ∷ commands) c h = refl
 begins_more (BuyPrivate player ∷ commands) c h = absurd (cc)
+begins_more (Bid player private amount ∷ commands) c h = absurd (cc)
+begins_more (Pass player ∷ commands) c h = absurd (cc)
+begins_more (Par player corp price ∷ commands) c h = absurd (cc)
 
 pub players_more : (accepted : List Command) (c : Command) → begins_with_opening accepted ≡ true → players_of (accepted ++ c ∷ []) ≡ players_of accepted
 players_more [] c h = absurd (cc)
 players_more (Open players ∷ commands) c h = refl
 players_more (BuyPrivate player ∷ commands) c h = absurd (cc)
-
-pub keeper_is_outside : (fault : keeper.Fault) → is_outside (of_keeper fault) ≡ true
-keeper_is_outside K.DeviceFailed = refl
-keeper_is_outside K.HalfFull = refl
-keeper_is_outside (K.Damaged clause) = refl
-keeper_is_outside K.NotAStore = refl
-keeper_is_outside K.NotEmpty = refl
-keeper_is_outside K.OpenAgain = refl
-keeper_is_outside K.OutOfMemory = refl
+players_more (Bid player private amount ∷ commands) c h = absurd (cc)
+players_more (Pass player ∷ commands) c h = absurd (cc)
+players_more (Par player corp price ∷ commands) c h = absurd (cc)
 
 pub table_verdict_of : (roster : Terms) (t : TableState) (stamp : ℕ) (c : Command) → (t.stamp == stamp) ≡ true → is_full t ≡ false →
     table_verdict roster t stamp c ≡ command_verdict roster (players_of t.accepted) (play roster t.accepted) c

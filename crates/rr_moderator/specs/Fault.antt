@@ -1,5 +1,7 @@
 -- The refusals: their numbers and their words.
-use Rattle.std.specs.Prelude.{ℕ, List, [], ◌∷◌, ◌++◌, codes, decimal}
+use Rattle.std.specs.Prelude.{ℕ, List, [], ◌++◌, codes, decimal}
+use Rattle.rr_chart.specs.declared.fault.Fault as chart
+use Rattle.rr_chart.specs.declared.fault.Fault.TheVariants as H
 use Rattle.rr_roster.specs.declared.fault.Fault as roster
 use Rattle.rr_roster.specs.declared.fault.Fault.TheVariants as R
 use Rattle.rr_roster.specs.Rules.{rule_number}
@@ -24,6 +26,10 @@ number_of (F.RosterRule rule) = 5
 number_of (F.BadManifest line) = 6
 number_of (F.BadBoard line) = 7
 number_of F.NotYourTurn = 20
+number_of (F.BidTooLow least) = 21
+number_of F.NotForSale = 22
+number_of F.CashTiedUp = 23
+number_of F.NotAPar = 31
 number_of F.WrongStep = 42
 number_of (F.StaleStamp stamp) = 52
 number_of F.TooManyCommands = 54
@@ -50,6 +56,10 @@ words_of (F.RosterRule rule) = codes "roster rule"
 words_of (F.BadManifest line) = codes "bad manifest"
 words_of (F.BadBoard line) = codes "bad board"
 words_of F.NotYourTurn = codes "not your turn"
+words_of (F.BidTooLow least) = codes "bid too low"
+words_of F.NotForSale = codes "not for sale"
+words_of F.CashTiedUp = codes "cash tied up"
+words_of F.NotAPar = codes "not a par"
 words_of F.WrongStep = codes "wrong step"
 words_of (F.StaleStamp stamp) = codes "stale stamp"
 words_of F.TooManyCommands = codes "too many commands"
@@ -73,6 +83,7 @@ data_of (F.RosterRule rule) = codes " " ++ decimal rule
 data_of (F.BadManifest line) = codes " " ++ decimal line
 data_of (F.BadBoard line) = codes " " ++ decimal line
 data_of (F.StaleStamp stamp) = codes " " ++ decimal stamp
+data_of (F.BidTooLow least) = codes " " ++ decimal least
 data_of (F.Damaged clause) = codes " " ++ decimal clause
 data_of _ = []
 
@@ -81,6 +92,10 @@ abbrev pub refusal_of : Fault → List ℕ
 refusal_of fault = codes "no " ++ decimal (number_of fault) ++ codes " " ++ words_of fault ++ data_of fault ++ codes "\n"
 
 -- the refusals of the layers below, as those of the moderator
+abbrev pub of_chart : chart.Fault → Fault
+of_chart (H.BadChart line word) = F.BadChart line word
+of_chart H.OutOfMemory = F.OutOfMemory
+
 abbrev pub of_roster : roster.Fault → Fault
 of_roster R.Shape = F.BadRoster
 of_roster (R.Broken rule) = F.RosterRule (rule_number rule)
@@ -94,6 +109,10 @@ abbrev pub of_auction : auction.Fault → Fault
 of_auction A.NoSuchName = F.NoSuchName
 of_auction A.TooLittleCash = F.TooLittleCash
 of_auction A.NotYourTurn = F.NotYourTurn
+of_auction (A.BidTooLow least) = F.BidTooLow least
+of_auction A.NotForSale = F.NotForSale
+of_auction A.CashTiedUp = F.CashTiedUp
+of_auction A.NotAPar = F.NotAPar
 of_auction A.WrongStep = F.WrongStep
 of_auction A.OutOfMemory = F.OutOfMemory
 

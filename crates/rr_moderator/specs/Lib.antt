@@ -2,4 +2,9 @@ pub mod Fault
 pub mod Answer
 pub mod World
 pub mod Keeping
-pub mod Refusing
+pub mod Queries
+pub mod Serving
+pub mod Holding
+pub mod Kits
+pub mod Replaying
+pub mod Alone

@@ -1,17 +1,23 @@
 // The answers to queries, and the reply to an accepted command.
-ghost use Rattle.std.specs.Prelude.{◌≡◌, ◌≢◌, ◌+◌, ◌*◌, ◌≤◌, ◌++◌, List, ℕ, [], ◌∷◌, codes, filter, length, map};
+ghost use Rattle.std.specs.Prelude.{◌≡◌, ◌≢◌, ◌+◌, ◌*◌, ◌≤◌, ◌++◌, List, ℕ, [], ◌∷◌, MatchResult, codes, filter, length, map, take};
+ghost use Rattle.indexmap.specs.IndexMap.{keys};
 ghost use Rattle.rr_books.specs.Shares.{is_at};
 ghost use Rattle.rr_roster.specs.Company.{private_name};
+ghost use Rattle.rr_roster.specs.Terms.{Terms};
 ghost use Rattle.rr_books.specs.State.{holder_in};
 ghost use Rattle.rr_moderator.specs.Answer.{accepted_text, answer_of, asked_words, owned, spaced};
+ghost use Rattle.rr_moderator.specs.Holding.{state_of, world_of};
+ghost use Rattle.rr_moderator.specs.Keeping.{IsGameOf};
+ghost use Rattle.rr_moderator.specs.Queries.{Writes, asked_answer, cash_answer, due_answer, due_words, limit_answer, player_word, privates_answer, query_answer, query_text, query_verdict, reply_of, stamp_answer, turns_answer};
 
 use crate::fault::Fault;
 use crate::game::Game;
 use crate::reply::Reply;
-use crate::tables::Tables;
-use rr_books::{Cert, Money, Place};
-use rr_code::Query;
-use rr_roster::Private;
+use crate::tables::{Table, Tables};
+use rr_auction::Due;
+use rr_books::{Cert, Money, Place, Seat};
+use rr_code::{Account, Owner, Query};
+use rr_roster::{Private, Roster};
 use rr_words::Name;
 
 impl Reply {
@@ -33,60 +39,195 @@ impl Reply {
         ensures text { self.new ≡ self.old ++ (codes " " ++ private_name private) }
         ensures bounded { length self.new ≤ length self.old + 5 }
     {
-        self.text(b" ");
-        self.text(private.name().as_bytes());
+        self.word(private.name().as_bytes());
     }
 }
 
 impl Tables {
-    /// Writes the answer to a query.
-    pub(crate) fn answer(&self, query: &Query, reply: &mut Reply) -> Result<(), Fault> {
+    /// Writes the answer to a query. It asks for no memory.
+    ///
+    /// # Errors
+    /// `NoSuchTable`, and then `NoSuchName` where the table has no player of that name.
+    pub(crate) fn answer(&self, query: &Query, reply: &mut Reply) -> Result<(), Fault>
+        ensures { MatchResult result
+            (λ _. (query_verdict self.now.roster (world_of self.now.map.entries) query.now ≡ None)
+            × (reply.new ≡ query_text self.now.roster (world_of self.now.map.entries) query.now))
+            (λ fault. query_verdict self.now.roster (world_of self.now.map.entries) query.now ≡ Some fault) }
+    {
         reply.clear();
-        match query {
-            Query::Tables => self.write_names(reply),
-            Query::Stamp { table } => {
-                let stamp = self.table(table)?.stamp();
-                reply.text(b"= ");
-                reply.number(stamp);
-            }
-            Query::Cash { table, of } => {
-                let money = self.table(table)?.game().cash(of)?;
-                reply.text(b"= ");
-                reply.signed(money.0);
-            }
-            Query::Limit { table } => {
-                let limit = self.table(table)?.game().limit();
-                reply.text(b"= ");
-                reply.number(u64::from(limit));
-            }
-            Query::Asked { table } => {
-                let asked = self.table(table)?.game().asked(self.roster());
-                write_asked(asked, reply);
-            }
-            Query::Privates { table, of } => {
-                let game = self.table(table)?.game();
-                let place = game.place(of)?;
-                write_privates(game, place, reply);
-            }
-        }
+        self.write_answer(query, reply)?;
         reply.text(b"\n");
         Ok(())
     }
 
-    /// Writes the names of all tables.
+    /// Writes the answer to a query, but for the line feed.
+    fn write_answer(&self, query: &Query, reply: &mut Reply) -> Result<(), Fault>
+        requires { reply.old ≡ [] }
+        ensures answer { Writes (query_answer self.now.roster (world_of self.now.map.entries) query.now) result reply.new }
+        ensures bounded { length reply.new ≤ 1100 }
+    {
+        match query {
+            Query::Tables => {
+                self.write_names(reply);
+                Ok(())
+            }
+            Query::Stamp { table } => {
+                self.table(table)?.write_stamp(reply);
+                Ok(())
+            }
+            Query::Turns { table } => {
+                self.table(table)?.write_turns(reply);
+                Ok(())
+            }
+            Query::Due { table } => {
+                self.table(table)?.write_due(reply);
+                Ok(())
+            }
+            Query::Cash { table, of } => self.table(table)?.write_cash(of, reply),
+            Query::Limit { table } => {
+                self.table(table)?.write_limit(reply);
+                Ok(())
+            }
+            Query::Asked { table } => {
+                self.table(table)?.write_asked(self.roster(), reply);
+                Ok(())
+            }
+            Query::Privates { table, of } => self.table(table)?.write_privates(of, reply),
+        }
+    }
+
+    /// Writes the names of all tables, in the order of opening.
     fn write_names(&self, reply: &mut Reply)
         requires { reply.old ≡ [] }
-        ensures { length reply.new ≤ 1100 }
+        ensures text { reply.new ≡ answer_of (keys self.now.map) }
+        ensures bounded { length reply.new ≤ 1100 }
     {
         reply.text(b"=");
         for place in 0..64 {
-            if let Some(name) = self.name(place) {
-                reply.text(b" ");
-                reply.text(name.as_bytes());
-            }
+            self.write_name(place, reply);
         }
         write_nothing(reply);
     }
+
+    /// Writes the name of the table at a place in the order of opening behind a space, if there is one.
+    fn write_name(&self, place: usize, reply: &mut Reply)
+        requires { length reply.old ≤ 4000 }
+        ensures text { reply.old ≡ codes "=" ++ spaced (take place (keys self.now.map)) →
+            reply.new ≡ codes "=" ++ spaced (take (place + 1) (keys self.now.map)) }
+        ensures bounded { length reply.new ≤ length reply.old + 17 }
+    {
+        match self.name(place) {
+            Some(name) => reply.word(name.as_bytes()),
+            None => {}
+        }
+    }
+}
+
+impl Table {
+    /// Writes the stamp of the last command.
+    fn write_stamp(&self, reply: &mut Reply)
+        requires { reply.old ≡ [] }
+        ensures text { reply_of (stamp_answer (state_of self.now)) ≡ reply.new ++ codes "\n" }
+        ensures bounded { length reply.new ≤ 40 }
+    {
+        reply.text(b"= ");
+        reply.number(self.stamp());
+    }
+
+    /// Writes how many turns have ended, and to which the table can go back: to the first.
+    fn write_turns(&self, reply: &mut Reply)
+        requires { reply.old ≡ [] }
+        ensures text { (roster : Terms) → IsGameOf roster self.now.accepted.items self.now.game →
+            reply_of (turns_answer roster (state_of self.now)) ≡ reply.new ++ codes "\n" }
+        ensures bounded { length reply.new ≤ 50 }
+    {
+        reply.text(b"= ");
+        reply.number(u64::from(self.game().turns()));
+        reply.text(b" ");
+        reply.number(0);
+    }
+
+    /// Writes who is due, and the step.
+    fn write_due(&self, reply: &mut Reply)
+        requires { reply.old ≡ [] }
+        ensures text { (roster : Terms) → IsGameOf roster self.now.accepted.items self.now.game →
+            reply_of (due_answer roster (state_of self.now)) ≡ reply.new ++ codes "\n" }
+        ensures bounded { length reply.new ≤ 40 }
+    {
+        write_due(self.game(), self.game().due(), reply);
+    }
+
+    /// Writes what an account has.
+    fn write_cash(&self, of: &Account, reply: &mut Reply) -> Result<(), Fault>
+        requires { reply.old ≡ [] }
+        ensures answer { (roster : Terms) → IsGameOf roster self.now.accepted.items self.now.game →
+            Writes (cash_answer roster of.now (state_of self.now)) result reply.new }
+        ensures bounded { length reply.new ≤ 40 }
+    {
+        let money = self.game().cash(of)?;
+        reply.text(b"= ");
+        reply.signed(money.0);
+        Ok(())
+    }
+
+    /// Writes the certificate limit.
+    fn write_limit(&self, reply: &mut Reply)
+        requires { reply.old ≡ [] }
+        ensures text { (roster : Terms) → IsGameOf roster self.now.accepted.items self.now.game →
+            reply_of (limit_answer roster (state_of self.now)) ≡ reply.new ++ codes "\n" }
+        ensures bounded { length reply.new ≤ 40 }
+    {
+        reply.text(b"= ");
+        reply.number(u64::from(self.game().limit()));
+    }
+
+    /// Writes what the cheapest private costs.
+    fn write_asked(&self, roster: &Roster, reply: &mut Reply)
+        requires { reply.old ≡ [] }
+        ensures text { IsGameOf roster.now self.now.accepted.items self.now.game →
+            reply_of (asked_answer roster.now (state_of self.now)) ≡ reply.new ++ codes "\n" }
+        ensures bounded { length reply.new ≤ 40 }
+    {
+        write_asked(self.game().asked(roster), reply);
+    }
+
+    /// Writes the privates of an owner.
+    fn write_privates(&self, of: &Owner, reply: &mut Reply) -> Result<(), Fault>
+        requires { reply.old ≡ [] }
+        ensures answer { (roster : Terms) → IsGameOf roster self.now.accepted.items self.now.game →
+            Writes (privates_answer roster of.now (state_of self.now)) result reply.new }
+        ensures bounded { length reply.new ≤ 40 }
+    {
+        let place = self.game().place(of)?;
+        write_privates(self.game(), place, reply);
+        Ok(())
+    }
+}
+
+/// Writes who is due at the game, and the step.
+fn write_due(game: &Game, due: Due, reply: &mut Reply)
+    requires { reply.old ≡ [] }
+    ensures text { reply.new ≡ answer_of (due_words game.now.players due) }
+    ensures bounded { length reply.new ≤ 40 }
+{
+    match due {
+        Due::Turn(seat) => write_step(game, seat, b"auction", reply),
+        Due::Raise(seat) => write_step(game, seat, b"raise", reply),
+        Due::Par(seat) => write_step(game, seat, b"par", reply),
+        Due::Stock(seat) => write_step(game, seat, b"stock", reply),
+    }
+}
+
+/// Writes the name of a seat's player, and what the seat is to do.
+fn write_step(game: &Game, seat: Seat, step: &[u8], reply: &mut Reply)
+    requires empty { reply.old ≡ [] }
+    requires short { length step.now ≤ 10 }
+    ensures text { reply.new ≡ answer_of (player_word game.now.players seat ∷ step.now ∷ []) }
+    ensures bounded { length reply.new ≤ 40 }
+{
+    reply.text(b"=");
+    reply.word(game.player(seat));
+    reply.word(step);
 }
 
 /// Writes what the cheapest private costs.
@@ -142,3 +283,6 @@ fn write_nothing(reply: &mut Reply)
     }
     reply.text(b" -");
 }
+
+#[cfg(test)]
+mod tests;

@@ -1,5 +1,5 @@
 ghost use Rattle.std.specs.Prelude.{◌≡◌, ◌+◌, ◌≤◌, ◌++◌, length};
-ghost use Rattle.rr_moderator.specs.Fault.{data_of, number_of, of_auction, of_code, of_keeper, of_roster, of_serve, refusal_of, words_of};
+ghost use Rattle.rr_moderator.specs.Fault.{data_of, number_of, of_auction, of_chart, of_code, of_keeper, of_roster, of_serve, refusal_of, words_of};
 ghost use Rattle.rr_moderator.specs.declared.fault.Fault.TheVariants.{OutOfMemory};
 
 use crate::reply::Reply;
@@ -15,9 +15,10 @@ pub enum Fault {
     /// The payer has less than the amount.
     #[error("too little cash")]
     TooLittleCash,
-    /// The chart's text spells no chart.
+    /// The chart's text spells no chart: its first wrong word, by its line and its place there, both from 1.
+    /// Both are 0 where no single word is wrong.
     #[error("bad chart {line} {word}")]
-    BadChart { line: u32, word: u32 },
+    BadChart { line: usize, word: usize },
     /// The roster's text isn't of a roster's shape.
     #[error("bad roster")]
     BadRoster,
@@ -33,6 +34,18 @@ pub enum Fault {
     /// Another seat is due.
     #[error("not your turn")]
     NotYourTurn,
+    /// The bid is below the least lawful one, which is given.
+    #[error("bid too low {0}")]
+    BidTooLow(u64),
+    /// The private can't be bid on now, or the corporation isn't the one that is due a par.
+    #[error("not for sale")]
+    NotForSale,
+    /// The player has the money, but has bid it on other privates.
+    #[error("cash tied up")]
+    CashTiedUp,
+    /// No corporation may begin at this price.
+    #[error("not a par")]
+    NotAPar,
     /// What is due now isn't this command.
     #[error("wrong step")]
     WrongStep,
@@ -94,6 +107,10 @@ impl Fault {
             Fault::BadManifest(_) => 6,
             Fault::BadBoard(_) => 7,
             Fault::NotYourTurn => 20,
+            Fault::BidTooLow(_) => 21,
+            Fault::NotForSale => 22,
+            Fault::CashTiedUp => 23,
+            Fault::NotAPar => 31,
             Fault::WrongStep => 42,
             Fault::StaleStamp(_) => 52,
             Fault::TooManyCommands => 54,
@@ -125,7 +142,7 @@ impl Fault {
         reply.text(b"\n");
     }
 
-    /// What follows the words: a line, a rule, a stamp or a clause.
+    /// What follows the words: a line, a rule, a stamp, a bid or a clause.
     fn write_data(&self, reply: &mut Reply)
         requires { length reply.old ≤ 50 }
         ensures text { reply.new ≡ reply.old ++ data_of self.now }
@@ -134,9 +151,9 @@ impl Fault {
         match *self {
             Fault::BadChart { line, word } => {
                 reply.text(b" ");
-                reply.number(u64::from(line));
+                reply.number(line as u64);
                 reply.text(b" ");
-                reply.number(u64::from(word));
+                reply.number(word as u64);
             }
             Fault::BadManifest(line) | Fault::BadBoard(line) => {
                 reply.text(b" ");
@@ -146,9 +163,9 @@ impl Fault {
                 reply.text(b" ");
                 reply.number(u64::from(number));
             }
-            Fault::StaleStamp(stamp) => {
+            Fault::StaleStamp(number) | Fault::BidTooLow(number) => {
                 reply.text(b" ");
-                reply.number(stamp);
+                reply.number(number);
             }
             _ => {}
         }
@@ -168,6 +185,10 @@ impl Fault {
             Fault::BadManifest(_) => "bad manifest",
             Fault::BadBoard(_) => "bad board",
             Fault::NotYourTurn => "not your turn",
+            Fault::BidTooLow(_) => "bid too low",
+            Fault::NotForSale => "not for sale",
+            Fault::CashTiedUp => "cash tied up",
+            Fault::NotAPar => "not a par",
             Fault::WrongStep => "wrong step",
             Fault::StaleStamp(_) => "stale stamp",
             Fault::TooManyCommands => "too many commands",
@@ -183,6 +204,17 @@ impl Fault {
             Fault::NoSuchTable => "no such table",
             Fault::StreamFailed => "stream failed",
             Fault::OutOfMemory => "out of memory",
+        }
+    }
+}
+
+impl From<rr_chart::Fault> for Fault {
+    ghost from_gives = { λ fault wrapped. wrapped ≡ of_chart fault };
+
+    fn from(fault: rr_chart::Fault) -> Fault {
+        match fault {
+            rr_chart::Fault::BadChart { line, word } => Fault::BadChart { line, word },
+            rr_chart::Fault::OutOfMemory => Fault::OutOfMemory,
         }
     }
 }
@@ -218,6 +250,10 @@ impl From<rr_auction::Fault> for Fault {
             rr_auction::Fault::NoSuchName => Fault::NoSuchName,
             rr_auction::Fault::TooLittleCash => Fault::TooLittleCash,
             rr_auction::Fault::NotYourTurn => Fault::NotYourTurn,
+            rr_auction::Fault::BidTooLow(least) => Fault::BidTooLow(least),
+            rr_auction::Fault::NotForSale => Fault::NotForSale,
+            rr_auction::Fault::CashTiedUp => Fault::CashTiedUp,
+            rr_auction::Fault::NotAPar => Fault::NotAPar,
             rr_auction::Fault::WrongStep => Fault::WrongStep,
             rr_auction::Fault::OutOfMemory => Fault::OutOfMemory,
         }

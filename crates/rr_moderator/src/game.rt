@@ -5,12 +5,14 @@ ghost use Rattle.rr_books.specs.Opening.{certificate_limit};
 ghost use Rattle.rr_books.specs.Shares.{is_at};
 ghost use Rattle.rr_books.specs.State.{IsStateOf, cash_of, holder_in};
 ghost use Rattle.rr_auction.specs.Progress.{IsProgressOf};
-ghost use Rattle.rr_auction.specs.Rules.{asked};
+ghost use Rattle.rr_auction.specs.Fit.{IsFit, amount_of};
+ghost use Rattle.rr_auction.specs.Rules.{asked, due, turns};
 ghost use Rattle.rr_auction.specs.Opening.{opened};
-ghost use Rattle.rr_moderator.specs.World.{MayRefuse, act_of, command_entries, command_verdict, owner_place, party_of, seat_of};
+ghost use Rattle.rr_moderator.specs.Queries.{player_word};
+ghost use Rattle.rr_moderator.specs.World.{MayJudge, act_of, amount_in, command_entries, command_verdict, owner_place, party_of, seat_of};
 
 use crate::fault::Fault;
-use rr_auction::{Auction, open_table};
+use rr_auction::{Auction, Due, open_table};
 use rr_books::{Act, Books, Cert, Money, Party, Place, Private, Seat};
 use rr_code::{Account, Command, Owner, Players};
 use rr_desk::Desk;
@@ -24,13 +26,14 @@ pub(crate) struct Game {
     players: Players,
     books: Books,
     auction: Auction,
-    ghost seated: { auction.turn.0 < books.players },
+    ghost fit: { IsFit books auction },
 }
 
 impl Game {
     /// The game of a table that opens with these players.
     pub(crate) fn open(players: Players, roster: &Roster) -> Game
         ensures payments { result.books.payments ≤ 6 }
+        ensures commands { result.auction.commands ≡ 0 }
         ensures players { result.players ≡ players }
         ensures books { IsStateOf (opened players roster.now) result.books }
         ensures auction { IsProgressOf (opened players roster.now) result.auction }
@@ -51,12 +54,15 @@ impl Game {
         command: &Command,
         roster: &Roster,
     ) -> Result<Game, Fault>
-        requires { self.now.books.payments < 400000000 }
-        ensures payments { IfOk result (λ game. game.books.payments ≤ self.now.books.payments + 1) }
+        requires room { self.now.books.payments + 16 ≤ 400000000 }
+        requires commands { self.now.auction.commands < 400000000 }
+        requires small { amount_in command.now ≤ 10000000000 }
+        ensures payments { IfOk result (λ game. game.books.payments ≤ self.now.books.payments + 16) }
+        ensures commands { IfOk result (λ game. game.auction.commands ≤ self.now.auction.commands + 1) }
         ensures players { IfOk result (λ game. game.players ≡ self.now.players) }
         ensures verdict { (book : Book) → IsStateOf book self.now.books → IsProgressOf book self.now.auction → MatchResult result
             (λ _. command_verdict roster.now self.now.players book command.now ≡ None)
-            (λ fault. MayRefuse (command_verdict roster.now self.now.players book command.now) fault) }
+            (λ fault. MayJudge (command_verdict roster.now self.now.players book command.now) fault) }
         ensures books { IfOk result (λ game. (book : Book) → IsStateOf book self.now.books → IsProgressOf book self.now.auction →
             IsStateOf (book ++ command_entries roster.now self.now.players book command.now) game.books) }
         ensures auction { IfOk result (λ game. (book : Book) → IsStateOf book self.now.books → IsProgressOf book self.now.auction →
@@ -77,13 +83,34 @@ impl Game {
     /// The command with seats in place of names.
     fn act(&self, command: &Command) -> Result<Act, Fault>
         ensures { MatchResult result
-            (λ act. act_of self.now.players command.now ≡ Some act)
+            (λ act. (act_of self.now.players command.now ≡ Some act) × (amount_of act ≡ amount_in command.now))
             (λ fault. (act_of self.now.players command.now ≡ None) × ((roster : Terms) (book : Book) → command_verdict roster self.now.players book command.now ≡ Some fault)) }
     {
         match command {
             Command::Open { .. } => Err(Fault::WrongStep),
             Command::BuyPrivate { player } => Ok(Act::BuyPrivate {
                 seat: self.seat(player)?,
+            }),
+            Command::Bid {
+                player,
+                private,
+                amount,
+            } => Ok(Act::Bid {
+                seat: self.seat(player)?,
+                private: *private,
+                amount: *amount,
+            }),
+            Command::Pass { player } => Ok(Act::Pass {
+                seat: self.seat(player)?,
+            }),
+            Command::Par {
+                player,
+                corp,
+                price,
+            } => Ok(Act::Par {
+                seat: self.seat(player)?,
+                corp: *corp,
+                price: *price,
             }),
         }
     }
@@ -140,9 +167,34 @@ impl Game {
         rr_books::certificate_limit(self.books.players())
     }
 
+    /// What the auction waits for.
+    pub(crate) fn due(&self) -> Due
+        ensures { (book : Book) → IsStateOf book self.now.books → IsProgressOf book self.now.auction → result ≡ due book }
+    {
+        self.auction.due(&self.books)
+    }
+
+    /// How many turns have ended.
+    pub(crate) fn turns(&self) -> u32
+        ensures { (book : Book) → IsProgressOf book self.now.auction → result ≡ turns book }
+    {
+        self.auction.turns()
+    }
+
+    /// The name of the seat's player.
+    pub(crate) fn player(&self, seat: Seat) -> &[u8]
+        ensures name { result.now ≡ player_word self.now.players seat }
+        ensures short { length result.now ≤ 16 }
+    {
+        match self.players.as_slice().get(usize::from(seat.0)) {
+            Some(name) => name.as_bytes(),
+            None => b"",
+        }
+    }
+
     /// The cheapest private that isn't sold, and its price.
     pub(crate) fn asked(&self, roster: &Roster) -> Option<(Private, Money)>
-        ensures { (book : Book) → IsStateOf book self.now.books → result ≡ asked roster.now book }
+        ensures { (book : Book) → IsStateOf book self.now.books → IsProgressOf book self.now.auction → result ≡ asked roster.now book }
     {
         self.auction.asked(&self.books, roster)
     }

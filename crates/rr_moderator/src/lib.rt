@@ -4,13 +4,19 @@
 mod answering;
 mod fault;
 mod game;
+pub mod laws;
 mod moderator;
 mod opening;
 mod reply;
 mod tables;
+#[cfg(test)]
+mod tests;
 
 pub use fault::Fault;
 pub use moderator::{Moderator, Refused};
 pub use opening::format;
 pub use reply::Reply;
 pub use rr_keeper::Texts;
+
+#[cfg(test)]
+mod auction_tests;

@@ -1,10 +1,19 @@
-ghost use Rattle.std.specs.Prelude.{◌≡◌, ◌<◌, ◌≤◌, ℕ, List, None, Some, false, Err, OnErr, MatchResult, bytes_eq, length, option_map};
-ghost use Rattle.indexmap.specs.IndexMap.{get, index_map_len};
-ghost use Rattle.rr_code.specs.declared.line.Line.{Line};
-ghost use Rattle.rr_code.specs.Line.{SpellsLine};
-ghost use Rattle.rr_moderator.specs.Answer.{accepted_text};
-ghost use Rattle.rr_moderator.specs.Refusing.{RefusesBadLine};
-ghost use Rattle.rr_moderator.specs.World.{MayRefuse, state_after, table_of, world_verdict};
+ghost use Rattle.std.specs.Prelude.{◌≡◌, ◌<◌, ◌≤◌, ℕ, List, Result, false, length, ◌∷◌, OnOk, OnErr, IfOk, IfErr};
+ghost use Rattle.std.specs.Borrow.{sem};
+ghost use Rattle.std.specs.Io.BufRead.{Rests};
+ghost use Rattle.std.specs.Io.KnownBytes.{Appends};
+ghost use Rattle.rr_disk.specs.Disk.{after_sync};
+ghost use Rattle.rr_keeper.specs.Keeper.{disk_of, is_broken};
+ghost use Rattle.rr_keeper.specs.Opening.{SyncsOnce};
+ghost use Rattle.rr_serve.specs.declared.faults.Fault as serve;
+ghost use Rattle.rr_serve.specs.Answering.{AppendsFront};
+ghost use Rattle.rr_serve.specs.Lines.{taken};
+ghost use Rattle.rr_serve.specs.Serving.{AnswersAll, Session};
+ghost use Rattle.rr_moderator.specs.Holding.{disk_under, held_by, held_of, last_reply, spoken_of};
+ghost use Rattle.rr_moderator.specs.Replaying.{CountsFailure, Opens, RefusesOpening, RefusesReplay, Replayed, records_of};
+ghost use Rattle.rr_moderator.specs.Serving.{Answers, EndsAs, Responds, Speaks, Takes, outcome_of, said};
+ghost use Rattle.rr_moderator.specs.World.{amount_in};
+ghost use Rattle.rr_moderator.specs.contracts.moderator.Moderator.{the_row};
 
 use crate::fault::Fault;
 use crate::opening::replay;
@@ -47,7 +56,29 @@ impl<D: Disk + Drop> Moderator<D> {
     /// # Errors
     /// `DeviceFailed`; `NotAStore` where the file isn't of the form that `format` gives it; `Damaged` where a record
     /// isn't a command that its table could take; `OutOfMemory`.
-    pub fn open(alloc: Global, disk: D) -> Result<Moderator<D>, Refused<D>> {
+    pub fn open(alloc: Global, disk: D) -> Result<Moderator<D>, Refused<D>>
+        // What the moderator holds is what the kit and the records of the file make.
+        ensures opened { IfOk result (λ moderator. D.Honest (disk_under moderator)
+            → Opens (D.state disk).content (held_of moderator)) }
+        ensures refused { IfErr result (λ refused.
+            RefusesOpening (D.Honest refused.disk) (D.state disk).content refused.fault) }
+
+        // It syncs, and writes nothing.
+        ensures synced { IfOk result (λ moderator. D.Honest (disk_under moderator)
+            → (D.state (disk_under moderator) ≡ after_sync (D.state disk))
+            × (D.past (disk_under moderator) ≡ D.state disk ∷ D.past disk)) }
+        ensures left { IfErr result (λ refused. D.Honest refused.disk
+            → SyncsOnce (D.past disk) (D.state disk) (D.past refused.disk) (D.state refused.disk)) }
+        ensures honest { IfOk result (λ moderator. D.Honest (disk_under moderator) → D.Honest disk) }
+        ensures honest_left { IfErr result (λ refused. D.Honest refused.disk → D.Honest disk) }
+        ensures writes { IfOk result (λ moderator.
+            D.write_count (disk_under moderator) ≡ D.write_count disk) }
+        ensures writes_left { IfErr result (λ refused. D.write_count refused.disk ≡ D.write_count disk) }
+        ensures no_fault { IfOk result (λ moderator.
+            D.fault_count (disk_under moderator) ≡ D.fault_count disk) }
+        ensures fault { IfErr result (λ refused.
+            CountsFailure (D.fault_count disk) (D.fault_count refused.disk) refused.fault) }
+    {
         let (reply, buffer) = match make_buffers(alloc) {
             Ok(buffers) => buffers,
             Err(fault) => return Err(Refused { fault, disk }),
@@ -69,13 +100,25 @@ impl<D: Disk + Drop> Moderator<D> {
         opened: Opened<D>,
         reply: Reply,
         buffer: LineBuffer,
-    ) -> Result<Moderator<D>, Refused<D>> {
+    ) -> Result<Moderator<D>, Refused<D>>
+        ensures ok { IfOk result (λ moderator. (disk_under moderator ≡ disk_of opened.keeper)
+            × ((held_of moderator).broken ≡ is_broken opened.keeper)
+            × Replayed opened.texts.chart.items opened.texts.roster.items (records_of opened.lines.items)
+            (held_of moderator).roster (held_of moderator).tables) }
+        ensures err { IfErr result (λ refused. (refused.disk ≡ disk_of opened.keeper)
+            × RefusesReplay opened.texts.chart.items opened.texts.roster.items (records_of opened.lines.items) refused.fault) }
+    {
         let Opened {
             keeper,
             texts,
             lines,
         } = opened;
-        match replay(alloc, texts.roster.as_slice(), lines.as_slice()) {
+        match replay(
+            alloc,
+            texts.chart.as_slice(),
+            texts.roster.as_slice(),
+            lines.as_slice(),
+        ) {
             Ok(tables) => Ok(Moderator {
                 state: State {
                     alloc,
@@ -93,7 +136,9 @@ impl<D: Disk + Drop> Moderator<D> {
     }
 
     /// The disk on which the file stands.
-    pub fn into_disk(self) -> D {
+    pub fn into_disk(self) -> D
+        ensures { result ≡ disk_under self }
+    {
         let Moderator { state, buffer: _ } = self;
         let State {
             alloc: _,
@@ -105,7 +150,10 @@ impl<D: Disk + Drop> Moderator<D> {
     }
 
     /// Answers a line, given without its line feed, by the bytes of its reply.
-    pub fn answer(&mut self, line: &[u8]) -> &[u8] {
+    pub fn answer(&mut self, line: &[u8]) -> &[u8]
+        ensures* { sem 𝓛 (Rests (the_row D.row) self.entry (λ new.
+            Answers (held_of self.old) line.now (held_of new) result.now)) }
+    {
         self.state.take(line);
         self.state.reply()
     }
@@ -114,7 +162,12 @@ impl<D: Disk + Drop> Moderator<D> {
     ///
     /// # Errors
     /// `StreamFailed` where the writer fails. A command that was accepted stays accepted.
-    pub fn line<W: Write>(&mut self, line: &[u8], writer: &mut W) -> Result<(), Fault> {
+    pub fn line<W: Write>(&mut self, line: &[u8], writer: &mut W) -> Result<(), Fault>
+        ensures answers { Answers (held_of self.old) (taken line.now) (held_of self.new) (last_reply self.new) }
+        ensures ok { OnOk result (Appends (W.contents writer.old) (W.contents writer.new) (last_reply self.new)) }
+        ensures err { OnErr result (AppendsFront (W.contents writer.old) (W.contents writer.new) (last_reply self.new)) }
+        ensures fault { IfErr result (λ fault. fault ≡ Fault.StreamFailed) }
+    {
         rr_serve::line(&mut self.state, line, writer)?;
         Ok(())
     }
@@ -124,25 +177,34 @@ impl<D: Disk + Drop> Moderator<D> {
     ///
     /// # Errors
     /// `DeviceFailed` behind a reply `no 60 device failed`, `StreamFailed` where the reader or the writer fails.
-    pub fn serve<R: Read, W: Write>(
-        &mut self,
-        reader: &mut R,
-        writer: &mut W,
-    ) -> Result<(), Fault> {
+    pub fn serve<R: Read, W: Write>(&mut self, reader: &mut R, writer: &mut W) -> Result<(), Fault>
+        // At `Ok` all is read, and what is written is the replies to all lines and to a rest.
+        ensures whole { OnOk result (AnswersAll Speaks said (spoken_of self.old) (spoken_of self.new)
+            (R.remaining reader.old) (W.contents writer.old) (W.contents writer.new)) }
+
+        // However it ends, the lines that were read are answered, and what is written is their replies as far as it got.
+        ensures session { (cause : Result (Unit {0}) serve.Fault) × EndsAs result cause
+            × Session Speaks said (spoken_of self.old) (spoken_of self.new) (R.remaining reader.old) (R.remaining reader.new)
+            (W.contents writer.old) (W.contents writer.new) cause }
+    {
         rr_serve::serve(&mut self.state, reader, writer, &mut self.buffer)?;
         Ok(())
     }
 }
 
-fn make_buffers(alloc: Global) -> Result<(Reply, LineBuffer), Fault> {
+fn make_buffers(alloc: Global) -> Result<(Reply, LineBuffer), Fault>
+    ensures { IfErr result (λ fault. fault ≡ Fault.OutOfMemory) }
+{
     let reply = Reply::new(alloc)?;
     let buffer = LineBuffer::new(alloc)?;
     Ok((reply, buffer))
 }
 
 impl<D: Disk + Drop> Machine for State<D> {
-    // A line that is too long, or of no form, is refused with these words, and changes no table.
-    ghost Answers = { λ old line new. RefusesBadLine line new.reply (new.tables.map.entries ≡ old.tables.map.entries) };
+    ghost use Rattle.rr_moderator.specs.Holding.{held_by};
+    ghost use Rattle.rr_moderator.specs.Serving.{Answers};
+
+    ghost Answers = { λ old line new. Answers (held_by old.keeper old.tables) line (held_by new.keeper new.tables) new.reply };
 
     ghost reply_of = { λ state. state.reply };
 
@@ -160,10 +222,7 @@ impl<D: Disk + Drop> Machine for State<D> {
 impl<D: Disk + Drop> State<D> {
     /// Makes the reply to a line, unless it is refused.
     fn respond(&mut self, line: &[u8]) -> Result<(), Fault>
-        ensures long { 8000 < length line.now → result ≡ Err Fault.LineTooLong }
-        ensures malformed { length line.now ≤ 8000 → ((l : Line) → SpellsLine line.now l → ⊥) → result ≡ Err Fault.MalformedLine }
-        ensures roster { self.new.tables.roster ≡ self.old.tables.roster }
-        ensures err { OnErr result (self.new.tables.map.entries ≡ self.old.tables.map.entries) }
+        ensures { Responds (held_by self.old.keeper self.old.tables) line.now (held_by self.new.keeper self.new.tables) (outcome_of result self.new.reply) }
     {
         if line.len() > LONGEST_LINE {
             return Err(Fault::LineTooLong);
@@ -188,19 +247,16 @@ impl<D: Disk + Drop> State<D> {
         stamp: u64,
         table: &Name,
         command: &Command,
-        record: &[u8],
+        bytes: &[u8],
     ) -> Result<(), Fault>
-        requires { 0 < length record.now }
-        ensures verdict { MatchResult result
-            (λ _. (world_verdict self.old.tables.roster (option_map (λ t. table_of t.accepted.items t.stamp) (get bytes_eq self.old.tables.map table.now)) (index_map_len self.old.tables.map) stamp command.now ≡ None)
-            × ((option_map (λ t. table_of t.accepted.items t.stamp) (get bytes_eq self.new.tables.map table.now)) ≡ Some (state_after (option_map (λ t. table_of t.accepted.items t.stamp) (get bytes_eq self.old.tables.map table.now)) command.now))
-            × (self.new.reply ≡ accepted_text table.now (state_after (option_map (λ t. table_of t.accepted.items t.stamp) (get bytes_eq self.old.tables.map table.now)) command.now).stamp))
-            (λ fault. MayRefuse (world_verdict self.old.tables.roster (option_map (λ t. table_of t.accepted.items t.stamp) (get bytes_eq self.old.tables.map table.now)) (index_map_len self.old.tables.map) stamp command.now) fault) }
-        ensures others { (other : List ℕ) → bytes_eq table.now other ≡ false → get bytes_eq self.new.tables.map other ≡ get bytes_eq self.old.tables.map other }
-        ensures roster { self.new.tables.roster ≡ self.old.tables.roster }
-        ensures err { OnErr result (self.new.tables.map.entries ≡ self.old.tables.map.entries) }
+        requires some { 0 < length bytes.now }
+        requires small { amount_in command.now ≤ 10000000000 }
+        requires whole { is_broken self.old.keeper ≡ false }
+        ensures { Takes (held_by self.old.keeper self.old.tables) stamp table.now command.now (held_by self.new.keeper self.new.tables) (outcome_of result self.new.reply) }
     {
-        let stamp = self.tables.take(self.alloc, stamp, table, command, record, &mut self.keeper)?;
+        let stamp = self
+            .tables
+            .take(self.alloc, stamp, table, command, bytes, &mut self.keeper)?;
         self.reply.accept(table, stamp);
         Ok(())
     }

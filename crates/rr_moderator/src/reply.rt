@@ -1,4 +1,4 @@
-ghost use Rattle.std.specs.Prelude.{◌≡◌, ◌+◌, ◌≤◌, [], ◌++◌, length, decimal, IfOk};
+ghost use Rattle.std.specs.Prelude.{◌≡◌, ◌+◌, ◌≤◌, [], ◌++◌, codes, length, decimal, IfOk};
 ghost use Rattle.std.specs.Fmt.{signed_decimal};
 
 use itoa::Buffer;
@@ -38,12 +38,14 @@ impl Reply {
         self.bytes.as_slice()
     }
 
+    /// Drops the bytes, and keeps the room.
     pub fn clear(&mut self)
         ensures { self.new ≡ [] }
     {
         self.bytes.clear();
     }
 
+    /// Writes bytes behind the others.
     pub fn text(&mut self, text: &[u8])
         requires { length self.old + length text.now ≤ 4096 }
         ensures text { self.new ≡ self.old ++ text.now }
@@ -52,6 +54,17 @@ impl Reply {
         self.bytes.extend_from_slice(text).unwrap();
     }
 
+    /// A word behind a space.
+    pub(crate) fn word(&mut self, word: &[u8])
+        requires { length self.old + length word.now + 1 ≤ 4096 }
+        ensures text { self.new ≡ self.old ++ (codes " " ++ word.now) }
+        ensures len { length self.new ≡ length self.old + length word.now + 1 }
+    {
+        self.text(b" ");
+        self.text(word);
+    }
+
+    /// Writes a number, in decimal digits.
     pub fn number(&mut self, number: u64)
         requires { length self.old + 20 ≤ 4096 }
         ensures digits { self.new ≡ self.old ++ decimal number }
@@ -61,6 +74,7 @@ impl Reply {
         self.text(buffer.format(number).as_bytes());
     }
 
+    /// Writes a number in decimal digits, behind a minus sign if it is less than 0.
     pub fn signed(&mut self, number: i64)
         requires { length self.old + 20 ≤ 4096 }
         ensures digits { self.new ≡ self.old ++ signed_decimal number }

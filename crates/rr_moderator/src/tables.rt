@@ -1,13 +1,14 @@
-ghost use Rattle.std.specs.Prelude.{◌≡◌, ◌+◌, ◌<◌, ◌≤◌, false, true, length, vec_capacity, vec_len, List, ℕ, IfSome, None, Some, [], ◌∷◌, ◌++◌, IfOk, IfErr, OnOk, OnErr, MatchResult, bytes_eq, option_map};
+ghost use Rattle.std.specs.Prelude.{◌≡◌, ◌+◌, ◌*◌, ◌<◌, ◌≤◌, false, true, length, vec_capacity, vec_len, List, ℕ, IfSome, None, Some, [], ◌∷◌, ◌++◌, IfOk, IfErr, OnOk, OnErr, MatchResult, bytes_eq, option_map, slice_get};
+ghost use Rattle.std.specs.Option.{option_copied};
 ghost use Rattle.std.proofs.Props.{props};
-ghost use Rattle.indexmap.specs.IndexMap.{get, index_map_len, spare};
+ghost use Rattle.indexmap.specs.IndexMap.{get, index_map_len, keys, spare};
 ghost use Rattle.rr_moderator.specs.Keeping.{IsGameOf};
-ghost use Rattle.rr_moderator.specs.World.{MayRefuse, is_full, is_outside, opening_verdict, state_after, step_verdict, table_of, table_verdict, world_verdict, with_command};
+ghost use Rattle.rr_moderator.specs.World.{IsKeptOut, MayJudge, MayRefuse, amount_in, is_full, opening_verdict, state_after, step_verdict, table_of, table_verdict, with_command};
 
 use crate::fault::Fault;
 use crate::game::Game;
 use indexmap::IndexMap;
-use rr_code::Command;
+use rr_code::{Command, Players};
 use rr_disk::Disk;
 use rr_keeper::Keeper;
 use rr_roster::Roster;
@@ -31,16 +32,26 @@ pub(crate) struct Table {
     stamp: u64,
     ghost room: { 4096 ≤ vec_capacity accepted },
     ghost last: { stamp ≤ 4000000000 },
-    ghost payments: { game.books.payments ≤ vec_len accepted + 6 },
+    ghost payments: { game.books.payments ≤ 16 * vec_len accepted + 6 },
+    ghost commands: { game.auction.commands ≤ vec_len accepted },
     ghost kept: { vec_len accepted ≤ 4096 },
 }
 
 /// Where the record of a command goes before the command counts.
 pub(crate) trait Journal {
+    ghost use Rattle.std.specs.Prelude.{Bool};
+
+    // There may be no room for a record.
+    ghost may_fill: { Bool };
+
+    // The device has failed, and nothing is kept any more.
+    ghost broken: { Self → Bool };
+
     /// Keeps the record. After `Ok` it is safe.
-    fn keep(&mut self, record: &[u8]) -> Result<(), Fault>
-        requires { 0 < length record.now }
-        ensures { IfErr result (λ fault. is_outside fault ≡ true) };
+    fn keep(&mut self, bytes: &[u8]) -> Result<(), Fault>
+        requires { 0 < length bytes.now }
+        ensures ok { OnOk result (broken self.new ≡ false) }
+        ensures err { IfErr result (λ fault. IsKeptOut may_fill (broken self.old) fault (broken self.new)) };
 }
 
 /// Records that stand in the file already.
@@ -48,14 +59,24 @@ pub(crate) trait Journal {
 pub(crate) struct Standing;
 
 impl Journal for Standing {
-    fn keep(&mut self, _record: &[u8]) -> Result<(), Fault> {
+    ghost may_fill = { false };
+
+    ghost broken = { λ _. false };
+
+    fn keep(&mut self, _bytes: &[u8]) -> Result<(), Fault> {
         Ok(())
     }
 }
 
 impl<D: Disk + Drop> Journal for Keeper<D> {
-    fn keep(&mut self, record: &[u8]) -> Result<(), Fault> {
-        self.append(record)?;
+    ghost use Rattle.rr_keeper.specs.Keeper.{is_broken};
+
+    ghost may_fill = { true };
+
+    ghost broken = { λ keeper. is_broken keeper };
+
+    fn keep(&mut self, bytes: &[u8]) -> Result<(), Fault> {
+        self.append(bytes)?;
         Ok(())
     }
 }
@@ -66,12 +87,14 @@ pub(crate) struct Tables {
     roster: Roster,
     map: IndexMap<Name, Table>,
     ghost room: { 64 ≤ index_map_len map + spare map },
+    ghost few: { index_map_len map ≤ 64 },
     ghost played: { (name : List ℕ) → IfSome (get bytes_eq map name) (λ table. IsGameOf roster table.accepted.items table.game) } by { Prim.hlevel props },
 }
 
 impl Table {
     fn open(alloc: Global, command: Command, game: Game) -> Result<Table, Fault>
-        requires { game.books.payments ≤ 6 }
+        requires payments { game.books.payments ≤ 6 }
+        requires commands { game.auction.commands ≡ 0 }
         ensures accepted { IfOk result (λ table. table.accepted.items ≡ command ∷ []) }
         ensures stamp { IfOk result (λ table. table.stamp ≡ 1) }
         ensures game { IfOk result (λ table. table.game ≡ game) }
@@ -105,20 +128,22 @@ impl Table {
         stamp: u64,
         command: &Command,
         roster: &Roster,
-        record: &[u8],
+        bytes: &[u8],
         journal: &mut J,
     ) -> Result<u64, Fault>
-        requires { 0 < length record.now }
+        requires bytes { 0 < length bytes.now }
+        requires small { amount_in command.now ≤ 10000000000 }
         ensures verdict { IsGameOf roster.now self.old.accepted.items self.old.game → MatchResult result
             (λ _. table_verdict roster.now (table_of self.old.accepted.items self.old.stamp) stamp command.now ≡ None)
-            (λ fault. MayRefuse (table_verdict roster.now (table_of self.old.accepted.items self.old.stamp) stamp command.now) fault) }
+            (λ fault. MayRefuse (table_verdict roster.now (table_of self.old.accepted.items self.old.stamp) stamp command.now) J.may_fill (J.broken journal.old) fault (J.broken journal.new)) }
         ensures accepted { OnOk result (table_of self.new.accepted.items self.new.stamp ≡ with_command (table_of self.old.accepted.items self.old.stamp) command.now) }
         ensures stamp { IfOk result (λ stamp. stamp ≡ self.new.stamp) }
         ensures played { OnOk result (IsGameOf roster.now self.old.accepted.items self.old.game → IsGameOf roster.now self.new.accepted.items self.new.game) }
+        ensures whole { OnOk result (J.broken journal.new ≡ false) }
         ensures err { OnErr result (self.new ≡ self.old) }
     {
         let game = self.judge(alloc, stamp, command, roster)?;
-        journal.keep(record)?;
+        journal.keep(bytes)?;
         self.add(*command, game);
         Ok(self.stamp)
     }
@@ -131,14 +156,16 @@ impl Table {
         command: &Command,
         roster: &Roster,
     ) -> Result<Game, Fault>
+        requires { amount_in command.now ≤ 10000000000 }
         ensures verdict { IsGameOf roster.now self.now.accepted.items self.now.game → MatchResult result
             (λ _. table_verdict roster.now (table_of self.now.accepted.items self.now.stamp) stamp command.now ≡ None)
-            (λ fault. MayRefuse (table_verdict roster.now (table_of self.now.accepted.items self.now.stamp) stamp command.now) fault) }
+            (λ fault. MayJudge (table_verdict roster.now (table_of self.now.accepted.items self.now.stamp) stamp command.now) fault) }
         ensures played { IsGameOf roster.now self.now.accepted.items self.now.game →
             IfOk result (IsGameOf roster.now (self.now.accepted.items ++ command.now ∷ [])) }
         ensures room { OnOk result (vec_len self.now.accepted < 4096) }
         ensures stamp { OnOk result (self.now.stamp < 4000000000) }
-        ensures payments { IfOk result (λ game. game.books.payments ≤ vec_len self.now.accepted + 7) }
+        ensures payments { IfOk result (λ game. game.books.payments ≤ 16 * vec_len self.now.accepted + 22) }
+        ensures commands { IfOk result (λ game. game.auction.commands ≤ vec_len self.now.accepted + 1) }
     {
         if self.stamp != stamp {
             return Err(Fault::StaleStamp(self.stamp));
@@ -153,7 +180,8 @@ impl Table {
     fn add(&mut self, command: Command, game: Game)
         requires room { vec_len self.old.accepted < 4096 }
         requires stamp { self.old.stamp < 4000000000 }
-        requires payments { game.books.payments ≤ vec_len self.old.accepted + 7 }
+        requires payments { game.books.payments ≤ 16 * vec_len self.old.accepted + 22 }
+        requires commands { game.auction.commands ≤ vec_len self.old.accepted + 1 }
         ensures state { table_of self.new.accepted.items self.new.stamp ≡ with_command (table_of self.old.accepted.items self.old.stamp) command }
         ensures game { self.new.game ≡ game }
     {
@@ -172,20 +200,31 @@ impl Table {
 }
 
 impl Tables {
+    ghost use Rattle.rr_moderator.specs.Holding.{state_of, world_of};
+    ghost use Rattle.rr_moderator.specs.World.{present_stamp, table_named, verdict_in, world_after};
+
     /// No table, with room for as many as there may be.
-    pub(crate) fn new(alloc: Global, roster: Roster) -> Result<Tables, Fault> {
+    pub(crate) fn new(alloc: Global, roster: Roster) -> Result<Tables, Fault>
+        ensures roster { IfOk result (λ tables. tables.roster ≡ roster) }
+        ensures empty { IfOk result (λ tables. tables.map.entries ≡ []) }
+        ensures memory { IfErr result (λ fault. fault ≡ Fault.OutOfMemory) }
+    {
         Ok(Tables {
             roster,
             map: IndexMap::with_capacity(alloc, MOST_TABLES)?,
         })
     }
 
-    pub(crate) fn roster(&self) -> &Roster {
+    pub(crate) fn roster(&self) -> &Roster
+        ensures { result.now ≡ self.now.roster }
+    {
         &self.roster
     }
 
-    /// The names of the tables, in the order of opening.
-    pub(crate) fn name(&self, place: usize) -> Option<&Name> {
+    /// The name of the table at a place in the order of opening.
+    pub(crate) fn name(&self, place: usize) -> Option<&Name>
+        ensures { option_copied result ≡ slice_get (keys self.now.map) place }
+    {
         match self.map.get_index(place) {
             Some((name, _)) => Some(name),
             None => None,
@@ -206,7 +245,9 @@ impl Tables {
     }
 
     /// The stamp of the table of this name, 0 without one.
-    pub(crate) fn stamp(&self, name: &Name) -> u64 {
+    pub(crate) fn stamp(&self, name: &Name) -> u64
+        ensures { result ≡ present_stamp (option_map state_of (get bytes_eq self.now.map name.now)) }
+    {
         match self.map.get(name) {
             Some(table) => table.stamp,
             None => 0,
@@ -221,30 +262,53 @@ impl Tables {
         stamp: u64,
         name: &Name,
         command: &Command,
-        record: &[u8],
+        bytes: &[u8],
         journal: &mut J,
     ) -> Result<u64, Fault>
-        requires { 0 < length record.now }
+        requires bytes { 0 < length bytes.now }
+        requires small { amount_in command.now ≤ 10000000000 }
         ensures verdict { MatchResult result
-            (λ _. world_verdict self.old.roster (option_map (λ table. table_of table.accepted.items table.stamp) (get bytes_eq self.old.map name.now)) (index_map_len self.old.map) stamp command.now ≡ None)
-            (λ fault. MayRefuse (world_verdict self.old.roster (option_map (λ table. table_of table.accepted.items table.stamp) (get bytes_eq self.old.map name.now)) (index_map_len self.old.map) stamp command.now) fault) }
-        ensures state { IfOk result (λ new. option_map (λ table. table_of table.accepted.items table.stamp) (get bytes_eq self.new.map name.now) ≡ Some (state_after (option_map (λ table. table_of table.accepted.items table.stamp) (get bytes_eq self.old.map name.now)) command.now)) }
-        ensures stamp { IfOk result (λ new. new ≡ (state_after (option_map (λ table. table_of table.accepted.items table.stamp) (get bytes_eq self.old.map name.now)) command.now).stamp) }
-        ensures others { (other : List ℕ) → bytes_eq name.now other ≡ false → get bytes_eq self.new.map other ≡ get bytes_eq self.old.map other }
+            (λ _. verdict_in self.old.roster (world_of self.old.map.entries) stamp name.now command.now ≡ None)
+            (λ fault. MayRefuse (verdict_in self.old.roster (world_of self.old.map.entries) stamp name.now command.now) J.may_fill (J.broken journal.old) fault (J.broken journal.new)) }
+        ensures world { OnOk result (world_of self.new.map.entries ≡ world_after (world_of self.old.map.entries) name.now command.now) }
+        ensures stamp { IfOk result (λ new. new ≡ (state_after (table_named (world_of self.old.map.entries) name.now) command.now).stamp) }
+        ensures whole { OnOk result (J.broken journal.new ≡ false) }
         ensures roster { self.new.roster ≡ self.old.roster }
         ensures err { OnErr result (self.new.map.entries ≡ self.old.map.entries) }
     {
         match command {
-            Command::Open { players } => {
-                self.judge_opening(stamp, name)?;
-                let game = Game::open(*players, &self.roster);
-                let table = Table::open(alloc, *command, game)?;
-                journal.keep(record)?;
-                self.add(*name, table);
-                Ok(1)
-            }
-            _ => self.step(alloc, stamp, name, command, record, journal),
+            Command::Open { players } => self.open(alloc, stamp, name, players, bytes, journal),
+            _ => self.step(alloc, stamp, name, command, bytes, journal),
         }
+    }
+
+    /// Opens a table: judges the command, has its record kept, and adds the table.
+    fn open<J: Journal>(
+        &mut self,
+        alloc: Global,
+        stamp: u64,
+        name: &Name,
+        players: &Players,
+        bytes: &[u8],
+        journal: &mut J,
+    ) -> Result<u64, Fault>
+        requires { 0 < length bytes.now }
+        ensures verdict { MatchResult result
+            (λ _. opening_verdict (option_map state_of (get bytes_eq self.old.map name.now)) (index_map_len self.old.map) stamp ≡ None)
+            (λ fault. MayRefuse (opening_verdict (option_map state_of (get bytes_eq self.old.map name.now)) (index_map_len self.old.map) stamp) J.may_fill (J.broken journal.old) fault (J.broken journal.new)) }
+        ensures world { OnOk result (world_of self.new.map.entries ≡ world_after (world_of self.old.map.entries) name.now (Command.Open players.now)) }
+        ensures stamp { IfOk result (λ new. (new ≡ 1) × (get bytes_eq self.old.map name.now ≡ None)) }
+        ensures whole { OnOk result (J.broken journal.new ≡ false) }
+        ensures roster { self.new.roster ≡ self.old.roster }
+        ensures err { OnErr result (self.new.map.entries ≡ self.old.map.entries) }
+    {
+        self.judge_opening(stamp, name)?;
+        let command = Command::Open { players: *players };
+        let game = Game::open(*players, &self.roster);
+        let table = Table::open(alloc, command, game)?;
+        journal.keep(bytes)?;
+        self.add(*name, table);
+        Ok(1)
     }
 
     /// A new table.
@@ -252,8 +316,6 @@ impl Tables {
         requires few { index_map_len self.old.map < 64 }
         requires absent { get bytes_eq self.old.map name ≡ None }
         requires played { IsGameOf self.old.roster table.accepted.items table.game }
-        ensures added { get bytes_eq self.new.map name ≡ Some table }
-        ensures others { (other : List ℕ) → bytes_eq name other ≡ false → get bytes_eq self.new.map other ≡ get bytes_eq self.old.map other }
         ensures last { self.new.map.entries ≡ self.old.map.entries ++ (name, table) ∷ [] }
         ensures roster { self.new.roster ≡ self.old.roster }
     {
@@ -279,27 +341,29 @@ impl Tables {
         Ok(())
     }
 
+    /// Lets the table of this name take a command.
     fn step<J: Journal>(
         &mut self,
         alloc: Global,
         stamp: u64,
         name: &Name,
         command: &Command,
-        record: &[u8],
+        bytes: &[u8],
         journal: &mut J,
     ) -> Result<u64, Fault>
-        requires { 0 < length record.now }
+        requires bytes { 0 < length bytes.now }
+        requires small { amount_in command.now ≤ 10000000000 }
         ensures verdict { MatchResult result
-            (λ _. step_verdict self.old.roster (option_map (λ table. table_of table.accepted.items table.stamp) (get bytes_eq self.old.map name.now)) stamp command.now ≡ None)
-            (λ fault. MayRefuse (step_verdict self.old.roster (option_map (λ table. table_of table.accepted.items table.stamp) (get bytes_eq self.old.map name.now)) stamp command.now) fault) }
-        ensures state { IfOk result (λ new. option_map (λ table. table_of table.accepted.items table.stamp) (get bytes_eq self.new.map name.now) ≡ Some (state_after (option_map (λ table. table_of table.accepted.items table.stamp) (get bytes_eq self.old.map name.now)) command.now)) }
-        ensures stamp { IfOk result (λ new. new ≡ (state_after (option_map (λ table. table_of table.accepted.items table.stamp) (get bytes_eq self.old.map name.now)) command.now).stamp) }
-        ensures others { (other : List ℕ) → bytes_eq name.now other ≡ false → get bytes_eq self.new.map other ≡ get bytes_eq self.old.map other }
+            (λ _. step_verdict self.old.roster (option_map state_of (get bytes_eq self.old.map name.now)) stamp command.now ≡ None)
+            (λ fault. MayRefuse (step_verdict self.old.roster (option_map state_of (get bytes_eq self.old.map name.now)) stamp command.now) J.may_fill (J.broken journal.old) fault (J.broken journal.new)) }
+        ensures world { OnOk result (world_of self.new.map.entries ≡ world_after (world_of self.old.map.entries) name.now command.now) }
+        ensures stamp { IfOk result (λ new. new ≡ (state_after (option_map state_of (get bytes_eq self.old.map name.now)) command.now).stamp) }
+        ensures whole { OnOk result (J.broken journal.new ≡ false) }
         ensures roster { self.new.roster ≡ self.old.roster }
         ensures err { OnErr result (self.new.map.entries ≡ self.old.map.entries) }
     {
         match self.map.get_mut(name) {
-            Some(table) => table.take(alloc, stamp, command, &self.roster, record, journal),
+            Some(table) => table.take(alloc, stamp, command, &self.roster, bytes, journal),
             None => Err(Fault::NoSuchTable),
         }
     }

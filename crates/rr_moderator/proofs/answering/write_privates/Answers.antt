@@ -1,4 +1,4 @@
-use Rattle.std.proofs.Common.{◌+◌, ◌≤◌, arith, rules, codes}
+use Rattle.std.proofs.Common.{arith, rules, codes}
 use Rattle.rr_roster.specs.declared.company.Private.TheVariants.{Sv}
 use Rattle.rr_books.specs.Shares.{is_at, privates}
 use Rattle.rr_books.specs.State.{holder_in}

@@ -1,23 +1,25 @@
-use Rattle.std.proofs.Common.{◌≡◌, sym, ◌∙◌, ap, Some}
-use Rattle.rr_books.specs.Book.{holder}
-use Rattle.rr_books.specs.Shares.{Holders}
-use Rattle.rr_books.specs.ShareLaws.{holder-of_state}
-use Rattle.rr_books.specs.State.{State, holder_in}
-use Rattle.rr_auction.specs.Rules.{cheapest, left_of}
-use Rattle.rr_auction.specs.Progress.{Progress, owing_after}
-use Rattle.rr_auction.proofs.Purchases.{goes_on}
+use Rattle.std.proofs.Common.{◌<◌, ℕ, pos, ◌-ℤ◌, ◌≤ℤ◌, sym, ◌∙◌, ap, subst}
+use Rattle.rr_books.specs.declared.parties.Money.{Money}
+use Rattle.rr_books.specs.declared.parties.Seat.{Seat}
+use Rattle.rr_books.specs.declared.parties.Party.TheVariants as P
+use Rattle.rr_books.specs.State.{State, cash_of, holder_in}
+use Rattle.rr_auction.specs.Bids.{tied_up}
+use Rattle.rr_auction.specs.Progress.{after_purchase}
+use Rattle.rr_auction.specs.Rules.{price}
+use Rattle.rr_auction.proofs.Turns.{fit_after_purchase}
 use Rattle.rr_auction.proofs.auction.Auction.buy.Goals as goal
 
-pub returns-clause-progress : goal.returns-clause-progress
-returns-clause-progress c book h k =
+pub settle-requires-clause-fit : goal.settle-requires-clause-fit
+settle-requires-clause-fit c =
     let s = c.args.desk.now.books in
+    let a = c.args.self.now in
     let p = c.in_ok-private.private in
-    let found : cheapest (holder book) ≡ Some p =
-    ap (λ (H : Holders). cheapest H) (sym (holder-of_state book s h))
-    ∙ ap (λ (t : State). cheapest (holder_in t)) (sym c.books.ensures)
-    ∙ c.in_ok-private.ensures.cheapest in
-    goes_on c.args.roster.now book c.args.seat p c.args.self.now
-    (record { turn = c.left_of-self-inside.result; par_due = c.owing_after-self-inside.result })
-    found k
-    (c.left_of-self-inside.ensures.value ∙ ap (λ n. left_of n c.args.seat) (c.players-players.ensures.shown ∙ ap (λ (t : State). t.players) c.books-2.ensures ∙ sym h.players))
-    (c.owing_after-self-inside.ensures ∙ ap (λ (a : Progress). owing_after p c.args.seat a.par_due) c.self.view_is)
+    let Sits : Seat → Type 0 = λ x. x.0 < s.players in
+    let Can : State → Type 0 = λ t. pos (price c.args.roster.now a.falls p) ≤ℤ (cash_of t (P.Seat c.args.seat) -ℤ pos (tied_up (holder_in t) a.bids c.args.seat p)) in
+    let Costs : Money → Type 0 = λ m. m.0 ≤ℤ (cash_of s (P.Seat c.args.seat) -ℤ pos (tied_up (holder_in s) a.bids c.args.seat p)) in
+    fit_after_purchase s c.say.new.desk.books c.sell.new.desk.books a c.say.new.self c.sell.new.self c.args.seat p c.cost-amount.result c.requires.fit
+    (subst Sits (sym c.in_ok-private.ensures.turn) c.requires.fit.turn)
+    c.in_ok-say.ensures.books
+    (c.in_ok-say.ensures.after ∙ c.after_purchase-next.ensures ∙ ap (λ (n : ℕ). after_purchase n c.args.seat a) (c.players.ensures.shown ∙ ap (λ (t : State). t.players) c.books-2.ensures))
+    (subst Costs (sym c.cost-amount.ensures.value) (subst Can c.books.ensures c.in_ok-private.ensures.enough))
+    c.in_ok-sell.ensures.players c.in_ok-sell.ensures.cash c.in_ok-sell.ensures.places c.in_ok-sell.ensures.after

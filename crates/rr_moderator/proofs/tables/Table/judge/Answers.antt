@@ -1,4 +1,4 @@
-use Rattle.std.proofs.Common.{◌≡◌, eq-eqb, sym, ◌∙◌}
+use Rattle.std.proofs.Common.{eq-eqb, sym, ◌∙◌}
 use Rattle.rr_moderator.specs.World.{table_of}
 use Rattle.rr_moderator.proofs.Playing.{stepped_ok, table_verdict_of}
 use Rattle.rr_moderator.proofs.tables.Table.judge.Goals as goal

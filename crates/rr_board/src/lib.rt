@@ -1,0 +1,15 @@
+//! The board of a kit: its hexes, the homes of corporations and the blocked hexes, read from a text.
+#![tactic(auto)]
+
+mod board;
+mod fault;
+mod hex;
+mod hex_words;
+mod home_words;
+
+pub use board::Board;
+pub use fault::Fault;
+pub use hex::{Block, Colour, Hex, Home, Place};
+
+#[cfg(test)]
+mod tests;

@@ -1,0 +1,106 @@
+-- Words are read as what they spell.
+use Rattle.std.proofs.Common.{◌≡◌, ℕ, ◌^◌, ◌<◌, List, ◌∷◌, Some, refl}
+use Rattle.std.specs.Fmt.{decimal}
+use Rattle.rr_words.specs.Name.{IsTableName}
+use Rattle.rr_words.specs.Numeral.{number_of}
+use Rattle.rr_words.proofs.NumeralLemmas.{number_of-SpellsNumber}
+use Rattle.rr_roster.specs.declared.company.Corp.{Corp}
+use Rattle.rr_roster.specs.declared.company.Corp.TheVariants as C
+use Rattle.rr_roster.specs.declared.company.Private.{Private}
+use Rattle.rr_roster.specs.declared.company.Private.TheVariants as P
+use Rattle.rr_roster.specs.Company.{corp_name, private_name}
+use Rattle.rr_code.specs.Company.{corp_of, private_of}
+use Rattle.rr_code.specs.Command.{IsCommand, spelling}
+use Rattle.rr_code.specs.Reading.{read_words, read_record_words}
+use Rattle.rr_code.specs.Query.{IsQuery, IsAccount, IsOwner, account_word, account_of, owner_word, owner_of, query_words, read_query_words}
+use Rattle.rr_code.specs.Line.{IsLine, line_words, read_line_words}
+use Rattle.rr_code.specs.declared.command.Command.{Command}
+use Rattle.rr_code.specs.declared.command.Command.TheVariants.{Open, BuyPrivate, Bid, Pass, Par}
+use Rattle.rr_code.specs.declared.query.Query.{Query}
+use Rattle.rr_code.specs.declared.query.Query.TheVariants.{Tables, Stamp, Turns, Due, Cash, Limit, Asked, Privates}
+use Rattle.rr_code.specs.declared.query.Account.{Account}
+use Rattle.rr_code.specs.declared.query.Account.TheVariants as A
+use Rattle.rr_code.specs.declared.query.Owner.{Owner}
+use Rattle.rr_code.specs.declared.query.Owner.TheVariants as O
+use Rattle.rr_code.specs.declared.line.Line.{Line}
+use Rattle.rr_code.specs.declared.line.Line.TheVariants as L
+
+read-number : (n : ℕ) → n < 10 ^ 10 → number_of (decimal n) ≡ Some n
+read-number n h = number_of-SpellsNumber (decimal n) n (record { digits = refl; ten_digits = h })
+
+pub private_of-name : (private : Private) → private_of (private_name private) ≡ Some private
+private_of-name P.Sv = refl
+private_of-name P.Csl = refl
+private_of-name P.Dh = refl
+private_of-name P.Mh = refl
+private_of-name P.Ca = refl
+private_of-name P.Bo = refl
+
+pub corp_of-name : (corp : Corp) → corp_of (corp_name corp) ≡ Some corp
+corp_of-name C.Prr = refl
+corp_of-name C.Nyc = refl
+corp_of-name C.Cpr = refl
+corp_of-name C.Bo = refl
+corp_of-name C.Co = refl
+corp_of-name C.Erie = refl
+corp_of-name C.Nynh = refl
+corp_of-name C.Bm = refl
+
+pub read-command : (c : Command) → IsCommand c → read_words (spelling c) ≡ Some c
+read-command (Open players) h = rw h refl
+read-command (BuyPrivate player) h = rw h refl
+read-command (Bid player private amount) h = rw (h.0, private_of-name private, read-number amount h.1) refl
+read-command (Pass player) h = rw h refl
+read-command (Par player corp price) h = rw (h.0, corp_of-name corp, read-number price h.1) refl
+
+pub read-record : (table : List ℕ) (c : Command) → IsTableName table → IsCommand c → read_record_words (table ∷ spelling c) ≡ Some (table, c)
+read-record table c name command = rw (name, read-command c command) refl
+
+read-account : (account : Account) → IsAccount account → account_of (account_word account) ≡ Some account
+read-account A.Bank h = refl
+read-account (A.Player name) h = rw h refl
+read-account (A.Corp C.Prr) h = refl
+read-account (A.Corp C.Nyc) h = refl
+read-account (A.Corp C.Cpr) h = refl
+read-account (A.Corp C.Bo) h = refl
+read-account (A.Corp C.Co) h = refl
+read-account (A.Corp C.Erie) h = refl
+read-account (A.Corp C.Nynh) h = refl
+read-account (A.Corp C.Bm) h = refl
+
+read-owner : (owner : Owner) → IsOwner owner → owner_of (owner_word owner) ≡ Some owner
+read-owner (O.Player name) h = rw h refl
+read-owner (O.Corp C.Prr) h = refl
+read-owner (O.Corp C.Nyc) h = refl
+read-owner (O.Corp C.Cpr) h = refl
+read-owner (O.Corp C.Bo) h = refl
+read-owner (O.Corp C.Co) h = refl
+read-owner (O.Corp C.Erie) h = refl
+read-owner (O.Corp C.Nynh) h = refl
+read-owner (O.Corp C.Bm) h = refl
+
+read-query : (query : Query) → IsQuery query → read_query_words (query_words query) ≡ Some query
+read-query Tables h = refl
+read-query (Stamp table) h = rw h refl
+read-query (Turns table) h = rw h refl
+read-query (Due table) h = rw h refl
+read-query (Cash table of) h = rw (h.0, read-account of h.1) refl
+read-query (Limit table) h = rw h refl
+read-query (Asked table) h = rw h refl
+read-query (Privates table of) h = rw (h.0, read-owner of h.1) refl
+
+-- a line of a query doesn't begin with a number
+read-line-query : (query : Query) → IsQuery query → read_line_words (query_words query) ≡ Some (L.Query query)
+read-line-query Tables h = refl
+read-line-query (Stamp table) h = rw h refl
+read-line-query (Turns table) h = rw h refl
+read-line-query (Due table) h = rw h refl
+read-line-query (Cash table of) h = rw (h.0, read-account of h.1) refl
+read-line-query (Limit table) h = rw h refl
+read-line-query (Asked table) h = rw h refl
+read-line-query (Privates table of) h = rw (h.0, read-owner of h.1) refl
+
+pub read-line : (line : Line) → IsLine line → read_line_words (line_words line) ≡ Some line
+read-line (L.Command stamp table command) h =
+    rw (read-number stamp h.0, read-record table command h.1 h.2) refl
+read-line (L.Query query) h = read-line-query query h

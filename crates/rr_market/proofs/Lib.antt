@@ -1,0 +1,6 @@
+pub mod InsertLemmas
+pub mod RankLemmas
+pub mod BeforeLemmas
+pub mod SortLemmas
+pub mod FallLemmas
+pub mod ArrivalLemmas

@@ -1,0 +1,9 @@
+pub mod Fault
+pub mod Marks
+pub mod MarkLaws
+pub mod Moves
+pub mod Order
+pub mod OrderLaws
+pub mod Arrivals
+pub mod State
+pub mod StateLaws

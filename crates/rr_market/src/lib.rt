@@ -1,0 +1,18 @@
+//! The corporations' tokens on the stock chart: their prices and zones, how they move, and the operating order.
+#![tactic(auto)]
+
+mod arrivals;
+mod fault;
+pub mod laws;
+mod market;
+mod moves;
+mod order;
+
+pub use fault::Fault;
+pub use market::Market;
+pub use order::OperatingOrder;
+pub use rr_books::{Cell, Corp};
+pub use rr_chart::{Chart, Zone};
+
+#[cfg(test)]
+mod tests;

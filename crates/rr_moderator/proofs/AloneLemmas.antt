@@ -1,0 +1,253 @@
+-- A table's replies depend on the table alone.
+use Rattle.std.proofs.Common.{◌≡◌, ◌⊎◌, ℕ, ◌<◌, ◌≤◌, Bool, true, false, cond, List, [], ◌∷◌, length, map, Option, None, Some, Result, inl, inr, bytes_eq, if◌then◌else◌, refl, sym, ap, subst, ◌∙◌, arith}
+use Rattle.std.proofs.lemmas.Slice.Eq.{bytes_eq-Decides}
+use Rattle.indexmap.specs.IndexMap.{insert_entry}
+use Rattle.rr_roster.specs.Terms.{Terms}
+use Rattle.rr_code.specs.declared.command.Command.{Command}
+use Rattle.rr_code.specs.declared.command.Command.TheVariants.{Open}
+use Rattle.rr_code.specs.declared.query.Query.{Query}
+use Rattle.rr_code.specs.declared.query.Query.TheVariants as Q
+use Rattle.rr_code.specs.declared.line.Line.{Line}
+use Rattle.rr_code.specs.declared.line.Line.TheVariants as L
+use Rattle.rr_code.specs.Line.{SpellsLine}
+use Rattle.rr_code.proofs.TextLemmas.{line-unique}
+use Rattle.rr_moderator.specs.declared.fault.Fault.{Fault}
+use Rattle.rr_moderator.specs.declared.fault.Fault.TheVariants as F
+use Rattle.rr_moderator.specs.Answer.{accepted_text}
+use Rattle.rr_moderator.specs.Fault.{refusal_of}
+use Rattle.rr_moderator.specs.Queries.{Answer, answer_of_table, asked_answer, cash_answer, due_answer, limit_answer, privates_answer, query_text, reply_of, stamp_answer, turns_answer}
+use Rattle.rr_moderator.specs.Serving.{Held, Meets, Responds, Takes, TooLong, Malformed, Broken, Read, Accepted, Refused, NoRoom, Fails, reply_to}
+use Rattle.rr_moderator.specs.World.{TableState, World, state_after, table_named, world_verdict}
+use Rattle.rr_moderator.specs.Alone.{Alone, Exchange, IsCalm, IsDisturbed, Names, Picks, Runs, disturbs, line_table, query_table}
+
+-- a table in the world after another entry
+
+named_step : (b : Bool) (e : List ℕ × TableState) (es rest : World) (name : List ℕ) (v : TableState) → bytes_eq name e.0 ≡ b
+    → table_named rest name ≡ Some v → table_named (if b then (e.0, v) ∷ es else e ∷ rest) name ≡ Some v
+named_step true e es rest name v is more = ap (λ c. cond c (Some v) (table_named es name)) is
+named_step false e es rest name v is more = ap (λ c. cond c (Some e.1) (table_named rest name)) is ∙ more
+
+named_after : (tables : World) (name : List ℕ) (v : TableState) → table_named (insert_entry bytes_eq tables name v) name ≡ Some v
+named_after [] name v = let empty : Option TableState = None in ap (λ c. cond c (Some v) empty) ((bytes_eq-Decides name name).1 refl)
+named_after (e ∷ es) name v =
+    named_step (bytes_eq name e.0) e es (insert_entry bytes_eq es name v) name v refl (named_after es name v)
+
+other_step : (b : Bool) (e : List ℕ × TableState) (es rest : World) (name other : List ℕ) (v : TableState) → bytes_eq name e.0 ≡ b
+    → bytes_eq other name ≡ false → table_named rest other ≡ table_named es other
+    → table_named (if b then (e.0, v) ∷ es else e ∷ rest) other ≡ table_named (e ∷ es) other
+other_step true e es rest name other v is apart more =
+    let same : name ≡ e.0 = (bytes_eq-Decides name e.0).0 is in
+    let off : bytes_eq other e.0 ≡ false = subst (λ k. bytes_eq other k ≡ false) same apart in
+    ap (λ c. cond c (Some v) (table_named es other)) off ∙ sym (ap (λ c. cond c (Some e.1) (table_named es other)) off)
+other_step false e es rest name other v is apart more = ap (λ o. cond (bytes_eq other e.0) (Some e.1) o) more
+
+named_other : (tables : World) (name other : List ℕ) (v : TableState) → bytes_eq other name ≡ false
+    → table_named (insert_entry bytes_eq tables name v) other ≡ table_named tables other
+named_other [] name other v apart = let empty : Option TableState = None in ap (λ c. cond c (Some v) empty) apart
+named_other (e ∷ es) name other v apart =
+    other_step (bytes_eq name e.0) e es (insert_entry bytes_eq es name v) name other v refl apart (named_other es name other v apart)
+
+-- a verdict doesn't depend on the number of tables, unless it tells of it
+
+opening_step : (first room : Bool) → let v : Option Fault = if first then Some (F.StaleStamp 0) else if room then Some F.TooManyTables else None in
+    (v ≡ Some F.TooManyTables → ⊥) → v ≡ (if first then Some (F.StaleStamp 0) else None)
+opening_step true room few = refl
+opening_step false true few = absurd (few refl)
+opening_step false false few = refl
+
+uncounted : (roster : Terms) (t : Option TableState) (n stamp : ℕ) (c : Command) → (world_verdict roster t n stamp c ≡ Some F.TooManyTables → ⊥)
+    → world_verdict roster t n stamp c ≡ world_verdict roster t 0 stamp c
+uncounted roster (Some t) n stamp (Open players) few = refl
+uncounted roster None n stamp (Open players) few = opening_step _ _ few
+uncounted roster t n stamp c few = refl
+
+-- what a line that names a table comes to, from the table alone
+
+abbrev alone_with : List ℕ → Option TableState → World
+alone_with name None = []
+alone_with name (Some t) = (name, t) ∷ []
+
+named_alone : (name : List ℕ) (t : Option TableState) → table_named (alone_with name t) name ≡ t
+named_alone name None = refl
+named_alone name (Some t) = let empty : Option TableState = None in ap (λ c. cond c (Some t) empty) ((bytes_eq-Decides name name).1 refl)
+
+abbrev Outcome : Type 0
+Outcome = List ℕ × Option TableState
+
+abbrev command_alone : List ℕ → Option TableState → Command → Option Fault → Outcome
+command_alone name t c None = (accepted_text name (state_after t c).stamp, Some (state_after t c))
+command_alone name t c (Some fault) = (refusal_of fault, t)
+
+abbrev line_alone : Terms → List ℕ → Option TableState → Line → Outcome
+line_alone roster name t (L.Command stamp table c) = command_alone name t c (world_verdict roster t 0 stamp c)
+line_alone roster name t (L.Query query) = (query_text roster (alone_with name t) query, t)
+
+abbrev ReplyAlone : Terms → List ℕ → Option TableState → List ℕ → Line → List ℕ → Option TableState → Type 0
+ReplyAlone roster name t line l reply after =
+    ((8000 < length line) × (reply ≡ refusal_of F.LineTooLong) × (after ≡ t))
+    ⊎ ((length line ≤ 8000) × (reply ≡ (line_alone roster name t l).0) × (after ≡ (line_alone roster name t l).1))
+
+one_reply : (roster : Terms) (name : List ℕ) (t : Option TableState) (line : List ℕ) (l : Line) (reply other : List ℕ) (after behind : Option TableState)
+    → ReplyAlone roster name t line l reply after → ReplyAlone roster name t line l other behind → (reply ≡ other) × (after ≡ behind)
+one_reply roster name t line l reply other after behind (inl a) (inl b) = (a.1 ∙ sym b.1, a.2 ∙ sym b.2)
+one_reply roster name t line l reply other after behind (inl a) (inr b) = absurd (omega (arith, a.0, b.0))
+one_reply roster name t line l reply other after behind (inr a) (inl b) = absurd (omega (arith, a.0, b.0))
+one_reply roster name t line l reply other after behind (inr a) (inr b) = (a.1 ∙ sym b.1, a.2 ∙ sym b.2)
+
+-- a query that names the table
+ask_alone : (ask : TableState → Answer) (tables : World) (name table : List ℕ) → table ≡ name
+    → answer_of_table ask (table_named tables table) ≡ answer_of_table ask (table_named (alone_with name (table_named tables name)) table)
+ask_alone ask tables name table same =
+    ap (λ k. answer_of_table ask (table_named tables k)) same
+    ∙ ap (answer_of_table ask) (sym (named_alone name (table_named tables name)))
+    ∙ ap (λ k. answer_of_table ask (table_named (alone_with name (table_named tables name)) k)) (sym same)
+
+some_same : {X : Type 0} (x y : X) → Some x ≡ Some y → x ≡ y
+some_same x y e = cc
+
+query_alone : (roster : Terms) (tables : World) (name : List ℕ) (query : Query) → query_table query ≡ Some name
+    → query_text roster tables query ≡ query_text roster (alone_with name (table_named tables name)) query
+query_alone roster tables name Q.Tables about = cc
+query_alone roster tables name (Q.Stamp table) about = ap reply_of (ask_alone stamp_answer tables name table (some_same table name about))
+query_alone roster tables name (Q.Turns table) about = ap reply_of (ask_alone (turns_answer roster) tables name table (some_same table name about))
+query_alone roster tables name (Q.Due table) about = ap reply_of (ask_alone (due_answer roster) tables name table (some_same table name about))
+query_alone roster tables name (Q.Cash table of) about = ap reply_of (ask_alone (cash_answer roster of) tables name table (some_same table name about))
+query_alone roster tables name (Q.Limit table) about = ap reply_of (ask_alone (limit_answer roster) tables name table (some_same table name about))
+query_alone roster tables name (Q.Asked table) about = ap reply_of (ask_alone (asked_answer roster) tables name table (some_same table name about))
+query_alone roster tables name (Q.Privates table of) about = ap reply_of (ask_alone (privates_answer roster of) tables name table (some_same table name about))
+
+abbrev Same : Held → Held → List ℕ → Outcome → List ℕ → Type 0
+Same old new name alone reply = (reply ≡ alone.0) × (table_named new.tables name ≡ alone.1) × (new.roster ≡ old.roster)
+
+-- a command that names the table
+takes_alone : (old new : Held) (stamp : ℕ) (name : List ℕ) (c : Command) {outcome : Result (List ℕ) Fault} → Takes old stamp name c new outcome
+    → ¬ IsDisturbed (reply_to outcome)
+    → Same old new name (command_alone name (table_named old.tables name) c (world_verdict old.roster (table_named old.tables name) 0 stamp c)) (reply_to outcome)
+takes_alone old new stamp name c (Accepted lawful after) calm =
+    let t = table_named old.tables name in
+    let few : world_verdict old.roster t (length old.tables) stamp c ≡ Some F.TooManyTables → ⊥ = λ e. let none = lawful in cc in
+    let v = sym (uncounted old.roster t (length old.tables) stamp c few) ∙ lawful in (
+      ap (λ o. (command_alone name t c o).0) (sym v),
+      ap (λ h. table_named h.tables name) after ∙ named_after old.tables name (state_after t c) ∙ ap (λ o. (command_alone name t c o).1) (sym v),
+      ap (λ h. h.roster) after,
+    )
+takes_alone old new stamp name c (Refused fault refused same) calm =
+    let t = table_named old.tables name in
+    let few : world_verdict old.roster t (length old.tables) stamp c ≡ Some F.TooManyTables → ⊥ =
+    λ e. calm (F.TooManyTables, refl, ap refusal_of (some_same fault F.TooManyTables (sym refused ∙ e))) in
+    let v = sym (uncounted old.roster t (length old.tables) stamp c few) ∙ refused in (
+      ap (λ o. (command_alone name t c o).0) (sym v),
+      ap (λ h. table_named h.tables name) same ∙ ap (λ o. (command_alone name t c o).1) (sym v),
+      ap (λ h. h.roster) same,
+    )
+takes_alone old new stamp name c (NoRoom fault lawful (inl full) same) calm = absurd (calm (fault, ap disturbs full, refl))
+takes_alone old new stamp name c (NoRoom fault lawful (inr memory) same) calm = absurd (calm (fault, ap disturbs memory, refl))
+takes_alone old new stamp name c (Fails lawful after) calm = absurd (calm (F.DeviceFailed, refl, refl))
+
+meets_alone : (old new : Held) (name : List ℕ) (l : Line) (outcome : Result (List ℕ) Fault) → line_table l ≡ Some name → Meets old l new outcome
+    → ¬ IsDisturbed (reply_to outcome) → Same old new name (line_alone old.roster name (table_named old.tables name) l) (reply_to outcome)
+meets_alone old new name (L.Command stamp table c) outcome about meets calm =
+    takes_alone old new stamp name c (subst (λ k. Takes old stamp k c new outcome) (some_same table name about) meets) calm
+meets_alone old new name (L.Query query) outcome about meets calm =
+    (meets.1 ∙ query_alone old.roster old.tables name query about, ap (λ h. table_named h.tables name) meets.0, ap (λ h. h.roster) meets.0)
+
+one_line : (line : List ℕ) (l m : Line) → SpellsLine line l → SpellsLine line m → l ≡ m
+one_line line l m first second = line-unique l m first.is_line second.is_line (sym first.spelled ∙ second.spelled)
+
+-- a line that names the table
+responds_alone : (old new : Held) (line name : List ℕ) (l : Line) → SpellsLine line l → line_table l ≡ Some name
+    → {outcome : Result (List ℕ) Fault} → Responds old line new outcome → ¬ IsDisturbed (reply_to outcome)
+    → ReplyAlone old.roster name (table_named old.tables name) line l (reply_to outcome) (table_named new.tables name) × (new.roster ≡ old.roster)
+responds_alone old new line name l spells about (TooLong long same) calm =
+    (inl (long, refl, ap (λ h. table_named h.tables name) same), ap (λ h. h.roster) same)
+responds_alone old new line name l spells about (Malformed short none same) calm = absurd (none l spells)
+responds_alone old new line name l spells about (Broken m short other broken same) calm = absurd (calm (F.OpenAgain, refl, refl))
+responds_alone old new line name l spells about (Read m outcome short other whole meets) calm =
+    let r = meets_alone old new name l outcome about (subst (λ x. Meets old x new outcome) (one_line line m l other spells) meets) calm in
+    (inr (short, r.0, r.1), r.2)
+
+-- a line that doesn't
+
+abbrev Unmoved : Held → Held → List ℕ → Type 0
+Unmoved old new name = (table_named new.tables name ≡ table_named old.tables name) × (new.roster ≡ old.roster)
+
+unmoved : (old new : Held) (name : List ℕ) → new ≡ old → Unmoved old new name
+unmoved old new name same = (ap (λ h. table_named h.tables name) same, ap (λ h. h.roster) same)
+
+takes_other : (old new : Held) (stamp : ℕ) (name table : List ℕ) (c : Command) {outcome : Result (List ℕ) Fault} → bytes_eq name table ≡ false
+    → Takes old stamp table c new outcome → Unmoved old new name
+takes_other old new stamp name table c apart (Accepted lawful after) =
+    (ap (λ h. table_named h.tables name) after ∙ named_other old.tables table name (state_after (table_named old.tables table) c) apart, ap (λ h. h.roster) after)
+takes_other old new stamp name table c apart (Refused fault refused same) = unmoved old new name same
+takes_other old new stamp name table c apart (NoRoom fault lawful why same) = unmoved old new name same
+takes_other old new stamp name table c apart (Fails lawful after) = (ap (λ h. table_named h.tables name) after, ap (λ h. h.roster) after)
+
+apart_from : (b : Bool) (name table : List ℕ) → bytes_eq name table ≡ b → (name ≡ table → ⊥) → bytes_eq name table ≡ false
+apart_from true name table is apart = absurd (apart ((bytes_eq-Decides name table).0 is))
+apart_from false name table is apart = is
+
+meets_other : (old new : Held) (line name : List ℕ) (l : Line) (outcome : Result (List ℕ) Fault) → SpellsLine line l → ¬ Names name line
+    → Meets old l new outcome → Unmoved old new name
+meets_other old new line name (L.Command stamp table c) outcome spells none meets =
+    takes_other old new stamp name table c (apart_from (bytes_eq name table) name table refl (λ e. none (L.Command stamp table c, spells, ap Some (sym e)))) meets
+meets_other old new line name (L.Query query) outcome spells none meets = unmoved old new name meets.0
+
+responds_other : (old new : Held) (line name : List ℕ) {outcome : Result (List ℕ) Fault} → ¬ Names name line → Responds old line new outcome → Unmoved old new name
+responds_other old new line name none (TooLong long same) = unmoved old new name same
+responds_other old new line name none (Malformed short no_form same) = unmoved old new name same
+responds_other old new line name none (Broken m short other broken same) = unmoved old new name same
+responds_other old new line name none (Read m outcome short spells whole meets) = meets_other old new line name m outcome spells none meets
+
+-- whole runs
+
+abbrev RunsAlone : Terms → List ℕ → Option TableState → List Exchange → Type 0
+RunsAlone roster name t [] = Unit {0}
+RunsAlone roster name t (exchange ∷ picked) =
+    (after : Option TableState) × (l : Line) × SpellsLine exchange.0 l × ReplyAlone roster name t exchange.0 l exchange.1 after
+    × RunsAlone roster name after picked
+
+gathered : (name : List ℕ) (old new : Held) (run picked : List Exchange) → Runs old run new → IsCalm run → Picks name run picked
+    → RunsAlone old.roster name (table_named old.tables name) picked
+gathered name old new [] picked runs calm none = subst (λ p. RunsAlone old.roster name (table_named old.tables name) p) (sym none) tt
+gathered name old new (exchange ∷ run) picked runs calm (inl names) =
+    let mid = runs.0 in
+    let answers = runs.1 in
+    let calm_here = subst (λ r. ¬ IsDisturbed r) answers.2 calm.0 in
+    let r = responds_alone old mid exchange.0 name names.1.0 names.1.1 names.1.2 answers.1 calm_here in
+    let l = names.1.0 in
+    let reply = subst (λ x. ReplyAlone old.roster name (table_named old.tables name) exchange.0 l x (table_named mid.tables name)) (sym answers.2) r.0 in
+    let more = subst (λ x. RunsAlone x name (table_named mid.tables name) names.0) r.1 (gathered name mid new run names.0 runs.2 calm.1 names.3) in
+    subst (λ p. RunsAlone old.roster name (table_named old.tables name) p) (sym names.2) (table_named mid.tables name, l, names.1.1, reply, more)
+gathered name old new (exchange ∷ run) picked runs calm (inr other) =
+    let mid = runs.0 in
+    let r = responds_other old mid exchange.0 name other.0 runs.1.1 in
+    let more = gathered name mid new run picked runs.2 calm.1 other.1 in
+    subst (λ x. RunsAlone x name (table_named old.tables name) picked) r.1 (subst (λ t. RunsAlone mid.roster name t picked) r.0 more)
+
+one_exchange : (a b : Exchange) → a.0 ≡ b.0 → a.1 ≡ b.1 → a ≡ b
+one_exchange a b p q = λ i. (p i, q i)
+
+one_run : (a b : Exchange) (p q : List Exchange) → a ≡ b → p ≡ q → a ∷ p ≡ b ∷ q
+one_run a b p q e f = cc
+
+agreed : (roster : Terms) (name : List ℕ) (t : Option TableState) (picked others : List Exchange) → RunsAlone roster name t picked → RunsAlone roster name t others
+    → map (λ exchange. exchange.0) picked ≡ map (λ exchange. exchange.0) others → picked ≡ others
+agreed roster name t [] [] one two same = refl
+agreed roster name t [] (b ∷ others) one two same = absurd cc
+agreed roster name t (a ∷ picked) [] one two same = absurd cc
+agreed roster name t (a ∷ picked) (b ∷ others) one two same =
+    let line : b.0 ≡ a.0 = cc in
+    let lines : map (λ exchange. exchange.0) picked ≡ map (λ exchange. exchange.0) others = cc in
+    let spelled = subst (λ x. SpellsLine x two.1) line two.2 in
+    let again = subst (λ x. ReplyAlone roster name t x two.1 b.1 two.0) line two.3 in
+    let meant = subst (λ x. ReplyAlone roster name t a.0 x b.1 two.0) (one_line a.0 two.1 one.1 spelled one.2) again in
+    let r = one_reply roster name t a.0 one.1 a.1 b.1 one.0 two.0 one.3 meant in
+    one_run a b picked others (one_exchange a b (sym line) r.0)
+    (agreed roster name one.0 picked others one.4 (subst (λ x. RunsAlone roster name x others) (sym r.1) two.4) lines)
+
+pub is_alone : Alone
+is_alone name one two one_end two_end run other picked others runs runs_other roster table calm calm_other picks picks_other same =
+    let there = gathered name two two_end other others runs_other calm_other picks_other in
+    let moved = subst (λ t. RunsAlone two.roster name t others) (sym table) there in
+    agreed one.roster name (table_named one.tables name) picked others (gathered name one one_end run picked runs calm picks)
+    (subst (λ x. RunsAlone x name (table_named one.tables name) others) (sym roster) moved) same

@@ -1,0 +1,55 @@
+-- What a moderator answers, from what its parts did.
+use Rattle.std.proofs.Common.{◌≡◌, ℕ, Bool, false, true, List, None, Some, Result, Ok, Err, inl, inr, MatchResult, refl, sym, ap, subst, ◌∙◌}
+use Rattle.rr_roster.specs.Terms.{Terms}
+use Rattle.rr_code.specs.declared.command.Command.{Command}
+use Rattle.rr_moderator.specs.declared.fault.Fault.{Fault}
+use Rattle.rr_moderator.specs.declared.fault.Fault.TheVariants as F
+use Rattle.rr_moderator.specs.Answer.{accepted_text}
+use Rattle.rr_moderator.specs.Fault.{refusal_of}
+use Rattle.rr_moderator.specs.Queries.{Answer, fault_of, reply_of}
+use Rattle.rr_moderator.specs.World.{MayRefuse, World, state_after, table_named, verdict_in, world_after}
+use Rattle.rr_moderator.specs.Serving.{Held, Takes, Accepted, Refused, NoRoom, Fails, accepted_reply, outcome_of, reply_to}
+
+abbrev pub held : Terms → World → Bool → Held
+held roster tables broken = record { roster = roster; tables = tables; broken = broken }
+
+pub held_same : (r r' : Terms) (t t' : World) (b b' : Bool) → r' ≡ r → t' ≡ t → b' ≡ b → held r' t' b' ≡ held r t b
+held_same r r' t t' b b' p q s = cc
+
+-- a command that wasn't taken
+pub takes_refused : (r r' : Terms) (t t' : World) (b b' : Bool) (stamp : ℕ) (name : List ℕ) (c : Command) (fault : Fault)
+    → b ≡ false → r' ≡ r → t' ≡ t → MayRefuse (verdict_in r t stamp name c) true b fault b'
+    → Takes (held r t b) stamp name c (held r' t' b') (Err fault)
+takes_refused r r' t t' b b' stamp name c fault whole p q (inl by_rule) =
+    Refused fault by_rule.0 (held_same r r' t t' b b' p q by_rule.1)
+takes_refused r r' t t' b b' stamp name c F.OutOfMemory whole p q (inr out) =
+    NoRoom F.OutOfMemory out.0 (inr refl) (held_same r r' t t' b b' p q out.1)
+takes_refused r r' t t' b b' stamp name c F.HalfFull whole p q (inr out) =
+    NoRoom F.HalfFull out.0 (inl refl) (held_same r r' t t' b b' p q out.1.0)
+takes_refused r r' t t' b b' stamp name c F.DeviceFailed whole p q (inr out) =
+    Fails out.0 (held_same r r' t t' true b' p q out.1)
+takes_refused r r' t t' b b' stamp name c F.OpenAgain whole p q (inr out) =
+    let both : true ≡ false = sym out.1 ∙ whole in cc
+takes_refused r r' t t' b b' stamp name c fault whole p q (inr out) = absurd out.1
+
+-- a command that was taken
+pub takes_accepted : (r r' : Terms) (t t' : World) (b b' : Bool) (stamp n : ℕ) (name : List ℕ) (c : Command) (text : List ℕ)
+    → b ≡ false → b' ≡ false → r' ≡ r → t' ≡ world_after t name c → verdict_in r t stamp name c ≡ None
+    → n ≡ (state_after (table_named t name) c).stamp → text ≡ accepted_text name n
+    → Takes (held r t b) stamp name c (held r' t' b') (Ok text)
+takes_accepted r r' t t' b b' stamp n name c text whole whole' p q lawful counted told =
+    let same : accepted_reply t name c ≡ text = sym (told ∙ ap (accepted_text name) counted) in
+    subst (λ x. Takes (held r t b) stamp name c (held r' t' b') (Ok x)) same
+    (Accepted lawful (held_same r r' (world_after t name c) t' b b' p q (whole' ∙ sym whole)))
+
+-- a query that is refused
+pub reply_refused : (answer : Answer) (fault : Fault) → fault_of answer ≡ Some fault → refusal_of fault ≡ reply_of answer
+reply_refused (Ok words) fault is = absurd cc
+reply_refused (Err other) fault is = let same : fault ≡ other = cc in ap refusal_of same
+
+-- what came of a query
+pub queried : (answer : Answer) (r : Result (Unit {0}) Fault) (reply : List ℕ)
+    → MatchResult r (λ _. (fault_of answer ≡ None) × (reply ≡ reply_of answer)) (λ fault. fault_of answer ≡ Some fault)
+    → reply_to (outcome_of r reply) ≡ reply_of answer
+queried answer (Ok u) reply h = h.1
+queried answer (Err fault) reply h = reply_refused answer fault h

@@ -1,0 +1,94 @@
+-- Tables in a map, as the tables by name that they stand for.
+use Rattle.std.proofs.Common.{◌≡◌, ℕ, suc, Bool, true, false, cond, List, [], ◌∷◌, ◌++◌, length, Option, None, Some, option_map, refl, sym, ap, ◌∙◌, bytes_eq, if◌then◌else◌, IfOk, Result, Ok, Err}
+use Rattle.std.specs.Map.{lookup, set_value}
+use Rattle.indexmap.specs.IndexMap.{insert_entry}
+use Rattle.rr_code.specs.declared.command.Command.{Command}
+use Rattle.rr_code.specs.declared.command.Command.TheVariants.{Open}
+use Rattle.rr_roster.specs.Terms.{Terms}
+use Rattle.rr_moderator.specs.declared.fault.Fault.{Fault}
+use Rattle.rr_moderator.specs.World.{TableState, opening_verdict, state_after, step_verdict, table_named, table_of, verdict_in, world_after, world_by}
+
+module _ {T : Type 0} (state : T → TableState) where
+  named_step : (b : Bool) (e : List ℕ × T) (o : Option T) (p : Option TableState) → p ≡ option_map state o
+      → cond b (Some (state e.1)) p ≡ option_map state (cond b (Some e.1) o)
+  named_step true e o p h = refl
+  named_step false e o p h = h
+
+  -- the table of a name is what the map has there
+  pub named_by : (name : List ℕ) (entries : List (List ℕ × T))
+      → table_named (world_by state entries) name ≡ option_map state (lookup (bytes_eq name) entries)
+  named_by name [] = refl
+  named_by name (e ∷ es) = named_step (bytes_eq name e.0) e (lookup (bytes_eq name) es) (table_named (world_by state es) name) (named_by name es)
+
+  -- there are as many
+  pub counted_by : (entries : List (List ℕ × T)) → length (world_by state entries) ≡ length entries
+  counted_by [] = refl
+  counted_by (e ∷ es) = ap suc (counted_by es)
+
+  set_step : (b : Bool) (e : List ℕ × T) (es : List (List ℕ × T)) (t w : T) (v : TableState) (name : List ℕ) → bytes_eq name e.0 ≡ b
+      → state w ≡ v → cond b (Some e.1) (lookup (bytes_eq name) es) ≡ Some t
+      → (lookup (bytes_eq name) es ≡ Some t → world_by state (set_value (bytes_eq name) es w) ≡ insert_entry bytes_eq (world_by state es) name v)
+      → world_by state (cond b ((e.0, w) ∷ es) (e ∷ set_value (bytes_eq name) es w))
+      ≡ (if b then (e.0, v) ∷ world_by state es else (e.0, state e.1) ∷ insert_entry bytes_eq (world_by state es) name v)
+  set_step true e es t w v name is same found more = ap (λ s. (e.0, s) ∷ world_by state es) same
+  set_step false e es t w v name is same found more = ap (λ l. (e.0, state e.1) ∷ l) (more found)
+
+  set_by : (name : List ℕ) (entries : List (List ℕ × T)) (t w : T) (v : TableState) → state w ≡ v
+      → lookup (bytes_eq name) entries ≡ Some t
+      → world_by state (set_value (bytes_eq name) entries w) ≡ insert_entry bytes_eq (world_by state entries) name v
+  set_by name [] t w v same found = absurd cc
+  set_by name (e ∷ es) t w v same found =
+      set_step (bytes_eq name e.0) e es t w v name refl same found (set_by name es t w v same)
+
+  -- a table that is there has taken a command
+  pub world_set : (name : List ℕ) (entries : List (List ℕ × T)) (t w : T) (c : Command) → state w ≡ state_after (Some (state t)) c
+      → lookup (bytes_eq name) entries ≡ Some t
+      → world_by state (set_value (bytes_eq name) entries w) ≡ world_after (world_by state entries) name c
+  world_set name entries t w c same found =
+      set_by name entries t w _ same found
+      ∙ ap (λ o. insert_entry bytes_eq (world_by state entries) name (state_after o c)) (sym (named_by name entries ∙ ap (option_map state) found))
+
+  add_step : (b : Bool) (e : List ℕ × T) (es : List (List ℕ × T)) (w : T) (v : TableState) (name : List ℕ) → cond b (Some e.1) (lookup (bytes_eq name) es) ≡ None
+      → (lookup (bytes_eq name) es ≡ None → world_by state (es ++ (name, w) ∷ []) ≡ insert_entry bytes_eq (world_by state es) name v)
+      → (e.0, state e.1) ∷ world_by state (es ++ (name, w) ∷ [])
+      ≡ (if b then (e.0, v) ∷ world_by state es else (e.0, state e.1) ∷ insert_entry bytes_eq (world_by state es) name v)
+  add_step true e es w v name none more = absurd cc
+  add_step false e es w v name none more = ap (λ l. (e.0, state e.1) ∷ l) (more none)
+
+  add_by : (name : List ℕ) (entries : List (List ℕ × T)) (w : T) (v : TableState) → state w ≡ v → lookup (bytes_eq name) entries ≡ None
+      → world_by state (entries ++ (name, w) ∷ []) ≡ insert_entry bytes_eq (world_by state entries) name v
+  add_by name [] w v same none = ap (λ s. (name, s) ∷ []) same
+  add_by name (e ∷ es) w v same none = add_step (bytes_eq name e.0) e es w v name none (add_by name es w v same)
+
+  -- a table that is opened comes last
+  pub world_add : (name : List ℕ) (entries : List (List ℕ × T)) (w : T) (c : Command) → state w ≡ state_after None c
+      → lookup (bytes_eq name) entries ≡ None
+      → world_by state (entries ++ (name, w) ∷ []) ≡ world_after (world_by state entries) name c
+  world_add name entries w c same none =
+      add_by name entries w _ same none
+      ∙ ap (λ o. insert_entry bytes_eq (world_by state entries) name (state_after o c)) (sym (named_by name entries ∙ ap (option_map state) none))
+
+  -- the verdict of an opening, and of another command
+  pub opening_in : (roster : Terms) (name : List ℕ) (entries : List (List ℕ × T)) (stamp : ℕ) (players : List (List ℕ))
+      → verdict_in roster (world_by state entries) stamp name (Open players)
+      ≡ opening_verdict (option_map state (lookup (bytes_eq name) entries)) (length entries) stamp
+  opening_in roster name entries stamp players =
+      ap (λ o. opening_verdict o (length (world_by state entries)) stamp) (named_by name entries)
+      ∙ ap (λ n. opening_verdict (option_map state (lookup (bytes_eq name) entries)) n stamp) (counted_by entries)
+
+  pub step_in : (roster : Terms) (name : List ℕ) (entries : List (List ℕ × T)) (stamp : ℕ) (c : Command)
+      → ((players : List (List ℕ)) → c ≡ Open players → ⊥)
+      → verdict_in roster (world_by state entries) stamp name c
+      ≡ step_verdict roster (option_map state (lookup (bytes_eq name) entries)) stamp c
+  step_in roster name entries stamp (Open players) other = absurd (other players refl)
+  step_in roster name entries stamp c other = ap (λ o. step_verdict roster o stamp c) (named_by name entries)
+
+  -- the stamp of a table that is opened
+  pub named_stamp : (c : Command) (r : Result ℕ Fault) (o : Option T) → IfOk r (λ new. (new ≡ 1) × (o ≡ None))
+      → IfOk r (λ new. new ≡ (state_after (option_map state o) c).stamp)
+  named_stamp c (Ok n) o h = h.0 ∙ sym (ap (λ p. (state_after (option_map state p) c).stamp) h.1)
+  named_stamp c (Err fault) o h = tt
+
+-- a table that was just opened
+pub opened_state : (accepted : List Command) (stamp : ℕ) (c : Command) → accepted ≡ c ∷ [] → stamp ≡ 1 → table_of accepted stamp ≡ state_after None c
+opened_state accepted stamp c p q = ap (λ a. table_of a stamp) p ∙ ap (λ n. table_of (c ∷ []) n) q

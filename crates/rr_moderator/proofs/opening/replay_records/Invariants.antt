@@ -1,0 +1,10 @@
+use Rattle.std.proofs.Common.{◌≡◌, take}
+use Rattle.rr_moderator.specs.Holding.{world_of}
+use Rattle.rr_moderator.specs.Replaying.{Replays, records_of}
+use Rattle.rr_moderator.proofs.opening.replay_records.Given as goal
+
+abbrev pub invariant-loop-bytes : goal.invariant-loop-bytes
+invariant-loop-bytes l = record {
+  so_far : Replays l.initial.tables.roster (world_of l.initial.tables.map.entries) (records_of (take l.bytes-index l.records)) (world_of l.tables.map.entries);
+  roster : l.tables.roster ≡ l.initial.tables.roster;
+}

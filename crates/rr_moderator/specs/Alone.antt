@@ -1,0 +1,74 @@
+-- Tables don't know of each other.
+use Rattle.std.specs.Prelude.{◌≡◌, ℕ, ◌⊎◌, Bool, true, false, List, [], ◌∷◌, map, Option, None, Some}
+use Rattle.std.specs.List.{AllByRecursion}
+use Rattle.rr_code.specs.declared.query.Query.{Query}
+use Rattle.rr_code.specs.declared.query.Query.TheVariants as Q
+use Rattle.rr_code.specs.declared.line.Line.{Line}
+use Rattle.rr_code.specs.declared.line.Line.TheVariants as L
+use Rattle.rr_code.specs.Line.{SpellsLine}
+use Rattle.rr_moderator.specs.declared.fault.Fault.{Fault}
+use Rattle.rr_moderator.specs.declared.fault.Fault.TheVariants as F
+use Rattle.rr_moderator.specs.Fault.{refusal_of}
+use Rattle.rr_moderator.specs.Serving.{Answers, Held}
+use Rattle.rr_moderator.specs.World.{table_named}
+
+-- the table that a query names, if it names one
+abbrev pub query_table : Query → Option (List ℕ)
+query_table Q.Tables = None
+query_table (Q.Stamp table) = Some table
+query_table (Q.Turns table) = Some table
+query_table (Q.Due table) = Some table
+query_table (Q.Cash table of) = Some table
+query_table (Q.Limit table) = Some table
+query_table (Q.Asked table) = Some table
+query_table (Q.Privates table of) = Some table
+
+-- the table that a line names, if it names one
+abbrev pub line_table : Line → Option (List ℕ)
+line_table (L.Command stamp table command) = Some table
+line_table (L.Query query) = query_table query
+
+abbrev pub Names : List ℕ → List ℕ → Type 0
+Names name line = (l : Line) × SpellsLine line l × (line_table l ≡ Some name)
+
+-- a line and its reply
+abbrev pub Exchange : Type 0
+Exchange = List ℕ × List ℕ
+
+-- the lines are answered one after another, by these replies
+abbrev pub Runs : Held → List Exchange → Held → Type 0
+Runs old [] new = new ≡ old
+Runs old (exchange ∷ run) new = (mid : Held) × Answers old exchange.0 mid exchange.1 × Runs mid run new
+
+-- these are the exchanges of a run whose lines name the table
+abbrev pub Picks : List ℕ → List Exchange → List Exchange → Type 0
+Picks name [] picked = picked ≡ []
+Picks name (exchange ∷ run) picked =
+    ((rest : List Exchange) × Names name exchange.0 × (picked ≡ exchange ∷ rest) × Picks name run rest)
+    ⊎ ((¬ Names name exchange.0) × Picks name run picked)
+
+-- a refusal that comes of the file, of memory, or of the number of tables, and of no table by itself
+abbrev pub disturbs : Fault → Bool
+disturbs F.DeviceFailed = true
+disturbs F.HalfFull = true
+disturbs F.OpenAgain = true
+disturbs F.TooManyTables = true
+disturbs F.OutOfMemory = true
+disturbs _ = false
+
+abbrev pub IsDisturbed : List ℕ → Type 0
+IsDisturbed reply = (fault : Fault) × (disturbs fault ≡ true) × (reply ≡ refusal_of fault)
+
+abbrev pub IsCalm : List Exchange → Type 0
+IsCalm run = AllByRecursion (λ exchange. ¬ IsDisturbed exchange.1) run
+
+-- Where two moderators agree in a table and are sent the same lines that name it, their replies to these lines are the
+-- same, whatever lines come between that name others or none.
+abbrev pub Alone : Type 0
+Alone =
+    (name : List ℕ) (one two one_end two_end : Held) (run other picked others : List Exchange)
+    → Runs one run one_end → Runs two other two_end
+    → one.roster ≡ two.roster → table_named one.tables name ≡ table_named two.tables name
+    → IsCalm run → IsCalm other → Picks name run picked → Picks name other others
+    → map (λ exchange. exchange.0) picked ≡ map (λ exchange. exchange.0) others
+    → picked ≡ others

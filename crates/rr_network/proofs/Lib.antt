@@ -1,0 +1,4 @@
+pub mod NetworkLemmas
+pub mod StepLemmas
+pub mod PlaceLemmas
+pub mod WalkLemmas

@@ -1,0 +1,15 @@
+use Rattle.rr_network.specs.Walk.{Reached}
+use Rattle.rr_network.proofs.WalkLemmas.{link-reached, node-reached}
+use Rattle.std.proofs.Common.{◌≡◌, refl, ◌∙◌, rules}
+use Rattle.rr_network.proofs.reach.Reach.of.Goals as goal
+
+pub returns-clause-links : goal.returns-clause-links
+returns-clause-links c =
+    let reach : Reached = record { corp = c.args.corp; stations = c.in_ok-stations.stations.items; steps = c.in_ok-steps.steps.items } in
+    link-reached c.args.network.now c.args.corp reach c.in_ok-steps.ensures
+
+pub returns-clause-nodes : goal.returns-clause-nodes
+returns-clause-nodes c =
+    let reach : Reached = record { corp = c.args.corp; stations = c.in_ok-stations.stations.items; steps = c.in_ok-steps.steps.items } in
+    let tokens : c.in_ok-stations.stations.items ≡ c.args.network.now.stations = c.in_ok-stations.ensures.items_if_clones_equal (λ x y e. search rules) ∙ c.stations.ensures in
+    node-reached c.args.network.now c.args.corp reach refl tokens c.in_ok-steps.ensures

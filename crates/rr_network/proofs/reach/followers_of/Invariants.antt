@@ -1,0 +1,5 @@
+use Rattle.rr_network.specs.Walk.{ArePlaces, goes_on}
+use Rattle.rr_network.proofs.reach.followers_of.Given as goal
+
+abbrev pub invariant-loop-place : goal.invariant-loop-place
+invariant-loop-place l = ArePlaces (goes_on l.network l.fn.corp l.step) l.steps l.place l.followers

@@ -1,0 +1,5 @@
+use Rattle.rr_network.specs.Walk.{ArePlaces, has_token}
+use Rattle.rr_network.proofs.reach.starts_of.Given as goal
+
+abbrev pub invariant-loop-place : goal.invariant-loop-place
+invariant-loop-place l = ArePlaces (λ step. has_token l.network.stations l.corp step.from) l.steps l.place l.starts.items

@@ -1,0 +1,4 @@
+pub mod Node
+pub mod Layout
+pub mod Network
+pub mod Walk

@@ -1,0 +1,16 @@
+//! What was laid on a board, the links of the network that it makes, and what of it a corporation reaches.
+#![tactic(auto)]
+
+mod layout;
+mod network;
+mod node;
+mod reach;
+mod step;
+
+pub use layout::{Lay, Layout, Station};
+pub use network::{Network, Stop};
+pub use node::{Axial, CentreAt, Hexside, Link, Node, across, hexside_at};
+pub use reach::Reach;
+
+#[cfg(test)]
+mod tests;

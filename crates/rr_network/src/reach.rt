@@ -1,0 +1,156 @@
+//! What a corporation reaches.
+ghost use Rattle.std.specs.Prelude.{◌≡◌, ℕ, ◌↔◌, IfOk, Contains, length, true};
+ghost use Rattle.std.specs.List.{list_any};
+ghost use Rattle.rr_network.specs.Node.{same_node};
+ghost use Rattle.rr_network.specs.declared.node.Node.{Node};
+ghost use Rattle.rr_network.specs.declared.step.Step.{Step};
+ghost use Rattle.rr_network.specs.Walk.{ArePlaces, AreMarkedSteps, EndsWalk, IsGraphOf, ReachesLink, ReachesNode, goes_on, has_token, reaches_link, reaches_node};
+
+use crate::layout::Station;
+use crate::network::Network;
+use crate::node::{Node, same_node};
+use crate::step::{Step, has_token, is_terminal, may_follow, steps_of};
+use rr_reach::{Followers, reached};
+use rr_roster::Corp;
+use std::alloc::{AllocError, Global};
+use std::marker::Model;
+
+/// The links and nodes that a corporation reaches.
+///
+/// A walk begins at one of its tokens and goes from link to link. It passes a hexside from one hex into
+/// the other, never goes back over the link that it came by, and ends at an off-board area and at a
+/// city whose slots are all filled by others.
+#[derive(Debug, Drop)]
+pub struct Reach {
+    corp: Corp,
+    stations: Vec<Station>,
+    steps: Vec<Step>,
+}
+
+impl Model for Reach {
+    ghost use Rattle.rr_network.specs.Walk.{Reached};
+
+    ghost Value = { Reached };
+
+    ghost view = { λ reach. record { corp = reach.corp; stations = reach.stations.items; steps = reach.steps.items } };
+}
+
+impl Reach {
+    /// What the corporation reaches in the network. Only memory can fail.
+    pub fn of(alloc: Global, network: &Network, corp: Corp) -> Result<Reach, AllocError>
+        ensures links { IfOk result (λ reach. (number : ℕ) → reaches_link reach number ≡ true ↔ ReachesLink network.now corp number) }
+        ensures nodes { IfOk result (λ reach. (node : Node) → reaches_node reach node ≡ true ↔ ReachesNode network.now corp node) }
+    {
+        let stations = network.stations().to_vec(alloc)?;
+        let steps = walks_of(alloc, network, corp)?;
+        Ok(Reach {
+            corp,
+            stations,
+            steps,
+        })
+    }
+
+    /// Whether a walk ends with the link of a number, from 1.
+    pub fn has_link(&self, number: usize) -> bool
+        ensures { result ≡ reaches_link self.now number }
+    {
+        self.steps.iter().any(|step| step.number == number)
+    }
+
+    /// Whether a walk ends at a node, or one of the corporation's tokens stands there.
+    pub fn has_node(&self, node: &Node) -> bool
+        ensures { result ≡ reaches_node self.now node.now }
+    {
+        has_token(&self.stations, self.corp, node) || self.ends_at(node)
+    }
+
+    fn ends_at(&self, node: &Node) -> bool
+        ensures { result ≡ list_any (λ step. same_node node.now step.to) self.now.steps }
+    {
+        self.steps.iter().any(|step| same_node(node, &step.to))
+    }
+}
+
+// the steps with which a walk of the corporation ends
+fn walks_of(alloc: Global, network: &Network, corp: Corp) -> Result<Vec<Step>, AllocError>
+    ensures { IfOk result (λ ends. (step : Step) → Contains ends.items step ↔ EndsWalk network.now corp step) }
+{
+    let steps = steps_of(alloc, network.links())?;
+    let graph = graph_of(alloc, network, corp, &steps)?;
+    let starts = starts_of(alloc, network, corp, &steps)?;
+    let marks = reached(alloc, &graph, &starts)?;
+    let ends = marked_steps(alloc, &steps, &marks)?;
+    Ok(ends)
+}
+
+// the places of the steps by which a walk may begin
+fn starts_of(
+    alloc: Global,
+    network: &Network,
+    corp: Corp,
+    steps: &[Step],
+) -> Result<Vec<usize>, AllocError>
+    ensures { IfOk result (λ starts. ArePlaces (λ step. has_token network.now.stations corp step.from) steps.now (length steps.now) starts.items) }
+{
+    let mut starts = Vec::new(alloc);
+    for (place, step) in steps.iter().enumerate() {
+        if !has_token(network.stations(), corp, &step.from) {
+            continue;
+        }
+        starts.push(place)?;
+    }
+    Ok(starts)
+}
+
+// for each step the places of those by which a walk that ends with it may go on
+fn graph_of(
+    alloc: Global,
+    network: &Network,
+    corp: Corp,
+    steps: &[Step],
+) -> Result<Vec<Followers>, AllocError>
+    ensures { IfOk result (λ graph. IsGraphOf network.now corp steps.now (length steps.now) graph.items) }
+{
+    let mut graph = Vec::new(alloc);
+    for step in steps {
+        let followers = followers_of(alloc, network, corp, steps, step)?;
+        graph.push(followers)?;
+    }
+    Ok(graph)
+}
+
+fn followers_of(
+    alloc: Global,
+    network: &Network,
+    corp: Corp,
+    steps: &[Step],
+    step: &Step,
+) -> Result<Followers, AllocError>
+    ensures { IfOk result (λ places. ArePlaces (goes_on network.now corp step.now) steps.now (length steps.now) places) }
+{
+    let mut followers = Followers::new(alloc);
+    if is_terminal(network.stops(), network.stations(), corp, &step.to) {
+        return Ok(followers);
+    }
+    for (place, next) in steps.iter().enumerate() {
+        if !may_follow(step, next) {
+            continue;
+        }
+        followers.push(place)?;
+    }
+    Ok(followers)
+}
+
+fn marked_steps(alloc: Global, steps: &[Step], marks: &[bool]) -> Result<Vec<Step>, AllocError>
+    requires { length marks.now ≡ length steps.now }
+    ensures { IfOk result (λ marked. AreMarkedSteps steps.now marks.now (length steps.now) marked.items) }
+{
+    let mut marked = Vec::new(alloc);
+    for (place, step) in steps.iter().enumerate() {
+        if !marks[place] {
+            continue;
+        }
+        marked.push(*step)?;
+    }
+    Ok(marked)
+}

@@ -1,0 +1,12 @@
+pub mod Bounds
+pub mod Children
+pub mod Elements
+pub mod Fates
+pub mod Optimality
+pub mod Reaching
+pub mod Refusals
+pub mod Rows
+pub mod SameLinks
+pub mod SameWay
+pub mod ThirtyRow
+pub mod Walks

@@ -1,0 +1,6 @@
+pub mod Certificates
+pub mod Greatest
+pub mod Net
+pub mod Reach
+pub mod Routes
+pub mod SmallBoard

@@ -1,0 +1,11 @@
+//! Routes, runs and their revenue, the certificates that no run earns more, and the law that they tell the truth.
+#![tactic(auto)]
+
+mod certificate;
+pub mod laws;
+mod net;
+#[cfg(test)]
+mod tests;
+
+pub use certificate::{CertTree, Fate};
+pub use net::{CentreLimit, Link, Node};

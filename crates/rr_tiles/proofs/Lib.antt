@@ -1,0 +1,9 @@
+pub mod CentreLemmas
+pub mod EachLemmas
+pub mod EdgeLemmas
+pub mod ElementLemmas
+pub mod KeepingLemmas
+pub mod ManifestLemmas
+pub mod OptionLemmas
+pub mod SupplyLemmas
+pub mod TileLemmas

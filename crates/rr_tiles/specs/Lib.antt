@@ -1,0 +1,10 @@
+pub mod Each
+pub mod Edge
+pub mod Fault
+pub mod Keeping
+pub mod Manifest
+pub mod Reading
+pub mod Sound
+pub mod Spelling
+pub mod Supply
+pub mod Tile

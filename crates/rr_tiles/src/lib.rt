@@ -1,0 +1,22 @@
+//! The tiles of a kit: their tracks and centres, and the manifest of a kit's tiles, read from texts.
+#![tactic(auto)]
+
+mod centre_word;
+mod edge;
+mod element;
+mod fault;
+mod keeping;
+mod manifest;
+mod part;
+mod supply;
+#[cfg(test)]
+mod tests;
+mod tile;
+
+pub use edge::{Edge, Edges};
+pub use fault::Fault;
+pub use keeping::keeps;
+pub use manifest::Manifest;
+pub use part::{Centre, Kind, Label, Part, Track};
+pub use supply::{Colour, Supply};
+pub use tile::Tile;
