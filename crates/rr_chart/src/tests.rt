@@ -46,6 +46,96 @@ fn reads_the_shipped_chart(rt: HostRuntime) -> Result<(), Fail> {
     Ok(())
 }
 
+/// The zone of a letter, and whether it is that of a par cell: `y`, `o` and `b` for the colours, `p` for a par cell, `w`
+/// for any other white one, and anything else for no cell.
+fn zone_of(letter: u8) -> Option<(Zone, bool)> {
+    match letter {
+        b'y' => Some((Zone::Yellow, false)),
+        b'o' => Some((Zone::Orange, false)),
+        b'b' => Some((Zone::Brown, false)),
+        b'p' => Some((Zone::White, true)),
+        b'w' => Some((Zone::White, false)),
+        _ => None,
+    }
+}
+
+/// The cell of a price and a letter.
+fn cell_of(price: u16, letter: u8) -> Option<Cell> {
+    let (zone, is_par) = zone_of(letter)?;
+    Some(Cell {
+        price,
+        zone,
+        is_par,
+    })
+}
+
+/// How many cells of the row, from the left, are those of these prices and letters.
+fn matching(chart: &Chart, row: usize, prices: &[u16], letters: &[u8]) -> usize {
+    let mut count = 0_usize;
+    for column in 0..prices.len() {
+        let Some(letter) = letters.get(column) else {
+            return count;
+        };
+        if chart.cell(at(row, column)) != cell_of(prices[column], *letter) {
+            return count;
+        }
+        count = column + 1;
+    }
+    count
+}
+
+#[test]
+fn has_every_cell_of_the_shipped_chart(rt: HostRuntime) -> Result<(), Fail> {
+    let chart = Chart::read(rt.alloc(), SHIPPED)?;
+    let rows: [(&[u16], &[u8]); 11] = [
+        (
+            &[
+                60, 67, 71, 76, 82, 90, 100, 112, 126, 142, 160, 180, 200, 225, 250, 275, 300, 325,
+                350,
+            ],
+            b"ywwwwwpwwwwwwwwwwww",
+        ),
+        (
+            &[
+                53, 60, 66, 70, 76, 82, 90, 100, 112, 126, 142, 160, 180, 200, 220, 240, 260, 280,
+                300,
+            ],
+            b"yywwwwpwwwwwwwwwwww",
+        ),
+        (
+            &[
+                46, 55, 60, 65, 70, 76, 82, 90, 100, 111, 125, 140, 155, 170, 185, 200,
+            ],
+            b"yyywwwpwwwwwwwww",
+        ),
+        (
+            &[39, 48, 54, 60, 66, 71, 76, 82, 90, 100, 110, 120, 130],
+            b"oyyywwpwwwwww",
+        ),
+        (
+            &[32, 41, 48, 55, 62, 67, 71, 76, 82, 90, 100],
+            b"ooyywwpwwww",
+        ),
+        (&[25, 34, 42, 50, 58, 65, 67, 71, 75, 80], b"booyywpwww"),
+        (&[18, 27, 36, 45, 54, 63, 67, 69, 70], b"bbooywwww"),
+        (&[10, 20, 30, 40, 50, 60, 67, 68], b"bbboyyww"),
+        (&[0, 10, 20, 30, 40, 50, 60], b".bbboyy"),
+        (&[0, 0, 10, 20, 30, 40, 50], b"..bbboy"),
+        (&[0, 0, 0, 10, 20, 30, 40], b"...bbbo"),
+    ];
+    for row in 0..11 {
+        let (prices, letters) = rows[row];
+        assert_eq!(rt;
+            matching(&chart, row, prices, letters),
+            prices.len(),
+            "{row}"
+        );
+        assert_eq!(rt; chart.cell(at(row, prices.len())), None, "{row}");
+    }
+    assert_eq!(rt; chart.cell(at(11, 0)), None);
+    Ok(())
+}
+
 #[test]
 fn finds_neighbours(rt: HostRuntime) -> Result<(), Fail> {
     let chart = Chart::read(rt.alloc(), SHIPPED)?;

@@ -1,5 +1,5 @@
 -- What a moderator answers, from what its parts did.
-use Rattle.std.proofs.Common.{◌≡◌, ℕ, Bool, false, true, List, None, Some, Result, Ok, Err, inl, inr, MatchResult, refl, sym, ap, subst, ◌∙◌}
+use Rattle.std.proofs.Common.{◌≡◌, ℕ, ◌≤◌, Bool, false, true, List, length, Option, None, Some, Result, Ok, Err, inl, inr, MatchResult, refl, sym, ap, subst, ◌∙◌}
 use Rattle.rr_roster.specs.Terms.{Terms}
 use Rattle.rr_code.specs.declared.command.Command.{Command}
 use Rattle.rr_moderator.specs.declared.fault.Fault.{Fault}
@@ -8,7 +8,9 @@ use Rattle.rr_moderator.specs.Answer.{accepted_text}
 use Rattle.rr_moderator.specs.Fault.{refusal_of}
 use Rattle.rr_moderator.specs.Queries.{Answer, fault_of, reply_of}
 use Rattle.rr_moderator.specs.World.{MayRefuse, World, state_after, table_named, verdict_in, world_after}
-use Rattle.rr_moderator.specs.Serving.{Held, Takes, Accepted, Refused, NoRoom, Fails, accepted_reply, outcome_of, reply_to}
+use Rattle.rr_code.specs.declared.line.Line.TheVariants as L
+use Rattle.rr_code.specs.Line.{SpellsLine}
+use Rattle.rr_moderator.specs.Serving.{Held, MayAppend, Takes, Accepted, Refused, NoRoom, Fails, accepted_reply, outcome_of, reply_to}
 
 abbrev pub held : Terms → World → Bool → Held
 held roster tables broken = record { roster = roster; tables = tables; broken = broken }
@@ -53,3 +55,13 @@ pub queried : (answer : Answer) (r : Result (Unit {0}) Fault) (reply : List ℕ)
     → reply_to (outcome_of r reply) ≡ reply_of answer
 queried answer (Ok u) reply h = h.1
 queried answer (Err fault) reply h = reply_refused answer fault h
+
+-- what a refused command leaves alone, a line that isn't a lawful command leaves alone
+pub untouched_by : {K : Type 0} (held : Held) (line : List ℕ) (stamp : ℕ) (name : List ℕ) (c : Command) (verdict : Option Fault) (new old : K)
+    → verdict_in held.roster held.tables stamp name c ≡ verdict
+    → length line ≤ 8000 → SpellsLine line (L.Command stamp name c) → held.broken ≡ false
+    → ((fault : Fault) → verdict_in held.roster held.tables stamp name c ≡ Some fault → new ≡ old)
+    → ¬ MayAppend held line → new ≡ old
+untouched_by held line stamp name c None new old is short spelled whole untouched unlawful =
+    absurd (unlawful (record { stamp = stamp; name = name; command = c; short = short; spelled = spelled; whole = whole; lawful = is }))
+untouched_by held line stamp name c (Some fault) new old is short spelled whole untouched unlawful = untouched fault is

@@ -68,6 +68,16 @@ pub data Responds (old : Held) (line : List ℕ) (new : Held) : Result (List ℕ
   Read : (l : Line) (outcome : Result (List ℕ) Fault) → length line ≤ 8000 → SpellsLine line l → old.broken ≡ false
       → Meets old l new outcome → Responds old line new outcome
 
+-- the line is a command that no rule refuses, of a form and at a device that let it be taken
+pub record MayAppend (held : Held) (line : List ℕ) : Type 0 where
+  pub stamp : ℕ
+  pub name : List ℕ
+  pub command : Command
+  pub short : length line ≤ 8000
+  pub spelled : SpellsLine line (L.Command stamp name command)
+  pub whole : held.broken ≡ false
+  pub lawful : verdict_in held.roster held.tables stamp name command ≡ None
+
 -- a moderator that holds this may answer the line so, and holds that afterwards
 abbrev pub Answers : Held → List ℕ → Held → List ℕ → Type 0
 Answers old line new reply =

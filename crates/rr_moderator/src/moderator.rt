@@ -1,4 +1,4 @@
-ghost use Rattle.std.specs.Prelude.{◌≡◌, ◌<◌, ◌≤◌, ℕ, List, Result, false, length, ◌∷◌, OnOk, OnErr, IfOk, IfErr};
+ghost use Rattle.std.specs.Prelude.{◌≡◌, ◌<◌, ◌≤◌, ℕ, List, Result, false, length, ◌∷◌, OnOk, OnErr, IfOk, IfErr, Some};
 ghost use Rattle.std.specs.Borrow.{sem};
 ghost use Rattle.std.specs.Io.BufRead.{Rests};
 ghost use Rattle.std.specs.Io.KnownBytes.{Appends};
@@ -9,10 +9,10 @@ ghost use Rattle.rr_serve.specs.declared.faults.Fault as serve;
 ghost use Rattle.rr_serve.specs.Answering.{AppendsFront};
 ghost use Rattle.rr_serve.specs.Lines.{taken};
 ghost use Rattle.rr_serve.specs.Serving.{AnswersAll, Session};
-ghost use Rattle.rr_moderator.specs.Holding.{disk_under, held_by, held_of, last_reply, spoken_of};
+ghost use Rattle.rr_moderator.specs.Holding.{disk_under, held_by, held_of, last_reply, spoken_of, world_of};
 ghost use Rattle.rr_moderator.specs.Replaying.{CountsFailure, Opens, RefusesOpening, RefusesReplay, Replayed, records_of};
-ghost use Rattle.rr_moderator.specs.Serving.{Answers, EndsAs, Responds, Speaks, Takes, outcome_of, said};
-ghost use Rattle.rr_moderator.specs.World.{amount_in};
+ghost use Rattle.rr_moderator.specs.Serving.{Answers, EndsAs, MayAppend, Responds, Speaks, Takes, outcome_of, said};
+ghost use Rattle.rr_moderator.specs.World.{amount_in, verdict_in};
 ghost use Rattle.rr_moderator.specs.contracts.moderator.Moderator.{the_row};
 
 use crate::fault::Fault;
@@ -152,9 +152,10 @@ impl<D: Disk + Drop> Moderator<D> {
     /// Answers a line, given without its line feed, by the bytes of its reply.
     pub fn answer(&mut self, line: &[u8]) -> &[u8]
         ensures* { sem 𝓛 (Rests (the_row D.row) self.entry (λ new.
-            Answers (held_of self.old) line.now (held_of new) result.now)) }
+            Answers (held_of self.old) line.now (held_of new) result.now
+            × (¬ MayAppend (held_of self.old) line.now → disk_under new ≡ disk_under self.old))) }
     {
-        self.state.take(line);
+        self.state.say(line);
         self.state.reply()
     }
 
@@ -209,9 +210,7 @@ impl<D: Disk + Drop> Machine for State<D> {
     ghost reply_of = { λ state. state.reply };
 
     fn take(&mut self, line: &[u8]) {
-        if let Err(fault) = self.respond(line) {
-            fault.write(&mut self.reply);
-        }
+        self.say(line);
     }
 
     fn reply(&self) -> &[u8] {
@@ -220,9 +219,20 @@ impl<D: Disk + Drop> Machine for State<D> {
 }
 
 impl<D: Disk + Drop> State<D> {
+    /// Makes the reply to a line.
+    fn say(&mut self, line: &[u8])
+        ensures answers { Answers (held_by self.old.keeper self.old.tables) line.now (held_by self.new.keeper self.new.tables) self.new.reply }
+        ensures untouched { ¬ MayAppend (held_by self.old.keeper self.old.tables) line.now → self.new.keeper ≡ self.old.keeper }
+    {
+        if let Err(fault) = self.respond(line) {
+            fault.write(&mut self.reply);
+        }
+    }
+
     /// Makes the reply to a line, unless it is refused.
     fn respond(&mut self, line: &[u8]) -> Result<(), Fault>
-        ensures { Responds (held_by self.old.keeper self.old.tables) line.now (held_by self.new.keeper self.new.tables) (outcome_of result self.new.reply) }
+        ensures responds { Responds (held_by self.old.keeper self.old.tables) line.now (held_by self.new.keeper self.new.tables) (outcome_of result self.new.reply) }
+        ensures untouched { ¬ MayAppend (held_by self.old.keeper self.old.tables) line.now → self.new.keeper ≡ self.old.keeper }
     {
         if line.len() > LONGEST_LINE {
             return Err(Fault::LineTooLong);
@@ -252,7 +262,9 @@ impl<D: Disk + Drop> State<D> {
         requires some { 0 < length bytes.now }
         requires small { amount_in command.now ≤ 10000000000 }
         requires whole { is_broken self.old.keeper ≡ false }
-        ensures { Takes (held_by self.old.keeper self.old.tables) stamp table.now command.now (held_by self.new.keeper self.new.tables) (outcome_of result self.new.reply) }
+        ensures takes { Takes (held_by self.old.keeper self.old.tables) stamp table.now command.now (held_by self.new.keeper self.new.tables) (outcome_of result self.new.reply) }
+        ensures untouched { (fault : Fault) → verdict_in self.old.tables.roster (world_of self.old.tables.map.entries) stamp table.now command.now ≡ Some fault
+            → self.new.keeper ≡ self.old.keeper }
     {
         let stamp = self
             .tables

@@ -141,6 +141,8 @@ impl Table {
         ensures played { OnOk result (IsGameOf roster.now self.old.accepted.items self.old.game → IsGameOf roster.now self.new.accepted.items self.new.game) }
         ensures whole { OnOk result (J.broken journal.new ≡ false) }
         ensures err { OnErr result (self.new ≡ self.old) }
+        ensures untouched { IsGameOf roster.now self.old.accepted.items self.old.game → (fault : Fault)
+            → table_verdict roster.now (table_of self.old.accepted.items self.old.stamp) stamp command.now ≡ Some fault → journal.new ≡ journal.old }
     {
         let game = self.judge(alloc, stamp, command, roster)?;
         journal.keep(bytes)?;
@@ -275,6 +277,8 @@ impl Tables {
         ensures whole { OnOk result (J.broken journal.new ≡ false) }
         ensures roster { self.new.roster ≡ self.old.roster }
         ensures err { OnErr result (self.new.map.entries ≡ self.old.map.entries) }
+        ensures untouched { (fault : Fault) → verdict_in self.old.roster (world_of self.old.map.entries) stamp name.now command.now ≡ Some fault
+            → journal.new ≡ journal.old }
     {
         match command {
             Command::Open { players } => self.open(alloc, stamp, name, players, bytes, journal),
@@ -301,6 +305,8 @@ impl Tables {
         ensures whole { OnOk result (J.broken journal.new ≡ false) }
         ensures roster { self.new.roster ≡ self.old.roster }
         ensures err { OnErr result (self.new.map.entries ≡ self.old.map.entries) }
+        ensures untouched { (fault : Fault) → opening_verdict (option_map state_of (get bytes_eq self.old.map name.now)) (index_map_len self.old.map) stamp ≡ Some fault
+            → journal.new ≡ journal.old }
     {
         self.judge_opening(stamp, name)?;
         let command = Command::Open { players: *players };
@@ -361,6 +367,8 @@ impl Tables {
         ensures whole { OnOk result (J.broken journal.new ≡ false) }
         ensures roster { self.new.roster ≡ self.old.roster }
         ensures err { OnErr result (self.new.map.entries ≡ self.old.map.entries) }
+        ensures untouched { (fault : Fault) → step_verdict self.old.roster (option_map state_of (get bytes_eq self.old.map name.now)) stamp command.now ≡ Some fault
+            → journal.new ≡ journal.old }
     {
         match self.map.get_mut(name) {
             Some(table) => table.take(alloc, stamp, command, &self.roster, bytes, journal),

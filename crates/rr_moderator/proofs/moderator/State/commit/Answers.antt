@@ -4,13 +4,13 @@ use Rattle.rr_moderator.specs.Holding.{world_of}
 use Rattle.rr_moderator.proofs.ServingLemmas.{takes_accepted, takes_refused}
 use Rattle.rr_moderator.proofs.moderator.State.commit.Goals as goal
 
-pub returns-in_err-stamp : goal.returns-in_err-stamp
-returns-in_err-stamp g c =
+pub returns-in_err-stamp-clause-takes : goal.returns-in_err-stamp-clause-takes
+returns-in_err-stamp-clause-takes g c =
     let p = err_from_is_err_and c.from_residual.result c.from_residual.ensures.1 in
     let took = c.in_err-stamp.ensures in
     rw (p.1, p.2) (takes_refused _ _ _ _ _ _ _ _ _ _ c.requires.whole took.roster (ap world_of took.err) took.verdict)
 
-pub returns : goal.returns
-returns g c =
+pub returns-clause-takes : goal.returns-clause-takes
+returns-clause-takes g c =
     let took = c.in_ok-stamp.ensures in
     takes_accepted _ _ _ _ _ _ _ _ _ _ _ c.requires.whole took.whole took.roster took.world took.verdict took.stamp c.accept.ensures

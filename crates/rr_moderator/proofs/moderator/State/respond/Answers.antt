@@ -2,33 +2,39 @@ use Rattle.std.proofs.Common.{◌∙◌, ◌≤◌, length, refl, sym, arith, su
 use Rattle.std.proofs.lemmas.Result.{err_from_is_err_and}
 use Rattle.rr_code.specs.Line.{SpellsLine}
 use Rattle.rr_moderator.specs.Queries.{query_answer}
-use Rattle.rr_moderator.specs.Holding.{world_of}
+use Rattle.rr_moderator.specs.Holding.{held_by, world_of}
 use Rattle.rr_moderator.specs.Serving.{TooLong, Malformed, Broken, Read}
-use Rattle.rr_moderator.proofs.ServingLemmas.{queried}
+use Rattle.rr_moderator.proofs.ServingLemmas.{queried, untouched_by}
 use Rattle.rr_moderator.proofs.moderator.State.respond.Goals as goal
 
-pub returns-then-line-gt-LONGEST_LINE : goal.returns-then-line-gt-LONGEST_LINE
-returns-then-line-gt-LONGEST_LINE g c = TooLong c.if-line-gt-LONGEST_LINE.true refl
+pub returns-then-line-gt-LONGEST_LINE-clause-responds : goal.returns-then-line-gt-LONGEST_LINE-clause-responds
+returns-then-line-gt-LONGEST_LINE-clause-responds g c = TooLong c.if-line-gt-LONGEST_LINE.true refl
 
-pub returns-in_err-read : goal.returns-in_err-read
-returns-in_err-read g c =
+pub returns-in_err-read-clause-responds : goal.returns-in_err-read-clause-responds
+returns-in_err-read-clause-responds g c =
     let p = err_from_is_err_and c.from_residual.result c.from_residual.ensures.1 in
     let short : length c.args.line.now ≤ 8000 = omega arith in
     rw (p.1, p.2, c.in_err-read.ensures.found) (Malformed short (λ l spells. let other = c.in_err-read.ensures.only l spells in cc) refl)
 
-pub returns-then-is_broken : goal.returns-then-is_broken
-returns-then-is_broken g c =
+pub returns-then-is_broken-clause-responds : goal.returns-then-is_broken-clause-responds
+returns-then-is_broken-clause-responds g c =
     let short : length c.args.line.now ≤ 8000 = omega arith in
     Broken c.in_ok-read.read short c.in_ok-read.ensures.found (sym c.is_broken.ensures ∙ c.if-is_broken.true) refl
 
-pub returns-in-Command : goal.returns-in-Command
-returns-in-Command g c =
+pub returns-in-Command-clause-responds : goal.returns-in-Command-clause-responds
+returns-in-Command-clause-responds g c =
     let short : length c.args.line.now ≤ 8000 = omega arith in
-    Read _ _ short (subst (SpellsLine c.args.line.now) c.in-Command.is c.in_ok-read.ensures.found) (sym c.is_broken.ensures ∙ c.if-is_broken.false) c.commit.ensures
+    Read _ _ short (subst (SpellsLine c.args.line.now) c.in-Command.is c.in_ok-read.ensures.found) (sym c.is_broken.ensures ∙ c.if-is_broken.false) c.commit.ensures.takes
 
-pub returns-in-Query : goal.returns-in-Query
-returns-in-Query g c =
+pub returns-in-Query-clause-responds : goal.returns-in-Query-clause-responds
+returns-in-Query-clause-responds g c =
     let short : length c.args.line.now ≤ 8000 = omega arith in
     let tables = c.args.self.now.tables in
     Read _ _ short (subst (SpellsLine c.args.line.now) c.in-Query.is c.in_ok-read.ensures.found) (sym c.is_broken.ensures ∙ c.if-is_broken.false)
     (refl, queried (query_answer tables.roster (world_of tables.map.entries) c.in-Query.query) c.answer.result c.answer.new.reply c.answer.ensures)
+
+pub returns-in-Command-clause-untouched : goal.returns-in-Command-clause-untouched
+returns-in-Command-clause-untouched g c unlawful =
+    let short : length c.args.line.now ≤ 8000 = omega arith in
+    untouched_by (held_by c.args.self.now.keeper c.args.self.now.tables) c.args.line.now _ _ _ _ _ _ refl short
+    (subst (SpellsLine c.args.line.now) c.in-Command.is c.in_ok-read.ensures.found) (sym c.is_broken.ensures ∙ c.if-is_broken.false) c.commit.ensures.untouched unlawful
