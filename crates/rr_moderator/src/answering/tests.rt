@@ -25,11 +25,11 @@ train = [
 "#;
 
 /// Takes a command of which no file keeps the record.
-fn take(alloc: Global, tables: &mut Tables, stamp: u64, record: &[u8]) -> Result<u64, Fault>
-    requires { 0 < length record.now }
+fn take(alloc: Global, tables: &mut Tables, stamp: u64, bytes: &[u8]) -> Result<u64, Fault>
+    requires { 0 < length bytes.now }
 {
-    let (table, command) = read_record(record)?;
-    tables.take(alloc, stamp, &table, &command, record, &mut Standing)
+    let (table, command) = read_record(bytes)?;
+    tables.take(alloc, stamp, &table, &command, bytes, &mut Standing)
 }
 
 /// Writes the reply to a query.
