@@ -7,3 +7,8 @@ pub mod Fitting
 pub mod Bidders
 pub mod Settlements
 pub mod Turns
+pub mod Covers
+pub mod CoveredBids
+pub mod CoveredSales
+pub mod LawfulActs
+pub mod OpenedTable

@@ -8,3 +8,5 @@ pub mod Plays
 pub mod PlayLaws
 pub mod Fit
 pub mod Opening
+pub mod SoundMoney
+pub mod WorkedAuction

@@ -7,6 +7,7 @@ mod due;
 mod fault;
 mod incomes;
 mod judging;
+pub mod laws;
 mod opening;
 mod rows;
 mod settling;

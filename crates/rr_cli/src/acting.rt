@@ -1,8 +1,9 @@
 //! What the program does with a plan, over a disk, a reader and a writer.
 ghost use Rattle.std.specs.Prelude.{◌≡◌, ◌⊎◌, IsTrue};
 ghost use Rattle.std.specs.Io.KnownBytes.{Appends};
+ghost use Rattle.rr_keeper.specs.Lent.{lent_kit};
 ghost use Rattle.rr_moderator.specs.Fault.{refusal_of};
-ghost use Rattle.rr_cli.specs.Acting.{IsAcknowledged, IsRefused};
+ghost use Rattle.rr_cli.specs.Acting.{Acts, Formats, IsAcknowledged, IsRefused, IsRefusedOr70, Serves, ending_of};
 
 use crate::{Ending, Plan, status};
 use rr_disk::Disk;
@@ -25,7 +26,8 @@ pub fn act<D: Disk + Drop, R: Read, W: Write>(
     reader: &mut R,
     writer: &mut W,
 ) -> (u8, D)
-    ensures { (result.0 ≡ 0) ⊎ (result.0 ≡ 3) ⊎ (result.0 ≡ 4) }
+    ensures { Acts D.Honest D.state plan.now (lent_kit texts.entry) disk result.1 (R.remaining reader.old) (R.remaining reader.new)
+        (W.contents writer.old) (W.contents writer.new) result.0 }
 {
     match plan {
         Plan::Format { .. } => format(alloc, texts, disk, writer),
@@ -39,13 +41,19 @@ fn format<D: Disk + Drop, W: Write>(
     mut disk: D,
     writer: &mut W,
 ) -> (u8, D)
-    ensures { (result.0 ≡ 0) ⊎ (result.0 ≡ 3) ⊎ (result.0 ≡ 4) }
+    ensures { Formats (D.Honest result.1) (result.1 ≡ disk) (lent_kit texts.entry) (D.state disk) (D.state result.1)
+        (W.contents writer.old) (W.contents writer.new) result.0 }
 {
-    let ending = match rr_moderator::format(alloc, &mut disk, texts) {
-        Ok(()) => acknowledge(writer),
-        Err(fault) => refuse(alloc, fault, writer),
-    };
-    (status(ending), disk)
+    match rr_moderator::format(alloc, &mut disk, texts) {
+        Ok(()) => {
+            let ending = acknowledge(writer);
+            (status(ending), disk)
+        }
+        Err(fault) => {
+            let ending = refuse(alloc, fault, writer);
+            (status(ending), disk)
+        }
+    }
 }
 
 fn serve<D: Disk + Drop, R: Read, W: Write>(
@@ -54,14 +62,12 @@ fn serve<D: Disk + Drop, R: Read, W: Write>(
     reader: &mut R,
     writer: &mut W,
 ) -> (u8, D)
-    ensures { (result.0 ≡ 0) ⊎ (result.0 ≡ 3) ⊎ (result.0 ≡ 4) }
+    ensures { Serves D.Honest D.state disk result.1 (R.remaining reader.old) (R.remaining reader.new)
+        (W.contents writer.old) (W.contents writer.new) result.0 }
 {
     match Moderator::open(alloc, disk) {
         Ok(mut moderator) => {
-            let ending = match moderator.serve(reader, writer) {
-                Ok(()) => Ending::Done,
-                Err(fault) => Ending::Faulted(fault.number()),
-            };
+            let ending = ending_of(moderator.serve(reader, writer));
             (status(ending), moderator.into_disk())
         }
         Err(refused) => {
@@ -69,6 +75,16 @@ fn serve<D: Disk + Drop, R: Read, W: Write>(
             let ending = refuse(alloc, fault, writer);
             (status(ending), disk)
         }
+    }
+}
+
+/// How a run ends whose serving ended so.
+fn ending_of(served: Result<(), Fault>) -> Ending
+    ensures { result ≡ ending_of served }
+{
+    match served {
+        Ok(()) => Ending::Done,
+        Err(fault) => Ending::Faulted(fault.number()),
     }
 }
 
@@ -86,8 +102,7 @@ fn acknowledge<W: Write>(writer: &mut W) -> Ending
 /// Writes the refusal as one line, and tells how the program ends. Where no memory is left to make the line,
 /// it is that of `OutOfMemory`.
 pub fn refuse<W: Write>(alloc: Global, fault: Fault, writer: &mut W) -> Ending
-    ensures { IsRefused fault (W.contents writer.old) (W.contents writer.new) result
-        ⊎ IsRefused Fault.OutOfMemory (W.contents writer.old) (W.contents writer.new) result }
+    ensures { IsRefusedOr70 fault (W.contents writer.old) (W.contents writer.new) result }
 {
     match Reply::new(alloc) {
         Ok(mut reply) => {

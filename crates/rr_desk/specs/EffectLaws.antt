@@ -1,6 +1,8 @@
 -- How a desk takes effects, one after another.
 use Rattle.std.specs.Prelude.{◌≡◌, List, [], ◌∷◌, ◌++◌, refl}
 use Rattle.std.proofs.Common.{sym, ◌∙◌, ap, subst, append_assoc, append-nil}
+use Rattle.rr_roster.specs.declared.company.Corp.{Corp}
+use Rattle.rr_books.specs.declared.entries.Cell.{Cell}
 use Rattle.rr_books.specs.declared.entries.Entry.{Entry}
 use Rattle.rr_books.specs.declared.entries.Entry.TheVariants as E
 use Rattle.rr_books.specs.declared.entries.Marker.{Marker}
@@ -20,6 +22,11 @@ takes_entry old new e grown more book h =
 pub takes_step : (old new : OnDesk) (marker : Marker) → new.books ≡ old.books → new.entries ≡ old.entries ++ E.Step marker ∷ [] → Takes (adds (E.Step marker)) old new
 takes_step old new marker same more =
     takes_entry old new (E.Step marker) (λ book h. let P : State → Type 0 = λ s. IsStateOf (book ++ E.Step marker ∷ []) s in subst P (sym same) (stays book (E.Step marker) old.books refl h)) more
+
+-- a token on a cell of the chart, of which the books know nothing
+pub takes_mark : (old new : OnDesk) (corp : Corp) (cell : Cell) → new.books ≡ old.books → new.entries ≡ old.entries ++ E.Mark corp cell ∷ [] → Takes (adds (E.Mark corp cell)) old new
+takes_mark old new corp cell same more =
+    takes_entry old new (E.Mark corp cell) (λ book h. let P : State → Type 0 = λ s. IsStateOf (book ++ E.Mark corp cell ∷ []) s in subst P (sym same) (stays book (E.Mark corp cell) old.books refl h)) more
 
 -- no effect
 pub takes_nothing : (d : OnDesk) → Takes (in_turn []) d d

@@ -7,7 +7,9 @@ ghost use Rattle.rr_desk.specs.Desk.{Holds};
 ghost use Rattle.rr_desk.specs.Effects.{Takes, adds, lowest_share, moves_lowest_share};
 
 use crate::entries::Entries;
-use rr_books::{Books, Cert, Corp, Entry, Fault, Marker, Money, Party, Place, ShareNumber, Train};
+use rr_books::{
+    Books, Cell, Cert, Corp, Entry, Fault, Marker, Money, Party, Place, ShareNumber, Train,
+};
 use std::alloc::Global;
 use std::marker::Model;
 
@@ -65,6 +67,21 @@ impl Desk {
         ensures err { OnErr result (self.new ≡ self.old) }
     {
         self.entries.push(Entry::Step(marker))?;
+        Ok(())
+    }
+
+    /// Puts the corporation's token on a cell of the chart, by an entry. The books know nothing of the chart.
+    ///
+    /// # Errors
+    ///
+    /// `OutOfMemory`; the desk is as before then.
+    pub fn mark(&mut self, corp: Corp, cell: Cell) -> Result<(), Fault>
+        ensures takes { OnOk result (Takes (adds (Entry.Mark corp cell)) self.old self.new) }
+        ensures fault { IfErr result (λ fault. fault ≡ Fault.OutOfMemory) }
+        ensures books { self.new.books ≡ self.old.books }
+        ensures err { OnErr result (self.new ≡ self.old) }
+    {
+        self.entries.push(Entry::Mark { corp, cell })?;
         Ok(())
     }
 

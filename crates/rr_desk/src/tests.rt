@@ -2,7 +2,7 @@ ghost use Rattle.std.specs.Prelude.{◌≤◌, IfOk};
 
 use crate::Desk;
 use rr_books::{
-    Books, Cert, Corp, Fault, Kind, Marker, Money, Party, Place, Seat, ShareNumber, Train,
+    Books, Cell, Cert, Corp, Fault, Kind, Marker, Money, Party, Place, Seat, ShareNumber, Train,
 };
 use rr_roster::Roster;
 use std::alloc::Global;
@@ -47,6 +47,18 @@ fn pays_and_steps(rt: HostRuntime) -> Result<(), Fail> {
     assert_eq!(rt;
         entries.as_str(),
         "[Pay { from: Seat(Seat(0)), to: Bank, amount: Money(200) }, Step(Stock)]"
+    );
+    Ok(())
+}
+
+#[test]
+fn marks(rt: HostRuntime) -> Result<(), Fail> {
+    let mut desk = desk(rt.alloc())?;
+    desk.mark(Corp::Prr, Cell { row: 2, column: 6 })?;
+    let entries = format!(in rt.alloc(); "{:?}", desk.entries().as_slice())?;
+    assert_eq!(rt;
+        entries.as_str(),
+        "[Mark { corp: Prr, cell: Cell { row: 2, column: 6 } }]"
     );
     Ok(())
 }

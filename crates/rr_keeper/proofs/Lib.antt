@@ -1,3 +1,4 @@
+pub mod Halves
 pub mod Kits
 pub mod Places
 pub mod Slots

@@ -1,7 +1,7 @@
 -- The form of the file. Numbers are big-endian.
-use Rattle.std.specs.Prelude.{◌≡◌, ℕ, ◌+◌, ◌*◌, ◌<◌, ◌≤◌, List, [], ◌++◌, length, slice_index}
+use Rattle.std.specs.Prelude.{◌≡◌, ◌≢◌, ℕ, ◌+◌, ◌*◌, ◌<◌, ◌≤◌, List, [], ◌++◌, length, slice_index}
 use Rattle.byteorder.specs.Endian.{big_from, big_bytes}
-use Rattle.rr_journal.specs.declared.layout.HalfIndex.TheVariants.{First}
+use Rattle.rr_journal.specs.declared.layout.HalfIndex.TheVariants.{First, Second}
 use Rattle.rr_journal.specs.declared.reading.RunEnd.{RunEnd}
 use Rattle.rr_journal.specs.declared.reading.RunEnd.TheVariants.{Closed}
 use Rattle.rr_journal.specs.Layout.{StandsAt}
@@ -53,11 +53,23 @@ behind_kit place kit = behind (behind (behind (behind place kit.chart) kit.roste
 abbrev pub kit_place : ℕ
 kit_place = 2105344
 
--- the file holds this kit and the records of these lines, numbered from 1, and the journal's half ends so behind them
+-- The near lines' records stand in the journal's first half, up to a shut slot, and the far lines' in its second, which
+-- ends so behind them. They are numbered on from 1.
+pub record HasHalves (file : List ℕ) (near far : List (List ℕ)) (end : RunEnd) : Type 0 where
+  pub first : Run file First 0 1 near Closed
+  pub second : Run file Second 0 (1 + length near) far end
+
+-- The journal holds the records of these lines, and ends so behind them. Its second half counts only where the first ends
+-- at a shut slot.
+pub data HasRecords (file : List ℕ) (lines : List (List ℕ)) (end : RunEnd) : Type 0 where
+  In_halves : (near far : List (List ℕ)) → lines ≡ near ++ far → HasHalves file near far end → HasRecords file lines end
+  In_first : end ≢ Closed → Run file First 0 1 lines end → HasRecords file lines end
+
+-- the file holds this kit and the records of these lines, and the journal ends so behind them
 pub record HasForm (file : List ℕ) (kit : Kit) (lines : List (List ℕ)) (end : RunEnd) : Type 0 where
   pub root : IsRoot file
   pub texts : IsKitAt file kit_place kit
-  pub records : Run file First 0 1 lines end
+  pub records : HasRecords file lines end
 
 -- the file is a store with this kit and the records of these lines
 abbrev pub IsStore : List ℕ → Kit → List (List ℕ) → Type 0

@@ -1,14 +1,15 @@
 ghost use Rattle.std.specs.Prelude.{◌≡◌, ◌⊎◌, ◌↔◌, ◌+◌, ◌^◌, ◌<◌, ◌≤◌, [], ◌∷◌, ◌++◌, List, ℕ, Bool, true, false, length, OnOk, IfErr, IsErrOf, IsTrue};
 ghost use Rattle.rr_disk.specs.Disk.{DiskState, after_sync, after_write};
 ghost use Rattle.rr_disk.specs.Moments.{LeavesOnly};
-ghost use Rattle.rr_journal.specs.Layout.{HasRoom, slots_for, spelling};
+ghost use Rattle.rr_journal.specs.Layout.{HasRoom, start_page, slots_for, spelling};
 ghost use Rattle.rr_journal.specs.Stops.{next_gate};
 ghost use Rattle.rr_keeper.specs.Fault.{CountsFault};
 ghost use Rattle.rr_keeper.specs.File.{Kit, IsStore};
+ghost use Rattle.rr_keeper.specs.Halves.{gone_on, place_for, HasPlace};
 
 use crate::fault::Fault;
 use rr_disk::Disk;
-use rr_journal::{Half, RecordBuffer};
+use rr_journal::{Half, HalfIndex, RecordBuffer};
 
 /// An open store: the disk, and where the next line goes.
 #[derive(Drop)]
@@ -18,14 +19,14 @@ pub struct Keeper<D: Drop> {
     buffer: RecordBuffer,
     next_number: u64,
     broken: bool,
-    ghost few: { next_number ≤ half.next_slot + 1 },
+    ghost few: { next_number < start_page half.index + half.next_slot },
 }
 
 impl<D: Disk + Drop> Keeper<D> {
     ghost use Rattle.rr_keeper.specs.Keeper.{disk_of, half_of, number_of_next, is_broken, IsUnchanged, Keeps};
 
     pub(crate) fn new(disk: D, half: Half, buffer: RecordBuffer, next_number: u64) -> Keeper<D>
-        requires { next_number ≤ half.next_slot + 1 }
+        requires { next_number < start_page half.index + half.next_slot }
         ensures disk { disk_of result ≡ disk }
         ensures half { half_of result ≡ half }
         ensures number { number_of_next result ≡ next_number }
@@ -42,8 +43,8 @@ impl<D: Disk + Drop> Keeper<D> {
 
     /// Appends a line's record. After `Ok` the line is safe on the disk. It takes no memory.
     ///
-    /// `HalfFull` where the journal has no room for the line, and `OpenAgain` where a device call failed before: then
-    /// nothing has changed. After `DeviceFailed` the line may be on the disk or not, and the keeper is broken.
+    /// Where the first half of the journal has no room, lines go on in the second, and stay there. `HalfFull` where that
+    /// has none either, and `OpenAgain` where a device call failed before: then nothing has changed. After `DeviceFailed` the line may be on the disk or not, and the keeper is broken.
     pub fn append(&mut self, line: &[u8]) -> Result<(), Fault>
         requires { 0 < length line.now }
 
@@ -68,17 +69,18 @@ impl<D: Disk + Drop> Keeper<D> {
         // The whole record was written, and synced.
         ensures written { OnOk result (D.Honest (disk_of self.new)
             → D.state (disk_of self.new) ≡ after_sync (after_write (D.state (disk_of self.old))
-            (next_gate (half_of self.old)) (spelling (number_of_next self.old) line.now))) }
+            (next_gate (place_for (half_of self.old) (length line.now)))
+            (spelling (number_of_next self.old) line.now))) }
         ensures half { OnOk result (half_of self.new ≡ record {
-          index = (half_of self.old).index;
-          next_slot = (half_of self.old).next_slot + slots_for (length line.now);
+          index = (place_for (half_of self.old) (length line.now)).index;
+          next_slot = (place_for (half_of self.old) (length line.now)).next_slot + slots_for (length line.now);
         }) }
         ensures number { OnOk result (number_of_next self.new ≡ number_of_next self.old + 1) }
 
         // When each refusal comes, and what it leaves.
         ensures again { IsErrOf result Fault.OpenAgain ↔ IsTrue (is_broken self.old) }
         ensures full { IsErrOf result Fault.HalfFull
-            ↔ ((is_broken self.old ≡ false) × (HasRoom (half_of self.old).next_slot (length line.now) → ⊥)) }
+            ↔ ((is_broken self.old ≡ false) × (HasPlace (half_of self.old) (length line.now) → ⊥)) }
         ensures unchanged { (result ≡ Err Fault.OpenAgain) ⊎ (result ≡ Err Fault.HalfFull)
             → IsUnchanged self.old self.new }
         ensures kept { IsErrOf result Fault.HalfFull
@@ -97,11 +99,10 @@ impl<D: Disk + Drop> Keeper<D> {
         if self.broken {
             return Err(Fault::OpenAgain);
         }
-        match self
-            .half
-            .append(&mut self.disk, &mut self.buffer, self.next_number, line)
-        {
+        let mut half = place_for(&self.half, line.len());
+        match half.append(&mut self.disk, &mut self.buffer, self.next_number, line) {
             Ok(()) => {
+                self.half = half;
                 self.next_number += 1;
                 Ok(())
             }
@@ -126,5 +127,31 @@ impl<D: Disk + Drop> Keeper<D> {
         ensures { result ≡ disk_of self }
     {
         self.disk
+    }
+}
+
+// Where a line of so many bytes goes: in the half under way, or else, behind the first, at the start of the second.
+fn place_for(half: &Half, count: usize) -> Half
+    ensures place { HasRoom result.next_slot count → result ≡ place_for half.now count }
+    ensures room { HasRoom result.next_slot count ↔ HasPlace half.now count }
+    ensures pages { start_page half.now.index + half.now.next_slot ≤ start_page result.index + result.next_slot }
+{
+    if half.has_room(count) {
+        return *half;
+    }
+    gone_on(*half)
+}
+
+// Where records go on where a half has no room.
+fn gone_on(half: Half) -> Half
+    ensures next { result ≡ gone_on half.index half }
+    ensures pages { start_page half.index + half.next_slot ≤ start_page result.index + result.next_slot }
+{
+    match half.index {
+        HalfIndex::First => Half {
+            index: HalfIndex::Second,
+            next_slot: 0,
+        },
+        HalfIndex::Second => half,
     }
 }

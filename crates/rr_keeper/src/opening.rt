@@ -1,9 +1,11 @@
-ghost use Rattle.std.specs.Prelude.{◌≡◌, ◌+◌, ◌^◌, ◌<◌, ◌≤◌, ◌∷◌, List, ℕ, length, vec_len, OnOk, OnErr, IfOk, IfErr, IsErrOf, IsOkUnless};
+ghost use Rattle.std.specs.Prelude.{◌≡◌, ◌+◌, ◌^◌, ◌<◌, ◌≤◌, ◌∷◌, ◌++◌, List, ℕ, length, vec_len, OnOk, OnErr, IfOk, IfErr, IsErrOf, IsOkUnless};
 ghost use Rattle.rr_disk.specs.Disk.{IsAt, after_sync, counted};
+ghost use Rattle.rr_journal.specs.Layout.{start_page};
 ghost use Rattle.rr_journal.specs.Reading.{lines};
 ghost use Rattle.rr_journal.specs.Run.{Run, slots_of};
 ghost use Rattle.rr_keeper.specs.Fault.{Counts, CountsFault};
-ghost use Rattle.rr_keeper.specs.File.{Kit, IsRoot, IsTextAt, IsKitAt, IsStore, number_from, kit_place};
+ghost use Rattle.rr_keeper.specs.File.{Kit, IsRoot, IsTextAt, IsKitAt, HasRecords, IsStore, number_from, kit_place};
+ghost use Rattle.rr_keeper.specs.Halves.{Continues};
 ghost use Rattle.rr_keeper.specs.Keeper.{disk_of, Keeps};
 ghost use Rattle.rr_keeper.specs.Opening.{kit_of, Refuses, IsOfReading, SyncsOnce};
 
@@ -97,9 +99,9 @@ pub fn open<D: Disk + Drop>(alloc: Global, mut disk: D) -> Result<Opened<D>, Ref
 fn read_store<D: Disk>(alloc: Global, disk: &mut D) -> Result<Found, Fault>
     ensures store { IfOk result (λ found. D.Honest disk.new
         → IsStore (D.state disk.old).content (kit_of found.texts) (lines found.lines.items)) }
-    ensures half { IfOk result (λ found. (found.half.index
-        ≡ HalfIndex.First) × (found.half.next_slot ≡ slots_of (lines found.lines.items))) }
-    ensures few { IfOk result (λ found. vec_len found.lines ≤ found.half.next_slot) }
+    ensures next { IfOk result (λ found. D.Honest disk.new
+        → Continues (D.state disk.old).content (lines found.lines.items) found.half) }
+    ensures few { IfOk result (λ found. 1 + vec_len found.lines < start_page found.half.index + found.half.next_slot) }
     ensures refused { IfErr result (Refuses (D.Honest disk.new) (D.state disk.old).content) }
 
     ensures synced { OnOk result (D.Honest disk.new
@@ -261,12 +263,14 @@ fn behind(place: u64, text: &[u8]) -> u64
     place + 4 + text.len() as u64
 }
 
-// The records of the journal's first half, numbered from 1.
+// The records of the journal: those of the first half, and, where they end at a shut slot, those of the second.
 fn read_records<D: Disk>(alloc: Global, disk: &mut D) -> Result<Scanned, Fault>
     ensures found { IfOk result (λ scanned. D.Honest disk.new
-        → Run (D.state disk.old).content HalfIndex.First 0 1 (lines scanned.records.items) scanned.end) }
-    ensures half { IfOk result (λ scanned. (scanned.half.index
-        ≡ HalfIndex.First) × (scanned.half.next_slot ≡ slots_of (lines scanned.records.items))) }
+        → HasRecords (D.state disk.old).content (lines scanned.records.items) scanned.end) }
+    ensures next { IfOk result (λ scanned. scanned.end ≡ RunEnd.Closed → D.Honest disk.new
+        → Continues (D.state disk.old).content (lines scanned.records.items) scanned.half) }
+    ensures few { IfOk result (λ scanned.
+        1 + vec_len scanned.records < start_page scanned.half.index + scanned.half.next_slot) }
     ensures only { IfErr result IsOfReading }
     ensures never_none { IsErrOf result Fault.NotAStore → ⊥ }
 
@@ -276,6 +280,59 @@ fn read_records<D: Disk>(alloc: Global, disk: &mut D) -> Result<Scanned, Fault>
     ensures same_past { D.Honest disk.new → D.past disk.new ≡ D.past disk.old }
     ensures writes { D.write_count disk.new ≡ D.write_count disk.old }
 {
-    let scanned = scan(alloc, disk, HalfIndex::First, 1)?;
+    let near = read_half(alloc, disk, HalfIndex::First, 1)?;
+    match near.end {
+        RunEnd::Closed => {
+            let first_number = 1 + near.records.len() as u64;
+            let far = read_half(alloc, disk, HalfIndex::Second, first_number)?;
+            let all = joined(near, far)?;
+            Ok(all)
+        }
+        RunEnd::OtherNumber | RunEnd::Damaged => Ok(near),
+    }
+}
+
+// The records of a half, of this number and one more each.
+fn read_half<D: Disk>(
+    alloc: Global,
+    disk: &mut D,
+    index: HalfIndex,
+    first_number: u64,
+) -> Result<Scanned, Fault>
+    requires { first_number ≤ 256 }
+    ensures found { IfOk result (λ scanned. D.Honest disk.new
+        → Run (D.state disk.old).content index 0 first_number (lines scanned.records.items) scanned.end) }
+    ensures half { IfOk result (λ scanned. (scanned.half.index
+        ≡ index) × (scanned.half.next_slot ≡ slots_of (lines scanned.records.items))) }
+    ensures few { IfOk result (λ scanned. vec_len scanned.records ≤ scanned.half.next_slot) }
+    ensures only { IfErr result IsOfReading }
+    ensures never_none { IsErrOf result Fault.NotAStore → ⊥ }
+
+    ensures fault { CountsFault (D.fault_count disk.old) (D.fault_count disk.new) result }
+    ensures honest { D.Honest disk.new → D.Honest disk.old }
+    ensures same_state { D.Honest disk.new → D.state disk.new ≡ D.state disk.old }
+    ensures same_past { D.Honest disk.new → D.past disk.new ≡ D.past disk.old }
+    ensures writes { D.write_count disk.new ≡ D.write_count disk.old }
+{
+    let scanned = scan(alloc, disk, index, first_number)?;
     Ok(scanned)
+}
+
+// The records of both halves; the next one goes on in the second if that has any.
+fn joined(near: Scanned, far: Scanned) -> Result<Scanned, Fault>
+    ensures records { IfOk result (λ all. all.records.items ≡ near.records.items ++ far.records.items) }
+    ensures end { IfOk result (λ all. all.end ≡ far.end) }
+    ensures near { IfOk result (λ all. vec_len far.records ≡ 0 → all.half ≡ near.half) }
+    ensures far { IfOk result (λ all. 0 < vec_len far.records → all.half ≡ far.half) }
+    ensures only { IfErr result (λ fault. fault ≡ Fault.OutOfMemory) }
+{
+    let mut records = near.records;
+    let mut more = far.records;
+    let half = if more.is_empty() { near.half } else { far.half };
+    records.append(&mut more)?;
+    Ok(Scanned {
+        half,
+        records,
+        end: far.end,
+    })
 }

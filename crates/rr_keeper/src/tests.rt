@@ -1,10 +1,13 @@
+ghost use Rattle.std.specs.Prelude.{◌<◌, IfOk, vec_len};
+
 use super::*;
-use rr_disk::{Disk, FaultyDisk, MemoryDisk};
-use std::alloc::Global;
+use rr_disk::{Choice, Disk, FaultyDisk, Kept, MemoryDisk};
+use std::alloc::{AllocError, Global};
+use std::process::Abort;
 use std::test::Fail;
 
-// Room for a file of 515 pages, and for the records of a whole half.
-const ROOM: usize = 1 << 22;
+// Room for a file of 515 pages, and for the records of both halves.
+const ROOM: usize = 1 << 23;
 
 // The byte where the texts begin.
 const PLACE: usize = 2_105_344;
@@ -113,23 +116,127 @@ fn files_that_are_no_store(rt: HostRuntime) -> Result<(), Fail> {
 }
 
 #[test]
-fn a_full_half_and_a_broken_keeper(rt: HostRuntime) -> Result<(), Fail> {
+fn a_broken_keeper(rt: HostRuntime) -> Result<(), Fail> {
     let alloc = rt.alloc();
-    let mut keeper = reopened(alloc, formatted(alloc)?)?.keeper;
-    for _ in 0..255 {
-        keeper.append(b"g1 pass")?;
-    }
-    assert_eq!(rt; keeper.append(b"g1 pass").err(), Some(Fault::HalfFull));
-    assert!(rt; !keeper.is_broken());
-
-    // An opening makes eleven device calls here: a sync, and the reads of the root, of each text's length and bytes,
-    // and of slot 0.
-    let mut keeper = reopened(alloc, FaultyDisk::once(formatted(alloc)?, 11, 0))?.keeper;
+    // An opening makes twelve device calls here: a sync, and the reads of the root, of each text's length and bytes,
+    // and of slot 0 of each half.
+    let mut keeper = reopened(alloc, FaultyDisk::once(formatted(alloc)?, 12, 0))?.keeper;
     assert_eq!(rt; keeper.append(b"g1 pass").err(), Some(Fault::DeviceFailed));
     assert!(rt; keeper.is_broken());
     assert_eq!(rt; keeper.append(b"g1 pass").err(), Some(Fault::OpenAgain));
     let opened = reopened(alloc, keeper.into_disk())?;
     assert_eq!(rt; opened.lines.len(), 0);
+    Ok(())
+}
+
+// One slot long, and unlike the others.
+fn line_of(alloc: Global, number: usize) -> Result<Vec<u8>, AllocError>
+    ensures { IfOk result (λ line. 0 < vec_len line) }
+{
+    vec![in alloc; (number % 251) as u8; 1 + number % 13]
+}
+
+fn append_lines(
+    alloc: Global,
+    keeper: &mut Keeper<MemoryDisk>,
+    from: usize,
+    to: usize,
+) -> Result<(), Fail> {
+    for number in from..to {
+        let line = line_of(alloc, number)?;
+        keeper.append(&line)?;
+    }
+    Ok(())
+}
+
+fn check_lines(
+    rt: &impl Abort,
+    alloc: Global,
+    lines: &[Vec<u8>],
+    count: usize,
+) -> Result<(), Fail> {
+    assert_eq!(rt; lines.len(), count);
+    for (number, line) in lines.iter().enumerate() {
+        let want = line_of(alloc, number)?;
+        assert_eq!(rt; line.as_slice(), want.as_slice(), "line {number}");
+    }
+    Ok(())
+}
+
+#[test]
+fn lines_go_on_in_the_second_half(rt: HostRuntime) -> Result<(), Fail> {
+    let alloc = rt.alloc();
+    let mut disk = formatted(alloc)?;
+    let mut count = 0;
+    for next in [254, 255, 256, 300, 510] {
+        let mut keeper = reopened(alloc, disk)?.keeper;
+        append_lines(alloc, &mut keeper, count, next)?;
+        count = next;
+        let opened = reopened(alloc, keeper.into_disk())?;
+        check_lines(&rt, alloc, &opened.lines, count)?;
+        disk = opened.keeper.into_disk();
+    }
+    let mut keeper = reopened(alloc, disk)?.keeper;
+    assert_eq!(rt; keeper.append(b"g1 pass").err(), Some(Fault::HalfFull));
+    assert!(rt; !keeper.is_broken());
+    Ok(())
+}
+
+#[test]
+fn a_long_line_leaves_a_slot_free(rt: HostRuntime) -> Result<(), Fail> {
+    let alloc = rt.alloc();
+    let mut keeper = reopened(alloc, formatted(alloc)?)?.keeper;
+    append_lines(alloc, &mut keeper, 0, 254)?;
+    let long = vec![in alloc; 7u8; 5000]?;
+    keeper.append(&long)?;
+    let mut opened = reopened(alloc, keeper.into_disk())?;
+    opened.keeper.append(b"g1 pass")?;
+    let disk = opened.keeper.into_disk();
+    let file = disk.content();
+    assert_eq!(rt; file.len(), 2_109_440);
+    // The gates of slots 253 and 254 of the first half, and of slots 0 and 2 of the second.
+    assert_eq!(rt; file[1_044_480], 0xa5);
+    assert_eq!(rt; file[1_048_576], 0);
+    assert_eq!(rt; file[1_056_768], 0xa5);
+    assert_eq!(rt; file[1_064_960], 0xa5);
+    let lines = reopened(alloc, disk)?.lines;
+    assert_eq!(rt; lines.len(), 256);
+    assert_eq!(rt; lines[254].len(), 5000);
+    assert_eq!(rt; lines[255].as_slice(), b"g1 pass".as_slice());
+    Ok(())
+}
+
+// Stops the disk with one choice for what isn't synced: the store has the lines of its first half, and perhaps one more.
+fn check_stop(rt: &impl Abort, alloc: Global, disk: &MemoryDisk, kept: Kept) -> Result<(), Fail> {
+    let kept = vec![in alloc; kept; disk.unsynced().len()]?;
+    let choice = Choice {
+        kept: &kept,
+        len: disk.len(),
+    };
+    assert!(rt; disk.allows(choice));
+    let count = reopened(alloc, disk.stop(choice)?)?.lines.len();
+    assert!(rt; count == 255 || count == 256, "{count} lines");
+    Ok(())
+}
+
+#[test]
+fn stops_on_the_way_to_the_second_half(rt: HostRuntime) -> Result<(), Fail> {
+    let alloc = rt.alloc();
+    let mut keeper = reopened(alloc, formatted(alloc)?)?.keeper;
+    append_lines(alloc, &mut keeper, 0, 255)?;
+    let full = keeper.into_disk();
+    // Two reads for each record more than in an empty store, and none of slot 255.
+    let opening = 11 + 2 * 255;
+    for calls in 0..4 {
+        let disk = MemoryDisk::from_bytes(alloc, ROOM, full.content())?;
+        let disk = FaultyDisk::once(disk, opening + calls, 4096);
+        let mut keeper = reopened(alloc, disk)?.keeper;
+        assert_eq!(rt; keeper.append(b"g1 pass").err(), Some(Fault::DeviceFailed));
+        let left = keeper.into_disk().into_inner();
+        for kept in [Kept::Old, Kept::New, Kept::Fill(0xa5)] {
+            check_stop(&rt, alloc, &left, kept)?;
+        }
+    }
     Ok(())
 }
 

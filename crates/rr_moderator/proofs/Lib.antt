@@ -5,6 +5,8 @@ pub mod KitLemmas
 pub mod WorldLemmas
 pub mod Replies
 pub mod ServingLemmas
+pub mod DurabilityLemmas
+pub mod AlongLemmas
 pub mod SessionLemmas
 pub mod ReplayLemmas
 pub mod AloneLemmas

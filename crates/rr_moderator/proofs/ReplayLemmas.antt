@@ -6,9 +6,14 @@ use Rattle.rr_roster.specs.Terms.{Terms}
 use Rattle.rr_code.specs.declared.command.Command.{Command}
 use Rattle.rr_code.specs.declared.fault.Fault as code
 use Rattle.rr_code.specs.Command.{SpellsRecord}
+use Rattle.rr_keeper.specs.declared.fault.Fault as keeper
+use Rattle.rr_keeper.specs.declared.fault.Fault.TheVariants as K
+use Rattle.rr_keeper.specs.Opening.{Refuses}
 use Rattle.rr_moderator.specs.declared.fault.Fault.{Fault}
 use Rattle.rr_moderator.specs.declared.fault.Fault.TheVariants as F
-use Rattle.rr_moderator.specs.Replaying.{BreaksOff, IsUnlawful, RefusesReplay, Replays, TakesRecord, damage_of, record_verdict}
+use Rattle.rr_keeper.specs.File.{Kit}
+use Rattle.rr_moderator.specs.Fault.{of_keeper}
+use Rattle.rr_moderator.specs.Replaying.{BreaksOff, IsUnlawful, RefusesOpening, RefusesReplay, Replays, TakesRecord, damage_of, record_verdict}
 use Rattle.rr_moderator.specs.World.{MayRefuse, World, present_stamp, table_named, verdict_in}
 
 pub Replays-push : (roster : Terms) (old mid new : World) (records : List (List ℕ)) (bytes : List ℕ)
@@ -94,8 +99,16 @@ module _ {X : Type 0} (f : X → List ℕ) (xs : List X) (i : ℕ) (d : X) (with
   replays_end roster now old mid bytes fault same kept so_far (inr not_lawful) =
       damaged roster old mid bytes fault same so_far (subst (λ r. IsUnlawful r mid bytes) kept not_lawful)
 
--- the texts and records of a file, read from where they are kept
-pub refuses_read : (chart chart' text text' : List ℕ) (records records' : List (List ℕ)) (fault : Fault) → chart ≡ chart' → text ≡ text' → records ≡ records'
-    → RefusesReplay chart text records fault → RefusesReplay chart' text' records' fault
-refuses_read chart chart' text text' records records' fault p q r refused =
-    subst (λ x. RefusesReplay chart' text' x fault) r (subst (λ x. RefusesReplay chart' x records fault) q (subst (λ x. RefusesReplay x text records fault) p refused))
+-- the records of a file, read from where they are kept
+pub refuses_read : (kit : Kit) (records records' : List (List ℕ)) (fault : Fault) → records ≡ records' → RefusesReplay kit records fault → RefusesReplay kit records' fault
+refuses_read kit records records' fault same refused = subst (λ x. RefusesReplay kit x fault) same refused
+
+-- a file that the keeper refuses
+pub refused_file : (Honest : Type 0) (file : List ℕ) (fault : keeper.Fault) → Refuses Honest file fault → RefusesOpening Honest file (of_keeper fault)
+refused_file Honest file K.DeviceFailed h = tt
+refused_file Honest file K.HalfFull h = absurd h
+refused_file Honest file (K.Damaged clause) h = (h.0, λ honest. inl (h.1 honest))
+refused_file Honest file K.NotAStore h = λ honest. inl (h honest)
+refused_file Honest file K.NotEmpty h = absurd h
+refused_file Honest file K.OpenAgain h = absurd h
+refused_file Honest file K.OutOfMemory h = tt

@@ -1,5 +1,5 @@
 -- Serving by one machine, seen as serving by another.
-use Rattle.std.proofs.Common.{◌≡◌, ℕ, List, [], ◌∷◌, Option, None, Some, Result, ap, ◌∙◌}
+use Rattle.std.proofs.Common.{◌≡◌, ℕ, List, [], ◌∷◌, Option, None, Some, Result, refl, ap, ◌∙◌}
 use Rattle.rr_serve.specs.Serving.{Served, Session, AnswersAll}
 use Rattle.rr_serve.specs.declared.faults.Fault.{Fault}
 
@@ -12,7 +12,7 @@ module _ {S T : Type 0} (A : S → List ℕ → S → Type 0) (r : S → List �
   Served-seen old [] (reply ∷ replies) new served = absurd served
   Served-seen old (line ∷ lines) [] new served = absurd served
 
-  pub Session-seen : (old new : S) (remaining left contents written : Option (List ℕ)) (result : Result (Unit {0}) Fault)
+  abbrev pub Session-seen : (old new : S) (remaining left contents written : Option (List ℕ)) (result : Result (Unit {0}) Fault)
       → Session A r old new remaining left contents written result → Session B q (f old) (f new) remaining left contents written result
   Session-seen old new remaining left contents written result session =
       record {
@@ -45,3 +45,16 @@ module _ {S T : Type 0} (A : S → List ℕ → S → Type 0) (r : S → List �
         },
         all.2,
       )
+
+-- Serving by a machine that answers in two ways at once, seen as serving in the first.
+module _ {S : Type 0} (A C : S → List ℕ → S → Type 0) (r : S → List ℕ) where
+  abbrev Both : S → List ℕ → S → Type 0
+  Both s line t = A s line t × C s line t
+
+  abbrev pub Session-first : (old new : S) (remaining left contents written : Option (List ℕ)) (result : Result (Unit {0}) Fault)
+      → Session Both r old new remaining left contents written result → Session A r old new remaining left contents written result
+  Session-first = Session-seen Both r A r (λ s. s) (λ s line t a. a.0) (λ s. refl)
+
+  pub AnswersAll-first : (old new : S) (remaining contents written : Option (List ℕ))
+      → AnswersAll Both r old new remaining contents written → AnswersAll A r old new remaining contents written
+  AnswersAll-first = AnswersAll-seen Both r A r (λ s. s) (λ s line t a. a.0) (λ s. refl)

@@ -5,6 +5,10 @@ use Rattle.rr_chart.specs.declared.fault.Fault.TheVariants as H
 use Rattle.rr_roster.specs.declared.fault.Fault as roster
 use Rattle.rr_roster.specs.declared.fault.Fault.TheVariants as R
 use Rattle.rr_roster.specs.Rules.{rule_number}
+use Rattle.rr_tiles.specs.declared.fault.Fault as tiles
+use Rattle.rr_tiles.specs.declared.fault.Fault.TheVariants as T
+use Rattle.rr_board.specs.declared.fault.Fault as board
+use Rattle.rr_board.specs.declared.fault.Fault.TheVariants as B
 use Rattle.rr_code.specs.declared.fault.Fault as code
 use Rattle.rr_code.specs.declared.fault.Fault.TheVariants as C
 use Rattle.rr_auction.specs.declared.fault.Fault as auction
@@ -100,6 +104,14 @@ abbrev pub of_roster : roster.Fault → Fault
 of_roster R.Shape = F.BadRoster
 of_roster (R.Broken rule) = F.RosterRule (rule_number rule)
 of_roster R.OutOfMemory = F.OutOfMemory
+
+abbrev pub of_manifest : tiles.Fault → Fault
+of_manifest (T.BadManifest line) = F.BadManifest line
+of_manifest T.OutOfMemory = F.OutOfMemory
+
+abbrev pub of_board : board.Fault → Fault
+of_board (B.BadBoard line) = F.BadBoard line
+of_board B.OutOfMemory = F.OutOfMemory
 
 abbrev pub of_code : code.Fault → Fault
 of_code C.Malformed = F.MalformedLine

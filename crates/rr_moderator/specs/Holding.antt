@@ -34,6 +34,10 @@ last_reply moderator = moderator.state.reply
 abbrev pub spoken_of : {D : Type 0} → Moderator D → Spoken
 spoken_of moderator = spoken_by moderator.state
 
+-- what keeps its file
+abbrev pub keeper_of : {D : Type 0} → Moderator D → Keeper D
+keeper_of moderator = moderator.state.keeper
+
 -- the disk on which its file stands
 abbrev pub disk_under : {D : Type 0} → Moderator D → D
 disk_under moderator = disk_of moderator.state.keeper

@@ -9,54 +9,80 @@ use Rattle.rr_roster.specs.Spelled as roster
 use Rattle.rr_roster.specs.Rules.{KeepsAll}
 use Rattle.rr_roster.specs.Reading.{IsAnswer, lines_of}
 use Rattle.rr_roster.specs.declared.fault.Fault as roster_fault
+use Rattle.rr_tiles.specs.Manifest as manifest
+use Rattle.rr_tiles.specs.declared.supply.Supply.{Supply}
+use Rattle.rr_tiles.specs.declared.fault.Fault as manifest_fault
+use Rattle.rr_board.specs.Reading as board
+use Rattle.rr_board.specs.Plan.{Plan}
+use Rattle.rr_board.specs.declared.fault.Fault as board_fault
 use Rattle.rr_keeper.specs.File.{Kit}
 use Rattle.rr_moderator.specs.declared.fault.Fault.{Fault}
 use Rattle.rr_moderator.specs.declared.fault.Fault.TheVariants as F
-use Rattle.rr_moderator.specs.Fault.{of_chart, of_roster}
+use Rattle.rr_moderator.specs.Fault.{of_board, of_chart, of_manifest, of_roster}
 
 -- the text spells a chart
 abbrev pub IsChartText : List ℕ → Type 0
 IsChartText text = (rows : List Row) × chart.Spells text rows
 
--- the text spells this roster, which keeps every rule
+-- the text spells this roster, which keeps every rule, and is no longer than a kit's text may be
 pub record IsRosterText (text : List ℕ) (terms : Terms) : Type 0 where
   pub spelled : roster.Spells text (lines_of terms)
   pub right : KeepsAll (lines_of terms)
+  pub short : length text ≤ 65536
+
+-- the text spells a manifest
+abbrev pub IsManifestText : List ℕ → Type 0
+IsManifestText text = (supplies : List Supply) × manifest.Spells text supplies
+
+-- the text spells a board
+abbrev pub IsBoardText : List ℕ → Type 0
+IsBoardText text = (plan : Plan) × board.Spells text plan
 
 -- why a chart's text is refused: by its first wrong word, if one is wrong
 abbrev pub RefusesChart : List ℕ → Fault → Type 0
 RefusesChart text fault = (cause : chart_fault.Fault) × (fault ≡ of_chart cause) × chart.IsRefusal text cause
 
--- why a roster's text is refused: it is no text, or of another shape, or breaks a rule
+-- why a roster's text is refused: it is too long, or no text, or else of another shape, or breaks a rule
 abbrev pub RefusesRoster : List ℕ → Fault → Type 0
 RefusesRoster text fault =
-    ((¬ IsUtf8 text) × (fault ≡ F.BadRoster))
-    ⊎ ((cause : roster_fault.Fault) × (fault ≡ of_roster cause) × IsAnswer text (Err cause))
+    ((65536 < length text) × (fault ≡ F.BadRoster))
+    ⊎ ((¬ IsUtf8 text) × (fault ≡ F.BadRoster))
+    ⊎ ((length text ≤ 65536) × (cause : roster_fault.Fault) × (fault ≡ of_roster cause) × IsAnswer text (Err cause))
 
--- chart and roster are right, and no text is too long
-pub record IsRightKit (kit : Kit) : Type 0 where
-  pub terms : Terms
+-- why a manifest's text is refused: by its first wrong line, if one is wrong
+abbrev pub RefusesManifest : List ℕ → Fault → Type 0
+RefusesManifest text fault = (cause : manifest_fault.Fault) × (fault ≡ of_manifest cause) × manifest.IsRefusal text cause
+
+-- why a board's text is refused: by its first wrong line, if one is wrong
+abbrev pub RefusesBoard : List ℕ → Fault → Type 0
+RefusesBoard text fault = (cause : board_fault.Fault) × (fault ≡ of_board cause) × board.IsRefusal text cause
+
+-- each of the four texts is right, and the roster is this one
+pub record SpellsKit (kit : Kit) (terms : Terms) : Type 0 where
   pub chart : IsChartText kit.chart
   pub roster : IsRosterText kit.roster terms
-  pub short_roster : length kit.roster ≤ 65536
-  pub short_tiles : length kit.tiles ≤ 65536
-  pub short_board : length kit.board ≤ 65536
+  pub tiles : IsManifestText kit.tiles
+  pub board : IsBoardText kit.board
+
+-- each of the four texts is right
+abbrev pub IsRightKit : Kit → Type 0
+IsRightKit kit = (terms : Terms) × SpellsKit kit terms
+
+-- chart and roster are right
+abbrev pub HasRoster : Kit → Type 0
+HasRoster kit = IsChartText kit.chart × (terms : Terms) × IsRosterText kit.roster terms
 
 -- why a kit is refused: the first text that is refused, in the order chart, roster, tiles, board
-pub data RefusesKit (kit : Kit) : Fault → Type 0 where
-  WrongChart : (fault : Fault) → RefusesChart kit.chart fault → RefusesKit kit fault
-  LongRoster : IsChartText kit.chart → 65536 < length kit.roster → RefusesKit kit F.BadRoster
-  WrongRoster : (fault : Fault) → IsChartText kit.chart → length kit.roster ≤ 65536
-      → RefusesRoster kit.roster fault → RefusesKit kit fault
-  LongTiles : (terms : Terms) → IsChartText kit.chart → IsRosterText kit.roster terms → length kit.roster ≤ 65536
-      → 65536 < length kit.tiles → RefusesKit kit (F.BadManifest 0)
-  LongBoard : (terms : Terms) → IsChartText kit.chart → IsRosterText kit.roster terms → length kit.roster ≤ 65536
-      → length kit.tiles ≤ 65536 → 65536 < length kit.board → RefusesKit kit (F.BadBoard 0)
+abbrev pub RefusesKit : Kit → Fault → Type 0
+RefusesKit kit fault =
+    RefusesChart kit.chart fault
+    ⊎ (IsChartText kit.chart × RefusesRoster kit.roster fault)
+    ⊎ (HasRoster kit × RefusesManifest kit.tiles fault)
+    ⊎ (HasRoster kit × IsManifestText kit.tiles × RefusesBoard kit.board fault)
 
--- a kit's chart or roster is wrong
-abbrev pub IsWrongKit : List ℕ → List ℕ → Type 0
-IsWrongKit chart roster =
-    (fault : Fault) × (fault ≢ F.OutOfMemory) × (RefusesChart chart fault ⊎ (IsChartText chart × RefusesRoster roster fault))
+-- a text of the kit is wrong
+abbrev pub IsWrongKit : Kit → Type 0
+IsWrongKit kit = (fault : Fault) × (fault ≢ F.OutOfMemory) × RefusesKit kit fault
 
 -- why a formatting is refused, of an honest disk with this file. The kit is judged once the file was found empty
 abbrev pub RefusesFormat : Type 0 → List ℕ → Kit → Fault → Type 0

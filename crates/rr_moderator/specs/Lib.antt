@@ -7,4 +7,5 @@ pub mod Serving
 pub mod Holding
 pub mod Kits
 pub mod Replaying
+pub mod Durability
 pub mod Alone

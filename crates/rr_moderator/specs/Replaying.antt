@@ -9,7 +9,7 @@ use Rattle.rr_keeper.specs.File.{Kit, IsStore}
 use Rattle.rr_keeper.specs.Opening.{IsDamaged, IsNoStore}
 use Rattle.rr_moderator.specs.declared.fault.Fault.{Fault}
 use Rattle.rr_moderator.specs.declared.fault.Fault.TheVariants as F
-use Rattle.rr_moderator.specs.Kits.{IsChartText, IsRosterText, IsWrongKit}
+use Rattle.rr_moderator.specs.Kits.{IsWrongKit, SpellsKit}
 use Rattle.rr_moderator.specs.Serving.{Held}
 use Rattle.rr_moderator.specs.World.{World, present_stamp, table_named, verdict_in, world_after}
 
@@ -55,42 +55,40 @@ abbrev pub records_of : List (Vec ℕ Global) → List (List ℕ)
 records_of records = map (λ bytes. bytes.items) records
 
 -- a kit and records make these tables
-pub record Replayed (chart text : List ℕ) (records : List (List ℕ)) (roster : Terms) (tables : World) : Type 0 where
-  pub right_chart : IsChartText chart
-  pub right_roster : IsRosterText text roster
+pub record Replayed (kit : Kit) (records : List (List ℕ)) (roster : Terms) (tables : World) : Type 0 where
+  pub right : SpellsKit kit roster
   pub replayed : Replays roster [] records tables
 
 -- a kit is right, but its records break off
-pub record IsBroken (chart text : List ℕ) (records : List (List ℕ)) : Type 0 where
+pub record IsBroken (kit : Kit) (records : List (List ℕ)) : Type 0 where
   pub roster : Terms
-  pub right_chart : IsChartText chart
-  pub right_roster : IsRosterText text roster
+  pub right : SpellsKit kit roster
   pub broken : BreaksOff roster [] records
 
 -- why a kit and records make no tables
-abbrev pub RefusesReplay : List ℕ → List ℕ → List (List ℕ) → Fault → Type 0
-RefusesReplay chart text records fault =
+abbrev pub RefusesReplay : Kit → List (List ℕ) → Fault → Type 0
+RefusesReplay kit records fault =
     (fault ≡ F.OutOfMemory)
-    ⊎ ((fault ≡ F.NotAStore) × IsWrongKit chart text)
-    ⊎ ((fault ≡ F.Damaged 8) × IsBroken chart text records)
+    ⊎ ((fault ≡ F.NotAStore) × IsWrongKit kit)
+    ⊎ ((fault ≡ F.Damaged 8) × IsBroken kit records)
 
 -- the file is a store, its kit and records make what the moderator holds, and no device call has failed since
 pub record Opens (file : List ℕ) (held : Held) : Type 0 where
   pub kit : Kit
   pub records : List (List ℕ)
   pub store : IsStore file kit records
-  pub replayed : Replayed kit.chart kit.roster records held.roster held.tables
+  pub replayed : Replayed kit records held.roster held.tables
   pub whole : held.broken ≡ false
 
 -- the file is no store, or its kit is wrong
 abbrev pub IsNoModerator : List ℕ → Type 0
 IsNoModerator file =
-    IsNoStore file ⊎ ((kit : Kit) × (records : List (List ℕ)) × IsStore file kit records × IsWrongKit kit.chart kit.roster)
+    IsNoStore file ⊎ ((kit : Kit) × (records : List (List ℕ)) × IsStore file kit records × IsWrongKit kit)
 
 -- a record of the file is none, or has no lawful command
 abbrev pub IsDamagedFile : List ℕ → Type 0
 IsDamagedFile file =
-    IsDamaged file ⊎ ((kit : Kit) × (records : List (List ℕ)) × IsStore file kit records × IsBroken kit.chart kit.roster records)
+    IsDamaged file ⊎ ((kit : Kit) × (records : List (List ℕ)) × IsStore file kit records × IsBroken kit records)
 
 -- why a file isn't opened, of an honest disk. Memory may be wanted and the device may fail at any file
 abbrev pub RefusesOpening : Type 0 → List ℕ → Fault → Type 0

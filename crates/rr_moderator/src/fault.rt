@@ -1,5 +1,5 @@
 ghost use Rattle.std.specs.Prelude.{◌≡◌, ◌+◌, ◌≤◌, ◌++◌, length};
-ghost use Rattle.rr_moderator.specs.Fault.{data_of, number_of, of_auction, of_chart, of_code, of_keeper, of_roster, of_serve, refusal_of, words_of};
+ghost use Rattle.rr_moderator.specs.Fault.{data_of, number_of, of_auction, of_board, of_chart, of_code, of_keeper, of_manifest, of_roster, of_serve, refusal_of, words_of};
 ghost use Rattle.rr_moderator.specs.declared.fault.Fault.TheVariants.{OutOfMemory};
 
 use crate::reply::Reply;
@@ -25,12 +25,12 @@ pub enum Fault {
     /// The first of its rules that a roster breaks.
     #[error("roster rule {0}")]
     RosterRule(u8),
-    /// The manifest's text spells no manifest; its first wrong line.
+    /// The manifest's text spells no manifest; its first wrong line, from 1, or 0 where the text is wrong as a whole.
     #[error("bad manifest {0}")]
-    BadManifest(u32),
-    /// The board's text spells no board; its first wrong line.
+    BadManifest(usize),
+    /// The board's text spells no board; its first wrong line, from 1, or 0 where the text is wrong as a whole.
     #[error("bad board {0}")]
-    BadBoard(u32),
+    BadBoard(usize),
     /// Another seat is due.
     #[error("not your turn")]
     NotYourTurn,
@@ -157,7 +157,7 @@ impl Fault {
             }
             Fault::BadManifest(line) | Fault::BadBoard(line) => {
                 reply.text(b" ");
-                reply.number(u64::from(line));
+                reply.number(line as u64);
             }
             Fault::RosterRule(number) | Fault::Damaged(number) => {
                 reply.text(b" ");
@@ -227,6 +227,28 @@ impl From<rr_roster::Fault> for Fault {
             rr_roster::Fault::Shape => Fault::BadRoster,
             rr_roster::Fault::Broken(rule) => Fault::RosterRule(rule.number()),
             rr_roster::Fault::OutOfMemory => Fault::OutOfMemory,
+        }
+    }
+}
+
+impl From<rr_tiles::Fault> for Fault {
+    ghost from_gives = { λ fault wrapped. wrapped ≡ of_manifest fault };
+
+    fn from(fault: rr_tiles::Fault) -> Fault {
+        match fault {
+            rr_tiles::Fault::BadManifest { line } => Fault::BadManifest(line),
+            rr_tiles::Fault::OutOfMemory => Fault::OutOfMemory,
+        }
+    }
+}
+
+impl From<rr_board::Fault> for Fault {
+    ghost from_gives = { λ fault wrapped. wrapped ≡ of_board fault };
+
+    fn from(fault: rr_board::Fault) -> Fault {
+        match fault {
+            rr_board::Fault::BadBoard { line } => Fault::BadBoard(line),
+            rr_board::Fault::OutOfMemory => Fault::OutOfMemory,
         }
     }
 }

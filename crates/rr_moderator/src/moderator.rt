@@ -3,13 +3,15 @@ ghost use Rattle.std.specs.Borrow.{sem};
 ghost use Rattle.std.specs.Io.BufRead.{Rests};
 ghost use Rattle.std.specs.Io.KnownBytes.{Appends};
 ghost use Rattle.rr_disk.specs.Disk.{after_sync};
+ghost use Rattle.rr_disk.specs.Moments.{LeavesOnly};
 ghost use Rattle.rr_keeper.specs.Keeper.{disk_of, is_broken};
-ghost use Rattle.rr_keeper.specs.Opening.{SyncsOnce};
+ghost use Rattle.rr_keeper.specs.Opening.{SyncsOnce, kit_of};
 ghost use Rattle.rr_serve.specs.declared.faults.Fault as serve;
 ghost use Rattle.rr_serve.specs.Answering.{AppendsFront};
 ghost use Rattle.rr_serve.specs.Lines.{taken};
 ghost use Rattle.rr_serve.specs.Serving.{AnswersAll, Session};
-ghost use Rattle.rr_moderator.specs.Holding.{disk_under, held_by, held_of, last_reply, spoken_of, world_of};
+ghost use Rattle.rr_moderator.specs.Durability.{Keeping, Lasts, OpensAlong, Passed, Stands};
+ghost use Rattle.rr_moderator.specs.Holding.{disk_under, held_by, held_of, keeper_of, last_reply, spoken_of, world_of};
 ghost use Rattle.rr_moderator.specs.Replaying.{CountsFailure, Opens, RefusesOpening, RefusesReplay, Replayed, records_of};
 ghost use Rattle.rr_moderator.specs.Serving.{Answers, EndsAs, MayAppend, Responds, Speaks, Takes, outcome_of, said};
 ghost use Rattle.rr_moderator.specs.World.{amount_in, verdict_in};
@@ -63,6 +65,9 @@ impl<D: Disk + Drop> Moderator<D> {
         ensures refused { IfErr result (λ refused.
             RefusesOpening (D.Honest refused.disk) (D.state disk).content refused.fault) }
 
+        ensures stands { IfOk result (λ moderator. D.Honest (disk_under moderator)
+            → Stands (keeper_of moderator) (D.state (disk_under moderator)) (held_of moderator)) }
+
         // It syncs, and writes nothing.
         ensures synced { IfOk result (λ moderator. D.Honest (disk_under moderator)
             → (D.state (disk_under moderator) ≡ after_sync (D.state disk))
@@ -103,22 +108,18 @@ impl<D: Disk + Drop> Moderator<D> {
     ) -> Result<Moderator<D>, Refused<D>>
         ensures ok { IfOk result (λ moderator. (disk_under moderator ≡ disk_of opened.keeper)
             × ((held_of moderator).broken ≡ is_broken opened.keeper)
-            × Replayed opened.texts.chart.items opened.texts.roster.items (records_of opened.lines.items)
+            × Replayed (kit_of opened.texts) (records_of opened.lines.items)
             (held_of moderator).roster (held_of moderator).tables) }
+        ensures keeper { IfOk result (λ moderator. keeper_of moderator ≡ opened.keeper) }
         ensures err { IfErr result (λ refused. (refused.disk ≡ disk_of opened.keeper)
-            × RefusesReplay opened.texts.chart.items opened.texts.roster.items (records_of opened.lines.items) refused.fault) }
+            × RefusesReplay (kit_of opened.texts) (records_of opened.lines.items) refused.fault) }
     {
         let Opened {
             keeper,
             texts,
             lines,
         } = opened;
-        match replay(
-            alloc,
-            texts.chart.as_slice(),
-            texts.roster.as_slice(),
-            lines.as_slice(),
-        ) {
+        match replay(alloc, &texts, lines.as_slice()) {
             Ok(tables) => Ok(Moderator {
                 state: State {
                     alloc,
@@ -153,7 +154,8 @@ impl<D: Disk + Drop> Moderator<D> {
     pub fn answer(&mut self, line: &[u8]) -> &[u8]
         ensures* { sem 𝓛 (Rests (the_row D.row) self.entry (λ new.
             Answers (held_of self.old) line.now (held_of new) result.now
-            × (¬ MayAppend (held_of self.old) line.now → disk_under new ≡ disk_under self.old))) }
+            × (¬ MayAppend (held_of self.old) line.now → disk_under new ≡ disk_under self.old)
+            × Lasts D.Honest D.state D.past (keeper_of self.old) (held_of self.old) line.now (keeper_of new) (held_of new))) }
     {
         self.state.say(line);
         self.state.reply()
@@ -165,6 +167,7 @@ impl<D: Disk + Drop> Moderator<D> {
     /// `StreamFailed` where the writer fails. A command that was accepted stays accepted.
     pub fn line<W: Write>(&mut self, line: &[u8], writer: &mut W) -> Result<(), Fault>
         ensures answers { Answers (held_of self.old) (taken line.now) (held_of self.new) (last_reply self.new) }
+        ensures lasts { Lasts D.Honest D.state D.past (keeper_of self.old) (held_of self.old) (taken line.now) (keeper_of self.new) (held_of self.new) }
         ensures ok { OnOk result (Appends (W.contents writer.old) (W.contents writer.new) (last_reply self.new)) }
         ensures err { OnErr result (AppendsFront (W.contents writer.old) (W.contents writer.new) (last_reply self.new)) }
         ensures fault { IfErr result (λ fault. fault ≡ Fault.StreamFailed) }
@@ -184,9 +187,14 @@ impl<D: Disk + Drop> Moderator<D> {
             (R.remaining reader.old) (W.contents writer.old) (W.contents writer.new)) }
 
         // However it ends, the lines that were read are answered, and what is written is their replies as far as it got.
+        // Whatever a stop leaves at any moment of it opens as all that was acknowledged by then, and perhaps the command
+        // under way.
         ensures session { (cause : Result (Unit {0}) serve.Fault) × EndsAs result cause
-            × Session Speaks said (spoken_of self.old) (spoken_of self.new) (R.remaining reader.old) (R.remaining reader.new)
-            (W.contents writer.old) (W.contents writer.new) cause }
+            × (session : Session Speaks said (spoken_of self.old) (spoken_of self.new) (R.remaining reader.old) (R.remaining reader.new)
+            (W.contents writer.old) (W.contents writer.new) cause)
+            × (D.Honest (disk_under self.new) → Stands (keeper_of self.old) (D.state (disk_under self.old)) (held_of self.old)
+            → LeavesOnly (D.past (disk_under self.old)) (D.state (disk_under self.old)) (D.past (disk_under self.new)) (D.state (disk_under self.new))
+            (OpensAlong (spoken_of self.old) session.lines)) }
     {
         rr_serve::serve(&mut self.state, reader, writer, &mut self.buffer)?;
         Ok(())
@@ -204,8 +212,10 @@ fn make_buffers(alloc: Global) -> Result<(Reply, LineBuffer), Fault>
 impl<D: Disk + Drop> Machine for State<D> {
     ghost use Rattle.rr_moderator.specs.Holding.{held_by};
     ghost use Rattle.rr_moderator.specs.Serving.{Answers};
+    ghost use Rattle.rr_moderator.specs.Durability.{Lasts};
 
-    ghost Answers = { λ old line new. Answers (held_by old.keeper old.tables) line (held_by new.keeper new.tables) new.reply };
+    ghost Answers = { λ old line new. Answers (held_by old.keeper old.tables) line (held_by new.keeper new.tables) new.reply
+        × Lasts D.Honest D.state D.past old.keeper (held_by old.keeper old.tables) line new.keeper (held_by new.keeper new.tables) };
 
     ghost reply_of = { λ state. state.reply };
 
@@ -223,6 +233,8 @@ impl<D: Disk + Drop> State<D> {
     fn say(&mut self, line: &[u8])
         ensures answers { Answers (held_by self.old.keeper self.old.tables) line.now (held_by self.new.keeper self.new.tables) self.new.reply }
         ensures untouched { ¬ MayAppend (held_by self.old.keeper self.old.tables) line.now → self.new.keeper ≡ self.old.keeper }
+        ensures lasts { Lasts D.Honest D.state D.past self.old.keeper (held_by self.old.keeper self.old.tables) line.now
+            self.new.keeper (held_by self.new.keeper self.new.tables) }
     {
         if let Err(fault) = self.respond(line) {
             fault.write(&mut self.reply);
@@ -233,6 +245,8 @@ impl<D: Disk + Drop> State<D> {
     fn respond(&mut self, line: &[u8]) -> Result<(), Fault>
         ensures responds { Responds (held_by self.old.keeper self.old.tables) line.now (held_by self.new.keeper self.new.tables) (outcome_of result self.new.reply) }
         ensures untouched { ¬ MayAppend (held_by self.old.keeper self.old.tables) line.now → self.new.keeper ≡ self.old.keeper }
+        ensures lasts { Lasts D.Honest D.state D.past self.old.keeper (held_by self.old.keeper self.old.tables) line.now
+            self.new.keeper (held_by self.new.keeper self.new.tables) }
     {
         if line.len() > LONGEST_LINE {
             return Err(Fault::LineTooLong);
@@ -265,6 +279,7 @@ impl<D: Disk + Drop> State<D> {
         ensures takes { Takes (held_by self.old.keeper self.old.tables) stamp table.now command.now (held_by self.new.keeper self.new.tables) (outcome_of result self.new.reply) }
         ensures untouched { (fault : Fault) → verdict_in self.old.tables.roster (world_of self.old.tables.map.entries) stamp table.now command.now ≡ Some fault
             → self.new.keeper ≡ self.old.keeper }
+        ensures kept { Passed (λ old bytes result new. Keeping D.Honest D.state D.past old bytes result new) self.old.keeper bytes.now self.new.keeper result }
     {
         let stamp = self
             .tables

@@ -4,16 +4,19 @@ ghost use Rattle.rr_disk.specs.Moments.{EachImage};
 ghost use Rattle.rr_keeper.specs.File.{IsNewStore};
 ghost use Rattle.rr_keeper.specs.Lent.{lent_kit};
 ghost use Rattle.rr_moderator.specs.Holding.{world_of};
-ghost use Rattle.rr_moderator.specs.Kits.{IsChartText, IsRightKit, IsRosterText, IsWrongKit, RefusesChart, RefusesFormat, RefusesKit, RefusesRoster};
+ghost use Rattle.rr_keeper.specs.Opening.{kit_of};
+ghost use Rattle.rr_moderator.specs.Kits.{IsBoardText, IsChartText, IsManifestText, IsRightKit, IsRosterText, IsWrongKit, RefusesBoard, RefusesChart, RefusesFormat, RefusesKit, RefusesManifest, RefusesRoster, SpellsKit};
 ghost use Rattle.rr_moderator.specs.Replaying.{BreaksOff, CountsFailure, IsUnlawful, RefusesReplay, Replayed, Replays, TakesRecord, damage_of, records_of};
 
 use crate::fault::Fault;
 use crate::tables::{Standing, Tables};
+use rr_board::Board;
 use rr_chart::Chart;
 use rr_code::read_record;
 use rr_disk::Disk;
-use rr_keeper::Texts;
+use rr_keeper::{KitTexts, Texts};
 use rr_roster::Roster;
+use rr_tiles::Manifest;
 use std::alloc::Global;
 
 /// The most bytes of a kit's text.
@@ -26,8 +29,8 @@ const RECORDS: u8 = 8;
 ///
 /// # Errors
 /// `NotEmpty` first; then the first text that is refused, in the order chart, roster, tiles, board: a chart at its
-/// first wrong word, a roster that isn't right, and any text of more than 65,536 bytes at line 0; then `DeviceFailed`.
-/// `OutOfMemory` may come at any text.
+/// first wrong word, a roster that isn't right, a manifest or a board at its first wrong line, and any text of more
+/// than 65,536 bytes at line 0; then `DeviceFailed`. `OutOfMemory` may come at any text.
 pub fn format<D: Disk>(alloc: Global, disk: &mut D, texts: Texts<'_>) -> Result<(), Fault>
     // What a read gives, and whatever a stop leaves from now on, is a new store with these texts, and they are right.
     ensures store { OnOk result (D.Honest disk.new
@@ -53,26 +56,21 @@ pub fn format<D: Disk>(alloc: Global, disk: &mut D, texts: Texts<'_>) -> Result<
     Ok(())
 }
 
-/// Judges the texts of a kit, in the order chart, roster, tiles, board.
-fn judge_kit(alloc: Global, texts: Texts<'_>) -> Result<(), Fault>
-    ensures { MatchResult result (λ _. IsRightKit (lent_kit texts.entry)) (λ fault. RefusesKit (lent_kit texts.entry) fault) }
+/// Judges the texts of a kit, in the order chart, roster, tiles, board, and reads the roster.
+fn judge_kit(alloc: Global, texts: Texts<'_>) -> Result<Roster, Fault>
+    ensures { MatchResult result
+        (λ terms. SpellsKit (lent_kit texts.entry) terms)
+        (λ fault. RefusesKit (lent_kit texts.entry) fault) }
 {
-    read_chart(alloc, texts.chart)?;
-    if texts.roster.len() > TEXT_LIMIT {
-        return Err(Fault::BadRoster);
-    }
-    read_roster(alloc, texts.roster)?;
-    if texts.tiles.len() > TEXT_LIMIT {
-        return Err(Fault::BadManifest(0));
-    }
-    if texts.board.len() > TEXT_LIMIT {
-        return Err(Fault::BadBoard(0));
-    }
-    Ok(())
+    judge_chart(alloc, texts.chart)?;
+    let roster = read_roster(alloc, texts.roster)?;
+    judge_manifest(alloc, texts.tiles)?;
+    judge_board(alloc, texts.board)?;
+    Ok(roster)
 }
 
 /// Judges the chart of a kit.
-fn read_chart(alloc: Global, text: &[u8]) -> Result<(), Fault>
+fn judge_chart(alloc: Global, text: &[u8]) -> Result<(), Fault>
     ensures { MatchResult result (λ _. IsChartText text.now) (λ fault. RefusesChart text.now fault) }
 {
     match std::str::from_utf8(text) {
@@ -88,6 +86,9 @@ fn read_chart(alloc: Global, text: &[u8]) -> Result<(), Fault>
 fn read_roster(alloc: Global, text: &[u8]) -> Result<Roster, Fault>
     ensures { MatchResult result (λ terms. IsRosterText text.now terms) (λ fault. RefusesRoster text.now fault) }
 {
+    if text.len() > TEXT_LIMIT {
+        return Err(Fault::BadRoster);
+    }
     match std::str::from_utf8(text) {
         Ok(text) => {
             let roster = Roster::read(alloc, text)?;
@@ -97,36 +98,68 @@ fn read_roster(alloc: Global, text: &[u8]) -> Result<Roster, Fault>
     }
 }
 
-/// Judges the chart of a file, and reads its roster.
-fn read_kit(alloc: Global, chart: &[u8], roster: &[u8]) -> Result<Roster, Fault>
-    ensures { MatchResult result
-        (λ terms. IsChartText chart.now × IsRosterText roster.now terms)
-        (λ fault. (fault ≡ Fault.OutOfMemory) ⊎ ((fault ≡ Fault.NotAStore) × IsWrongKit chart.now roster.now)) }
+/// Judges the manifest of a kit.
+fn judge_manifest(alloc: Global, text: &[u8]) -> Result<(), Fault>
+    ensures { MatchResult result (λ _. IsManifestText text.now) (λ fault. RefusesManifest text.now fault) }
 {
-    match read_chart(alloc, chart) {
-        Ok(()) => {}
-        Err(Fault::OutOfMemory) => return Err(Fault::OutOfMemory),
-        Err(_) => return Err(Fault::NotAStore),
+    match std::str::from_utf8(text) {
+        Ok(text) => {
+            let _manifest = Manifest::read(alloc, text)?;
+            Ok(())
+        }
+        Err(_) => Err(Fault::BadManifest(0)),
     }
-    match read_roster(alloc, roster) {
+}
+
+/// Judges the board of a kit.
+fn judge_board(alloc: Global, text: &[u8]) -> Result<(), Fault>
+    ensures { MatchResult result (λ _. IsBoardText text.now) (λ fault. RefusesBoard text.now fault) }
+{
+    match std::str::from_utf8(text) {
+        Ok(text) => {
+            let _board = Board::read(alloc, text)?;
+            Ok(())
+        }
+        Err(_) => Err(Fault::BadBoard(0)),
+    }
+}
+
+/// Judges the kit of a file, and reads its roster.
+fn read_kit(alloc: Global, texts: &KitTexts) -> Result<Roster, Fault>
+    ensures { MatchResult result
+        (λ terms. SpellsKit (kit_of texts.now) terms)
+        (λ fault. (fault ≡ Fault.OutOfMemory) ⊎ ((fault ≡ Fault.NotAStore) × IsWrongKit (kit_of texts.now))) }
+{
+    match judge_texts(alloc, texts) {
         Ok(roster) => Ok(roster),
         Err(Fault::OutOfMemory) => Err(Fault::OutOfMemory),
         Err(_) => Err(Fault::NotAStore),
     }
 }
 
-/// The tables that the records of a file make, played from the first.
-pub(crate) fn replay(
-    alloc: Global,
-    chart: &[u8],
-    roster: &[u8],
-    records: &[Vec<u8>],
-) -> Result<Tables, Fault>
+/// Judges the texts that stand in a file, as `judge_kit` does.
+fn judge_texts(alloc: Global, texts: &KitTexts) -> Result<Roster, Fault>
     ensures { MatchResult result
-        (λ tables. Replayed chart.now roster.now (records_of records.now) tables.roster (world_of tables.map.entries))
-        (λ fault. RefusesReplay chart.now roster.now (records_of records.now) fault) }
+        (λ terms. SpellsKit (kit_of texts.now) terms)
+        (λ fault. RefusesKit (kit_of texts.now) fault) }
 {
-    let terms = read_kit(alloc, chart, roster)?;
+    let lent = Texts {
+        chart: texts.chart.as_slice(),
+        roster: texts.roster.as_slice(),
+        tiles: texts.tiles.as_slice(),
+        board: texts.board.as_slice(),
+    };
+    let roster = judge_kit(alloc, lent)?;
+    Ok(roster)
+}
+
+/// The tables that the records of a file make, played from the first.
+pub(crate) fn replay(alloc: Global, texts: &KitTexts, records: &[Vec<u8>]) -> Result<Tables, Fault>
+    ensures { MatchResult result
+        (λ tables. Replayed (kit_of texts.now) (records_of records.now) tables.roster (world_of tables.map.entries))
+        (λ fault. RefusesReplay (kit_of texts.now) (records_of records.now) fault) }
+{
+    let terms = read_kit(alloc, texts)?;
     let mut tables = Tables::new(alloc, terms)?;
     replay_records(alloc, &mut tables, records)?;
     Ok(tables)
@@ -170,3 +203,6 @@ fn replay_record(alloc: Global, tables: &mut Tables, bytes: &[u8]) -> Result<(),
     tables.take(alloc, stamp, &name, &command, bytes, &mut Standing)?;
     Ok(())
 }
+
+#[cfg(test)]
+mod tests;

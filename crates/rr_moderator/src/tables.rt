@@ -2,6 +2,7 @@ ghost use Rattle.std.specs.Prelude.{◌≡◌, ◌+◌, ◌*◌, ◌<◌, ◌≤
 ghost use Rattle.std.specs.Option.{option_copied};
 ghost use Rattle.std.proofs.Props.{props};
 ghost use Rattle.indexmap.specs.IndexMap.{get, index_map_len, keys, spare};
+ghost use Rattle.rr_moderator.specs.Durability.{Passed};
 ghost use Rattle.rr_moderator.specs.Keeping.{IsGameOf};
 ghost use Rattle.rr_moderator.specs.World.{IsKeptOut, MayJudge, MayRefuse, amount_in, is_full, opening_verdict, state_after, step_verdict, table_of, table_verdict, with_command};
 
@@ -39,7 +40,8 @@ pub(crate) struct Table {
 
 /// Where the record of a command goes before the command counts.
 pub(crate) trait Journal {
-    ghost use Rattle.std.specs.Prelude.{Bool};
+    ghost use Rattle.std.specs.Prelude.{Bool, Result};
+    ghost use Rattle.rr_moderator.specs.declared.fault.Fault as fault;
 
     // There may be no room for a record.
     ghost may_fill: { Bool };
@@ -47,11 +49,15 @@ pub(crate) trait Journal {
     // The device has failed, and nothing is kept any more.
     ghost broken: { Self → Bool };
 
+    // What keeping a record does.
+    ghost Kept: { Self → List ℕ → Result (Unit {0}) fault.Fault → Self → Type 0 };
+
     /// Keeps the record. After `Ok` it is safe.
     fn keep(&mut self, bytes: &[u8]) -> Result<(), Fault>
         requires { 0 < length bytes.now }
         ensures ok { OnOk result (broken self.new ≡ false) }
-        ensures err { IfErr result (λ fault. IsKeptOut may_fill (broken self.old) fault (broken self.new)) };
+        ensures err { IfErr result (λ fault. IsKeptOut may_fill (broken self.old) fault (broken self.new)) }
+        ensures kept { Kept self.old bytes.now result self.new };
 }
 
 /// Records that stand in the file already.
@@ -63,6 +69,8 @@ impl Journal for Standing {
 
     ghost broken = { λ _. false };
 
+    ghost Kept = { λ _ _ _ _. Unit {0} };
+
     fn keep(&mut self, _bytes: &[u8]) -> Result<(), Fault> {
         Ok(())
     }
@@ -70,10 +78,13 @@ impl Journal for Standing {
 
 impl<D: Disk + Drop> Journal for Keeper<D> {
     ghost use Rattle.rr_keeper.specs.Keeper.{is_broken};
+    ghost use Rattle.rr_moderator.specs.Durability.{Keeping};
 
     ghost may_fill = { true };
 
     ghost broken = { λ keeper. is_broken keeper };
+
+    ghost Kept = { λ old bytes result new. Keeping D.Honest D.state D.past old bytes result new };
 
     fn keep(&mut self, bytes: &[u8]) -> Result<(), Fault> {
         self.append(bytes)?;
@@ -140,6 +151,7 @@ impl Table {
         ensures stamp { IfOk result (λ stamp. stamp ≡ self.new.stamp) }
         ensures played { OnOk result (IsGameOf roster.now self.old.accepted.items self.old.game → IsGameOf roster.now self.new.accepted.items self.new.game) }
         ensures whole { OnOk result (J.broken journal.new ≡ false) }
+        ensures kept { Passed J.Kept journal.old bytes.now journal.new result }
         ensures err { OnErr result (self.new ≡ self.old) }
         ensures untouched { IsGameOf roster.now self.old.accepted.items self.old.game → (fault : Fault)
             → table_verdict roster.now (table_of self.old.accepted.items self.old.stamp) stamp command.now ≡ Some fault → journal.new ≡ journal.old }
@@ -275,6 +287,7 @@ impl Tables {
         ensures world { OnOk result (world_of self.new.map.entries ≡ world_after (world_of self.old.map.entries) name.now command.now) }
         ensures stamp { IfOk result (λ new. new ≡ (state_after (table_named (world_of self.old.map.entries) name.now) command.now).stamp) }
         ensures whole { OnOk result (J.broken journal.new ≡ false) }
+        ensures kept { Passed J.Kept journal.old bytes.now journal.new result }
         ensures roster { self.new.roster ≡ self.old.roster }
         ensures err { OnErr result (self.new.map.entries ≡ self.old.map.entries) }
         ensures untouched { (fault : Fault) → verdict_in self.old.roster (world_of self.old.map.entries) stamp name.now command.now ≡ Some fault
@@ -303,6 +316,7 @@ impl Tables {
         ensures world { OnOk result (world_of self.new.map.entries ≡ world_after (world_of self.old.map.entries) name.now (Command.Open players.now)) }
         ensures stamp { IfOk result (λ new. (new ≡ 1) × (get bytes_eq self.old.map name.now ≡ None)) }
         ensures whole { OnOk result (J.broken journal.new ≡ false) }
+        ensures kept { Passed J.Kept journal.old bytes.now journal.new result }
         ensures roster { self.new.roster ≡ self.old.roster }
         ensures err { OnErr result (self.new.map.entries ≡ self.old.map.entries) }
         ensures untouched { (fault : Fault) → opening_verdict (option_map state_of (get bytes_eq self.old.map name.now)) (index_map_len self.old.map) stamp ≡ Some fault
@@ -365,6 +379,7 @@ impl Tables {
         ensures world { OnOk result (world_of self.new.map.entries ≡ world_after (world_of self.old.map.entries) name.now command.now) }
         ensures stamp { IfOk result (λ new. new ≡ (state_after (option_map state_of (get bytes_eq self.old.map name.now)) command.now).stamp) }
         ensures whole { OnOk result (J.broken journal.new ≡ false) }
+        ensures kept { Passed J.Kept journal.old bytes.now journal.new result }
         ensures roster { self.new.roster ≡ self.old.roster }
         ensures err { OnErr result (self.new.map.entries ≡ self.old.map.entries) }
         ensures untouched { (fault : Fault) → step_verdict self.old.roster (option_map state_of (get bytes_eq self.old.map name.now)) stamp command.now ≡ Some fault

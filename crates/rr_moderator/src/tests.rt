@@ -8,13 +8,13 @@ use std::io::{ErrorKind, Read, Write};
 use std::test::Fail;
 
 // Room for a file of 515 pages, and for the records of a whole half.
-const ROOM: usize = 1 << 22;
+pub(crate) const ROOM: usize = 1 << 22;
 
-const CHART: &[u8] = b"# two rows\n90 100p 112\n. 80y\n";
+pub(crate) const CHART: &[u8] = b"# two rows\n90 100p 112\n. 80y\n";
 
-const SEVENTEEN_ROWS: &[u8] = b"100p\n1\n2\n3\n4\n5\n6\n7\n8\n9\n10\n11\n12\n13\n14\n15\n16\n";
+pub(crate) const BOARD: &[u8] = b"hex A 0,0 white\n";
 
-const ROSTER: &str = r#"private = [
+pub(crate) const ROSTER: &str = r#"private = [
  {name="SV", face=20, income=5}, {name="C&SL", face=40, income=10},
  {name="D&H", face=70, income=15}, {name="M&H", face=110, income=20},
  {name="C&A", face=160, income=25}, {name="B&O", face=220, income=30}]
@@ -34,7 +34,7 @@ pub(crate) fn formatted(alloc: Global) -> Result<MemoryDisk, Fail> {
         chart: CHART,
         roster: ROSTER.as_bytes(),
         tiles: b"",
-        board: b"",
+        board: BOARD,
     };
     format(alloc, &mut disk, texts)?;
     Ok(disk)
@@ -65,12 +65,6 @@ fn opening_refusal(alloc: Global, record: &[u8]) -> Result<Option<Fault>, Fail> 
         }
         Err(refused) => Ok(Some(Fault::from(refused.fault))),
     }
-}
-
-/// Why a kit is refused.
-fn kit_refusal(alloc: Global, texts: Texts<'_>) -> Result<Option<Fault>, Fail> {
-    let mut disk = MemoryDisk::new(alloc, ROOM)?;
-    Ok(format(alloc, &mut disk, texts).err())
 }
 
 /// A disk that tells how many writes and syncs went through.
@@ -301,40 +295,6 @@ fn a_failing_device_ends_the_service(rt: HostRuntime) -> Result<(), Fail> {
 }
 
 #[test]
-fn a_kit_is_judged_in_order(rt: HostRuntime) -> Result<(), Fail> {
-    let alloc = rt.alloc();
-    let long = vec![in alloc; b' '; 65_537]?;
-    let roster = ROSTER.as_bytes();
-    let wrong = Fault::BadChart { line: 17, word: 1 };
-    let nowhere = Fault::BadChart { line: 0, word: 0 };
-    let cases: [(&[u8], &[u8], &[u8], &[u8], Fault); 9] = [
-        (SEVENTEEN_ROWS, roster, b"", b"", wrong),
-        (SEVENTEEN_ROWS, b"x = 1", &long, &long, wrong),
-        (b"90\n", roster, b"", b"", nowhere),
-        (b"\xff", roster, b"", b"", nowhere),
-        (CHART, b"x = 1", &long, b"", Fault::BadRoster),
-        (CHART, b"\xff", b"", b"", Fault::BadRoster),
-        (CHART, &long, b"", b"", Fault::BadRoster),
-        (CHART, roster, &long, &long, Fault::BadManifest(0)),
-        (CHART, roster, b"", &long, Fault::BadBoard(0)),
-    ];
-    for (chart, roster, tiles, board, fault) in cases {
-        let texts = Texts {
-            chart,
-            roster,
-            tiles,
-            board,
-        };
-        assert_eq!(rt; kit_refusal(alloc, texts)?, Some(fault));
-    }
-    let mut reply = Reply::new(alloc)?;
-    wrong.write(&mut reply);
-    assert_eq!(rt; reply.as_bytes(), b"no 3 bad chart 17 1\n".as_slice());
-    assert_eq!(rt; wrong.number(), 3);
-    Ok(())
-}
-
-#[test]
 fn a_file_is_judged(rt: HostRuntime) -> Result<(), Fail> {
     let alloc = rt.alloc();
     let cases: [(&[u8], Option<Fault>); 5] = [
@@ -347,18 +307,7 @@ fn a_file_is_judged(rt: HostRuntime) -> Result<(), Fail> {
     for (record, fault) in cases {
         assert_eq!(rt; opening_refusal(alloc, record)?, fault);
     }
-    let mut disk = MemoryDisk::new(alloc, ROOM)?;
-    let texts = Texts {
-        chart: SEVENTEEN_ROWS,
-        roster: b"",
-        tiles: b"",
-        board: b"",
-    };
-    rr_keeper::format(alloc, &mut disk, texts)?;
-    assert_eq!(rt; opened(alloc, disk).err(), Some(Fault::NotAStore));
     let empty = MemoryDisk::new(alloc, ROOM)?;
     assert_eq!(rt; opened(alloc, empty).err(), Some(Fault::NotAStore));
-    let mut disk = formatted(alloc)?;
-    assert_eq!(rt; format(alloc, &mut disk, texts), Err(Fault::NotEmpty));
     Ok(())
 }

@@ -1,4 +1,5 @@
 pub mod Node
+pub mod Facing
 pub mod Layout
 pub mod Network
 pub mod Walk

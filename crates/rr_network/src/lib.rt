@@ -1,6 +1,7 @@
 //! What was laid on a board, the links of the network that it makes, and what of it a corporation reaches.
 #![tactic(auto)]
 
+pub mod laws;
 mod layout;
 mod network;
 mod node;

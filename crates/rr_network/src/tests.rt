@@ -1,5 +1,5 @@
 //! The small board with a tile laid, and what two corporations reach there.
-use crate::{Axial, CentreAt, Layout, Network, Node, Reach, across, hexside_at};
+use crate::{Axial, CentreAt, Layout, Network, Node, Reach, across, hexside_at, laws};
 use rr_board::{Board, Place};
 use rr_roster::Corp;
 use rr_tiles::{Kind, Manifest};
@@ -71,6 +71,7 @@ fn shares_hexsides(rt: HostRuntime) {
         assert_eq!(rt; side, hexside_at(&other, facing));
         assert_ne!(rt; side, hexside_at(&other, edge));
     }
+    laws::hexsides();
 }
 
 #[test]

@@ -2,14 +2,12 @@ use Rattle.std.proofs.Common.{◌≡◌, sym, ap, ◌∙◌, subst, arith}
 use Rattle.rr_disk.specs.Disk.{DiskState, after_sync}
 use Rattle.rr_disk.specs.Moments.{EachImage}
 use Rattle.rr_disk.proofs.ImageLemmas.{each_synced}
-use Rattle.rr_journal.specs.declared.half.Half.{Half}
-use Rattle.rr_journal.specs.declared.layout.HalfIndex.TheVariants.{First}
 use Rattle.rr_journal.specs.declared.reading.RunEnd.TheVariants.{Closed}
 use Rattle.rr_journal.specs.Reading.{lines}
-use Rattle.rr_journal.proofs.Runs.{one_run}
-use Rattle.rr_keeper.specs.File.{IsStore, kit_place}
-use Rattle.rr_keeper.specs.Keeper.{disk_of}
+use Rattle.rr_keeper.specs.File.{kit_place}
+use Rattle.rr_keeper.specs.Keeper.{disk_of, IsStoreOf}
 use Rattle.rr_keeper.specs.Opening.{kit_of}
+use Rattle.rr_keeper.proofs.Halves.{one_reading}
 use Rattle.rr_keeper.proofs.Kits.{one_kit}
 use Rattle.rr_keeper.proofs.Slots.{length-lines}
 use Rattle.rr_keeper.proofs.opening.open.Goals as goal
@@ -17,13 +15,19 @@ use Rattle.rr_keeper.proofs.opening.open.Goals as goal
 pub returns-in-Ok-clause-keeps : goal.returns-in-Ok-clause-keeps
 returns-in-Ok-clause-keeps g c = λ honest.
     let read = subst g.D.Disk.Honest c.new.ensures.disk honest in
+    let file = (g.D.Disk.state c.args.disk).content in
     let kit = kit_of c.in-Ok.found.texts in
     let all = lines c.in-Ok.found.lines.items in
+    let store = c.in-Ok.ensures.store read in
+    let next = c.in-Ok.ensures.next read in
+    let here : IsStoreOf file kit next.near next.far = record { root = store.root; texts = store.texts; halves = next.halves } in
     let is : g.D.Disk.state (disk_of c.new.result) ≡ after_sync (g.D.Disk.state c.args.disk) = ap g.D.Disk.state c.new.ensures.disk ∙ (c.in-Ok.ensures.synced read).0 in
     record {
-      each = subst (λ (state : DiskState). EachImage state (λ image. IsStore image kit all)) (sym is) (each_synced (g.D.Disk.state c.args.disk) (λ image. IsStore image kit all) (c.in-Ok.ensures.store read));
-      half = ap (λ (half : Half). half.index) c.new.ensures.half ∙ c.in-Ok.ensures.half.0;
-      slot = ap (λ (half : Half). half.next_slot) c.new.ensures.half ∙ c.in-Ok.ensures.half.1;
+      near = next.near;
+      far = next.far;
+      parts = next.parts;
+      each = subst (λ (state : DiskState). EachImage state (λ image. IsStoreOf image kit next.near next.far)) (sym is) (each_synced (g.D.Disk.state c.args.disk) (λ image. IsStoreOf image kit next.near next.far) here);
+      half = c.new.ensures.half ∙ next.next;
       number = omega (arith, c.new.ensures.number, c.len.ensures, length-lines c.in-Ok.found.lines.items);
       whole = c.new.ensures.whole;
     }
@@ -33,5 +37,5 @@ returns-in-Ok-clause-only g c = λ honest kit all is.
     let file = (g.D.Disk.state c.args.disk).content in
     let store = c.in-Ok.ensures.store (subst g.D.Disk.Honest c.new.ensures.disk honest) in (
       one_kit file kit_place (kit_of c.in-Ok.found.texts) kit store.texts is.texts,
-      (one_run file First 0 1 (lines c.in-Ok.found.lines.items) all Closed Closed store.records is.records).0,
+      (one_reading file (lines c.in-Ok.found.lines.items) all Closed Closed store.records is.records).0,
     )

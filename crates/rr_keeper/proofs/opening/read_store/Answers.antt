@@ -1,16 +1,54 @@
-use Rattle.std.proofs.Common.{◌≡◌, ◌∙◌, subst, arith}
+use Rattle.std.proofs.Common.{◌≡◌, refl, ◌∙◌, subst}
 use Rattle.rr_disk.specs.Disk.{DiskState, after_sync}
-use Rattle.rr_journal.specs.declared.layout.HalfIndex.TheVariants.{First}
 use Rattle.rr_journal.specs.declared.reading.RunEnd.{RunEnd}
 use Rattle.rr_journal.specs.declared.reading.RunEnd.TheVariants.{OtherNumber}
 use Rattle.rr_journal.specs.Reading.{lines}
-use Rattle.rr_journal.specs.Run.{Run}
-use Rattle.rr_journal.proofs.Runs.{one_run}
-use Rattle.rr_keeper.proofs.Slots.{length-slots_of}
+use Rattle.rr_keeper.specs.File.{IsRoot, IsKitAt, HasRecords, kit_place}
+use Rattle.rr_keeper.specs.Opening.{kit_of}
+use Rattle.rr_keeper.proofs.Halves.{one_reading}
 use Rattle.rr_keeper.proofs.opening.read_store.Goals as goal
 
-pub returns-in-Closed-clause-few : goal.returns-in-Closed-clause-few
-returns-in-Closed-clause-few g c = omega (arith, c.in_ok-scanned.ensures.half, length-slots_of c.in_ok-scanned.scanned.records.items)
+pub returns-in-Closed-clause-store : goal.returns-in-Closed-clause-store
+returns-in-Closed-clause-store g c = λ honest.
+    let read = c.in_ok-scanned.ensures.honest honest in
+    let rooted = c.in_ok-texts.ensures.honest read in
+    let old = g.D.Disk.state c.args.disk.now in
+    let found = lines c.in_ok-scanned.scanned.records.items in
+    let synced : g.D.Disk.state c.sync.new.disk ≡ after_sync old = c.in_ok-sync.ensures.settled (c.in_ok-read_root.ensures.honest rooted) in
+    let here : g.D.Disk.state c.read_root.new.disk ≡ after_sync old = c.in_ok-read_root.ensures.same_state rooted ∙ synced in
+    let there : g.D.Disk.state c.read_texts.new.disk ≡ after_sync old = c.in_ok-texts.ensures.same_state read ∙ here in
+    let kit = kit_of c.in_ok-texts.texts in
+    record {
+      root = subst (λ (state : DiskState). IsRoot state.content) synced (c.in_ok-read_root.ensures.found rooted);
+      texts = subst (λ (state : DiskState). IsKitAt state.content kit_place kit) here (c.in_ok-texts.ensures.found read);
+      records =
+          subst (λ (ends : RunEnd). HasRecords old.content found ends) c.in-Closed.is
+          (subst (λ (state : DiskState). HasRecords state.content found c.in_ok-scanned.scanned.end) there (c.in_ok-scanned.ensures.found honest));
+    }
+
+pub returns-in-Damaged-clause-refused : goal.returns-in-Damaged-clause-refused
+returns-in-Damaged-clause-refused g c = (
+  refl,
+  λ honest.
+      let read = c.in_ok-scanned.ensures.honest honest in
+      let rooted = c.in_ok-texts.ensures.honest read in
+      let old = g.D.Disk.state c.args.disk.now in
+      let found = lines c.in_ok-scanned.scanned.records.items in
+      let synced : g.D.Disk.state c.sync.new.disk ≡ after_sync old = c.in_ok-sync.ensures.settled (c.in_ok-read_root.ensures.honest rooted) in
+      let here : g.D.Disk.state c.read_root.new.disk ≡ after_sync old = c.in_ok-read_root.ensures.same_state rooted ∙ synced in
+      let there : g.D.Disk.state c.read_texts.new.disk ≡ after_sync old = c.in_ok-texts.ensures.same_state read ∙ here in
+      let kit = kit_of c.in_ok-texts.texts in (
+        kit,
+        found,
+        record {
+          root = subst (λ (state : DiskState). IsRoot state.content) synced (c.in_ok-read_root.ensures.found rooted);
+          texts = subst (λ (state : DiskState). IsKitAt state.content kit_place kit) here (c.in_ok-texts.ensures.found read);
+          records =
+              subst (λ (ends : RunEnd). HasRecords old.content found ends) c.in-Damaged.is
+              (subst (λ (state : DiskState). HasRecords state.content found c.in_ok-scanned.scanned.end) there (c.in_ok-scanned.ensures.found honest));
+        },
+      ),
+)
 
 pub returns-in-OtherNumber-clause-refused : goal.returns-in-OtherNumber-clause-refused
 returns-in-OtherNumber-clause-refused g c = λ honest kit all end form.
@@ -20,7 +58,7 @@ returns-in-OtherNumber-clause-refused g c = λ honest kit all end form.
     let old = g.D.Disk.state c.args.disk.now in
     let found = lines c.in_ok-scanned.scanned.records.items in
     let same : g.D.Disk.state c.read_texts.new.disk ≡ after_sync old = c.in_ok-texts.ensures.same_state texts_read ∙ (c.in_ok-read_root.ensures.same_state root_read ∙ c.in_ok-sync.ensures.settled synced) in
-    let run : Run old.content First 0 1 found OtherNumber =
-    subst (λ (ends : RunEnd). Run old.content First 0 1 found ends) c.in-OtherNumber.is
-    (subst (λ (state : DiskState). Run state.content First 0 1 found c.in_ok-scanned.scanned.end) same (c.in_ok-scanned.ensures.found honest)) in
-    (one_run old.content First 0 1 found all OtherNumber end run form.records).1
+    let records : HasRecords old.content found OtherNumber =
+    subst (λ (ends : RunEnd). HasRecords old.content found ends) c.in-OtherNumber.is
+    (subst (λ (state : DiskState). HasRecords state.content found c.in_ok-scanned.scanned.end) same (c.in_ok-scanned.ensures.found honest)) in
+    (one_reading old.content found all OtherNumber end records form.records).1

@@ -5,4 +5,4 @@ use Rattle.rr_moderator.proofs.moderator.Moderator.begin.Goals as goal
 
 pub returns-in-Err-clause-err : goal.returns-in-Err-clause-err
 returns-in-Err-clause-err g c =
-    (c.into_disk.ensures, refuses_read _ _ _ _ _ _ c.in-Err.fault c.as_slice.ensures.value c.as_slice-2.ensures.value (ap records_of c.as_slice-3.ensures.value) c.in-Err.ensures)
+    (c.into_disk.ensures, refuses_read _ _ _ c.in-Err.fault (ap records_of c.as_slice.ensures.value) c.in-Err.ensures)

@@ -4,6 +4,7 @@ use Rattle.rr_code.specs.Line.{SpellsLine}
 use Rattle.rr_moderator.specs.Queries.{query_answer}
 use Rattle.rr_moderator.specs.Holding.{held_by, world_of}
 use Rattle.rr_moderator.specs.Serving.{TooLong, Malformed, Broken, Read}
+use Rattle.rr_moderator.proofs.DurabilityLemmas.{command_lasts, lasts_same}
 use Rattle.rr_moderator.proofs.ServingLemmas.{queried, untouched_by}
 use Rattle.rr_moderator.proofs.moderator.State.respond.Goals as goal
 
@@ -38,3 +39,19 @@ returns-in-Command-clause-untouched g c unlawful =
     let short : length c.args.line.now ≤ 8000 = omega arith in
     untouched_by (held_by c.args.self.now.keeper c.args.self.now.tables) c.args.line.now _ _ _ _ _ _ refl short
     (subst (SpellsLine c.args.line.now) c.in-Command.is c.in_ok-read.ensures.found) (sym c.is_broken.ensures ∙ c.if-is_broken.false) c.commit.ensures.untouched unlawful
+
+pub returns-then-line-gt-LONGEST_LINE-clause-lasts : goal.returns-then-line-gt-LONGEST_LINE-clause-lasts
+returns-then-line-gt-LONGEST_LINE-clause-lasts g c = lasts_same _ _ _ _ _ _ _ _ refl (λ unbroken. refl)
+
+pub returns-in_err-read-clause-lasts : goal.returns-in_err-read-clause-lasts
+returns-in_err-read-clause-lasts g c = lasts_same _ _ _ _ _ _ _ _ refl (λ unbroken. refl)
+
+pub returns-in-Query-clause-lasts : goal.returns-in-Query-clause-lasts
+returns-in-Query-clause-lasts g c = lasts_same _ _ _ _ _ _ _ _ refl (λ unbroken. refl)
+
+pub returns-in-Command-clause-lasts : goal.returns-in-Command-clause-lasts
+returns-in-Command-clause-lasts g c =
+    let short : length c.args.line.now ≤ 8000 = omega arith in
+    let spells = subst (SpellsLine c.args.line.now) c.in-Command.is c.in_ok-read.ensures.found in
+    command_lasts _ _ _ _ _ _ _ _ _ _ short spells (c.unstamped.ensures.record _ _ _ spells) (sym c.is_broken.ensures ∙ c.if-is_broken.false)
+    _ _ _ _ refl c.commit.ensures.untouched c.commit.ensures.takes c.commit.ensures.kept

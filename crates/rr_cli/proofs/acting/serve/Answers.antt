@@ -1,0 +1,12 @@
+use Rattle.std.proofs.Common.{refl}
+use Rattle.rr_cli.specs.Acting.{Not_served, Served}
+use Rattle.rr_cli.proofs.acting.serve.Goals as goal
+
+pub returns-in-Ok : goal.returns-in-Ok
+returns-in-Ok g c =
+    rw (c.into_disk.ensures, c.status.ensures, c.ending_of-ending.ensures)
+    (Served c.in-Ok.moderator c.serve.new.self c.serve.result c.serve.ensures.session.0 c.in-Ok.ensures.opened c.serve.ensures.session.1 c.serve.ensures.session.2 refl)
+
+pub returns-in-Err : goal.returns-in-Err
+returns-in-Err g c =
+    rw (c.status-in-Err.ensures) (Not_served c.in-Err.refused.fault c.refuse-ending.result c.in-Err.ensures.refused refl c.refuse-ending.ensures)

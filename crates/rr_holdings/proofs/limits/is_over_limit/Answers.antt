@@ -1,0 +1,21 @@
+use Rattle.std.proofs.Common.{◌∙◌, ap, rules}
+use Rattle.rr_holdings.specs.Holdings.{Holdings}
+use Rattle.rr_holdings.specs.HoldingLaws.{holdings-of_book}
+use Rattle.rr_holdings.specs.Limits.{is_over_limit}
+use Rattle.rr_holdings.proofs.limits.is_over_limit.Goals as goal
+
+pub returns-then-is_over_certificates-clause-shown : goal.returns-then-is_over_certificates-clause-shown
+returns-then-is_over_certificates-clause-shown c = search rules
+
+pub returns-then-is_over_certificates-clause-book : goal.returns-then-is_over_certificates-clause-book
+returns-then-is_over_certificates-clause-book c book books market =
+    returns-then-is_over_certificates-clause-shown c
+    ∙ ap (λ (h : Holdings). is_over_limit h c.args.seat) (holdings-of_book c.args.chart.now book c.args.books.now c.args.market.now books market)
+
+pub returns-clause-shown : goal.returns-clause-shown
+returns-clause-shown c = search rules
+
+pub returns-clause-book : goal.returns-clause-book
+returns-clause-book c book books market =
+    returns-clause-shown c
+    ∙ ap (λ (h : Holdings). is_over_limit h c.args.seat) (holdings-of_book c.args.chart.now book c.args.books.now c.args.market.now books market)

@@ -1,0 +1,6 @@
+pub mod Fault
+pub mod Holdings
+pub mod HoldingLaws
+pub mod Limits
+pub mod Sales
+pub mod SaleLaws

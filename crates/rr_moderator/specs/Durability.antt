@@ -1,0 +1,81 @@
+-- What the file has of a moderator's tables, whatever a stop leaves.
+use Rattle.std.specs.Prelude.{◌≡◌, ◌⊎◌, ℕ, false, List, [], ◌∷◌, ◌++◌, Result, Ok, Err}
+use Rattle.rr_disk.specs.Disk.{DiskState}
+use Rattle.rr_disk.specs.Moments.{EachImage, LeavesOnly}
+use Rattle.rr_keeper.specs.declared.keeper.Keeper.{Keeper}
+use Rattle.rr_keeper.specs.File.{IsStore, Kit}
+use Rattle.rr_keeper.specs.Keeper.{Keeps, disk_of, is_broken}
+use Rattle.rr_moderator.specs.declared.fault.Fault.{Fault}
+use Rattle.rr_moderator.specs.World.{world_after}
+use Rattle.rr_serve.specs.Lines.{taken}
+use Rattle.rr_serve.specs.Serving.{Served}
+use Rattle.rr_moderator.specs.Serving.{Held, MayAppend, Speaks, Spoken, said, with_tables}
+use Rattle.rr_moderator.specs.Replaying.{Opens, Replayed}
+
+-- the records after a keeping that ended so
+abbrev pub with_record : {T : Type 0} → Result T Fault → List (List ℕ) → List ℕ → List (List ℕ)
+with_record (Ok value) records bytes = records ++ bytes ∷ []
+with_record (Err fault) records bytes = records
+
+-- a file is a store with these records, or with one more
+abbrev pub IsStoreWith : Kit → List (List ℕ) → List ℕ → List ℕ → Type 0
+IsStoreWith kit records bytes image = IsStore image kit records ⊎ IsStore image kit (records ++ bytes ∷ [])
+
+-- What keeping a record does to an honest disk: a stop at any moment leaves a store with the record or without; behind it
+-- each image is one with the record if it was taken, and one without if it wasn't, unless the device failed.
+pub record Keeping {D : Type 0} (Honest : D → Type 0) (state : D → DiskState) (past : D → List DiskState)
+    (old : Keeper D) (bytes : List ℕ) (result : Result (Unit {0}) Fault) (new : Keeper D) : Type 0 where
+  pub honest : Honest (disk_of new) → Honest (disk_of old)
+  pub stops : Honest (disk_of new) → (kit : Kit) (records : List (List ℕ)) → Keeps old (state (disk_of old)) kit records
+      → LeavesOnly (past (disk_of old)) (state (disk_of old)) (past (disk_of new)) (state (disk_of new)) (IsStoreWith kit records bytes)
+  pub keeps : Honest (disk_of new) → is_broken new ≡ false → (kit : Kit) (records : List (List ℕ)) → Keeps old (state (disk_of old)) kit records
+      → Keeps new (state (disk_of new)) kit (with_record result records bytes)
+
+-- what became of a journal in a call that may have a record kept: it wasn't asked, and the call is refused; or the call
+-- ended as the keeping did
+abbrev pub Passed : {J T : Type 0} → (J → List ℕ → Result (Unit {0}) Fault → J → Type 0) → J → List ℕ → J → Result T Fault → Type 0
+Passed Kept old bytes new (Ok value) = Kept old bytes (Ok tt) new
+Passed Kept old bytes new (Err fault) = (new ≡ old) ⊎ Kept old bytes (Err fault) new
+
+-- Whatever a stop leaves now, the file is a store whose records make what is held, and the keeper goes on behind them.
+pub record Stands {D : Type 0} (keeper : Keeper D) (state : DiskState) (held : Held) : Type 0 where
+  pub kit : Kit
+  pub records : List (List ℕ)
+  pub keeps : Keeps keeper state kit records
+  pub replayed : Replayed kit records held.roster held.tables
+  pub whole : held.broken ≡ false
+
+-- an opening gives what is held, and the command of the line besides, which is lawful
+pub record OpensWith (held : Held) (line image : List ℕ) : Type 0 where
+  pub taken : MayAppend held line
+  pub opens : Opens image (with_tables held (world_after held.tables taken.name taken.command))
+
+-- an opening gives what is held, with the command of the line or without
+abbrev pub BeforeOrAfter : Held → List ℕ → List ℕ → Type 0
+BeforeOrAfter held line image = Opens image held ⊎ OpensWith held line image
+
+-- What answering a line does to an honest disk whose file stands for what is held: a stop at any moment leaves a file that
+-- opens as before the line or as after it, and the file stands for what is held then, unless the device failed.
+pub record Lasts {D : Type 0} (Honest : D → Type 0) (state : D → DiskState) (past : D → List DiskState)
+    (old : Keeper D) (before : Held) (line : List ℕ) (new : Keeper D) (after : Held) : Type 0 where
+  pub honest : Honest (disk_of new) → Honest (disk_of old)
+  pub stops : Honest (disk_of new) → Stands old (state (disk_of old)) before
+      → LeavesOnly (past (disk_of old)) (state (disk_of old)) (past (disk_of new)) (state (disk_of new)) (BeforeOrAfter before line)
+  pub stands : Honest (disk_of new) → is_broken new ≡ false → Stands old (state (disk_of old)) before → Stands new (state (disk_of new)) after
+  pub untouched : ¬ MayAppend before line → new ≡ old
+
+-- an opening gives what is held before the first of these lines, or with its command
+abbrev pub OpensNext : Held → List (List ℕ) → List ℕ → Type 0
+OpensNext held [] image = Opens image held
+OpensNext held (line ∷ lines) image = BeforeOrAfter held (taken line) image
+
+-- An opening gives what is held once some of the lines are answered, with the command of the next line or without: all that
+-- was acknowledged, and perhaps the command under way.
+pub record OpensAlong (begun : Spoken) (lines : List (List ℕ)) (image : List ℕ) : Type 0 where
+  pub front : List (List ℕ)
+  pub rest : List (List ℕ)
+  pub replies : List (List ℕ)
+  pub reached : Spoken
+  pub split : lines ≡ front ++ rest
+  pub served : Served Speaks said begun front replies reached
+  pub opens : OpensNext reached.0 rest image

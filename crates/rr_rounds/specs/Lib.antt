@@ -1,0 +1,5 @@
+pub mod Round
+pub mod RoundLaws
+pub mod Counts
+pub mod Opened
+pub mod Trades

@@ -1,0 +1,13 @@
+//! How far the stock rounds of a table have come: whose turn it is, who passed, who sold what, who has priority.
+#![tactic(auto)]
+
+pub mod laws;
+mod purchases;
+mod rounds;
+mod sales;
+
+pub use purchases::Purchases;
+pub use rounds::Rounds;
+
+#[cfg(test)]
+mod tests;

@@ -1,0 +1,5 @@
+pub mod Moves
+pub mod Keeping
+pub mod Heirs
+pub mod Counting
+pub mod Handovers
