@@ -1,10 +1,10 @@
-ghost use Rattle.std.specs.Prelude.{◌≡◌, ◌+◌, ◌≤◌, sum_by};
+ghost use Rattle.std.specs.Prelude.{◌≡◌, ◌≤◌, sum_by};
 ghost use Rattle.rr_roster.specs.Company.{corps};
 ghost use Rattle.rr_books.specs.Book.{Book};
 ghost use Rattle.rr_books.specs.State.{IsStateOf, holder_in};
 ghost use Rattle.rr_market.specs.State.{IsMarketOf};
 ghost use Rattle.rr_holdings.specs.Holdings.{holdings_of, holdings_in};
-ghost use Rattle.rr_holdings.specs.Limits.{is_coloured, is_unlimited, privates_held, counted_of, certificate_added, certificates_counted, is_over_certificates, would_be_over_certificates, is_over_sixty, would_be_over_sixty, is_over_sixty_of_any, is_over_limit};
+ghost use Rattle.rr_holdings.specs.Limits.{is_coloured, is_unlimited, privates_held, counted_of, certificates_counted, is_over_certificates, would_be_over_certificates, is_over_sixty, would_be_over_sixty, is_over_sixty_of_any, is_over_limit};
 
 use rr_books::{Books, Cert, Corp, Place, Private, Seat, certificate_limit};
 use rr_chart::{Chart, Zone};

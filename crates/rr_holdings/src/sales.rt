@@ -1,4 +1,4 @@
-ghost use Rattle.std.specs.Prelude.{◌≡◌, ◌*◌, ◌-◌, ◌↔◌, true, IsTrue, None, Some, is_some, OnOk, MatchResult, nat_lt, ◌≤◌, ◌<◌};
+ghost use Rattle.std.specs.Prelude.{◌≡◌, ◌≤◌, ◌*◌, ◌↔◌, true, is_some, IsTrue, None, Some, OnOk, MatchResult};
 ghost use Rattle.rr_books.specs.Book.{Book};
 ghost use Rattle.rr_books.specs.State.{IsStateOf, holder_in};
 ghost use Rattle.rr_books.specs.Shares.{share};

@@ -44,7 +44,8 @@ impl<D: Disk + Drop> Keeper<D> {
     /// Appends a line's record. After `Ok` the line is safe on the disk. It takes no memory.
     ///
     /// Where the first half of the journal has no room, lines go on in the second, and stay there. `HalfFull` where that
-    /// has none either, and `OpenAgain` where a device call failed before: then nothing has changed. After `DeviceFailed` the line may be on the disk or not, and the keeper is broken.
+    /// has none either, and `OpenAgain` where a device call failed before: then nothing has changed. After `DeviceFailed`
+    /// the line may be on the disk or not, and the keeper is broken.
     pub fn append(&mut self, line: &[u8]) -> Result<(), Fault>
         requires { 0 < length line.now }
 

@@ -6,3 +6,4 @@ pub mod Rows
 pub mod Tiles
 pub mod Laying
 pub mod Placing
+pub mod JudgingLaws

@@ -3,6 +3,7 @@
 
 mod fault;
 mod hexes;
+pub mod laws;
 mod laying;
 mod placing;
 mod rows;

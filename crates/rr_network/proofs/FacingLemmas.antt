@@ -1,5 +1,5 @@
 -- Which edges are one hexside.
-use Rattle.std.proofs.Common.{◌≡◌, ℕ, ◌+◌, ◌<◌, ◌≤◌, ◌⊎◌, ◌↔◌, true, inl, inr, refl, sym, ◌∙◌, ap, subst, suc, ℤ, arith}
+use Rattle.std.proofs.Common.{◌≡◌, ℕ, ◌+◌, ◌%◌, ◌<◌, ◌≤◌, ◌⊎◌, ◌↔◌, true, inl, inr, refl, sym, ◌∙◌, ap, subst, zero, suc, ℤ, arith}
 use Rattle.std.proofs.lemmas.Int.{ints}
 use Rattle.std.proofs.lemmas.Bool.{and_parts, and_from, eqb-true, eq-eqb}
 use Rattle.std.proofs.lemmas.Bool.Decides.{Decides-int_eq}
@@ -27,34 +27,34 @@ record SamePlace (side other : Hexside) : Type 0 where
 
 -- the lower three edges name their hexsides, and the upper three have those of the edges across
 edge_of : (place : Place) (edge : ℕ) → edge < 6 → ((edge < 3) × ((hexside_at place edge).edge ≡ edge)) ⊎ ((3 ≤ edge) × ((hexside_at place edge).edge + 3 ≡ edge))
-edge_of place 0 h = inl (omega arith, refl)
-edge_of place 1 h = inl (omega arith, refl)
-edge_of place 2 h = inl (omega arith, refl)
-edge_of place 3 h = inr (omega arith, refl)
-edge_of place 4 h = inr (omega arith, refl)
-edge_of place 5 h = inr (omega arith, refl)
+edge_of place zero h = inl (omega arith, refl)
+edge_of place (suc zero) h = inl (omega arith, refl)
+edge_of place (suc (suc zero)) h = inl (omega arith, refl)
+edge_of place (suc (suc (suc zero))) h = inr (omega arith, refl)
+edge_of place (suc (suc (suc (suc zero)))) h = inr (omega arith, refl)
+edge_of place (suc (suc (suc (suc (suc zero))))) h = inr (omega arith, refl)
 edge_of place (suc (suc (suc (suc (suc (suc n)))))) h = absurd (omega arith)
 
 one : (place other : Place) (edge : ℕ) → edge < 6 → SamePlace (hexside_at place edge) (hexside_at other edge) → (place.q ≡ other.q) × (place.r ≡ other.r)
-one place other 0 h s = (s.column, s.row)
-one place other 1 h s = (s.column, s.row)
-one place other 2 h s = (s.column, s.row)
-one place other 3 h s = (omega (arith, ints, s.column), omega (arith, ints, s.row))
-one place other 4 h s = (omega (arith, ints, s.column), omega (arith, ints, s.row))
-one place other 5 h s = (omega (arith, ints, s.column), omega (arith, ints, s.row))
+one place other zero h s = (s.column, s.row)
+one place other (suc zero) h s = (s.column, s.row)
+one place other (suc (suc zero)) h s = (s.column, s.row)
+one place other (suc (suc (suc zero))) h s = (omega (arith, ints, s.column), omega (arith, ints, s.row))
+one place other (suc (suc (suc (suc zero)))) h s = (omega (arith, ints, s.column), omega (arith, ints, s.row))
+one place other (suc (suc (suc (suc (suc zero))))) h s = (omega (arith, ints, s.column), omega (arith, ints, s.row))
 one place other (suc (suc (suc (suc (suc (suc n)))))) h s = absurd (omega arith)
 
 -- a lower edge shares its hexside with the upper edge that it faces
 lower : (place other : Place) (edge : ℕ) → edge < 3 → SamePlace (hexside_at place edge) (hexside_at other (edge + 3)) → Faces place edge other (edge + 3)
-lower place other 0 h s = record { column = omega (arith, ints, s.column); row = omega (arith, ints, s.row); three_on = refl }
-lower place other 1 h s = record { column = omega (arith, ints, s.column); row = omega (arith, ints, s.row); three_on = refl }
-lower place other 2 h s = record { column = omega (arith, ints, s.column); row = omega (arith, ints, s.row); three_on = refl }
+lower place other zero h s = record { column = omega (arith, ints, s.column); row = omega (arith, ints, s.row); three_on = refl }
+lower place other (suc zero) h s = record { column = omega (arith, ints, s.column); row = omega (arith, ints, s.row); three_on = refl }
+lower place other (suc (suc zero)) h s = record { column = omega (arith, ints, s.column); row = omega (arith, ints, s.row); three_on = refl }
 lower place other (suc (suc (suc n))) h s = absurd (omega arith)
 
 upper : (place other : Place) (facing : ℕ) → facing < 3 → SamePlace (hexside_at place (facing + 3)) (hexside_at other facing) → Faces place (facing + 3) other facing
-upper place other 0 h s = record { column = sym s.column; row = sym s.row; three_on = refl }
-upper place other 1 h s = record { column = sym s.column; row = sym s.row; three_on = refl }
-upper place other 2 h s = record { column = sym s.column; row = sym s.row; three_on = refl }
+upper place other zero h s = record { column = sym s.column; row = sym s.row; three_on = refl }
+upper place other (suc zero) h s = record { column = sym s.column; row = sym s.row; three_on = refl }
+upper place other (suc (suc zero)) h s = record { column = sym s.column; row = sym s.row; three_on = refl }
 upper place other (suc (suc (suc n))) h s = absurd (omega arith)
 
 -- two edges of one number, or three apart
@@ -93,12 +93,12 @@ shared place other edge facing h k same =
 
 faced : (place other : Place) (edge : ℕ) → edge < 6 → other.q ≡ (across place edge).q → other.r ≡ (across place edge).r
     → hexside_at place edge ≡ hexside_at other ((edge + 3) % 6)
-faced place other 0 h e f = hexside_from _ _ (omega (arith, ints, e)) (omega (arith, ints, f)) refl
-faced place other 1 h e f = hexside_from _ _ (omega (arith, ints, e)) (omega (arith, ints, f)) refl
-faced place other 2 h e f = hexside_from _ _ (omega (arith, ints, e)) (omega (arith, ints, f)) refl
-faced place other 3 h e f = hexside_from _ _ (sym e) (sym f) refl
-faced place other 4 h e f = hexside_from _ _ (sym e) (sym f) refl
-faced place other 5 h e f = hexside_from _ _ (sym e) (sym f) refl
+faced place other zero h e f = hexside_from _ _ (omega (arith, ints, e)) (omega (arith, ints, f)) refl
+faced place other (suc zero) h e f = hexside_from _ _ (omega (arith, ints, e)) (omega (arith, ints, f)) refl
+faced place other (suc (suc zero)) h e f = hexside_from _ _ (omega (arith, ints, e)) (omega (arith, ints, f)) refl
+faced place other (suc (suc (suc zero))) h e f = hexside_from _ _ (sym e) (sym f) refl
+faced place other (suc (suc (suc (suc zero)))) h e f = hexside_from _ _ (sym e) (sym f) refl
+faced place other (suc (suc (suc (suc (suc zero))))) h e f = hexside_from _ _ (sym e) (sym f) refl
 faced place other (suc (suc (suc (suc (suc (suc n)))))) h e f = absurd (omega arith)
 
 pub share_hexsides : ShareHexsides
@@ -112,12 +112,12 @@ share_hexsides place other edge facing h k = (
 )
 
 back : (place other : Place) (edge : ℕ) → edge < 6 → other.q ≡ (across place edge).q → other.r ≡ (across place edge).r → Faces other ((edge + 3) % 6) place edge
-back place other 0 h e f = record { column = omega (arith, ints, e); row = omega (arith, ints, f); three_on = refl }
-back place other 1 h e f = record { column = omega (arith, ints, e); row = omega (arith, ints, f); three_on = refl }
-back place other 2 h e f = record { column = omega (arith, ints, e); row = omega (arith, ints, f); three_on = refl }
-back place other 3 h e f = record { column = omega (arith, ints, e); row = omega (arith, ints, f); three_on = refl }
-back place other 4 h e f = record { column = omega (arith, ints, e); row = omega (arith, ints, f); three_on = refl }
-back place other 5 h e f = record { column = omega (arith, ints, e); row = omega (arith, ints, f); three_on = refl }
+back place other zero h e f = record { column = omega (arith, ints, e); row = omega (arith, ints, f); three_on = refl }
+back place other (suc zero) h e f = record { column = omega (arith, ints, e); row = omega (arith, ints, f); three_on = refl }
+back place other (suc (suc zero)) h e f = record { column = omega (arith, ints, e); row = omega (arith, ints, f); three_on = refl }
+back place other (suc (suc (suc zero))) h e f = record { column = omega (arith, ints, e); row = omega (arith, ints, f); three_on = refl }
+back place other (suc (suc (suc (suc zero)))) h e f = record { column = omega (arith, ints, e); row = omega (arith, ints, f); three_on = refl }
+back place other (suc (suc (suc (suc (suc zero))))) h e f = record { column = omega (arith, ints, e); row = omega (arith, ints, f); three_on = refl }
 back place other (suc (suc (suc (suc (suc (suc n)))))) h e f = absurd (omega arith)
 
 pub face_each_other : FaceEachOther
@@ -127,8 +127,8 @@ pub is_test_of_hexsides : IsTestOfHexsides
 is_test_of_hexsides side other = (told, λ same. subst (λ (s : Hexside). same_hexside side s ≡ true) same (itself side))
   where
     told : same_hexside side other ≡ true → side ≡ other
-    told yes =
-        let outer = and_parts _ _ yes in
+    told passed =
+        let outer = and_parts _ _ passed in
         let inner = and_parts _ _ outer.1 in
         hexside_from side other ((Decides-int_eq _ _).0 outer.0) ((Decides-int_eq _ _).0 inner.0) (eqb-true _ _ inner.1)
 
