@@ -1,5 +1,5 @@
 -- Each command has one verdict.
-use Rattle.std.specs.Prelude.{◌≡◌, ℕ, List, ◌⊎◌, Option, None, Some}
+use Rattle.std.specs.Prelude.{◌≡◌, ℕ, List, Option, None, Some}
 use Rattle.std.proofs.Common.{sym, ◌∙◌, inl, inr}
 use Rattle.rr_roster.specs.declared.company.Corp.{Corp}
 use Rattle.rr_board.specs.declared.hex.Hex.{Hex}

@@ -1,11 +1,10 @@
 -- Passes, trades and priority over a stretch of a book.
-use Rattle.std.specs.Prelude.{◌≡◌, ℕ, ◌+◌, ◌<◌, Bool, true, false, cond, not, [], ◌∷◌, ◌++◌, Option, None, Some, is_some, unwrap_or, fold, count_by, if◌then◌else◌, ◌==◌, ◌&&◌, refl}
+use Rattle.std.specs.Prelude.{◌≡◌, ℕ, ◌+◌, ◌<◌, Bool, true, false, cond, not, [], ◌∷◌, ◌++◌, Option, Some, is_some, unwrap_or, fold, count_by, if◌then◌else◌, ◌==◌, ◌&&◌, refl}
 use Rattle.std.specs.List.{list_any}
 use Rattle.std.proofs.Common.{sym, ◌∙◌, ap, arith}
 use Rattle.std.proofs.lemmas.Bool.{false≢true, or_parts}
-use Rattle.std.proofs.lemmas.List.Sums.{fold-append, sum_by-cons}
+use Rattle.std.proofs.lemmas.List.Sums.{sum_by-cons}
 use Rattle.rr_books.specs.declared.parties.Seat.{Seat}
-use Rattle.rr_books.specs.declared.parties.Place.{Place}
 use Rattle.rr_books.specs.declared.parties.Place.TheVariants as L
 use Rattle.rr_books.specs.declared.certificates.Cert.TheVariants as C
 use Rattle.rr_books.specs.declared.entries.Entry.{Entry}
@@ -14,10 +13,9 @@ use Rattle.rr_books.specs.declared.entries.Marker.{Marker}
 use Rattle.rr_books.specs.declared.entries.Marker.TheVariants as M
 use Rattle.rr_books.specs.declared.acts.Act.{Act}
 use Rattle.rr_books.specs.declared.acts.Act.TheVariants as A
-use Rattle.rr_books.specs.Book.{Book, players}
-use Rattle.rr_rounds.specs.Round.{Round, IsRoundOf, progress, after, after_act, after_done, after_step, left_of, ends_round, ends_turn}
-use Rattle.rr_rounds.specs.RoundLaws.{progress-append, progress-push}
-use Rattle.rr_rounds.specs.Counts.{players-shown}
+use Rattle.rr_books.specs.Book.{Book}
+use Rattle.rr_rounds.specs.Round.{Round, progress, after, after_act, after_step, left_of, ends_round, ends_turn}
+use Rattle.rr_rounds.specs.RoundLaws.{progress-append}
 use Rattle.rr_rounds.specs.Trades.{begins, begins_round, trader, trades, step_trades, is_trade, moves_priority, done}
 
 -- while a stock round is under way a command counts

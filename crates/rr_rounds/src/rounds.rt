@@ -15,14 +15,17 @@ use std::marker::Model;
 #[derive(Clone, Copy, Debug)]
 pub struct Rounds {
     players: u16,
+    /// The stock rounds that have begun.
     begun: u64,
     under_way: bool,
     turn: Seat,
+    /// Whether the seat in turn has bought or sold.
     traded: bool,
     purchases: Purchases,
     passes: u64,
     priority: Seat,
     sales: Sales,
+    /// The turns that have ended.
     turns: u64,
     floated: Marks,
 }
