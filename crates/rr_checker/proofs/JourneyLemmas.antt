@@ -1,0 +1,145 @@
+-- Trips over just the links of a train.
+use Rattle.std.proofs.Common.{◌≡◌, ◌≢◌, ℕ, ◌+◌, ◌<◌, ◌≤◌, ◌⊎◌, ◌↔◌, ◌==◌, not, Bool, true, false, Option, None, Some, Result, Ok, Err, List, [], ◌∷◌, length, get_or, refl, sym, ◌∙◌, ap, subst, inl, inr, arith}
+use Rattle.std.specs.Bool.{Decides}
+use Rattle.std.specs.Option.{MatchOption}
+use Rattle.std.specs.Result.{IfOk}
+use Rattle.std.specs.List.{Contains, list_any, slice_get}
+use Rattle.std.proofs.lemmas.Bool.{false≢true, cases_eq}
+use Rattle.std.proofs.lemmas.Bool.Decides.{Decides-not}
+use Rattle.std.proofs.lemmas.List.{get_or_default}
+use Rattle.rr_routes.specs.declared.net.CentreLimit.{CentreLimit}
+use Rattle.rr_routes.specs.declared.net.Node.{Node}
+use Rattle.rr_routes.specs.declared.net.Node.TheVariants.{Hexside, Centre}
+use Rattle.rr_routes.specs.declared.net.Link.{Link}
+use Rattle.rr_routes.specs.Net.{Net, Joins, IsCentre}
+use Rattle.rr_routes.specs.Routes.{Walk, one_link, goes_on, Path, Trip, no_trip, Route, EndsAreCentres}
+use Rattle.rr_routes.proofs.Elements.{Contains-here, Contains-nil, contained}
+use Rattle.rr_checker.specs.Trips.{SameElements, IsOnlyWay, IsTripOver, NoneFrom, NoneAt, centre_of, centre_at, is_missing, trip_over}
+use Rattle.rr_checker.proofs.StepLemmas.{yes, no, Decides-list_any, Decides-among}
+
+-- nothing is missing
+pub none_missing : (one other : List ℕ) → is_missing one other ≡ false → (x : ℕ) → Contains one x → Contains other x
+none_missing one other e x c =
+    elim (contained other x) [
+      | inl there ↦ there
+      | inr out ↦ absurd (no (Decides-list_any (λ y. not (list_any (λ z. z == y) other)) (λ y. Contains other y → ⊥) one
+          (λ y d. Decides-not (list_any (λ z. z == y) other) (Decides-among other y))) e (x, c, out))
+    ]
+
+some_missing : (one other : List ℕ) → is_missing one other ≡ true → ((x : ℕ) → Contains one x → Contains other x) → ⊥
+some_missing one other e all =
+    let found = yes (Decides-list_any (λ y. not (list_any (λ z. z == y) other)) (λ y. Contains other y → ⊥) one
+    (λ y d. Decides-not (list_any (λ z. z == y) other) (Decides-among other y))) e in
+    found.2 (all found.0 found.1)
+
+-- a link that joins a centre to a node has it at its other end
+end_centre : (net : Net) (link centre : ℕ) (to : Node) → Joins net link (Centre centre) to → centre_at (slice_get net.links link) ≡ Some centre
+end_centre net link centre to joins =
+    rw joins.1 (elim joins.2 [
+      | inl ends ↦ let e = ends.0 in cc
+      | inr ends ↦ subst (λ n. centre_of n ≡ Some centre) ends.0 refl
+    ])
+
+module _ (net : Net) (limit : CentreLimit) (own : List ℕ) where
+  pub no_links : own ≡ [] → IsTripOver net limit own (trip_over [] [])
+  no_links e = record { lawful = inl refl; same = λ link. (λ c. absurd (Contains-nil link c), λ c. absurd (Contains-nil link (subst (λ xs. Contains xs link) e c))) }
+
+  pub found_trip : (links : List ℕ) (nodes : List Node) → is_missing own links ≡ false → is_missing links own ≡ false → Route net limit (trip_over links nodes)
+      → IsTripOver net limit own (trip_over links nodes)
+  found_trip links nodes e f route = record {
+    lawful = inr route;
+    same = λ link. (none_missing links own f link, none_missing own links e link);
+  }
+
+  -- a trip from the centre is the one that was followed
+  followed : (centre : ℕ) (links : List ℕ) (nodes : List Node) → IsOnlyWay net own (Centre centre) links nodes → (trip : Trip) → IsTripOver net limit own trip
+      → (behind : List Node) → trip.nodes ≡ Centre centre ∷ behind → Route net limit trip × (links ≡ trip.links) × (nodes ≡ trip.nodes)
+  followed centre links nodes only trip over behind starts =
+      elim over.lawful [
+        | inl none ↦ let e : [] ≡ Centre centre ∷ behind = sym (ap (λ (t : Trip). t.nodes) none) ∙ starts in cc
+        | inr route ↦
+            let way = only trip.links behind (subst (λ ns. Path net trip.links ns) starts route.path) over.same in
+            (route, way.0, way.1 ∙ sym starts)
+      ]
+
+  pub missing_own : (centre : ℕ) (links : List ℕ) (nodes : List Node) → IsOnlyWay net own (Centre centre) links nodes → is_missing own links ≡ true → NoneAt net limit own centre
+  missing_own centre links nodes only e trip over behind starts =
+      let way = followed centre links nodes only trip over behind starts in
+      some_missing own links e (λ x c. subst (λ xs. Contains xs x) (sym way.1) ((over.same x).1 c))
+
+  pub missing_links : (centre : ℕ) (links : List ℕ) (nodes : List Node) → IsOnlyWay net own (Centre centre) links nodes → is_missing links own ≡ true → NoneAt net limit own centre
+  missing_links centre links nodes only e trip over behind starts =
+      let way = followed centre links nodes only trip over behind starts in
+      some_missing links own e (λ x c. (over.same x).0 (subst (λ xs. Contains xs x) way.1 c))
+
+  pub no_route : (centre : ℕ) (links : List ℕ) (nodes : List Node) → IsOnlyWay net own (Centre centre) links nodes → (Route net limit (trip_over links nodes) → ⊥) → NoneAt net limit own centre
+  no_route centre links nodes only none trip over behind starts =
+      let way = followed centre links nodes only trip over behind starts in
+      let same : trip ≡ trip_over links nodes = rw (way.1, way.2) refl in
+      none (subst (λ t. Route net limit t) same way.0)
+
+  -- the first node of a route is the centre at the end of its first link
+  begins_at : (links rest : List ℕ) (nodes : List Node) (link : ℕ) → Walk net links nodes → links ≡ link ∷ rest → EndsAreCentres nodes
+      → (centre : ℕ) × (behind : List Node) × (nodes ≡ Centre centre ∷ behind) × (centre_at (slice_get net.links link) ≡ Some centre)
+  begins_at _ rest _ link (one_link first from to joins) e ends = at_first from to (to ∷ []) ends.0 joins
+    where
+      is : first ≡ link
+      is = cc
+
+      at_first : (node next : Node) (behind : List Node) → IsCentre node → Joins net first node next
+          → (centre : ℕ) × (after : List Node) × (node ∷ behind ≡ Centre centre ∷ after) × (centre_at (slice_get net.links link) ≡ Some centre)
+      at_first (Hexside side) next behind none joined = absurd none
+      at_first (Centre centre) next behind some joined = (centre, behind, refl, subst (λ l. centre_at (slice_get net.links l) ≡ Some centre) is (end_centre net first centre next joined))
+  begins_at _ rest _ link (goes_on first later links from to nodes joins passes onward) e ends = at_first from to (to ∷ nodes) ends.0 joins
+    where
+      is : first ≡ link
+      is = cc
+
+      at_first : (node next : Node) (behind : List Node) → IsCentre node → Joins net first node next
+          → (centre : ℕ) × (after : List Node) × (node ∷ behind ≡ Centre centre ∷ after) × (centre_at (slice_get net.links link) ≡ Some centre)
+      at_first (Hexside side) next behind none joined = absurd none
+      at_first (Centre centre) next behind some joined = (centre, behind, refl, subst (λ l. centre_at (slice_get net.links l) ≡ Some centre) is (end_centre net first centre next joined))
+
+  from_first : (link : ℕ) (trip : Trip) → IsTripOver net limit own trip → (rest : List ℕ) → trip.links ≡ link ∷ rest
+      → (centre : ℕ) × (behind : List Node) × (trip.nodes ≡ Centre centre ∷ behind) × (centre_at (slice_get net.links link) ≡ Some centre)
+  from_first link trip over rest starts =
+      elim over.lawful [
+        | inl none ↦ let e : [] ≡ link ∷ rest = sym (ap (λ (t : Trip). t.links) none) ∙ starts in cc
+        | inr route ↦ begins_at trip.links rest trip.nodes link route.path.0 starts route.ends
+      ]
+
+  pub none_without : (link : ℕ) → centre_at (slice_get net.links link) ≡ None → NoneFrom net limit own link
+  none_without link none trip over rest starts =
+      let first = from_first link trip over rest starts in
+      let e : None ≡ Some first.0 = sym none ∙ first.3 in cc
+
+  pub none_at_centre : (link centre : ℕ) → centre_at (slice_get net.links link) ≡ Some centre → NoneAt net limit own centre → NoneFrom net limit own link
+  none_at_centre link centre is none trip over rest starts =
+      let first = from_first link trip over rest starts in
+      let same : first.0 ≡ centre = (let e = first.3 in cc) in
+      none trip over first.1 (subst (λ n. trip.nodes ≡ Centre n ∷ first.1) same first.2)
+
+  pub none_at_all : 0 < length own → ((k : ℕ) → k < length own → NoneFrom net limit own (get_or own k 0)) → (trip : Trip) → IsTripOver net limit own trip → ⊥
+  none_at_all some each trip over = at_links trip.links refl
+    where
+      at_links : (links : List ℕ) → trip.links ≡ links → ⊥
+      at_links [] e =
+          Contains-nil (get_or own 0 0) (subst (λ xs. Contains xs (get_or own 0 0)) e ((over.same (get_or own 0 0)).1 (0, some, sym (get_or_default own 0 0 (get_or own 0 0) some))))
+      at_links (first ∷ rest) e =
+          let c : Contains own first = (over.same first).0 (subst (λ xs. Contains xs first) (sym e) (Contains-here first rest)) in
+          let here : get_or own c.0 0 ≡ first = get_or_default own c.0 0 first c.1 ∙ c.2 in
+          each c.0 c.1 trip over rest (e ∙ ap (λ (l : ℕ). l ∷ rest) (sym here))
+
+-- what follows of a search that finds nothing
+pub finds : {A E P Q : Type 0} (Here : A → Type 0) (r : Result (Option A) E) → (P → Q) → IfOk r (λ found. MatchOption found P Here) → IfOk r (λ found. MatchOption found Q Here)
+finds Here (Ok None) f p = f p
+finds Here (Ok (Some x)) f h = h
+finds Here (Err e) f h = tt
+
+pub none_from_more : (net : Net) (limit : CentreLimit) (own : List ℕ) (i : ℕ) → ((k : ℕ) → k < i → NoneFrom net limit own (get_or own k 0)) → NoneFrom net limit own (get_or own i 0)
+    → (k : ℕ) → k < i + 1 → NoneFrom net limit own (get_or own k 0)
+none_from_more net limit own i before here k less =
+    elim (cases_eq k i) [
+      | inl same ↦ subst (λ j. NoneFrom net limit own (get_or own j 0)) (sym same) here
+      | inr differ ↦ before k (omega arith)
+    ]

@@ -1,0 +1,11 @@
+pub mod PlaceLemmas
+pub mod StepLemmas
+pub mod WalkLemmas
+pub mod RankLemmas
+pub mod BoundLemmas
+pub mod OwnLemmas
+pub mod JudgeLemmas
+pub mod TripLemmas
+pub mod FollowLemmas
+pub mod JourneyLemmas
+pub mod FullLemmas

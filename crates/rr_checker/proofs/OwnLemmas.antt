@@ -1,0 +1,345 @@
+-- The links that are a train's own, and why it can't run over all of them.
+use Rattle.std.proofs.Common.{◌≡◌, ◌≢◌, ℕ, ◌+◌, ◌<◌, ◌≤◌, ◌⊎◌, ◌↔◌, ◌==◌, ◌&&◌, ◌||◌, not, Bool, true, false, Option, None, Some, List, [], ◌∷◌, ◌++◌, length, ltb, get_or, take, refl, sym, ◌∙◌, ap, subst, inl, inr, arith}
+use Rattle.std.specs.Bool.{Decides}
+use Rattle.std.specs.List.{Contains, list_any, slice_get}
+use Rattle.std.proofs.lemmas.Bool.{false≢true, cases_eq, cases_lt}
+use Rattle.std.proofs.lemmas.Bool.Decides.{Decides-eqb, Decides-ltb, Decides-like, Decides-not, Decides-and, Decides-or}
+use Rattle.std.proofs.lemmas.List.{take_more, take_all, get_or_past}
+use Rattle.std.proofs.lemmas.List.Elements.{Contains-push, Contains-push_cases, Contains-append_left}
+use Rattle.std.proofs.lemmas.Option.{same_Some}
+use Rattle.rr_routes.specs.declared.net.Node.{Node}
+use Rattle.rr_routes.specs.declared.net.Node.TheVariants.{Hexside, Centre}
+use Rattle.rr_routes.specs.declared.net.Link.{Link}
+use Rattle.rr_routes.specs.declared.net.CentreLimit.{CentreLimit}
+use Rattle.rr_routes.specs.declared.net.CentreLimit.TheVariants.{AtMost, Unlimited}
+use Rattle.rr_routes.specs.declared.certificate.Fate.{Fate}
+use Rattle.rr_routes.specs.declared.certificate.Fate.TheVariants.{Open, Denied, Of}
+use Rattle.rr_routes.specs.Net.{Net, LinkAt, Touches, IsWithin, limit_of}
+use Rattle.rr_routes.specs.Routes.{NoneTwice}
+use Rattle.rr_routes.specs.Reach.{WalkTo, LinkReached}
+use Rattle.rr_routes.specs.Certificates.{fate_of, MayUse, IsBad, three_links, too_many_centres, not_reached, side_shared}
+use Rattle.rr_routes.proofs.Elements.{Contains-here, Contains-there, Contains-cases, Contains-nil, length_within}
+use Rattle.rr_checker.specs.declared.step.Step.{Step}
+use Rattle.rr_checker.specs.Steps.{same_node}
+use Rattle.rr_checker.specs.Searching.{AreEnds}
+use Rattle.rr_checker.specs.Ranked.{IsRanked, AddsNode, IsRankingOf}
+use Rattle.rr_checker.specs.Own.{is_of, is_others, AreSelected, AreLinksWith, some_link, link_touches, touches, is_third, is_second, crowds, crowds_end, is_crowded_by, is_crowded, is_over, goes_over, is_unreached, is_side_of, shares_end, shares_side, is_shared, AddsTouched, IsTouched}
+use Rattle.rr_checker.proofs.StepLemmas.{yes, no, to_true, to_false, Decides-never, Decides-same_node, Decides-list_any}
+
+pub Decides-is_of : (train : ℕ) (fate : Fate) → Decides (is_of train fate) (fate ≡ Of train)
+Decides-is_of train Open = Decides-never (λ e. cc)
+Decides-is_of train Denied = Decides-never (λ e. cc)
+Decides-is_of train (Of owner) = Decides-like (owner == train) (λ e. ap Of e) (λ e. cc) (Decides-eqb owner train)
+
+abbrev pub OfOther : ℕ → Fate → Type 0
+OfOther train fate = (owner : ℕ) × (train ≢ owner) × (fate ≡ Of owner)
+
+pub Decides-is_others : (train : ℕ) (fate : Fate) → Decides (is_others train fate) (OfOther train fate)
+Decides-is_others train Open = Decides-never (λ o. let e = o.2 in cc)
+Decides-is_others train Denied = Decides-never (λ o. let e = o.2 in cc)
+Decides-is_others train (Of owner) =
+    Decides-like (not (owner == train)) (λ differ. (owner, λ e. differ (sym e), refl))
+    (λ o e. let same : owner ≡ o.0 = let f = o.2 in cc in o.1 (sym e ∙ same)) (Decides-not (owner == train) (Decides-eqb owner train))
+
+NoneTwice-push : (xs : List ℕ) (x : ℕ) → NoneTwice xs → (Contains xs x → ⊥) → NoneTwice (xs ++ x ∷ [])
+NoneTwice-push [] x none out = (λ c. Contains-nil x c, tt)
+NoneTwice-push (y ∷ ys) x none out = (
+  λ c. elim (Contains-push_cases ys x y c) [
+    | inl old ↦ none.0 old
+    | inr is ↦ out (subst (λ e. Contains (y ∷ ys) e) (sym is) (Contains-here y ys))
+  ],
+  NoneTwice-push ys x none.1 (λ c. out (Contains-there y ys x c)),
+)
+
+module _ (test : Fate → Bool) (fates : List Fate) where
+  pub selected_first : AreSelected test fates 0 []
+  selected_first = record { none_twice = tt; exact = λ link. (λ c. absurd (Contains-nil link c), λ d. absurd (omega (arith, d.0))) }
+
+  pub selected_no : (n : ℕ) (places : List ℕ) → AreSelected test fates n places → test (fate_of fates n) ≡ false → AreSelected test fates (n + 1) places
+  selected_no n places s fails = record {
+    none_twice = s.none_twice;
+    exact = λ link. (
+      λ c. let d = (s.exact link).0 c in (omega (arith, d.0), d.1),
+      λ d. elim (cases_eq link n) [
+        | inl same ↦ absurd (false≢true (sym fails ∙ subst (λ l. test (fate_of fates l) ≡ true) same d.1))
+        | inr differ ↦ (s.exact link).1 (omega (arith, d.0, differ), d.1)
+      ],
+    );
+  }
+
+  pub selected_yes : (n : ℕ) (places new : List ℕ) → AreSelected test fates n places → test (fate_of fates n) ≡ true → new ≡ places ++ n ∷ [] → AreSelected test fates (n + 1) new
+  selected_yes n places new s passes pushed = rw pushed (record {
+    none_twice = NoneTwice-push places n s.none_twice (λ c. omega (arith, ((s.exact n).0 c).0));
+    exact = λ link. (
+      λ c. elim (Contains-push_cases places n link c) [
+        | inl old ↦ let d = (s.exact link).0 old in (omega (arith, d.0), d.1)
+        | inr is ↦ (omega (arith, is), subst (λ l. test (fate_of fates l) ≡ true) is passes)
+      ],
+      λ d. elim (cases_eq link n) [
+        | inl same ↦ subst (λ l. Contains (places ++ n ∷ []) l) (sym same) (Contains-push places n)
+        | inr differ ↦ Contains-append_left places (n ∷ []) link ((s.exact link).1 (omega (arith, d.0, differ), d.1))
+      ],
+    );
+  })
+
+  pub selected_all : (n : ℕ) (places : List ℕ) → test Denied ≡ false → length fates ≤ n → AreSelected test fates n places → AreLinksWith test fates places
+  selected_all n places denied h s = record {
+    none_twice = s.none_twice;
+    exact = λ link. (
+      λ c. ((s.exact link).0 c).1,
+      λ t. (s.exact link).1 (
+        elim (cases_lt link (length fates)) [
+          | inl inside ↦ omega (arith, inside)
+          | inr past ↦ absurd (false≢true (sym (ap test (get_or_past fates link Denied past) ∙ denied) ∙ t))
+        ],
+        t,
+      ),
+    );
+  }
+
+pub Decides-some_link : (o : Option Link) (test : Link → Bool) (P : Link → Type 0) → ((link : Link) → Decides (test link) (P link))
+    → Decides (some_link o test) ((link : Link) × (o ≡ Some link) × P link)
+Decides-some_link None test P each = Decides-never (λ found. let e = found.1 in cc)
+Decides-some_link (Some link) test P each =
+    Decides-like (test link) (λ p. (link, refl, p)) (λ found. subst P (sym (same_Some link found.0 found.1)) found.2) (each link)
+
+pub Decides-touches : (net : Net) (place : ℕ) (node : Node) → Decides (touches net place node) (Touches net place node)
+Decides-touches net place node =
+    Decides-some_link (slice_get net.links place) (link_touches node) (λ link. (node ≡ Hexside link.side) ⊎ (node ≡ link.other))
+    (λ link. Decides-or (same_node node (Hexside link.side)) (same_node node link.other) (Decides-same_node node (Hexside link.side)) (Decides-same_node node link.other))
+
+Decides-differ : (one two : ℕ) → Decides (not (one == two)) (one ≢ two)
+Decides-differ one two = Decides-not (one == two) (Decides-eqb one two)
+
+module _ (net : Net) (own : List ℕ) where
+  IsThird : Node → ℕ → ℕ → ℕ → Type 0
+  IsThird node one two three = (one ≢ three) × ((two ≢ three) × Touches net three node)
+
+  Decides-is_third : (node : Node) (one two three : ℕ) → Decides (is_third net node one two three) ((one ≢ three) × ((two ≢ three) × Touches net three node))
+  Decides-is_third node one two three =
+      Decides-and (not (one == three)) (not (two == three) && touches net three node) (Decides-differ one three)
+      (Decides-and (not (two == three)) (touches net three node) (Decides-differ two three) (Decides-touches net three node))
+
+  Third : Node → ℕ → ℕ → Type 0
+  Third node one two = (three : ℕ) × Contains own three × ((one ≢ three) × ((two ≢ three) × Touches net three node))
+
+  abbrev Second : Node → ℕ → ℕ → Type 0
+  Second node one two = (one ≢ two) × (Touches net two node × ((three : ℕ) × Contains own three × ((one ≢ three) × ((two ≢ three) × Touches net three node))))
+
+  Decides-is_second : (node : Node) (one two : ℕ) → Decides (is_second net own node one two) (Second node one two)
+  Decides-is_second node one two =
+      Decides-and (not (one == two)) (touches net two node && list_any (is_third net node one two) own) (Decides-differ one two)
+      (Decides-and (touches net two node) (list_any (is_third net node one two) own) (Decides-touches net two node)
+      (Decides-list_any (is_third net node one two) (λ three. (one ≢ three) × ((two ≢ three) × Touches net three node)) own (λ three c. Decides-is_third node one two three)))
+
+  abbrev Crowds : ℕ → Node → Type 0
+  Crowds one node = (two : ℕ) × Contains own two × Second node one two
+
+  Decides-crowds : (one : ℕ) (node : Node) → Decides (crowds net own one node) (Crowds one node)
+  Decides-crowds one node = Decides-list_any (is_second net own node one) (λ two. Second node one two) own (λ two c. Decides-is_second node one two)
+
+  abbrev CrowdedBy : ℕ → Type 0
+  CrowdedBy one = (link : Link) × LinkAt net one link × (Crowds one (Hexside link.side) ⊎ Crowds one link.other)
+
+  Decides-is_crowded_by : (one : ℕ) → Decides (is_crowded_by net own one) (CrowdedBy one)
+  Decides-is_crowded_by one =
+      Decides-some_link (slice_get net.links one) (crowds_end net own one) (λ link. Crowds one (Hexside link.side) ⊎ Crowds one link.other)
+      (λ link. Decides-or (crowds net own one (Hexside link.side)) (crowds net own one link.other) (Decides-crowds one (Hexside link.side)) (Decides-crowds one link.other))
+
+  abbrev pub Crowded : Type 0
+  Crowded = (one : ℕ) × Contains own one × CrowdedBy one
+
+  pub Decides-is_crowded : Decides (is_crowded net own) Crowded
+  Decides-is_crowded = Decides-list_any (is_crowded_by net own) CrowdedBy own (λ one c. Decides-is_crowded_by one)
+
+  -- a link that meets two more at a node that it touches
+  pub crowded_at : (one : ℕ) (node : Node) → Contains own one → Touches net one node → Crowds one node → Crowded
+  crowded_at one node c touching meets = (
+    one,
+    c,
+    (
+      touching.0,
+      touching.1,
+      elim touching.2 [
+        | inl is ↦ inl (subst (λ n. Crowds one n) is meets)
+        | inr is ↦ inr (subst (λ n. Crowds one n) is meets)
+      ],
+    ),
+  )
+
+  -- the node where they meet
+  pub crowd_of : Crowded → (node : Node) × (one : ℕ) × Contains own one × Touches net one node × Crowds one node
+  crowd_of crowd =
+      elim crowd.2.2 [
+        | inl meets ↦ (Hexside crowd.2.0.side, crowd.0, crowd.1, (crowd.2.0, crowd.2.1, inl refl), meets)
+        | inr meets ↦ (crowd.2.0.other, crowd.0, crowd.1, (crowd.2.0, crowd.2.1, inr refl), meets)
+      ]
+
+  -- what the links touch, with a link more
+  pub touched_first : IsRankingOf net (IsTouched net []) []
+  touched_first = record {
+    in_order = record { none_twice = tt; greatest_first = tt };
+    exact = λ centre. (λ c. absurd (Contains-nil centre c), λ d. absurd (Contains-nil d.0 d.1));
+  }
+
+  IsTouched-more : (i centre : ℕ) → i < length own → IsTouched net (take (i + 1) own) centre ↔ (IsTouched net (take i own) centre ⊎ Touches net (get_or own i 0) (Centre centre))
+  IsTouched-more i centre h = (
+    λ d. elim (Contains-push_cases (take i own) (get_or own i 0) d.0 (rw (take_more own i 0 h) at d.1)) [
+      | inl old ↦ inl (d.0, old, d.2)
+      | inr is ↦ inr (subst (λ l. Touches net l (Centre centre)) (sym is) d.2)
+    ],
+    λ d. elim d [
+      | inl old ↦ (old.0, rw (take_more own i 0 h) (Contains-append_left (take i own) (get_or own i 0 ∷ []) old.0 old.1), old.2)
+      | inr new ↦ (get_or own i 0, rw (take_more own i 0 h) (Contains-push (take i own) (get_or own i 0)), new)
+    ],
+  )
+
+  pub touched_next : (i : ℕ) (old new : List ℕ) → i < length own → IsRankingOf net (IsTouched net (take i own)) old → AddsTouched net (get_or own i 0) old new
+      → IsRankingOf net (IsTouched net (take (i + 1) own)) new
+  touched_next i old new h r a = record {
+    in_order = a.ranked r.in_order;
+    exact = λ centre. (
+      λ c. (IsTouched-more i centre h).1 (elim ((a.same centre).0 c) [ inl d ↦ inl ((r.exact centre).0 d) | inr is ↦ inr is ]),
+      λ c. (a.same centre).1 (elim ((IsTouched-more i centre h).0 c) [ inl d ↦ inl ((r.exact centre).1 d) | inr is ↦ inr is ]),
+    );
+  }
+
+  pub touched_done : (i : ℕ) (touched : List ℕ) → length own ≤ i → IsRankingOf net (IsTouched net (take i own)) touched → IsRankingOf net (IsTouched net own) touched
+  touched_done i touched h r = rw (take_all i own h) at r
+
+-- the centre of a link that is there, or none where it isn't
+pub adds_touched : (net : Net) (place : ℕ) (link : Link) (old new : List ℕ) → LinkAt net place link → AddsNode net link.other old new → AddsTouched net place old new
+adds_touched net place link old new at a = record {
+  ranked = a.ranked;
+  same = λ centre. (
+    λ c. elim ((a.same centre).0 c) [ inl was ↦ inl was | inr is ↦ inr (link, at, inr (sym is)) ],
+    λ d. (a.same centre).1 (elim d [
+      | inl was ↦ inl was
+      | inr touching ↦ elim touching.2 [
+        | inl is ↦ cc
+        | inr is ↦ let same : touching.0 ≡ link = (let e = touching.1 in cc) in inr (sym (is ∙ ap (λ (l : Link). l.other) same))
+      ]
+    ]),
+  );
+}
+
+pub adds_nothing : (net : Net) (place : ℕ) (old : List ℕ) → slice_get net.links place ≡ None → AddsTouched net place old old
+adds_nothing net place old at = record {
+  ranked = λ r. r;
+  same = λ centre. (λ c. inl c, λ d. elim d [ inl was ↦ was | inr touching ↦ let e = touching.1 in cc ]);
+}
+
+pub Decides-is_over : (limit : CentreLimit) (count : ℕ) → Decides (is_over limit count) (IsWithin limit count → ⊥)
+Decides-is_over (AtMost most) count = Decides-like (ltb most count) (λ over within. omega arith) (λ never. below most count never) (Decides-ltb most count)
+  where
+    below : (m n : ℕ) → (n ≤ m → ⊥) → m < n
+    below m n never = elim (cases_lt m n) [ inl less ↦ less | inr more ↦ absurd (never more) ]
+Decides-is_over Unlimited count = Decides-never (λ never. never tt)
+
+module _ (net : Net) (fates : List Fate) (train : ℕ) where
+  Decides-goes_over : (ends : List Step) → AreEnds net (MayUse fates train) ends → (link : ℕ) → Decides (goes_over ends link) (LinkReached net (MayUse fates train) link)
+  Decides-goes_over ends all link =
+      Decides-like (goes_over ends link)
+      (λ found. (found.0.to, (all link found.0.to).0 (found.0, found.1, found.2, refl)))
+      (λ walk. let found = (all link walk.0).1 walk.1 in (found.0, found.1, found.2))
+      (Decides-list_any (λ step. step.link == link) (λ step. step.link ≡ link) ends (λ step c. Decides-eqb step.link link))
+
+  abbrev Unreached : List ℕ → Type 0
+  Unreached own = (link : ℕ) × Contains own link × (LinkReached net (MayUse fates train) link → ⊥)
+
+  Decides-is_unreached : (ends : List Step) (own : List ℕ) → AreEnds net (MayUse fates train) ends → Decides (is_unreached ends own) (Unreached own)
+  Decides-is_unreached ends own all =
+      Decides-list_any (λ link. not (goes_over ends link)) (λ link. LinkReached net (MayUse fates train) link → ⊥) own
+      (λ link c. Decides-not (goes_over ends link) (Decides-goes_over ends all link))
+
+  abbrev pub SideOf : List ℕ → Node → Type 0
+  SideOf others (Centre centre) = ⊥
+  SideOf others (Hexside side) = (other : ℕ) × Contains others other × Touches net other (Hexside side)
+
+  Decides-is_side_of : (others : List ℕ) (node : Node) → Decides (is_side_of net others node) (SideOf others node)
+  Decides-is_side_of others (Centre centre) = Decides-never (λ n. n)
+  Decides-is_side_of others (Hexside side) =
+      Decides-list_any (λ other. touches net other (Hexside side)) (λ other. Touches net other (Hexside side)) others (λ other c. Decides-touches net other (Hexside side))
+
+  abbrev pub SharesSide : List ℕ → ℕ → Type 0
+  SharesSide others place = (link : Link) × LinkAt net place link × (SideOf others (Hexside link.side) ⊎ SideOf others link.other)
+
+  Decides-shares_side : (others : List ℕ) (place : ℕ) → Decides (shares_side net others place) (SharesSide others place)
+  Decides-shares_side others place =
+      Decides-some_link (slice_get net.links place) (shares_end net others) (λ link. SideOf others (Hexside link.side) ⊎ SideOf others link.other)
+      (λ link. Decides-or (is_side_of net others (Hexside link.side)) (is_side_of net others link.other)
+      (Decides-is_side_of others (Hexside link.side)) (Decides-is_side_of others link.other))
+
+  abbrev pub Shared : List ℕ → List ℕ → Type 0
+  Shared own others = (place : ℕ) × Contains own place × SharesSide others place
+
+  pub Decides-is_shared : (own others : List ℕ) → Decides (is_shared net own others) (Shared own others)
+  Decides-is_shared own others = Decides-list_any (shares_side net others) (SharesSide others) own (λ place c. Decides-shares_side others place)
+
+  module _ (own others touched : List ℕ) (ends : List Step) (mine : AreLinksWith (is_of train) fates own) (theirs : AreLinksWith (is_others train) fates others)
+      (all : AreEnds net (MayUse fates train) ends) (ranking : IsRankingOf net (IsTouched net own) touched) where
+    is_mine : (link : ℕ) → Contains own link → fate_of fates link ≡ Of train
+    is_mine link c = yes (Decides-is_of train (fate_of fates link)) ((mine.exact link).0 c)
+
+    in_own : (link : ℕ) → fate_of fates link ≡ Of train → Contains own link
+    in_own link e = (mine.exact link).1 (to_true (is_of train (fate_of fates link)) (Decides-is_of train (fate_of fates link)) e)
+
+    bad_side : (place : ℕ) → Contains own place → (node : Node) → Touches net place node → SideOf others node → IsBad net fates train
+    bad_side place c (Centre centre) touching none = absurd none
+    bad_side place c (Hexside side) touching found =
+        let owned = yes (Decides-is_others train (fate_of fates found.0)) ((theirs.exact found.0).0 found.1) in
+        side_shared side place found.0 owned.0 owned.1 (is_mine place c) owned.2 touching found.2
+
+    abbrev Why : Type 0
+    Why = Crowded net own ⊎ ((IsWithin (limit_of net train) (length touched) → ⊥) ⊎ (Unreached own ⊎ Shared own others))
+
+    bad : Why → IsBad net fates train
+    bad (inl crowd) =
+        let at = crowd_of net own crowd in
+        let node = at.0 in
+        let second = at.4 in
+        let third = second.2.1.1 in
+        three_links node at.1 second.0 third.0 second.2.0 third.2.0 third.2.1.0 (is_mine at.1 at.2) (is_mine second.0 second.1) (is_mine third.0 third.1) at.3 second.2.1.0 third.2.1.1
+    bad (inr (inl many)) =
+        too_many_centres touched ranking.in_order.none_twice
+        (λ centre c. let found = (ranking.exact centre).0 c in (found.0, is_mine found.0 found.1, found.2)) many
+    bad (inr (inr (inl alone))) = not_reached alone.0 (is_mine alone.0 alone.1) alone.2
+    bad (inr (inr (inr shared))) =
+        elim shared.2.2 [
+          | inl side ↦ bad_side shared.0 shared.1 (Hexside shared.2.0.side) (shared.2.0, shared.2.1, inl refl) side
+          | inr side ↦ bad_side shared.0 shared.1 shared.2.0.other (shared.2.0, shared.2.1, inr refl) side
+        ]
+
+    fewer : (limit : CentreLimit) (count more : ℕ) → count ≤ more → (IsWithin limit count → ⊥) → IsWithin limit more → ⊥
+    fewer (AtMost most) count more less over within = over (omega arith)
+    fewer Unlimited count more less over within = over tt
+
+    why : IsBad net fates train → Why
+    why (three_links node one two three not_two not_three nor own_one own_two own_three at_one at_two at_three) =
+        inl (crowded_at net own one node (in_own one own_one) at_one (two, in_own two own_two, (not_two, (at_two, (three, in_own three own_three, (not_three, (nor, at_three)))))))
+    why (too_many_centres counted none each many) =
+        inr (inl (fewer (limit_of net train) (length counted) (length touched)
+        (length_within counted touched none (λ centre c. let found = each centre c in (ranking.exact centre).1 (found.0, in_own found.0 found.1, found.2))) many))
+    why (not_reached link mine_now none) = inr (inr (inl (link, in_own link mine_now, none)))
+    why (side_shared side link other owner differ own_link owned at_link at_other) =
+        inr (inr (inr (
+          link,
+          in_own link own_link,
+          (
+            at_link.0,
+            at_link.1,
+            let found : SideOf others (Hexside side) =
+                (other, (theirs.exact other).1 (to_true (is_others train (fate_of fates other)) (Decides-is_others train (fate_of fates other)) (owner, differ, owned)), at_other) in
+                elim at_link.2 [
+                  | inl is ↦ inl (subst (λ n. SideOf others n) is found)
+                  | inr is ↦ inr (subst (λ n. SideOf others n) is found)
+                ],
+          ),
+        )))
+
+    pub Decides-bad : Decides (is_crowded net own || (is_over (limit_of net train) (length touched) || (is_unreached ends own || is_shared net own others))) (IsBad net fates train)
+    Decides-bad =
+        Decides-like (is_crowded net own || (is_over (limit_of net train) (length touched) || (is_unreached ends own || is_shared net own others))) bad why
+        (Decides-or (is_crowded net own) (is_over (limit_of net train) (length touched) || (is_unreached ends own || is_shared net own others)) (Decides-is_crowded net own)
+        (Decides-or (is_over (limit_of net train) (length touched)) (is_unreached ends own || is_shared net own others) (Decides-is_over (limit_of net train) (length touched))
+        (Decides-or (is_unreached ends own) (is_shared net own others) (Decides-is_unreached ends own all) (Decides-is_shared own others))))

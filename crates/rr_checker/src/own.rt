@@ -1,0 +1,254 @@
+//! The links that are a train's own, and what they touch.
+ghost use Rattle.std.specs.Prelude.{◌≡◌, ◌||◌, IfOk, OnOk, length, slice_get};
+ghost use Rattle.std.specs.Bool.{Decides};
+ghost use Rattle.std.specs.List.{list_any};
+ghost use Rattle.rr_routes.specs.declared.net.Node.TheVariants.{Hexside};
+ghost use Rattle.rr_routes.specs.Net.{limit_of};
+ghost use Rattle.rr_routes.specs.Certificates.{IsBad};
+ghost use Rattle.rr_checker.specs.Ranked.{IsRankingOf};
+ghost use Rattle.rr_checker.specs.Own.{AddsTouched, AreLinksWith, IsTouched, crowds, crowds_end, goes_over, is_crowded, is_crowded_by, is_of, is_others, is_over, is_second, is_shared, is_side_of, is_third, is_unreached, link_touches, shares_end, shares_side, touches};
+
+use crate::centres::add_node;
+use crate::railway::Net;
+use crate::reach::ends_of;
+use crate::step::{Step, same_node};
+use rr_routes::{CentreLimit, Fate, Link, Node};
+use std::alloc::{AllocError, Global};
+
+// whether the train can't run over all the links that are its own
+pub(crate) fn is_bad(
+    alloc: Global,
+    net: &Net,
+    fates: &[Fate],
+    train: usize,
+) -> Result<bool, AllocError>
+    ensures { IfOk result (λ bad. Decides bad (IsBad net.now fates.now train)) }
+{
+    let own = own_links(alloc, fates, train)?;
+    let others = others_links(alloc, fates, train)?;
+    let ends = ends_of(alloc, net, fates, train)?;
+    let touched = touched_centres(alloc, net, &own)?;
+    Ok(runs_badly(net, train, &own, &others, &ends, &touched))
+}
+
+fn runs_badly(
+    net: &Net,
+    train: usize,
+    own: &[usize],
+    others: &[usize],
+    ends: &[Step],
+    touched: &[usize],
+) -> bool
+    ensures { result ≡ (is_crowded net.now own.now || (is_over (limit_of net.now train) (length touched.now) || (is_unreached ends.now own.now || is_shared net.now own.now others.now))) }
+{
+    is_crowded(net, own)
+        || counts_fewer(net, train, touched.len())
+        || is_unreached(ends, own)
+        || is_shared(net, own, others)
+}
+
+// the links of the train
+pub(crate) fn own_links(
+    alloc: Global,
+    fates: &[Fate],
+    train: usize,
+) -> Result<Vec<usize>, AllocError>
+    ensures { IfOk result (λ own. AreLinksWith (is_of train) fates.now own.items) }
+{
+    let mut own = Vec::new(alloc);
+    for (link, fate) in fates.iter().enumerate() {
+        if !is_of(train, fate) {
+            continue;
+        }
+        own.push(link)?;
+    }
+    Ok(own)
+}
+
+fn is_of(train: usize, fate: &Fate) -> bool
+    ensures { result ≡ is_of train fate.now }
+{
+    match fate {
+        Fate::Open | Fate::Denied => false,
+        Fate::Of(owner) => *owner == train,
+    }
+}
+
+// the links of the other trains
+pub(crate) fn others_links(
+    alloc: Global,
+    fates: &[Fate],
+    train: usize,
+) -> Result<Vec<usize>, AllocError>
+    ensures { IfOk result (λ others. AreLinksWith (is_others train) fates.now others.items) }
+{
+    let mut others = Vec::new(alloc);
+    for (link, fate) in fates.iter().enumerate() {
+        if !is_others(train, fate) {
+            continue;
+        }
+        others.push(link)?;
+    }
+    Ok(others)
+}
+
+fn is_others(train: usize, fate: &Fate) -> bool
+    ensures { result ≡ is_others train fate.now }
+{
+    match fate {
+        Fate::Open | Fate::Denied => false,
+        Fate::Of(owner) => *owner != train,
+    }
+}
+
+// the centres that the links touch
+fn touched_centres(alloc: Global, net: &Net, own: &[usize]) -> Result<Vec<usize>, AllocError>
+    ensures { IfOk result (λ touched. IsRankingOf net.now (IsTouched net.now own.now) touched.items) }
+{
+    let mut touched = Vec::new(alloc);
+    for link in own {
+        add_touched(net, &mut touched, *link)?;
+    }
+    Ok(touched)
+}
+
+fn add_touched(net: &Net, touched: &mut Vec<usize>, place: usize) -> Result<(), AllocError>
+    ensures { OnOk result (AddsTouched net.now place touched.old.items touched.new.items) }
+{
+    match net.links().get(place) {
+        Some(link) => add_node(net, touched, &link.other),
+        None => Ok(()),
+    }
+}
+
+fn counts_fewer(net: &Net, train: usize, count: usize) -> bool
+    ensures { result ≡ is_over (limit_of net.now train) count }
+{
+    match net.trains().get(train) {
+        Some(limit) => is_over(limit, count),
+        None => 0 < count,
+    }
+}
+
+pub(crate) fn is_over(limit: &CentreLimit, count: usize) -> bool
+    ensures { result ≡ is_over limit.now count }
+{
+    match limit {
+        CentreLimit::AtMost(most) => *most < count,
+        CentreLimit::Unlimited => false,
+    }
+}
+
+// whether three of the links meet at a node
+fn is_crowded(net: &Net, own: &[usize]) -> bool
+    ensures { result ≡ is_crowded net.now own.now }
+{
+    own.iter().any(|one| is_crowded_by(net, own, *one))
+}
+
+fn is_crowded_by(net: &Net, own: &[usize], one: usize) -> bool
+    ensures { result ≡ is_crowded_by net.now own.now one }
+{
+    match net.links().get(one) {
+        Some(link) => crowds_end(net, own, one, link),
+        None => false,
+    }
+}
+
+fn crowds_end(net: &Net, own: &[usize], one: usize, link: &Link) -> bool
+    ensures { result ≡ crowds_end net.now own.now one link.now }
+{
+    crowds(net, own, one, &Node::Hexside(link.side)) || crowds(net, own, one, &link.other)
+}
+
+fn crowds(net: &Net, own: &[usize], one: usize, node: &Node) -> bool
+    ensures { result ≡ crowds net.now own.now one node.now }
+{
+    own.iter().any(|two| is_second(net, own, node, one, *two))
+}
+
+fn is_second(net: &Net, own: &[usize], node: &Node, one: usize, two: usize) -> bool
+    ensures { result ≡ is_second net.now own.now node.now one two }
+{
+    one != two && touches(net, two, node) && has_third(net, own, node, one, two)
+}
+
+fn has_third(net: &Net, own: &[usize], node: &Node, one: usize, two: usize) -> bool
+    ensures { result ≡ list_any (is_third net.now node.now one two) own.now }
+{
+    own.iter()
+        .any(|three| is_third(net, node, one, two, *three))
+}
+
+fn is_third(net: &Net, node: &Node, one: usize, two: usize, three: usize) -> bool
+    ensures { result ≡ is_third net.now node.now one two three }
+{
+    one != three && two != three && touches(net, three, node)
+}
+
+pub(crate) fn touches(net: &Net, place: usize, node: &Node) -> bool
+    ensures { result ≡ touches net.now place node.now }
+{
+    match net.links().get(place) {
+        Some(link) => link_touches(node, link),
+        None => false,
+    }
+}
+
+fn link_touches(node: &Node, link: &Link) -> bool
+    ensures { result ≡ link_touches node.now link.now }
+{
+    same_node(node, &Node::Hexside(link.side)) || same_node(node, &link.other)
+}
+
+// whether no step goes over one of the links
+fn is_unreached(ends: &[Step], own: &[usize]) -> bool
+    ensures { result ≡ is_unreached ends.now own.now }
+{
+    own.iter().any(|link| !goes_over(ends, *link))
+}
+
+fn goes_over(ends: &[Step], link: usize) -> bool
+    ensures { result ≡ goes_over ends.now link }
+{
+    ends.iter().any(|step| step.link == link)
+}
+
+// whether links of the two lists touch one hexside
+pub(crate) fn is_shared(net: &Net, own: &[usize], others: &[usize]) -> bool
+    ensures { result ≡ is_shared net.now own.now others.now }
+{
+    own.iter().any(|place| shares_side(net, others, *place))
+}
+
+fn shares_side(net: &Net, others: &[usize], place: usize) -> bool
+    ensures { result ≡ shares_side net.now others.now place }
+{
+    match net.links().get(place) {
+        Some(link) => shares_end(net, others, link),
+        None => false,
+    }
+}
+
+fn shares_end(net: &Net, others: &[usize], link: &Link) -> bool
+    ensures { result ≡ shares_end net.now others.now link.now }
+{
+    is_side_of(net, others, &Node::Hexside(link.side)) || is_side_of(net, others, &link.other)
+}
+
+fn is_side_of(net: &Net, others: &[usize], node: &Node) -> bool
+    ensures { result ≡ is_side_of net.now others.now node.now }
+{
+    match node {
+        Node::Hexside(side) => touches_side(net, others, *side),
+        Node::Centre(_) => false,
+    }
+}
+
+fn touches_side(net: &Net, others: &[usize], side: usize) -> bool
+    ensures { result ≡ list_any (λ other. touches net.now other (Hexside side)) others.now }
+{
+    others
+        .iter()
+        .any(|other| touches(net, *other, &Node::Hexside(side)))
+}
