@@ -1,19 +1,21 @@
 -- What the program writes, and how it ends.
-use Rattle.std.specs.Prelude.{◌≡◌, ◌⊎◌, ◌<◌, ℕ, List, length, Option, Result, Ok, Err, codes}
+use Rattle.std.specs.Prelude.{◌≡◌, ◌⊎◌, ◌<◌, false, ℕ, List, ◌∷◌, length, Option, Result, Ok, Err, codes}
 use Rattle.std.specs.Io.KnownBytes.{Appends}
-use Rattle.rr_disk.specs.Disk.{DiskState}
+use Rattle.rr_disk.specs.Disk.{DiskState, after_sync}
 use Rattle.rr_disk.specs.Moments.{EachImage}
 use Rattle.rr_keeper.specs.File.{IsNewStore, Kit}
+use Rattle.rr_keeper.specs.Opening.{SyncsOnce}
 use Rattle.rr_serve.specs.declared.faults.Fault as serve
 use Rattle.rr_serve.specs.Serving.{Session}
 use Rattle.rr_moderator.specs.declared.fault.Fault.{Fault}
 use Rattle.rr_moderator.specs.declared.fault.Fault.TheVariants.{DeviceFailed, NotEmpty, OutOfMemory}
 use Rattle.rr_moderator.specs.declared.moderator.Moderator.{Moderator}
 use Rattle.rr_moderator.specs.Fault.{number_of, refusal_of}
-use Rattle.rr_moderator.specs.Holding.{disk_under, held_of, spoken_of}
+use Rattle.rr_moderator.specs.Holding.{disk_under, held_of, keeper_of, told_of}
 use Rattle.rr_moderator.specs.Kits.{IsRightKit, RefusesFormat}
-use Rattle.rr_moderator.specs.Replaying.{Opens, RefusesOpening}
-use Rattle.rr_moderator.specs.Serving.{EndsAs, Speaks, said}
+use Rattle.rr_moderator.specs.Replaying.{CountsFailure, Opens, RefusesOpening, Replayed}
+use Rattle.rr_moderator.specs.Durability.{SpeaksAndLasts, Stands, told}
+use Rattle.rr_moderator.specs.Serving.{EndsAs}
 use Rattle.rr_cli.specs.Ending.{status_of}
 use Rattle.rr_cli.specs.declared.ending.Ending.{Ending}
 use Rattle.rr_cli.specs.declared.ending.Ending.TheVariants.{Done, Faulted}
@@ -34,39 +36,55 @@ IsRefused fault contents held ending =
 abbrev pub IsRefusedOr70 : Fault → Option (List ℕ) → Option (List ℕ) → Ending → Type 0
 IsRefusedOr70 fault contents held ending = IsRefused fault contents held ending ⊎ IsRefused OutOfMemory contents held ending
 
--- What a `format` over these texts does to a disk and a writer, and the status with which it ends; same says that the disk
--- is as it was.
-pub data Formats (honest same : Type 0) (kit : Kit) (old new : DiskState) (contents held : Option (List ℕ)) : ℕ → Type 0 where
-  Made : (ending : Ending) → IsRightKit kit → (honest → 0 < length old.content → ⊥)
-      → (honest → IsNewStore new.content kit) → (honest → EachImage new (λ image. IsNewStore image kit))
-      → IsAcknowledged contents held ending → Formats honest same kit old new contents held (status_of ending)
-  Not_made : (fault : Fault) (ending : Ending) → RefusesFormat honest old.content kit fault
-      → (honest → 0 < length old.content → fault ≡ NotEmpty) → (fault ≡ DeviceFailed) ⊎ same
-      → IsRefusedOr70 fault contents held ending → Formats honest same kit old new contents held (status_of ending)
+-- What a `format` over these texts does to a disk and a writer, and the status with which it ends.
+pub data Formats {D : Type 0} (Honest : D → Type 0) (state : D → DiskState) (faults : D → ℕ) (kit : Kit) (old new : D)
+    (contents held : Option (List ℕ)) : ℕ → Type 0 where
+  Made : (ending : Ending) → IsRightKit kit → (Honest new → 0 < length (state old).content → ⊥)
+      → (Honest new → IsNewStore (state new).content kit) → (Honest new → EachImage (state new) (λ image. IsNewStore image kit))
+      → (Honest new → Honest old) → faults new ≡ faults old
+      → IsAcknowledged contents held ending → Formats Honest state faults kit old new contents held (status_of ending)
+  Not_made : (fault : Fault) (ending : Ending) → RefusesFormat (Honest new) (state old).content kit fault
+      → (Honest new → 0 < length (state old).content → fault ≡ NotEmpty) → (fault ≡ DeviceFailed) ⊎ (new ≡ old)
+      → (Honest new → Honest old) → CountsFailure (faults old) (faults new) fault
+      → IsRefusedOr70 fault contents held ending → Formats Honest state faults kit old new contents held (status_of ending)
 
 -- how a run ends whose serving ended so
 abbrev pub ending_of : Result (Unit {0}) Fault → Ending
 ending_of (Ok _) = Done
 ending_of (Err fault) = Faulted (number_of fault)
 
--- What `serve` does with a disk, a reader and a writer, and the status with which it ends: the file is opened, and what is
--- written are the replies to what is read; or it is refused, and the reader isn't read.
-pub data Serves {D : Type 0} (Honest : D → Type 0) (state : D → DiskState) (old new : D)
+-- Why the tables that are served are those of the file: it stands for them, on an honest disk that was synced and not
+-- written; and they are lawful on every disk.
+pub record Begins {D : Type 0} (Honest : D → Type 0) (state : D → DiskState) (past : D → List DiskState) (old : D) (begun : Moderator D) : Type 0 where
+  pub honest : Honest (disk_under begun) → Honest old
+  pub opens : Honest (disk_under begun) → Opens (state old).content (held_of begun)
+  pub synced : Honest (disk_under begun)
+      → (state (disk_under begun) ≡ after_sync (state old)) × (past (disk_under begun) ≡ state old ∷ past old)
+  pub stands : Honest (disk_under begun) → (kit : Kit) × Stands (keeper_of begun) (state (disk_under begun)) kit (held_of begun)
+  pub lawful : (kit : Kit) × (records : List (List ℕ)) × Replayed kit records (held_of begun).roster (held_of begun).tables
+  pub whole : (held_of begun).broken ≡ false
+
+-- What `serve` does with a disk, a reader and a writer, and the status with which it ends: the file is opened, each line is
+-- answered so that what it comes to lasts, and what is written are the replies to what is read; or the file is refused, the
+-- reader isn't read and the disk is synced at most.
+pub data Serves {D : Type 0} (Honest : D → Type 0) (state : D → DiskState) (past : D → List DiskState) (faults : D → ℕ) (old new : D)
     (remaining left contents held : Option (List ℕ)) : ℕ → Type 0 where
   Served : (begun ended : Moderator D) (result : Result (Unit {0}) Fault) (cause : Result (Unit {0}) serve.Fault)
-      → (Honest (disk_under begun) → Opens (state old).content (held_of begun))
+      → Begins Honest state past old begun
       → EndsAs result cause
-      → Session Speaks said (spoken_of begun) (spoken_of ended) remaining left contents held cause
+      → Session (SpeaksAndLasts Honest state past) told (told_of begun) (told_of ended) remaining left contents held cause
       → new ≡ disk_under ended
-      → Serves Honest state old new remaining left contents held (status_of (ending_of result))
+      → Serves Honest state past faults old new remaining left contents held (status_of (ending_of result))
   Not_served : (fault : Fault) (ending : Ending) → RefusesOpening (Honest new) (state old).content fault
+      → (Honest new → Honest old) → (Honest new → SyncsOnce (past old) (state old) (past new) (state new))
+      → CountsFailure (faults old) (faults new) fault
       → left ≡ remaining → IsRefusedOr70 fault contents held ending
-      → Serves Honest state old new remaining left contents held (status_of ending)
+      → Serves Honest state past faults old new remaining left contents held (status_of ending)
 
 -- what a plan does
-abbrev pub Acts : {D : Type 0} → (D → Type 0) → (D → DiskState) → Plan → Kit → D → D
+abbrev pub Acts : {D : Type 0} → (D → Type 0) → (D → DiskState) → (D → List DiskState) → (D → ℕ) → Plan → Kit → D → D
     → Option (List ℕ) → Option (List ℕ) → Option (List ℕ) → Option (List ℕ) → ℕ → Type 0
-Acts Honest state (Format file chart roster tiles board) kit old new remaining left contents held status =
-    (left ≡ remaining) × Formats (Honest new) (new ≡ old) kit (state old) (state new) contents held status
-Acts Honest state (Serve file) kit old new remaining left contents held status =
-    Serves Honest state old new remaining left contents held status
+Acts Honest state past faults (Format file chart roster tiles board) kit old new remaining left contents held status =
+    (left ≡ remaining) × Formats Honest state faults kit old new contents held status
+Acts Honest state past faults (Serve file) kit old new remaining left contents held status =
+    Serves Honest state past faults old new remaining left contents held status

@@ -26,7 +26,7 @@ pub fn act<D: Disk + Drop, R: Read, W: Write>(
     reader: &mut R,
     writer: &mut W,
 ) -> (u8, D)
-    ensures { Acts D.Honest D.state plan.now (lent_kit texts.entry) disk result.1 (R.remaining reader.old) (R.remaining reader.new)
+    ensures { Acts D.Honest D.state D.past D.fault_count plan.now (lent_kit texts.entry) disk result.1 (R.remaining reader.old) (R.remaining reader.new)
         (W.contents writer.old) (W.contents writer.new) result.0 }
 {
     match plan {
@@ -41,7 +41,7 @@ fn format<D: Disk + Drop, W: Write>(
     mut disk: D,
     writer: &mut W,
 ) -> (u8, D)
-    ensures { Formats (D.Honest result.1) (result.1 ≡ disk) (lent_kit texts.entry) (D.state disk) (D.state result.1)
+    ensures { Formats D.Honest D.state D.fault_count (lent_kit texts.entry) disk result.1
         (W.contents writer.old) (W.contents writer.new) result.0 }
 {
     match rr_moderator::format(alloc, &mut disk, texts) {
@@ -62,7 +62,7 @@ fn serve<D: Disk + Drop, R: Read, W: Write>(
     reader: &mut R,
     writer: &mut W,
 ) -> (u8, D)
-    ensures { Serves D.Honest D.state disk result.1 (R.remaining reader.old) (R.remaining reader.new)
+    ensures { Serves D.Honest D.state D.past D.fault_count disk result.1 (R.remaining reader.old) (R.remaining reader.new)
         (W.contents writer.old) (W.contents writer.new) result.0 }
 {
     match Moderator::open(alloc, disk) {

@@ -13,7 +13,7 @@ pub enum Query {
     Tables,
     /// The stamp of a table's last command.
     Stamp { table: Name },
-    /// How many commands a table keeps, and how few it can go back to.
+    /// How many turns of a table have ended, and the turn to which it can go back at most.
     Turns { table: Name },
     /// Who is due at a table, and the step that is.
     Due { table: Name },

@@ -1,4 +1,4 @@
-ghost use Rattle.std.specs.Prelude.{◌≡◌, ◌+◌, ◌^◌, ◌<◌, ◌≤◌, ◌∷◌, ◌++◌, List, ℕ, length, vec_len, OnOk, OnErr, IfOk, IfErr, IsErrOf, IsOkUnless};
+ghost use Rattle.std.specs.Prelude.{◌≡◌, ◌+◌, ◌^◌, ◌<◌, ◌≤◌, ◌∷◌, ◌++◌, List, false, ℕ, length, vec_len, OnOk, OnErr, IfOk, IfErr, IsErrOf, IsOkUnless};
 ghost use Rattle.rr_disk.specs.Disk.{IsAt, after_sync, counted};
 ghost use Rattle.rr_journal.specs.Layout.{start_page};
 ghost use Rattle.rr_journal.specs.Reading.{lines};
@@ -6,7 +6,7 @@ ghost use Rattle.rr_journal.specs.Run.{Run, slots_of};
 ghost use Rattle.rr_keeper.specs.Fault.{Counts, CountsFault};
 ghost use Rattle.rr_keeper.specs.File.{Kit, IsRoot, IsTextAt, IsKitAt, HasRecords, IsStore, number_from, kit_place};
 ghost use Rattle.rr_keeper.specs.Halves.{Continues};
-ghost use Rattle.rr_keeper.specs.Keeper.{disk_of, Keeps};
+ghost use Rattle.rr_keeper.specs.Keeper.{disk_of, is_broken, Keeps};
 ghost use Rattle.rr_keeper.specs.Opening.{kit_of, Refuses, IsOfReading, SyncsOnce};
 
 use crate::device::{read, sync};
@@ -53,6 +53,8 @@ pub fn open<D: Disk + Drop>(alloc: Global, mut disk: D) -> Result<Opened<D>, Ref
         → IsStore (D.state disk).content (kit_of opened.texts) (lines opened.lines.items)) }
     ensures keeps { IfOk result (λ opened. D.Honest (disk_of opened.keeper)
         → Keeps opened.keeper (D.state (disk_of opened.keeper)) (kit_of opened.texts) (lines opened.lines.items)) }
+
+    ensures whole { IfOk result (λ opened. is_broken opened.keeper ≡ false) }
 
     // A file that is a store with other texts or lines is none of those.
     ensures only { IfOk result (λ opened. D.Honest (disk_of opened.keeper)

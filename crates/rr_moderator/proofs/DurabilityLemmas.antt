@@ -61,19 +61,19 @@ replayed_more kit records roster tables stamp name bytes c spelled lawful h =
 
 module _ {D : Type 0} (Honest : D → Type 0) (state : D → DiskState) (past : D → List DiskState) (old : Keeper D) (before : Held) (line : List ℕ) where
   -- the file opens as what is held
-  pub stands_opens : Stands old (state (disk_of old)) before → EachImage (state (disk_of old)) (λ image. Opens image before)
-  stands_opens s = λ image is.
-      record { kit = s.kit; records = s.records; store = is_store image s.kit s.records s.keeps.near s.keeps.far s.keeps.parts (s.keeps.each image is); replayed = s.replayed; whole = s.whole }
+  pub stands_opens : (kit : Kit) → Stands old (state (disk_of old)) kit before → EachImage (state (disk_of old)) (λ image. Opens image before)
+  stands_opens kit s = λ image is.
+      record { kit = kit; records = s.records; store = is_store image kit s.records s.keeps.near s.keeps.far s.keeps.parts (s.keeps.each image is); replayed = s.replayed; whole = s.whole }
 
   -- a line that leaves keeper and tables as they were
   pub lasts_same : (new : Keeper D) (after : Held) → new ≡ old → (is_broken new ≡ false → after ≡ before) → Lasts Honest state past old before line new after
   lasts_same new after same held =
       record {
         honest = λ h. subst (λ (k : Keeper D). Honest (disk_of k)) same h;
-        stops = λ h s. subst (λ (k : Keeper D). LeavesOnly (past (disk_of old)) (state (disk_of old)) (past (disk_of k)) (state (disk_of k)) (BeforeOrAfter before line))
-            (sym same) (started (past (disk_of old)) (state (disk_of old)) (BeforeOrAfter before line) (λ image is. inl (stands_opens s image is)));
-        stands = λ h whole s. subst (λ (k : Keeper D). Stands k (state (disk_of k)) after) (sym same)
-            (subst (λ (x : Held). Stands old (state (disk_of old)) x) (sym (held whole)) s);
+        stops = λ h kit s. subst (λ (k : Keeper D). LeavesOnly (past (disk_of old)) (state (disk_of old)) (past (disk_of k)) (state (disk_of k)) (BeforeOrAfter before line))
+            (sym same) (started (past (disk_of old)) (state (disk_of old)) (BeforeOrAfter before line) (λ image is. inl (stands_opens kit s image is)));
+        stands = λ h whole kit s. subst (λ (k : Keeper D). Stands k (state (disk_of k)) kit after) (sym same)
+            (subst (λ (x : Held). Stands old (state (disk_of old)) kit x) (sym (held whole)) s);
         untouched = λ unlawful. same;
       }
 
@@ -86,17 +86,17 @@ module _ {D : Type 0} (Honest : D → Type 0) (state : D → DiskState) (past : 
     append_of lawful =
         record { stamp = stamp; name = name; command = c; short = short; spelled = spells; whole = whole; lawful = lawful }
 
-    opens_either : lawful_now → (s : Stands old (state (disk_of old)) before) (image : List ℕ) → IsStoreWith s.kit s.records bytes image → BeforeOrAfter before line image
-    opens_either lawful s image (inl store) =
-        inl (record { kit = s.kit; records = s.records; store = store; replayed = s.replayed; whole = s.whole })
-    opens_either lawful s image (inr store) =
+    opens_either : lawful_now → (kit : Kit) (s : Stands old (state (disk_of old)) kit before) (image : List ℕ) → IsStoreWith kit s.records bytes image → BeforeOrAfter before line image
+    opens_either lawful kit s image (inl store) =
+        inl (record { kit = kit; records = s.records; store = store; replayed = s.replayed; whole = s.whole })
+    opens_either lawful kit s image (inr store) =
         inr (record {
           taken = append_of lawful;
           opens = record {
-            kit = s.kit;
+            kit = kit;
             records = s.records ++ bytes ∷ [];
             store = store;
-            replayed = replayed_more s.kit s.records before.roster before.tables stamp name bytes c spelled lawful s.replayed;
+            replayed = replayed_more kit s.records before.roster before.tables stamp name bytes c spelled lawful s.replayed;
             whole = whole;
           };
         })
@@ -107,12 +107,11 @@ module _ {D : Type 0} (Honest : D → Type 0) (state : D → DiskState) (past : 
     kept_ok new after lawful held k =
         record {
           honest = k.honest;
-          stops = λ h s. weaker (k.stops h s.kit s.records s.keeps) (BeforeOrAfter before line) (opens_either lawful s);
-          stands = λ h unbroken s. subst (λ (x : Held). Stands new (state (disk_of new)) x) (sym held) (record {
-            kit = s.kit;
+          stops = λ h kit s. weaker (k.stops h kit s.records s.keeps) (BeforeOrAfter before line) (opens_either lawful kit s);
+          stands = λ h unbroken kit s. subst (λ (x : Held). Stands new (state (disk_of new)) kit x) (sym held) (record {
             records = s.records ++ bytes ∷ [];
-            keeps = k.keeps h unbroken s.kit s.records s.keeps;
-            replayed = replayed_more s.kit s.records before.roster before.tables stamp name bytes c spelled lawful s.replayed;
+            keeps = k.keeps h unbroken kit s.records s.keeps;
+            replayed = replayed_more kit s.records before.roster before.tables stamp name bytes c spelled lawful s.replayed;
             whole = whole;
           });
           untouched = λ unlawful. absurd (unlawful (append_of lawful));
@@ -124,11 +123,10 @@ module _ {D : Type 0} (Honest : D → Type 0) (state : D → DiskState) (past : 
     kept_err new after fault lawful held k =
         record {
           honest = k.honest;
-          stops = λ h s. weaker (k.stops h s.kit s.records s.keeps) (BeforeOrAfter before line) (opens_either lawful s);
-          stands = λ h unbroken s. subst (λ (x : Held). Stands new (state (disk_of new)) x) (sym (held unbroken)) (record {
-            kit = s.kit;
+          stops = λ h kit s. weaker (k.stops h kit s.records s.keeps) (BeforeOrAfter before line) (opens_either lawful kit s);
+          stands = λ h unbroken kit s. subst (λ (x : Held). Stands new (state (disk_of new)) kit x) (sym (held unbroken)) (record {
             records = s.records;
-            keeps = k.keeps h unbroken s.kit s.records s.keeps;
+            keeps = k.keeps h unbroken kit s.records s.keeps;
             replayed = s.replayed;
             whole = s.whole;
           });

@@ -51,10 +51,6 @@ module _ {S : Type 0} (A C : S → List ℕ → S → Type 0) (r : S → List �
   abbrev Both : S → List ℕ → S → Type 0
   Both s line t = A s line t × C s line t
 
-  abbrev pub Session-first : (old new : S) (remaining left contents written : Option (List ℕ)) (result : Result (Unit {0}) Fault)
-      → Session Both r old new remaining left contents written result → Session A r old new remaining left contents written result
-  Session-first = Session-seen Both r A r (λ s. s) (λ s line t a. a.0) (λ s. refl)
-
   pub AnswersAll-first : (old new : S) (remaining contents written : Option (List ℕ))
       → AnswersAll Both r old new remaining contents written → AnswersAll A r old new remaining contents written
   AnswersAll-first = AnswersAll-seen Both r A r (λ s. s) (λ s line t a. a.0) (λ s. refl)

@@ -37,9 +37,9 @@ abbrev pub Passed : {J T : Type 0} → (J → List ℕ → Result (Unit {0}) Fau
 Passed Kept old bytes new (Ok value) = Kept old bytes (Ok tt) new
 Passed Kept old bytes new (Err fault) = (new ≡ old) ⊎ Kept old bytes (Err fault) new
 
--- Whatever a stop leaves now, the file is a store whose records make what is held, and the keeper goes on behind them.
-pub record Stands {D : Type 0} (keeper : Keeper D) (state : DiskState) (held : Held) : Type 0 where
-  pub kit : Kit
+-- Whatever a stop leaves now, the file is a store with this kit whose records make what is held, and the keeper goes on
+-- behind them.
+pub record Stands {D : Type 0} (keeper : Keeper D) (state : DiskState) (kit : Kit) (held : Held) : Type 0 where
   pub records : List (List ℕ)
   pub keeps : Keeps keeper state kit records
   pub replayed : Replayed kit records held.roster held.tables
@@ -59,18 +59,30 @@ BeforeOrAfter held line image = Opens image held ⊎ OpensWith held line image
 pub record Lasts {D : Type 0} (Honest : D → Type 0) (state : D → DiskState) (past : D → List DiskState)
     (old : Keeper D) (before : Held) (line : List ℕ) (new : Keeper D) (after : Held) : Type 0 where
   pub honest : Honest (disk_of new) → Honest (disk_of old)
-  pub stops : Honest (disk_of new) → Stands old (state (disk_of old)) before
+  pub stops : Honest (disk_of new) → (kit : Kit) → Stands old (state (disk_of old)) kit before
       → LeavesOnly (past (disk_of old)) (state (disk_of old)) (past (disk_of new)) (state (disk_of new)) (BeforeOrAfter before line)
-  pub stands : Honest (disk_of new) → is_broken new ≡ false → Stands old (state (disk_of old)) before → Stands new (state (disk_of new)) after
+  pub stands : Honest (disk_of new) → is_broken new ≡ false → (kit : Kit) → Stands old (state (disk_of old)) kit before
+      → Stands new (state (disk_of new)) kit after
   pub untouched : ¬ MayAppend before line → new ≡ old
+
+-- what keeps the file, what is held, and the reply made last
+abbrev pub Told : Type 0 → Type 0
+Told D = Keeper D × Spoken
+
+abbrev pub told : {D : Type 0} → Told D → List ℕ
+told state = said state.1
+
+-- a line is answered, and what it comes to lasts
+abbrev pub SpeaksAndLasts : {D : Type 0} → (D → Type 0) → (D → DiskState) → (D → List DiskState) → Told D → List ℕ → Told D → Type 0
+SpeaksAndLasts Honest state past old line new =
+    Speaks old.1 line new.1 × Lasts Honest state past old.0 old.1.0 line new.0 new.1.0
 
 -- an opening gives what is held before the first of these lines, or with its command
 abbrev pub OpensNext : Held → List (List ℕ) → List ℕ → Type 0
 OpensNext held [] image = Opens image held
 OpensNext held (line ∷ lines) image = BeforeOrAfter held (taken line) image
 
--- An opening gives what is held once some of the lines are answered, with the command of the next line or without: all that
--- was acknowledged, and perhaps the command under way.
+-- An opening gives what some of the lines make when they are answered in turn, with the command of the next line or without.
 pub record OpensAlong (begun : Spoken) (lines : List (List ℕ)) (image : List ℕ) : Type 0 where
   pub front : List (List ℕ)
   pub rest : List (List ℕ)

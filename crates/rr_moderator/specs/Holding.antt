@@ -8,6 +8,7 @@ use Rattle.rr_moderator.specs.declared.tables.Table.{Table}
 use Rattle.rr_moderator.specs.declared.tables.Tables.{Tables}
 use Rattle.rr_moderator.specs.World.{TableState, World, table_of, world_by}
 use Rattle.rr_moderator.specs.Serving.{Held, Spoken}
+use Rattle.rr_moderator.specs.Durability.{Told}
 
 -- what a table in memory says of itself
 abbrev pub state_of : Table → TableState
@@ -37,6 +38,10 @@ spoken_of moderator = spoken_by moderator.state
 -- what keeps its file
 abbrev pub keeper_of : {D : Type 0} → Moderator D → Keeper D
 keeper_of moderator = moderator.state.keeper
+
+-- what keeps its file, what it holds, and the reply that it made last
+abbrev pub told_of : {D : Type 0} → Moderator D → Told D
+told_of moderator = (keeper_of moderator, spoken_of moderator)
 
 -- the disk on which its file stands
 abbrev pub disk_under : {D : Type 0} → Moderator D → D

@@ -4,14 +4,15 @@ ghost use Rattle.std.specs.Io.BufRead.{Rests};
 ghost use Rattle.std.specs.Io.KnownBytes.{Appends};
 ghost use Rattle.rr_disk.specs.Disk.{after_sync};
 ghost use Rattle.rr_disk.specs.Moments.{LeavesOnly};
+ghost use Rattle.rr_keeper.specs.File.{Kit};
 ghost use Rattle.rr_keeper.specs.Keeper.{disk_of, is_broken};
 ghost use Rattle.rr_keeper.specs.Opening.{SyncsOnce, kit_of};
 ghost use Rattle.rr_serve.specs.declared.faults.Fault as serve;
 ghost use Rattle.rr_serve.specs.Answering.{AppendsFront};
 ghost use Rattle.rr_serve.specs.Lines.{taken};
 ghost use Rattle.rr_serve.specs.Serving.{AnswersAll, Session};
-ghost use Rattle.rr_moderator.specs.Durability.{Keeping, Lasts, OpensAlong, Passed, Stands};
-ghost use Rattle.rr_moderator.specs.Holding.{disk_under, held_by, held_of, keeper_of, last_reply, spoken_of, world_of};
+ghost use Rattle.rr_moderator.specs.Durability.{Keeping, Lasts, OpensAlong, Passed, SpeaksAndLasts, Stands, told};
+ghost use Rattle.rr_moderator.specs.Holding.{disk_under, held_by, held_of, keeper_of, last_reply, spoken_of, told_of, world_of};
 ghost use Rattle.rr_moderator.specs.Replaying.{CountsFailure, Opens, RefusesOpening, RefusesReplay, Replayed, records_of};
 ghost use Rattle.rr_moderator.specs.Serving.{Answers, EndsAs, MayAppend, Responds, Speaks, Takes, outcome_of, said};
 ghost use Rattle.rr_moderator.specs.World.{amount_in, verdict_in};
@@ -66,7 +67,12 @@ impl<D: Disk + Drop> Moderator<D> {
             RefusesOpening (D.Honest refused.disk) (D.state disk).content refused.fault) }
 
         ensures stands { IfOk result (λ moderator. D.Honest (disk_under moderator)
-            → Stands (keeper_of moderator) (D.state (disk_under moderator)) (held_of moderator)) }
+            → (kit : Kit) × Stands (keeper_of moderator) (D.state (disk_under moderator)) kit (held_of moderator)) }
+
+        // Of every disk: what it holds are plays that the rules of a right kit allow, and its device hasn't failed.
+        ensures lawful { IfOk result (λ moderator. (kit : Kit) × (records : List (List ℕ))
+            × Replayed kit records (held_of moderator).roster (held_of moderator).tables) }
+        ensures whole { IfOk result (λ moderator. (held_of moderator).broken ≡ false) }
 
         // It syncs, and writes nothing.
         ensures synced { IfOk result (λ moderator. D.Honest (disk_under moderator)
@@ -186,13 +192,14 @@ impl<D: Disk + Drop> Moderator<D> {
         ensures whole { OnOk result (AnswersAll Speaks said (spoken_of self.old) (spoken_of self.new)
             (R.remaining reader.old) (W.contents writer.old) (W.contents writer.new)) }
 
-        // However it ends, the lines that were read are answered, and what is written is their replies as far as it got.
-        // Whatever a stop leaves at any moment of it opens as all that was acknowledged by then, and perhaps the command
-        // under way.
+        // However it ends, the lines that were read are answered, each so that what it comes to lasts, and what is written
+        // is their replies as far as it got. So whatever a stop leaves at any moment of it opens as some of the lines make
+        // it, with the command of the next one or without.
         ensures session { (cause : Result (Unit {0}) serve.Fault) × EndsAs result cause
-            × (session : Session Speaks said (spoken_of self.old) (spoken_of self.new) (R.remaining reader.old) (R.remaining reader.new)
-            (W.contents writer.old) (W.contents writer.new) cause)
-            × (D.Honest (disk_under self.new) → Stands (keeper_of self.old) (D.state (disk_under self.old)) (held_of self.old)
+            × (session : Session (SpeaksAndLasts D.Honest D.state D.past) told (told_of self.old) (told_of self.new)
+            (R.remaining reader.old) (R.remaining reader.new) (W.contents writer.old) (W.contents writer.new) cause)
+            × (D.Honest (disk_under self.new)
+            → (kit : Kit) → Stands (keeper_of self.old) (D.state (disk_under self.old)) kit (held_of self.old)
             → LeavesOnly (D.past (disk_under self.old)) (D.state (disk_under self.old)) (D.past (disk_under self.new)) (D.state (disk_under self.new))
             (OpensAlong (spoken_of self.old) session.lines)) }
     {

@@ -181,13 +181,13 @@ fn refusals_of_format(rt: HostRuntime) -> Result<(), Fail> {
 fn a_failing_device_ends_serving(rt: HostRuntime) -> Result<(), Fail> {
     let alloc = rt.alloc();
     let (_, _, disk) = formatted(&rt, ROSTER)?;
-    // An opening makes a sync and ten reads: the root, a length and a text each, and one slot.
+    // An opening makes a sync and eleven reads: the root, a length and a text each, and a slot of each half.
     let mut output = Vec::new(alloc);
     let (status, disk) = act(
         alloc,
         &serve_plan(alloc)?,
         texts(b""),
-        FaultyDisk::after(disk, 11),
+        FaultyDisk::after(disk, 12),
         &mut b"0 g1 open a b\ntables\n".as_slice(),
         &mut output,
     );

@@ -5,8 +5,17 @@ use Rattle.rr_cli.proofs.acting.serve.Goals as goal
 pub returns-in-Ok : goal.returns-in-Ok
 returns-in-Ok g c =
     rw (c.into_disk.ensures, c.status.ensures, c.ending_of-ending.ensures)
-    (Served c.in-Ok.moderator c.serve.new.self c.serve.result c.serve.ensures.session.0 c.in-Ok.ensures.opened c.serve.ensures.session.1 c.serve.ensures.session.2 refl)
+    (Served c.in-Ok.moderator c.serve.new.self c.serve.result c.serve.ensures.session.0
+    (record {
+      honest = c.in-Ok.ensures.honest;
+      opens = c.in-Ok.ensures.opened;
+      synced = c.in-Ok.ensures.synced;
+      stands = c.in-Ok.ensures.stands;
+      lawful = c.in-Ok.ensures.lawful;
+      whole = c.in-Ok.ensures.whole;
+    })
+    c.serve.ensures.session.1 c.serve.ensures.session.2 refl)
 
 pub returns-in-Err : goal.returns-in-Err
 returns-in-Err g c =
-    rw (c.status-in-Err.ensures) (Not_served c.in-Err.refused.fault c.refuse-ending.result c.in-Err.ensures.refused refl c.refuse-ending.ensures)
+    rw (c.status-in-Err.ensures) (Not_served c.in-Err.refused.fault c.refuse-ending.result c.in-Err.ensures.refused c.in-Err.ensures.honest_left c.in-Err.ensures.left c.in-Err.ensures.fault refl c.refuse-ending.ensures)

@@ -1,9 +1,10 @@
 use Rattle.std.proofs.Common.{Ok, Err, refl}
 use Rattle.std.proofs.lemmas.Result.{err_from_is_err_and}
 use Rattle.rr_moderator.specs.Holding.{spoken_by}
+use Rattle.rr_moderator.specs.Durability.{SpeaksAndLasts, told}
 use Rattle.rr_moderator.specs.Serving.{Speaks, said}
 use Rattle.rr_moderator.proofs.AlongLemmas.{along}
-use Rattle.rr_moderator.proofs.SessionLemmas.{AnswersAll-first, AnswersAll-seen, Session-first, Session-seen}
+use Rattle.rr_moderator.proofs.SessionLemmas.{AnswersAll-first, AnswersAll-seen, Session-seen}
 use Rattle.rr_moderator.proofs.moderator.Moderator.serve.Goals as goal
 
 pub returns-in_err-serve-clause-session : goal.returns-in_err-serve-clause-session
@@ -12,8 +13,8 @@ returns-in_err-serve-clause-session g c =
     let both = c.in_err-serve.ensures.session in (
       Err c.in_err-serve.field-0.0,
       rw (p.1) p.2,
-      Session-seen _ _ Speaks said spoken_by (λ s line t a. a) (λ s. refl) _ _ _ _ _ _ _ (Session-first _ _ _ _ _ _ _ _ _ _ both),
-      λ honest stands. along g.D.Disk.Honest g.D.Disk.state g.D.Disk.past _ both.lines both.replies _ both.served honest stands,
+      Session-seen _ _ (SpeaksAndLasts g.D.Disk.Honest g.D.Disk.state g.D.Disk.past) told (λ s. (s.keeper, spoken_by s)) (λ s line t a. a) (λ s. refl) _ _ _ _ _ _ _ both,
+      λ honest kit stands. along g.D.Disk.Honest g.D.Disk.state g.D.Disk.past _ both.lines both.replies _ both.served honest kit stands,
     )
 
 pub returns-clause-whole : goal.returns-clause-whole
@@ -24,6 +25,6 @@ returns-clause-session g c =
     let both = c.in_ok-serve.ensures.session in (
       Ok tt,
       tt,
-      Session-seen _ _ Speaks said spoken_by (λ s line t a. a) (λ s. refl) _ _ _ _ _ _ _ (Session-first _ _ _ _ _ _ _ _ _ _ both),
-      λ honest stands. along g.D.Disk.Honest g.D.Disk.state g.D.Disk.past _ both.lines both.replies _ both.served honest stands,
+      Session-seen _ _ (SpeaksAndLasts g.D.Disk.Honest g.D.Disk.state g.D.Disk.past) told (λ s. (s.keeper, spoken_by s)) (λ s line t a. a) (λ s. refl) _ _ _ _ _ _ _ both,
+      λ honest kit stands. along g.D.Disk.Honest g.D.Disk.state g.D.Disk.past _ both.lines both.replies _ both.served honest kit stands,
     )
