@@ -7,6 +7,7 @@ pub mod Replies
 pub mod ServingLemmas
 pub mod DurabilityLemmas
 pub mod AlongLemmas
+pub mod OneWorldLemmas
 pub mod SessionLemmas
 pub mod ReplayLemmas
 pub mod AloneLemmas

@@ -8,4 +8,5 @@ pub mod Holding
 pub mod Kits
 pub mod Replaying
 pub mod Durability
+pub mod OneWorld
 pub mod Alone

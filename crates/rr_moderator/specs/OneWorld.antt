@@ -1,0 +1,15 @@
+-- A file opens as one world.
+use Rattle.std.specs.Prelude.{◌≡◌, List, ℕ, []}
+use Rattle.rr_keeper.specs.File.{IsNewStore, Kit}
+use Rattle.rr_moderator.specs.Kits.{IsRightKit}
+use Rattle.rr_moderator.specs.Replaying.{Opens}
+use Rattle.rr_moderator.specs.Serving.{Held}
+
+-- whatever a file opens as has one kit and the same tables
+abbrev pub OneWorld : Type 0
+OneWorld = (file : List ℕ) (a b : Held) (one : Opens file a) (other : Opens file b)
+    → (other.kit ≡ one.kit) × (other.records ≡ one.records) × (a.tables ≡ b.tables) × (a.broken ≡ b.broken)
+
+-- a new store of a right kit opens, and has no table
+abbrev pub NewStoreOpens : Type 0
+NewStoreOpens = (file : List ℕ) (kit : Kit) → IsNewStore file kit → IsRightKit kit → (held : Held) × Opens file held × (held.tables ≡ [])

@@ -1,0 +1,5 @@
+pub mod Markless
+pub mod Following
+pub mod RowLemmas
+pub mod Standing
+pub mod TurnLemmas

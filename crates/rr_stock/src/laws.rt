@@ -1,0 +1,33 @@
+//! Laws of the definitions, each the contract of a function that does nothing.
+ghost use Rattle.rr_stock.specs.TurnCounts.{OneTurnAtMost};
+ghost use Rattle.rr_stock.specs.WorkedRounds.{WorkedEnd, WorkedFloat, WorkedPar, WorkedPresidency, WorkedSale};
+
+/// Whatever the book and the command, its entries end at most one turn and begin at most one stock round.
+pub fn one_turn_at_most()
+    ensures { OneTurnAtMost }
+{}
+
+/// A sale of two shares at 100 brings 200, and the price falls two rows.
+pub fn worked_sale()
+    ensures { WorkedSale }
+{}
+
+/// Who buys more than the president has becomes president, for two of its shares.
+pub fn worked_presidency()
+    ensures { WorkedPresidency }
+{}
+
+/// A par of 100 costs 200.
+pub fn worked_par()
+    ensures { WorkedPar }
+{}
+
+/// A corporation of par 100 gets 1,000 as 60% has left the offer, and only then.
+pub fn worked_float()
+    ensures { WorkedFloat }
+{}
+
+/// As all seats have passed in a row, what is sold out goes up, the privates pay, and the next stock round begins.
+pub fn worked_end()
+    ensures { WorkedEnd }
+{}

@@ -1,0 +1,19 @@
+//! The stock rounds: pars, purchases and sales of shares, and the end of a round.
+#![tactic(auto)]
+
+mod ending;
+mod fault;
+mod incomes;
+mod judging;
+pub mod laws;
+mod rows;
+mod trading;
+mod waiting;
+
+pub use fault::Fault;
+pub use judging::judge;
+pub use rows::step;
+pub use waiting::due;
+
+#[cfg(test)]
+mod tests;
