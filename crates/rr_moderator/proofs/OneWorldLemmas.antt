@@ -24,19 +24,17 @@ same_replay roster other old a b (bytes ∷ records) ra rb =
 
 pub one_world : OneWorld
 one_world file a b one other =
-    let records = one_reading file one.records other.records _ _ one.store.records other.store.records in
-    (
+    let records = one_reading file one.records other.records _ _ one.store.records other.store.records in (
       one_kit file kit_place one.kit other.kit one.store.texts other.store.texts,
       records.0,
       same_replay a.roster b.roster [] a.tables b.tables one.records one.replayed.replayed
-      (subst (λ (rs : List (List ℕ)). Replays b.roster [] rs b.tables) records.0 other.replayed.replayed),
+          (subst (λ (rs : List (List ℕ)). Replays b.roster [] rs b.tables) records.0 other.replayed.replayed),
       one.whole ∙ sym other.whole,
     )
 
 pub new_store_opens : NewStoreOpens
-new_store_opens file kit new right =
-    (
-      record { roster = right.0; tables = []; broken = false },
-      record { kit = kit; records = []; store = new.store; replayed = record { right = right.1; replayed = refl }; whole = refl },
-      refl,
-    )
+new_store_opens file kit new right = (
+  record { roster = right.0; tables = []; broken = false },
+  record { kit = kit; records = []; store = new.store; replayed = record { right = right.1; replayed = refl }; whole = refl },
+  refl,
+)
