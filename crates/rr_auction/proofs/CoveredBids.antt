@@ -1,5 +1,5 @@
 -- Bids, passes and turns leave the bids covered.
-use Rattle.std.specs.Prelude.{◌≡◌, ◌≢◌, ℕ, ◌+◌, ◌<◌, ◌≤◌, ◌==◌, pos, ◌-ℤ◌, ◌≤ℤ◌, Bool, true, false, not, ◌&&◌, Option, None, Some, refl, if◌then◌else◌}
+use Rattle.std.specs.Prelude.{◌≡◌, ◌≢◌, ℕ, ◌<◌, ◌≤◌, pos, ◌-ℤ◌, ◌≤ℤ◌, Bool, true, false, not, ◌&&◌, Option, None, Some, refl, if◌then◌else◌}
 use Rattle.std.proofs.Common.{sym, ◌∙◌, ap, subst, cond, arith, inl, inr}
 use Rattle.std.proofs.lemmas.Bool.{cases_eq, eq-eqb, false≢true}
 use Rattle.std.proofs.lemmas.Int.{ints}
@@ -9,11 +9,12 @@ use Rattle.rr_roster.specs.Company.{private_index}
 use Rattle.rr_books.specs.declared.parties.Seat.{Seat}
 use Rattle.rr_books.specs.declared.parties.Party.TheVariants as P
 use Rattle.rr_books.specs.Shares.{Holders}
+use Rattle.rr_desk.specs.Seating.{left_at_table, left_of}
 use Rattle.rr_auction.specs.Bids.{Bids, bid_of, tied_on, tied_up, with_bid}
 use Rattle.rr_auction.specs.Fit.{all_bids, bid_on}
 use Rattle.rr_auction.specs.Progress.{Progress, after_bid, after_last_pass, after_leaving, after_par, after_pass, after_turn_pass, all_pass}
 use Rattle.rr_auction.specs.Rules.{Accounts, free_cash}
-use Rattle.rr_auction.specs.Unsold.{is_unsold, left_of, same_private}
+use Rattle.rr_auction.specs.Unsold.{is_unsold, same_private}
 use Rattle.rr_auction.proofs.Covers.{IsCovered, bid_written, same_sum}
 use Rattle.rr_auction.proofs.Fitting.{split}
 
@@ -75,15 +76,6 @@ covered_bid n H money a p s m h seated enough = record {
   ];
   corporations = h.corporations;
 }
-
-choice_below : (n : ℕ) (b : Bool) (x y : Seat) → (b ≡ true → x.0 < n) → (b ≡ false → y.0 < n) → (cond b x y).0 < n
-choice_below n true x y f g = f refl
-choice_below n false x y f g = g refl
-
-left_at_table : (n : ℕ) (s : Seat) → s.0 < n → (left_of n s).0 < n
-left_at_table n s h =
-    choice_below n (s.0 + 1 == n) (record { 0 = 0 }) (record { 0 = s.0 + 1 }) (λ _. omega arith)
-    (λ f. elim (cases_eq (s.0 + 1) n) [ inl e ↦ absurd (false≢true (sym f ∙ eq-eqb (s.0 + 1) n e)) | inr other ↦ omega arith ])
 
 -- what counts for the cover are the next turn and the bids
 pub covered_turn : (n : ℕ) (H : Holders) (money : Accounts) (a b : Progress) → b.turn.0 < n → b.bids ≡ a.bids → IsCovered n H money a → IsCovered n H money b

@@ -23,7 +23,8 @@ use Rattle.rr_books.specs.Shares.{Holders, is_at, share_numbers}
 use Rattle.rr_books.specs.State.{has_party}
 use Rattle.rr_desk.specs.Effects.{adds, moves_if}
 use Rattle.rr_auction.specs.Bids.{Bids, bid_of, tied_on, tied_up}
-use Rattle.rr_auction.specs.Effects.{dollars, gift, owner, pays_if, pays_income, sale}
+use Rattle.rr_desk.specs.Incomes.{dollars, owner, pays_if, pays_income}
+use Rattle.rr_auction.specs.Effects.{gift, sale}
 use Rattle.rr_auction.specs.Fit.{all_bids, bid_on}
 use Rattle.rr_auction.specs.Progress.{Progress, after, progress}
 use Rattle.rr_auction.specs.Rules.{free_cash}

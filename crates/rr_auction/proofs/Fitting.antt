@@ -20,10 +20,11 @@ use Rattle.rr_books.specs.Book.{balance_after}
 use Rattle.rr_books.specs.Same.{same_cert, same_place}
 use Rattle.rr_books.specs.Shares.{Holders, privates}
 use Rattle.rr_books.specs.State.{State, cash_of, holder_in, place_of}
+use Rattle.rr_desk.specs.Seating.{left_at_table, left_of}
 use Rattle.rr_auction.specs.Bids.{Bids, Row, bid_of, tied_on, tied_up, with_bid}
 use Rattle.rr_auction.specs.Fit.{IsFit, all_bids, bid_on}
 use Rattle.rr_auction.specs.Progress.{Progress, after_par, after_sale}
-use Rattle.rr_auction.specs.Unsold.{is_unsold, left_of, same_private}
+use Rattle.rr_auction.specs.Unsold.{is_unsold, same_private}
 
 -- sums over the privates
 sum_same : (f g : Private → ℕ) → ((p : Private) → f p ≡ g p) → sum_by f privates ≡ sum_by g privates
@@ -128,15 +129,6 @@ fit_bid st a s p n fit seated small enough = record {
         ]
   ];
 }
-
-choice_below : (n : ℕ) (b : Bool) (x y : Seat) → (b ≡ true → x.0 < n) → (b ≡ false → y.0 < n) → (cond b x y).0 < n
-choice_below n true x y f g = f refl
-choice_below n false x y f g = g refl
-
-left_at_table : (n : ℕ) (s : Seat) → s.0 < n → (left_of n s).0 < n
-left_at_table n s h =
-    choice_below n (s.0 + 1 == n) (record { 0 = 0 }) (record { 0 = s.0 + 1 }) (λ _. omega arith)
-    (λ f. elim (cases_eq (s.0 + 1) n) [ inl e ↦ absurd (false≢true (sym f ∙ eq-eqb (s.0 + 1) n e)) | inr other ↦ omega arith ])
 
 -- the next turn
 pub fit_turn : (st : State) (a : Progress) (s : Seat) (passes commands : ℕ) → IsFit st a → s.0 < st.players → passes < st.players → IsFit st (record a { turn = left_of st.players s; passes = passes; commands = commands })

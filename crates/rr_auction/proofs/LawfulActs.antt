@@ -7,29 +7,34 @@ use Rattle.std.proofs.lemmas.Bool.{eqb-true, false≢true}
 use Rattle.std.proofs.lemmas.Bool.Decides.{nat_tests}
 use Rattle.std.proofs.lemmas.Int.{ints}
 use Rattle.rr_roster.specs.declared.company.Private.{Private}
+use Rattle.rr_roster.specs.declared.company.Corp.{Corp}
 use Rattle.rr_roster.specs.Terms.{Terms}
+use Rattle.rr_chart.specs.Chart as charts
 use Rattle.rr_books.specs.declared.parties.Seat.{Seat}
 use Rattle.rr_books.specs.declared.parties.Party.TheVariants as P
 use Rattle.rr_books.specs.declared.certificates.Cert.{Cert}
+use Rattle.rr_books.specs.declared.entries.Cell.{Cell}
 use Rattle.rr_books.specs.declared.entries.Entry.TheVariants as E
 use Rattle.rr_books.specs.declared.entries.Marker.TheVariants as M
 use Rattle.rr_books.specs.declared.acts.Act.{Act}
 use Rattle.rr_books.specs.declared.acts.Act.TheVariants as A
-use Rattle.rr_books.specs.Book.{Book, balance, balance-push, holder, holder-push, players}
+use Rattle.rr_books.specs.Book.{Book, balance, balance-push, balance_after, holder, holder-push, players}
 use Rattle.rr_books.specs.Same.{same_seat}
 use Rattle.rr_books.specs.Shares.{Holders, privates}
 use Rattle.rr_desk.specs.Effects.{Effect, adds, in_turn}
+use Rattle.rr_market.specs.Moves.{mark_at, par_marks}
 use Rattle.rr_auction.specs.declared.fault.Fault.{Fault}
 use Rattle.rr_auction.specs.declared.fault.Fault.TheVariants as F
 use Rattle.rr_auction.specs.Bids.{Bids, Row, all_seats, bid_of, bids_on, first_before, first_behind, has_bid, leader, least_bid, next_bidder, raiser, sole_bidder, tied_up}
-use Rattle.rr_auction.specs.Effects.{brings_incomes, dollars, entries_of, incomes_if, is_over, may_end, pass_of, pay_incomes, pays_income, purchase_of, said, sale, sale_at_bid, settle, settled, settle_each, settles, stock_begins}
+use Rattle.rr_desk.specs.Incomes.{dollars, pay_incomes_of, pays_income}
+use Rattle.rr_auction.specs.Effects.{brings_incomes, entries_of, incomes_if, is_over, may_end, pass_of, purchase_of, said, sale, sale_at_bid, sets_par, settle, settled, settle_each, settles, stock_begins}
 use Rattle.rr_auction.specs.Fit.{bid_on}
 use Rattle.rr_auction.specs.Progress.{Progress, after_act, progress, raise_due, raise_for}
 use Rattle.rr_auction.specs.Rules.{Accounts, bid_verdict, bidder_due, due, due_in, free_cash, is_open, is_turn, pass_verdict, price, price_verdict, purchase_verdict, spending_verdict, takes_bids, verdict}
 use Rattle.rr_auction.specs.SoundMoney.{AreLawful, with_acts}
 use Rattle.rr_auction.specs.Unsold.{cheapest, is_private, is_unsold}
 use Rattle.rr_auction.proofs.Bidders.{bid_is_some, cheapest_unsold, sole_bids}
-use Rattle.rr_auction.proofs.Covers.{IsCovered, IsCoveredBook, GoesOn, goes_by_step, goes_further, goes_nowhere, goes_once, goes_then, nothing_paid}
+use Rattle.rr_auction.proofs.Covers.{IsCovered, IsCoveredBook, GoesOn, covered_moved, goes_by, goes_by_step, goes_further, goes_nowhere, goes_once, goes_then, nothing_paid}
 use Rattle.rr_auction.proofs.CoveredBids.{covered_after_bid, covered_after_par, covered_after_pass, covered_left}
 use Rattle.rr_auction.proofs.CoveredSales.{goes_by_private_income, goes_by_sale}
 use Rattle.rr_auction.proofs.Fitting.{split}
@@ -92,7 +97,7 @@ goes_by_settling n book h =
 
 -- the incomes, if a pass brings them
 goes_by_incomes : (n : ℕ) (roster : Terms) (brings : Bool) (book : Book) → IsCoveredBook n book → GoesOn n book (incomes_if roster brings book)
-unfolding pay_incomes
+unfolding pay_incomes_of
 goes_by_incomes n roster true book h = goes_each n (pays_income roster) (goes_by_private_income n roster) privates book h
 goes_by_incomes n roster false book h = goes_nowhere n book h
 
@@ -225,20 +230,36 @@ goes_by_passing n roster book s brings h lawful =
     (λ said. goes_then n settle (incomes_if roster brings ∷ []) _ (goes_by_settling n _ said)
     (λ settled. goes_once n (incomes_if roster brings) _ (goes_by_incomes n roster brings _ settled)))
 
+-- the mark of a token
+goes_by_mark : (n : ℕ) (book : Book) (c : Corp) (cell : Option Cell) → IsCoveredBook n book → GoesOn n book (mark_at c cell)
+goes_by_mark n book c None h = goes_nowhere n book h
+goes_by_mark n book c (Some cell) h =
+    goes_by n book (E.Mark c cell) h refl refl
+    (covered_moved n (holder book) (holder book) (balance book) (λ p. balance_after p (balance book p) (E.Mark c cell)) _ _ (λ d. refl) (λ p. nothing_paid _) refl h.covered)
+
+-- a par
+goes_by_par : (n : ℕ) (rows : List charts.Row) (book : Book) (s : Seat) (c : Corp) (m : ℕ) → IsCoveredBook n book → GoesOn n book (sets_par rows s c m book)
+goes_by_par n rows book s c m h =
+    let act = A.Par s c m in
+    let mark = par_marks rows c m in
+    goes_then n (adds (E.Step (M.Act act))) (mark ∷ settle ∷ []) book
+    (goes_by_act n book act h (covered_after_par n (holder book) (balance book) (progress book) c h.covered))
+    (λ taken. goes_then n mark (settle ∷ []) _ (goes_by_mark n _ c _ taken)
+    (λ marked. goes_once n settle _ (goes_by_settling n _ marked)))
+
 -- whatever act the rules don't refuse
-goes_by_lawful : (n : ℕ) (roster : Terms) (book : Book) (act : Act) → IsCoveredBook n book → verdict roster book act ≡ None → GoesOn n book (entries_of roster book act)
-goes_by_lawful n roster book (A.BuyPrivate s) h lawful = goes_by_buying n roster book s h lawful
-goes_by_lawful n roster book (A.Bid s p m) h lawful = goes_by_bidding n roster book s p m h lawful
-goes_by_lawful n roster book (A.Pass s) h lawful = goes_by_passing n roster book s (brings_incomes (players book) (holder book) (progress book)) h lawful
-goes_by_lawful n roster book (A.Par s c m) h lawful =
-    goes_by_saying n book (A.Par s c m) h (covered_after_par n (holder book) (balance book) (progress book) c h.covered)
-goes_by_lawful n roster book _ h lawful = absurd (cc)
+goes_by_lawful : (n : ℕ) (roster : Terms) (rows : List charts.Row) (book : Book) (act : Act) → IsCoveredBook n book → verdict roster rows book act ≡ None → GoesOn n book (entries_of roster rows book act)
+goes_by_lawful n roster rows book (A.BuyPrivate s) h lawful = goes_by_buying n roster book s h lawful
+goes_by_lawful n roster rows book (A.Bid s p m) h lawful = goes_by_bidding n roster book s p m h lawful
+goes_by_lawful n roster rows book (A.Pass s) h lawful = goes_by_passing n roster book s (brings_incomes (players book) (holder book) (progress book)) h lawful
+goes_by_lawful n roster rows book (A.Par s c m) h lawful = goes_by_par n rows book s c m h
+goes_by_lawful n roster rows book _ h lawful = absurd (cc)
 
 -- the entries that lawful acts add, one after another
-pub goes_by_acts : (n : ℕ) (roster : Terms) (acts : List Act) (book : Book) → IsCoveredBook n book → AreLawful roster book acts → (more : Book) × (with_acts roster book acts ≡ book ++ more) × GoesOn n book more
-goes_by_acts n roster [] book h lawful = ([], sym (append-nil book), goes_nowhere n book h)
-goes_by_acts n roster (act ∷ acts) book h lawful =
-    let es = entries_of roster book act in
-    let first = goes_by_lawful n roster book act h lawful.0 in
-    let others = goes_by_acts n roster acts (book ++ es) first.later lawful.1 in
+pub goes_by_acts : (n : ℕ) (roster : Terms) (rows : List charts.Row) (acts : List Act) (book : Book) → IsCoveredBook n book → AreLawful roster rows book acts → (more : Book) × (with_acts roster rows book acts ≡ book ++ more) × GoesOn n book more
+goes_by_acts n roster rows [] book h lawful = ([], sym (append-nil book), goes_nowhere n book h)
+goes_by_acts n roster rows (act ∷ acts) book h lawful =
+    let es = entries_of roster rows book act in
+    let first = goes_by_lawful n roster rows book act h lawful.0 in
+    let others = goes_by_acts n roster rows acts (book ++ es) first.later lawful.1 in
     (es ++ others.0, others.1 ∙ append_assoc book es others.0, goes_further n book es others.0 first others.2)

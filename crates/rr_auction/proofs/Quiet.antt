@@ -11,11 +11,14 @@ use Rattle.rr_books.specs.declared.parties.Place.TheVariants as L
 use Rattle.rr_books.specs.declared.certificates.ShareNumber.{ShareNumber}
 use Rattle.rr_books.specs.declared.certificates.Cert.{Cert}
 use Rattle.rr_books.specs.declared.certificates.Cert.TheVariants as C
+use Rattle.rr_books.specs.declared.entries.Cell.{Cell}
 use Rattle.rr_books.specs.declared.entries.Entry.{Entry}
 use Rattle.rr_books.specs.Book.{Book, holder, players}
 use Rattle.rr_books.specs.Shares.{is_at, share_numbers}
 use Rattle.rr_desk.specs.Effects.{Effect, in_turn, moves_if}
-use Rattle.rr_auction.specs.Effects.{gift, owner, pay_incomes, pays_if, pays_income}
+use Rattle.rr_market.specs.Moves.{mark_at}
+use Rattle.rr_desk.specs.Incomes.{owner, pay_incomes_of, pays_if, pays_income}
+use Rattle.rr_auction.specs.Effects.{gift}
 use Rattle.rr_auction.specs.Progress.{Progress, after, follow}
 use Rattle.rr_auction.proofs.Following.{follow-append}
 
@@ -38,8 +41,8 @@ income_still book a None n = refl
 income_still book a (Some party) n = refl
 
 -- incomes
-pub incomes_still : (roster : Terms) (book : Book) (a : Progress) (ps : List Private) → follow book a (pay_incomes roster ps book) ≡ a
-unfolding pay_incomes pays_income
+pub incomes_still : (roster : Terms) (book : Book) (a : Progress) (ps : List Private) → follow book a (pay_incomes_of roster ps book) ≡ a
+unfolding pay_incomes_of pays_income
 incomes_still roster book a ps =
     effects_still (λ p book. pays_if (owner (players book) (holder book (C.Private p))) (income_of roster p) book)
     (λ book a p. income_still book a (owner (players book) (holder book (C.Private p))) (income_of roster p)) book a ps
@@ -61,3 +64,8 @@ gift_still Private.Sv s book a = refl
 gift_still Private.Csl s book a = refl
 gift_still Private.Dh s book a = refl
 gift_still Private.Mh s book a = refl
+
+-- the mark of a token
+pub mark_still : (book : Book) (a : Progress) (c : Corp) (cell : Option Cell) → follow book a (mark_at c cell) ≡ a
+mark_still book a c None = refl
+mark_still book a c (Some cell) = refl

@@ -1,29 +1,34 @@
 -- How privates are settled and the auction ends, by what the code finds.
-use Rattle.std.specs.Prelude.{◌≡◌, ℕ, ℤ, pos, ◌+ℤ◌, ◌-ℤ◌, ◌≤ℤ◌, Bool, true, false, [], ◌∷◌, Option, None, Some, refl}
-use Rattle.std.proofs.Common.{sym, ◌∙◌, ap, cond, arith}
-use Rattle.std.proofs.lemmas.Int.{ints}
+use Rattle.std.specs.Prelude.{◌≡◌, ℕ, Bool, true, false, List, [], ◌∷◌, Option, None, Some, option_map, refl}
+use Rattle.std.proofs.Common.{sym, ◌∙◌, ap}
 use Rattle.rr_roster.specs.declared.company.Private.{Private}
+use Rattle.rr_roster.specs.declared.company.Corp.{Corp}
 use Rattle.rr_roster.specs.Terms.{Terms}
+use Rattle.rr_chart.specs.Chart.{Row, par_place}
 use Rattle.rr_books.specs.declared.parties.Money.{Money}
 use Rattle.rr_books.specs.declared.parties.Seat.{Seat}
 use Rattle.rr_books.specs.declared.parties.Party.TheVariants as P
 use Rattle.rr_books.specs.declared.parties.Place.TheVariants as L
 use Rattle.rr_books.specs.declared.certificates.Cert.TheVariants as C
+use Rattle.rr_books.specs.declared.entries.Cell.{Cell}
 use Rattle.rr_books.specs.declared.entries.Entry.TheVariants as E
 use Rattle.rr_books.specs.declared.entries.Marker.TheVariants as M
+use Rattle.rr_books.specs.declared.acts.Act.TheVariants as A
 use Rattle.rr_books.specs.Book.{Book}
 use Rattle.rr_books.specs.Shares.{privates}
 use Rattle.rr_books.specs.State.{State, IsStateOf, holder_in}
 use Rattle.rr_desk.specs.Desk.{OnDesk}
 use Rattle.rr_desk.specs.Effects.{Effect, Takes, adds, in_turn}
+use Rattle.rr_market.specs.Moves.{cell_of, mark_at, par_marks}
 use Rattle.rr_auction.specs.Bids.{bid_in, bids_on, sole_bidder}
-use Rattle.rr_auction.specs.Effects.{dollars, gift, incomes_if, is_over, may_end, sale, sale_at_bid, settle, settled, settle_each, settles, stock_begins}
+use Rattle.rr_desk.specs.Incomes.{dollars}
+use Rattle.rr_auction.specs.Effects.{gift, incomes_if, is_over, may_end, sale, sale_at_bid, sets_par, settle, settled, settle_each, settles, stock_begins}
 use Rattle.rr_auction.specs.Plays.{Plays}
 use Rattle.rr_auction.specs.Progress.{Progress, after_sale, follow, progress}
 use Rattle.rr_auction.specs.Rules.{due_in}
 use Rattle.rr_auction.specs.Unsold.{cheapest, is_private}
 use Rattle.rr_auction.proofs.Following.{plays_nothing, plays_of, plays_one, plays_then}
-use Rattle.rr_auction.proofs.Quiet.{gift_still, incomes_still}
+use Rattle.rr_auction.proofs.Quiet.{gift_still, incomes_still, mark_still}
 use Rattle.rr_auction.proofs.Standing.{plays_same, shown_by}
 
 -- a sale
@@ -103,7 +108,13 @@ plays_pass roster say brings a b c d e f g said settled paid =
     (plays_then settle (incomes_if roster brings ∷ []) b c c e f g settled
     (plays_one (incomes_if roster brings) c c f g (plays_of (incomes_if roster brings) c c f g paid (λ book h k. incomes_if_still roster brings book c))))
 
--- who is paid by the bank has no less then
-pub gains : (b : Bool) (old new amount : ℤ) (n : ℕ) → amount ≡ pos n → new ≡ (old +ℤ cond b amount (pos 0)) -ℤ pos 0 → old ≤ℤ new
-gains true old new amount n e h = omega (arith, ints)
-gains false old new amount n e h = omega (arith, ints)
+-- a par
+pub plays_par : (rows : List Row) (s : Seat) (corp : Corp) (price : ℕ) (cell : Cell) (a b c : Progress) (d e f g : OnDesk) → option_map cell_of (par_place rows price) ≡ Some cell → Plays (adds (E.Step (M.Act (A.Par s corp price)))) a d b e → Takes (adds (E.Mark corp cell)) e f → Plays settle b f c g → Plays (sets_par rows s corp price) a d c g
+plays_par rows s corp price cell a b c d e f g there said marked settled =
+    let say = adds (E.Step (M.Act (A.Par s corp price))) in
+    let mark = par_marks rows corp price in
+    let taken = plays_of (adds (E.Mark corp cell)) b b e f marked (λ book h k. mark_still book b corp (Some cell)) in
+    plays_then say (mark ∷ settle ∷ []) a b c d e g said
+    (plays_then mark (settle ∷ []) b b c e f g
+    (plays_same (adds (E.Mark corp cell)) mark b b e f (λ book h k. ap (mark_at corp) (sym there)) taken)
+    (plays_one settle b c f g settled))

@@ -1,8 +1,9 @@
 -- What the rules say of a book, by the tables and the progress that stand for it.
-use Rattle.std.specs.Prelude.{◌≡◌, ◌++◌, ℕ, Option, None, Some, ◌⊎◌, Result, MatchResult}
+use Rattle.std.specs.Prelude.{◌≡◌, ◌++◌, ℕ, List, Option, None, Some, ◌⊎◌, Result, MatchResult}
 use Rattle.std.proofs.Common.{sym, ◌∙◌, ap, subst}
 use Rattle.std.proofs.Math.Path.{fun_ext}
 use Rattle.rr_roster.specs.Terms.{Terms}
+use Rattle.rr_chart.specs.Chart.{Row}
 use Rattle.rr_books.specs.declared.acts.Act.{Act}
 use Rattle.rr_books.specs.declared.parties.Party.{Party}
 use Rattle.rr_books.specs.declared.entries.Entry.TheVariants as E
@@ -25,15 +26,15 @@ use Rattle.rr_auction.proofs.Following.{plays_of}
 pub shown_by : {A : Type 0} (f : Holders → Progress → A) (book : Book) (s : State) (a : Progress) → IsStateOf book s → progress book ≡ a → f (holder_in s) a ≡ f (holder book) (progress book)
 shown_by f book s a h k = ap (λ (H : Holders). f H a) (holder-of_state book s h) ∙ ap (λ (x : Progress). f (holder book) x) (sym k)
 
-pub verdict_shown : (roster : Terms) (act : Act) (book : Book) (s : State) (a : Progress) → IsStateOf book s → progress book ≡ a → verdict_in roster (cash_of s) (holder_in s) a act ≡ verdict roster book act
-verdict_shown roster act book s a h k =
-    shown_by (λ H x. verdict_in roster (cash_of s) H x act) book s a h k
-    ∙ ap (λ (money : Accounts). verdict_in roster money (holder book) (progress book) act) (fun_ext (λ (p : Party). sym (h.balances p)))
+pub verdict_shown : (roster : Terms) (rows : List Row) (act : Act) (book : Book) (s : State) (a : Progress) → IsStateOf book s → progress book ≡ a → verdict_in roster rows (cash_of s) (holder_in s) a act ≡ verdict roster rows book act
+verdict_shown roster rows act book s a h k =
+    shown_by (λ H x. verdict_in roster rows (cash_of s) H x act) book s a h k
+    ∙ ap (λ (money : Accounts). verdict_in roster rows money (holder book) (progress book) act) (fun_ext (λ (p : Party). sym (h.balances p)))
 
-pub row_shown : (roster : Terms) (act : Act) (book : Book) (s : State) (a : Progress) → IsStateOf book s → progress book ≡ a → row roster act s.players (holder_in s) a book ≡ entries_of roster book act
-row_shown roster act book s a h k =
-    shown_by (λ H x. row roster act s.players H x book) book s a h k
-    ∙ ap (λ (n : ℕ). row roster act n (holder book) (progress book) book) (sym h.players)
+pub row_shown : (roster : Terms) (rows : List Row) (act : Act) (book : Book) (s : State) (a : Progress) → IsStateOf book s → progress book ≡ a → row roster rows act s.players (holder_in s) a book ≡ entries_of roster rows book act
+row_shown roster rows act book s a h k =
+    shown_by (λ H x. row roster rows act s.players H x book) book s a h k
+    ∙ ap (λ (n : ℕ). row roster rows act n (holder book) (progress book) book) (sym h.players)
 
 -- the same entries, by another effect
 pub plays_same : (f g : Effect) (a b : Progress) (old new : OnDesk) → ((book : Book) → IsStateOf book old.books → progress book ≡ a → f book ≡ g book) → Plays f a old b new → Plays g a old b new

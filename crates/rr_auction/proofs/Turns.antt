@@ -13,10 +13,11 @@ use Rattle.rr_books.specs.declared.entries.Entry.TheVariants as E
 use Rattle.rr_books.specs.Book.{balance_after}
 use Rattle.rr_books.specs.Same.{same_cert}
 use Rattle.rr_books.specs.State.{State, cash_of, holder_in, place_of}
+use Rattle.rr_desk.specs.Seating.{left_of}
 use Rattle.rr_auction.specs.Bids.{tied_up, with_bid}
 use Rattle.rr_auction.specs.Fit.{IsFit}
 use Rattle.rr_auction.specs.Progress.{Progress, after_bid, after_last_pass, after_leaving, after_pass, after_purchase, after_sale, after_turn_pass, all_pass}
-use Rattle.rr_auction.specs.Unsold.{is_private, left_of}
+use Rattle.rr_auction.specs.Unsold.{is_private}
 use Rattle.rr_auction.proofs.Fitting.{fit_bid, fit_commands, fit_falls, fit_sale, fit_turn}
 
 -- a fit said of equal tables and progress

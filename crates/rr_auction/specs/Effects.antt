@@ -1,13 +1,13 @@
 -- What a lawful command of the auction adds to a table's book.
-use Rattle.std.specs.Prelude.{ℕ, pos, nat_lt, not, Bool, true, false, List, [], ◌∷◌, Option, None, Some, is_some, map, if◌then◌else◌, ◌&&◌}
+use Rattle.std.specs.Prelude.{ℕ, not, Bool, true, false, List, [], ◌∷◌, Option, None, Some, is_some, map, if◌then◌else◌, ◌&&◌}
 use Rattle.rr_roster.specs.declared.company.Private.{Private}
 use Rattle.rr_roster.specs.declared.company.Corp.TheVariants as Corp
-use Rattle.rr_roster.specs.Terms.{Terms, income_of}
+use Rattle.rr_roster.specs.declared.company.Corp.{Corp as Company}
+use Rattle.rr_roster.specs.Terms.{Terms}
+use Rattle.rr_chart.specs.Chart as charts
 use Rattle.rr_books.specs.declared.parties.Money.{Money}
 use Rattle.rr_books.specs.declared.parties.Seat.{Seat}
-use Rattle.rr_books.specs.declared.parties.Party.{Party}
 use Rattle.rr_books.specs.declared.parties.Party.TheVariants as P
-use Rattle.rr_books.specs.declared.parties.Place.{Place}
 use Rattle.rr_books.specs.declared.parties.Place.TheVariants as L
 use Rattle.rr_books.specs.declared.certificates.Cert.TheVariants as C
 use Rattle.rr_books.specs.declared.entries.Entry.TheVariants as E
@@ -17,15 +17,14 @@ use Rattle.rr_books.specs.declared.acts.Act.TheVariants as A
 use Rattle.rr_books.specs.Book.{Book, holder, players}
 use Rattle.rr_books.specs.Shares.{Holders, privates}
 use Rattle.rr_desk.specs.Effects.{Effect, adds, in_turn, moves_lowest_share}
+use Rattle.rr_desk.specs.Incomes.{dollars, pay_incomes}
+use Rattle.rr_market.specs.Moves.{par_marks}
 use Rattle.rr_auction.specs.declared.due.Due.{Due}
 use Rattle.rr_auction.specs.declared.due.Due.TheVariants as D
 use Rattle.rr_auction.specs.Unsold.{cheapest, is_private}
 use Rattle.rr_auction.specs.Bids.{Row, bid_in, bids_on, sole_bidder}
 use Rattle.rr_auction.specs.Progress.{Progress, all_pass, progress, raise_due}
 use Rattle.rr_auction.specs.Rules.{due, price}
-
-abbrev pub dollars : ℕ → Money
-dollars n = record { 0 = pos n }
 
 -- what comes with a private: the lowest share of the PRR on offer with the C&A, the 20% certificate of the B&O with the B&O
 unfoldable pub gift : Private → Seat → Effect
@@ -68,30 +67,12 @@ settle_each ps = in_turn (map settles ps)
 unfoldable pub settle : Effect
 settle = in_turn (settle_each privates ∷ may_end ∷ [])
 
--- who gets a private's income: the seat or corporation that has it
-abbrev pub owner : ℕ → Option Place → Option Party
-owner n (Some (L.Seat s)) = if nat_lt s.0 n then Some (P.Seat s) else None
-owner n (Some (L.Corp c)) = Some (P.Corp c)
-owner n _ = None
-
-abbrev pub pays_if : Option Party → ℕ → Effect
-pays_if None amount = in_turn []
-pays_if (Some party) amount = adds (E.Pay P.Bank party (dollars amount))
-
--- a private pays its owner
-unfoldable pub pays_income : Terms → Private → Effect
-pays_income roster p book = pays_if (owner (players book) (holder book (C.Private p))) (income_of roster p) book
-
--- the privates pay their owners, the cheapest first
-unfoldable pub pay_incomes : Terms → List Private → Effect
-pay_incomes roster ps = in_turn (map (pays_income roster) ps)
-
 -- a pass brings the incomes where all seats pass in a row with it and the first private is sold
 abbrev pub brings_incomes : ℕ → Holders → Progress → Bool
 brings_incomes n holder a = not (is_some (raise_due holder a)) && all_pass n a && not (is_private Private.Sv (cheapest holder))
 
 abbrev pub incomes_if : Terms → Bool → Effect
-incomes_if roster brings = if brings then pay_incomes roster privates else in_turn []
+incomes_if roster brings = if brings then pay_incomes roster else in_turn []
 
 -- a seat buys what is for sale
 abbrev pub purchase_of : Terms → Seat → ℕ → Option Private → Effect
@@ -106,13 +87,17 @@ said act = in_turn (adds (E.Step (M.Act act)) ∷ settle ∷ [])
 abbrev pub pass_of : Terms → Seat → Bool → Effect
 pass_of roster s brings = in_turn (adds (E.Step (M.Act (A.Pass s))) ∷ settle ∷ incomes_if roster brings ∷ [])
 
--- what a command that isn't refused adds
-abbrev pub row : Terms → Act → ℕ → Holders → Progress → Effect
-row roster (A.BuyPrivate s) n holder a = purchase_of roster s a.falls (cheapest holder)
-row roster (A.Bid s p amount) n holder a = said (A.Bid s p amount)
-row roster (A.Pass s) n holder a = pass_of roster s (brings_incomes n holder a)
-row roster (A.Par s c price) n holder a = said (A.Par s c price)
-row roster _ n holder a = in_turn []
+-- a seat sets a par: the token is put on the chart's par cell, and then what waited for the par is settled
+abbrev pub sets_par : List charts.Row → Seat → Company → ℕ → Effect
+sets_par rows s c price = in_turn (adds (E.Step (M.Act (A.Par s c price))) ∷ par_marks rows c price ∷ settle ∷ [])
 
-abbrev pub entries_of : Terms → Book → Act → Book
-entries_of roster book act = row roster act (players book) (holder book) (progress book) book
+-- what a command that isn't refused adds
+abbrev pub row : Terms → List charts.Row → Act → ℕ → Holders → Progress → Effect
+row roster rows (A.BuyPrivate s) n holder a = purchase_of roster s a.falls (cheapest holder)
+row roster rows (A.Bid s p amount) n holder a = said (A.Bid s p amount)
+row roster rows (A.Pass s) n holder a = pass_of roster s (brings_incomes n holder a)
+row roster rows (A.Par s c price) n holder a = sets_par rows s c price
+row roster rows _ n holder a = in_turn []
+
+abbrev pub entries_of : Terms → List charts.Row → Book → Act → Book
+entries_of roster rows book act = row roster rows act (players book) (holder book) (progress book) book

@@ -12,7 +12,8 @@ use Rattle.rr_books.specs.declared.acts.Act.{Act}
 use Rattle.rr_books.specs.declared.acts.Act.TheVariants as A
 use Rattle.rr_books.specs.Book.{Book, holder, players}
 use Rattle.rr_books.specs.Shares.{Holders}
-use Rattle.rr_auction.specs.Unsold.{cheapest, is_private, left_of}
+use Rattle.rr_desk.specs.Seating.{left_of}
+use Rattle.rr_auction.specs.Unsold.{cheapest, is_private}
 use Rattle.rr_auction.specs.Bids.{Bids, bids_on, no_bids, raiser, with_bid}
 
 -- the seat of the next turn; the passes in a row; how often the first private's price fell; the bids; the seat that

@@ -1,8 +1,9 @@
 -- The rules of the auction, from a table's book alone.
-use Rattle.std.specs.Prelude.{ℕ, ◌-◌, ◌*◌, pos, ℤ, ◌-ℤ◌, int_lt, nat_lt, Bool, true, false, not, Option, None, Some, is_some, unwrap_or, if◌then◌else◌, ◌==◌, ◌&&◌, ◌||◌}
+use Rattle.std.specs.Prelude.{ℕ, ◌-◌, ◌*◌, pos, ℤ, ◌-ℤ◌, int_lt, nat_lt, Bool, true, false, not, List, Option, None, Some, is_some, unwrap_or, if◌then◌else◌, ◌&&◌}
 use Rattle.rr_roster.specs.declared.company.Private.{Private}
 use Rattle.rr_roster.specs.declared.company.Corp.{Corp}
 use Rattle.rr_roster.specs.Terms.{Terms, face_of}
+use Rattle.rr_chart.specs.Chart.{Row}
 use Rattle.rr_books.specs.declared.parties.Money.{Money}
 use Rattle.rr_books.specs.declared.parties.Seat.{Seat}
 use Rattle.rr_books.specs.declared.parties.Party.{Party}
@@ -12,6 +13,7 @@ use Rattle.rr_books.specs.declared.acts.Act.TheVariants as A
 use Rattle.rr_books.specs.Book.{Book, balance, holder}
 use Rattle.rr_books.specs.Shares.{Holders}
 use Rattle.rr_books.specs.Same.{same_seat}
+use Rattle.rr_market.specs.Moves.{is_par}
 use Rattle.rr_auction.specs.declared.due.Due.{Due}
 use Rattle.rr_auction.specs.declared.due.Due.TheVariants as D
 use Rattle.rr_auction.specs.declared.fault.Fault.{Fault}
@@ -124,30 +126,26 @@ pass_verdict roster holder a s =
     else if not (same_seat s (bidder_due holder a)) then Some F.NotYourTurn
     else None
 
--- the first prices that a corporation may have
-abbrev pub is_par : ℕ → Bool
-is_par n = (n == 67) || (n == 71) || (n == 76) || (n == 82) || (n == 90) || (n == 100)
-
 abbrev pub is_bo : Corp → Bool
 is_bo Corp.Bo = true
 is_bo _ = false
 
 -- why a par is refused, if it is, by the seat that owes one
-abbrev pub par_verdict : Option Seat → Seat → Corp → ℕ → Option Fault
-par_verdict None s c n = Some F.WrongStep
-par_verdict (Some owing) s c n =
+abbrev pub par_verdict : List Row → Option Seat → Seat → Corp → ℕ → Option Fault
+par_verdict rows None s c n = Some F.WrongStep
+par_verdict rows (Some owing) s c n =
     if not (same_seat s owing) then Some F.NotYourTurn
     else if not (is_bo c) then Some F.NotForSale
-    else if not (is_par n) then Some F.NotAPar
+    else if not (is_par rows n) then Some F.NotAPar
     else None
 
 -- why a command is refused, if it is: by the money and the places of the table, and how far the auction has come
-abbrev pub verdict_in : Terms → Accounts → Holders → Progress → Act → Option Fault
-verdict_in roster money holder a (A.BuyPrivate s) = purchase_verdict roster money holder a s
-verdict_in roster money holder a (A.Bid s p amount) = bid_verdict roster money holder a s p amount
-verdict_in roster money holder a (A.Pass s) = pass_verdict roster holder a s
-verdict_in roster money holder a (A.Par s c n) = par_verdict a.par_due s c n
-verdict_in roster money holder a _ = Some F.WrongStep
+abbrev pub verdict_in : Terms → List Row → Accounts → Holders → Progress → Act → Option Fault
+verdict_in roster rows money holder a (A.BuyPrivate s) = purchase_verdict roster money holder a s
+verdict_in roster rows money holder a (A.Bid s p amount) = bid_verdict roster money holder a s p amount
+verdict_in roster rows money holder a (A.Pass s) = pass_verdict roster holder a s
+verdict_in roster rows money holder a (A.Par s c n) = par_verdict rows a.par_due s c n
+verdict_in roster rows money holder a _ = Some F.WrongStep
 
-abbrev pub verdict : Terms → Book → Act → Option Fault
-verdict roster book act = verdict_in roster (balance book) (holder book) (progress book) act
+abbrev pub verdict : Terms → List Row → Book → Act → Option Fault
+verdict roster rows book act = verdict_in roster rows (balance book) (holder book) (progress book) act

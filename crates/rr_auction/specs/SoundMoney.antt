@@ -2,6 +2,7 @@
 use Rattle.std.specs.Prelude.{◌≡◌, ℕ, ◌≤◌, pos, ◌≤ℤ◌, List, [], ◌∷◌, ◌++◌, None, fold, length, ⊤}
 use Rattle.rr_roster.specs.declared.company.Corp.{Corp}
 use Rattle.rr_roster.specs.Terms.{Terms}
+use Rattle.rr_chart.specs.Chart.{Row}
 use Rattle.rr_books.specs.declared.acts.Act.{Act}
 use Rattle.rr_books.specs.declared.parties.Seat.{Seat}
 use Rattle.rr_books.specs.declared.parties.Party.TheVariants as P
@@ -12,17 +13,17 @@ use Rattle.rr_auction.specs.Opening.{opened}
 use Rattle.rr_auction.specs.Rules.{verdict}
 
 -- a book once an act is taken down
-abbrev pub with_act : Terms → Book → Act → Book
-with_act roster book act = book ++ entries_of roster book act
+abbrev pub with_act : Terms → List Row → Book → Act → Book
+with_act roster rows book act = book ++ entries_of roster rows book act
 
 -- a book once these acts are taken down, one after another
-abbrev pub with_acts : Terms → Book → List Act → Book
-with_acts roster book acts = fold (with_act roster) book acts
+abbrev pub with_acts : Terms → List Row → Book → List Act → Book
+with_acts roster rows book acts = fold (with_act roster rows) book acts
 
 -- no act is refused in the book that the acts before it made
-abbrev pub AreLawful : Terms → Book → List Act → Type 0
-AreLawful roster book [] = ⊤
-AreLawful roster book (act ∷ acts) = (verdict roster book act ≡ None) × AreLawful roster (with_act roster book act) acts
+abbrev pub AreLawful : Terms → List Row → Book → List Act → Type 0
+AreLawful roster rows book [] = ⊤
+AreLawful roster rows book (act ∷ acts) = (verdict roster rows book act ≡ None) × AreLawful roster rows (with_act roster rows book act) acts
 
 -- bank, seats and corporations have 12,000 together, and no one but the bank has less than nothing
 pub record HasSoundMoney (players : ℕ) (book : Book) : Type 0 where
@@ -30,9 +31,10 @@ pub record HasSoundMoney (players : ℕ) (book : Book) : Type 0 where
   pub seats : (s : Seat) → pos 0 ≤ℤ balance book (P.Seat s)
   pub corporations : (c : Corp) → pos 0 ≤ℤ balance book (P.Corp c)
 
--- a table of two players or more has sound money after whatever lawful acts, whatever the numbers of its roster
+-- a table of two players or more has sound money after whatever lawful acts, whatever its chart and the numbers of its
+-- roster
 abbrev pub MoneyStays : Type 0
 MoneyStays =
-    (roster : Terms) (names : List (List ℕ)) (acts : List Act) → 2 ≤ length names
-    → AreLawful roster (opened names roster) acts
-    → HasSoundMoney (length names) (with_acts roster (opened names roster) acts)
+    (roster : Terms) (rows : List Row) (names : List (List ℕ)) (acts : List Act) → 2 ≤ length names
+    → AreLawful roster rows (opened names roster) acts
+    → HasSoundMoney (length names) (with_acts roster rows (opened names roster) acts)

@@ -3,6 +3,7 @@ use Rattle.std.specs.Prelude.{◌≡◌, ℕ, pos, List, [], ◌∷◌, map}
 use Rattle.rr_roster.specs.declared.company.Corp.TheVariants as Corp
 use Rattle.rr_roster.specs.declared.company.Private.{Private}
 use Rattle.rr_roster.specs.Terms.{Terms}
+use Rattle.rr_chart.specs.Chart.{Row}
 use Rattle.rr_books.specs.declared.acts.Act.{Act}
 use Rattle.rr_books.specs.declared.acts.Act.TheVariants as A
 use Rattle.rr_books.specs.declared.parties.Seat.{Seat}
@@ -45,7 +46,7 @@ worked_acts =
     ∷ A.Pass (seat 2)
     ∷ []
 
--- the acts are lawful, and leave the seats with 580, 515, 600 and 560 and the bank with 9,745
+-- whatever the chart, the acts are lawful, and leave the seats with 580, 515, 600 and 560 and the bank with 9,745
 pub record WorkedAuction : Type 0 where
-  pub lawful : AreLawful usual_terms worked_opening worked_acts
-  pub money : map (balance (with_acts usual_terms worked_opening worked_acts)) worked_parties ≡ pos 580 ∷ pos 515 ∷ pos 600 ∷ pos 560 ∷ pos 9745 ∷ []
+  pub lawful : (rows : List Row) → AreLawful usual_terms rows worked_opening worked_acts
+  pub money : (rows : List Row) → map (balance (with_acts usual_terms rows worked_opening worked_acts)) worked_parties ≡ pos 580 ∷ pos 515 ∷ pos 600 ∷ pos 560 ∷ pos 9745 ∷ []

@@ -11,8 +11,9 @@ ghost use Rattle.rr_auction.specs.Unsold.{cheapest, is_private};
 
 use crate::bids::{bid_in, highest, raiser};
 use crate::due::Due;
-use crate::unsold::{cheapest, is_cheapest, is_unsold, left_of, same_private};
+use crate::unsold::{cheapest, is_cheapest, is_unsold, same_private};
 use rr_books::{Books, Corp, Money, Private, Seat};
+use rr_desk::left_of;
 use rr_roster::Roster;
 use std::marker::Model;
 
@@ -267,7 +268,7 @@ impl Auction {
         ensures { result ≡ after_sale players private seat self.now }
     {
         let mut next = *self;
-        next.priority = left_of(seat, players);
+        next.priority = left_of(seat, u16::from(players));
         if let Private::Bo = private {
             next.par_due = Some(seat);
         }
@@ -281,7 +282,7 @@ impl Auction {
         ensures { result ≡ after_purchase players seat self.now }
     {
         let mut next = *self;
-        next.turn = left_of(seat, players);
+        next.turn = left_of(seat, u16::from(players));
         next.passes = 0;
         next.commands += 1;
         next
@@ -325,7 +326,7 @@ impl Auction {
         ensures { result ≡ after_turn_bid players seat private amount self.now }
     {
         let mut next = self.with_bid(seat, private, amount);
-        next.turn = left_of(seat, players);
+        next.turn = left_of(seat, u16::from(players));
         next.passes = 0;
         next.commands += 1;
         next
@@ -379,7 +380,7 @@ impl Auction {
         ensures { result ≡ after_last_pass books.now.players seat (cheapest (holder_in books.now)) self.now }
     {
         let mut next = self.after_command();
-        next.turn = left_of(seat, books.players());
+        next.turn = left_of(seat, u16::from(books.players()));
         next.passes = 0;
         next.falls = self.falls_after(books);
         next
@@ -405,7 +406,7 @@ impl Auction {
         ensures { result ≡ after_turn_pass players seat self.now }
     {
         let mut next = self.after_command();
-        next.turn = left_of(seat, players);
+        next.turn = left_of(seat, u16::from(players));
         next.passes += 1;
         next
     }

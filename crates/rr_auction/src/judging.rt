@@ -1,14 +1,18 @@
-ghost use Rattle.std.specs.Prelude.{◌≡◌, ◌+◌, ◌<◌, ◌≤◌, ◌-ℤ◌, ◌≤ℤ◌, pos, Some, None, OnOk, IfOk, MatchResult, true};
+ghost use Rattle.std.specs.Prelude.{◌≡◌, ◌+◌, ◌<◌, ◌≤◌, ◌-ℤ◌, ◌≤ℤ◌, pos, Some, None, option_map, OnOk, IfOk, MatchResult, true};
+ghost use Rattle.rr_chart.specs.Chart.{par_place};
 ghost use Rattle.rr_books.specs.State.{cash_of, holder_in};
+ghost use Rattle.rr_market.specs.Moves.{cell_of};
 ghost use Rattle.rr_auction.specs.Bids.{tied_up};
 ghost use Rattle.rr_auction.specs.Fit.{IsFit};
-ghost use Rattle.rr_auction.specs.Rules.{bid_verdict, bidder_due, free_cash, is_bo, is_open, is_par, par_verdict, pass_verdict, price, purchase_verdict, spending_verdict, takes_bids};
+ghost use Rattle.rr_auction.specs.Rules.{bid_verdict, bidder_due, free_cash, is_bo, is_open, par_verdict, pass_verdict, price, purchase_verdict, spending_verdict, takes_bids};
 ghost use Rattle.rr_auction.specs.Unsold.{cheapest};
 
 use crate::auction::Auction;
 use crate::fault::Fault;
 use crate::unsold::cheapest;
-use rr_books::{Books, Corp, Party, Private, Seat};
+use rr_books::{Books, Cell, Corp, Party, Private, Seat};
+use rr_chart::Chart;
+use rr_market::par_cell;
 use rr_roster::Roster;
 
 impl Auction {
@@ -90,11 +94,18 @@ impl Auction {
         Ok(())
     }
 
-    /// Whether the seat may set this par.
-    pub(crate) fn judge_par(&self, seat: Seat, corp: Corp, price: u64) -> Result<(), Fault>
-        ensures { MatchResult result
-            (λ _. par_verdict self.now.par_due seat corp price ≡ None)
-            (λ fault. par_verdict self.now.par_due seat corp price ≡ Some fault) }
+    /// The par cell on which the seat may put the corporation's token.
+    pub(crate) fn judge_par(
+        &self,
+        seat: Seat,
+        corp: Corp,
+        price: u64,
+        chart: &Chart,
+    ) -> Result<Cell, Fault>
+        ensures verdict { MatchResult result
+            (λ _. par_verdict chart.now self.now.par_due seat corp price ≡ None)
+            (λ fault. par_verdict chart.now self.now.par_due seat corp price ≡ Some fault) }
+        ensures cell { IfOk result (λ cell. option_map cell_of (par_place chart.now price) ≡ Some cell) }
     {
         let Some(owing) = self.par_due() else {
             return Err(Fault::WrongStep);
@@ -105,10 +116,10 @@ impl Auction {
         if !is_bo(corp) {
             return Err(Fault::NotForSale);
         }
-        if !is_par(price) {
+        let Some(cell) = par_cell(chart, price) else {
             return Err(Fault::NotAPar);
-        }
-        Ok(())
+        };
+        Ok(cell)
     }
 
     // Whether the seat may spend the amount on the private.
@@ -147,11 +158,4 @@ fn is_bo(corp: Corp) -> bool
         Corp::Bo => true,
         _ => false,
     }
-}
-
-// Whether a corporation may begin at this price.
-fn is_par(price: u64) -> bool
-    ensures { result ≡ is_par price }
-{
-    matches!(price, 67 | 71 | 76 | 82 | 90 | 100)
 }

@@ -5,7 +5,6 @@ mod auction;
 mod bids;
 mod due;
 mod fault;
-mod incomes;
 mod judging;
 pub mod laws;
 mod opening;

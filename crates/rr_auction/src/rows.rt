@@ -2,19 +2,20 @@ ghost use Rattle.std.specs.Prelude.{◌≡◌, ◌+◌, ◌<◌, ◌≤◌, ◌�
 ghost use Rattle.rr_books.specs.Book.{Book};
 ghost use Rattle.rr_books.specs.State.{IsStateOf, cash_of, holder_in};
 ghost use Rattle.rr_desk.specs.Effects.{Takes, adds};
-ghost use Rattle.rr_auction.specs.Effects.{brings_incomes, dollars, entries_of, incomes_if, pass_of, purchase_of, row, said};
+ghost use Rattle.rr_desk.specs.Incomes.{dollars};
+ghost use Rattle.rr_auction.specs.Effects.{brings_incomes, entries_of, incomes_if, pass_of, purchase_of, row, said, sets_par};
 ghost use Rattle.rr_auction.specs.Fit.{IsFit, amount_of};
 ghost use Rattle.rr_auction.specs.Plays.{Plays};
 ghost use Rattle.rr_auction.specs.Progress.{IsProgressOf, after_act};
-ghost use Rattle.rr_auction.specs.Rules.{price, verdict, verdict_in};
+ghost use Rattle.rr_auction.specs.Rules.{bid_verdict, par_verdict, pass_verdict, price, purchase_verdict, verdict, verdict_in};
 ghost use Rattle.rr_auction.specs.Unsold.{cheapest};
 
 use crate::auction::Auction;
 use crate::fault::Fault;
-use crate::incomes::pay_incomes;
 use crate::settling::dollars;
 use rr_books::{Act, Corp, Entry, Marker, Money, Party, Private, Seat};
-use rr_desk::Desk;
+use rr_chart::Chart;
+use rr_desk::{Desk, pay_incomes};
 use rr_roster::Roster;
 
 impl Auction {
@@ -25,16 +26,22 @@ impl Auction {
     /// The first of these that applies: `WrongStep` where the auction waits for something else, `NotYourTurn` where
     /// another seat is due; for a bid `NotForSale` and `BidTooLow`; for a purchase or bid `TooLittleCash`, and
     /// `CashTiedUp` where the seat has the money but has bid it on other privates; for a par `NotForSale` where the
-    /// corporation isn't the B&O, and `NotAPar`. Or `OutOfMemory`. The auction is as before then.
-    pub fn step(&mut self, act: &Act, desk: &mut Desk, roster: &Roster) -> Result<(), Fault>
+    /// corporation isn't the B&O, and `NotAPar` where the chart has no par cell of the price. Or `OutOfMemory`. The auction is as before then.
+    pub fn step(
+        &mut self,
+        act: &Act,
+        desk: &mut Desk,
+        roster: &Roster,
+        chart: &Chart,
+    ) -> Result<(), Fault>
         requires room { desk.old.books.payments + 16 ≤ 400000000 }
         requires commands { self.old.commands < 400000000 }
         requires fit { IsFit desk.old.books self.old }
         requires small { amount_of act.now ≤ 10000000000 }
         ensures verdict { (book : Book) → IsStateOf book desk.old.books → IsProgressOf book self.old → MatchResult result
-            (λ _. verdict roster.now book act.now ≡ None)
-            (λ fault. ((fault ≡ Fault.OutOfMemory) × (verdict roster.now book act.now ≡ None)) ⊎ (verdict roster.now book act.now ≡ Some fault)) }
-        ensures plays { OnOk result (Plays (λ book. entries_of roster.now book act.now) self.old desk.old self.new desk.new) }
+            (λ _. verdict roster.now chart.now book act.now ≡ None)
+            (λ fault. ((fault ≡ Fault.OutOfMemory) × (verdict roster.now chart.now book act.now ≡ None)) ⊎ (verdict roster.now chart.now book act.now ≡ Some fault)) }
+        ensures plays { OnOk result (Plays (λ book. entries_of roster.now chart.now book act.now) self.old desk.old self.new desk.new) }
         ensures err { OnErr result (self.new ≡ self.old) }
         ensures refused { IfErr result (λ fault. (fault ≡ Fault.OutOfMemory) ⊎ (desk.new ≡ desk.old)) }
         ensures fit { OnOk result (IsFit desk.new.books self.new) }
@@ -45,7 +52,7 @@ impl Auction {
         ensures counts { desk.new.books.counts ≡ desk.old.books.counts }
     {
         let mut next = *self;
-        match next.take(act, desk, roster) {
+        match next.take(act, desk, roster, chart) {
             Ok(()) => {
                 *self = next;
                 Ok(())
@@ -55,15 +62,21 @@ impl Auction {
     }
 
     // Takes a command, and may be anywhere after a refusal.
-    fn take(&mut self, act: &Act, desk: &mut Desk, roster: &Roster) -> Result<(), Fault>
+    fn take(
+        &mut self,
+        act: &Act,
+        desk: &mut Desk,
+        roster: &Roster,
+        chart: &Chart,
+    ) -> Result<(), Fault>
         requires room { desk.old.books.payments + 16 ≤ 400000000 }
         requires commands { self.old.commands < 400000000 }
         requires fit { IsFit desk.old.books self.old }
         requires small { amount_of act.now ≤ 10000000000 }
         ensures verdict { MatchResult result
-            (λ _. verdict_in roster.now (cash_of desk.old.books) (holder_in desk.old.books) self.old act.now ≡ None)
-            (λ fault. ((fault ≡ Fault.OutOfMemory) × (verdict_in roster.now (cash_of desk.old.books) (holder_in desk.old.books) self.old act.now ≡ None)) ⊎ (verdict_in roster.now (cash_of desk.old.books) (holder_in desk.old.books) self.old act.now ≡ Some fault)) }
-        ensures plays { OnOk result (Plays (row roster.now act.now desk.old.books.players (holder_in desk.old.books) self.old) self.old desk.old self.new desk.new) }
+            (λ _. verdict_in roster.now chart.now (cash_of desk.old.books) (holder_in desk.old.books) self.old act.now ≡ None)
+            (λ fault. ((fault ≡ Fault.OutOfMemory) × (verdict_in roster.now chart.now (cash_of desk.old.books) (holder_in desk.old.books) self.old act.now ≡ None)) ⊎ (verdict_in roster.now chart.now (cash_of desk.old.books) (holder_in desk.old.books) self.old act.now ≡ Some fault)) }
+        ensures plays { OnOk result (Plays (row roster.now chart.now act.now desk.old.books.players (holder_in desk.old.books) self.old) self.old desk.old self.new desk.new) }
         ensures fit { OnOk result (IsFit desk.new.books self.new) }
         ensures commands { OnOk result (self.new.commands ≤ self.old.commands + 1) }
         ensures refused { IfErr result (λ fault. (fault ≡ Fault.OutOfMemory) ⊎ (desk.new ≡ desk.old)) }
@@ -80,7 +93,7 @@ impl Auction {
                 amount,
             } => self.bid(*seat, *private, *amount, desk, roster),
             Act::Pass { seat } => self.pass(*seat, desk, roster),
-            Act::Par { seat, corp, price } => self.par(*seat, *corp, *price, desk, roster),
+            Act::Par { seat, corp, price } => self.par(*seat, *corp, *price, desk, chart),
             _ => Err(Fault::WrongStep),
         }
     }
@@ -91,9 +104,9 @@ impl Auction {
         requires commands { self.old.commands < 400000000 }
         requires fit { IsFit desk.old.books self.old }
         ensures verdict { MatchResult result
-            (λ _. verdict_in roster.now (cash_of desk.old.books) (holder_in desk.old.books) self.old (Act.BuyPrivate seat) ≡ None)
-            (λ fault. ((fault ≡ Fault.OutOfMemory) × (verdict_in roster.now (cash_of desk.old.books) (holder_in desk.old.books) self.old (Act.BuyPrivate seat) ≡ None)) ⊎ (verdict_in roster.now (cash_of desk.old.books) (holder_in desk.old.books) self.old (Act.BuyPrivate seat) ≡ Some fault)) }
-        ensures plays { OnOk result (Plays (row roster.now (Act.BuyPrivate seat) desk.old.books.players (holder_in desk.old.books) self.old) self.old desk.old self.new desk.new) }
+            (λ _. purchase_verdict roster.now (cash_of desk.old.books) (holder_in desk.old.books) self.old seat ≡ None)
+            (λ fault. ((fault ≡ Fault.OutOfMemory) × (purchase_verdict roster.now (cash_of desk.old.books) (holder_in desk.old.books) self.old seat ≡ None)) ⊎ (purchase_verdict roster.now (cash_of desk.old.books) (holder_in desk.old.books) self.old seat ≡ Some fault)) }
+        ensures plays { OnOk result (Plays (purchase_of roster.now seat self.old.falls (cheapest (holder_in desk.old.books))) self.old desk.old self.new desk.new) }
         ensures fit { OnOk result (IsFit desk.new.books self.new) }
         ensures commands { OnOk result (self.new.commands ≤ self.old.commands + 1) }
         ensures refused { IfErr result (λ fault. (fault ≡ Fault.OutOfMemory) ⊎ (desk.new ≡ desk.old)) }
@@ -125,9 +138,9 @@ impl Auction {
         requires fit { IsFit desk.old.books self.old }
         requires small { amount ≤ 10000000000 }
         ensures verdict { MatchResult result
-            (λ _. verdict_in roster.now (cash_of desk.old.books) (holder_in desk.old.books) self.old (Act.Bid seat private amount) ≡ None)
-            (λ fault. ((fault ≡ Fault.OutOfMemory) × (verdict_in roster.now (cash_of desk.old.books) (holder_in desk.old.books) self.old (Act.Bid seat private amount) ≡ None)) ⊎ (verdict_in roster.now (cash_of desk.old.books) (holder_in desk.old.books) self.old (Act.Bid seat private amount) ≡ Some fault)) }
-        ensures plays { OnOk result (Plays (row roster.now (Act.Bid seat private amount) desk.old.books.players (holder_in desk.old.books) self.old) self.old desk.old self.new desk.new) }
+            (λ _. bid_verdict roster.now (cash_of desk.old.books) (holder_in desk.old.books) self.old seat private amount ≡ None)
+            (λ fault. ((fault ≡ Fault.OutOfMemory) × (bid_verdict roster.now (cash_of desk.old.books) (holder_in desk.old.books) self.old seat private amount ≡ None)) ⊎ (bid_verdict roster.now (cash_of desk.old.books) (holder_in desk.old.books) self.old seat private amount ≡ Some fault)) }
+        ensures plays { OnOk result (Plays (said (Act.Bid seat private amount)) self.old desk.old self.new desk.new) }
         ensures fit { OnOk result (IsFit desk.new.books self.new) }
         ensures commands { OnOk result (self.new.commands ≤ self.old.commands + 1) }
         ensures refused { IfErr result (λ fault. (fault ≡ Fault.OutOfMemory) ⊎ (desk.new ≡ desk.old)) }
@@ -154,9 +167,9 @@ impl Auction {
         requires commands { self.old.commands < 400000000 }
         requires fit { IsFit desk.old.books self.old }
         ensures verdict { MatchResult result
-            (λ _. verdict_in roster.now (cash_of desk.old.books) (holder_in desk.old.books) self.old (Act.Pass seat) ≡ None)
-            (λ fault. ((fault ≡ Fault.OutOfMemory) × (verdict_in roster.now (cash_of desk.old.books) (holder_in desk.old.books) self.old (Act.Pass seat) ≡ None)) ⊎ (verdict_in roster.now (cash_of desk.old.books) (holder_in desk.old.books) self.old (Act.Pass seat) ≡ Some fault)) }
-        ensures plays { OnOk result (Plays (row roster.now (Act.Pass seat) desk.old.books.players (holder_in desk.old.books) self.old) self.old desk.old self.new desk.new) }
+            (λ _. pass_verdict roster.now (holder_in desk.old.books) self.old seat ≡ None)
+            (λ fault. ((fault ≡ Fault.OutOfMemory) × (pass_verdict roster.now (holder_in desk.old.books) self.old seat ≡ None)) ⊎ (pass_verdict roster.now (holder_in desk.old.books) self.old seat ≡ Some fault)) }
+        ensures plays { OnOk result (Plays (pass_of roster.now seat (brings_incomes desk.old.books.players (holder_in desk.old.books) self.old)) self.old desk.old self.new desk.new) }
         ensures fit { OnOk result (IsFit desk.new.books self.new) }
         ensures commands { OnOk result (self.new.commands ≤ self.old.commands + 1) }
         ensures refused { IfErr result (λ fault. (fault ≡ Fault.OutOfMemory) ⊎ (desk.new ≡ desk.old)) }
@@ -182,14 +195,14 @@ impl Auction {
         corp: Corp,
         price: u64,
         desk: &mut Desk,
-        roster: &Roster,
+        chart: &Chart,
     ) -> Result<(), Fault>
         requires room { desk.old.books.payments + 16 ≤ 400000000 }
         requires fit { IsFit desk.old.books self.old }
         ensures verdict { MatchResult result
-            (λ _. verdict_in roster.now (cash_of desk.old.books) (holder_in desk.old.books) self.old (Act.Par seat corp price) ≡ None)
-            (λ fault. ((fault ≡ Fault.OutOfMemory) × (verdict_in roster.now (cash_of desk.old.books) (holder_in desk.old.books) self.old (Act.Par seat corp price) ≡ None)) ⊎ (verdict_in roster.now (cash_of desk.old.books) (holder_in desk.old.books) self.old (Act.Par seat corp price) ≡ Some fault)) }
-        ensures plays { OnOk result (Plays (row roster.now (Act.Par seat corp price) desk.old.books.players (holder_in desk.old.books) self.old) self.old desk.old self.new desk.new) }
+            (λ _. par_verdict chart.now self.old.par_due seat corp price ≡ None)
+            (λ fault. ((fault ≡ Fault.OutOfMemory) × (par_verdict chart.now self.old.par_due seat corp price ≡ None)) ⊎ (par_verdict chart.now self.old.par_due seat corp price ≡ Some fault)) }
+        ensures plays { OnOk result (Plays (sets_par chart.now seat corp price) self.old desk.old self.new desk.new) }
         ensures fit { OnOk result (IsFit desk.new.books self.new) }
         ensures commands { OnOk result (self.new.commands ≤ self.old.commands + 1) }
         ensures refused { IfErr result (λ fault. (fault ≡ Fault.OutOfMemory) ⊎ (desk.new ≡ desk.old)) }
@@ -198,9 +211,10 @@ impl Auction {
         ensures trains { desk.new.books.trains ≡ desk.old.books.trains }
         ensures counts { desk.new.books.counts ≡ desk.old.books.counts }
     {
-        self.judge_par(seat, corp, price)?;
+        let cell = self.judge_par(seat, corp, price, chart)?;
         let next = self.after_par(corp);
         self.say(Act::Par { seat, corp, price }, next, desk)?;
+        desk.mark(corp, cell)?;
         self.settle(desk)?;
         Ok(())
     }

@@ -1,9 +1,9 @@
-ghost use Rattle.std.specs.Prelude.{◌≡◌, ◌<◌};
+ghost use Rattle.std.specs.Prelude.{◌≡◌};
 ghost use Rattle.rr_books.specs.Book.{Book, holder};
 ghost use Rattle.rr_books.specs.State.{IsStateOf, holder_in};
-ghost use Rattle.rr_auction.specs.Unsold.{cheapest, is_private, is_unsold, left_of, same_private};
+ghost use Rattle.rr_auction.specs.Unsold.{cheapest, is_private, is_unsold, same_private};
 
-use rr_books::{Books, Cert, Place, Private, Seat};
+use rr_books::{Books, Cert, Place, Private};
 
 /// The cheapest private that isn't sold.
 #[tactic(auto, unfolding(crate::specs::Unsold::cheapest))]
@@ -37,18 +37,5 @@ pub(crate) fn is_cheapest(private: Private, books: &Books) -> bool
     match cheapest(books) {
         Some(other) => same_private(private, other),
         None => false,
-    }
-}
-
-/// The seat on the left, at a table of so many seats.
-pub(crate) fn left_of(seat: Seat, players: u8) -> Seat
-    requires { seat.0 < players }
-    ensures value { result ≡ left_of players seat }
-    ensures bound { result.0 < players }
-{
-    if seat.0 + 1 == players {
-        Seat(0)
-    } else {
-        Seat(seat.0 + 1)
     }
 }

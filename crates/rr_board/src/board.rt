@@ -183,7 +183,7 @@ impl Board {
         let Some(hex) = self.hex(hex) else {
             return Ok(false);
         };
-        let Some(slots) = slots_at(hex.tile.parts(), centre) else {
+        let Some(slots) = slots_at(hex.tile.parts(), u64::from(centre)) else {
             return Ok(false);
         };
         let hex = hex.name;

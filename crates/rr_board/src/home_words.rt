@@ -18,8 +18,8 @@ pub(crate) fn private_of(word: &[u8]) -> Option<Private>
     Private::from_name(word)
 }
 
-// the slots of the centre of a number, from 1, where it is a city
-pub(crate) fn slots_at(parts: &[Part], number: u16) -> Option<u8>
+/// The slots of the centre of a number, from 1, among the parts of a tile, where it is a city.
+pub fn slots_at(parts: &[Part], number: u64) -> Option<u8>
     ensures { result ≡ slots_at parts.now number }
 {
     match parts {

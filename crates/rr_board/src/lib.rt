@@ -10,6 +10,7 @@ mod home_words;
 pub use board::Board;
 pub use fault::Fault;
 pub use hex::{Block, Colour, Hex, Home, Place};
+pub use home_words::slots_at;
 
 #[cfg(test)]
 mod tests;

@@ -1,5 +1,5 @@
 //! The small board, and texts that are no board.
-use crate::{Board, Colour, Fault, Place};
+use crate::{Board, Colour, Fault, Place, slots_at};
 use rr_roster::{Corp, Private};
 use std::alloc::Global;
 use std::test::Fail;
@@ -48,6 +48,9 @@ fn reads_homes_and_blocks(rt: HostRuntime) -> Result<(), Fail> {
     assert_eq!(rt; homes[0].centre, 1);
     assert_eq!(rt; homes[1].corp, Corp::Nyc);
     assert_eq!(rt; homes[1].hex.as_bytes(), b"D".as_slice());
+    let city = board.hex(b"D").ok_or("a hex")?;
+    assert_eq!(rt; slots_at(city.tile.parts(), 1), Some(1));
+    assert_eq!(rt; slots_at(city.tile.parts(), 65537), None);
     let blocks = board.blocks();
     assert_eq!(rt; blocks.len(), 1);
     assert_eq!(rt; blocks[0].private, Private::Sv);

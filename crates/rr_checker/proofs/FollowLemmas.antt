@@ -55,7 +55,7 @@ far_to link from to ends = decided (same_node from (Hexside link.side)) refl end
     decided false e (inl is) = absurd (no (Decides-same_node from (Hexside link.side)) e is.0)
     decided false e (inr is) = rw e (sym is.1)
 
-far_end_to : (net : Net) (link : ℕ) (from to : Node) → Joins net link from to → far_end (slice_get net.links link) from ≡ to
+pub far_end_to : (net : Net) (link : ℕ) (from to : Node) → Joins net link from to → far_end (slice_get net.links link) from ≡ to
 far_end_to net link from to joins = rw joins.1 (far_to joins.0 from to joins.2)
 
 -- no link stands twice in a path

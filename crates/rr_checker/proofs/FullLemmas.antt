@@ -212,7 +212,7 @@ module _ (net : Net) (fates : List Fate) where
           ]
         ]
 
-    is_run_now : Run net a.run
+    pub is_run_now : Run net a.run
     is_run_now = record {
       complete = a.complete;
       lawful = lawful;
@@ -229,7 +229,7 @@ module _ (net : Net) (fates : List Fate) where
           | inr own ↦ (own.same link).0 uses
         ]
 
-    keeps_now : Keeps fates a.run
+    pub keeps_now : Keeps fates a.run
     keeps_now = record {
       within = λ train link uses. subst (λ fate. Allows fate train) (sym (uses_own train link uses)) refl;
       all_own = λ train link owned. ((a.each train (inside link train owned)).same link).1 owned;

@@ -11,8 +11,8 @@ use crate::trips::{Journey, follow, is_route};
 use rr_routes::{CentreLimit, Node};
 use std::alloc::{AllocError, Global};
 
-// The trip over just these links: a route, or no links where there are none. None where there is no such route.
-pub(crate) fn journey_over(
+/// The trip over just these links: a route, or no links where there are none. None where there is no such route.
+pub fn journey_over(
     alloc: Global,
     net: &Net,
     limit: &CentreLimit,
@@ -83,7 +83,8 @@ fn is_missing(one: &[usize], other: &[usize]) -> bool
     one.iter().any(|x| !is_among(other, *x))
 }
 
-fn centre_at(net: &Net, link: usize) -> Option<usize>
+/// The centre at the end of the link that isn't its hexside; none where that is a hexside too, or there is no such link.
+pub fn centre_at(net: &Net, link: usize) -> Option<usize>
     ensures { result ≡ centre_at (slice_get net.now.links link) }
 {
     match net.links().get(link) {

@@ -1,4 +1,5 @@
-//! Judges certificates: whether a tree of cases shows that no run of a net earns more than is claimed.
+//! Judges certificates: whether a tree of cases shows that no run of a net earns more than is claimed. What it tells of the
+//! parts of a route serves the judge of sheets too.
 #![tactic(auto)]
 
 mod centres;
@@ -13,6 +14,13 @@ mod step;
 mod tests;
 mod trips;
 
+pub use centres::value;
+pub use journeys::{centre_at, journey_over};
 pub use judge::check;
+pub use own::{is_shared, others_links, own_links};
 pub use railway::Net;
 pub use rr_routes::{CentreLimit, CertTree, Fate, Link, Node};
+pub use trips::{
+    Journey, centres_of, counts_over, ends_at_centres, far_end, has_node, has_token_on, is_clear,
+    is_simple, is_walk,
+};

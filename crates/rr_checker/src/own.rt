@@ -47,12 +47,8 @@ fn runs_badly(
         || is_shared(net, own, others)
 }
 
-// the links of the train
-pub(crate) fn own_links(
-    alloc: Global,
-    fates: &[Fate],
-    train: usize,
-) -> Result<Vec<usize>, AllocError>
+/// The links that are the train's own, in order.
+pub fn own_links(alloc: Global, fates: &[Fate], train: usize) -> Result<Vec<usize>, AllocError>
     ensures { IfOk result (λ own. AreLinksWith (is_of train) fates.now own.items) }
 {
     let mut own = Vec::new(alloc);
@@ -74,12 +70,8 @@ fn is_of(train: usize, fate: &Fate) -> bool
     }
 }
 
-// the links of the other trains
-pub(crate) fn others_links(
-    alloc: Global,
-    fates: &[Fate],
-    train: usize,
-) -> Result<Vec<usize>, AllocError>
+/// The links that are another train's own, in order.
+pub fn others_links(alloc: Global, fates: &[Fate], train: usize) -> Result<Vec<usize>, AllocError>
     ensures { IfOk result (λ others. AreLinksWith (is_others train) fates.now others.items) }
 {
     let mut others = Vec::new(alloc);
@@ -214,8 +206,8 @@ fn goes_over(ends: &[Step], link: usize) -> bool
     ends.iter().any(|step| step.link == link)
 }
 
-// whether links of the two lists touch one hexside
-pub(crate) fn is_shared(net: &Net, own: &[usize], others: &[usize]) -> bool
+/// Whether links of the two lists touch one hexside.
+pub fn is_shared(net: &Net, own: &[usize], others: &[usize]) -> bool
     ensures { result ≡ is_shared net.now own.now others.now }
 {
     own.iter().any(|place| shares_side(net, others, *place))

@@ -1,5 +1,8 @@
 //! The small board: a city with the corporation's token, a track, a town, a city and an off-board area in a row.
-use crate::{CentreLimit, CertTree, Link, Net, Node, check};
+use crate::{
+    CentreLimit, CertTree, Link, Net, Node, centre_at, centres_of, check, counts_over,
+    ends_at_centres, far_end, has_node, has_token_on, is_clear, is_simple, is_walk, value,
+};
 use std::alloc::Global;
 use std::test::Fail;
 
@@ -98,5 +101,35 @@ fn judges_a_deep_tree(rt: HostRuntime) -> Result<(), Fail> {
         tree = split(rt.alloc(), 0, CertTree::Bound, tree)?;
     }
     assert!(rt; !check(rt.alloc(), &net, 30, &tree)?);
+    Ok(())
+}
+
+#[test]
+fn tells_the_parts_of_a_route(rt: HostRuntime) -> Result<(), Fail> {
+    let net = small_board(rt.alloc(), CentreLimit::AtMost(2))?;
+    let nodes = [
+        Node::Centre(0),
+        Node::Hexside(0),
+        Node::Hexside(1),
+        Node::Centre(1),
+    ];
+    assert!(rt; is_walk(&net, &[0, 1, 2], &nodes));
+    assert!(rt; is_simple(&nodes));
+    assert!(rt; ends_at_centres(&nodes));
+    assert!(rt; is_clear(&net, &nodes));
+    assert!(rt; has_token_on(&net, &nodes));
+    assert!(rt; has_node(&nodes, &Node::Hexside(1)));
+    let counted = centres_of(rt.alloc(), &nodes)?;
+    assert_eq!(rt; counted.as_slice(), [0, 1].as_slice());
+    assert!(rt; !counts_over(&CentreLimit::AtMost(2), &counted));
+    Ok(())
+}
+
+#[test]
+fn tells_of_links_and_centres(rt: HostRuntime) -> Result<(), Fail> {
+    let net = small_board(rt.alloc(), CentreLimit::AtMost(2))?;
+    assert!(rt; far_end(&net, 1, &Node::Hexside(0)) == Node::Hexside(1));
+    assert!(rt; centre_at(&net, 2) == Some(1));
+    assert_eq!(rt; value(&net, 3), 40);
     Ok(())
 }

@@ -15,11 +15,11 @@ use crate::step::{has_token, is_among, is_terminal, same_node};
 use rr_routes::{CentreLimit, Link, Node};
 use std::alloc::{AllocError, Global};
 
-// the links of a train in order, and the nodes along them
+/// The links of a train in order, and the nodes along them.
 #[derive(Debug, Drop)]
-pub(crate) struct Journey {
-    pub(crate) links: Vec<usize>,
-    pub(crate) nodes: Vec<Node>,
+pub struct Journey {
+    pub links: Vec<usize>,
+    pub nodes: Vec<Node>,
 }
 
 // The only way over all the links that begins at the centre, if there is one.
@@ -67,7 +67,9 @@ fn is_next(net: &Net, taken: &[usize], at: &Node, link: usize) -> bool
     touches(net, link, at) && !is_among(taken, link)
 }
 
-fn far_end(net: &Net, link: usize, at: &Node) -> Node
+/// The node at the other end of the link, for one who comes from the given node; that node where the net has no such link.
+/// From a node that the link doesn't touch it gives its hexside.
+pub fn far_end(net: &Net, link: usize, at: &Node) -> Node
     ensures { result ≡ far_end (slice_get net.now.links link) at.now }
 {
     match net.links().get(link) {
@@ -102,13 +104,15 @@ pub(crate) fn is_route(
     Ok(is_way(net, links, nodes))
 }
 
-fn counts_over(limit: &CentreLimit, counted: &[usize]) -> bool
+/// Whether these are more centres than a train of the limit counts.
+pub fn counts_over(limit: &CentreLimit, counted: &[usize]) -> bool
     ensures { result ≡ is_over limit.now (length counted.now) }
 {
     is_over(limit, counted.len())
 }
 
-pub(crate) fn centres_of(alloc: Global, nodes: &[Node]) -> Result<Vec<usize>, AllocError>
+/// The centres among the nodes, in order.
+pub fn centres_of(alloc: Global, nodes: &[Node]) -> Result<Vec<usize>, AllocError>
     ensures { IfOk result (λ counted. counted.items ≡ centres nodes.now) }
 {
     let mut counted = Vec::new(alloc);
@@ -149,14 +153,16 @@ fn is_way(net: &Net, links: &[usize], nodes: &[Node]) -> bool
     has_token_on(net, nodes)
 }
 
-fn has_token_on(net: &Net, nodes: &[Node]) -> bool
+/// Whether the corporation has a token at one of the nodes.
+pub fn has_token_on(net: &Net, nodes: &[Node]) -> bool
     ensures { result ≡ list_any (λ node. has_token net.now node) nodes.now }
 {
     nodes.iter().any(|node| has_token(net, node))
 }
 
-// whether the links, one after the other, are a walk along the nodes
-fn is_walk(net: &Net, links: &[usize], nodes: &[Node]) -> bool
+/// Whether the links, one after the other, are a walk along the nodes: each joins two of them, none is followed by itself,
+/// and at a hexside the walk passes from one hex into the other. A walk has a link.
+pub fn is_walk(net: &Net, links: &[usize], nodes: &[Node]) -> bool
     ensures { Decides result (Walk net.now links.now nodes.now) }
 {
     if links.is_empty() {
@@ -237,8 +243,8 @@ fn differs_from(net: &Net, first: &Link, other: usize) -> bool
     }
 }
 
-// whether no node stands twice
-fn is_simple(nodes: &[Node]) -> bool
+/// Whether no node stands twice.
+pub fn is_simple(nodes: &[Node]) -> bool
     ensures { Decides result (NoneTwice nodes.now) }
 {
     for place in 0..nodes.len() {
@@ -249,13 +255,15 @@ fn is_simple(nodes: &[Node]) -> bool
     true
 }
 
-fn has_node(nodes: &[Node], node: &Node) -> bool
+/// Whether the node stands among the nodes.
+pub fn has_node(nodes: &[Node], node: &Node) -> bool
     ensures { result ≡ list_any (λ other. same_node other node.now) nodes.now }
 {
     nodes.iter().any(|other| same_node(other, node))
 }
 
-fn ends_at_centres(nodes: &[Node]) -> bool
+/// Whether the first and the last of the nodes are centres; not so where there are none.
+pub fn ends_at_centres(nodes: &[Node]) -> bool
     ensures { Decides result (EndsAreCentres nodes.now) }
 {
     if nodes.is_empty() {
@@ -279,8 +287,8 @@ fn is_centre(node: &Node) -> bool
     }
 }
 
-// whether no node inside is terminal
-fn is_clear(net: &Net, nodes: &[Node]) -> bool
+/// Whether none of the nodes but the first and the last is terminal.
+pub fn is_clear(net: &Net, nodes: &[Node]) -> bool
     ensures { Decides result (NoTerminalInside net.now nodes.now) }
 {
     for place in 0..nodes.len() {

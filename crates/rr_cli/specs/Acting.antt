@@ -3,7 +3,7 @@ use Rattle.std.specs.Prelude.{◌≡◌, ◌⊎◌, ◌<◌, false, ℕ, List, �
 use Rattle.std.specs.Io.KnownBytes.{Appends}
 use Rattle.rr_disk.specs.Disk.{DiskState, after_sync}
 use Rattle.rr_disk.specs.Moments.{EachImage}
-use Rattle.rr_keeper.specs.File.{IsNewStore, Kit}
+use Rattle.rr_keeper.specs.File.{IsNewStore, Kit as Texts}
 use Rattle.rr_keeper.specs.Opening.{SyncsOnce}
 use Rattle.rr_serve.specs.declared.faults.Fault as serve
 use Rattle.rr_serve.specs.Serving.{Session}
@@ -12,7 +12,8 @@ use Rattle.rr_moderator.specs.declared.fault.Fault.TheVariants.{DeviceFailed, No
 use Rattle.rr_moderator.specs.declared.moderator.Moderator.{Moderator}
 use Rattle.rr_moderator.specs.Fault.{number_of, refusal_of}
 use Rattle.rr_moderator.specs.Holding.{disk_under, held_of, keeper_of, told_of}
-use Rattle.rr_moderator.specs.Kits.{IsRightKit, RefusesFormat}
+use Rattle.rr_game.specs.Kits.{IsRightKit}
+use Rattle.rr_moderator.specs.Formatting.{RefusesFormat, kit_texts}
 use Rattle.rr_moderator.specs.Replaying.{CountsFailure, Opens, RefusesOpening, Replayed}
 use Rattle.rr_moderator.specs.Durability.{SpeaksAndLasts, Stands, told}
 use Rattle.rr_moderator.specs.Serving.{EndsAs}
@@ -37,16 +38,16 @@ abbrev pub IsRefusedOr70 : Fault → Option (List ℕ) → Option (List ℕ) →
 IsRefusedOr70 fault contents held ending = IsRefused fault contents held ending ⊎ IsRefused OutOfMemory contents held ending
 
 -- What a `format` over these texts does to a disk and a writer, and the status with which it ends.
-pub data Formats {D : Type 0} (Honest : D → Type 0) (state : D → DiskState) (faults : D → ℕ) (kit : Kit) (old new : D)
+pub data Formats {D : Type 0} (Honest : D → Type 0) (state : D → DiskState) (faults : D → ℕ) (texts : Texts) (old new : D)
     (contents held : Option (List ℕ)) : ℕ → Type 0 where
-  Made : (ending : Ending) → IsRightKit kit → (Honest new → 0 < length (state old).content → ⊥)
-      → (Honest new → IsNewStore (state new).content kit) → (Honest new → EachImage (state new) (λ image. IsNewStore image kit))
+  Made : (ending : Ending) → IsRightKit (kit_texts texts) → (Honest new → 0 < length (state old).content → ⊥)
+      → (Honest new → IsNewStore (state new).content texts) → (Honest new → EachImage (state new) (λ image. IsNewStore image texts))
       → (Honest new → Honest old) → faults new ≡ faults old
-      → IsAcknowledged contents held ending → Formats Honest state faults kit old new contents held (status_of ending)
-  Not_made : (fault : Fault) (ending : Ending) → RefusesFormat (Honest new) (state old).content kit fault
+      → IsAcknowledged contents held ending → Formats Honest state faults texts old new contents held (status_of ending)
+  Not_made : (fault : Fault) (ending : Ending) → RefusesFormat (Honest new) (state old).content texts fault
       → (Honest new → 0 < length (state old).content → fault ≡ NotEmpty) → (fault ≡ DeviceFailed) ⊎ (new ≡ old)
       → (Honest new → Honest old) → CountsFailure (faults old) (faults new) fault
-      → IsRefusedOr70 fault contents held ending → Formats Honest state faults kit old new contents held (status_of ending)
+      → IsRefusedOr70 fault contents held ending → Formats Honest state faults texts old new contents held (status_of ending)
 
 -- how a run ends whose serving ended so
 abbrev pub ending_of : Result (Unit {0}) Fault → Ending
@@ -60,8 +61,8 @@ pub record Begins {D : Type 0} (Honest : D → Type 0) (state : D → DiskState)
   pub opens : Honest (disk_under begun) → Opens (state old).content (held_of begun)
   pub synced : Honest (disk_under begun)
       → (state (disk_under begun) ≡ after_sync (state old)) × (past (disk_under begun) ≡ state old ∷ past old)
-  pub stands : Honest (disk_under begun) → (kit : Kit) × Stands (keeper_of begun) (state (disk_under begun)) kit (held_of begun)
-  pub lawful : (kit : Kit) × (records : List (List ℕ)) × Replayed kit records (held_of begun).roster (held_of begun).tables
+  pub stands : Honest (disk_under begun) → (texts : Texts) × Stands (keeper_of begun) (state (disk_under begun)) texts (held_of begun)
+  pub lawful : (texts : Texts) × (records : List (List ℕ)) × Replayed texts records (held_of begun).kit (held_of begun).tables
   pub whole : (held_of begun).broken ≡ false
 
 -- What `serve` does with a disk, a reader and a writer, and the status with which it ends: the file is opened, each line is
@@ -72,7 +73,7 @@ pub data Serves {D : Type 0} (Honest : D → Type 0) (state : D → DiskState) (
   Served : (begun ended : Moderator D) (result : Result (Unit {0}) Fault) (cause : Result (Unit {0}) serve.Fault)
       → Begins Honest state past old begun
       → EndsAs result cause
-      → Session (SpeaksAndLasts Honest state past) told (told_of begun) (told_of ended) remaining left contents held cause
+      → Session (SpeaksAndLasts Honest state past faults) told (told_of begun) (told_of ended) remaining left contents held cause
       → new ≡ disk_under ended
       → Serves Honest state past faults old new remaining left contents held (status_of (ending_of result))
   Not_served : (fault : Fault) (ending : Ending) → RefusesOpening (Honest new) (state old).content fault
@@ -82,9 +83,9 @@ pub data Serves {D : Type 0} (Honest : D → Type 0) (state : D → DiskState) (
       → Serves Honest state past faults old new remaining left contents held (status_of ending)
 
 -- what a plan does
-abbrev pub Acts : {D : Type 0} → (D → Type 0) → (D → DiskState) → (D → List DiskState) → (D → ℕ) → Plan → Kit → D → D
+abbrev pub Acts : {D : Type 0} → (D → Type 0) → (D → DiskState) → (D → List DiskState) → (D → ℕ) → Plan → Texts → D → D
     → Option (List ℕ) → Option (List ℕ) → Option (List ℕ) → Option (List ℕ) → ℕ → Type 0
-Acts Honest state past faults (Format file chart roster tiles board) kit old new remaining left contents held status =
-    (left ≡ remaining) × Formats Honest state faults kit old new contents held status
-Acts Honest state past faults (Serve file) kit old new remaining left contents held status =
+Acts Honest state past faults (Format file chart roster tiles board) texts old new remaining left contents held status =
+    (left ≡ remaining) × Formats Honest state faults texts old new contents held status
+Acts Honest state past faults (Serve file) texts old new remaining left contents held status =
     Serves Honest state past faults old new remaining left contents held status

@@ -10,14 +10,16 @@ use Rattle.rr_roster.specs.declared.company.Private.{Private}
 use Rattle.rr_roster.specs.declared.company.Private.TheVariants as P
 use Rattle.rr_roster.specs.Company.{corp_name, private_name}
 use Rattle.rr_code.specs.Company.{corp_of, private_of}
-use Rattle.rr_code.specs.Command.{IsCommand, spelling}
-use Rattle.rr_code.specs.Reading.{read_words, read_record_words}
+use Rattle.rr_code.specs.Command.{IsCommand, source_word, spelling}
+use Rattle.rr_code.specs.Reading.{source_of, read_words, read_record_words}
 use Rattle.rr_code.specs.Query.{IsQuery, IsAccount, IsOwner, account_word, account_of, owner_word, owner_of, query_words, read_query_words}
 use Rattle.rr_code.specs.Line.{IsLine, line_words, read_line_words}
 use Rattle.rr_code.specs.declared.command.Command.{Command}
-use Rattle.rr_code.specs.declared.command.Command.TheVariants.{Open, BuyPrivate, Bid, Pass, Par}
+use Rattle.rr_code.specs.declared.command.Command.TheVariants.{Open, BuyPrivate, Bid, Pass, Par, BuyShare, Sell, Swap, Done}
+use Rattle.rr_code.specs.declared.stock.ShareSource.{ShareSource}
+use Rattle.rr_code.specs.declared.stock.ShareSource.TheVariants as S
 use Rattle.rr_code.specs.declared.query.Query.{Query}
-use Rattle.rr_code.specs.declared.query.Query.TheVariants.{Tables, Stamp, Turns, Due, Cash, Limit, Asked, Privates}
+use Rattle.rr_code.specs.declared.query.Query.TheVariants.{Tables, Stamp, Turns, Due, Cash, Limit, Asked, Privates, Holds, Price, Order}
 use Rattle.rr_code.specs.declared.query.Account.{Account}
 use Rattle.rr_code.specs.declared.query.Account.TheVariants as A
 use Rattle.rr_code.specs.declared.query.Owner.{Owner}
@@ -46,12 +48,20 @@ corp_of-name C.Erie = refl
 corp_of-name C.Nynh = refl
 corp_of-name C.Bm = refl
 
+source_of-word : (source : ShareSource) → source_of (source_word source) ≡ Some source
+source_of-word S.Offer = refl
+source_of-word S.Pool = refl
+
 pub read-command : (c : Command) → IsCommand c → read_words (spelling c) ≡ Some c
 read-command (Open players) h = rw h refl
 read-command (BuyPrivate player) h = rw h refl
 read-command (Bid player private amount) h = rw (h.0, private_of-name private, read-number amount h.1) refl
 read-command (Pass player) h = rw h refl
 read-command (Par player corp price) h = rw (h.0, corp_of-name corp, read-number price h.1) refl
+read-command (BuyShare player corp source) h = rw (h, corp_of-name corp, source_of-word source) refl
+read-command (Sell player corp count) h = rw (h.0, corp_of-name corp, read-number count h.1) refl
+read-command (Swap player source) h = rw (h, source_of-word source) refl
+read-command (Done player) h = rw h refl
 
 pub read-record : (table : List ℕ) (c : Command) → IsTableName table → IsCommand c → read_record_words (table ∷ spelling c) ≡ Some (table, c)
 read-record table c name command = rw (name, read-command c command) refl
@@ -88,6 +98,9 @@ read-query (Cash table of) h = rw (h.0, read-account of h.1) refl
 read-query (Limit table) h = rw h refl
 read-query (Asked table) h = rw h refl
 read-query (Privates table of) h = rw (h.0, read-owner of h.1) refl
+read-query (Holds table player corp) h = rw (h.0, h.1, corp_of-name corp) refl
+read-query (Price table corp) h = rw (h, corp_of-name corp) refl
+read-query (Order table) h = rw h refl
 
 -- a line of a query doesn't begin with a number
 read-line-query : (query : Query) → IsQuery query → read_line_words (query_words query) ≡ Some (L.Query query)
@@ -99,6 +112,9 @@ read-line-query (Cash table of) h = rw (h.0, read-account of h.1) refl
 read-line-query (Limit table) h = rw h refl
 read-line-query (Asked table) h = rw h refl
 read-line-query (Privates table of) h = rw (h.0, read-owner of h.1) refl
+read-line-query (Holds table player corp) h = rw (h.0, h.1, corp_of-name corp) refl
+read-line-query (Price table corp) h = rw (h, corp_of-name corp) refl
+read-line-query (Order table) h = rw h refl
 
 pub read-line : (line : Line) → IsLine line → read_line_words (line_words line) ≡ Some line
 read-line (L.Command stamp table command) h =

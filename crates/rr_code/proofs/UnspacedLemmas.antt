@@ -14,13 +14,15 @@ use Rattle.rr_roster.specs.declared.company.Private.{Private}
 use Rattle.rr_roster.specs.declared.company.Private.TheVariants as P
 use Rattle.rr_roster.specs.Company.{corp_name, private_name}
 use Rattle.rr_code.specs.Players.{ArePlayers}
-use Rattle.rr_code.specs.Command.{IsCommand, spelling}
+use Rattle.rr_code.specs.Command.{IsCommand, source_word, spelling}
 use Rattle.rr_code.specs.Query.{IsQuery, IsAccount, IsOwner, account_word, owner_word, query_words}
 use Rattle.rr_code.specs.Line.{IsLine, line_words}
 use Rattle.rr_code.specs.declared.command.Command.{Command}
-use Rattle.rr_code.specs.declared.command.Command.TheVariants.{Open, BuyPrivate, Bid, Pass, Par}
+use Rattle.rr_code.specs.declared.command.Command.TheVariants.{Open, BuyPrivate, Bid, Pass, Par, BuyShare, Sell, Swap, Done}
+use Rattle.rr_code.specs.declared.stock.ShareSource.{ShareSource}
+use Rattle.rr_code.specs.declared.stock.ShareSource.TheVariants as S
 use Rattle.rr_code.specs.declared.query.Query.{Query}
-use Rattle.rr_code.specs.declared.query.Query.TheVariants.{Tables, Stamp, Turns, Due, Cash, Limit, Asked, Privates}
+use Rattle.rr_code.specs.declared.query.Query.TheVariants.{Tables, Stamp, Turns, Due, Cash, Limit, Asked, Privates, Holds, Price, Order}
 use Rattle.rr_code.specs.declared.query.Account.{Account}
 use Rattle.rr_code.specs.declared.query.Account.TheVariants as A
 use Rattle.rr_code.specs.declared.query.Owner.{Owner}
@@ -82,12 +84,20 @@ decimal-unspaced n h =
     let wide : n < 2 ^ 64 = omega (arith, h) in
     list_all-weaker is_ascii_digit (λ c. not (is_space c)) digit-unspaced (decimal n) (digits_decimal digits_model n wide)
 
+source-unspaced : (source : ShareSource) → is_unspaced (source_word source) ≡ true
+source-unspaced S.Offer = refl
+source-unspaced S.Pool = refl
+
 pub spelling-unspaced : (c : Command) → IsCommand c → are_unspaced (spelling c) ≡ true
 spelling-unspaced (Open players) h = players-unspaced players h
 spelling-unspaced (BuyPrivate player) h = rw (player-unspaced player h) refl
 spelling-unspaced (Bid player private amount) h = rw (player-unspaced player h.0, private-unspaced private, decimal-unspaced amount h.1) refl
 spelling-unspaced (Pass player) h = rw (player-unspaced player h) refl
 spelling-unspaced (Par player corp price) h = rw (player-unspaced player h.0, corp-unspaced corp, decimal-unspaced price h.1) refl
+spelling-unspaced (BuyShare player corp source) h = rw (player-unspaced player h, corp-unspaced corp, source-unspaced source) refl
+spelling-unspaced (Sell player corp count) h = rw (player-unspaced player h.0, corp-unspaced corp, decimal-unspaced count h.1) refl
+spelling-unspaced (Swap player source) h = rw (player-unspaced player h, source-unspaced source) refl
+spelling-unspaced (Done player) h = rw (player-unspaced player h) refl
 
 pub spelling-some : (c : Command) → 1 ≤ length (spelling c)
 spelling-some (Open players) = omega arith
@@ -95,6 +105,10 @@ spelling-some (BuyPrivate player) = lit≤ tt
 spelling-some (Bid player private amount) = lit≤ tt
 spelling-some (Pass player) = lit≤ tt
 spelling-some (Par player corp price) = lit≤ tt
+spelling-some (BuyShare player corp source) = lit≤ tt
+spelling-some (Sell player corp count) = lit≤ tt
+spelling-some (Swap player source) = lit≤ tt
+spelling-some (Done player) = lit≤ tt
 
 account-unspaced : (account : Account) → IsAccount account → is_unspaced (account_word account) ≡ true
 account-unspaced A.Bank h = refl
@@ -114,6 +128,9 @@ query-unspaced (Cash table of) h = rw (table-unspaced table h.0, account-unspace
 query-unspaced (Limit table) h = rw (table-unspaced table h) refl
 query-unspaced (Asked table) h = rw (table-unspaced table h) refl
 query-unspaced (Privates table of) h = rw (table-unspaced table h.0, owner-unspaced of h.1) refl
+query-unspaced (Holds table player corp) h = rw (table-unspaced table h.0, player-unspaced player h.1, corp-unspaced corp) refl
+query-unspaced (Price table corp) h = rw (table-unspaced table h, corp-unspaced corp) refl
+query-unspaced (Order table) h = rw (table-unspaced table h) refl
 
 pub line-unspaced : (line : Line) → IsLine line → are_unspaced (line_words line) ≡ true
 line-unspaced (L.Command stamp table command) h =
@@ -129,6 +146,9 @@ query-some (Cash table of) = lit≤ tt
 query-some (Limit table) = lit≤ tt
 query-some (Asked table) = lit≤ tt
 query-some (Privates table of) = lit≤ tt
+query-some (Holds table player corp) = lit≤ tt
+query-some (Price table corp) = lit≤ tt
+query-some (Order table) = lit≤ tt
 
 pub line-some : (line : Line) → 1 ≤ length (line_words line)
 line-some (L.Command stamp table command) = omega arith

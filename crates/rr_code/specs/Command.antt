@@ -5,9 +5,16 @@ use Rattle.rr_words.specs.Line.{line_of}
 use Rattle.rr_roster.specs.Company.{corp_name, private_name}
 use Rattle.rr_code.specs.Players.{ArePlayers}
 use Rattle.rr_code.specs.declared.command.Command.{Command}
-use Rattle.rr_code.specs.declared.command.Command.TheVariants.{Open, BuyPrivate, Bid, Pass, Par}
+use Rattle.rr_code.specs.declared.command.Command.TheVariants.{Open, BuyPrivate, Bid, Pass, Par, BuyShare, Sell, Swap, Done}
+use Rattle.rr_code.specs.declared.stock.ShareSource.{ShareSource}
+use Rattle.rr_code.specs.declared.stock.ShareSource.TheVariants.{Offer, Pool}
 use Rattle.rr_code.specs.declared.fault.Fault.{Fault}
 use Rattle.rr_code.specs.declared.fault.Fault.TheVariants.{Malformed}
+
+-- the word of the place where a share is bought
+abbrev pub source_word : ShareSource → List ℕ
+source_word Offer = codes "offer"
+source_word Pool = codes "pool"
 
 -- the words of a command
 abbrev pub spelling : Command → List (List ℕ)
@@ -16,6 +23,10 @@ spelling (BuyPrivate player) = codes "buy" ∷ player ∷ []
 spelling (Bid player private amount) = codes "bid" ∷ player ∷ private_name private ∷ decimal amount ∷ []
 spelling (Pass player) = codes "pass" ∷ player ∷ []
 spelling (Par player corp price) = codes "par" ∷ player ∷ corp_name corp ∷ decimal price ∷ []
+spelling (BuyShare player corp source) = codes "buy" ∷ player ∷ corp_name corp ∷ source_word source ∷ []
+spelling (Sell player corp count) = codes "sell" ∷ player ∷ corp_name corp ∷ decimal count ∷ []
+spelling (Swap player source) = codes "swap" ∷ player ∷ source_word source ∷ []
+spelling (Done player) = codes "done" ∷ player ∷ []
 
 -- its parts are what they stand for
 abbrev pub IsCommand : Command → Type 0
@@ -24,6 +35,10 @@ IsCommand (BuyPrivate player) = IsPlayerName player
 IsCommand (Bid player private amount) = IsPlayerName player × (amount < 10 ^ 10)
 IsCommand (Pass player) = IsPlayerName player
 IsCommand (Par player corp price) = IsPlayerName player × (price < 10 ^ 10)
+IsCommand (BuyShare player corp source) = IsPlayerName player
+IsCommand (Sell player corp count) = IsPlayerName player × (count < 10 ^ 10)
+IsCommand (Swap player source) = IsPlayerName player
+IsCommand (Done player) = IsPlayerName player
 
 -- the text of a command: its words with one space between each two
 abbrev pub text : Command → List ℕ

@@ -4,13 +4,16 @@ use Rattle.std.specs.List.{list_all, list_any}
 use Rattle.std.proofs.Common.{zero, suc, refl, arith, take-append-drop, length-take-le}
 use Rattle.rr_words.specs.Name.{is_player_name}
 
+-- the name is one of the others
 abbrev pub is_among : List ℕ → List (List ℕ) → Bool
 is_among name others = list_any (λ other. bytes_eq other name) others
 
+-- no two names are equal
 abbrev pub all_different : List (List ℕ) → Bool
 all_different [] = true
 all_different (name ∷ others) = not (is_among name others) && all_different others
 
+-- two to six different names of players
 abbrev pub are_players : List (List ℕ) → Bool
 are_players names = (nat_le 2 (length names) && nat_le (length names) 6) && (list_all is_player_name names && all_different names)
 

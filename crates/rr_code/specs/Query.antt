@@ -1,10 +1,10 @@
 -- The queries, and the one text of each.
 use Rattle.std.specs.Prelude.{ℕ, List, [], ◌∷◌, Option, Some, None, option_map, option_and_then, bytes_eq, codes, if◌then◌else◌}
-use Rattle.rr_words.specs.Name.{is_player_name, table_name_of, IsTableName, IsPlayerName}
+use Rattle.rr_words.specs.Name.{is_player_name, player_name_of, table_name_of, IsTableName, IsPlayerName}
 use Rattle.rr_roster.specs.Company.{corp_name}
 use Rattle.rr_code.specs.Company.{corp_of}
 use Rattle.rr_code.specs.declared.query.Query.{Query}
-use Rattle.rr_code.specs.declared.query.Query.TheVariants.{Tables, Stamp, Turns, Due, Cash, Limit, Asked, Privates}
+use Rattle.rr_code.specs.declared.query.Query.TheVariants.{Tables, Stamp, Turns, Due, Cash, Limit, Asked, Privates, Holds, Price, Order}
 use Rattle.rr_code.specs.declared.query.Account.{Account}
 use Rattle.rr_code.specs.declared.query.Account.TheVariants as A
 use Rattle.rr_code.specs.declared.query.Owner.{Owner}
@@ -16,6 +16,7 @@ account_word A.Bank = codes "bank"
 account_word (A.Corp corp) = corp_name corp
 account_word (A.Player name) = name
 
+-- a player's account has a player's name
 abbrev pub IsAccount : Account → Type 0
 IsAccount A.Bank = Unit {0}
 IsAccount (A.Corp corp) = Unit {0}
@@ -26,6 +27,7 @@ abbrev pub owner_word : Owner → List ℕ
 owner_word (O.Corp corp) = corp_name corp
 owner_word (O.Player name) = name
 
+-- an owner that is a player has a player's name
 abbrev pub IsOwner : Owner → Type 0
 IsOwner (O.Corp corp) = Unit {0}
 IsOwner (O.Player name) = IsPlayerName name
@@ -40,6 +42,9 @@ query_words (Cash table of) = codes "cash" ∷ table ∷ account_word of ∷ []
 query_words (Limit table) = codes "limit" ∷ table ∷ []
 query_words (Asked table) = codes "asked" ∷ table ∷ []
 query_words (Privates table of) = codes "privates" ∷ table ∷ owner_word of ∷ []
+query_words (Holds table player corp) = codes "holds" ∷ table ∷ player ∷ corp_name corp ∷ []
+query_words (Price table corp) = codes "price" ∷ table ∷ corp_name corp ∷ []
+query_words (Order table) = codes "order" ∷ table ∷ []
 
 -- its parts are what they stand for
 abbrev pub IsQuery : Query → Type 0
@@ -51,17 +56,22 @@ IsQuery (Cash table of) = IsTableName table × IsAccount of
 IsQuery (Limit table) = IsTableName table
 IsQuery (Asked table) = IsTableName table
 IsQuery (Privates table of) = IsTableName table × IsOwner of
+IsQuery (Holds table player corp) = IsTableName table × IsPlayerName player
+IsQuery (Price table corp) = IsTableName table
+IsQuery (Order table) = IsTableName table
 
--- what words are read as, form by form
+-- the account that a word names
 abbrev pub account_of : List ℕ → Option Account
 account_of word =
     if is_player_name word then Some (A.Player word) else
     if bytes_eq word (codes "bank") then Some A.Bank else
     option_map A.Corp (corp_of word)
 
+-- the owner that a word names
 abbrev pub owner_of : List ℕ → Option Owner
 owner_of word = if is_player_name word then Some (O.Player word) else option_map O.Corp (corp_of word)
 
+-- what the words behind a query's first word are read as, form by form
 abbrev pub read_tables : List (List ℕ) → Option Query
 read_tables [] = Some Tables
 read_tables _ = None
@@ -94,6 +104,20 @@ abbrev pub read_privates : List (List ℕ) → Option Query
 read_privates (table ∷ of ∷ []) = option_and_then (λ t. option_map (Privates t) (owner_of of)) (table_name_of table)
 read_privates _ = None
 
+abbrev pub read_holds : List (List ℕ) → Option Query
+read_holds (table ∷ player ∷ corp ∷ []) =
+    option_and_then (λ t. option_and_then (λ s. option_map (Holds t s) (corp_of corp)) (player_name_of player)) (table_name_of table)
+read_holds _ = None
+
+abbrev pub read_price : List (List ℕ) → Option Query
+read_price (table ∷ corp ∷ []) = option_and_then (λ t. option_map (Price t) (corp_of corp)) (table_name_of table)
+read_price _ = None
+
+abbrev pub read_order : List (List ℕ) → Option Query
+read_order (table ∷ []) = option_map Order (table_name_of table)
+read_order _ = None
+
+-- a query's words
 abbrev pub read_query_words : List (List ℕ) → Option Query
 read_query_words [] = None
 read_query_words (head ∷ rest) =
@@ -105,4 +129,7 @@ read_query_words (head ∷ rest) =
     if bytes_eq head (codes "limit") then read_limit rest else
     if bytes_eq head (codes "asked") then read_asked rest else
     if bytes_eq head (codes "privates") then read_privates rest else
+    if bytes_eq head (codes "holds") then read_holds rest else
+    if bytes_eq head (codes "price") then read_price rest else
+    if bytes_eq head (codes "order") then read_order rest else
     None

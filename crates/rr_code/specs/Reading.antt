@@ -4,29 +4,61 @@ use Rattle.rr_words.specs.Name.{player_name_of, table_name_of}
 use Rattle.rr_words.specs.Numeral.{number_of}
 use Rattle.rr_code.specs.Company.{corp_of, private_of}
 use Rattle.rr_code.specs.Players.{are_players}
+use Rattle.rr_code.specs.declared.stock.ShareSource.{ShareSource}
+use Rattle.rr_code.specs.declared.stock.ShareSource.TheVariants.{Offer, Pool}
 use Rattle.rr_code.specs.declared.command.Command.{Command}
-use Rattle.rr_code.specs.declared.command.Command.TheVariants.{Open, BuyPrivate, Bid, Pass, Par}
+use Rattle.rr_code.specs.declared.command.Command.TheVariants.{Open, BuyPrivate, Bid, Pass, Par, BuyShare, Sell, Swap, Done}
 
+-- the place that a word names
+abbrev pub source_of : List ℕ → Option ShareSource
+source_of word =
+    if bytes_eq word (codes "offer") then Some Offer else
+    if bytes_eq word (codes "pool") then Some Pool else
+    None
+
+-- behind `open`: the players
 abbrev pub read_open : List (List ℕ) → Option Command
 read_open names = if are_players names then Some (Open names) else None
 
+-- behind `buy`: a player alone, or a player, a corporation and a place
 abbrev pub read_buy : List (List ℕ) → Option Command
 read_buy (player ∷ []) = option_map BuyPrivate (player_name_of player)
+read_buy (player ∷ corp ∷ source ∷ []) =
+    option_and_then (λ s. option_and_then (λ c. option_map (BuyShare s c) (source_of source)) (corp_of corp)) (player_name_of player)
 read_buy _ = None
 
+-- behind `bid`: a player, a private and a number
 abbrev pub read_bid : List (List ℕ) → Option Command
 read_bid (player ∷ private ∷ amount ∷ []) =
     option_and_then (λ s. option_and_then (λ p. option_map (Bid s p) (number_of amount)) (private_of private)) (player_name_of player)
 read_bid _ = None
 
+-- behind `pass`: a player
 abbrev pub read_pass : List (List ℕ) → Option Command
 read_pass (player ∷ []) = option_map Pass (player_name_of player)
 read_pass _ = None
 
+-- behind `par`: a player, a corporation and a number
 abbrev pub read_par : List (List ℕ) → Option Command
 read_par (player ∷ corp ∷ price ∷ []) =
     option_and_then (λ s. option_and_then (λ c. option_map (Par s c) (number_of price)) (corp_of corp)) (player_name_of player)
 read_par _ = None
+
+-- behind `sell`: a player, a corporation and a number
+abbrev pub read_sell : List (List ℕ) → Option Command
+read_sell (player ∷ corp ∷ count ∷ []) =
+    option_and_then (λ s. option_and_then (λ c. option_map (Sell s c) (number_of count)) (corp_of corp)) (player_name_of player)
+read_sell _ = None
+
+-- behind `swap`: a player and a place
+abbrev pub read_swap : List (List ℕ) → Option Command
+read_swap (player ∷ source ∷ []) = option_and_then (λ s. option_map (Swap s) (source_of source)) (player_name_of player)
+read_swap _ = None
+
+-- behind `done`: a player
+abbrev pub read_done : List (List ℕ) → Option Command
+read_done (player ∷ []) = option_map Done (player_name_of player)
+read_done _ = None
 
 -- a command's words
 abbrev pub read_words : List (List ℕ) → Option Command
@@ -37,6 +69,9 @@ read_words (head ∷ rest) =
     if bytes_eq head (codes "bid") then read_bid rest else
     if bytes_eq head (codes "pass") then read_pass rest else
     if bytes_eq head (codes "par") then read_par rest else
+    if bytes_eq head (codes "sell") then read_sell rest else
+    if bytes_eq head (codes "swap") then read_swap rest else
+    if bytes_eq head (codes "done") then read_done rest else
     None
 
 -- a record's words

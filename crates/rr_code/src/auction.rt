@@ -1,7 +1,7 @@
 //! The commands of the auction: reading their words behind the first, and writing them.
 ghost use Rattle.std.specs.Prelude.{◌≡◌, ◌∷◌, ◌++◌, codes, IfSome, OnOk};
 ghost use Rattle.rr_code.specs.Command.{Continues, IsCommand, spelling, text};
-ghost use Rattle.rr_code.specs.Reading.{read_buy, read_bid, read_pass, read_par};
+ghost use Rattle.rr_code.specs.Reading.{read_bid, read_pass, read_par};
 
 use crate::command::Command;
 use crate::companies::{read_corp, read_private};
@@ -10,15 +10,6 @@ use crate::words::Words;
 use crate::writing::{write_number, write_word};
 use rr_roster::{Corp, Private};
 use rr_words::{Name, number};
-
-pub fn read_buy(words: &mut Words) -> Option<Command>
-    ensures exact { result ≡ read_buy words.old }
-    ensures found { IfSome result (λ c. IsCommand c × (codes "buy" ∷ words.old ≡ spelling c)) }
-{
-    let player = Name::player(words.next()?)?;
-    words.end()?;
-    Some(Command::BuyPrivate { player })
-}
 
 pub fn read_bid(words: &mut Words) -> Option<Command>
     ensures exact { result ≡ read_bid words.old }

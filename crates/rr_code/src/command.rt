@@ -6,6 +6,7 @@ ghost use Rattle.rr_words.specs.Name.{IsTableName};
 use crate::auction;
 use crate::fault::Fault;
 use crate::players::Players;
+use crate::stock::{self, ShareSource};
 use crate::words::Words;
 use crate::writing::write_word;
 use rr_roster::{Corp, Private};
@@ -39,6 +40,27 @@ pub enum Command {
         corp: Corp,
         price: u64,
     },
+    /// A player buys a 10% certificate.
+    BuyShare {
+        player: Name,
+        corp: Corp,
+        source: ShareSource,
+    },
+    /// A player sells this number of 10% shares.
+    Sell {
+        player: Name,
+        corp: Corp,
+        count: u64,
+    },
+    /// A player changes the M&H for a 10% certificate of the NYC.
+    Swap {
+        player: Name,
+        source: ShareSource,
+    },
+    /// A player ends its turn in a stock round.
+    Done {
+        player: Name,
+    },
 }
 
 impl Command {
@@ -66,7 +88,7 @@ impl Command {
             return read_open(words);
         }
         if head == b"buy".as_slice() {
-            return auction::read_buy(words);
+            return stock::read_buy(words);
         }
         if head == b"bid".as_slice() {
             return auction::read_bid(words);
@@ -77,10 +99,21 @@ impl Command {
         if head == b"par".as_slice() {
             return auction::read_par(words);
         }
+        if head == b"sell".as_slice() {
+            return stock::read_sell(words);
+        }
+        if head == b"swap".as_slice() {
+            return stock::read_swap(words);
+        }
+        if head == b"done".as_slice() {
+            return stock::read_done(words);
+        }
         None
     }
 
-    /// Appends the command's words, as `read` reads them.
+    /// Appends the command's words, as `read` reads them: what it gives back is this command, if
+    /// `read` can give it at all. It gives none with a number of more than ten digits or with a
+    /// player named `bank`, `offer` or `pool`.
     ///
     /// # Errors
     /// `OutOfMemory` where `out` can't grow; its bytes are then as they were.
@@ -115,6 +148,18 @@ impl Command {
                 corp,
                 price,
             } => auction::write_par(player, *corp, *price, out),
+            Command::BuyShare {
+                player,
+                corp,
+                source,
+            } => stock::write_buy(player, *corp, *source, out),
+            Command::Sell {
+                player,
+                corp,
+                count,
+            } => stock::write_sell(player, *corp, *count, out),
+            Command::Swap { player, source } => stock::write_swap(player, *source, out),
+            Command::Done { player } => stock::write_done(player, out),
         }
     }
 }

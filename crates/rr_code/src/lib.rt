@@ -9,6 +9,7 @@ pub mod laws;
 mod line;
 mod players;
 mod query;
+mod stock;
 mod words;
 mod writing;
 
@@ -17,6 +18,7 @@ pub use fault::Fault;
 pub use line::{Line, unstamped};
 pub use players::Players;
 pub use query::{Account, Owner, Query};
+pub use stock::ShareSource;
 
 #[cfg(test)]
 mod tests;

@@ -1,5 +1,5 @@
 ghost use Rattle.std.specs.Prelude.{◌≡◌, ◌∷◌, codes, IfSome};
-ghost use Rattle.rr_code.specs.Query.{IsQuery, IsAccount, IsOwner, query_words, account_word, owner_word, account_of, owner_of, read_query_words, read_tables, read_stamp, read_turns, read_due, read_cash, read_limit, read_asked, read_privates};
+ghost use Rattle.rr_code.specs.Query.{IsQuery, IsAccount, IsOwner, query_words, account_word, owner_word, account_of, owner_of, read_query_words, read_tables, read_stamp, read_turns, read_due, read_cash, read_limit, read_asked, read_privates, read_holds, read_price, read_order};
 
 use crate::companies::read_corp;
 use crate::words::Words;
@@ -12,19 +12,50 @@ pub enum Query {
     /// The names of all tables.
     Tables,
     /// The stamp of a table's last command.
-    Stamp { table: Name },
+    Stamp {
+        table: Name,
+    },
     /// How many turns of a table have ended, and the turn to which it can go back at most.
-    Turns { table: Name },
+    Turns {
+        table: Name,
+    },
     /// Who is due at a table, and the step that is.
-    Due { table: Name },
+    Due {
+        table: Name,
+    },
     /// What an account of a table has.
-    Cash { table: Name, of: Account },
+    Cash {
+        table: Name,
+        of: Account,
+    },
     /// The certificate limit of a table.
-    Limit { table: Name },
+    Limit {
+        table: Name,
+    },
     /// What the cheapest private costs that is unsold.
-    Asked { table: Name },
+    Asked {
+        table: Name,
+    },
     /// The privates that somebody at a table owns.
-    Privates { table: Name, of: Owner },
+    Privates {
+        table: Name,
+        of: Owner,
+    },
+    /// How much of a corporation a player holds.
+    Holds {
+        table: Name,
+        player: Name,
+        corp: Corp,
+    },
+    /// The price of a corporation's share, and its place on the chart.
+    Price {
+        table: Name,
+        corp: Corp,
+    },
+    /// The corporations in operating order.
+    Order {
+        table: Name,
+    },
 }
 
 /// Whose money it is.
@@ -106,6 +137,15 @@ impl Query {
         if head == b"privates".as_slice() {
             return read_privates(words);
         }
+        if head == b"holds".as_slice() {
+            return read_holds(words);
+        }
+        if head == b"price".as_slice() {
+            return read_price(words);
+        }
+        if head == b"order".as_slice() {
+            return read_order(words);
+        }
         None
     }
 }
@@ -181,4 +221,38 @@ fn read_privates(words: &mut Words) -> Option<Query>
     let of = Owner::read(words.next()?)?;
     words.end()?;
     Some(Query::Privates { table, of })
+}
+
+fn read_holds(words: &mut Words) -> Option<Query>
+    ensures exact { result ≡ read_holds words.old }
+    ensures found { IfSome result (λ query. IsQuery query × (codes "holds" ∷ words.old ≡ query_words query)) }
+{
+    let table = Name::table(words.next()?)?;
+    let player = Name::player(words.next()?)?;
+    let corp = read_corp(words.next()?)?;
+    words.end()?;
+    Some(Query::Holds {
+        table,
+        player,
+        corp,
+    })
+}
+
+fn read_price(words: &mut Words) -> Option<Query>
+    ensures exact { result ≡ read_price words.old }
+    ensures found { IfSome result (λ query. IsQuery query × (codes "price" ∷ words.old ≡ query_words query)) }
+{
+    let table = Name::table(words.next()?)?;
+    let corp = read_corp(words.next()?)?;
+    words.end()?;
+    Some(Query::Price { table, corp })
+}
+
+fn read_order(words: &mut Words) -> Option<Query>
+    ensures exact { result ≡ read_order words.old }
+    ensures found { IfSome result (λ query. IsQuery query × (codes "order" ∷ words.old ≡ query_words query)) }
+{
+    let table = Name::table(words.next()?)?;
+    words.end()?;
+    Some(Query::Order { table })
 }

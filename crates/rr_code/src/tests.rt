@@ -1,3 +1,4 @@
+mod shares;
 mod texts;
 
 use super::*;
@@ -68,6 +69,24 @@ fn reads_each_query(rt: HostRuntime) {
         ),
     ];
     for (line, query) in queries {
+        assert_eq!(rt; Line::read(line), Ok(Line::Query(query)));
+    }
+}
+
+#[test]
+fn reads_each_query_of_the_market(rt: HostRuntime) {
+    let table = table(&rt);
+    let holds = Query::Holds {
+        table,
+        player: player(&rt, b"ann"),
+        corp: Corp::Nyc,
+    };
+    let corp = Corp::Co;
+    for (line, query) in [
+        (b"holds t1 ann NYC".as_slice(), holds),
+        (b"price t1 C&O", Query::Price { table, corp }),
+        (b"order t1", Query::Order { table }),
+    ] {
         assert_eq!(rt; Line::read(line), Ok(Line::Query(query)));
     }
 }
@@ -157,6 +176,14 @@ fn refuses_what_has_no_form(rt: HostRuntime) {
         b"due t1 ",
         b"due  t1",
         b"due B&O",
+        b"holds t1 ann",
+        b"holds t1 PRR ann",
+        b"holds t1 pool PRR",
+        b"price t1",
+        b"price t1 SV",
+        b"price t1 PRR NYC",
+        b"order",
+        b"order t1 PRR",
         b"7 t1 BUY b",
         b" 7 t1 buy a",
         b"7  t1 buy a",

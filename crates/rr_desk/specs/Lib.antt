@@ -1,3 +1,5 @@
 pub mod Desk
 pub mod Effects
 pub mod EffectLaws
+pub mod Incomes
+pub mod Seating

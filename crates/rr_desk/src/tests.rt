@@ -1,8 +1,9 @@
 ghost use Rattle.std.specs.Prelude.{◌≤◌, IfOk};
 
-use crate::Desk;
+use crate::{Desk, left_of, pay_incomes};
 use rr_books::{
-    Books, Cell, Cert, Corp, Fault, Kind, Marker, Money, Party, Place, Seat, ShareNumber, Train,
+    Books, Cell, Cert, Corp, Fault, Kind, Marker, Money, Party, Place, Private, Seat, ShareNumber,
+    Train,
 };
 use rr_roster::Roster;
 use std::alloc::Global;
@@ -93,6 +94,28 @@ fn gives_a_certificate_and_a_train(rt: HostRuntime) -> Result<(), Fail> {
         "[Move { cert: President(Erie), to: Pool }, Train { train: Train { kind: Two, number: 1 }, to: Corp(Nyc) }]"
     );
     Ok(())
+}
+
+#[test]
+fn pays_the_incomes(rt: HostRuntime) -> Result<(), Fail> {
+    let roster = Roster::read(rt.alloc(), ROSTER)?;
+    let mut desk = desk(rt.alloc())?;
+    desk.give(Cert::Private(Private::Dh), Place::Seat(A))?;
+    desk.give(Cert::Private(Private::Sv), Place::Corp(Corp::Prr))?;
+    pay_incomes(&mut desk, &roster)?;
+    let entries = format!(in rt.alloc(); "{:?}", desk.entries().as_slice())?;
+    assert_eq!(rt;
+        entries.as_str(),
+        "[Move { cert: Private(Dh), to: Seat(Seat(0)) }, Move { cert: Private(Sv), to: Corp(Prr) }, Pay { from: Bank, to: Corp(Prr), amount: Money(5) }, Pay { from: Bank, to: Seat(Seat(0)), amount: Money(15) }]"
+    );
+    assert_eq!(rt; desk.books().balance(Party::Seat(A)), Money(1215));
+    Ok(())
+}
+
+#[test]
+fn the_first_seat_is_on_the_left_of_the_last(rt: HostRuntime) {
+    assert_eq!(rt; left_of(A, 3), Seat(1));
+    assert_eq!(rt; left_of(Seat(2), 3), A);
 }
 
 #[test]

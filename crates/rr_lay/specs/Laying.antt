@@ -2,6 +2,7 @@
 use Rattle.std.specs.Prelude.{◌≡◌, ℕ, ◌+◌, ◌&&◌, ◌||◌, not, nat_le, Bool, false, true, List, [], ◌∷◌, ◌++◌, Option, None, Some, slice_index_or, length, ◌<◌, bytes_eq, if◌then◌else◌}
 use Rattle.std.specs.List.{list_any}
 use Rattle.rr_roster.specs.declared.company.Corp.{Corp}
+use Rattle.rr_books.specs.declared.acts.Act.TheVariants as A
 use Rattle.rr_books.specs.declared.entries.Entry.TheVariants as E
 use Rattle.rr_board.specs.declared.hex.Hex.{Hex}
 use Rattle.rr_board.specs.Plan.{Plan, hex_named}
@@ -22,7 +23,7 @@ use Rattle.rr_lay.specs.declared.fault.Fault.TheVariants as F
 use Rattle.rr_lay.specs.Judging.{After, Needs}
 use Rattle.rr_lay.specs.Phase.{is_open, phase}
 use Rattle.rr_lay.specs.Position.{Position}
-use Rattle.rr_lay.specs.Rows.{cost_entries, cost_verdict}
+use Rattle.rr_lay.specs.Rows.{cost_verdict, row_entries}
 use Rattle.rr_desk.specs.Effects.{Effect}
 use Rattle.rr_lay.specs.Tiles.{faces_hexes, hexes_with, is_blocked, is_next_colour, laid_colour}
 
@@ -34,6 +35,15 @@ supply_verdict plan tiles now hex supply =
     else if nat_le supply.count (hexes_with now.lays supply.number plan.hexes) then Some F.TileGone
     else if is_blocked now.holders plan.blocks hex.name supply.colour then Some F.BlockedHex
     else None
+
+-- the checks that come before any that takes memory: there are such a hex and such a tile, and the supply's
+abbrev pub first_verdict : Plan → List Supply → Position → Option Hex → Option Supply → Option Fault
+first_verdict plan tiles now None supply = Some F.NoSuchName
+first_verdict plan tiles now (Some hex) None = Some F.NoSuchName
+first_verdict plan tiles now (Some hex) (Some supply) = supply_verdict plan tiles now hex supply
+
+abbrev pub first_lay_verdict : Plan → List Supply → Position → Lay → Option Fault
+first_lay_verdict plan tiles now lay = first_verdict plan tiles now (hex_named plan.hexes lay.hex) (supply_at tiles lay.tile)
 
 -- the turned tile keeps what lies on the hex, and each edge that it uses faces a hex
 pub record IsUpgrade (plan : Plan) (tiles : List Supply) (lays : List Lay) (hex : Hex) (supply : Supply) (turn : ℕ) : Type 0 where
@@ -108,6 +118,6 @@ abbrev pub cost_at : List Lay → Option Hex → Option ℕ
 cost_at all None = None
 cost_at all (Some hex) = lay_cost all hex
 
--- what laying the tile adds: the cost of the first tile there is paid, and the tile lies
+-- what laying the tile adds: the command's words, the payment of the cost where it is the first tile there, and the tile
 abbrev pub lay_row : Plan → Corp → Lay → Effect
-lay_row plan corp lay book = cost_entries corp (cost_at (lays book) (hex_named plan.hexes lay.hex)) ++ E.Lay lay.hex lay.tile lay.turn ∷ []
+lay_row plan corp lay book = row_entries (A.Lay corp lay.hex lay.tile lay.turn) corp (cost_at (lays book) (hex_named plan.hexes lay.hex)) (E.Lay lay.hex lay.tile lay.turn)

@@ -1,8 +1,9 @@
 -- When a corporation may place a token, and what that adds to the book.
-use Rattle.std.specs.Prelude.{◌≡◌, ℕ, ◌+◌, ◌==◌, ◌&&◌, not, nat_le, Bool, List, [], ◌∷◌, ◌++◌, Option, None, Some, count_by, bytes_eq, if◌then◌else◌}
+use Rattle.std.specs.Prelude.{◌≡◌, ℕ, ◌+◌, ◌==◌, ◌&&◌, not, nat_le, Bool, List, Option, None, Some, count_by, bytes_eq, if◌then◌else◌}
 use Rattle.std.specs.List.{list_any}
 use Rattle.rr_roster.specs.declared.company.Corp.{Corp}
 use Rattle.rr_roster.specs.Company.{corp_index}
+use Rattle.rr_books.specs.declared.acts.Act.TheVariants as A
 use Rattle.rr_books.specs.declared.entries.Entry.TheVariants as E
 use Rattle.rr_board.specs.declared.hex.Hex.{Hex}
 use Rattle.rr_board.specs.declared.hex.Home.{Home}
@@ -18,7 +19,7 @@ use Rattle.rr_lay.specs.declared.fault.Fault.TheVariants as F
 use Rattle.rr_lay.specs.Judging.{After, Needs}
 use Rattle.rr_lay.specs.Laying.{net_now}
 use Rattle.rr_lay.specs.Position.{Position}
-use Rattle.rr_lay.specs.Rows.{cost_entries, cost_verdict}
+use Rattle.rr_lay.specs.Rows.{cost_verdict, row_entries}
 
 abbrev pub is_token_of : Corp → Station → Bool
 is_token_of corp station = corp_index station.corp == corp_index corp
@@ -50,6 +51,18 @@ city_verdict homes all station (Some slots) =
     else if list_any (is_own_at station.corp station.hex station.centre) all then Some F.NoSlot
     else None
 
+-- the corporation, which has so many tokens, has one left
+abbrev pub token_verdict : ℕ → List Station → Corp → Option Fault
+token_verdict tokens all corp = if nat_le tokens (placed_by all corp) then Some F.NoTokenLeft else None
+
+-- the checks that come before any that takes memory: there is such a hex, and a token is left
+abbrev pub first_verdict : ℕ → List Station → Corp → Option Hex → Option Fault
+first_verdict tokens all corp None = Some F.NoSuchName
+first_verdict tokens all corp (Some hex) = token_verdict tokens all corp
+
+abbrev pub first_station_verdict : Plan → ℕ → Position → Station → Option Fault
+first_station_verdict plan tokens now station = first_verdict tokens now.stations station.corp (hex_named plan.hexes station.hex)
+
 -- a token is left, and the city takes it
 abbrev pub slot_verdict : Plan → List Supply → ℕ → Placed → Hex → Station → Option Fault
 slot_verdict plan tiles tokens placed hex station =
@@ -75,6 +88,6 @@ IsVerdictAt plan tiles tokens now station (Some hex) verdict = IsVerdictOn plan 
 abbrev pub IsStationVerdict : Plan → List Supply → ℕ → Position → Station → Option Fault → Type 0
 IsStationVerdict plan tiles tokens now station verdict = IsVerdictAt plan tiles tokens now station (hex_named plan.hexes station.hex) verdict
 
--- what placing the token adds: its cost is paid, be it 0, and the token stands
+-- what placing the token adds: the command's words, the payment of its cost, be it 0, and the token
 abbrev pub station_row : Station → Effect
-station_row station book = cost_entries station.corp (Some (token_cost (placed_by (stations book) station.corp))) ++ E.Station station.corp station.hex station.centre ∷ []
+station_row station book = row_entries (A.Station station.corp station.hex station.centre) station.corp (Some (token_cost (placed_by (stations book) station.corp))) (E.Station station.corp station.hex station.centre)

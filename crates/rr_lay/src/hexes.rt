@@ -3,20 +3,13 @@ ghost use Rattle.std.specs.Prelude.{◌≡◌, ◌≤◌, Some};
 ghost use Rattle.std.specs.Option.{option_copied};
 ghost use Rattle.std.specs.List.{list_all, list_any};
 ghost use Rattle.rr_books.specs.State.{holder_in};
-ghost use Rattle.rr_network.specs.Layout.{last_lay};
 ghost use Rattle.rr_lay.specs.Tiles.{faces_hex, faces_hexes, hexes_with, is_block_of, is_blocked, is_lay_of, is_next_colour, is_player, is_there, is_yellow, laid_colour, part_faces_hexes, printed_rank, rank_on, takes_tiles, tile_rank};
 
 use rr_board::{Block, Hex};
 use rr_books::{Books, Cert};
-use rr_network::{Axial, Lay, across};
+use rr_network::{Axial, Lay, across, last_lay};
 use rr_tiles::{Colour, Edge, Manifest, Part};
 use rr_words::HexName;
-
-pub(crate) fn last_lay<'a>(lays: &'a [Lay], hex: &HexName) -> Option<&'a Lay>
-    ensures { option_copied result ≡ last_lay lays.now hex.now }
-{
-    lays.iter().rev().find(|lay| lay.hex == *hex)
-}
 
 // The colour of the last tile that was laid on the hex.
 pub(crate) fn laid_colour(tiles: &Manifest, lays: &[Lay], hex: &HexName) -> Option<Colour>

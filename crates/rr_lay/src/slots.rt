@@ -1,16 +1,14 @@
 //! The tokens on the board and the slots of cities.
 ghost use Rattle.std.specs.Prelude.{◌≡◌, count_by, nat_le, IfOk};
 ghost use Rattle.std.specs.List.{list_any};
-ghost use Rattle.rr_board.specs.Plan.{is_home_at, slots_at, slots_of};
+ghost use Rattle.rr_board.specs.Plan.{is_home_at, slots_at};
 ghost use Rattle.rr_network.specs.Network.{face_on};
-ghost use Rattle.rr_network.specs.Walk.{node_of};
 ghost use Rattle.rr_lay.specs.Placing.{is_kept, is_own_at, is_token_at, is_token_of, placed_by, slots_taken, token_cost};
 
-use crate::hexes::last_lay;
-use rr_board::{Hex, Home};
-use rr_network::{CentreAt, Lay, Node, Station};
+use rr_board::{Hex, Home, slots_at};
+use rr_network::{Lay, Station, last_lay};
 use rr_roster::Corp;
-use rr_tiles::{Kind, Manifest, Part};
+use rr_tiles::Manifest;
 use rr_words::HexName;
 use std::alloc::{AllocError, Global};
 
@@ -42,7 +40,7 @@ pub(crate) fn is_full(
     homes: &[Home],
     stations: &[Station],
     hex: &HexName,
-    centre: u8,
+    centre: u64,
     slots: u8,
 ) -> bool
     ensures { result ≡ nat_le slots (slots_taken homes.now stations.now hex.now centre) }
@@ -51,7 +49,7 @@ pub(crate) fn is_full(
     free <= kept_at(homes, stations, hex, centre)
 }
 
-fn tokens_at(stations: &[Station], hex: &HexName, centre: u8) -> usize
+fn tokens_at(stations: &[Station], hex: &HexName, centre: u64) -> usize
     ensures { result ≡ count_by (is_token_at hex.now centre) stations.now }
 {
     stations
@@ -60,13 +58,13 @@ fn tokens_at(stations: &[Station], hex: &HexName, centre: u8) -> usize
         .count()
 }
 
-fn is_token_at(hex: &HexName, centre: u8, station: &Station) -> bool
+fn is_token_at(hex: &HexName, centre: u64, station: &Station) -> bool
     ensures { result ≡ is_token_at hex.now centre station.now }
 {
     station.hex == *hex && station.centre == centre
 }
 
-fn kept_at(homes: &[Home], stations: &[Station], hex: &HexName, centre: u8) -> usize
+fn kept_at(homes: &[Home], stations: &[Station], hex: &HexName, centre: u64) -> usize
     ensures { result ≡ count_by (is_kept stations.now hex.now centre) homes.now }
 {
     homes
@@ -75,20 +73,20 @@ fn kept_at(homes: &[Home], stations: &[Station], hex: &HexName, centre: u8) -> u
         .count()
 }
 
-fn is_kept(stations: &[Station], hex: &HexName, centre: u8, home: &Home) -> bool
+fn is_kept(stations: &[Station], hex: &HexName, centre: u64, home: &Home) -> bool
     ensures { result ≡ is_kept stations.now hex.now centre home.now }
 {
     is_home_at(hex, centre, home) && !has_placed(stations, home.corp)
 }
 
-fn is_home_at(hex: &HexName, centre: u8, home: &Home) -> bool
+fn is_home_at(hex: &HexName, centre: u64, home: &Home) -> bool
     ensures { result ≡ is_home_at hex.now centre home.now }
 {
-    home.hex == *hex && home.centre == u16::from(centre)
+    home.hex == *hex && u64::from(home.centre) == centre
 }
 
 // Whether one of the corporation's tokens is in the city.
-pub(crate) fn has_own_at(stations: &[Station], corp: Corp, hex: &HexName, centre: u8) -> bool
+pub(crate) fn has_own_at(stations: &[Station], corp: Corp, hex: &HexName, centre: u64) -> bool
     ensures { result ≡ list_any (is_own_at corp hex.now centre) stations.now }
 {
     stations
@@ -96,7 +94,7 @@ pub(crate) fn has_own_at(stations: &[Station], corp: Corp, hex: &HexName, centre
         .any(|station| is_own_at(corp, hex, centre, station))
 }
 
-fn is_own_at(corp: Corp, hex: &HexName, centre: u8, station: &Station) -> bool
+fn is_own_at(corp: Corp, hex: &HexName, centre: u64, station: &Station) -> bool
     ensures { result ≡ is_own_at corp hex.now centre station.now }
 {
     is_token_of(corp, station) && is_token_at(hex, centre, station)
@@ -108,7 +106,7 @@ pub(crate) fn city_slots(
     tiles: &Manifest,
     lays: &[Lay],
     hex: &Hex,
-    centre: u8,
+    centre: u64,
 ) -> Result<Option<u8>, AllocError>
     ensures { IfOk result (λ slots. slots ≡ slots_at (face_on tiles.now lays.now hex.now).parts centre) }
 {
@@ -120,40 +118,6 @@ pub(crate) fn city_slots(
     };
     let tile = tile.turned(alloc, lay.turn)?;
     Ok(slots_at(tile.parts(), centre))
-}
-
-// The slots of the centre of a number, from 1, where it is a city.
-fn slots_at(parts: &[Part], number: u8) -> Option<u8>
-    ensures { result ≡ slots_at parts.now number }
-{
-    match parts {
-        [] => None,
-        [Part::Track(_), rest @ ..] => slots_at(rest, number),
-        [Part::Centre(centre), rest @ ..] => {
-            if number == 1 {
-                return slots_of(&centre.kind);
-            }
-            slots_at(rest, number.saturating_sub(1))
-        }
-    }
-}
-
-fn slots_of(kind: &Kind) -> Option<u8>
-    ensures { result ≡ slots_of kind.now }
-{
-    match kind {
-        Kind::City { slots } => Some(*slots),
-        _ => None,
-    }
-}
-
-pub(crate) fn node_of(station: &Station) -> Node
-    ensures { result ≡ node_of station.now }
-{
-    Node::Centre(CentreAt {
-        hex: station.hex,
-        number: station.centre as usize,
-    })
 }
 
 // What a token costs behind so many of its corporation.

@@ -3,7 +3,7 @@ ghost use Rattle.std.specs.Prelude.{◌≤◌, IfOk};
 
 use crate::phase;
 use rr_board::Board;
-use rr_books::{Books, Cert, Corp, Kind, Money, Party, Place, Private, Seat, Train};
+use rr_books::{Books, Cert, Corp, Entry, Kind, Marker, Money, Party, Place, Private, Seat, Train};
 use rr_desk::Desk;
 use rr_network::{Lay, Layout, Station};
 use rr_roster::Roster;
@@ -71,12 +71,20 @@ fn name(word: &[u8]) -> Result<HexName, Fail> {
     Ok(HexName::read(word).ok_or("a name")?)
 }
 
-// The fault's number, or 0, how many entries there are, and PRR's money.
+// The fault's number, or 0, how many entries there are, whether the command's words come first, and PRR's money.
 #[derive(Clone, Copy)]
 struct Outcome {
     fault: u8,
     entries: usize,
+    says: bool,
     cash: i64,
+}
+
+fn begins_with_words(entries: &[Entry]) -> bool {
+    match entries {
+        [Entry::Step(Marker::Act(_)), ..] => true,
+        _ => false,
+    }
 }
 
 fn lay(
@@ -101,11 +109,13 @@ fn lay(
         Ok((books, entries)) => Ok(Outcome {
             fault: 0,
             entries: entries.as_slice().len(),
+            says: begins_with_words(entries.as_slice()),
             cash: books.balance(Party::Corp(Corp::Prr)).0,
         }),
         Err(fault) => Ok(Outcome {
             fault: fault.number(),
             entries: 0,
+            says: false,
             cash: 0,
         }),
     }
@@ -116,7 +126,7 @@ fn place(
     layout: &mut Layout,
     board: &str,
     hex: &[u8],
-    centre: u8,
+    centre: u64,
 ) -> Result<Outcome, Fail> {
     let board = Board::read(alloc, board)?;
     let tiles = Manifest::read(alloc, TILES)?;
@@ -131,11 +141,13 @@ fn place(
         Ok((books, entries)) => Ok(Outcome {
             fault: 0,
             entries: entries.as_slice().len(),
+            says: begins_with_words(entries.as_slice()),
             cash: books.balance(Party::Corp(Corp::Prr)).0,
         }),
         Err(fault) => Ok(Outcome {
             fault: fault.number(),
             entries: 0,
+            says: false,
             cash: 0,
         }),
     }
@@ -161,7 +173,8 @@ fn green_from_the_first_3(rt: HostRuntime) -> Result<(), Fail> {
     let three = books(alloc, Place::Offer, Place::Gone)?;
     let laid = lay(alloc, &mut layout, three, b"B", 23, 2)?;
     assert_eq!(rt; laid.fault, 0);
-    assert_eq!(rt; laid.entries, 2);
+    assert_eq!(rt; laid.entries, 3);
+    assert!(rt; laid.says);
     assert_eq!(rt; laid.cash, 100);
     assert_eq!(rt; layout.lays().len(), 1);
     Ok(())
@@ -177,7 +190,7 @@ fn a_private_blocks_while_a_player_holds_it(rt: HostRuntime) -> Result<(), Fail>
     let sold = books(alloc, Place::Corp(Corp::Prr), Place::Gone)?;
     let laid = lay(alloc, &mut layout, sold, b"F", 7, 3)?;
     assert_eq!(rt; laid.fault, 0);
-    assert_eq!(rt; laid.entries, 2);
+    assert_eq!(rt; laid.entries, 3);
     assert_eq!(rt; laid.cash, 70);
     Ok(())
 }
@@ -201,9 +214,11 @@ fn the_second_token(rt: HostRuntime) -> Result<(), Fail> {
     assert_eq!(rt; place(alloc, &mut layout, SMALL, b"Z", 1)?.fault, 1);
     assert_eq!(rt; place(alloc, &mut layout, SMALL, b"C", 1)?.fault, 37);
     assert_eq!(rt; place(alloc, &mut layout, SMALL, b"D", 1)?.fault, 37);
+    assert_eq!(rt; place(alloc, &mut layout, WIDER, b"D", 257)?.fault, 37);
     let placed = place(alloc, &mut layout, WIDER, b"D", 1)?;
     assert_eq!(rt; placed.fault, 0);
-    assert_eq!(rt; placed.entries, 2);
+    assert_eq!(rt; placed.entries, 3);
+    assert!(rt; placed.says);
     assert_eq!(rt; placed.cash, 60);
     assert_eq!(rt; place(alloc, &mut layout, WIDER, b"D", 1)?.fault, 37);
     Ok(())

@@ -3,12 +3,11 @@ ghost use Rattle.std.specs.Prelude.{◌≡◌, ◌∷◌, ◌++◌, ◌+◌, ◌
 ghost use Rattle.rr_tiles.specs.Tile.{turned};
 ghost use Rattle.rr_tiles.specs.Keeping.{Keeps};
 ghost use Rattle.rr_network.specs.Network.{face_on, net_of};
-ghost use Rattle.rr_network.specs.Node.{same_centre, same_hexside, same_node};
 ghost use Rattle.rr_lay.specs.Laying.{HasNewLink, IsUpgrade, ReachesNewLink, has_link, is_new_link, joins, same_link};
 
-use crate::hexes::{faces_hexes, last_lay};
+use crate::hexes::faces_hexes;
 use rr_board::{Board, Hex};
-use rr_network::{CentreAt, Hexside, Lay, Layout, Link, Network, Node, Reach};
+use rr_network::{Lay, Layout, Link, Network, Node, Reach, last_lay, same_node};
 use rr_roster::Corp;
 use rr_tiles::{Manifest, Supply, Tile, keeps};
 use std::alloc::{AllocError, Global};
@@ -138,31 +137,4 @@ fn joins(link: &Link, one: &Node, other: &Node) -> bool
     ensures { result ≡ joins link.now one.now other.now }
 {
     same_node(&Node::Hexside(link.side), one) && same_node(&link.end, other)
-}
-
-fn same_node(node: &Node, other: &Node) -> bool
-    ensures { result ≡ same_node node.now other.now }
-{
-    match node {
-        Node::Hexside(side) => match other {
-            Node::Hexside(second) => same_hexside(side, second),
-            Node::Centre(_) => false,
-        },
-        Node::Centre(centre) => match other {
-            Node::Hexside(_) => false,
-            Node::Centre(second) => same_centre(centre, second),
-        },
-    }
-}
-
-fn same_hexside(side: &Hexside, other: &Hexside) -> bool
-    ensures { result ≡ same_hexside side.now other.now }
-{
-    side.at.q == other.at.q && side.at.r == other.at.r && side.edge == other.edge
-}
-
-fn same_centre(centre: &CentreAt, other: &CentreAt) -> bool
-    ensures { result ≡ same_centre centre.now other.now }
-{
-    centre.hex == other.hex && centre.number == other.number
 }

@@ -1,12 +1,12 @@
 -- How the ranks of the corporations stand after one of their tokens moved.
-use Rattle.std.proofs.Common.{◌≡◌, ◌≢◌, ℕ, ◌<◌, true, false, eqb, ltb, List, length, get_or, set, sym, ◌∙◌, ap, inl, inr, arith}
+use Rattle.std.proofs.Common.{◌≡◌, ◌≢◌, ℕ, ◌<◌, true, false, eqb, ltb, List, length, get_or, map, set, sym, ◌∙◌, ap, inl, inr, arith}
 use Rattle.std.proofs.lemmas.Bool.{cases_eq, eqb-false}
 use Rattle.std.proofs.lemmas.Bool.Decides.{nat_tests}
-use Rattle.std.proofs.lemmas.List.{get_or-set_same, get_or-set_other, length-set}
+use Rattle.std.proofs.lemmas.List.{ext_get_or, get_or-map, get_or-set_same, get_or-set_other, length-map, length-set}
 use Rattle.rr_roster.specs.declared.company.Corp.{Corp}
 use Rattle.rr_roster.specs.declared.company.Corp.TheVariants as C
 use Rattle.rr_roster.specs.Company.{corp_index}
-use Rattle.rr_market.specs.Arrivals.{AreRanks, lowered}
+use Rattle.rr_market.specs.Arrivals.{AreRanks, lowered, ranks_after}
 
 pub corp_index-lt : (c : Corp) → corp_index c < 8
 corp_index-lt C.Prr = omega arith
@@ -32,6 +32,20 @@ pub record AreNoted (old new : List ℕ) (moved : ℕ) : Type 0 where
   pub eight : length new ≡ 8
   pub here : get_or new moved 0 ≡ 7
   pub others : (k : ℕ) → k < 8 → k ≢ moved → get_or new k 0 ≡ lowered (get_or old moved 0) (get_or old k 0)
+
+-- eight numbers, each of them lowered
+all_lowered : (old items : List ℕ) (before : ℕ) → length items ≡ 8 → length old ≡ 8 → ((k : ℕ) → k < 8 → get_or items k 0 ≡ lowered before (get_or old k 0)) → items ≡ map (lowered before) old
+all_lowered old items before eight were each =
+    ext_get_or 0 items (map (lowered before) old) (eight ∙ sym were ∙ sym (length-map old (lowered before)))
+    (λ k h. each k (omega arith) ∙ sym (get_or-map (lowered before) old k 0 0 (omega arith)))
+
+-- and one of them then the greatest
+pub ranks-noted : (old items : List ℕ) (index moved before : ℕ) → index ≡ moved → length items ≡ 8 → length old ≡ 8 → before ≡ get_or old index 0 → ((k : ℕ) → k < 8 → get_or items k 0 ≡ lowered before (get_or old k 0)) → set items index 7 ≡ ranks_after old moved
+ranks-noted old items index moved before same eight were at each =
+    let here : before ≡ get_or old moved 0 = at ∙ ap (λ (k : ℕ). get_or old k 0) same in
+    ap (λ (k : ℕ). set items k 7) same
+    ∙ ap (λ (ranks : List ℕ). set ranks moved 7) (all_lowered old items before eight were each)
+    ∙ ap (λ (rank : ℕ). set (map (lowered rank) old) moved 7) here
 
 pub AreNoted-from : (old items : List ℕ) (index moved before : ℕ) → index ≡ moved → length items ≡ 8 → moved < 8 → before ≡ get_or old index 0 → ((k : ℕ) → k < 8 → get_or items k 0 ≡ lowered before (get_or old k 0)) → AreNoted old (set items index 7) moved
 AreNoted-from old items index moved before same eight within at each =

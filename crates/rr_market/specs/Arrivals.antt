@@ -1,5 +1,5 @@
 -- Which corporation's token moved more recently than which: a number from 0 to 7 for each, the greatest for the last.
-use Rattle.std.specs.Prelude.{◌≡◌, ◌≢◌, ℕ, ◌-◌, ◌<◌, ◌==◌, nat_lt, List, length, slice_index, if◌then◌else◌}
+use Rattle.std.specs.Prelude.{◌≡◌, ◌≢◌, ℕ, ◌-◌, ◌<◌, ◌==◌, nat_lt, List, length, map, slice_index, slice_set, if◌then◌else◌}
 
 -- eight different numbers below 8
 pub record AreRanks (ranks : List ℕ) : Type 0 where
@@ -14,3 +14,7 @@ lowered before rank = if nat_lt before rank then rank - 1 else rank
 -- the rank at an index after the token of another index moved: 7 for that one, and one less for those above it
 abbrev pub rank_after : List ℕ → ℕ → ℕ → ℕ
 rank_after ranks moved k = if k == moved then 7 else lowered (slice_index ranks moved) (slice_index ranks k)
+
+-- the ranks after the token of an index moved
+abbrev pub ranks_after : List ℕ → ℕ → List ℕ
+ranks_after ranks moved = slice_set (map (lowered (slice_index ranks moved)) ranks) moved 7

@@ -86,6 +86,10 @@ mark_at c (Some cell) = E.Mark c cell ∷ []
 abbrev pub moves_token : (Cell → Option Cell) → Corp → Book → Book
 moves_token target c book = mark_at c (option_and_then target (mark_of book c))
 
+-- a price at which a corporation may begin: one of which the chart has a par cell
+abbrev pub is_par : List Row → ℕ → Bool
+is_par rows price = is_some (par_place rows price)
+
 -- the mark of a corporation that sets its par, if the chart has that par cell
 abbrev pub par_marks : List Row → Corp → ℕ → Book → Book
 par_marks rows c par book = mark_at c (option_map cell_of (par_place rows par))

@@ -1,11 +1,14 @@
 -- The running tables of the market, and what it is to stand for a book.
-use Rattle.std.specs.Prelude.{◌≡◌, ℕ, true, false, nat_lt, List, ◌++◌, Option, None, Some, is_some, option_map, slice_index, slice_index_or, if◌then◌else◌}
+use Rattle.std.specs.Prelude.{◌≡◌, ℕ, true, false, nat_lt, List, ◌++◌, Option, None, Some, is_some, option_map, slice_index, slice_index_or, slice_set, if◌then◌else◌}
 use Rattle.rr_roster.specs.declared.company.Corp.{Corp}
 use Rattle.rr_roster.specs.Company.{corp_index}
 use Rattle.rr_books.specs.declared.entries.Cell.{Cell}
+use Rattle.rr_books.specs.declared.entries.Entry.{Entry}
+use Rattle.rr_books.specs.declared.entries.Entry.TheVariants as E
 use Rattle.rr_books.specs.Book.{Book}
 use Rattle.rr_books.specs.Same.{same_corp}
 use Rattle.rr_market.specs.declared.market.Token.{Token}
+use Rattle.rr_market.specs.Arrivals.{ranks_after}
 use Rattle.rr_market.specs.Marks.{mark_of, first_mark_of, arrival}
 
 -- each corporation's token, and which moved more recently than which
@@ -46,3 +49,11 @@ pub record IsMarked (old new : State) (corp : Corp) (cell : Cell) : Type 0 where
   pub tokens : (c : Corp) → token_in new c ≡ (if same_corp c corp then Some (token_on (token_in old corp) cell) else token_in old c)
   pub last : (c : Corp) → same_corp c corp ≡ false → nat_lt (arrival_in new c) (arrival_in new corp) ≡ true
   pub others : (c d : Corp) → same_corp c corp ≡ false → same_corp d corp ≡ false → nat_lt (arrival_in new c) (arrival_in new d) ≡ nat_lt (arrival_in old c) (arrival_in old d)
+
+-- the tables after one entry more: a mark puts a corporation's token on a cell, after all the others
+abbrev pub after : State → Entry → State
+after s (E.Mark corp cell) = record {
+  tokens = slice_set s.tokens (corp_index corp) (Some (token_on (token_in s corp) cell));
+  arrivals = ranks_after s.arrivals (corp_index corp);
+}
+after s _ = s

@@ -1,7 +1,7 @@
 ghost use Rattle.std.specs.Prelude.{◌≡◌, true, false, nat_lt, slice_index};
 ghost use Rattle.rr_roster.specs.Company.{corp_index};
 ghost use Rattle.rr_books.specs.Same.{same_corp};
-ghost use Rattle.rr_market.specs.Arrivals.{lowered};
+ghost use Rattle.rr_market.specs.Arrivals.{lowered, ranks_after};
 
 use rr_books::Corp;
 use std::marker::Model;
@@ -42,6 +42,7 @@ impl Arrivals {
 
     // The corporation's token moved now. The others keep their order.
     pub(crate) fn note(&mut self, corp: Corp)
+        ensures value { self.new ≡ ranks_after self.old (corp_index corp) }
         ensures last { (c : Corp) → same_corp c corp ≡ false → nat_lt (slice_index self.new (corp_index c)) (slice_index self.new (corp_index corp)) ≡ true }
         ensures others { (c d : Corp) → same_corp c corp ≡ false → same_corp d corp ≡ false → nat_lt (slice_index self.new (corp_index c)) (slice_index self.new (corp_index d)) ≡ nat_lt (slice_index self.old (corp_index c)) (slice_index self.old (corp_index d)) }
     {

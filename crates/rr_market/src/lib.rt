@@ -10,6 +10,7 @@ mod order;
 
 pub use fault::Fault;
 pub use market::Market;
+pub use moves::par_cell;
 pub use order::OperatingOrder;
 pub use rr_books::{Cell, Corp};
 pub use rr_chart::{Chart, Zone};

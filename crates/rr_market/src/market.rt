@@ -1,16 +1,16 @@
-ghost use Rattle.std.specs.Prelude.{◌≡◌, ℕ, ◌≤◌, ◌<◌, [], ◌++◌, None, Some, option_map, option_and_then, unwrap_or, position, ◌+◌, length, IfOk, IfSome, MatchOption, MatchResult, OnErr};
+ghost use Rattle.std.specs.Prelude.{◌≡◌, ℕ, ◌≤◌, ◌<◌, [], ◌∷◌, ◌++◌, fold, None, Some, option_map, option_and_then, unwrap_or, position, ◌+◌, length, IfOk, IfSome, MatchOption, MatchResult, OnErr};
 ghost use Rattle.rr_chart.specs.Chart.{par_place};
 ghost use Rattle.rr_books.specs.Book.{Book};
 ghost use Rattle.rr_market.specs.Marks.{mark_of, first_mark_of, price_at, zone_at, price_of, zone_of, par_of};
 ghost use Rattle.rr_market.specs.Moves.{cell_of, cell_above, cell_after_paying, cell_after_withholding, cell_after_sale, mark_at, par_marks, dividend_marks, withholding_marks, sale_marks, sold_out_marks};
 ghost use Rattle.rr_market.specs.Order.{order_by, operating_order, operates_before, ordered_after, standing_at};
-ghost use Rattle.rr_market.specs.State.{IsMarketOf, Follows, IsMarked, token_in, cell_in, first_in, arrival_in};
+ghost use Rattle.rr_market.specs.State.{IsMarketOf, Follows, after, IsMarked, token_in, cell_in, first_in, arrival_in};
 
 use crate::arrivals::Arrivals;
 use crate::fault::Fault;
 use crate::moves;
 use crate::order::{OperatingOrder, Standing};
-use rr_books::{Cell, Corp};
+use rr_books::{Cell, Corp, Entry};
 use rr_chart::{Chart, Zone};
 use std::marker::Model;
 
@@ -109,7 +109,7 @@ impl Market {
         ensures book { Follows self.old self.new (par_marks chart.now corp par) }
         ensures err { OnErr result (self.new ≡ self.old) }
     {
-        let Some(cell) = moves::par_cell(chart, par) else {
+        let Some(cell) = moves::par_cell(chart, u64::from(par)) else {
             return Err(Fault::NotAPar);
         };
         self.mark(corp, cell);
@@ -166,6 +166,27 @@ impl Market {
         let cell = moves::up(chart, self.cell(corp)?)?;
         self.mark(corp, cell);
         Some(cell)
+    }
+
+    /// Reads the marks among the next entries of the book, such as those of a command.
+    pub fn follow(&mut self, entries: &[Entry])
+        ensures value { self.new ≡ fold after self.old entries.now }
+        ensures book { (book : Book) → IsMarketOf book self.old → IsMarketOf (book ++ entries.now) self.new }
+    {
+        for entry in entries {
+            self.read(entry);
+        }
+    }
+
+    // Reads the next entry of the book.
+    fn read(&mut self, entry: &Entry)
+        ensures value { self.new ≡ after self.old entry.now }
+        ensures book { (book : Book) → IsMarketOf book self.old → IsMarketOf (book ++ entry.now ∷ []) self.new }
+    {
+        match entry {
+            Entry::Mark { corp, cell } => self.mark(*corp, *cell),
+            _ => (),
+        }
     }
 
     /// The corporations with a price, floated or not, in the order in which they operate: the highest price first;
@@ -237,7 +258,8 @@ impl Market {
 
     // Puts the corporation's token on a cell, after all the others.
     fn mark(&mut self, corp: Corp, cell: Cell)
-        ensures { IsMarked self.old self.new corp cell }
+        ensures value { self.new ≡ after self.old (Entry.Mark corp cell) }
+        ensures marked { IsMarked self.old self.new corp cell }
     {
         let first = match self.first(corp) {
             Some(first) => first,

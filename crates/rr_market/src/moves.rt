@@ -1,10 +1,10 @@
-ghost use Rattle.std.specs.Prelude.{◌≡◌, true, is_some, option_map};
+ghost use Rattle.std.specs.Prelude.{◌≡◌, ◌≤◌, ◌==◌, true, find, is_some, option_map, IfSome, OnSome};
 ghost use Rattle.rr_chart.specs.Chart.{cell_at, par_place};
 ghost use Rattle.rr_market.specs.Marks.{place_of};
 ghost use Rattle.rr_market.specs.Moves.{cell_of, cell_right, cell_left, cell_above, cell_below, cell_after_paying, cell_after_withholding, cell_after_sale, fallen, fallen_by};
 
 use rr_books::Cell;
-use rr_chart::{Chart, Place};
+use rr_chart::{Chart, ParCell, Place};
 
 // The chart's place of a cell.
 pub(crate) fn place_of(cell: Cell) -> Place
@@ -29,12 +29,24 @@ fn cell_of(chart: &Chart, place: Place) -> Cell
     }
 }
 
-// The par cell of a price.
-pub(crate) fn par_cell(chart: &Chart, par: u16) -> Option<Cell>
-    ensures { result ≡ option_map cell_of (par_place chart.now par) }
+/// The par cell of a price, if the chart has one: a corporation may begin at just these prices.
+pub fn par_cell(chart: &Chart, price: u64) -> Option<Cell>
+    ensures value { result ≡ option_map cell_of (par_place chart.now price) }
+    ensures small { OnSome result (price ≤ 999) }
 {
+    let par = price_among(chart.par_cells(), price)?;
     let place = chart.par_cell(par)?;
+    let _cell = chart.cell(place);
     Some(cell_of(chart, place))
+}
+
+// The price, if one of the par cells has it.
+fn price_among(pars: &[ParCell], price: u64) -> Option<u16>
+    ensures value { result ≡ option_map (λ par. par.price) (find (λ par. par.price == price) pars.now) }
+    ensures same { IfSome result (λ par. par ≡ price) }
+{
+    let par = pars.iter().find(|par| u64::from(par.price) == price)?;
+    Some(par.price)
 }
 
 fn right(chart: &Chart, cell: Cell) -> Option<Cell>

@@ -1,6 +1,7 @@
 //! Rows on the shipped chart, and on one where two cells of one column have the same price.
 use crate::laws::{arrivals_differ, operating_order_is_in_order, sales_fall};
-use crate::{Cell, Chart, Corp, Fault, Market, Zone};
+use crate::{Cell, Chart, Corp, Fault, Market, Zone, par_cell};
+use rr_books::{Entry, Marker};
 use std::alloc::Global;
 use std::test::Fail;
 
@@ -173,6 +174,29 @@ fn in_one_column_the_upper_is_first(rt: HostRuntime) -> Result<(), Fail> {
     assert_eq!(rt; market.cell(PRR), Some(at(1, 0)));
     assert_eq!(rt; put(&mut market, &chart, NYC, 100), Ok(at(0, 0)));
     assert_eq!(rt; market.order(&chart).as_slice(), [NYC, PRR].as_slice());
+    Ok(())
+}
+
+#[test]
+fn follows_the_marks_of_a_book(rt: HostRuntime) -> Result<(), Fail> {
+    let chart = shipped(rt.alloc())?;
+    assert_eq!(rt; par_cell(&chart, 82), Some(at(2, 6)));
+    assert_eq!(rt; par_cell(&chart, 80), None);
+    let mut market = Market::new();
+    let entries = [
+        Entry::Mark {
+            corp: PRR,
+            cell: at(2, 6),
+        },
+        Entry::Step(Marker::Stock),
+        Entry::Mark {
+            corp: PRR,
+            cell: at(2, 7),
+        },
+    ];
+    market.follow(&entries);
+    assert_eq!(rt; market.par(&chart, PRR), Some(82));
+    assert_eq!(rt; market.price(&chart, PRR), Some(90));
     Ok(())
 }
 

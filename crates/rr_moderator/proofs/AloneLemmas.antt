@@ -2,7 +2,7 @@
 use Rattle.std.proofs.Common.{◌≡◌, ◌⊎◌, ℕ, ◌<◌, ◌≤◌, Bool, true, false, cond, List, [], ◌∷◌, length, map, Option, None, Some, Result, inl, inr, bytes_eq, if◌then◌else◌, refl, sym, ap, subst, ◌∙◌, arith}
 use Rattle.std.proofs.lemmas.Slice.Eq.{bytes_eq-Decides}
 use Rattle.indexmap.specs.IndexMap.{insert_entry}
-use Rattle.rr_roster.specs.Terms.{Terms}
+use Rattle.rr_game.specs.declared.kit.Kit.{Kit}
 use Rattle.rr_code.specs.declared.command.Command.{Command}
 use Rattle.rr_code.specs.declared.command.Command.TheVariants.{Open}
 use Rattle.rr_code.specs.declared.query.Query.{Query}
@@ -15,7 +15,7 @@ use Rattle.rr_moderator.specs.declared.fault.Fault.{Fault}
 use Rattle.rr_moderator.specs.declared.fault.Fault.TheVariants as F
 use Rattle.rr_moderator.specs.Answer.{accepted_text}
 use Rattle.rr_moderator.specs.Fault.{refusal_of}
-use Rattle.rr_moderator.specs.Queries.{Answer, answer_of_table, asked_answer, cash_answer, due_answer, limit_answer, privates_answer, query_text, reply_of, stamp_answer, turns_answer}
+use Rattle.rr_moderator.specs.Queries.{Answer, answer_of_table, asked_answer, cash_answer, due_answer, holds_answer, limit_answer, order_answer, price_answer, privates_answer, query_text, reply_of, stamp_answer, turns_answer}
 use Rattle.rr_moderator.specs.Serving.{Held, Meets, Responds, Takes, TooLong, Malformed, Broken, Read, Accepted, Refused, NoRoom, Fails, reply_to}
 use Rattle.rr_moderator.specs.World.{TableState, World, state_after, table_named, world_verdict}
 use Rattle.rr_moderator.specs.Alone.{Alone, Exchange, IsCalm, IsDisturbed, Names, Picks, Runs, disturbs, line_table, query_table}
@@ -55,11 +55,11 @@ opening_step true room few = refl
 opening_step false true few = absurd (few refl)
 opening_step false false few = refl
 
-uncounted : (roster : Terms) (t : Option TableState) (n stamp : ℕ) (c : Command) → (world_verdict roster t n stamp c ≡ Some F.TooManyTables → ⊥)
-    → world_verdict roster t n stamp c ≡ world_verdict roster t 0 stamp c
-uncounted roster (Some t) n stamp (Open players) few = refl
-uncounted roster None n stamp (Open players) few = opening_step _ _ few
-uncounted roster t n stamp c few = refl
+uncounted : (kit : Kit) (t : Option TableState) (n stamp : ℕ) (c : Command) → (world_verdict kit t n stamp c ≡ Some F.TooManyTables → ⊥)
+    → world_verdict kit t n stamp c ≡ world_verdict kit t 0 stamp c
+uncounted kit (Some t) n stamp (Open players) few = refl
+uncounted kit None n stamp (Open players) few = opening_step _ _ few
+uncounted kit t n stamp c few = refl
 
 -- what a line that names a table comes to, from the table alone
 
@@ -78,21 +78,21 @@ abbrev command_alone : List ℕ → Option TableState → Command → Option Fau
 command_alone name t c None = (accepted_text name (state_after t c).stamp, Some (state_after t c))
 command_alone name t c (Some fault) = (refusal_of fault, t)
 
-abbrev line_alone : Terms → List ℕ → Option TableState → Line → Outcome
-line_alone roster name t (L.Command stamp table c) = command_alone name t c (world_verdict roster t 0 stamp c)
-line_alone roster name t (L.Query query) = (query_text roster (alone_with name t) query, t)
+abbrev line_alone : Kit → List ℕ → Option TableState → Line → Outcome
+line_alone kit name t (L.Command stamp table c) = command_alone name t c (world_verdict kit t 0 stamp c)
+line_alone kit name t (L.Query query) = (query_text kit (alone_with name t) query, t)
 
-abbrev ReplyAlone : Terms → List ℕ → Option TableState → List ℕ → Line → List ℕ → Option TableState → Type 0
-ReplyAlone roster name t line l reply after =
+abbrev ReplyAlone : Kit → List ℕ → Option TableState → List ℕ → Line → List ℕ → Option TableState → Type 0
+ReplyAlone kit name t line l reply after =
     ((8000 < length line) × (reply ≡ refusal_of F.LineTooLong) × (after ≡ t))
-    ⊎ ((length line ≤ 8000) × (reply ≡ (line_alone roster name t l).0) × (after ≡ (line_alone roster name t l).1))
+    ⊎ ((length line ≤ 8000) × (reply ≡ (line_alone kit name t l).0) × (after ≡ (line_alone kit name t l).1))
 
-one_reply : (roster : Terms) (name : List ℕ) (t : Option TableState) (line : List ℕ) (l : Line) (reply other : List ℕ) (after behind : Option TableState)
-    → ReplyAlone roster name t line l reply after → ReplyAlone roster name t line l other behind → (reply ≡ other) × (after ≡ behind)
-one_reply roster name t line l reply other after behind (inl a) (inl b) = (a.1 ∙ sym b.1, a.2 ∙ sym b.2)
-one_reply roster name t line l reply other after behind (inl a) (inr b) = absurd (omega (arith, a.0, b.0))
-one_reply roster name t line l reply other after behind (inr a) (inl b) = absurd (omega (arith, a.0, b.0))
-one_reply roster name t line l reply other after behind (inr a) (inr b) = (a.1 ∙ sym b.1, a.2 ∙ sym b.2)
+one_reply : (kit : Kit) (name : List ℕ) (t : Option TableState) (line : List ℕ) (l : Line) (reply other : List ℕ) (after behind : Option TableState)
+    → ReplyAlone kit name t line l reply after → ReplyAlone kit name t line l other behind → (reply ≡ other) × (after ≡ behind)
+one_reply kit name t line l reply other after behind (inl a) (inl b) = (a.1 ∙ sym b.1, a.2 ∙ sym b.2)
+one_reply kit name t line l reply other after behind (inl a) (inr b) = absurd (omega (arith, a.0, b.0))
+one_reply kit name t line l reply other after behind (inr a) (inl b) = absurd (omega (arith, a.0, b.0))
+one_reply kit name t line l reply other after behind (inr a) (inr b) = (a.1 ∙ sym b.1, a.2 ∙ sym b.2)
 
 -- a query that names the table
 ask_alone : (ask : TableState → Answer) (tables : World) (name table : List ℕ) → table ≡ name
@@ -105,51 +105,54 @@ ask_alone ask tables name table same =
 some_same : {X : Type 0} (x y : X) → Some x ≡ Some y → x ≡ y
 some_same x y e = cc
 
-query_alone : (roster : Terms) (tables : World) (name : List ℕ) (query : Query) → query_table query ≡ Some name
-    → query_text roster tables query ≡ query_text roster (alone_with name (table_named tables name)) query
-query_alone roster tables name Q.Tables about = cc
-query_alone roster tables name (Q.Stamp table) about = ap reply_of (ask_alone stamp_answer tables name table (some_same table name about))
-query_alone roster tables name (Q.Turns table) about = ap reply_of (ask_alone (turns_answer roster) tables name table (some_same table name about))
-query_alone roster tables name (Q.Due table) about = ap reply_of (ask_alone (due_answer roster) tables name table (some_same table name about))
-query_alone roster tables name (Q.Cash table of) about = ap reply_of (ask_alone (cash_answer roster of) tables name table (some_same table name about))
-query_alone roster tables name (Q.Limit table) about = ap reply_of (ask_alone (limit_answer roster) tables name table (some_same table name about))
-query_alone roster tables name (Q.Asked table) about = ap reply_of (ask_alone (asked_answer roster) tables name table (some_same table name about))
-query_alone roster tables name (Q.Privates table of) about = ap reply_of (ask_alone (privates_answer roster of) tables name table (some_same table name about))
+query_alone : (kit : Kit) (tables : World) (name : List ℕ) (query : Query) → query_table query ≡ Some name
+    → query_text kit tables query ≡ query_text kit (alone_with name (table_named tables name)) query
+query_alone kit tables name Q.Tables about = cc
+query_alone kit tables name (Q.Stamp table) about = ap reply_of (ask_alone stamp_answer tables name table (some_same table name about))
+query_alone kit tables name (Q.Turns table) about = ap reply_of (ask_alone (turns_answer kit) tables name table (some_same table name about))
+query_alone kit tables name (Q.Due table) about = ap reply_of (ask_alone (due_answer kit) tables name table (some_same table name about))
+query_alone kit tables name (Q.Cash table of) about = ap reply_of (ask_alone (cash_answer kit of) tables name table (some_same table name about))
+query_alone kit tables name (Q.Limit table) about = ap reply_of (ask_alone (limit_answer kit) tables name table (some_same table name about))
+query_alone kit tables name (Q.Asked table) about = ap reply_of (ask_alone (asked_answer kit) tables name table (some_same table name about))
+query_alone kit tables name (Q.Holds table player corp) about = ap reply_of (ask_alone (holds_answer kit player corp) tables name table (some_same table name about))
+query_alone kit tables name (Q.Price table corp) about = ap reply_of (ask_alone (price_answer kit corp) tables name table (some_same table name about))
+query_alone kit tables name (Q.Order table) about = ap reply_of (ask_alone (order_answer kit) tables name table (some_same table name about))
+query_alone kit tables name (Q.Privates table of) about = ap reply_of (ask_alone (privates_answer kit of) tables name table (some_same table name about))
 
 abbrev Same : Held → Held → List ℕ → Outcome → List ℕ → Type 0
-Same old new name alone reply = (reply ≡ alone.0) × (table_named new.tables name ≡ alone.1) × (new.roster ≡ old.roster)
+Same old new name alone reply = (reply ≡ alone.0) × (table_named new.tables name ≡ alone.1) × (new.kit ≡ old.kit)
 
 -- a command that names the table
 takes_alone : (old new : Held) (stamp : ℕ) (name : List ℕ) (c : Command) {outcome : Result (List ℕ) Fault} → Takes old stamp name c new outcome
     → ¬ IsDisturbed (reply_to outcome)
-    → Same old new name (command_alone name (table_named old.tables name) c (world_verdict old.roster (table_named old.tables name) 0 stamp c)) (reply_to outcome)
+    → Same old new name (command_alone name (table_named old.tables name) c (world_verdict old.kit (table_named old.tables name) 0 stamp c)) (reply_to outcome)
 takes_alone old new stamp name c (Accepted lawful after) calm =
     let t = table_named old.tables name in
-    let few : world_verdict old.roster t (length old.tables) stamp c ≡ Some F.TooManyTables → ⊥ = λ e. let none = lawful in cc in
-    let v = sym (uncounted old.roster t (length old.tables) stamp c few) ∙ lawful in (
+    let few : world_verdict old.kit t (length old.tables) stamp c ≡ Some F.TooManyTables → ⊥ = λ e. let none = lawful in cc in
+    let v = sym (uncounted old.kit t (length old.tables) stamp c few) ∙ lawful in (
       ap (λ o. (command_alone name t c o).0) (sym v),
       ap (λ h. table_named h.tables name) after ∙ named_after old.tables name (state_after t c) ∙ ap (λ o. (command_alone name t c o).1) (sym v),
-      ap (λ h. h.roster) after,
+      ap (λ h. h.kit) after,
     )
 takes_alone old new stamp name c (Refused fault refused same) calm =
     let t = table_named old.tables name in
-    let few : world_verdict old.roster t (length old.tables) stamp c ≡ Some F.TooManyTables → ⊥ =
+    let few : world_verdict old.kit t (length old.tables) stamp c ≡ Some F.TooManyTables → ⊥ =
     λ e. calm (F.TooManyTables, refl, ap refusal_of (some_same fault F.TooManyTables (sym refused ∙ e))) in
-    let v = sym (uncounted old.roster t (length old.tables) stamp c few) ∙ refused in (
+    let v = sym (uncounted old.kit t (length old.tables) stamp c few) ∙ refused in (
       ap (λ o. (command_alone name t c o).0) (sym v),
       ap (λ h. table_named h.tables name) same ∙ ap (λ o. (command_alone name t c o).1) (sym v),
-      ap (λ h. h.roster) same,
+      ap (λ h. h.kit) same,
     )
 takes_alone old new stamp name c (NoRoom fault lawful (inl full) same) calm = absurd (calm (fault, ap disturbs full, refl))
 takes_alone old new stamp name c (NoRoom fault lawful (inr memory) same) calm = absurd (calm (fault, ap disturbs memory, refl))
 takes_alone old new stamp name c (Fails lawful after) calm = absurd (calm (F.DeviceFailed, refl, refl))
 
 meets_alone : (old new : Held) (name : List ℕ) (l : Line) (outcome : Result (List ℕ) Fault) → line_table l ≡ Some name → Meets old l new outcome
-    → ¬ IsDisturbed (reply_to outcome) → Same old new name (line_alone old.roster name (table_named old.tables name) l) (reply_to outcome)
+    → ¬ IsDisturbed (reply_to outcome) → Same old new name (line_alone old.kit name (table_named old.tables name) l) (reply_to outcome)
 meets_alone old new name (L.Command stamp table c) outcome about meets calm =
     takes_alone old new stamp name c (subst (λ k. Takes old stamp k c new outcome) (some_same table name about) meets) calm
 meets_alone old new name (L.Query query) outcome about meets calm =
-    (meets.1 ∙ query_alone old.roster old.tables name query about, ap (λ h. table_named h.tables name) meets.0, ap (λ h. h.roster) meets.0)
+    (meets.1 ∙ query_alone old.kit old.tables name query about, ap (λ h. table_named h.tables name) meets.0, ap (λ h. h.kit) meets.0)
 
 one_line : (line : List ℕ) (l m : Line) → SpellsLine line l → SpellsLine line m → l ≡ m
 one_line line l m first second = line-unique l m first.is_line second.is_line (sym first.spelled ∙ second.spelled)
@@ -157,9 +160,9 @@ one_line line l m first second = line-unique l m first.is_line second.is_line (s
 -- a line that names the table
 responds_alone : (old new : Held) (line name : List ℕ) (l : Line) → SpellsLine line l → line_table l ≡ Some name
     → {outcome : Result (List ℕ) Fault} → Responds old line new outcome → ¬ IsDisturbed (reply_to outcome)
-    → ReplyAlone old.roster name (table_named old.tables name) line l (reply_to outcome) (table_named new.tables name) × (new.roster ≡ old.roster)
+    → ReplyAlone old.kit name (table_named old.tables name) line l (reply_to outcome) (table_named new.tables name) × (new.kit ≡ old.kit)
 responds_alone old new line name l spells about (TooLong long same) calm =
-    (inl (long, refl, ap (λ h. table_named h.tables name) same), ap (λ h. h.roster) same)
+    (inl (long, refl, ap (λ h. table_named h.tables name) same), ap (λ h. h.kit) same)
 responds_alone old new line name l spells about (Malformed short none same) calm = absurd (none l spells)
 responds_alone old new line name l spells about (Broken m short other broken same) calm = absurd (calm (F.OpenAgain, refl, refl))
 responds_alone old new line name l spells about (Read m outcome short other whole meets) calm =
@@ -169,18 +172,18 @@ responds_alone old new line name l spells about (Read m outcome short other whol
 -- a line that doesn't
 
 abbrev Unmoved : Held → Held → List ℕ → Type 0
-Unmoved old new name = (table_named new.tables name ≡ table_named old.tables name) × (new.roster ≡ old.roster)
+Unmoved old new name = (table_named new.tables name ≡ table_named old.tables name) × (new.kit ≡ old.kit)
 
 unmoved : (old new : Held) (name : List ℕ) → new ≡ old → Unmoved old new name
-unmoved old new name same = (ap (λ h. table_named h.tables name) same, ap (λ h. h.roster) same)
+unmoved old new name same = (ap (λ h. table_named h.tables name) same, ap (λ h. h.kit) same)
 
 takes_other : (old new : Held) (stamp : ℕ) (name table : List ℕ) (c : Command) {outcome : Result (List ℕ) Fault} → bytes_eq name table ≡ false
     → Takes old stamp table c new outcome → Unmoved old new name
 takes_other old new stamp name table c apart (Accepted lawful after) =
-    (ap (λ h. table_named h.tables name) after ∙ named_other old.tables table name (state_after (table_named old.tables table) c) apart, ap (λ h. h.roster) after)
+    (ap (λ h. table_named h.tables name) after ∙ named_other old.tables table name (state_after (table_named old.tables table) c) apart, ap (λ h. h.kit) after)
 takes_other old new stamp name table c apart (Refused fault refused same) = unmoved old new name same
 takes_other old new stamp name table c apart (NoRoom fault lawful why same) = unmoved old new name same
-takes_other old new stamp name table c apart (Fails lawful after) = (ap (λ h. table_named h.tables name) after, ap (λ h. h.roster) after)
+takes_other old new stamp name table c apart (Fails lawful after) = (ap (λ h. table_named h.tables name) after, ap (λ h. h.kit) after)
 
 apart_from : (b : Bool) (name table : List ℕ) → bytes_eq name table ≡ b → (name ≡ table → ⊥) → bytes_eq name table ≡ false
 apart_from true name table is apart = absurd (apart ((bytes_eq-Decides name table).0 is))
@@ -200,29 +203,29 @@ responds_other old new line name none (Read m outcome short spells whole meets) 
 
 -- whole runs
 
-abbrev RunsAlone : Terms → List ℕ → Option TableState → List Exchange → Type 0
-RunsAlone roster name t [] = Unit {0}
-RunsAlone roster name t (exchange ∷ picked) =
-    (after : Option TableState) × (l : Line) × SpellsLine exchange.0 l × ReplyAlone roster name t exchange.0 l exchange.1 after
-    × RunsAlone roster name after picked
+abbrev RunsAlone : Kit → List ℕ → Option TableState → List Exchange → Type 0
+RunsAlone kit name t [] = Unit {0}
+RunsAlone kit name t (exchange ∷ picked) =
+    (after : Option TableState) × (l : Line) × SpellsLine exchange.0 l × ReplyAlone kit name t exchange.0 l exchange.1 after
+    × RunsAlone kit name after picked
 
 gathered : (name : List ℕ) (old new : Held) (run picked : List Exchange) → Runs old run new → IsCalm run → Picks name run picked
-    → RunsAlone old.roster name (table_named old.tables name) picked
-gathered name old new [] picked runs calm none = subst (λ p. RunsAlone old.roster name (table_named old.tables name) p) (sym none) tt
+    → RunsAlone old.kit name (table_named old.tables name) picked
+gathered name old new [] picked runs calm none = subst (λ p. RunsAlone old.kit name (table_named old.tables name) p) (sym none) tt
 gathered name old new (exchange ∷ run) picked runs calm (inl names) =
     let mid = runs.0 in
     let answers = runs.1 in
     let calm_here = subst (λ r. ¬ IsDisturbed r) answers.2 calm.0 in
     let r = responds_alone old mid exchange.0 name names.1.0 names.1.1 names.1.2 answers.1 calm_here in
     let l = names.1.0 in
-    let reply = subst (λ x. ReplyAlone old.roster name (table_named old.tables name) exchange.0 l x (table_named mid.tables name)) (sym answers.2) r.0 in
+    let reply = subst (λ x. ReplyAlone old.kit name (table_named old.tables name) exchange.0 l x (table_named mid.tables name)) (sym answers.2) r.0 in
     let more = subst (λ x. RunsAlone x name (table_named mid.tables name) names.0) r.1 (gathered name mid new run names.0 runs.2 calm.1 names.3) in
-    subst (λ p. RunsAlone old.roster name (table_named old.tables name) p) (sym names.2) (table_named mid.tables name, l, names.1.1, reply, more)
+    subst (λ p. RunsAlone old.kit name (table_named old.tables name) p) (sym names.2) (table_named mid.tables name, l, names.1.1, reply, more)
 gathered name old new (exchange ∷ run) picked runs calm (inr other) =
     let mid = runs.0 in
     let r = responds_other old mid exchange.0 name other.0 runs.1.1 in
     let more = gathered name mid new run picked runs.2 calm.1 other.1 in
-    subst (λ x. RunsAlone x name (table_named old.tables name) picked) r.1 (subst (λ t. RunsAlone mid.roster name t picked) r.0 more)
+    subst (λ x. RunsAlone x name (table_named old.tables name) picked) r.1 (subst (λ t. RunsAlone mid.kit name t picked) r.0 more)
 
 one_exchange : (a b : Exchange) → a.0 ≡ b.0 → a.1 ≡ b.1 → a ≡ b
 one_exchange a b p q = λ i. (p i, q i)
@@ -230,24 +233,24 @@ one_exchange a b p q = λ i. (p i, q i)
 one_run : (a b : Exchange) (p q : List Exchange) → a ≡ b → p ≡ q → a ∷ p ≡ b ∷ q
 one_run a b p q e f = cc
 
-agreed : (roster : Terms) (name : List ℕ) (t : Option TableState) (picked others : List Exchange) → RunsAlone roster name t picked → RunsAlone roster name t others
+agreed : (kit : Kit) (name : List ℕ) (t : Option TableState) (picked others : List Exchange) → RunsAlone kit name t picked → RunsAlone kit name t others
     → map (λ exchange. exchange.0) picked ≡ map (λ exchange. exchange.0) others → picked ≡ others
-agreed roster name t [] [] one two same = refl
-agreed roster name t [] (b ∷ others) one two same = absurd cc
-agreed roster name t (a ∷ picked) [] one two same = absurd cc
-agreed roster name t (a ∷ picked) (b ∷ others) one two same =
+agreed kit name t [] [] one two same = refl
+agreed kit name t [] (b ∷ others) one two same = absurd cc
+agreed kit name t (a ∷ picked) [] one two same = absurd cc
+agreed kit name t (a ∷ picked) (b ∷ others) one two same =
     let line : b.0 ≡ a.0 = cc in
     let lines : map (λ exchange. exchange.0) picked ≡ map (λ exchange. exchange.0) others = cc in
     let spelled = subst (λ x. SpellsLine x two.1) line two.2 in
-    let again = subst (λ x. ReplyAlone roster name t x two.1 b.1 two.0) line two.3 in
-    let meant = subst (λ x. ReplyAlone roster name t a.0 x b.1 two.0) (one_line a.0 two.1 one.1 spelled one.2) again in
-    let r = one_reply roster name t a.0 one.1 a.1 b.1 one.0 two.0 one.3 meant in
+    let again = subst (λ x. ReplyAlone kit name t x two.1 b.1 two.0) line two.3 in
+    let meant = subst (λ x. ReplyAlone kit name t a.0 x b.1 two.0) (one_line a.0 two.1 one.1 spelled one.2) again in
+    let r = one_reply kit name t a.0 one.1 a.1 b.1 one.0 two.0 one.3 meant in
     one_run a b picked others (one_exchange a b (sym line) r.0)
-    (agreed roster name one.0 picked others one.4 (subst (λ x. RunsAlone roster name x others) (sym r.1) two.4) lines)
+    (agreed kit name one.0 picked others one.4 (subst (λ x. RunsAlone kit name x others) (sym r.1) two.4) lines)
 
 pub is_alone : Alone
-is_alone name one two one_end two_end run other picked others runs runs_other roster table calm calm_other picks picks_other same =
+is_alone name one two one_end two_end run other picked others runs runs_other kit table calm calm_other picks picks_other same =
     let there = gathered name two two_end other others runs_other calm_other picks_other in
-    let moved = subst (λ t. RunsAlone two.roster name t others) (sym table) there in
-    agreed one.roster name (table_named one.tables name) picked others (gathered name one one_end run picked runs calm picks)
-    (subst (λ x. RunsAlone x name (table_named one.tables name) others) (sym roster) moved) same
+    let moved = subst (λ t. RunsAlone two.kit name t others) (sym table) there in
+    agreed one.kit name (table_named one.tables name) picked others (gathered name one one_end run picked runs calm picks)
+    (subst (λ x. RunsAlone x name (table_named one.tables name) others) (sym kit) moved) same

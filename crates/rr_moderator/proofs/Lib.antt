@@ -1,10 +1,10 @@
 pub mod Records
 pub mod Listing
-pub mod Playing
-pub mod KitLemmas
+pub mod Outcomes
 pub mod WorldLemmas
 pub mod Replies
 pub mod ServingLemmas
+pub mod Telling
 pub mod DurabilityLemmas
 pub mod AlongLemmas
 pub mod OneWorldLemmas

@@ -1,10 +1,11 @@
 -- Lists that grow by one.
 use Rattle.std.proofs.Common.{◌≡◌, ℕ, ◌+◌, ◌<◌, ◌++◌, Bool, List, [], ◌∷◌, length, map, filter, take, get_or, ap, sym, ◌∙◌, append_assoc, codes}
-use Rattle.std.proofs.lemmas.List.{map-append, take_more}
+use Rattle.std.proofs.lemmas.List.{flat_map_more, map-append, take_more}
 use Rattle.std.proofs.lemmas.List.Elements.{filter-append}
 use Rattle.std.proofs.lemmas.List.Concat.{flat_map-append}
 use Rattle.rr_roster.specs.declared.company.Private.{Private}
-use Rattle.rr_roster.specs.Company.{private_name}
+use Rattle.rr_roster.specs.declared.company.Corp.{Corp}
+use Rattle.rr_roster.specs.Company.{corp_name, private_name}
 use Rattle.rr_moderator.specs.Answer.{spaced}
 
 pub listed_more : (t : Private → Bool) (ps : List Private) (i : ℕ) (d : Private) → i < length ps →
@@ -26,3 +27,14 @@ written_more t ps i d before old new h so_far step =
     ∙ ap (λ l. l ++ spaced (map private_name (filter t (get_or ps i d ∷ [])))) so_far
     ∙ append_assoc before (spaced (map private_name (filter t (take i ps)))) (spaced (map private_name (filter t (get_or ps i d ∷ []))))
     ∙ ap (λ l. before ++ l) (sym (listed_more t ps i d h))
+
+-- a list of corporations with one more, behind what was written
+pub corps_more : (cs : List Corp) (i : ℕ) (d : Corp) (before old new : List ℕ) → i < length cs →
+    old ≡ before ++ spaced (map corp_name (take i cs)) →
+    new ≡ old ++ (codes " " ++ corp_name (get_or cs i d)) →
+    new ≡ before ++ spaced (map corp_name (take (i + 1) cs))
+corps_more cs i d before old new h so_far step =
+    step
+    ∙ ap (λ l. l ++ (codes " " ++ corp_name (get_or cs i d))) so_far
+    ∙ flat_map_more (λ word. codes " " ++ word) before (map corp_name (take i cs)) (corp_name (get_or cs i d))
+    ∙ ap (λ l. before ++ spaced l) (sym (ap (map corp_name) (take_more cs i d h) ∙ map-append corp_name (take i cs) (get_or cs i d ∷ [])))

@@ -1,40 +1,38 @@
 -- A file opens as one world.
 use Rattle.std.proofs.Common.{◌≡◌, ℕ, List, [], ◌∷◌, false, refl, sym, subst, ◌∙◌}
-use Rattle.rr_roster.specs.Terms.{Terms}
+use Rattle.rr_game.specs.declared.kit.Kit.{Kit}
 use Rattle.rr_code.proofs.TextLemmas.{record-unique}
-use Rattle.rr_keeper.specs.File.{IsNewStore, Kit, kit_place}
+use Rattle.rr_keeper.specs.File.{kit_place}
 use Rattle.rr_keeper.proofs.Halves.{one_reading}
 use Rattle.rr_keeper.proofs.Kits.{one_kit}
-use Rattle.rr_moderator.specs.Kits.{IsRightKit}
-use Rattle.rr_moderator.specs.Replaying.{Opens, Replays, TakesRecord}
-use Rattle.rr_moderator.specs.Serving.{Held}
+use Rattle.rr_moderator.specs.Replaying.{Replays, TakesRecord}
 use Rattle.rr_moderator.specs.World.{World, world_after}
 use Rattle.rr_moderator.specs.OneWorld.{NewStoreOpens, OneWorld}
 
-same_step : (roster other : Terms) (old a b : World) (bytes : List ℕ) → TakesRecord roster old bytes a → TakesRecord other old bytes b → a ≡ b
-same_step roster other old a b bytes ta tb =
+same_step : (kit other : Kit) (old a b : World) (bytes : List ℕ) → TakesRecord kit old bytes a → TakesRecord other old bytes b → a ≡ b
+same_step kit other old a b bytes ta tb =
     let same = record-unique ta.name tb.name ta.command tb.command bytes ta.spelled tb.spelled in
     ta.taken ∙ ((λ i. world_after old (same.0 i) (same.1 i)) ∙ sym tb.taken)
 
-same_replay : (roster other : Terms) (old a b : World) (records : List (List ℕ)) → Replays roster old records a → Replays other old records b → a ≡ b
-same_replay roster other old a b [] ra rb = ra ∙ sym rb
-same_replay roster other old a b (bytes ∷ records) ra rb =
-    let same = same_step roster other old ra.0 rb.0 bytes ra.1 rb.1 in
-    same_replay roster other rb.0 a b records (subst (λ (w : World). Replays roster w records a) same ra.2) rb.2
+same_replay : (kit other : Kit) (old a b : World) (records : List (List ℕ)) → Replays kit old records a → Replays other old records b → a ≡ b
+same_replay kit other old a b [] ra rb = ra ∙ sym rb
+same_replay kit other old a b (bytes ∷ records) ra rb =
+    let same = same_step kit other old ra.0 rb.0 bytes ra.1 rb.1 in
+    same_replay kit other rb.0 a b records (subst (λ (w : World). Replays kit w records a) same ra.2) rb.2
 
 pub one_world : OneWorld
 one_world file a b one other =
     let records = one_reading file one.records other.records _ _ one.store.records other.store.records in (
-      one_kit file kit_place one.kit other.kit one.store.texts other.store.texts,
+      one_kit file kit_place one.texts other.texts one.store.texts other.store.texts,
       records.0,
-      same_replay a.roster b.roster [] a.tables b.tables one.records one.replayed.replayed
-          (subst (λ (rs : List (List ℕ)). Replays b.roster [] rs b.tables) records.0 other.replayed.replayed),
+      same_replay a.kit b.kit [] a.tables b.tables one.records one.replayed.replayed
+          (subst (λ (rs : List (List ℕ)). Replays b.kit [] rs b.tables) records.0 other.replayed.replayed),
       one.whole ∙ sym other.whole,
     )
 
 pub new_store_opens : NewStoreOpens
-new_store_opens file kit new right = (
-  record { roster = right.0; tables = []; broken = false },
-  record { kit = kit; records = []; store = new.store; replayed = record { right = right.1; replayed = refl }; whole = refl },
+new_store_opens file texts new right = (
+  record { kit = right.0; tables = []; broken = false },
+  record { texts = texts; records = []; store = new.store; replayed = record { right = right.1; replayed = refl }; whole = refl },
   refl,
 )

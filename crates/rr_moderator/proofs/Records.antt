@@ -1,9 +1,9 @@
 -- A record has bytes, and no bid of more than ten digits.
 use Rattle.std.proofs.Common.{ℕ, ◌<◌, ◌≤◌, List, length, length-append, arith}
 use Rattle.rr_code.specs.declared.command.Command.{Command}
-use Rattle.rr_code.specs.declared.command.Command.TheVariants.{Open, BuyPrivate, Bid, Pass, Par}
+use Rattle.rr_code.specs.declared.command.Command.TheVariants.{Open, BuyPrivate, Bid, Pass, Par, BuyShare, Sell, Swap, Done}
 use Rattle.rr_code.specs.Command.{IsCommand, record_text, SpellsRecord}
-use Rattle.rr_moderator.specs.World.{amount_in}
+use Rattle.rr_game.specs.Names.{amount_in}
 
 record_text-length : (table : List ℕ) (c : Command) → 0 < length (record_text table c)
 record_text-length table (Open players) = simp length-append (omega arith)
@@ -11,16 +11,17 @@ record_text-length table (BuyPrivate player) = simp length-append (omega arith)
 record_text-length table (Bid player private amount) = simp length-append (omega arith)
 record_text-length table (Pass player) = simp length-append (omega arith)
 record_text-length table (Par player corp price) = simp length-append (omega arith)
+record_text-length table (BuyShare player corp source) = simp length-append (omega arith)
+record_text-length table (Sell player corp count) = simp length-append (omega arith)
+record_text-length table (Swap player source) = simp length-append (omega arith)
+record_text-length table (Done player) = simp length-append (omega arith)
 
 pub record-not_empty : (bytes table : List ℕ) (c : Command) → SpellsRecord bytes table c → 0 < length bytes
 record-not_empty bytes table c h = rw h.spelled (record_text-length table c)
 
 pub amount-small : (c : Command) → IsCommand c → amount_in c ≤ 10000000000
-amount-small (Open players) h = omega arith
-amount-small (BuyPrivate player) h = omega arith
 amount-small (Bid player private amount) h = omega (arith, h.1)
-amount-small (Pass player) h = omega arith
-amount-small (Par player corp price) h = omega arith
+amount-small _ h = omega arith
 
 pub recorded_amount-small : (bytes table : List ℕ) (c : Command) → SpellsRecord bytes table c → amount_in c ≤ 10000000000
 recorded_amount-small bytes table c h = amount-small c h.command

@@ -2,7 +2,7 @@
 use Rattle.std.proofs.Common.{◌≡◌, ◌⊎◌, ℕ, ◌+◌, ◌<◌, false, List, [], ◌∷◌, ◌++◌, length, map, take, drop, get_or, Some, Result, Ok, inl, inr, refl, sym, ap, subst, ◌∙◌, add-one, take-append-drop}
 use Rattle.std.proofs.lemmas.List.{map-append, take_more}
 use Rattle.std.proofs.Math.Seq.{drop-cons}
-use Rattle.rr_roster.specs.Terms.{Terms}
+use Rattle.rr_game.specs.declared.kit.Kit.{Kit}
 use Rattle.rr_code.specs.declared.command.Command.{Command}
 use Rattle.rr_code.specs.declared.fault.Fault as code
 use Rattle.rr_code.specs.Command.{SpellsRecord}
@@ -11,17 +11,17 @@ use Rattle.rr_keeper.specs.declared.fault.Fault.TheVariants as K
 use Rattle.rr_keeper.specs.Opening.{Refuses}
 use Rattle.rr_moderator.specs.declared.fault.Fault.{Fault}
 use Rattle.rr_moderator.specs.declared.fault.Fault.TheVariants as F
-use Rattle.rr_keeper.specs.File.{Kit}
+use Rattle.rr_keeper.specs.File.{Kit as Texts}
 use Rattle.rr_moderator.specs.Fault.{of_keeper}
 use Rattle.rr_moderator.specs.Replaying.{BreaksOff, IsUnlawful, RefusesOpening, RefusesReplay, Replays, TakesRecord, damage_of, record_verdict}
 use Rattle.rr_moderator.specs.World.{MayRefuse, World, present_stamp, table_named, verdict_in}
 
-pub Replays-push : (roster : Terms) (old mid new : World) (records : List (List ℕ)) (bytes : List ℕ)
-    → Replays roster old records mid → TakesRecord roster mid bytes new → Replays roster old (records ++ bytes ∷ []) new
-Replays-push roster old mid new [] bytes same takes =
-    (new, subst (λ w. TakesRecord roster w bytes new) same takes, refl)
-Replays-push roster old mid new (first ∷ records) bytes replays takes =
-    (replays.0, replays.1, Replays-push roster replays.0 mid new records bytes replays.2 takes)
+pub Replays-push : (kit : Kit) (old mid new : World) (records : List (List ℕ)) (bytes : List ℕ)
+    → Replays kit old records mid → TakesRecord kit mid bytes new → Replays kit old (records ++ bytes ∷ []) new
+Replays-push kit old mid new [] bytes same takes =
+    (new, subst (λ w. TakesRecord kit w bytes new) same takes, refl)
+Replays-push kit old mid new (first ∷ records) bytes replays takes =
+    (replays.0, replays.1, Replays-push kit replays.0 mid new records bytes replays.2 takes)
 
 abbrev pub Reads : Type 0
 Reads = List ℕ × Command
@@ -30,27 +30,27 @@ same_read : (x y : Reads) (r s : Result Reads code.Fault) → r ≡ Ok x → s �
 same_read x y r s p q e = cc
 
 -- the one command that a record spells is refused
-unlawful : (roster : Terms) (tables : World) (bytes name : List ℕ) (c : Command) (fault : Fault)
+unlawful : (kit : Kit) (tables : World) (bytes name : List ℕ) (c : Command) (fault : Fault)
     → ((table : List ℕ) (other : Command) → SpellsRecord bytes table other → let r : Result Reads code.Fault = Ok (name, c) in r ≡ Ok (table, other))
-    → record_verdict roster tables name c ≡ Some fault → IsUnlawful roster tables bytes
-unlawful roster tables bytes name c fault only refused table other spells lawful =
+    → record_verdict kit tables name c ≡ Some fault → IsUnlawful kit tables bytes
+unlawful kit tables bytes name c fault only refused table other spells lawful =
     let same = same_read (name, c) (table, other) _ _ refl refl (only table other spells) in
-    let first = subst (λ (x : Reads). record_verdict roster tables x.0 x.1 ≡ Some fault) same refused in
+    let first = subst (λ (x : Reads). record_verdict kit tables x.0 x.1 ≡ Some fault) same refused in
     cc
 
 -- where no file keeps the record, its command is refused by a rule or for want of memory
-pub refused_record : (roster : Terms) (tables : World) (bytes name : List ℕ) (c : Command) (stamp : ℕ) (fault : Fault)
+pub refused_record : (kit : Kit) (tables : World) (bytes name : List ℕ) (c : Command) (stamp : ℕ) (fault : Fault)
     → ((table : List ℕ) (other : Command) → SpellsRecord bytes table other → let r : Result Reads code.Fault = Ok (name, c) in r ≡ Ok (table, other))
     → stamp ≡ present_stamp (table_named tables name)
-    → MayRefuse (verdict_in roster tables stamp name c) false false fault false
-    → (fault ≡ F.OutOfMemory) ⊎ IsUnlawful roster tables bytes
-refused_record roster tables bytes name c stamp fault only at (inl by_rule) =
-    inr (unlawful roster tables bytes name c fault only (subst (λ n. verdict_in roster tables n name c ≡ Some fault) at by_rule.0))
-refused_record roster tables bytes name c stamp F.OutOfMemory only at (inr out) = inl refl
-refused_record roster tables bytes name c stamp F.HalfFull only at (inr out) = let both = out.1.1 in cc
-refused_record roster tables bytes name c stamp F.DeviceFailed only at (inr out) = let both = out.1 in cc
-refused_record roster tables bytes name c stamp F.OpenAgain only at (inr out) = let both = out.1 in cc
-refused_record roster tables bytes name c stamp fault only at (inr out) = absurd out.1
+    → MayRefuse (verdict_in kit tables stamp name c) false false fault false
+    → (fault ≡ F.OutOfMemory) ⊎ IsUnlawful kit tables bytes
+refused_record kit tables bytes name c stamp fault only at (inl by_rule) =
+    inr (unlawful kit tables bytes name c fault only (subst (λ n. verdict_in kit tables n name c ≡ Some fault) at by_rule.0))
+refused_record kit tables bytes name c stamp F.OutOfMemory only at (inr out) = inl refl
+refused_record kit tables bytes name c stamp F.HalfFull only at (inr out) = let both = out.1.1 in cc
+refused_record kit tables bytes name c stamp F.DeviceFailed only at (inr out) = let both = out.1 in cc
+refused_record kit tables bytes name c stamp F.OpenAgain only at (inr out) = let both = out.1 in cc
+refused_record kit tables bytes name c stamp fault only at (inr out) = absurd out.1
 
 module _ {X : Type 0} (f : X → List ℕ) (xs : List X) (i : ℕ) (d : X) (within : i < length xs) where
   here_on : drop i xs ≡ get_or xs i d ∷ drop (i + 1) xs
@@ -66,16 +66,16 @@ module _ {X : Type 0} (f : X → List ℕ) (xs : List X) (i : ℕ) (d : X) (with
   more_at = ap (map f) (take_more xs i d within) ∙ map-append f (take i xs) (get_or xs i d ∷ [])
 
   -- one record more is taken
-  pub replays_more : (roster now : Terms) (old mid new : World) (bytes : List ℕ) → bytes ≡ f (get_or xs i d) → now ≡ roster
-      → Replays roster old (map f (take i xs)) mid → TakesRecord now mid bytes new → Replays roster old (map f (take (i + 1) xs)) new
-  replays_more roster now old mid new bytes same kept so_far takes =
-      subst (λ records. Replays roster old records new) (ap (λ b. map f (take i xs) ++ b ∷ []) same ∙ sym more_at)
-      (Replays-push roster old mid new (map f (take i xs)) bytes so_far (subst (λ r. TakesRecord r mid bytes new) kept takes))
+  pub replays_more : (kit now : Kit) (old mid new : World) (bytes : List ℕ) → bytes ≡ f (get_or xs i d) → now ≡ kit
+      → Replays kit old (map f (take i xs)) mid → TakesRecord now mid bytes new → Replays kit old (map f (take (i + 1) xs)) new
+  replays_more kit now old mid new bytes same kept so_far takes =
+      subst (λ records. Replays kit old records new) (ap (λ b. map f (take i xs) ++ b ∷ []) same ∙ sym more_at)
+      (Replays-push kit old mid new (map f (take i xs)) bytes so_far (subst (λ r. TakesRecord r mid bytes new) kept takes))
 
   -- a record isn't taken
-  breaks_off : (roster : Terms) (old mid : World) (bytes : List ℕ) → bytes ≡ f (get_or xs i d)
-      → Replays roster old (map f (take i xs)) mid → IsUnlawful roster mid bytes → BreaksOff roster old (map f xs)
-  breaks_off roster old mid bytes same so_far not_lawful =
+  breaks_off : (kit : Kit) (old mid : World) (bytes : List ℕ) → bytes ≡ f (get_or xs i d)
+      → Replays kit old (map f (take i xs)) mid → IsUnlawful kit mid bytes → BreaksOff kit old (map f xs)
+  breaks_off kit old mid bytes same so_far not_lawful =
       record {
         front = map f (take i xs);
         next = bytes;
@@ -86,22 +86,22 @@ module _ {X : Type 0} (f : X → List ℕ) (xs : List X) (i : ℕ) (d : X) (with
         unlawful = not_lawful;
       }
 
-  damaged : (roster : Terms) (old mid : World) (bytes : List ℕ) (fault : Fault) → bytes ≡ f (get_or xs i d)
-      → Replays roster old (map f (take i xs)) mid → IsUnlawful roster mid bytes
-      → (damage_of fault ≡ F.OutOfMemory) ⊎ ((damage_of fault ≡ F.Damaged 8) × BreaksOff roster old (map f xs))
-  damaged roster old mid bytes F.OutOfMemory same so_far not_lawful = inl refl
-  damaged roster old mid bytes fault same so_far not_lawful = inr (refl, breaks_off roster old mid bytes same so_far not_lawful)
+  damaged : (kit : Kit) (old mid : World) (bytes : List ℕ) (fault : Fault) → bytes ≡ f (get_or xs i d)
+      → Replays kit old (map f (take i xs)) mid → IsUnlawful kit mid bytes
+      → (damage_of fault ≡ F.OutOfMemory) ⊎ ((damage_of fault ≡ F.Damaged 8) × BreaksOff kit old (map f xs))
+  damaged kit old mid bytes F.OutOfMemory same so_far not_lawful = inl refl
+  damaged kit old mid bytes fault same so_far not_lawful = inr (refl, breaks_off kit old mid bytes same so_far not_lawful)
 
-  pub replays_end : (roster now : Terms) (old mid : World) (bytes : List ℕ) (fault : Fault) → bytes ≡ f (get_or xs i d) → now ≡ roster
-      → Replays roster old (map f (take i xs)) mid → (fault ≡ F.OutOfMemory) ⊎ IsUnlawful now mid bytes
-      → (damage_of fault ≡ F.OutOfMemory) ⊎ ((damage_of fault ≡ F.Damaged 8) × BreaksOff roster old (map f xs))
-  replays_end roster now old mid bytes fault same kept so_far (inl memory) = inl (ap damage_of memory)
-  replays_end roster now old mid bytes fault same kept so_far (inr not_lawful) =
-      damaged roster old mid bytes fault same so_far (subst (λ r. IsUnlawful r mid bytes) kept not_lawful)
+  pub replays_end : (kit now : Kit) (old mid : World) (bytes : List ℕ) (fault : Fault) → bytes ≡ f (get_or xs i d) → now ≡ kit
+      → Replays kit old (map f (take i xs)) mid → (fault ≡ F.OutOfMemory) ⊎ IsUnlawful now mid bytes
+      → (damage_of fault ≡ F.OutOfMemory) ⊎ ((damage_of fault ≡ F.Damaged 8) × BreaksOff kit old (map f xs))
+  replays_end kit now old mid bytes fault same kept so_far (inl memory) = inl (ap damage_of memory)
+  replays_end kit now old mid bytes fault same kept so_far (inr not_lawful) =
+      damaged kit old mid bytes fault same so_far (subst (λ r. IsUnlawful r mid bytes) kept not_lawful)
 
 -- the records of a file, read from where they are kept
-pub refuses_read : (kit : Kit) (records records' : List (List ℕ)) (fault : Fault) → records ≡ records' → RefusesReplay kit records fault → RefusesReplay kit records' fault
-refuses_read kit records records' fault same refused = subst (λ x. RefusesReplay kit x fault) same refused
+pub refuses_read : (texts : Texts) (records records' : List (List ℕ)) (fault : Fault) → records ≡ records' → RefusesReplay texts records fault → RefusesReplay texts records' fault
+refuses_read texts records records' fault same refused = subst (λ x. RefusesReplay texts x fault) same refused
 
 -- a file that the keeper refuses
 pub refused_file : (Honest : Type 0) (file : List ℕ) (fault : keeper.Fault) → Refuses Honest file fault → RefusesOpening Honest file (of_keeper fault)

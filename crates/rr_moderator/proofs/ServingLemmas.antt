@@ -1,6 +1,6 @@
 -- What a moderator answers, from what its parts did.
 use Rattle.std.proofs.Common.{◌≡◌, ℕ, ◌≤◌, Bool, false, true, List, length, Option, None, Some, Result, Ok, Err, inl, inr, MatchResult, refl, sym, ap, subst, ◌∙◌}
-use Rattle.rr_roster.specs.Terms.{Terms}
+use Rattle.rr_game.specs.declared.kit.Kit.{Kit}
 use Rattle.rr_code.specs.declared.command.Command.{Command}
 use Rattle.rr_moderator.specs.declared.fault.Fault.{Fault}
 use Rattle.rr_moderator.specs.declared.fault.Fault.TheVariants as F
@@ -12,14 +12,14 @@ use Rattle.rr_code.specs.declared.line.Line.TheVariants as L
 use Rattle.rr_code.specs.Line.{SpellsLine}
 use Rattle.rr_moderator.specs.Serving.{Held, MayAppend, Takes, Accepted, Refused, NoRoom, Fails, accepted_reply, outcome_of, reply_to}
 
-abbrev pub held : Terms → World → Bool → Held
-held roster tables broken = record { roster = roster; tables = tables; broken = broken }
+abbrev pub held : Kit → World → Bool → Held
+held kit tables broken = record { kit = kit; tables = tables; broken = broken }
 
-pub held_same : (r r' : Terms) (t t' : World) (b b' : Bool) → r' ≡ r → t' ≡ t → b' ≡ b → held r' t' b' ≡ held r t b
+pub held_same : (r r' : Kit) (t t' : World) (b b' : Bool) → r' ≡ r → t' ≡ t → b' ≡ b → held r' t' b' ≡ held r t b
 held_same r r' t t' b b' p q s = cc
 
 -- a command that wasn't taken
-pub takes_refused : (r r' : Terms) (t t' : World) (b b' : Bool) (stamp : ℕ) (name : List ℕ) (c : Command) (fault : Fault)
+pub takes_refused : (r r' : Kit) (t t' : World) (b b' : Bool) (stamp : ℕ) (name : List ℕ) (c : Command) (fault : Fault)
     → b ≡ false → r' ≡ r → t' ≡ t → MayRefuse (verdict_in r t stamp name c) true b fault b'
     → Takes (held r t b) stamp name c (held r' t' b') (Err fault)
 takes_refused r r' t t' b b' stamp name c fault whole p q (inl by_rule) =
@@ -35,7 +35,7 @@ takes_refused r r' t t' b b' stamp name c F.OpenAgain whole p q (inr out) =
 takes_refused r r' t t' b b' stamp name c fault whole p q (inr out) = absurd out.1
 
 -- a command that was taken
-pub takes_accepted : (r r' : Terms) (t t' : World) (b b' : Bool) (stamp n : ℕ) (name : List ℕ) (c : Command) (text : List ℕ)
+pub takes_accepted : (r r' : Kit) (t t' : World) (b b' : Bool) (stamp n : ℕ) (name : List ℕ) (c : Command) (text : List ℕ)
     → b ≡ false → b' ≡ false → r' ≡ r → t' ≡ world_after t name c → verdict_in r t stamp name c ≡ None
     → n ≡ (state_after (table_named t name) c).stamp → text ≡ accepted_text name n
     → Takes (held r t b) stamp name c (held r' t' b') (Ok text)
@@ -58,9 +58,9 @@ queried answer (Err fault) reply h = reply_refused answer fault h
 
 -- what a refused command leaves alone, a line that isn't a lawful command leaves alone
 pub untouched_by : {K : Type 0} (held : Held) (line : List ℕ) (stamp : ℕ) (name : List ℕ) (c : Command) (verdict : Option Fault) (new old : K)
-    → verdict_in held.roster held.tables stamp name c ≡ verdict
+    → verdict_in held.kit held.tables stamp name c ≡ verdict
     → length line ≤ 8000 → SpellsLine line (L.Command stamp name c) → held.broken ≡ false
-    → ((fault : Fault) → verdict_in held.roster held.tables stamp name c ≡ Some fault → new ≡ old)
+    → ((fault : Fault) → verdict_in held.kit held.tables stamp name c ≡ Some fault → new ≡ old)
     → ¬ MayAppend held line → new ≡ old
 untouched_by held line stamp name c None new old is short spelled whole untouched unlawful =
     absurd (unlawful (record { stamp = stamp; name = name; command = c; short = short; spelled = spelled; whole = whole; lawful = is }))

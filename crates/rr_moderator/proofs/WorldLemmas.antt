@@ -1,12 +1,16 @@
 -- Tables in a map, as the tables by name that they stand for.
-use Rattle.std.proofs.Common.{◌≡◌, ℕ, suc, Bool, true, false, cond, List, [], ◌∷◌, ◌++◌, length, Option, None, Some, option_map, refl, sym, ap, ◌∙◌, bytes_eq, if◌then◌else◌, IfOk, Result, Ok, Err}
+use Rattle.std.proofs.Common.{◌≡◌, ℕ, suc, Bool, true, false, cond, List, [], ◌∷◌, ◌++◌, length, Option, None, Some, option_map, inl, inr, refl, sym, ap, ◌∙◌, ◌==◌, bytes_eq, if◌then◌else◌, IfOk, Result, Ok, Err}
 use Rattle.std.specs.Map.{lookup, set_value}
 use Rattle.indexmap.specs.IndexMap.{insert_entry}
 use Rattle.rr_code.specs.declared.command.Command.{Command}
 use Rattle.rr_code.specs.declared.command.Command.TheVariants.{Open}
-use Rattle.rr_roster.specs.Terms.{Terms}
+use Rattle.rr_game.specs.declared.fault.Fault as game
+use Rattle.rr_game.specs.declared.kit.Kit.{Kit}
+use Rattle.rr_game.specs.Play.{play, players_of}
+use Rattle.rr_game.specs.Verdict.{MayJudge, command_verdict}
 use Rattle.rr_moderator.specs.declared.fault.Fault.{Fault}
-use Rattle.rr_moderator.specs.World.{TableState, opening_verdict, state_after, step_verdict, table_named, table_of, verdict_in, world_after, world_by}
+use Rattle.rr_moderator.specs.Fault.{of_game}
+use Rattle.rr_moderator.specs.World.{MayFind, TableState, is_full, opening_verdict, state_after, step_verdict, table_named, table_of, table_verdict, verdict_in, world_after, world_by}
 
 module _ {T : Type 0} (state : T → TableState) where
   named_step : (b : Bool) (e : List ℕ × T) (o : Option T) (p : Option TableState) → p ≡ option_map state o
@@ -69,19 +73,19 @@ module _ {T : Type 0} (state : T → TableState) where
       ∙ ap (λ o. insert_entry bytes_eq (world_by state entries) name (state_after o c)) (sym (named_by name entries ∙ ap (option_map state) none))
 
   -- the verdict of an opening, and of another command
-  pub opening_in : (roster : Terms) (name : List ℕ) (entries : List (List ℕ × T)) (stamp : ℕ) (players : List (List ℕ))
-      → verdict_in roster (world_by state entries) stamp name (Open players)
+  pub opening_in : (kit : Kit) (name : List ℕ) (entries : List (List ℕ × T)) (stamp : ℕ) (players : List (List ℕ))
+      → verdict_in kit (world_by state entries) stamp name (Open players)
       ≡ opening_verdict (option_map state (lookup (bytes_eq name) entries)) (length entries) stamp
-  opening_in roster name entries stamp players =
+  opening_in kit name entries stamp players =
       ap (λ o. opening_verdict o (length (world_by state entries)) stamp) (named_by name entries)
       ∙ ap (λ n. opening_verdict (option_map state (lookup (bytes_eq name) entries)) n stamp) (counted_by entries)
 
-  pub step_in : (roster : Terms) (name : List ℕ) (entries : List (List ℕ × T)) (stamp : ℕ) (c : Command)
+  pub step_in : (kit : Kit) (name : List ℕ) (entries : List (List ℕ × T)) (stamp : ℕ) (c : Command)
       → ((players : List (List ℕ)) → c ≡ Open players → ⊥)
-      → verdict_in roster (world_by state entries) stamp name c
-      ≡ step_verdict roster (option_map state (lookup (bytes_eq name) entries)) stamp c
-  step_in roster name entries stamp (Open players) other = absurd (other players refl)
-  step_in roster name entries stamp c other = ap (λ o. step_verdict roster o stamp c) (named_by name entries)
+      → verdict_in kit (world_by state entries) stamp name c
+      ≡ step_verdict kit (option_map state (lookup (bytes_eq name) entries)) stamp c
+  step_in kit name entries stamp (Open players) other = absurd (other players refl)
+  step_in kit name entries stamp c other = ap (λ o. step_verdict kit o stamp c) (named_by name entries)
 
   -- the stamp of a table that is opened
   pub named_stamp : (c : Command) (r : Result ℕ Fault) (o : Option T) → IfOk r (λ new. (new ≡ 1) × (o ≡ None))
@@ -92,3 +96,13 @@ module _ {T : Type 0} (state : T → TableState) where
 -- a table that was just opened
 pub opened_state : (accepted : List Command) (stamp : ℕ) (c : Command) → accepted ≡ c ∷ [] → stamp ≡ 1 → table_of accepted stamp ≡ state_after None c
 opened_state accepted stamp c p q = ap (λ a. table_of a stamp) p ∙ ap (λ n. table_of (c ∷ []) n) q
+
+-- the verdict of a table that can take commands, at its stamp, is that of the game
+pub table_verdict_of : (kit : Kit) (t : TableState) (stamp : ℕ) (c : Command) → (t.stamp == stamp) ≡ true → is_full t ≡ false
+    → table_verdict kit t stamp c ≡ option_map of_game (command_verdict kit (players_of t.accepted) (play kit t.accepted) c)
+table_verdict_of kit t stamp c e f = rw (e, f) refl
+
+-- what a table finds, from what its game does
+pub found : (verdict : Option game.Fault) (fault : game.Fault) → MayJudge verdict fault → MayFind (option_map of_game verdict) (of_game fault)
+found verdict fault (inl refused) = inl (ap (option_map of_game) refused)
+found verdict fault (inr memory) = inr (ap (option_map of_game) memory.0, ap of_game memory.1)

@@ -22,6 +22,9 @@ query_table (Q.Cash table of) = Some table
 query_table (Q.Limit table) = Some table
 query_table (Q.Asked table) = Some table
 query_table (Q.Privates table of) = Some table
+query_table (Q.Holds table player corp) = Some table
+query_table (Q.Price table corp) = Some table
+query_table (Q.Order table) = Some table
 
 -- the table that a line names, if it names one
 abbrev pub line_table : Line → Option (List ℕ)
@@ -68,7 +71,7 @@ abbrev pub Alone : Type 0
 Alone =
     (name : List ℕ) (one two one_end two_end : Held) (run other picked others : List Exchange)
     → Runs one run one_end → Runs two other two_end
-    → one.roster ≡ two.roster → table_named one.tables name ≡ table_named two.tables name
+    → one.kit ≡ two.kit → table_named one.tables name ≡ table_named two.tables name
     → IsCalm run → IsCalm other → Picks name run picked → Picks name other others
     → map (λ exchange. exchange.0) picked ≡ map (λ exchange. exchange.0) others
     → picked ≡ others

@@ -4,6 +4,7 @@ use Rattle.std.specs.List.{flat_map}
 use Rattle.std.specs.Fmt.{signed_decimal}
 use Rattle.rr_roster.specs.declared.company.Private.{Private}
 use Rattle.rr_roster.specs.Company.{private_name}
+use Rattle.rr_books.specs.declared.entries.Cell.{Cell}
 use Rattle.rr_books.specs.declared.parties.Money.{Money}
 use Rattle.rr_books.specs.declared.parties.Place.{Place}
 use Rattle.rr_books.specs.declared.certificates.Cert.TheVariants as C
@@ -26,6 +27,11 @@ answer_of (word ∷ words) = codes "=" ++ spaced (word ∷ words)
 abbrev pub asked_words : Option (Private × Money) → List (List ℕ)
 asked_words None = []
 asked_words (Some offer) = private_name offer.0 ∷ signed_decimal offer.1.0 ∷ []
+
+-- the price of a share, with the row and the column of the token's cell
+abbrev pub price_words : Option (ℕ × Cell) → List (List ℕ)
+price_words None = []
+price_words (Some quoted) = decimal quoted.0 ∷ decimal quoted.1.row ∷ decimal quoted.1.column ∷ []
 
 -- the privates at a place, in the order of every roster
 abbrev pub owned : Holders → Place → List Private

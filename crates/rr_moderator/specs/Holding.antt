@@ -20,7 +20,7 @@ world_of entries = world_by state_of entries
 
 -- what tables in memory, and the keeper of their file, hold
 abbrev pub held_by : {D : Type 0} → Keeper D → Tables → Held
-held_by keeper tables = record { roster = tables.roster; tables = world_of tables.map.entries; broken = is_broken keeper }
+held_by keeper tables = record { kit = tables.kit; tables = world_of tables.map.entries; broken = is_broken keeper }
 
 -- what a moderator holds, and the reply that it made last
 abbrev pub spoken_by : {D : Type 0} → State D → Spoken

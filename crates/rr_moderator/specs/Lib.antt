@@ -1,11 +1,10 @@
 pub mod Fault
 pub mod Answer
 pub mod World
-pub mod Keeping
 pub mod Queries
 pub mod Serving
 pub mod Holding
-pub mod Kits
+pub mod Formatting
 pub mod Replaying
 pub mod Durability
 pub mod OneWorld

@@ -1,6 +1,6 @@
 -- What a moderator answers to a line, and what it holds afterwards.
 use Rattle.std.specs.Prelude.{◌≡◌, ℕ, ◌<◌, ◌≤◌, ◌⊎◌, Bool, true, false, List, length, None, Some, Result, Ok, Err}
-use Rattle.rr_roster.specs.Terms.{Terms}
+use Rattle.rr_game.specs.declared.kit.Kit.{Kit}
 use Rattle.rr_code.specs.declared.command.Command.{Command}
 use Rattle.rr_code.specs.declared.line.Line.{Line}
 use Rattle.rr_code.specs.declared.line.Line.TheVariants as L
@@ -13,17 +13,17 @@ use Rattle.rr_moderator.specs.Answer.{accepted_text}
 use Rattle.rr_moderator.specs.Queries.{query_text}
 use Rattle.rr_moderator.specs.World.{World, state_after, table_named, verdict_in, world_after}
 
--- what a moderator holds: the kit's roster, the tables, and whether the device failed since the file was opened
+-- what a moderator holds: the kit, the tables, and whether the device failed since the file was opened
 pub record Held : Type 0 where
-  pub roster : Terms
+  pub kit : Kit
   pub tables : World
   pub broken : Bool
 
 abbrev pub with_tables : Held → World → Held
-with_tables held tables = record { roster = held.roster; tables = tables; broken = held.broken }
+with_tables held tables = record { kit = held.kit; tables = tables; broken = held.broken }
 
 abbrev pub with_failure : Held → Held
-with_failure held = record { roster = held.roster; tables = held.tables; broken = true }
+with_failure held = record { kit = held.kit; tables = held.tables; broken = true }
 
 -- the reply to an accepted command: it tells the table's new stamp
 abbrev pub accepted_reply : World → List ℕ → Command → List ℕ
@@ -33,18 +33,18 @@ accepted_reply tables name command =
 -- what comes of a command to a device that hasn't failed: the text of its reply, or why it is refused
 pub data Takes (old : Held) (stamp : ℕ) (name : List ℕ) (command : Command) (new : Held) : Result (List ℕ) Fault → Type 0 where
   -- no rule refuses it, and the table has taken it
-  Accepted : verdict_in old.roster old.tables stamp name command ≡ None
+  Accepted : verdict_in old.kit old.tables stamp name command ≡ None
       → new ≡ with_tables old (world_after old.tables name command)
       → Takes old stamp name command new (Ok (accepted_reply old.tables name command))
   -- the first rule that it breaks refuses it
-  Refused : (fault : Fault) → verdict_in old.roster old.tables stamp name command ≡ Some fault
+  Refused : (fault : Fault) → verdict_in old.kit old.tables stamp name command ≡ Some fault
       → new ≡ old → Takes old stamp name command new (Err fault)
   -- no rule refuses it, but there is no room for it in the file or in memory
-  NoRoom : (fault : Fault) → verdict_in old.roster old.tables stamp name command ≡ None
+  NoRoom : (fault : Fault) → verdict_in old.kit old.tables stamp name command ≡ None
       → (fault ≡ F.HalfFull) ⊎ (fault ≡ F.OutOfMemory)
       → new ≡ old → Takes old stamp name command new (Err fault)
   -- no rule refuses it, but the device failed
-  Fails : verdict_in old.roster old.tables stamp name command ≡ None
+  Fails : verdict_in old.kit old.tables stamp name command ≡ None
       → new ≡ with_failure old → Takes old stamp name command new (Err F.DeviceFailed)
 
 -- the reply: the text, or the refusal
@@ -55,7 +55,7 @@ reply_to (Err fault) = refusal_of fault
 -- what comes of a line that was read. A query changes nothing, and asks for no memory
 abbrev pub Meets : Held → Line → Held → Result (List ℕ) Fault → Type 0
 Meets old (L.Command stamp name command) new outcome = Takes old stamp name command new outcome
-Meets old (L.Query query) new outcome = (new ≡ old) × (reply_to outcome ≡ query_text old.roster old.tables query)
+Meets old (L.Query query) new outcome = (new ≡ old) × (reply_to outcome ≡ query_text old.kit old.tables query)
 
 -- what comes of a line
 pub data Responds (old : Held) (line : List ℕ) (new : Held) : Result (List ℕ) Fault → Type 0 where
@@ -76,7 +76,7 @@ pub record MayAppend (held : Held) (line : List ℕ) : Type 0 where
   pub short : length line ≤ 8000
   pub spelled : SpellsLine line (L.Command stamp name command)
   pub whole : held.broken ≡ false
-  pub lawful : verdict_in held.roster held.tables stamp name command ≡ None
+  pub lawful : verdict_in held.kit held.tables stamp name command ≡ None
 
 -- a moderator that holds this may answer the line so, and holds that afterwards
 abbrev pub Answers : Held → List ℕ → Held → List ℕ → Type 0

@@ -2,22 +2,22 @@
 ghost use Rattle.std.specs.Prelude.{◌≡◌, ◌≢◌, ◌+◌, ◌*◌, ◌≤◌, ◌++◌, List, ℕ, [], ◌∷◌, MatchResult, codes, filter, length, map, take};
 ghost use Rattle.indexmap.specs.IndexMap.{keys};
 ghost use Rattle.rr_books.specs.Shares.{is_at};
-ghost use Rattle.rr_roster.specs.Company.{private_name};
-ghost use Rattle.rr_roster.specs.Terms.{Terms};
+ghost use Rattle.rr_roster.specs.Company.{corp_name, private_name};
 ghost use Rattle.rr_books.specs.State.{holder_in};
-ghost use Rattle.rr_moderator.specs.Answer.{accepted_text, answer_of, asked_words, owned, spaced};
+ghost use Rattle.rr_moderator.specs.Answer.{accepted_text, answer_of, asked_words, owned, price_words, spaced};
 ghost use Rattle.rr_moderator.specs.Holding.{state_of, world_of};
-ghost use Rattle.rr_moderator.specs.Keeping.{IsGameOf};
-ghost use Rattle.rr_moderator.specs.Queries.{Writes, asked_answer, cash_answer, due_answer, due_words, limit_answer, player_word, privates_answer, query_answer, query_text, query_verdict, reply_of, stamp_answer, turns_answer};
+ghost use Rattle.rr_game.specs.Keeping.{IsGameOf};
+ghost use Rattle.rr_game.specs.Names.{player_word};
+ghost use Rattle.rr_moderator.specs.Queries.{Writes, asked_answer, cash_answer, due_answer, due_words, holds_answer, limit_answer, order_answer, price_answer, privates_answer, query_answer, query_text, query_verdict, reply_of, stamp_answer, turns_answer};
 
 use crate::fault::Fault;
-use crate::game::Game;
 use crate::reply::Reply;
 use crate::tables::{Table, Tables};
 use rr_auction::Due;
-use rr_books::{Cert, Money, Place, Seat};
+use rr_books::{Cell, Cert, Money, Place, Seat};
 use rr_code::{Account, Owner, Query};
-use rr_roster::{Private, Roster};
+use rr_game::{Game, Kit};
+use rr_roster::{Corp, Private};
 use rr_words::Name;
 
 impl Reply {
@@ -31,6 +31,15 @@ impl Reply {
         self.text(b" ");
         self.number(stamp);
         self.text(b"\n");
+    }
+
+    /// The name of a corporation, behind a space.
+    fn corp(&mut self, corp: Corp)
+        requires { length self.old ≤ 4000 }
+        ensures text { self.new ≡ self.old ++ (codes " " ++ corp_name corp) }
+        ensures bounded { length self.new ≤ length self.old + 5 }
+    {
+        self.word(corp.name().as_bytes());
     }
 
     /// The name of a private, behind a space.
@@ -50,9 +59,9 @@ impl Tables {
     /// `NoSuchTable`, and then `NoSuchName` where the table has no player of that name.
     pub(crate) fn answer(&self, query: &Query, reply: &mut Reply) -> Result<(), Fault>
         ensures { MatchResult result
-            (λ _. (query_verdict self.now.roster (world_of self.now.map.entries) query.now ≡ None)
-            × (reply.new ≡ query_text self.now.roster (world_of self.now.map.entries) query.now))
-            (λ fault. query_verdict self.now.roster (world_of self.now.map.entries) query.now ≡ Some fault) }
+            (λ _. (query_verdict self.now.kit (world_of self.now.map.entries) query.now ≡ None)
+            × (reply.new ≡ query_text self.now.kit (world_of self.now.map.entries) query.now))
+            (λ fault. query_verdict self.now.kit (world_of self.now.map.entries) query.now ≡ Some fault) }
     {
         reply.clear();
         self.write_answer(query, reply)?;
@@ -63,7 +72,7 @@ impl Tables {
     /// Writes the answer to a query, but for the line feed.
     fn write_answer(&self, query: &Query, reply: &mut Reply) -> Result<(), Fault>
         requires { reply.old ≡ [] }
-        ensures answer { Writes (query_answer self.now.roster (world_of self.now.map.entries) query.now) result reply.new }
+        ensures answer { Writes (query_answer self.now.kit (world_of self.now.map.entries) query.now) result reply.new }
         ensures bounded { length reply.new ≤ 1100 }
     {
         match query {
@@ -89,10 +98,23 @@ impl Tables {
                 Ok(())
             }
             Query::Asked { table } => {
-                self.table(table)?.write_asked(self.roster(), reply);
+                self.table(table)?.write_asked(self.kit(), reply);
                 Ok(())
             }
             Query::Privates { table, of } => self.table(table)?.write_privates(of, reply),
+            Query::Holds {
+                table,
+                player,
+                corp,
+            } => self.table(table)?.write_holds(player, *corp, reply),
+            Query::Price { table, corp } => {
+                self.table(table)?.write_price(*corp, self.kit(), reply);
+                Ok(())
+            }
+            Query::Order { table } => {
+                self.table(table)?.write_order(self.kit(), reply);
+                Ok(())
+            }
         }
     }
 
@@ -137,12 +159,12 @@ impl Table {
     /// Writes how many turns have ended, and to which the table can go back: to the first.
     fn write_turns(&self, reply: &mut Reply)
         requires { reply.old ≡ [] }
-        ensures text { (roster : Terms) → IsGameOf roster self.now.accepted.items self.now.game →
-            reply_of (turns_answer roster (state_of self.now)) ≡ reply.new ++ codes "\n" }
+        ensures text { (kit : Kit) → IsGameOf kit self.now.accepted.items self.now.game →
+            reply_of (turns_answer kit (state_of self.now)) ≡ reply.new ++ codes "\n" }
         ensures bounded { length reply.new ≤ 50 }
     {
         reply.text(b"= ");
-        reply.number(u64::from(self.game().turns()));
+        reply.number(self.game().turns());
         reply.text(b" ");
         reply.number(0);
     }
@@ -150,8 +172,8 @@ impl Table {
     /// Writes who is due, and the step.
     fn write_due(&self, reply: &mut Reply)
         requires { reply.old ≡ [] }
-        ensures text { (roster : Terms) → IsGameOf roster self.now.accepted.items self.now.game →
-            reply_of (due_answer roster (state_of self.now)) ≡ reply.new ++ codes "\n" }
+        ensures text { (kit : Kit) → IsGameOf kit self.now.accepted.items self.now.game →
+            reply_of (due_answer kit (state_of self.now)) ≡ reply.new ++ codes "\n" }
         ensures bounded { length reply.new ≤ 40 }
     {
         write_due(self.game(), self.game().due(), reply);
@@ -160,8 +182,8 @@ impl Table {
     /// Writes what an account has.
     fn write_cash(&self, of: &Account, reply: &mut Reply) -> Result<(), Fault>
         requires { reply.old ≡ [] }
-        ensures answer { (roster : Terms) → IsGameOf roster self.now.accepted.items self.now.game →
-            Writes (cash_answer roster of.now (state_of self.now)) result reply.new }
+        ensures answer { (kit : Kit) → IsGameOf kit self.now.accepted.items self.now.game →
+            Writes (cash_answer kit of.now (state_of self.now)) result reply.new }
         ensures bounded { length reply.new ≤ 40 }
     {
         let money = self.game().cash(of)?;
@@ -173,8 +195,8 @@ impl Table {
     /// Writes the certificate limit.
     fn write_limit(&self, reply: &mut Reply)
         requires { reply.old ≡ [] }
-        ensures text { (roster : Terms) → IsGameOf roster self.now.accepted.items self.now.game →
-            reply_of (limit_answer roster (state_of self.now)) ≡ reply.new ++ codes "\n" }
+        ensures text { (kit : Kit) → IsGameOf kit self.now.accepted.items self.now.game →
+            reply_of (limit_answer kit (state_of self.now)) ≡ reply.new ++ codes "\n" }
         ensures bounded { length reply.new ≤ 40 }
     {
         reply.text(b"= ");
@@ -182,26 +204,92 @@ impl Table {
     }
 
     /// Writes what the cheapest private costs.
-    fn write_asked(&self, roster: &Roster, reply: &mut Reply)
+    fn write_asked(&self, kit: &Kit, reply: &mut Reply)
         requires { reply.old ≡ [] }
-        ensures text { IsGameOf roster.now self.now.accepted.items self.now.game →
-            reply_of (asked_answer roster.now (state_of self.now)) ≡ reply.new ++ codes "\n" }
+        ensures text { IsGameOf kit.now self.now.accepted.items self.now.game →
+            reply_of (asked_answer kit.now (state_of self.now)) ≡ reply.new ++ codes "\n" }
         ensures bounded { length reply.new ≤ 40 }
     {
-        write_asked(self.game().asked(roster), reply);
+        write_asked(self.game().asked(kit), reply);
     }
 
     /// Writes the privates of an owner.
     fn write_privates(&self, of: &Owner, reply: &mut Reply) -> Result<(), Fault>
         requires { reply.old ≡ [] }
-        ensures answer { (roster : Terms) → IsGameOf roster self.now.accepted.items self.now.game →
-            Writes (privates_answer roster of.now (state_of self.now)) result reply.new }
+        ensures answer { (kit : Kit) → IsGameOf kit self.now.accepted.items self.now.game →
+            Writes (privates_answer kit of.now (state_of self.now)) result reply.new }
         ensures bounded { length reply.new ≤ 40 }
     {
         let place = self.game().place(of)?;
         write_privates(self.game(), place, reply);
         Ok(())
     }
+
+    /// Writes how much of a corporation a player holds.
+    fn write_holds(&self, player: &Name, corp: Corp, reply: &mut Reply) -> Result<(), Fault>
+        requires { reply.old ≡ [] }
+        ensures answer { (kit : Kit) → IsGameOf kit self.now.accepted.items self.now.game →
+            Writes (holds_answer kit player.now corp (state_of self.now)) result reply.new }
+        ensures bounded { length reply.new ≤ 40 }
+    {
+        let percent = self.game().holds(player, corp)?;
+        reply.text(b"= ");
+        reply.number(u64::from(percent));
+        Ok(())
+    }
+
+    /// Writes the price of a corporation's shares.
+    fn write_price(&self, corp: Corp, kit: &Kit, reply: &mut Reply)
+        requires { reply.old ≡ [] }
+        ensures text { IsGameOf kit.now self.now.accepted.items self.now.game →
+            reply_of (price_answer kit.now corp (state_of self.now)) ≡ reply.new ++ codes "\n" }
+        ensures bounded { length reply.new ≤ 70 }
+    {
+        write_quote(self.game().price(corp, kit), reply);
+    }
+
+    /// Writes the corporations in operating order.
+    fn write_order(&self, kit: &Kit, reply: &mut Reply)
+        requires { reply.old ≡ [] }
+        ensures text { IsGameOf kit.now self.now.accepted.items self.now.game →
+            reply_of (order_answer kit.now (state_of self.now)) ≡ reply.new ++ codes "\n" }
+        ensures bounded { length reply.new ≤ 50 }
+    {
+        write_corps(self.game().order(kit).as_slice(), reply);
+    }
+}
+
+/// Writes a share's price, and the row and the column of the token's cell.
+fn write_quote(quote: Option<(u16, Cell)>, reply: &mut Reply)
+    requires { reply.old ≡ [] }
+    ensures text { reply.new ≡ answer_of (price_words quote) }
+    ensures bounded { length reply.new ≤ 70 }
+{
+    match quote {
+        Some((price, cell)) => {
+            reply.text(b"= ");
+            reply.number(u64::from(price));
+            reply.text(b" ");
+            reply.number(u64::from(cell.row));
+            reply.text(b" ");
+            reply.number(u64::from(cell.column));
+        }
+        None => reply.text(b"= -"),
+    }
+}
+
+/// Writes the names of corporations.
+fn write_corps(corps: &[Corp], reply: &mut Reply)
+    requires empty { reply.old ≡ [] }
+    requires few { length corps.now ≤ 8 }
+    ensures text { reply.new ≡ answer_of (map corp_name corps.now) }
+    ensures bounded { length reply.new ≤ 50 }
+{
+    reply.text(b"=");
+    for corp in corps {
+        reply.corp(*corp);
+    }
+    write_nothing(reply);
 }
 
 /// Writes who is due at the game, and the step.
@@ -283,6 +371,3 @@ fn write_nothing(reply: &mut Reply)
     }
     reply.text(b" -");
 }
-
-#[cfg(test)]
-mod tests;

@@ -1,5 +1,5 @@
 ghost use Rattle.std.specs.Prelude.{◌≡◌, ◌+◌, ◌≤◌, ◌++◌, length};
-ghost use Rattle.rr_moderator.specs.Fault.{data_of, number_of, of_auction, of_board, of_chart, of_code, of_keeper, of_manifest, of_roster, of_serve, refusal_of, words_of};
+ghost use Rattle.rr_moderator.specs.Fault.{data_of, game_data, game_words, number_of, of_code, of_game, of_keeper, of_serve, refusal_of, words_of};
 ghost use Rattle.rr_moderator.specs.declared.fault.Fault.TheVariants.{OutOfMemory};
 
 use crate::reply::Reply;
@@ -9,46 +9,9 @@ use thiserror::Error;
 /// Why a line, a kit text or a file is refused.
 #[derive(Clone, Copy, Debug, Drop, PartialEq, Eq, Error)]
 pub enum Fault {
-    /// A player who isn't at the table.
-    #[error("no such name")]
-    NoSuchName,
-    /// The payer has less than the amount.
-    #[error("too little cash")]
-    TooLittleCash,
-    /// The chart's text spells no chart: its first wrong word, by its line and its place there, both from 1.
-    /// Both are 0 where no single word is wrong.
-    #[error("bad chart {line} {word}")]
-    BadChart { line: usize, word: usize },
-    /// The roster's text isn't of a roster's shape.
-    #[error("bad roster")]
-    BadRoster,
-    /// The first of its rules that a roster breaks.
-    #[error("roster rule {0}")]
-    RosterRule(u8),
-    /// The manifest's text spells no manifest; its first wrong line, from 1, or 0 where the text is wrong as a whole.
-    #[error("bad manifest {0}")]
-    BadManifest(usize),
-    /// The board's text spells no board; its first wrong line, from 1, or 0 where the text is wrong as a whole.
-    #[error("bad board {0}")]
-    BadBoard(usize),
-    /// Another seat is due.
-    #[error("not your turn")]
-    NotYourTurn,
-    /// The bid is below the least lawful one, which is given.
-    #[error("bid too low {0}")]
-    BidTooLow(u64),
-    /// The private can't be bid on now, or the corporation isn't the one that is due a par.
-    #[error("not for sale")]
-    NotForSale,
-    /// The player has the money, but has bid it on other privates.
-    #[error("cash tied up")]
-    CashTiedUp,
-    /// No corporation may begin at this price.
-    #[error("not a par")]
-    NotAPar,
-    /// What is due now isn't this command.
-    #[error("wrong step")]
-    WrongStep,
+    /// The kit or the rules of the game refuse it. Want of memory isn't told by this, but by `OutOfMemory`.
+    #[error("{0}")]
+    Game(rr_game::Fault),
     /// The stamp isn't the table's, which is given.
     #[error("stale stamp {0}")]
     StaleStamp(u64),
@@ -99,19 +62,7 @@ impl Fault {
         ensures { result ≡ number_of self.now }
     {
         match self {
-            Fault::NoSuchName => 1,
-            Fault::TooLittleCash => 2,
-            Fault::BadChart { .. } => 3,
-            Fault::BadRoster => 4,
-            Fault::RosterRule(_) => 5,
-            Fault::BadManifest(_) => 6,
-            Fault::BadBoard(_) => 7,
-            Fault::NotYourTurn => 20,
-            Fault::BidTooLow(_) => 21,
-            Fault::NotForSale => 22,
-            Fault::CashTiedUp => 23,
-            Fault::NotAPar => 31,
-            Fault::WrongStep => 42,
+            Fault::Game(fault) => fault.number(),
             Fault::StaleStamp(_) => 52,
             Fault::TooManyCommands => 54,
             Fault::MalformedLine => 55,
@@ -142,30 +93,21 @@ impl Fault {
         reply.text(b"\n");
     }
 
-    /// What follows the words: a line, a rule, a stamp, a bid or a clause.
+    /// What follows the words.
     fn write_data(&self, reply: &mut Reply)
         requires { length reply.old ≤ 50 }
         ensures text { reply.new ≡ reply.old ++ data_of self.now }
         ensures bounded { length reply.new ≤ length reply.old + 42 }
     {
         match *self {
-            Fault::BadChart { line, word } => {
-                reply.text(b" ");
-                reply.number(line as u64);
-                reply.text(b" ");
-                reply.number(word as u64);
-            }
-            Fault::BadManifest(line) | Fault::BadBoard(line) => {
-                reply.text(b" ");
-                reply.number(line as u64);
-            }
-            Fault::RosterRule(number) | Fault::Damaged(number) => {
-                reply.text(b" ");
-                reply.number(u64::from(number));
-            }
-            Fault::StaleStamp(number) | Fault::BidTooLow(number) => {
+            Fault::Game(fault) => write_game_data(fault, reply),
+            Fault::StaleStamp(number) => {
                 reply.text(b" ");
                 reply.number(number);
+            }
+            Fault::Damaged(number) => {
+                reply.text(b" ");
+                reply.number(u64::from(number));
             }
             _ => {}
         }
@@ -177,19 +119,7 @@ impl Fault {
         ensures short { length result.now ≤ 20 }
     {
         match self {
-            Fault::NoSuchName => "no such name",
-            Fault::TooLittleCash => "too little cash",
-            Fault::BadChart { .. } => "bad chart",
-            Fault::BadRoster => "bad roster",
-            Fault::RosterRule(_) => "roster rule",
-            Fault::BadManifest(_) => "bad manifest",
-            Fault::BadBoard(_) => "bad board",
-            Fault::NotYourTurn => "not your turn",
-            Fault::BidTooLow(_) => "bid too low",
-            Fault::NotForSale => "not for sale",
-            Fault::CashTiedUp => "cash tied up",
-            Fault::NotAPar => "not a par",
-            Fault::WrongStep => "wrong step",
+            Fault::Game(fault) => game_words(*fault),
             Fault::StaleStamp(_) => "stale stamp",
             Fault::TooManyCommands => "too many commands",
             Fault::MalformedLine => "malformed line",
@@ -208,47 +138,72 @@ impl Fault {
     }
 }
 
-impl From<rr_chart::Fault> for Fault {
-    ghost from_gives = { λ fault wrapped. wrapped ≡ of_chart fault };
-
-    fn from(fault: rr_chart::Fault) -> Fault {
-        match fault {
-            rr_chart::Fault::BadChart { line, word } => Fault::BadChart { line, word },
-            rr_chart::Fault::OutOfMemory => Fault::OutOfMemory,
-        }
+/// The words of a refusal by the kit or the rules.
+fn game_words(fault: rr_game::Fault) -> &'static str
+    ensures value { result.now ≡ game_words fault }
+    ensures short { length result.now ≤ 20 }
+{
+    match fault {
+        rr_game::Fault::NoSuchName => "no such name",
+        rr_game::Fault::TooLittleCash => "too little cash",
+        rr_game::Fault::BadChart { .. } => "bad chart",
+        rr_game::Fault::BadRoster => "bad roster",
+        rr_game::Fault::RosterRule(_) => "roster rule",
+        rr_game::Fault::BadManifest(_) => "bad manifest",
+        rr_game::Fault::BadBoard(_) => "bad board",
+        rr_game::Fault::NotYourTurn => "not your turn",
+        rr_game::Fault::BidTooLow(_) => "bid too low",
+        rr_game::Fault::NotForSale => "not for sale",
+        rr_game::Fault::CashTiedUp => "cash tied up",
+        rr_game::Fault::CertificateLimit => "certificate limit",
+        rr_game::Fault::OverSixty => "over 60 percent",
+        rr_game::Fault::SoldThisRound => "sold this round",
+        rr_game::Fault::FirstStockRound => "first stock round",
+        rr_game::Fault::PoolOverHalf => "pool over 50 percent",
+        rr_game::Fault::SecondPurchase => "second buy",
+        rr_game::Fault::MustSellFirst => "must sell first",
+        rr_game::Fault::NotAPar => "not a par",
+        rr_game::Fault::WrongStep => "wrong step",
+        rr_game::Fault::OutOfMemory => "out of memory",
     }
 }
 
-impl From<rr_roster::Fault> for Fault {
-    ghost from_gives = { λ fault wrapped. wrapped ≡ of_roster fault };
-
-    fn from(fault: rr_roster::Fault) -> Fault {
-        match fault {
-            rr_roster::Fault::Shape => Fault::BadRoster,
-            rr_roster::Fault::Broken(rule) => Fault::RosterRule(rule.number()),
-            rr_roster::Fault::OutOfMemory => Fault::OutOfMemory,
+/// What follows the words of a refusal by the kit or the rules: a line, a word, a rule or a bid.
+fn write_game_data(fault: rr_game::Fault, reply: &mut Reply)
+    requires { length reply.old ≤ 50 }
+    ensures text { reply.new ≡ reply.old ++ game_data fault }
+    ensures bounded { length reply.new ≤ length reply.old + 42 }
+{
+    match fault {
+        rr_game::Fault::BadChart { line, word } => {
+            reply.text(b" ");
+            reply.number(line as u64);
+            reply.text(b" ");
+            reply.number(word as u64);
         }
+        rr_game::Fault::BadManifest(line) | rr_game::Fault::BadBoard(line) => {
+            reply.text(b" ");
+            reply.number(line as u64);
+        }
+        rr_game::Fault::RosterRule(number) => {
+            reply.text(b" ");
+            reply.number(u64::from(number));
+        }
+        rr_game::Fault::BidTooLow(least) => {
+            reply.text(b" ");
+            reply.number(least);
+        }
+        _ => {}
     }
 }
 
-impl From<rr_tiles::Fault> for Fault {
-    ghost from_gives = { λ fault wrapped. wrapped ≡ of_manifest fault };
+impl From<rr_game::Fault> for Fault {
+    ghost from_gives = { λ fault wrapped. wrapped ≡ of_game fault };
 
-    fn from(fault: rr_tiles::Fault) -> Fault {
+    fn from(fault: rr_game::Fault) -> Fault {
         match fault {
-            rr_tiles::Fault::BadManifest { line } => Fault::BadManifest(line),
-            rr_tiles::Fault::OutOfMemory => Fault::OutOfMemory,
-        }
-    }
-}
-
-impl From<rr_board::Fault> for Fault {
-    ghost from_gives = { λ fault wrapped. wrapped ≡ of_board fault };
-
-    fn from(fault: rr_board::Fault) -> Fault {
-        match fault {
-            rr_board::Fault::BadBoard { line } => Fault::BadBoard(line),
-            rr_board::Fault::OutOfMemory => Fault::OutOfMemory,
+            rr_game::Fault::OutOfMemory => Fault::OutOfMemory,
+            _ => Fault::Game(fault),
         }
     }
 }
@@ -260,24 +215,6 @@ impl From<rr_code::Fault> for Fault {
         match fault {
             rr_code::Fault::Malformed => Fault::MalformedLine,
             rr_code::Fault::OutOfMemory => Fault::OutOfMemory,
-        }
-    }
-}
-
-impl From<rr_auction::Fault> for Fault {
-    ghost from_gives = { λ fault wrapped. wrapped ≡ of_auction fault };
-
-    fn from(fault: rr_auction::Fault) -> Fault {
-        match fault {
-            rr_auction::Fault::NoSuchName => Fault::NoSuchName,
-            rr_auction::Fault::TooLittleCash => Fault::TooLittleCash,
-            rr_auction::Fault::NotYourTurn => Fault::NotYourTurn,
-            rr_auction::Fault::BidTooLow(least) => Fault::BidTooLow(least),
-            rr_auction::Fault::NotForSale => Fault::NotForSale,
-            rr_auction::Fault::CashTiedUp => Fault::CashTiedUp,
-            rr_auction::Fault::NotAPar => Fault::NotAPar,
-            rr_auction::Fault::WrongStep => Fault::WrongStep,
-            rr_auction::Fault::OutOfMemory => Fault::OutOfMemory,
         }
     }
 }

@@ -3,7 +3,6 @@
 
 mod answering;
 mod fault;
-mod game;
 pub mod laws;
 mod moderator;
 mod opening;
@@ -19,4 +18,4 @@ pub use reply::Reply;
 pub use rr_keeper::Texts;
 
 #[cfg(test)]
-mod auction_tests;
+mod game_tests;

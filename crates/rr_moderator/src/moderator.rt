@@ -4,7 +4,7 @@ ghost use Rattle.std.specs.Io.BufRead.{Rests};
 ghost use Rattle.std.specs.Io.KnownBytes.{Appends};
 ghost use Rattle.rr_disk.specs.Disk.{after_sync};
 ghost use Rattle.rr_disk.specs.Moments.{LeavesOnly};
-ghost use Rattle.rr_keeper.specs.File.{Kit};
+ghost use Rattle.rr_keeper.specs.File.{Kit as Texts};
 ghost use Rattle.rr_keeper.specs.Keeper.{disk_of, is_broken};
 ghost use Rattle.rr_keeper.specs.Opening.{SyncsOnce, kit_of};
 ghost use Rattle.rr_serve.specs.declared.faults.Fault as serve;
@@ -14,8 +14,9 @@ ghost use Rattle.rr_serve.specs.Serving.{AnswersAll, Session};
 ghost use Rattle.rr_moderator.specs.Durability.{Keeping, Lasts, OpensAlong, Passed, SpeaksAndLasts, Stands, told};
 ghost use Rattle.rr_moderator.specs.Holding.{disk_under, held_by, held_of, keeper_of, last_reply, spoken_of, told_of, world_of};
 ghost use Rattle.rr_moderator.specs.Replaying.{CountsFailure, Opens, RefusesOpening, RefusesReplay, Replayed, records_of};
-ghost use Rattle.rr_moderator.specs.Serving.{Answers, EndsAs, MayAppend, Responds, Speaks, Takes, outcome_of, said};
-ghost use Rattle.rr_moderator.specs.World.{amount_in, verdict_in};
+ghost use Rattle.rr_moderator.specs.Serving.{Answers, EndsAs, MayAppend, Responds, Speaks, Takes, outcome_of, reply_to, said};
+ghost use Rattle.rr_game.specs.Names.{amount_in};
+ghost use Rattle.rr_moderator.specs.World.{verdict_in};
 ghost use Rattle.rr_moderator.specs.contracts.moderator.Moderator.{the_row};
 
 use crate::fault::Fault;
@@ -67,11 +68,11 @@ impl<D: Disk + Drop> Moderator<D> {
             RefusesOpening (D.Honest refused.disk) (D.state disk).content refused.fault) }
 
         ensures stands { IfOk result (λ moderator. D.Honest (disk_under moderator)
-            → (kit : Kit) × Stands (keeper_of moderator) (D.state (disk_under moderator)) kit (held_of moderator)) }
+            → (texts : Texts) × Stands (keeper_of moderator) (D.state (disk_under moderator)) texts (held_of moderator)) }
 
         // Of every disk: what it holds are plays that the rules of a right kit allow, and its device hasn't failed.
-        ensures lawful { IfOk result (λ moderator. (kit : Kit) × (records : List (List ℕ))
-            × Replayed kit records (held_of moderator).roster (held_of moderator).tables) }
+        ensures lawful { IfOk result (λ moderator. (texts : Texts) × (records : List (List ℕ))
+            × Replayed texts records (held_of moderator).kit (held_of moderator).tables) }
         ensures whole { IfOk result (λ moderator. (held_of moderator).broken ≡ false) }
 
         // It syncs, and writes nothing.
@@ -115,7 +116,7 @@ impl<D: Disk + Drop> Moderator<D> {
         ensures ok { IfOk result (λ moderator. (disk_under moderator ≡ disk_of opened.keeper)
             × ((held_of moderator).broken ≡ is_broken opened.keeper)
             × Replayed (kit_of opened.texts) (records_of opened.lines.items)
-            (held_of moderator).roster (held_of moderator).tables) }
+            (held_of moderator).kit (held_of moderator).tables) }
         ensures keeper { IfOk result (λ moderator. keeper_of moderator ≡ opened.keeper) }
         ensures err { IfErr result (λ refused. (refused.disk ≡ disk_of opened.keeper)
             × RefusesReplay (kit_of opened.texts) (records_of opened.lines.items) refused.fault) }
@@ -161,7 +162,7 @@ impl<D: Disk + Drop> Moderator<D> {
         ensures* { sem 𝓛 (Rests (the_row D.row) self.entry (λ new.
             Answers (held_of self.old) line.now (held_of new) result.now
             × (¬ MayAppend (held_of self.old) line.now → disk_under new ≡ disk_under self.old)
-            × Lasts D.Honest D.state D.past (keeper_of self.old) (held_of self.old) line.now (keeper_of new) (held_of new))) }
+            × Lasts D.Honest D.state D.past D.fault_count (keeper_of self.old) (held_of self.old) line.now (keeper_of new) (held_of new) result.now)) }
     {
         self.state.say(line);
         self.state.reply()
@@ -173,7 +174,7 @@ impl<D: Disk + Drop> Moderator<D> {
     /// `StreamFailed` where the writer fails. A command that was accepted stays accepted.
     pub fn line<W: Write>(&mut self, line: &[u8], writer: &mut W) -> Result<(), Fault>
         ensures answers { Answers (held_of self.old) (taken line.now) (held_of self.new) (last_reply self.new) }
-        ensures lasts { Lasts D.Honest D.state D.past (keeper_of self.old) (held_of self.old) (taken line.now) (keeper_of self.new) (held_of self.new) }
+        ensures lasts { Lasts D.Honest D.state D.past D.fault_count (keeper_of self.old) (held_of self.old) (taken line.now) (keeper_of self.new) (held_of self.new) (last_reply self.new) }
         ensures ok { OnOk result (Appends (W.contents writer.old) (W.contents writer.new) (last_reply self.new)) }
         ensures err { OnErr result (AppendsFront (W.contents writer.old) (W.contents writer.new) (last_reply self.new)) }
         ensures fault { IfErr result (λ fault. fault ≡ Fault.StreamFailed) }
@@ -196,10 +197,10 @@ impl<D: Disk + Drop> Moderator<D> {
         // is their replies as far as it got. So whatever a stop leaves at any moment of it opens as some of the lines make
         // it, with the command of the next one or without.
         ensures session { (cause : Result (Unit {0}) serve.Fault) × EndsAs result cause
-            × (session : Session (SpeaksAndLasts D.Honest D.state D.past) told (told_of self.old) (told_of self.new)
+            × (session : Session (SpeaksAndLasts D.Honest D.state D.past D.fault_count) told (told_of self.old) (told_of self.new)
             (R.remaining reader.old) (R.remaining reader.new) (W.contents writer.old) (W.contents writer.new) cause)
             × (D.Honest (disk_under self.new)
-            → (kit : Kit) → Stands (keeper_of self.old) (D.state (disk_under self.old)) kit (held_of self.old)
+            → (texts : Texts) → Stands (keeper_of self.old) (D.state (disk_under self.old)) texts (held_of self.old)
             → LeavesOnly (D.past (disk_under self.old)) (D.state (disk_under self.old)) (D.past (disk_under self.new)) (D.state (disk_under self.new))
             (OpensAlong (spoken_of self.old) session.lines)) }
     {
@@ -222,7 +223,7 @@ impl<D: Disk + Drop> Machine for State<D> {
     ghost use Rattle.rr_moderator.specs.Durability.{Lasts};
 
     ghost Answers = { λ old line new. Answers (held_by old.keeper old.tables) line (held_by new.keeper new.tables) new.reply
-        × Lasts D.Honest D.state D.past old.keeper (held_by old.keeper old.tables) line new.keeper (held_by new.keeper new.tables) };
+        × Lasts D.Honest D.state D.past D.fault_count old.keeper (held_by old.keeper old.tables) line new.keeper (held_by new.keeper new.tables) new.reply };
 
     ghost reply_of = { λ state. state.reply };
 
@@ -240,8 +241,8 @@ impl<D: Disk + Drop> State<D> {
     fn say(&mut self, line: &[u8])
         ensures answers { Answers (held_by self.old.keeper self.old.tables) line.now (held_by self.new.keeper self.new.tables) self.new.reply }
         ensures untouched { ¬ MayAppend (held_by self.old.keeper self.old.tables) line.now → self.new.keeper ≡ self.old.keeper }
-        ensures lasts { Lasts D.Honest D.state D.past self.old.keeper (held_by self.old.keeper self.old.tables) line.now
-            self.new.keeper (held_by self.new.keeper self.new.tables) }
+        ensures lasts { Lasts D.Honest D.state D.past D.fault_count self.old.keeper (held_by self.old.keeper self.old.tables) line.now
+            self.new.keeper (held_by self.new.keeper self.new.tables) self.new.reply }
     {
         if let Err(fault) = self.respond(line) {
             fault.write(&mut self.reply);
@@ -252,8 +253,8 @@ impl<D: Disk + Drop> State<D> {
     fn respond(&mut self, line: &[u8]) -> Result<(), Fault>
         ensures responds { Responds (held_by self.old.keeper self.old.tables) line.now (held_by self.new.keeper self.new.tables) (outcome_of result self.new.reply) }
         ensures untouched { ¬ MayAppend (held_by self.old.keeper self.old.tables) line.now → self.new.keeper ≡ self.old.keeper }
-        ensures lasts { Lasts D.Honest D.state D.past self.old.keeper (held_by self.old.keeper self.old.tables) line.now
-            self.new.keeper (held_by self.new.keeper self.new.tables) }
+        ensures lasts { Lasts D.Honest D.state D.past D.fault_count self.old.keeper (held_by self.old.keeper self.old.tables) line.now
+            self.new.keeper (held_by self.new.keeper self.new.tables) (reply_to (outcome_of result self.new.reply)) }
     {
         if line.len() > LONGEST_LINE {
             return Err(Fault::LineTooLong);
@@ -284,9 +285,9 @@ impl<D: Disk + Drop> State<D> {
         requires small { amount_in command.now ≤ 10000000000 }
         requires whole { is_broken self.old.keeper ≡ false }
         ensures takes { Takes (held_by self.old.keeper self.old.tables) stamp table.now command.now (held_by self.new.keeper self.new.tables) (outcome_of result self.new.reply) }
-        ensures untouched { (fault : Fault) → verdict_in self.old.tables.roster (world_of self.old.tables.map.entries) stamp table.now command.now ≡ Some fault
+        ensures untouched { (fault : Fault) → verdict_in self.old.tables.kit (world_of self.old.tables.map.entries) stamp table.now command.now ≡ Some fault
             → self.new.keeper ≡ self.old.keeper }
-        ensures kept { Passed (λ old bytes result new. Keeping D.Honest D.state D.past old bytes result new) self.old.keeper bytes.now self.new.keeper result }
+        ensures kept { Passed (λ old bytes result new. Keeping D.Honest D.state D.past D.fault_count old bytes result new) self.old.keeper bytes.now self.new.keeper result }
     {
         let stamp = self
             .tables

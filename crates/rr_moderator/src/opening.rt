@@ -1,26 +1,22 @@
-ghost use Rattle.std.specs.Prelude.{◌≡◌, ◌⊎◌, ◌<◌, ◌≤◌, length, MatchResult, OnOk, OnErr, IfErr, IfOk};
+ghost use Rattle.std.specs.Prelude.{◌≡◌, ◌≢◌, ◌⊎◌, ◌<◌, length, MatchResult, OnOk, OnErr, IfErr, IfOk};
 ghost use Rattle.rr_disk.specs.Disk.{counted};
 ghost use Rattle.rr_disk.specs.Moments.{EachImage};
+ghost use Rattle.rr_game.specs.declared.fault.Fault.TheVariants as Reading;
+ghost use Rattle.rr_game.specs.Kits.{IsRightKit, IsWrongKit, SpellsKit};
 ghost use Rattle.rr_keeper.specs.File.{IsNewStore};
 ghost use Rattle.rr_keeper.specs.Lent.{lent_kit};
-ghost use Rattle.rr_moderator.specs.Holding.{world_of};
 ghost use Rattle.rr_keeper.specs.Opening.{kit_of};
-ghost use Rattle.rr_moderator.specs.Kits.{IsBoardText, IsChartText, IsManifestText, IsRightKit, IsRosterText, IsWrongKit, RefusesBoard, RefusesChart, RefusesFormat, RefusesKit, RefusesManifest, RefusesRoster, SpellsKit};
+ghost use Rattle.rr_moderator.specs.Formatting.{RefusesFormat, RefusesTexts, kit_texts};
+ghost use Rattle.rr_moderator.specs.Holding.{world_of};
 ghost use Rattle.rr_moderator.specs.Replaying.{BreaksOff, CountsFailure, IsUnlawful, RefusesReplay, Replayed, Replays, TakesRecord, damage_of, records_of};
 
 use crate::fault::Fault;
 use crate::tables::{Standing, Tables};
-use rr_board::Board;
-use rr_chart::Chart;
 use rr_code::read_record;
 use rr_disk::Disk;
+use rr_game::Kit;
 use rr_keeper::{KitTexts, Texts};
-use rr_roster::Roster;
-use rr_tiles::Manifest;
 use std::alloc::Global;
-
-/// The most bytes of a kit's text.
-const TEXT_LIMIT: usize = 65_536;
 
 /// The clause of a damaged file that speaks of records.
 const RECORDS: u8 = 8;
@@ -37,7 +33,7 @@ pub fn format<D: Disk>(alloc: Global, disk: &mut D, texts: Texts<'_>) -> Result<
         → IsNewStore (D.state disk.new).content (lent_kit texts.entry)) }
     ensures each { OnOk result (D.Honest disk.new
         → EachImage (D.state disk.new) (λ image. IsNewStore image (lent_kit texts.entry))) }
-    ensures right { OnOk result (IsRightKit (lent_kit texts.entry)) }
+    ensures right { OnOk result (IsRightKit (kit_texts (lent_kit texts.entry))) }
 
     // When each refusal comes.
     ensures refused { IfErr result (λ fault.
@@ -56,121 +52,60 @@ pub fn format<D: Disk>(alloc: Global, disk: &mut D, texts: Texts<'_>) -> Result<
     Ok(())
 }
 
-/// Judges the texts of a kit, in the order chart, roster, tiles, board, and reads the roster.
-fn judge_kit(alloc: Global, texts: Texts<'_>) -> Result<Roster, Fault>
+/// Reads the kit of a formatting, of which nothing but that it is right is kept.
+fn judge_kit(alloc: Global, texts: Texts<'_>) -> Result<(), Fault>
     ensures { MatchResult result
-        (λ terms. SpellsKit (lent_kit texts.entry) terms)
-        (λ fault. RefusesKit (lent_kit texts.entry) fault) }
+        (λ _. IsRightKit (kit_texts (lent_kit texts.entry)))
+        (λ fault. RefusesTexts (lent_kit texts.entry) fault) }
 {
-    judge_chart(alloc, texts.chart)?;
-    let roster = read_roster(alloc, texts.roster)?;
-    judge_manifest(alloc, texts.tiles)?;
-    judge_board(alloc, texts.board)?;
-    Ok(roster)
+    let _kit = Kit::read(alloc, texts.chart, texts.roster, texts.tiles, texts.board)?;
+    Ok(())
 }
 
-/// Judges the chart of a kit.
-fn judge_chart(alloc: Global, text: &[u8]) -> Result<(), Fault>
-    ensures { MatchResult result (λ _. IsChartText text.now) (λ fault. RefusesChart text.now fault) }
-{
-    match std::str::from_utf8(text) {
-        Ok(text) => {
-            let _chart = Chart::read(alloc, text)?;
-            Ok(())
-        }
-        Err(_) => Err(Fault::BadChart { line: 0, word: 0 }),
-    }
-}
-
-/// Reads the roster of a kit.
-fn read_roster(alloc: Global, text: &[u8]) -> Result<Roster, Fault>
-    ensures { MatchResult result (λ terms. IsRosterText text.now terms) (λ fault. RefusesRoster text.now fault) }
-{
-    if text.len() > TEXT_LIMIT {
-        return Err(Fault::BadRoster);
-    }
-    match std::str::from_utf8(text) {
-        Ok(text) => {
-            let roster = Roster::read(alloc, text)?;
-            Ok(roster)
-        }
-        Err(_) => Err(Fault::BadRoster),
-    }
-}
-
-/// Judges the manifest of a kit.
-fn judge_manifest(alloc: Global, text: &[u8]) -> Result<(), Fault>
-    ensures { MatchResult result (λ _. IsManifestText text.now) (λ fault. RefusesManifest text.now fault) }
-{
-    match std::str::from_utf8(text) {
-        Ok(text) => {
-            let _manifest = Manifest::read(alloc, text)?;
-            Ok(())
-        }
-        Err(_) => Err(Fault::BadManifest(0)),
-    }
-}
-
-/// Judges the board of a kit.
-fn judge_board(alloc: Global, text: &[u8]) -> Result<(), Fault>
-    ensures { MatchResult result (λ _. IsBoardText text.now) (λ fault. RefusesBoard text.now fault) }
-{
-    match std::str::from_utf8(text) {
-        Ok(text) => {
-            let _board = Board::read(alloc, text)?;
-            Ok(())
-        }
-        Err(_) => Err(Fault::BadBoard(0)),
-    }
-}
-
-/// Judges the kit of a file, and reads its roster.
-fn read_kit(alloc: Global, texts: &KitTexts) -> Result<Roster, Fault>
+/// Reads the kit of a file.
+fn read_kit(alloc: Global, texts: &KitTexts) -> Result<Kit, Fault>
     ensures { MatchResult result
-        (λ terms. SpellsKit (kit_of texts.now) terms)
-        (λ fault. (fault ≡ Fault.OutOfMemory) ⊎ ((fault ≡ Fault.NotAStore) × IsWrongKit (kit_of texts.now))) }
+        (λ kit. SpellsKit (kit_texts (kit_of texts.now)) kit)
+        (λ fault. (fault ≡ Fault.OutOfMemory) ⊎ ((fault ≡ Fault.NotAStore) × IsWrongKit (kit_texts (kit_of texts.now)))) }
 {
-    match judge_texts(alloc, texts) {
-        Ok(roster) => Ok(roster),
-        Err(Fault::OutOfMemory) => Err(Fault::OutOfMemory),
-        Err(_) => Err(Fault::NotAStore),
+    let chart = texts.chart.as_slice();
+    let roster = texts.roster.as_slice();
+    let tiles = texts.tiles.as_slice();
+    match Kit::read(alloc, chart, roster, tiles, texts.board.as_slice()) {
+        Ok(kit) => Ok(kit),
+        Err(fault) => Err(opening_refusal(fault)),
     }
 }
 
-/// Judges the texts that stand in a file, as `judge_kit` does.
-fn judge_texts(alloc: Global, texts: &KitTexts) -> Result<Roster, Fault>
-    ensures { MatchResult result
-        (λ terms. SpellsKit (kit_of texts.now) terms)
-        (λ fault. RefusesKit (kit_of texts.now) fault) }
+/// Why a file with a kit of this fault isn't opened.
+fn opening_refusal(fault: rr_game::Fault) -> Fault
+    ensures { ((result ≡ Fault.OutOfMemory) × (fault ≡ Reading.OutOfMemory))
+        ⊎ ((result ≡ Fault.NotAStore) × (fault ≢ Reading.OutOfMemory)) }
 {
-    let lent = Texts {
-        chart: texts.chart.as_slice(),
-        roster: texts.roster.as_slice(),
-        tiles: texts.tiles.as_slice(),
-        board: texts.board.as_slice(),
-    };
-    let roster = judge_kit(alloc, lent)?;
-    Ok(roster)
+    match fault {
+        rr_game::Fault::OutOfMemory => Fault::OutOfMemory,
+        _ => Fault::NotAStore,
+    }
 }
 
 /// The tables that the records of a file make, played from the first.
 pub(crate) fn replay(alloc: Global, texts: &KitTexts, records: &[Vec<u8>]) -> Result<Tables, Fault>
     ensures { MatchResult result
-        (λ tables. Replayed (kit_of texts.now) (records_of records.now) tables.roster (world_of tables.map.entries))
+        (λ tables. Replayed (kit_of texts.now) (records_of records.now) tables.kit (world_of tables.map.entries))
         (λ fault. RefusesReplay (kit_of texts.now) (records_of records.now) fault) }
 {
-    let terms = read_kit(alloc, texts)?;
-    let mut tables = Tables::new(alloc, terms)?;
+    let kit = read_kit(alloc, texts)?;
+    let mut tables = Tables::new(alloc, kit)?;
     replay_records(alloc, &mut tables, records)?;
     Ok(tables)
 }
 
 /// Plays the records in turn.
 fn replay_records(alloc: Global, tables: &mut Tables, records: &[Vec<u8>]) -> Result<(), Fault>
-    ensures ok { OnOk result (Replays tables.old.roster (world_of tables.old.map.entries) (records_of records.now) (world_of tables.new.map.entries)) }
+    ensures ok { OnOk result (Replays tables.old.kit (world_of tables.old.map.entries) (records_of records.now) (world_of tables.new.map.entries)) }
     ensures err { IfErr result (λ fault. (fault ≡ Fault.OutOfMemory)
-        ⊎ ((fault ≡ Fault.Damaged 8) × BreaksOff tables.old.roster (world_of tables.old.map.entries) (records_of records.now))) }
-    ensures roster { tables.new.roster ≡ tables.old.roster }
+        ⊎ ((fault ≡ Fault.Damaged 8) × BreaksOff tables.old.kit (world_of tables.old.map.entries) (records_of records.now))) }
+    ensures kit { tables.new.kit ≡ tables.old.kit }
 {
     for bytes in records {
         match replay_record(alloc, tables, bytes.as_slice()) {
@@ -193,10 +128,10 @@ fn damage(fault: Fault) -> Fault
 
 /// Plays one record.
 fn replay_record(alloc: Global, tables: &mut Tables, bytes: &[u8]) -> Result<(), Fault>
-    ensures ok { OnOk result (TakesRecord tables.old.roster (world_of tables.old.map.entries) bytes.now (world_of tables.new.map.entries)) }
+    ensures ok { OnOk result (TakesRecord tables.old.kit (world_of tables.old.map.entries) bytes.now (world_of tables.new.map.entries)) }
     ensures err { IfErr result (λ fault. (fault ≡ Fault.OutOfMemory)
-        ⊎ IsUnlawful tables.old.roster (world_of tables.old.map.entries) bytes.now) }
-    ensures roster { tables.new.roster ≡ tables.old.roster }
+        ⊎ IsUnlawful tables.old.kit (world_of tables.old.map.entries) bytes.now) }
+    ensures kit { tables.new.kit ≡ tables.old.kit }
 {
     let (name, command) = read_record(bytes)?;
     let stamp = tables.stamp(&name);

@@ -39,14 +39,14 @@ impl Reply {
     }
 
     /// Drops the bytes, and keeps the room.
-    pub fn clear(&mut self)
+    pub(crate) fn clear(&mut self)
         ensures { self.new ≡ [] }
     {
         self.bytes.clear();
     }
 
     /// Writes bytes behind the others.
-    pub fn text(&mut self, text: &[u8])
+    pub(crate) fn text(&mut self, text: &[u8])
         requires { length self.old + length text.now ≤ 4096 }
         ensures text { self.new ≡ self.old ++ text.now }
         ensures len { length self.new ≡ length self.old + length text.now }
@@ -65,7 +65,7 @@ impl Reply {
     }
 
     /// Writes a number, in decimal digits.
-    pub fn number(&mut self, number: u64)
+    pub(crate) fn number(&mut self, number: u64)
         requires { length self.old + 20 ≤ 4096 }
         ensures digits { self.new ≡ self.old ++ decimal number }
         ensures bounded { length self.new ≤ length self.old + 20 }
@@ -75,7 +75,7 @@ impl Reply {
     }
 
     /// Writes a number in decimal digits, behind a minus sign if it is less than 0.
-    pub fn signed(&mut self, number: i64)
+    pub(crate) fn signed(&mut self, number: i64)
         requires { length self.old + 20 ≤ 4096 }
         ensures digits { self.new ≡ self.old ++ signed_decimal number }
         ensures bounded { length self.new ≤ length self.old + 20 }

@@ -3,16 +3,16 @@ ghost use Rattle.std.specs.Option.{option_copied};
 ghost use Rattle.std.proofs.Props.{props};
 ghost use Rattle.indexmap.specs.IndexMap.{get, index_map_len, keys, spare};
 ghost use Rattle.rr_moderator.specs.Durability.{Passed};
-ghost use Rattle.rr_moderator.specs.Keeping.{IsGameOf};
-ghost use Rattle.rr_moderator.specs.World.{IsKeptOut, MayJudge, MayRefuse, amount_in, is_full, opening_verdict, state_after, step_verdict, table_of, table_verdict, with_command};
+ghost use Rattle.rr_game.specs.Keeping.{IsGameOf};
+ghost use Rattle.rr_game.specs.Names.{amount_in};
+ghost use Rattle.rr_moderator.specs.World.{IsKeptOut, MayFind, MayRefuse, is_full, opening_verdict, state_after, step_verdict, table_of, table_verdict, with_command};
 
 use crate::fault::Fault;
-use crate::game::Game;
 use indexmap::IndexMap;
 use rr_code::{Command, Players};
 use rr_disk::Disk;
+use rr_game::{Game, Kit};
 use rr_keeper::Keeper;
-use rr_roster::Roster;
 use rr_words::Name;
 use std::alloc::Global;
 
@@ -33,8 +33,7 @@ pub(crate) struct Table {
     stamp: u64,
     ghost room: { 4096 ≤ vec_capacity accepted },
     ghost last: { stamp ≤ 4000000000 },
-    ghost payments: { game.books.payments ≤ 16 * vec_len accepted + 6 },
-    ghost commands: { game.auction.commands ≤ vec_len accepted },
+    ghost played: { game.played ≡ vec_len accepted },
     ghost kept: { vec_len accepted ≤ 4096 },
 }
 
@@ -84,7 +83,7 @@ impl<D: Disk + Drop> Journal for Keeper<D> {
 
     ghost broken = { λ keeper. is_broken keeper };
 
-    ghost Kept = { λ old bytes result new. Keeping D.Honest D.state D.past old bytes result new };
+    ghost Kept = { λ old bytes result new. Keeping D.Honest D.state D.past D.fault_count old bytes result new };
 
     fn keep(&mut self, bytes: &[u8]) -> Result<(), Fault> {
         self.append(bytes)?;
@@ -95,17 +94,16 @@ impl<D: Disk + Drop> Journal for Keeper<D> {
 /// The tables of a file, in the order of their opening.
 #[derive(Drop)]
 pub(crate) struct Tables {
-    roster: Roster,
+    kit: Kit,
     map: IndexMap<Name, Table>,
     ghost room: { 64 ≤ index_map_len map + spare map },
     ghost few: { index_map_len map ≤ 64 },
-    ghost played: { (name : List ℕ) → IfSome (get bytes_eq map name) (λ table. IsGameOf roster table.accepted.items table.game) } by { Prim.hlevel props },
+    ghost played: { (name : List ℕ) → IfSome (get bytes_eq map name) (λ table. IsGameOf kit table.accepted.items table.game) } by { Prim.hlevel props },
 }
 
 impl Table {
     fn open(alloc: Global, command: Command, game: Game) -> Result<Table, Fault>
-        requires payments { game.books.payments ≤ 6 }
-        requires commands { game.auction.commands ≡ 0 }
+        requires { game.played ≡ 1 }
         ensures accepted { IfOk result (λ table. table.accepted.items ≡ command ∷ []) }
         ensures stamp { IfOk result (λ table. table.stamp ≡ 1) }
         ensures game { IfOk result (λ table. table.game ≡ game) }
@@ -138,48 +136,41 @@ impl Table {
         alloc: Global,
         stamp: u64,
         command: &Command,
-        roster: &Roster,
+        kit: &Kit,
         bytes: &[u8],
         journal: &mut J,
     ) -> Result<u64, Fault>
         requires bytes { 0 < length bytes.now }
         requires small { amount_in command.now ≤ 10000000000 }
-        ensures verdict { IsGameOf roster.now self.old.accepted.items self.old.game → MatchResult result
-            (λ _. table_verdict roster.now (table_of self.old.accepted.items self.old.stamp) stamp command.now ≡ None)
-            (λ fault. MayRefuse (table_verdict roster.now (table_of self.old.accepted.items self.old.stamp) stamp command.now) J.may_fill (J.broken journal.old) fault (J.broken journal.new)) }
+        ensures verdict { IsGameOf kit.now self.old.accepted.items self.old.game → MatchResult result
+            (λ _. table_verdict kit.now (table_of self.old.accepted.items self.old.stamp) stamp command.now ≡ None)
+            (λ fault. MayRefuse (table_verdict kit.now (table_of self.old.accepted.items self.old.stamp) stamp command.now) J.may_fill (J.broken journal.old) fault (J.broken journal.new)) }
         ensures accepted { OnOk result (table_of self.new.accepted.items self.new.stamp ≡ with_command (table_of self.old.accepted.items self.old.stamp) command.now) }
         ensures stamp { IfOk result (λ stamp. stamp ≡ self.new.stamp) }
-        ensures played { OnOk result (IsGameOf roster.now self.old.accepted.items self.old.game → IsGameOf roster.now self.new.accepted.items self.new.game) }
+        ensures played { OnOk result (IsGameOf kit.now self.old.accepted.items self.old.game → IsGameOf kit.now self.new.accepted.items self.new.game) }
         ensures whole { OnOk result (J.broken journal.new ≡ false) }
         ensures kept { Passed J.Kept journal.old bytes.now journal.new result }
         ensures err { OnErr result (self.new ≡ self.old) }
-        ensures untouched { IsGameOf roster.now self.old.accepted.items self.old.game → (fault : Fault)
-            → table_verdict roster.now (table_of self.old.accepted.items self.old.stamp) stamp command.now ≡ Some fault → journal.new ≡ journal.old }
+        ensures untouched { IsGameOf kit.now self.old.accepted.items self.old.game → (fault : Fault)
+            → table_verdict kit.now (table_of self.old.accepted.items self.old.stamp) stamp command.now ≡ Some fault → journal.new ≡ journal.old }
     {
-        let game = self.judge(alloc, stamp, command, roster)?;
+        let game = self.judge(alloc, stamp, command, kit)?;
         journal.keep(bytes)?;
         self.add(*command, game);
         Ok(self.stamp)
     }
 
     /// The game after a command with this stamp.
-    fn judge(
-        &self,
-        alloc: Global,
-        stamp: u64,
-        command: &Command,
-        roster: &Roster,
-    ) -> Result<Game, Fault>
+    fn judge(&self, alloc: Global, stamp: u64, command: &Command, kit: &Kit) -> Result<Game, Fault>
         requires { amount_in command.now ≤ 10000000000 }
-        ensures verdict { IsGameOf roster.now self.now.accepted.items self.now.game → MatchResult result
-            (λ _. table_verdict roster.now (table_of self.now.accepted.items self.now.stamp) stamp command.now ≡ None)
-            (λ fault. MayJudge (table_verdict roster.now (table_of self.now.accepted.items self.now.stamp) stamp command.now) fault) }
-        ensures played { IsGameOf roster.now self.now.accepted.items self.now.game →
-            IfOk result (IsGameOf roster.now (self.now.accepted.items ++ command.now ∷ [])) }
+        ensures verdict { IsGameOf kit.now self.now.accepted.items self.now.game → MatchResult result
+            (λ _. table_verdict kit.now (table_of self.now.accepted.items self.now.stamp) stamp command.now ≡ None)
+            (λ fault. MayFind (table_verdict kit.now (table_of self.now.accepted.items self.now.stamp) stamp command.now) fault) }
+        ensures played { IsGameOf kit.now self.now.accepted.items self.now.game →
+            IfOk result (IsGameOf kit.now (self.now.accepted.items ++ command.now ∷ [])) }
         ensures room { OnOk result (vec_len self.now.accepted < 4096) }
         ensures stamp { OnOk result (self.now.stamp < 4000000000) }
-        ensures payments { IfOk result (λ game. game.books.payments ≤ 16 * vec_len self.now.accepted + 22) }
-        ensures commands { IfOk result (λ game. game.auction.commands ≤ vec_len self.now.accepted + 1) }
+        ensures counted { IfOk result (λ game. game.played ≡ vec_len self.now.accepted + 1) }
     {
         if self.stamp != stamp {
             return Err(Fault::StaleStamp(self.stamp));
@@ -187,15 +178,15 @@ impl Table {
         if self.is_full() {
             return Err(Fault::TooManyCommands);
         }
-        self.game.step(alloc, command, roster)
+        let game = self.game.step(alloc, command, kit)?;
+        Ok(game)
     }
 
     /// Lets a command count, after which the game is the given one.
     fn add(&mut self, command: Command, game: Game)
         requires room { vec_len self.old.accepted < 4096 }
         requires stamp { self.old.stamp < 4000000000 }
-        requires payments { game.books.payments ≤ 16 * vec_len self.old.accepted + 22 }
-        requires commands { game.auction.commands ≤ vec_len self.old.accepted + 1 }
+        requires played { game.played ≡ vec_len self.old.accepted + 1 }
         ensures state { table_of self.new.accepted.items self.new.stamp ≡ with_command (table_of self.old.accepted.items self.old.stamp) command }
         ensures game { self.new.game ≡ game }
     {
@@ -218,21 +209,21 @@ impl Tables {
     ghost use Rattle.rr_moderator.specs.World.{present_stamp, table_named, verdict_in, world_after};
 
     /// No table, with room for as many as there may be.
-    pub(crate) fn new(alloc: Global, roster: Roster) -> Result<Tables, Fault>
-        ensures roster { IfOk result (λ tables. tables.roster ≡ roster) }
+    pub(crate) fn new(alloc: Global, kit: Kit) -> Result<Tables, Fault>
+        ensures kit { IfOk result (λ tables. tables.kit ≡ kit) }
         ensures empty { IfOk result (λ tables. tables.map.entries ≡ []) }
         ensures memory { IfErr result (λ fault. fault ≡ Fault.OutOfMemory) }
     {
         Ok(Tables {
-            roster,
+            kit,
             map: IndexMap::with_capacity(alloc, MOST_TABLES)?,
         })
     }
 
-    pub(crate) fn roster(&self) -> &Roster
-        ensures { result.now ≡ self.now.roster }
+    pub(crate) fn kit(&self) -> &Kit
+        ensures { result.now ≡ self.now.kit }
     {
-        &self.roster
+        &self.kit
     }
 
     /// The name of the table at a place in the order of opening.
@@ -250,7 +241,7 @@ impl Tables {
         ensures value { MatchResult result
             (λ table. get bytes_eq self.now.map name.now ≡ Some table.now)
             (λ fault. (fault ≡ Fault.NoSuchTable) × (get bytes_eq self.now.map name.now ≡ None)) }
-        ensures played { IfOk result (λ table. IsGameOf self.now.roster table.now.accepted.items table.now.game) }
+        ensures played { IfOk result (λ table. IsGameOf self.now.kit table.now.accepted.items table.now.game) }
     {
         match self.map.get(name) {
             Some(table) => Ok(table),
@@ -282,15 +273,15 @@ impl Tables {
         requires bytes { 0 < length bytes.now }
         requires small { amount_in command.now ≤ 10000000000 }
         ensures verdict { MatchResult result
-            (λ _. verdict_in self.old.roster (world_of self.old.map.entries) stamp name.now command.now ≡ None)
-            (λ fault. MayRefuse (verdict_in self.old.roster (world_of self.old.map.entries) stamp name.now command.now) J.may_fill (J.broken journal.old) fault (J.broken journal.new)) }
+            (λ _. verdict_in self.old.kit (world_of self.old.map.entries) stamp name.now command.now ≡ None)
+            (λ fault. MayRefuse (verdict_in self.old.kit (world_of self.old.map.entries) stamp name.now command.now) J.may_fill (J.broken journal.old) fault (J.broken journal.new)) }
         ensures world { OnOk result (world_of self.new.map.entries ≡ world_after (world_of self.old.map.entries) name.now command.now) }
         ensures stamp { IfOk result (λ new. new ≡ (state_after (table_named (world_of self.old.map.entries) name.now) command.now).stamp) }
         ensures whole { OnOk result (J.broken journal.new ≡ false) }
         ensures kept { Passed J.Kept journal.old bytes.now journal.new result }
-        ensures roster { self.new.roster ≡ self.old.roster }
+        ensures kit { self.new.kit ≡ self.old.kit }
         ensures err { OnErr result (self.new.map.entries ≡ self.old.map.entries) }
-        ensures untouched { (fault : Fault) → verdict_in self.old.roster (world_of self.old.map.entries) stamp name.now command.now ≡ Some fault
+        ensures untouched { (fault : Fault) → verdict_in self.old.kit (world_of self.old.map.entries) stamp name.now command.now ≡ Some fault
             → journal.new ≡ journal.old }
     {
         match command {
@@ -317,14 +308,14 @@ impl Tables {
         ensures stamp { IfOk result (λ new. (new ≡ 1) × (get bytes_eq self.old.map name.now ≡ None)) }
         ensures whole { OnOk result (J.broken journal.new ≡ false) }
         ensures kept { Passed J.Kept journal.old bytes.now journal.new result }
-        ensures roster { self.new.roster ≡ self.old.roster }
+        ensures kit { self.new.kit ≡ self.old.kit }
         ensures err { OnErr result (self.new.map.entries ≡ self.old.map.entries) }
         ensures untouched { (fault : Fault) → opening_verdict (option_map state_of (get bytes_eq self.old.map name.now)) (index_map_len self.old.map) stamp ≡ Some fault
             → journal.new ≡ journal.old }
     {
         self.judge_opening(stamp, name)?;
         let command = Command::Open { players: *players };
-        let game = Game::open(*players, &self.roster);
+        let game = Game::open(*players, &self.kit);
         let table = Table::open(alloc, command, game)?;
         journal.keep(bytes)?;
         self.add(*name, table);
@@ -335,9 +326,9 @@ impl Tables {
     fn add(&mut self, name: Name, table: Table)
         requires few { index_map_len self.old.map < 64 }
         requires absent { get bytes_eq self.old.map name ≡ None }
-        requires played { IsGameOf self.old.roster table.accepted.items table.game }
+        requires played { IsGameOf self.old.kit table.accepted.items table.game }
         ensures last { self.new.map.entries ≡ self.old.map.entries ++ (name, table) ∷ [] }
-        ensures roster { self.new.roster ≡ self.old.roster }
+        ensures kit { self.new.kit ≡ self.old.kit }
     {
         self.map.insert(name, table).unwrap();
     }
@@ -374,19 +365,19 @@ impl Tables {
         requires bytes { 0 < length bytes.now }
         requires small { amount_in command.now ≤ 10000000000 }
         ensures verdict { MatchResult result
-            (λ _. step_verdict self.old.roster (option_map state_of (get bytes_eq self.old.map name.now)) stamp command.now ≡ None)
-            (λ fault. MayRefuse (step_verdict self.old.roster (option_map state_of (get bytes_eq self.old.map name.now)) stamp command.now) J.may_fill (J.broken journal.old) fault (J.broken journal.new)) }
+            (λ _. step_verdict self.old.kit (option_map state_of (get bytes_eq self.old.map name.now)) stamp command.now ≡ None)
+            (λ fault. MayRefuse (step_verdict self.old.kit (option_map state_of (get bytes_eq self.old.map name.now)) stamp command.now) J.may_fill (J.broken journal.old) fault (J.broken journal.new)) }
         ensures world { OnOk result (world_of self.new.map.entries ≡ world_after (world_of self.old.map.entries) name.now command.now) }
         ensures stamp { IfOk result (λ new. new ≡ (state_after (option_map state_of (get bytes_eq self.old.map name.now)) command.now).stamp) }
         ensures whole { OnOk result (J.broken journal.new ≡ false) }
         ensures kept { Passed J.Kept journal.old bytes.now journal.new result }
-        ensures roster { self.new.roster ≡ self.old.roster }
+        ensures kit { self.new.kit ≡ self.old.kit }
         ensures err { OnErr result (self.new.map.entries ≡ self.old.map.entries) }
-        ensures untouched { (fault : Fault) → step_verdict self.old.roster (option_map state_of (get bytes_eq self.old.map name.now)) stamp command.now ≡ Some fault
+        ensures untouched { (fault : Fault) → step_verdict self.old.kit (option_map state_of (get bytes_eq self.old.map name.now)) stamp command.now ≡ Some fault
             → journal.new ≡ journal.old }
     {
         match self.map.get_mut(name) {
-            Some(table) => table.take(alloc, stamp, command, &self.roster, bytes, journal),
+            Some(table) => table.take(alloc, stamp, command, &self.kit, bytes, journal),
             None => Err(Fault::NoSuchTable),
         }
     }

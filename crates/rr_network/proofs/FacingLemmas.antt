@@ -1,11 +1,9 @@
 -- Which edges are one hexside.
-use Rattle.std.proofs.Common.{◌≡◌, ℕ, ◌+◌, ◌%◌, ◌<◌, ◌≤◌, ◌⊎◌, ◌↔◌, true, inl, inr, refl, sym, ◌∙◌, ap, subst, zero, suc, ℤ, arith}
+use Rattle.std.proofs.Common.{◌≡◌, ℕ, ◌+◌, ◌%◌, ◌<◌, ◌≤◌, ◌⊎◌, true, inl, inr, refl, sym, ◌∙◌, ap, subst, zero, suc, ℤ, arith}
 use Rattle.std.proofs.lemmas.Int.{ints}
 use Rattle.std.proofs.lemmas.Bool.{and_parts, and_from, eqb-true, eq-eqb}
 use Rattle.std.proofs.lemmas.Bool.Decides.{Decides-int_eq}
-use Rattle.std.specs.Ordering.{int_eq}
 use Rattle.rr_board.specs.declared.hex.Place.{Place}
-use Rattle.rr_network.specs.declared.node.Axial.{Axial}
 use Rattle.rr_network.specs.declared.node.Hexside.{Hexside}
 use Rattle.rr_network.specs.Node.{across, hexside_at, same_hexside}
 use Rattle.rr_network.specs.Facing.{AreOne, Faces, FaceEachOther, IsTestOfHexsides, ShareHexsides}

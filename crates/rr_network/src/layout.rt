@@ -20,7 +20,7 @@ pub struct Lay {
 pub struct Station {
     pub corp: Corp,
     pub hex: HexName,
-    pub centre: u8,
+    pub centre: u64,
 }
 
 /// The tiles and tokens that were put on a board, oldest first.
@@ -63,7 +63,7 @@ impl Layout {
     }
 
     /// Puts a token on a centre. Only memory can fail, and then nothing is changed.
-    pub fn station(&mut self, corp: Corp, hex: HexName, centre: u8) -> Result<(), AllocError>
+    pub fn station(&mut self, corp: Corp, hex: HexName, centre: u64) -> Result<(), AllocError>
         ensures book { OnOk result (Extends self.old self.new (E.Station corp hex centre ∷ [])) }
         ensures lays { OnOk result (self.new.lays ≡ self.old.lays) }
         ensures stations { OnOk result (self.new.stations ≡ self.old.stations ++ record { corp = corp; hex = hex; centre = centre } ∷ []) }

@@ -9,9 +9,10 @@ mod reach;
 mod step;
 
 pub use layout::{Lay, Layout, Station};
-pub use network::{Network, Stop};
-pub use node::{Axial, CentreAt, Hexside, Link, Node, across, hexside_at};
+pub use network::{Network, Stop, last_lay};
+pub use node::{Axial, CentreAt, Hexside, Link, Node, across, hexside_at, same_node};
 pub use reach::Reach;
+pub use step::node_of;
 
 #[cfg(test)]
 mod tests;

@@ -187,7 +187,8 @@ fn centre_at(hex: &Hex, number: usize) -> CentreAt
     }
 }
 
-fn last_lay<'a>(lays: &'a [Lay], hex: &HexName) -> Option<&'a Lay>
+/// The last tile that was laid on a hex, if one was.
+pub fn last_lay<'a>(lays: &'a [Lay], hex: &HexName) -> Option<&'a Lay>
     ensures { option_copied result ≡ last_lay lays.now hex.now }
 {
     lays.iter().rev().find(|lay| lay.hex == *hex)

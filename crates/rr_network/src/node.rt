@@ -90,7 +90,8 @@ pub(crate) fn same_centre(centre: &CentreAt, other: &CentreAt) -> bool
     centre.hex == other.hex && centre.number == other.number
 }
 
-pub(crate) fn same_node(node: &Node, other: &Node) -> bool
+/// Whether two nodes are one.
+pub fn same_node(node: &Node, other: &Node) -> bool
     ensures { result ≡ same_node node.now other.now }
 {
     match node {

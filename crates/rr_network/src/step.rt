@@ -82,7 +82,8 @@ fn token_at(corp: Corp, node: &Node, station: &Station) -> bool
     station.corp.index() == corp.index() && same_node(node, &node_of(station))
 }
 
-fn node_of(station: &Station) -> Node
+/// Where a token stands.
+pub fn node_of(station: &Station) -> Node
     ensures { result ≡ node_of station.now }
 {
     Node::Centre(CentreAt {

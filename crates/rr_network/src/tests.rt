@@ -1,5 +1,8 @@
 //! The small board with a tile laid, and what two corporations reach there.
-use crate::{Axial, CentreAt, Layout, Network, Node, Reach, across, hexside_at, laws};
+use crate::{
+    Axial, CentreAt, Layout, Network, Node, Reach, across, hexside_at, last_lay, laws, node_of,
+    same_node,
+};
 use rr_board::{Board, Place};
 use rr_roster::Corp;
 use rr_tiles::{Kind, Manifest};
@@ -48,6 +51,14 @@ fn keeps_what_was_put(rt: HostRuntime) -> Result<(), Fail> {
     assert_eq!(rt; layout.stations().len(), 1);
     assert_eq!(rt; layout.stations()[0].corp, Corp::Prr);
     assert_eq!(rt; layout.stations()[0].centre, 1);
+    let lays = layout.lays();
+    assert!(rt; last_lay(lays, &name(b"B")?).is_some());
+    assert!(rt; last_lay(lays, &name(b"A")?).is_none());
+    let city = CentreAt {
+        hex: name(b"A")?,
+        number: 1,
+    };
+    assert!(rt; same_node(&node_of(&layout.stations()[0]), &Node::Centre(city)));
     Ok(())
 }
 

@@ -14,7 +14,8 @@ use Rattle.rr_books.specs.declared.entries.Marker.TheVariants as M
 use Rattle.rr_books.specs.declared.acts.Act.{Act}
 use Rattle.rr_books.specs.declared.acts.Act.TheVariants as A
 use Rattle.rr_books.specs.Book.{Book}
-use Rattle.rr_rounds.specs.Round.{Round, progress, after, after_act, after_step, left_of, ends_round, ends_turn}
+use Rattle.rr_desk.specs.Seating.{left_of}
+use Rattle.rr_rounds.specs.Round.{Round, progress, after, after_act, after_step, ends_round, ends_turn}
 use Rattle.rr_rounds.specs.RoundLaws.{progress-append}
 use Rattle.rr_rounds.specs.Trades.{begins, begins_round, trader, trades, step_trades, is_trade, moves_priority, done}
 

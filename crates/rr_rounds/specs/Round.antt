@@ -1,5 +1,5 @@
 -- How far the stock rounds have come, from a table's book alone.
-use Rattle.std.specs.Prelude.{◌≡◌, ℕ, ◌+◌, max, nat_lt, Bool, true, false, not, List, [], ◌∷◌, fold, slice_index_or, slice_set, if◌then◌else◌, ◌==◌, ◌&&◌}
+use Rattle.std.specs.Prelude.{◌≡◌, ℕ, ◌+◌, max, Bool, true, false, not, List, [], ◌∷◌, fold, slice_index_or, slice_set, if◌then◌else◌, ◌==◌, ◌&&◌}
 use Rattle.rr_roster.specs.declared.company.Corp.{Corp}
 use Rattle.rr_roster.specs.Company.{corp_index}
 use Rattle.rr_books.specs.declared.parties.Seat.{Seat}
@@ -15,6 +15,7 @@ use Rattle.rr_books.specs.declared.acts.ShareSource.{ShareSource}
 use Rattle.rr_books.specs.declared.acts.ShareSource.TheVariants as S
 use Rattle.rr_books.specs.Book.{Book, seats_up_to}
 use Rattle.rr_books.specs.Same.{same_corp}
+use Rattle.rr_desk.specs.Seating.{left_of}
 use Rattle.rr_rounds.specs.declared.purchases.Purchases.{Purchases}
 use Rattle.rr_rounds.specs.declared.purchases.Purchases.TheVariants as U
 
@@ -96,10 +97,6 @@ beginning = record {
   turns = 0;
   floated = no_marks;
 }
-
--- the seat on the left, at a table of so many: the next one, and after the last the first
-abbrev pub left_of : ℕ → Seat → Seat
-left_of n s = if nat_lt (s.0 + 1) n then record { 0 = s.0 + 1 } else record { 0 = 0 }
 
 -- a seat got a private
 abbrev pub after_private : Seat → Round → Round

@@ -13,7 +13,8 @@ use Rattle.rr_books.specs.declared.acts.Act.{Act}
 use Rattle.rr_books.specs.declared.acts.Act.TheVariants as A
 use Rattle.rr_books.specs.Book.{Book, players}
 use Rattle.rr_books.specs.Same.{same_seat, same_corp}
-use Rattle.rr_rounds.specs.Round.{progress, left_of, has_sold, ends_round, ends_turn}
+use Rattle.rr_desk.specs.Seating.{left_of}
+use Rattle.rr_rounds.specs.Round.{progress, has_sold, ends_round, ends_turn}
 
 -- the entry begins a stock round or an operating round
 abbrev pub begins : Marker → Bool

@@ -4,11 +4,12 @@ ghost use Rattle.rr_roster.specs.Terms.{Terms};
 ghost use Rattle.rr_books.specs.Book.{Book, players, seats_up_to};
 ghost use Rattle.rr_books.specs.Opening.{opening_entries};
 ghost use Rattle.rr_rounds.specs.Opened.{opened};
-ghost use Rattle.rr_rounds.specs.Round.{IsRoundOf, after, after_act, after_done, after_private, after_purchase, after_sale, after_step, after_stock, beginning, begins_stock_round, ends_round, ends_turn, has_floated, has_sold, is_first, left_of, may_buy_again, progress, with_mark};
+ghost use Rattle.rr_rounds.specs.Round.{IsRoundOf, after, after_act, after_done, after_private, after_purchase, after_sale, after_step, after_stock, beginning, begins_stock_round, ends_round, ends_turn, has_floated, has_sold, is_first, may_buy_again, progress, with_mark};
 
 use crate::purchases::Purchases;
 use crate::sales::{Marks, NO_MARKS, Sales, has_sold, is_marked, no_sales, with_mark, with_sale};
 use rr_books::{Act, Cert, Corp, Entry, Marker, Party, Place, Seat, ShareSource};
+use rr_desk::left_of;
 use std::marker::Model;
 
 /// How far the stock rounds of a table have come, which stands for its book. It takes no memory, and `Copy` copies it.
@@ -375,18 +376,5 @@ fn seats_up_to(party: Party) -> u16
     match party {
         Party::Seat(seat) => u16::from(seat.0) + 1,
         _ => 0,
-    }
-}
-
-// The seat on the left, at a table of so many: the next one, and after the last the first.
-fn left_of(seat: Seat, seats: u16) -> Seat
-    requires { seats ≤ 256 }
-    ensures value { result ≡ left_of seats seat }
-    ensures bound { result.0 < max 1 seats }
-{
-    if u16::from(seat.0) + 1 < seats {
-        Seat(seat.0 + 1)
-    } else {
-        Seat(0)
     }
 }

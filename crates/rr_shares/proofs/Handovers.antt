@@ -25,7 +25,7 @@ use Rattle.rr_shares.proofs.Keeping.{after_two, taken_over}
 use Rattle.rr_shares.proofs.Heirs.{heir_has_most}
 
 -- how many a place has after a seat with two gave its two lowest to another seat
-tens_after_two : (book : Book) (c : Corp) (giver taker : Seat) (place : Place) → eqb taker.0 giver.0 ≡ false → 2 ≤ tens (numbered (holder book) c) (L.Seat giver)
+pub tens_after_two : (book : Book) (c : Corp) (giver taker : Seat) (place : Place) → eqb taker.0 giver.0 ≡ false → 2 ≤ tens (numbered (holder book) c) (L.Seat giver)
     → tens (numbered (holder (book ++ moves_lowest_shares c 2 (L.Seat giver) (L.Seat taker) book)) c) place + 2 * cond (same_place (L.Seat giver) place) 1 0 ≡ tens (numbered (holder book) c) place + 2 * cond (same_place (L.Seat taker) place) 1 0
 unfolding moves_lowest_shares
 tens_after_two book c giver taker place apart two =
@@ -50,14 +50,14 @@ twenty true = refl
 twenty false = refl
 
 -- a seat's percentage by parts, where the president is known
-parts_of : (H : Holders) (c : Corp) (p s : Seat) → H (C.President c) ≡ Some (L.Seat p) → share H (L.Seat s) c ≡ 20 * cond (same_place (L.Seat p) (L.Seat s)) 1 0 + 10 * tens (numbered H c) (L.Seat s)
+pub parts_of : (H : Holders) (c : Corp) (p s : Seat) → H (C.President c) ≡ Some (L.Seat p) → share H (L.Seat s) c ≡ 20 * cond (same_place (L.Seat p) (L.Seat s)) 1 0 + 10 * tens (numbered H c) (L.Seat s)
 parts_of H c p s e =
     share-parts H (L.Seat s) c
     ∙ ap (λ (x : Option Place). cond (is_at x (L.Seat s)) 20 0 + 10 * tens (numbered H c) (L.Seat s)) e
     ∙ ap (λ k. k + 10 * tens (numbered H c) (L.Seat s)) (twenty (same_place (L.Seat p) (L.Seat s)))
 
 -- the 10% certificates stay as the 20% moves
-shares_stay : (book : Book) (c : Corp) (to : Place) → numbered (holder (book ++ E.Move (C.President c) to ∷ [])) c ≡ numbered (holder book) c
+pub shares_stay : (book : Book) (c : Corp) (to : Place) → numbered (holder (book ++ E.Move (C.President c) to ∷ [])) c ≡ numbered (holder book) c
 shares_stay book c to = fun_ext (λ (k : ShareNumber). holder-push book (E.Move (C.President c) to) (C.Share c k))
 
 pub shares_kept : (book : Book) (c : Corp) (h : Handover) → holder book (C.President c) ≡ Some (L.Seat h.from) → eqb h.from.0 h.to.0 ≡ false → 2 ≤ tens (numbered (holder book) c) (L.Seat h.to) → (s : Seat)
@@ -104,7 +104,7 @@ most_shares book c n p few seated most s at =
     omega arith
 
 -- an heir isn't the president, and has two 10% certificates at least
-heir_apart : (row : Percents) (p s : Seat) → percent_in row p < percent_in row s → ((eqb p.0 s.0 ≡ true) × (p.0 ≡ s.0)) ⊎ ((eqb p.0 s.0 ≡ false) × (p.0 ≡ s.0 → ⊥)) → eqb p.0 s.0 ≡ false
+pub heir_apart : (row : Percents) (p s : Seat) → percent_in row p < percent_in row s → ((eqb p.0 s.0 ≡ true) × (p.0 ≡ s.0)) ⊎ ((eqb p.0 s.0 ≡ false) × (p.0 ≡ s.0 → ⊥)) → eqb p.0 s.0 ≡ false
 heir_apart row p s more (inl one) =
     let same : get_or row p.0 0 ≡ get_or row s.0 0 = ap (λ j. get_or row j 0) one.1 in absurd (omega arith)
 heir_apart row p s more (inr two) = two.0

@@ -32,7 +32,7 @@ kept_by_first test c d to book (n ∷ ns) =
       | false ↦ kept_by_first test c d to book ns
     ]
 
-kept_by_shares : (c : Corp) (n : ℕ) (from to : Place) (d : Corp) (book : Book) → holder (book ++ moves_lowest_shares c n from to book) (C.President d) ≡ holder book (C.President d)
+pub kept_by_shares : (c : Corp) (n : ℕ) (from to : Place) (d : Corp) (book : Book) → holder (book ++ moves_lowest_shares c n from to book) (C.President d) ≡ holder book (C.President d)
 unfolding moves_lowest_shares
 kept_by_shares c zero from to d book = ap (λ (b : Book). holder b (C.President d)) (append-nil book)
 kept_by_shares c (suc n) from to d book =

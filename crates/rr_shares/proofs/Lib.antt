@@ -3,3 +3,4 @@ pub mod Keeping
 pub mod Heirs
 pub mod Counting
 pub mod Handovers
+pub mod SaleLemmas

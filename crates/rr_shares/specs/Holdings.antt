@@ -1,6 +1,6 @@
 -- What the seats of a table hold of a corporation, and who holds the most.
 use Rattle.std.specs.Prelude.{ℕ, ◌+◌, ◌-◌, ◌*◌, ◌%◌, Bool, ◌&&◌, nat_lt, nat_le, List, [], ◌∷◌, Option, map, find, take, slice_index, if◌then◌else◌}
-use Rattle.std.specs.List.{range_with_len, list_all, list_any}
+use Rattle.std.specs.List.{range_with_len, list_all}
 use Rattle.rr_roster.specs.declared.company.Corp.{Corp}
 use Rattle.rr_books.specs.declared.parties.Seat.{Seat}
 use Rattle.rr_books.specs.declared.parties.Place.TheVariants as L
@@ -45,7 +45,3 @@ succeeds row n president s = nat_lt (percent_in row president) (percent_in row s
 -- who takes over from a president: the nearest on its left that has the most, where that is more than it has itself
 unfoldable pub heir : Percents → ℕ → Seat → Option Seat
 heir row n president = find (succeeds row n president) (seats_left_of n president)
-
--- a seat other than this one has at least so much
-abbrev pub another_has : Percents → ℕ → Seat → ℕ → Bool
-another_has row n s percent = list_any (λ other. nat_le percent (percent_in row other)) (seats_left_of n s)

@@ -1,6 +1,6 @@
-pub mod Fault
 pub mod Holdings
 pub mod Succession
 pub mod Effects
 pub mod Presidents
-pub mod Verdict
+pub mod Sales
+pub mod WorkedHeirs

@@ -1,7 +1,7 @@
 ghost use Rattle.std.specs.Prelude.{◌≡◌, ◌<◌, ◌≤◌, IfSome};
 ghost use Rattle.rr_books.specs.Shares.{share};
 ghost use Rattle.rr_books.specs.State.{holder_in};
-ghost use Rattle.rr_shares.specs.Holdings.{another_has, has_most, heir, percent_in, percents, percents_after_sale, share_after_sale, succeeds};
+ghost use Rattle.rr_shares.specs.Holdings.{has_most, heir, percent_in, percents, percents_after_sale, share_after_sale, succeeds};
 
 use rr_books::{Books, Corp, Place, Seat};
 
@@ -47,17 +47,6 @@ pub fn heir(percents: &[u16; 6], players: u8, president: Seat) -> Option<Seat>
     (1..players)
         .map(move |steps| Seat((president.0 + steps) % players))
         .find(move |seat| succeeds(percents, players, president, *seat))
-}
-
-// Whether another seat holds at least so much.
-pub(crate) fn another_has(percents: &[u16; 6], players: u8, seat: Seat, percent: u16) -> bool
-    requires greatest { players ≤ 6 }
-    requires seated { seat.0 < players }
-    ensures { result ≡ another_has percents.now players seat percent }
-{
-    (1..players)
-        .map(|steps| Seat((seat.0 + steps) % players))
-        .any(|other| percent <= percent_in(percents, other))
 }
 
 // Whether the seat holds more than the president, and as much as any.

@@ -2,20 +2,16 @@
 //! the money with which a corporation begins.
 #![tactic(auto)]
 
-mod fault;
 mod floating;
 mod giving;
 mod holdings;
-mod judging;
 pub mod laws;
 mod selling;
 mod succession;
 
-pub use fault::Fault;
 pub use floating::{float, float_if_due, floats_now};
 pub use giving::give_lowest_shares;
 pub use holdings::{heir, percents};
-pub use judging::judge_sale;
 pub use selling::sell_shares;
 pub use succession::{Handover, hand_over, handover_after_sale, handover_due, settle_presidency};
 

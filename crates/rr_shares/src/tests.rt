@@ -1,8 +1,12 @@
 ghost use Rattle.std.specs.Prelude.{◌≡◌, ◌≤◌, IfOk};
 
+use crate::laws::{
+    heir_has_the_most, presidency_stays_with_a_seat, president_has_the_most, sales_move_shares,
+    worked_heirs,
+};
 use crate::{
-    Fault, Handover, float, float_if_due, floats_now, give_lowest_shares, hand_over,
-    handover_after_sale, handover_due, heir, judge_sale, percents, sell_shares, settle_presidency,
+    Handover, float, float_if_due, floats_now, give_lowest_shares, hand_over, handover_after_sale,
+    handover_due, heir, percents, sell_shares, settle_presidency,
 };
 use rr_books::{Books, Cert, Corp, Money, Party, Place, Seat};
 use rr_desk::Desk;
@@ -96,38 +100,12 @@ fn the_heir_is_the_nearest_on_the_left(rt: HostRuntime) {
 fn sells_shares_and_the_presidency_goes(rt: HostRuntime) -> Result<(), Fail> {
     let mut desk = dealt(rt.alloc(), 3)?;
     assert_eq!(rt; handover_after_sale(desk.books(), PRR, A, 1), None);
-    assert!(rt; judge_sale(desk.books(), PRR, A, 2).is_ok());
     sell_shares(&mut desk, PRR, A, 2)?;
     assert_eq!(rt;
         entries_from(rt.alloc(), &desk, 6)?.as_str(),
         "[Move { cert: Share(Prr, Three), to: Seat(Seat(0)) }, Move { cert: Share(Prr, Four), to: Seat(Seat(0)) }, Move { cert: President(Prr), to: Seat(Seat(1)) }, Move { cert: Share(Prr, One), to: Pool }, Move { cert: Share(Prr, Two), to: Pool }]"
     );
     assert_eq!(rt; percents(desk.books(), PRR), [20, 30, 0, 0, 0, 0]);
-    Ok(())
-}
-
-#[test]
-fn which_sales_are_refused(rt: HostRuntime) -> Result<(), Fail> {
-    let mut desk = dealt(rt.alloc(), 1)?;
-    give_lowest_shares(&mut desk, PRR, 5, Place::Offer, Place::Pool)?;
-    let books = desk.books();
-    let refusals = [
-        judge_sale(books, PRR, B, 0).err(),
-        judge_sale(books, PRR, B, 2).err(),
-        judge_sale(books, PRR, A, 3).err(),
-        judge_sale(books, PRR, B, 1).err(),
-    ];
-    assert_eq!(rt;
-        refusals,
-        [
-            Some(Fault::NotForSale),
-            Some(Fault::NotForSale),
-            Some(Fault::NotForSale),
-            Some(Fault::PoolOverHalf)
-        ]
-    );
-    assert_eq!(rt; Fault::NotForSale.number(), 22);
-    assert_eq!(rt; Fault::PoolOverHalf.number(), 28);
     Ok(())
 }
 
@@ -154,4 +132,13 @@ fn does_not_float_with_half_in_the_offer(rt: HostRuntime) -> Result<(), Fail> {
     float(&mut desk, PRR, 67)?;
     assert_eq!(rt; desk.books().balance(Party::Corp(PRR)), Money(670));
     Ok(())
+}
+
+#[test]
+fn laws_are_called(_rt: HostRuntime) {
+    presidency_stays_with_a_seat();
+    heir_has_the_most();
+    president_has_the_most();
+    sales_move_shares();
+    worked_heirs();
 }

@@ -19,7 +19,7 @@ use Rattle.rr_shares.specs.declared.succession.Handover.{Handover}
 use Rattle.rr_shares.specs.Succession.{handover_after_sale, handover_due}
 use Rattle.rr_shares.specs.Effects.{float, float_if_due, float_of, floats_now, hands_over, hands_over_if, moves_lowest_shares, presidency, presidency_after_sale, sale_shares}
 use Rattle.rr_market.specs.MarkLaws.{has_no_mark, is_mark}
-use Rattle.rr_stock.specs.Incomes.{owner, pay_incomes, pay_incomes_of, pays_if, pays_income}
+use Rattle.rr_desk.specs.Incomes.{owner, pay_incomes, pay_incomes_of, pays_if, pays_income}
 use Rattle.rr_stock.specs.Rules.{place_of_source}
 use Rattle.rr_stock.specs.Effects.{gets_share, gives_up_private, passes_operating_round, pays_bank, settles_corporation}
 

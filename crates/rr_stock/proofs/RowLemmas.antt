@@ -23,7 +23,7 @@ use Rattle.rr_market.specs.Order.{operating_order}
 use Rattle.rr_market.specs.State.{State as Tokens, IsMarketOf, Follows}
 use Rattle.rr_shares.specs.Effects.{float_if_due, sale_shares}
 use Rattle.rr_rounds.specs.Round.{ends_round, has_floated}
-use Rattle.rr_stock.specs.Incomes.{dollars}
+use Rattle.rr_desk.specs.Incomes.{dollars}
 use Rattle.rr_stock.specs.Effects.{buys_share, ends_if, ends_stock_round, ends_turn, gets_share, gives_up_private, is_sold_out, marks, passes_operating_round, pays_bank, pays_seller, proceeds, rises, rises_among, rises_if_sold_out, says, sells, sets_par, settles_corporation, settles_in, swaps, takes_presidency}
 use Rattle.rr_stock.specs.Plays.{Plays}
 use Rattle.rr_stock.specs.Rules.{share_price}

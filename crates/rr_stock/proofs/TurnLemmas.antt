@@ -22,6 +22,7 @@ use Rattle.rr_books.specs.declared.acts.Act.{Act}
 use Rattle.rr_books.specs.declared.acts.Act.TheVariants as A
 use Rattle.rr_books.specs.declared.acts.ShareSource.{ShareSource}
 use Rattle.rr_books.specs.Book.{Book, holder, players}
+use Rattle.rr_books.specs.Same.{same_place}
 use Rattle.rr_books.specs.Shares.{privates}
 use Rattle.rr_desk.specs.Effects.{Effect, adds, in_turn, lowest_share, moves_if, moves_lowest_share}
 use Rattle.rr_shares.specs.declared.succession.Handover.{Handover}
@@ -31,15 +32,15 @@ use Rattle.rr_market.specs.Marks.{mark_of}
 use Rattle.rr_market.specs.Moves.{cell_above, cell_after_sale, cell_of, mark_at, par_marks, sale_marks, sold_out_marks}
 use Rattle.rr_market.specs.Order.{operating_order}
 use Rattle.rr_rounds.specs.Round.{ends_round, has_floated}
-use Rattle.rr_stock.specs.Incomes.{dollars, owner, pay_incomes, pay_incomes_of, pays_if, pays_income}
+use Rattle.rr_desk.specs.Incomes.{dollars, owner, pay_incomes, pay_incomes_of, pays_if, pays_income}
 use Rattle.rr_stock.specs.Situation.{Situation}
 use Rattle.rr_stock.specs.Rules.{place_of_source, share_price}
 use Rattle.rr_stock.specs.Effects.{buys_share, ends_if, ends_stock_round, ends_turn, gets_share, gives_up_private, is_sold_out, passes_operating_round, pays_bank, pays_seller, proceeds, rises, rises_among, rises_if_sold_out, row, says, sells, sets_par, settles_corporation, settles_in, swaps, takes_presidency}
 
--- a kind of entry that is none of these
+-- a kind of entry that is none of these: of moves, none but to the pool
 pub record Spares (p : Entry → Bool) : Type 0 where
   pub pay : (from to : Party) (amount : Money) → p (E.Pay from to amount) ≡ false
-  pub move : (cert : Cert) (to : Place) → p (E.Move cert to) ≡ false
+  pub move : (cert : Cert) (to : Place) → same_place to L.Pool ≡ false → p (E.Move cert to) ≡ false
   pub mark : (c : Corp) (cell : Cell) → p (E.Mark c cell) ≡ false
   pub floats : (c : Corp) → p (E.Step (M.Float c)) ≡ false
   pub operating : p (E.Step M.Operating) ≡ false
@@ -70,23 +71,23 @@ free_two p f g h k = free_then p f (g ∷ []) h (free_then p g [] k (free_none p
 free_three : (p : Entry → Bool) (f g i : Effect) → IsFree p f → IsFree p g → IsFree p i → IsFree p (in_turn (f ∷ g ∷ i ∷ []))
 free_three p f g i h k l = free_then p f (g ∷ i ∷ []) h (free_two p g i k l)
 
-moves_if_free : (p : Entry → Bool) (s : Spares p) (cert : Option Cert) (to : Place) → count_by p (moves_if cert to) ≡ 0
-moves_if_free p s None to = refl
-moves_if_free p s (Some cert) to = one_free p (E.Move cert to) (s.move cert to)
+moves_if_free : (p : Entry → Bool) (cert : Option Cert) (to : Place) → ((d : Cert) → p (E.Move d to) ≡ false) → count_by p (moves_if cert to) ≡ 0
+moves_if_free p None to h = refl
+moves_if_free p (Some cert) to h = one_free p (E.Move cert to) (h cert)
 
-lowest_free : (p : Entry → Bool) (s : Spares p) (c : Corp) (from to : Place) → IsFree p (moves_lowest_share c from to)
-lowest_free p s c from to book = moves_if_free p s (lowest_share (holder book) c from) to
+lowest_free : (p : Entry → Bool) (c : Corp) (from to : Place) → ((d : Cert) → p (E.Move d to) ≡ false) → IsFree p (moves_lowest_share c from to)
+lowest_free p c from to h book = moves_if_free p (lowest_share (holder book) c from) to h
 
-several_free : (p : Entry → Bool) (s : Spares p) (c : Corp) (n : ℕ) (from to : Place) → IsFree p (moves_lowest_shares c n from to)
+several_free : (p : Entry → Bool) (c : Corp) (n : ℕ) (from to : Place) → ((d : Cert) → p (E.Move d to) ≡ false) → IsFree p (moves_lowest_shares c n from to)
 unfolding moves_lowest_shares
-several_free p s c zero from to = free_none p
-several_free p s c (suc n) from to = free_two p (moves_lowest_shares c n from to) (moves_lowest_share c from to) (several_free p s c n from to) (lowest_free p s c from to)
+several_free p c zero from to h = free_none p
+several_free p c (suc n) from to h = free_two p (moves_lowest_shares c n from to) (moves_lowest_share c from to) (several_free p c n from to h) (lowest_free p c from to h)
 
 handover_free : (p : Entry → Bool) (s : Spares p) (c : Corp) (h : Handover) → IsFree p (hands_over c h)
 unfolding hands_over
 handover_free p s c h =
-    free_two p (moves_lowest_shares c 2 (L.Seat h.to) (L.Seat h.from)) (adds (E.Move (C.President c) (L.Seat h.to))) (several_free p s c 2 (L.Seat h.to) (L.Seat h.from))
-    (λ book. one_free p (E.Move (C.President c) (L.Seat h.to)) (s.move (C.President c) (L.Seat h.to)))
+    free_two p (moves_lowest_shares c 2 (L.Seat h.to) (L.Seat h.from)) (adds (E.Move (C.President c) (L.Seat h.to))) (several_free p c 2 (L.Seat h.to) (L.Seat h.from) (λ d. s.move d (L.Seat h.from) refl))
+    (λ book. one_free p (E.Move (C.President c) (L.Seat h.to)) (s.move (C.President c) (L.Seat h.to) refl))
 
 handover_if_free : (p : Entry → Bool) (s : Spares p) (c : Corp) (h : Option Handover) → IsFree p (hands_over_if c h)
 handover_if_free p s c None = free_none p
@@ -96,14 +97,14 @@ presidency_free : (p : Entry → Bool) (s : Spares p) (c : Corp) → IsFree p (p
 unfolding presidency
 presidency_free p s c book = handover_if_free p s c (handover_due (holder book) (players book) c) book
 
-after_sale_free : (p : Entry → Bool) (s : Spares p) (c : Corp) (seller : Seat) (n : ℕ) → IsFree p (presidency_after_sale c seller n)
+pub after_sale_free : (p : Entry → Bool) (s : Spares p) (c : Corp) (seller : Seat) (n : ℕ) → IsFree p (presidency_after_sale c seller n)
 unfolding presidency_after_sale
 after_sale_free p s c seller n book = handover_if_free p s c (handover_after_sale (holder book) (players book) c seller n) book
 
-sale_free : (p : Entry → Bool) (s : Spares p) (c : Corp) (seller : Seat) (n : ℕ) → IsFree p (sale_shares c seller n)
+pub sale_free : (p : Entry → Bool) (s : Spares p) (c : Corp) (seller : Seat) (n : ℕ) → ((d : Cert) → p (E.Move d L.Pool) ≡ false) → IsFree p (sale_shares c seller n)
 unfolding sale_shares
-sale_free p s c seller n =
-    free_two p (presidency_after_sale c seller n) (moves_lowest_shares c n (L.Seat seller) L.Pool) (after_sale_free p s c seller n) (several_free p s c n (L.Seat seller) L.Pool)
+sale_free p s c seller n h =
+    free_two p (presidency_after_sale c seller n) (moves_lowest_shares c n (L.Seat seller) L.Pool) (after_sale_free p s c seller n) (several_free p c n (L.Seat seller) L.Pool h)
 
 pay_free : (p : Entry → Bool) (s : Spares p) (from to : Party) (amount : Money) → IsFree p (adds (E.Pay from to amount))
 pay_free p s from to amount book = one_free p (E.Pay from to amount) (s.pay from to amount)
@@ -144,13 +145,13 @@ unfolding takes_presidency
 presidency_taken_free p s rows seat c n =
     free_three p (par_marks rows c n) (adds (E.Move (C.President c) (L.Seat seat))) (pays_bank seat (2 * n))
     (λ book. mark_free p s c (option_map cell_of (par_place rows n)))
-    (λ book. one_free p (E.Move (C.President c) (L.Seat seat)) (s.move (C.President c) (L.Seat seat)))
+    (λ book. one_free p (E.Move (C.President c) (L.Seat seat)) (s.move (C.President c) (L.Seat seat) refl))
     (pay_free p s (P.Seat seat) P.Bank (dollars (2 * n)))
 
 share_free : (p : Entry → Bool) (s : Spares p) (seat : Seat) (c : Corp) (source : ShareSource) (price : ℕ) → IsFree p (gets_share seat c source price)
 unfolding gets_share
 share_free p s seat c source price =
-    free_two p (moves_lowest_share c (place_of_source source) (L.Seat seat)) (pays_bank seat price) (lowest_free p s c (place_of_source source) (L.Seat seat)) (pay_free p s (P.Seat seat) P.Bank (dollars price))
+    free_two p (moves_lowest_share c (place_of_source source) (L.Seat seat)) (pays_bank seat price) (lowest_free p c (place_of_source source) (L.Seat seat) (λ d. s.move d (L.Seat seat) refl)) (pay_free p s (P.Seat seat) P.Bank (dollars price))
 
 settled_free : (p : Entry → Bool) (s : Spares p) (c : Corp) (par : Option ℕ) (floated : Bool) → IsFree p (settles_corporation c par floated)
 unfolding settles_corporation
@@ -160,9 +161,9 @@ private_free : (p : Entry → Bool) (s : Spares p) (seat : Seat) (source : Share
 unfolding gives_up_private
 private_free p s seat source =
     free_two p (adds (E.Move (C.Private Private.Mh) L.Gone)) (moves_lowest_share Corp.Nyc (place_of_source source) (L.Seat seat))
-    (λ book. one_free p (E.Move (C.Private Private.Mh) L.Gone) (s.move (C.Private Private.Mh) L.Gone)) (lowest_free p s Corp.Nyc (place_of_source source) (L.Seat seat))
+    (λ book. one_free p (E.Move (C.Private Private.Mh) L.Gone) (s.move (C.Private Private.Mh) L.Gone refl)) (lowest_free p Corp.Nyc (place_of_source source) (L.Seat seat) (λ d. s.move d (L.Seat seat) refl))
 
-seller_free : (p : Entry → Bool) (s : Spares p) (rows : List Row) (seat : Seat) (c : Corp) (n amount : ℕ) → IsFree p (pays_seller rows seat c n amount)
+pub seller_free : (p : Entry → Bool) (s : Spares p) (rows : List Row) (seat : Seat) (c : Corp) (n amount : ℕ) → IsFree p (pays_seller rows seat c n amount)
 unfolding pays_seller
 seller_free p s rows seat c n amount =
     free_two p (adds (E.Pay P.Bank (P.Seat seat) (dollars amount))) (sale_marks rows n c) (pay_free p s P.Bank (P.Seat seat) (dollars amount))
@@ -224,28 +225,28 @@ ending_counted p s roster rows false book = omega arith
 within : (a b c : ℕ) → a ≡ b → a ≤ b + c
 within a b c e = omega arith
 
--- of the kind are at most the command and the step that begins a stock round
-pub row_counted : (p : Entry → Bool) (s : Spares p) (roster : Terms) (rows : List Row) (t : Situation) (act : Act) (book : Book) → count_by p (row roster rows t act book) ≤ cond (p (E.Step (M.Act act))) 1 0 + cond (p (E.Step M.Stock)) 1 0
+-- of the kind are at most the command and the step that begins a stock round, where a sale moves none of the kind
+pub row_counted : (p : Entry → Bool) (s : Spares p) (roster : Terms) (rows : List Row) (t : Situation) (act : Act) (book : Book) → ((seat : Seat) (c : Corp) (n : ℕ) → act ≡ A.Sell seat c n → IsFree p (sale_shares c seat n)) → count_by p (row roster rows t act book) ≤ cond (p (E.Step (M.Act act))) 1 0 + cond (p (E.Step M.Stock)) 1 0
 unfolding sets_par buys_share sells swaps ends_turn
-row_counted p s roster rows t (A.Par seat c n) book =
+row_counted p s roster rows t (A.Par seat c n) book sold =
     let rest = takes_presidency rows seat c n ∷ float_if_due c (Some n) (has_floated t.progress c) ∷ [] in
     let free = free_two p (takes_presidency rows seat c n) (float_if_due c (Some n) (has_floated t.progress c)) (presidency_taken_free p s rows seat c n) (float_free p s c (Some n) (has_floated t.progress c)) in
     within (count_by p (in_turn (says (A.Par seat c n) ∷ rest) book)) (cond (p (E.Step (M.Act (A.Par seat c n)))) 1 0) (cond (p (E.Step M.Stock)) 1 0) (one_then p (E.Step (M.Act (A.Par seat c n))) rest book free)
-row_counted p s roster rows t (A.BuyShare seat c source) book =
+row_counted p s roster rows t (A.BuyShare seat c source) book sold =
     let buy = gets_share seat c source (share_price t c source) in
     let rest = buy ∷ settles_in t c ∷ [] in
     let free = free_two p buy (settles_in t c) (share_free p s seat c source (share_price t c source)) (settled_free p s c (t.pars c) (has_floated t.progress c)) in
     within (count_by p (in_turn (says (A.BuyShare seat c source) ∷ rest) book)) (cond (p (E.Step (M.Act (A.BuyShare seat c source)))) 1 0) (cond (p (E.Step M.Stock)) 1 0) (one_then p (E.Step (M.Act (A.BuyShare seat c source))) rest book free)
-row_counted p s roster rows t (A.Sell seat c n) book =
+row_counted p s roster rows t (A.Sell seat c n) book sold =
     let gets = pays_seller rows seat c n (proceeds t c n) in
     let rest = sale_shares c seat n ∷ gets ∷ [] in
-    let free = free_two p (sale_shares c seat n) gets (sale_free p s c seat n) (seller_free p s rows seat c n (proceeds t c n)) in
+    let free = free_two p (sale_shares c seat n) gets (sold seat c n refl) (seller_free p s rows seat c n (proceeds t c n)) in
     within (count_by p (in_turn (says (A.Sell seat c n) ∷ rest) book)) (cond (p (E.Step (M.Act (A.Sell seat c n)))) 1 0) (cond (p (E.Step M.Stock)) 1 0) (one_then p (E.Step (M.Act (A.Sell seat c n))) rest book free)
-row_counted p s roster rows t (A.Swap seat source) book =
+row_counted p s roster rows t (A.Swap seat source) book sold =
     let rest = gives_up_private seat source ∷ settles_in t Corp.Nyc ∷ [] in
     let free = free_two p (gives_up_private seat source) (settles_in t Corp.Nyc) (private_free p s seat source) (settled_free p s Corp.Nyc (t.pars Corp.Nyc) (has_floated t.progress Corp.Nyc)) in
     within (count_by p (in_turn (says (A.Swap seat source) ∷ rest) book)) (cond (p (E.Step (M.Act (A.Swap seat source)))) 1 0) (cond (p (E.Step M.Stock)) 1 0) (one_then p (E.Step (M.Act (A.Swap seat source))) rest book free)
-row_counted p s roster rows t (A.Done seat) book =
+row_counted p s roster rows t (A.Done seat) book sold =
     let e = E.Step (M.Act (A.Done seat)) in
     let end = ends_if roster rows (ends_round t.progress) in
     let more = end (book ++ e ∷ []) in
@@ -253,4 +254,4 @@ row_counted p s roster rows t (A.Done seat) book =
     let second = sum_by-append (λ (x : Entry). cond (p x) 1 0) more [] in
     let ended : count_by p more ≤ cond (p (E.Step M.Stock)) 1 0 = ending_counted p s roster rows (ends_round t.progress) (book ++ e ∷ []) in
     omega arith
-row_counted p s roster rows t _ book = omega arith
+row_counted p s roster rows t _ book sold = omega arith

@@ -21,7 +21,7 @@ use Rattle.rr_market.specs.Moves.{mark_at, par_marks, sale_marks, sold_out_marks
 use Rattle.rr_market.specs.Order.{operating_order}
 use Rattle.rr_shares.specs.Effects.{float_if_due, presidency, sale_shares}
 use Rattle.rr_rounds.specs.Round.{ends_round, has_floated}
-use Rattle.rr_stock.specs.Incomes.{dollars, pay_incomes}
+use Rattle.rr_desk.specs.Incomes.{dollars, pay_incomes}
 use Rattle.rr_stock.specs.Rules.{place_of_source, share_price}
 use Rattle.rr_stock.specs.Situation.{Situation, situation_of}
 

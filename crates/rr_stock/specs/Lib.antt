@@ -2,9 +2,10 @@ pub mod Fault
 pub mod Situation
 pub mod SituationLaws
 pub mod Rules
-pub mod Incomes
 pub mod Effects
 pub mod Plays
 pub mod Due
 pub mod TurnCounts
 pub mod WorkedRounds
+pub mod PoolLimits
+pub mod SoldShares

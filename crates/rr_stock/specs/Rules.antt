@@ -3,7 +3,7 @@ use Rattle.std.specs.Prelude.{ℕ, ◌*◌, pos, int_lt, Bool, true, false, not,
 use Rattle.std.specs.Option.{option_or}
 use Rattle.rr_roster.specs.declared.company.Private.{Private}
 use Rattle.rr_roster.specs.declared.company.Corp.{Corp}
-use Rattle.rr_chart.specs.Chart.{Row, par_place}
+use Rattle.rr_chart.specs.Chart.{Row}
 use Rattle.rr_chart.specs.declared.cell.Zone.{Zone}
 use Rattle.rr_chart.specs.declared.cell.Zone.TheVariants as Z
 use Rattle.rr_books.specs.declared.parties.Seat.{Seat}
@@ -19,6 +19,7 @@ use Rattle.rr_books.specs.Book.{Book}
 use Rattle.rr_books.specs.Shares.{Holders, is_at}
 use Rattle.rr_books.specs.Same.{same_seat}
 use Rattle.rr_desk.specs.Effects.{lowest_share}
+use Rattle.rr_market.specs.Moves.{is_par}
 use Rattle.rr_rounds.specs.declared.purchases.Purchases.{Purchases}
 use Rattle.rr_rounds.specs.declared.purchases.Purchases.TheVariants as U
 use Rattle.rr_rounds.specs.Round.{Round, has_sold, is_first, may_buy_again}
@@ -37,10 +38,6 @@ place_of_source S.Pool = L.Pool
 -- some 10% certificate of the corporation is there
 abbrev pub has_share : Holders → Corp → ShareSource → Bool
 has_share holders c source = is_some (lowest_share holders c (place_of_source source))
-
--- the chart has a par cell of this price
-abbrev pub is_par : List Row → ℕ → Bool
-is_par rows n = is_some (par_place rows n)
 
 -- what a share costs: the par from the offer, the market price from the pool
 abbrev pub price_by_source : Option ℕ → Option ℕ → ShareSource → ℕ

@@ -23,7 +23,7 @@ use Rattle.rr_books.specs.Book.{Book, balance, holder}
 use Rattle.rr_books.specs.Shares.{certificates_of, share}
 use Rattle.rr_market.specs.Marks.{price_of}
 use Rattle.rr_stock.specs.declared.fault.Fault.{Fault}
-use Rattle.rr_stock.specs.Incomes.{dollars}
+use Rattle.rr_desk.specs.Incomes.{dollars}
 use Rattle.rr_stock.specs.Rules.{verdict}
 use Rattle.rr_stock.specs.Effects.{entries_of}
 

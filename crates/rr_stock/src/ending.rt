@@ -5,11 +5,10 @@ ghost use Rattle.rr_stock.specs.Effects.{ends_if, ends_stock_round, is_sold_out,
 ghost use Rattle.rr_stock.specs.Plays.{Plays};
 
 use crate::fault::Fault;
-use crate::incomes::pay_incomes;
 use crate::trading::mark_if;
 use rr_books::{Books, Corp, Marker, Place};
 use rr_chart::Chart;
-use rr_desk::Desk;
+use rr_desk::{Desk, pay_incomes};
 use rr_market::Market;
 use rr_roster::Roster;
 

@@ -1,19 +1,20 @@
-ghost use Rattle.std.specs.Prelude.{◌≡◌, ◌*◌, ◌==◌, ◌&&◌, ◌≤◌, ◌≤ℤ◌, int_lt, is_some, pos, None, Some, OnOk, IfOk, IfSome, MatchResult, find, option_map, true, unwrap_or};
+ghost use Rattle.std.specs.Prelude.{◌≡◌, ◌*◌, ◌==◌, ◌&&◌, ◌≤◌, ◌≤ℤ◌, int_lt, is_some, pos, None, Some, OnOk, IfOk, IfSome, MatchResult, true, unwrap_or};
 ghost use Rattle.rr_books.specs.Book.{Book};
 ghost use Rattle.rr_books.specs.Shares.{is_at};
 ghost use Rattle.rr_books.specs.State.{IsStateOf, cash_of, holder_in};
 ghost use Rattle.rr_desk.specs.Effects.{lowest_share};
 ghost use Rattle.rr_market.specs.Marks.{zone_at, price_at};
+ghost use Rattle.rr_market.specs.Moves.{is_par};
 ghost use Rattle.rr_market.specs.State.{IsMarketOf, cell_in, first_in};
 ghost use Rattle.rr_rounds.specs.Round.{IsRoundOf};
 ghost use Rattle.rr_stock.specs.Situation.{situation_in};
-ghost use Rattle.rr_stock.specs.Rules.{done_verdict, has_share, is_brown, is_par, is_purchase, must_sell, par_verdict, place_of_source, price_by_source, purchase_verdict, sale_verdict, swap_verdict, turn_verdict, verdict, verdict_in};
+ghost use Rattle.rr_stock.specs.Rules.{done_verdict, has_share, is_brown, is_purchase, must_sell, par_verdict, place_of_source, price_by_source, purchase_verdict, sale_verdict, swap_verdict, turn_verdict, verdict, verdict_in};
 
 use crate::fault::Fault;
 use rr_books::{Act, Books, Cert, Corp, Party, Place, Private, Seat, ShareNumber, ShareSource};
-use rr_chart::{Chart, ParCell, Zone};
+use rr_chart::{Chart, Zone};
 use rr_holdings::{judge_sell, must_sell_first, would_be_over_certificates, would_be_over_sixty};
-use rr_market::Market;
+use rr_market::{Market, par_cell};
 use rr_rounds::{Purchases, Rounds};
 
 /// Whether a stock round takes the command now.
@@ -379,16 +380,8 @@ fn par_on_chart(chart: &Chart, price: u64) -> Option<u16>
     ensures there { is_some result ≡ is_par chart.now price }
     ensures same { IfSome result (λ par. par ≡ price) }
 {
-    par_among(chart.par_cells(), price)
-}
-
-// The price, if one of the par cells has it.
-fn par_among(pars: &[ParCell], price: u64) -> Option<u16>
-    ensures value { result ≡ option_map (λ par. par.price) (find (λ par. par.price == price) pars.now) }
-    ensures same { IfSome result (λ par. par ≡ price) }
-{
-    let par = pars.iter().find(|par| u64::from(par.price) == price)?;
-    Some(par.price)
+    let _cell = par_cell(chart, price)?;
+    Some(price as u16)
 }
 
 // Whether a 10% certificate of the corporation is there, and the corporation has a par.

@@ -1,4 +1,6 @@
 //! Laws of the definitions, each the contract of a function that does nothing.
+ghost use Rattle.rr_stock.specs.PoolLimits.{PoolStaysWithinHalf};
+ghost use Rattle.rr_stock.specs.SoldShares.{LawfulSalesMoveShares};
 ghost use Rattle.rr_stock.specs.TurnCounts.{OneTurnAtMost};
 ghost use Rattle.rr_stock.specs.WorkedRounds.{WorkedEnd, WorkedFloat, WorkedPar, WorkedPresidency, WorkedSale};
 
@@ -6,6 +8,19 @@ ghost use Rattle.rr_stock.specs.WorkedRounds.{WorkedEnd, WorkedFloat, WorkedPar,
 pub fn one_turn_at_most()
     ensures { OneTurnAtMost }
 {}
+
+/// Where the pool has at most half of each corporation, it has at most half of each after whatever lawful command.
+pub fn pool_stays_within_half()
+    ensures { PoolStaysWithinHalf }
+{}
+
+/// A lawful sale, of a corporation that has a president at the table, moves just the shares that are sold, and nobody
+/// holds more than the president then.
+pub fn lawful_sales_move_shares()
+    ensures { LawfulSalesMoveShares }
+{
+    rr_shares::laws::sales_move_shares();
+}
 
 /// A sale of two shares at 100 brings 200, and the price falls two rows.
 pub fn worked_sale()

@@ -3,7 +3,6 @@
 
 mod ending;
 mod fault;
-mod incomes;
 mod judging;
 pub mod laws;
 mod rows;

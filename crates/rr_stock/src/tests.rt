@@ -1,5 +1,6 @@
 use crate::laws::{
-    one_turn_at_most, worked_end, worked_float, worked_par, worked_presidency, worked_sale,
+    lawful_sales_move_shares, one_turn_at_most, pool_stays_within_half, worked_end, worked_float,
+    worked_par, worked_presidency, worked_sale,
 };
 use crate::{Fault, due, judge, step};
 use rr_books::{Act, Books, Corp, Entry, Marker, Money, Party, Seat};
@@ -75,7 +76,9 @@ fn refusals_have_their_numbers(rt: HostRuntime) {
 
 #[test]
 fn laws_are_called(_rt: HostRuntime) {
+    lawful_sales_move_shares();
     one_turn_at_most();
+    pool_stays_within_half();
     worked_sale();
     worked_presidency();
     worked_par();

@@ -1,11 +1,10 @@
 ghost use Rattle.std.specs.Prelude.{◌≡◌, ◌+◌, ◌*◌, ◌<◌, ◌≤◌, ◌≤ℤ◌, pos, true, OnOk, IfErr, MatchOption};
 ghost use Rattle.rr_books.specs.State.{cash_of};
 ghost use Rattle.rr_desk.specs.Effects.{Takes, adds};
-ghost use Rattle.rr_market.specs.Moves.{par_marks, sale_marks};
+ghost use Rattle.rr_market.specs.Moves.{is_par, par_marks, sale_marks};
 ghost use Rattle.rr_stock.specs.Effects.{gets_share, gives_up_private, marks, pays_bank, pays_seller, settles_corporation, takes_presidency};
-ghost use Rattle.rr_stock.specs.Incomes.{dollars};
+ghost use Rattle.rr_desk.specs.Incomes.{dollars};
 ghost use Rattle.rr_stock.specs.Plays.{Plays};
-ghost use Rattle.rr_stock.specs.Rules.{is_par};
 
 use crate::fault::Fault;
 use crate::judging::place_of_source;

@@ -17,10 +17,10 @@ no_less : (m : ℕ) (cash : ℤ) → pos m ≤ℤ cash → pos 0 ≤ℤ cash
 no_less m cash h = omega (arith, ints)
 
 pub returns : goal.returns
-returns c roster names acts two lawful =
+returns c roster rows names acts two lawful =
     let n = length names in
     let began = E.Step (M.Auction names) in
-    let all = goes_by_acts n roster acts (opened names roster) (covered_opened names roster two) lawful in
+    let all = goes_by_acts n roster rows acts (opened names roster) (covered_opened names roster two) lawful in
     let Sound : Book → Type 0 = λ book. HasSoundMoney n book in
     let covered = all.2.later.covered in
     subst Sound (sym all.1) (record {

@@ -12,7 +12,7 @@ returns-in_err-take-clause-err c =
     let p = err_from_is_err_and failed.result failed.ensures.1 in
     let entries = c.args.tables.now.map.entries in
     let at = c.stamp-stamp.ensures ∙ ap present_stamp (sym (named_by state_of c.in_ok-name.name entries)) in
-    rw (p.1, p.2) (refused_record c.args.tables.now.roster (world_of entries) c.args.bytes.now c.in_ok-name.name c.in_ok-name.command c.stamp-stamp.result _
+    rw (p.1, p.2) (refused_record c.args.tables.now.kit (world_of entries) c.args.bytes.now c.in_ok-name.name c.in_ok-name.command c.stamp-stamp.result _
     c.in_ok-name.ensures.only at c.in_err-take.ensures.verdict)
 
 pub returns-clause-ok : goal.returns-clause-ok
@@ -23,6 +23,6 @@ returns-clause-ok c =
       name = c.in_ok-name.name;
       command = c.in_ok-name.command;
       spelled = c.in_ok-name.ensures.found;
-      lawful = subst (λ n. verdict_in c.args.tables.now.roster (world_of entries) n c.in_ok-name.name c.in_ok-name.command ≡ None) at c.in_ok-take.ensures.verdict;
+      lawful = subst (λ n. verdict_in c.args.tables.now.kit (world_of entries) n c.in_ok-name.name c.in_ok-name.command ≡ None) at c.in_ok-take.ensures.verdict;
       taken = c.in_ok-take.ensures.world;
     }

@@ -10,8 +10,8 @@ returns-in-Err c =
     record {
       ok = tt;
       err = rw (c.damage.ensures) (replays_end bytes_of c.args.records.now c.loop-bytes.bytes-index c.bytes-item.result within _ _ _ _ c.as_slice.result.now c.in-Err.fault
-          (c.as_slice.ensures.value ∙ ap bytes_of c.bytes-item.is) c.loop-bytes.invariant.roster c.loop-bytes.invariant.so_far c.in-Err.ensures.err);
-      roster = c.replay_record.ensures.roster ∙ c.loop-bytes.invariant.roster;
+          (c.as_slice.ensures.value ∙ ap bytes_of c.bytes-item.is) c.loop-bytes.invariant.kit c.loop-bytes.invariant.so_far c.in-Err.ensures.err);
+      kit = c.replay_record.ensures.kit ∙ c.loop-bytes.invariant.kit;
     }
 
 pub loop-bytes-preserved : goal.loop-bytes-preserved
@@ -20,6 +20,6 @@ loop-bytes-preserved c =
     let bytes_of = λ (v : Vec ℕ Global). v.items in
     record {
       so_far = replays_more bytes_of c.args.records.now c.loop-bytes.bytes-index c.bytes-item.result within _ _ _ _ _ c.as_slice.result.now
-          (c.as_slice.ensures.value ∙ ap bytes_of c.bytes-item.is) c.loop-bytes.invariant.roster c.loop-bytes.invariant.so_far c.in-Ok.ensures.ok;
-      roster = c.replay_record.ensures.roster ∙ c.loop-bytes.invariant.roster;
+          (c.as_slice.ensures.value ∙ ap bytes_of c.bytes-item.is) c.loop-bytes.invariant.kit c.loop-bytes.invariant.so_far c.in-Ok.ensures.ok;
+      kit = c.replay_record.ensures.kit ∙ c.loop-bytes.invariant.kit;
     }

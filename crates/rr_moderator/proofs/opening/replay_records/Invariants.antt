@@ -5,6 +5,6 @@ use Rattle.rr_moderator.proofs.opening.replay_records.Given as goal
 
 abbrev pub invariant-loop-bytes : goal.invariant-loop-bytes
 invariant-loop-bytes l = record {
-  so_far : Replays l.initial.tables.roster (world_of l.initial.tables.map.entries) (records_of (take l.bytes-index l.records)) (world_of l.tables.map.entries);
-  roster : l.tables.roster ≡ l.initial.tables.roster;
+  so_far : Replays l.initial.tables.kit (world_of l.initial.tables.map.entries) (records_of (take l.bytes-index l.records)) (world_of l.tables.map.entries);
+  kit : l.tables.kit ≡ l.initial.tables.kit;
 }

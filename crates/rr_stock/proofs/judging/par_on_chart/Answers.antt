@@ -1,15 +1,14 @@
-use Rattle.std.specs.Prelude.{◌≡◌, ℕ, ◌==◌, List, Option, None, Some, find, is_some, option_map, refl}
-use Rattle.std.proofs.Common.{◌∙◌, ap}
-use Rattle.rr_chart.specs.Chart.{pars_of}
-use Rattle.rr_chart.specs.declared.cell.ParCell.{ParCell}
+use Rattle.std.proofs.Common.{◌≡◌, ◌∙◌, Option, None, Some, ap, is_some, refl}
+use Rattle.std.specs.Prelude.{option_map}
+use Rattle.rr_books.specs.declared.entries.Cell.{Cell}
+use Rattle.rr_chart.specs.Chart.{par_place}
+use Rattle.rr_chart.specs.declared.cell.Place.{Place}
+use Rattle.rr_market.specs.Moves.{cell_of}
 use Rattle.rr_stock.proofs.judging.par_on_chart.Goals as goal
 
-found : (par : Option ParCell) → is_some (option_map (λ (x : ParCell). x.price) par) ≡ is_some (option_map (λ (x : ParCell). x.place) par)
-found None = refl
-found (Some par) = refl
+there_too : (place : Option Place) → is_some (option_map cell_of place) ≡ is_some place
+there_too None = refl
+there_too (Some place) = refl
 
 pub returns-clause-there : goal.returns-clause-there
-returns-clause-there c =
-    ap (λ (o : Option ℕ). is_some o) c.par_among.ensures.value
-    ∙ ap (λ (pars : List ParCell). is_some (option_map (λ (x : ParCell). x.price) (find (λ (x : ParCell). x.price == c.args.price) pars))) c.par_cells.ensures.pars
-    ∙ found (find (λ (x : ParCell). x.price == c.args.price) (pars_of c.args.chart.now))
+returns-clause-there c = ap (λ (o : Option Cell). is_some o) c.in_ok-_cell.ensures.value ∙ there_too (par_place c.args.chart.now c.args.price)

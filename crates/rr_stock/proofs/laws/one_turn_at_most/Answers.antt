@@ -4,13 +4,13 @@ use Rattle.rr_books.specs.declared.entries.Entry.TheVariants as E
 use Rattle.rr_books.specs.declared.entries.Marker.TheVariants as M
 use Rattle.rr_rounds.specs.Round.{begins_stock_round, ends_turn}
 use Rattle.rr_stock.specs.Situation.{situation_of}
-use Rattle.rr_stock.proofs.TurnLemmas.{Spares, row_counted}
+use Rattle.rr_stock.proofs.TurnLemmas.{Spares, row_counted, sale_free}
 use Rattle.rr_stock.proofs.laws.one_turn_at_most.Goals as goal
 
 turns_spare : Spares ends_turn
 turns_spare = record {
   pay = λ from to amount. refl;
-  move = λ cert to. refl;
+  move = λ cert to h. refl;
   mark = λ c cell. refl;
   floats = λ c. refl;
   operating = refl;
@@ -19,7 +19,7 @@ turns_spare = record {
 rounds_spare : Spares begins_stock_round
 rounds_spare = record {
   pay = λ from to amount. refl;
-  move = λ cert to. refl;
+  move = λ cert to h. refl;
   mark = λ c cell. refl;
   floats = λ c. refl;
   operating = refl;
@@ -32,7 +32,7 @@ one_at_most false = omega arith
 pub returns : goal.returns
 returns c roster rows book act =
     let t = situation_of rows book in
-    let turn = row_counted ends_turn turns_spare roster rows t act book in
-    let begun = row_counted begins_stock_round rounds_spare roster rows t act book in
+    let turn = row_counted ends_turn turns_spare roster rows t act book (λ s corp n e. sale_free ends_turn turns_spare corp s n (λ d. refl)) in
+    let begun = row_counted begins_stock_round rounds_spare roster rows t act book (λ s corp n e. sale_free begins_stock_round rounds_spare corp s n (λ d. refl)) in
     let one = one_at_most (ends_turn (E.Step (M.Act act))) in
     (omega arith, omega arith)

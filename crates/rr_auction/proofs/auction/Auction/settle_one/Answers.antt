@@ -3,7 +3,7 @@ use Rattle.rr_books.specs.declared.parties.Money.{Money}
 use Rattle.rr_books.specs.declared.parties.Party.TheVariants as P
 use Rattle.rr_books.specs.State.{State, cash_of, holder_in}
 use Rattle.rr_auction.specs.Bids.{bid_in, bid_of, bids_on, sole_bidder, tied_up}
-use Rattle.rr_auction.specs.Effects.{dollars}
+use Rattle.rr_desk.specs.Incomes.{dollars}
 use Rattle.rr_auction.specs.Fit.{IsFit}
 use Rattle.rr_auction.specs.Progress.{Progress}
 use Rattle.rr_auction.specs.Unsold.{cheapest, is_private}

@@ -10,16 +10,16 @@ pub returns-in-Err-clause-verdict : goal.returns-in-Err-clause-verdict
 returns-in-Err-clause-verdict c book h k =
     let s = c.args.desk.now.books in
     let a = c.args.self.now in
-    verdict_moved (Err c.in-Err.fault) (verdict_in c.args.roster.now (cash_of s) (holder_in s) a c.args.act.now) (verdict c.args.roster.now book c.args.act.now)
-    (verdict_shown c.args.roster.now c.args.act.now book s a h k) c.in-Err.ensures.verdict
+    verdict_moved (Err c.in-Err.fault) (verdict_in c.args.roster.now c.args.chart.now (cash_of s) (holder_in s) a c.args.act.now) (verdict c.args.roster.now c.args.chart.now book c.args.act.now)
+    (verdict_shown c.args.roster.now c.args.chart.now c.args.act.now book s a h k) c.in-Err.ensures.verdict
 
 pub returns-in-Ok-clause-verdict : goal.returns-in-Ok-clause-verdict
 returns-in-Ok-clause-verdict c book h k =
-    sym (verdict_shown c.args.roster.now c.args.act.now book c.args.desk.now.books c.args.self.now h k) ∙ c.in-Ok.ensures.verdict
+    sym (verdict_shown c.args.roster.now c.args.chart.now c.args.act.now book c.args.desk.now.books c.args.self.now h k) ∙ c.in-Ok.ensures.verdict
 
 pub returns-in-Ok-clause-plays : goal.returns-in-Ok-clause-plays
 returns-in-Ok-clause-plays c =
     let s = c.args.desk.now.books in
     let a = c.args.self.now in
-    plays_same (row c.args.roster.now c.args.act.now s.players (holder_in s) a) (λ (book : Book). entries_of c.args.roster.now book c.args.act.now) a c.take.new.self c.args.desk.now c.take.new.desk
-    (λ book h k. row_shown c.args.roster.now c.args.act.now book s a h k) c.in-Ok.ensures.plays
+    plays_same (row c.args.roster.now c.args.chart.now c.args.act.now s.players (holder_in s) a) (λ (book : Book). entries_of c.args.roster.now c.args.chart.now book c.args.act.now) a c.take.new.self c.args.desk.now c.take.new.desk
+    (λ book h k. row_shown c.args.roster.now c.args.chart.now c.args.act.now book s a h k) c.in-Ok.ensures.plays

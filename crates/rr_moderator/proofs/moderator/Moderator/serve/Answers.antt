@@ -13,8 +13,8 @@ returns-in_err-serve-clause-session g c =
     let both = c.in_err-serve.ensures.session in (
       Err c.in_err-serve.field-0.0,
       rw (p.1) p.2,
-      Session-seen _ _ (SpeaksAndLasts g.D.Disk.Honest g.D.Disk.state g.D.Disk.past) told (λ s. (s.keeper, spoken_by s)) (λ s line t a. a) (λ s. refl) _ _ _ _ _ _ _ both,
-      λ honest kit stands. along g.D.Disk.Honest g.D.Disk.state g.D.Disk.past _ both.lines both.replies _ both.served honest kit stands,
+      Session-seen _ _ (SpeaksAndLasts g.D.Disk.Honest g.D.Disk.state g.D.Disk.past g.D.Disk.fault_count) told (λ s. (s.keeper, spoken_by s)) (λ s line t a. a) (λ s. refl) _ _ _ _ _ _ _ both,
+      λ honest texts stands. along g.D.Disk.Honest g.D.Disk.state g.D.Disk.past g.D.Disk.fault_count _ both.lines both.replies _ both.served honest texts stands,
     )
 
 pub returns-clause-whole : goal.returns-clause-whole
@@ -25,6 +25,6 @@ returns-clause-session g c =
     let both = c.in_ok-serve.ensures.session in (
       Ok tt,
       tt,
-      Session-seen _ _ (SpeaksAndLasts g.D.Disk.Honest g.D.Disk.state g.D.Disk.past) told (λ s. (s.keeper, spoken_by s)) (λ s line t a. a) (λ s. refl) _ _ _ _ _ _ _ both,
-      λ honest kit stands. along g.D.Disk.Honest g.D.Disk.state g.D.Disk.past _ both.lines both.replies _ both.served honest kit stands,
+      Session-seen _ _ (SpeaksAndLasts g.D.Disk.Honest g.D.Disk.state g.D.Disk.past g.D.Disk.fault_count) told (λ s. (s.keeper, spoken_by s)) (λ s line t a. a) (λ s. refl) _ _ _ _ _ _ _ both,
+      λ honest texts stands. along g.D.Disk.Honest g.D.Disk.state g.D.Disk.past g.D.Disk.fault_count _ both.lines both.replies _ both.served honest texts stands,
     )

@@ -8,9 +8,9 @@ pub returns-in_err-stamp-clause-takes : goal.returns-in_err-stamp-clause-takes
 returns-in_err-stamp-clause-takes g c =
     let p = err_from_is_err_and c.from_residual.result c.from_residual.ensures.1 in
     let took = c.in_err-stamp.ensures in
-    rw (p.1, p.2) (takes_refused _ _ _ _ _ _ _ _ _ _ c.requires.whole took.roster (ap world_of took.err) took.verdict)
+    rw (p.1, p.2) (takes_refused _ _ _ _ _ _ _ _ _ _ c.requires.whole took.kit (ap world_of took.err) took.verdict)
 
 pub returns-clause-takes : goal.returns-clause-takes
 returns-clause-takes g c =
     let took = c.in_ok-stamp.ensures in
-    takes_accepted _ _ _ _ _ _ _ _ _ _ _ c.requires.whole took.whole took.roster took.world took.verdict took.stamp c.accept.ensures
+    takes_accepted _ _ _ _ _ _ _ _ _ _ _ c.requires.whole took.whole took.kit took.world took.verdict took.stamp c.accept.ensures

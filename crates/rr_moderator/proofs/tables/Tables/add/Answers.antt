@@ -1,6 +1,6 @@
 use Rattle.std.proofs.Common.{◌∙◌, bytes_eq, arith}
 use Rattle.indexmap.proofs.CallerLemmas.{insert_entry-new}
-use Rattle.rr_moderator.proofs.Playing.{at_ok}
+use Rattle.rr_moderator.proofs.Outcomes.{at_ok}
 use Rattle.rr_moderator.proofs.tables.Tables.add.Goals as goal
 
 pub returns-clause-last : goal.returns-clause-last

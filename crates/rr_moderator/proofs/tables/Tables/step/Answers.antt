@@ -1,7 +1,7 @@
 use Rattle.std.proofs.Common.{◌∙◌, ap, sym, bytes_eq}
 use Rattle.std.specs.Map.{set_value}
 use Rattle.std.proofs.lemmas.Map.Steps.{set_value_same}
-use Rattle.rr_moderator.proofs.Playing.{on_err_map}
+use Rattle.rr_moderator.proofs.Outcomes.{on_err_map}
 use Rattle.std.proofs.lemmas.Result.{on_ok_weaker}
 use Rattle.rr_moderator.proofs.WorldLemmas.{world_set}
 use Rattle.rr_moderator.specs.Holding.{state_of, world_of}

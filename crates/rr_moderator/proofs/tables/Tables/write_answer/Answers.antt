@@ -1,7 +1,7 @@
 use Rattle.std.proofs.Common.{ap, refl, Ok}
 use Rattle.std.proofs.lemmas.Result.{err_from_is_err_and}
 use Rattle.indexmap.specs.IndexMap.{keys}
-use Rattle.rr_moderator.specs.Queries.{asked_answer, cash_answer, due_answer, limit_answer, names, privates_answer, stamp_answer, turns_answer}
+use Rattle.rr_moderator.specs.Queries.{asked_answer, cash_answer, due_answer, holds_answer, limit_answer, names, order_answer, price_answer, privates_answer, stamp_answer, turns_answer}
 use Rattle.rr_moderator.specs.Holding.{world_of}
 use Rattle.rr_moderator.proofs.Replies.{names-world_of, refuses_at, writes_at, written}
 use Rattle.rr_moderator.proofs.tables.Tables.write_answer.Goals as goal
@@ -23,53 +23,80 @@ returns-in_ok-table-in-Stamp-clause-answer c =
 pub returns-in_err-table-in-Cash-clause-answer : goal.returns-in_err-table-in-Cash-clause-answer
 returns-in_err-table-in-Cash-clause-answer c =
     let p = err_from_is_err_and c.from_residual-in_err-table-in-Cash.result c.from_residual-in_err-table-in-Cash.ensures.1 in
-    rw (c.in-Cash.is, p.1, p.2) (refuses_at c.args.self.now.map.entries c.in-Cash.table (cash_answer c.args.self.now.roster c.in-Cash.of) _ c.in_err-table-in-Cash.ensures.value)
+    rw (c.in-Cash.is, p.1, p.2) (refuses_at c.args.self.now.map.entries c.in-Cash.table (cash_answer c.args.self.now.kit c.in-Cash.of) _ c.in_err-table-in-Cash.ensures.value)
 
 pub returns-in_ok-table-in-Cash-clause-answer : goal.returns-in_ok-table-in-Cash-clause-answer
 returns-in_ok-table-in-Cash-clause-answer c =
-    rw c.in-Cash.is (writes_at c.args.self.now.map.entries c.in-Cash.table (cash_answer c.args.self.now.roster c.in-Cash.of) c.in_ok-table-in-Cash.field-0.now c.write_cash.result c.write_cash.new.reply c.in_ok-table-in-Cash.ensures.value (c.write_cash.ensures.answer _ c.in_ok-table-in-Cash.ensures.played))
+    rw c.in-Cash.is (writes_at c.args.self.now.map.entries c.in-Cash.table (cash_answer c.args.self.now.kit c.in-Cash.of) c.in_ok-table-in-Cash.field-0.now c.write_cash.result c.write_cash.new.reply c.in_ok-table-in-Cash.ensures.value (c.write_cash.ensures.answer _ c.in_ok-table-in-Cash.ensures.played))
 
 pub returns-in_err-table-in-Limit-clause-answer : goal.returns-in_err-table-in-Limit-clause-answer
 returns-in_err-table-in-Limit-clause-answer c =
     let p = err_from_is_err_and c.from_residual-in_err-table-in-Limit.result c.from_residual-in_err-table-in-Limit.ensures.1 in
-    rw (c.in-Limit.is, p.1, p.2) (refuses_at c.args.self.now.map.entries c.in-Limit.table (limit_answer c.args.self.now.roster) _ c.in_err-table-in-Limit.ensures.value)
+    rw (c.in-Limit.is, p.1, p.2) (refuses_at c.args.self.now.map.entries c.in-Limit.table (limit_answer c.args.self.now.kit) _ c.in_err-table-in-Limit.ensures.value)
 
 pub returns-in_ok-table-in-Limit-clause-answer : goal.returns-in_ok-table-in-Limit-clause-answer
 returns-in_ok-table-in-Limit-clause-answer c =
-    rw c.in-Limit.is (writes_at c.args.self.now.map.entries c.in-Limit.table (limit_answer c.args.self.now.roster) c.in_ok-table-in-Limit.field-0.now (Ok (tt {0})) c.write_limit.new.reply c.in_ok-table-in-Limit.ensures.value (refl, c.write_limit.ensures.text _ c.in_ok-table-in-Limit.ensures.played))
+    rw c.in-Limit.is (writes_at c.args.self.now.map.entries c.in-Limit.table (limit_answer c.args.self.now.kit) c.in_ok-table-in-Limit.field-0.now (Ok (tt {0})) c.write_limit.new.reply c.in_ok-table-in-Limit.ensures.value (refl, c.write_limit.ensures.text _ c.in_ok-table-in-Limit.ensures.played))
 
 pub returns-in_err-table-in-Turns-clause-answer : goal.returns-in_err-table-in-Turns-clause-answer
 returns-in_err-table-in-Turns-clause-answer c =
     let p = err_from_is_err_and c.from_residual-in_err-table-in-Turns.result c.from_residual-in_err-table-in-Turns.ensures.1 in
-    rw (c.in-Turns.is, p.1, p.2) (refuses_at c.args.self.now.map.entries c.in-Turns.table (turns_answer c.args.self.now.roster) _ c.in_err-table-in-Turns.ensures.value)
+    rw (c.in-Turns.is, p.1, p.2) (refuses_at c.args.self.now.map.entries c.in-Turns.table (turns_answer c.args.self.now.kit) _ c.in_err-table-in-Turns.ensures.value)
 
 pub returns-in_ok-table-in-Turns-clause-answer : goal.returns-in_ok-table-in-Turns-clause-answer
 returns-in_ok-table-in-Turns-clause-answer c =
-    rw c.in-Turns.is (writes_at c.args.self.now.map.entries c.in-Turns.table (turns_answer c.args.self.now.roster) c.in_ok-table-in-Turns.field-0.now (Ok (tt {0})) c.write_turns.new.reply c.in_ok-table-in-Turns.ensures.value (refl, c.write_turns.ensures.text _ c.in_ok-table-in-Turns.ensures.played))
+    rw c.in-Turns.is (writes_at c.args.self.now.map.entries c.in-Turns.table (turns_answer c.args.self.now.kit) c.in_ok-table-in-Turns.field-0.now (Ok (tt {0})) c.write_turns.new.reply c.in_ok-table-in-Turns.ensures.value (refl, c.write_turns.ensures.text _ c.in_ok-table-in-Turns.ensures.played))
 
 pub returns-in_err-table-in-Due-clause-answer : goal.returns-in_err-table-in-Due-clause-answer
 returns-in_err-table-in-Due-clause-answer c =
     let p = err_from_is_err_and c.from_residual-in_err-table-in-Due.result c.from_residual-in_err-table-in-Due.ensures.1 in
-    rw (c.in-Due.is, p.1, p.2) (refuses_at c.args.self.now.map.entries c.in-Due.table (due_answer c.args.self.now.roster) _ c.in_err-table-in-Due.ensures.value)
+    rw (c.in-Due.is, p.1, p.2) (refuses_at c.args.self.now.map.entries c.in-Due.table (due_answer c.args.self.now.kit) _ c.in_err-table-in-Due.ensures.value)
 
 pub returns-in_ok-table-in-Due-clause-answer : goal.returns-in_ok-table-in-Due-clause-answer
 returns-in_ok-table-in-Due-clause-answer c =
-    rw c.in-Due.is (writes_at c.args.self.now.map.entries c.in-Due.table (due_answer c.args.self.now.roster) c.in_ok-table-in-Due.field-0.now (Ok (tt {0})) c.write_due.new.reply c.in_ok-table-in-Due.ensures.value (refl, c.write_due.ensures.text _ c.in_ok-table-in-Due.ensures.played))
+    rw c.in-Due.is (writes_at c.args.self.now.map.entries c.in-Due.table (due_answer c.args.self.now.kit) c.in_ok-table-in-Due.field-0.now (Ok (tt {0})) c.write_due.new.reply c.in_ok-table-in-Due.ensures.value (refl, c.write_due.ensures.text _ c.in_ok-table-in-Due.ensures.played))
 
 pub returns-in_err-table-in-Asked-clause-answer : goal.returns-in_err-table-in-Asked-clause-answer
 returns-in_err-table-in-Asked-clause-answer c =
     let p = err_from_is_err_and c.from_residual-in_err-table-in-Asked.result c.from_residual-in_err-table-in-Asked.ensures.1 in
-    rw (c.in-Asked.is, p.1, p.2) (refuses_at c.args.self.now.map.entries c.in-Asked.table (asked_answer c.args.self.now.roster) _ c.in_err-table-in-Asked.ensures.value)
+    rw (c.in-Asked.is, p.1, p.2) (refuses_at c.args.self.now.map.entries c.in-Asked.table (asked_answer c.args.self.now.kit) _ c.in_err-table-in-Asked.ensures.value)
 
 pub returns-in_ok-table-in-Asked-clause-answer : goal.returns-in_ok-table-in-Asked-clause-answer
 returns-in_ok-table-in-Asked-clause-answer c =
-    rw (c.in-Asked.is, ← c.roster.ensures) (writes_at c.args.self.now.map.entries c.in-Asked.table (asked_answer c.roster.result.now) c.in_ok-table-in-Asked.field-0.now (Ok (tt {0})) c.write_asked.new.reply c.in_ok-table-in-Asked.ensures.value (refl, c.write_asked.ensures.text (rw c.roster.ensures c.in_ok-table-in-Asked.ensures.played)))
+    rw (c.in-Asked.is, ← c.kit.ensures) (writes_at c.args.self.now.map.entries c.in-Asked.table (asked_answer c.kit.result.now) c.in_ok-table-in-Asked.field-0.now (Ok (tt {0})) c.write_asked.new.reply c.in_ok-table-in-Asked.ensures.value (refl, c.write_asked.ensures.text (rw c.kit.ensures c.in_ok-table-in-Asked.ensures.played)))
 
 pub returns-in_err-table-in-Privates-clause-answer : goal.returns-in_err-table-in-Privates-clause-answer
 returns-in_err-table-in-Privates-clause-answer c =
     let p = err_from_is_err_and c.from_residual-in_err-table-in-Privates.result c.from_residual-in_err-table-in-Privates.ensures.1 in
-    rw (c.in-Privates.is, p.1, p.2) (refuses_at c.args.self.now.map.entries c.in-Privates.table (privates_answer c.args.self.now.roster c.in-Privates.of) _ c.in_err-table-in-Privates.ensures.value)
+    rw (c.in-Privates.is, p.1, p.2) (refuses_at c.args.self.now.map.entries c.in-Privates.table (privates_answer c.args.self.now.kit c.in-Privates.of) _ c.in_err-table-in-Privates.ensures.value)
 
 pub returns-in_ok-table-in-Privates-clause-answer : goal.returns-in_ok-table-in-Privates-clause-answer
 returns-in_ok-table-in-Privates-clause-answer c =
-    rw c.in-Privates.is (writes_at c.args.self.now.map.entries c.in-Privates.table (privates_answer c.args.self.now.roster c.in-Privates.of) c.in_ok-table-in-Privates.field-0.now c.write_privates.result c.write_privates.new.reply c.in_ok-table-in-Privates.ensures.value (c.write_privates.ensures.answer _ c.in_ok-table-in-Privates.ensures.played))
+    rw c.in-Privates.is (writes_at c.args.self.now.map.entries c.in-Privates.table (privates_answer c.args.self.now.kit c.in-Privates.of) c.in_ok-table-in-Privates.field-0.now c.write_privates.result c.write_privates.new.reply c.in_ok-table-in-Privates.ensures.value (c.write_privates.ensures.answer _ c.in_ok-table-in-Privates.ensures.played))
+
+pub returns-in_err-table-in-Holds-clause-answer : goal.returns-in_err-table-in-Holds-clause-answer
+returns-in_err-table-in-Holds-clause-answer c =
+    let p = err_from_is_err_and c.from_residual-in_err-table-in-Holds.result c.from_residual-in_err-table-in-Holds.ensures.1 in
+    rw (c.in-Holds.is, p.1, p.2) (refuses_at c.args.self.now.map.entries c.in-Holds.table (holds_answer c.args.self.now.kit c.in-Holds.player c.in-Holds.corp) _ c.in_err-table-in-Holds.ensures.value)
+
+pub returns-in_ok-table-in-Holds-clause-answer : goal.returns-in_ok-table-in-Holds-clause-answer
+returns-in_ok-table-in-Holds-clause-answer c =
+    rw c.in-Holds.is (writes_at c.args.self.now.map.entries c.in-Holds.table (holds_answer c.args.self.now.kit c.in-Holds.player c.in-Holds.corp) c.in_ok-table-in-Holds.field-0.now c.write_holds.result c.write_holds.new.reply c.in_ok-table-in-Holds.ensures.value (c.write_holds.ensures.answer _ c.in_ok-table-in-Holds.ensures.played))
+
+pub returns-in_err-table-in-Price-clause-answer : goal.returns-in_err-table-in-Price-clause-answer
+returns-in_err-table-in-Price-clause-answer c =
+    let p = err_from_is_err_and c.from_residual-in_err-table-in-Price.result c.from_residual-in_err-table-in-Price.ensures.1 in
+    rw (c.in-Price.is, p.1, p.2) (refuses_at c.args.self.now.map.entries c.in-Price.table (price_answer c.args.self.now.kit c.in-Price.corp) _ c.in_err-table-in-Price.ensures.value)
+
+pub returns-in_ok-table-in-Price-clause-answer : goal.returns-in_ok-table-in-Price-clause-answer
+returns-in_ok-table-in-Price-clause-answer c =
+    rw (c.in-Price.is, ← c.kit-in-Price.ensures) (writes_at c.args.self.now.map.entries c.in-Price.table (price_answer c.kit-in-Price.result.now c.in-Price.corp) c.in_ok-table-in-Price.field-0.now (Ok (tt {0})) c.write_price.new.reply c.in_ok-table-in-Price.ensures.value (refl, c.write_price.ensures.text (rw c.kit-in-Price.ensures c.in_ok-table-in-Price.ensures.played)))
+
+pub returns-in_err-table-in-Order-clause-answer : goal.returns-in_err-table-in-Order-clause-answer
+returns-in_err-table-in-Order-clause-answer c =
+    let p = err_from_is_err_and c.from_residual-in_err-table-in-Order.result c.from_residual-in_err-table-in-Order.ensures.1 in
+    rw (c.in-Order.is, p.1, p.2) (refuses_at c.args.self.now.map.entries c.in-Order.table (order_answer c.args.self.now.kit) _ c.in_err-table-in-Order.ensures.value)
+
+pub returns-in_ok-table-in-Order-clause-answer : goal.returns-in_ok-table-in-Order-clause-answer
+returns-in_ok-table-in-Order-clause-answer c =
+    rw (c.in-Order.is, ← c.kit-in-Order.ensures) (writes_at c.args.self.now.map.entries c.in-Order.table (order_answer c.kit-in-Order.result.now) c.in_ok-table-in-Order.field-0.now (Ok (tt {0})) c.write_order.new.reply c.in_ok-table-in-Order.ensures.value (refl, c.write_order.ensures.text (rw c.kit-in-Order.ensures c.in_ok-table-in-Order.ensures.played)))

@@ -1,0 +1,140 @@
+//! The commands of a stock round: reading their words behind the first, and writing them.
+ghost use Rattle.std.specs.Prelude.{◌≡◌, ◌∷◌, ◌++◌, codes, IfSome, OnOk};
+ghost use Rattle.rr_code.specs.Command.{Continues, IsCommand, source_word, spelling, text};
+ghost use Rattle.rr_code.specs.Reading.{source_of, read_buy, read_sell, read_swap, read_done};
+
+use crate::command::Command;
+use crate::companies::read_corp;
+use crate::fault::Fault;
+use crate::words::Words;
+use crate::writing::{write_number, write_word};
+use rr_roster::Corp;
+use rr_words::{Name, number};
+
+/// Where a share is bought.
+#[derive(Clone, Copy, Debug, PartialEq, Eq)]
+pub enum ShareSource {
+    /// The initial offering, at par.
+    Offer,
+    /// The bank's pool, at the market's price.
+    Pool,
+}
+
+impl ShareSource {
+    fn read(word: &[u8]) -> Option<ShareSource>
+        ensures exact { result ≡ source_of word.now }
+        ensures found { IfSome result (λ source. word.now ≡ source_word source) }
+    {
+        if word == b"offer".as_slice() {
+            return Some(ShareSource::Offer);
+        }
+        if word == b"pool".as_slice() {
+            return Some(ShareSource::Pool);
+        }
+        None
+    }
+
+    fn name(self) -> &'static str
+        ensures { result.now ≡ source_word self }
+    {
+        match self {
+            ShareSource::Offer => "offer",
+            ShareSource::Pool => "pool",
+        }
+    }
+}
+
+/// A player's name alone is a purchase of the auction.
+pub fn read_buy(words: &mut Words) -> Option<Command>
+    ensures exact { result ≡ read_buy words.old }
+    ensures found { IfSome result (λ c. IsCommand c × (codes "buy" ∷ words.old ≡ spelling c)) }
+{
+    let player = Name::player(words.next()?)?;
+    let Some(word) = words.next() else {
+        return Some(Command::BuyPrivate { player });
+    };
+    let corp = read_corp(word)?;
+    let source = ShareSource::read(words.next()?)?;
+    words.end()?;
+    Some(Command::BuyShare {
+        player,
+        corp,
+        source,
+    })
+}
+
+pub fn read_sell(words: &mut Words) -> Option<Command>
+    ensures exact { result ≡ read_sell words.old }
+    ensures found { IfSome result (λ c. IsCommand c × (codes "sell" ∷ words.old ≡ spelling c)) }
+{
+    let player = Name::player(words.next()?)?;
+    let corp = read_corp(words.next()?)?;
+    let count = number(words.next()?)?;
+    words.end()?;
+    Some(Command::Sell {
+        player,
+        corp,
+        count,
+    })
+}
+
+pub fn read_swap(words: &mut Words) -> Option<Command>
+    ensures exact { result ≡ read_swap words.old }
+    ensures found { IfSome result (λ c. IsCommand c × (codes "swap" ∷ words.old ≡ spelling c)) }
+{
+    let player = Name::player(words.next()?)?;
+    let source = ShareSource::read(words.next()?)?;
+    words.end()?;
+    Some(Command::Swap { player, source })
+}
+
+pub fn read_done(words: &mut Words) -> Option<Command>
+    ensures exact { result ≡ read_done words.old }
+    ensures found { IfSome result (λ c. IsCommand c × (codes "done" ∷ words.old ≡ spelling c)) }
+{
+    let player = Name::player(words.next()?)?;
+    words.end()?;
+    Some(Command::Done { player })
+}
+
+pub fn write_buy(
+    player: &Name,
+    corp: Corp,
+    source: ShareSource,
+    out: &mut Vec<u8>,
+) -> Result<(), Fault>
+    ensures ok { OnOk result (out.new.items ≡ out.old.items ++ text (Command.BuyShare player.now corp source)) }
+    ensures kept { Continues out.old.items out.new.items }
+{
+    out.extend_from_slice(b"buy")?;
+    write_word(player.as_bytes(), out)?;
+    write_word(corp.name().as_bytes(), out)?;
+    write_word(source.name().as_bytes(), out)
+}
+
+pub fn write_sell(player: &Name, corp: Corp, count: u64, out: &mut Vec<u8>) -> Result<(), Fault>
+    ensures ok { OnOk result (out.new.items ≡ out.old.items ++ text (Command.Sell player.now corp count)) }
+    ensures kept { Continues out.old.items out.new.items }
+{
+    out.extend_from_slice(b"sell")?;
+    write_word(player.as_bytes(), out)?;
+    write_word(corp.name().as_bytes(), out)?;
+    write_number(count, out)
+}
+
+pub fn write_swap(player: &Name, source: ShareSource, out: &mut Vec<u8>) -> Result<(), Fault>
+    ensures ok { OnOk result (out.new.items ≡ out.old.items ++ text (Command.Swap player.now source)) }
+    ensures kept { Continues out.old.items out.new.items }
+{
+    out.extend_from_slice(b"swap")?;
+    write_word(player.as_bytes(), out)?;
+    write_word(source.name().as_bytes(), out)
+}
+
+pub fn write_done(player: &Name, out: &mut Vec<u8>) -> Result<(), Fault>
+    ensures ok { OnOk result (out.new.items ≡ out.old.items ++ text (Command.Done player.now)) }
+    ensures kept { Continues out.old.items out.new.items }
+{
+    out.extend_from_slice(b"done")?;
+    write_word(player.as_bytes(), out)
+}

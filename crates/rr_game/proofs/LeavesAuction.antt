@@ -1,0 +1,34 @@
+-- Which entries leave an auction that is over as it is.
+use Rattle.std.specs.Prelude.{Bool, true, false}
+use Rattle.rr_books.specs.declared.parties.Place.{Place}
+use Rattle.rr_books.specs.declared.parties.Place.TheVariants as L
+use Rattle.rr_books.specs.declared.certificates.Cert.TheVariants as C
+use Rattle.rr_books.specs.declared.entries.Entry.{Entry}
+use Rattle.rr_books.specs.declared.entries.Entry.TheVariants as E
+use Rattle.rr_books.specs.declared.entries.Marker.{Marker}
+use Rattle.rr_books.specs.declared.entries.Marker.TheVariants as M
+use Rattle.rr_books.specs.declared.acts.Act.{Act}
+use Rattle.rr_books.specs.declared.acts.Act.TheVariants as A
+
+-- the act is none that counts in the auction alone
+abbrev pub leaves_turns : Act → Bool
+leaves_turns (A.BuyPrivate s) = false
+leaves_turns (A.Bid s p amount) = false
+leaves_turns (A.Pass s) = false
+leaves_turns _ = true
+
+abbrev pub leaves_step : Marker → Bool
+leaves_step (M.Act act) = leaves_turns act
+leaves_step _ = true
+
+-- a private that goes there is neither sold nor for sale
+abbrev pub leaves_sales : Place → Bool
+leaves_sales (L.Seat s) = false
+leaves_sales L.Offer = false
+leaves_sales _ = true
+
+-- the entry leaves alone an auction that is over
+abbrev pub leaves_auction : Entry → Bool
+leaves_auction (E.Step marker) = leaves_step marker
+leaves_auction (E.Move (C.Private p) to) = leaves_sales to
+leaves_auction _ = true

@@ -1,0 +1,15 @@
+//! The game of one table: the kit that its texts spell, and the rules joined.
+#![tactic(auto)]
+
+mod fault;
+mod game;
+mod kit;
+mod names;
+mod queries;
+
+pub use fault::Fault;
+pub use game::Game;
+pub use kit::Kit;
+
+#[cfg(test)]
+mod tests;

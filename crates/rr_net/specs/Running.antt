@@ -1,0 +1,20 @@
+-- The net of one corporation.
+use Rattle.std.specs.Prelude.{List, map}
+use Rattle.rr_board.specs.declared.hex.Hex.{Hex}
+use Rattle.rr_roster.specs.declared.company.Corp.{Corp}
+use Rattle.rr_roster.specs.declared.company.Kind.{Kind}
+use Rattle.rr_network.specs.Network.{Net as Network}
+use Rattle.rr_routes.specs.Net.{Net}
+use Rattle.rr_net.specs.Joining.{placed_link, sides_in}
+use Rattle.rr_net.specs.Centres.{ends_routes, has_own_token, places, value_in}
+use Rattle.rr_net.specs.Trains.{centre_limit}
+
+-- the net over which the corporation runs these trains in the phase
+abbrev pub net_of : List Hex → Network → Corp → List Kind → Kind → Net
+net_of hexes network corp trains phase = record {
+  links = map (placed_link hexes (sides_in network.links) network.stops) network.links;
+  tokens = places (has_own_token network.stations corp) network.stops;
+  terminals = places (ends_routes network.stations corp) network.stops;
+  values = map (value_in phase) network.stops;
+  trains = map centre_limit trains;
+}

@@ -1,0 +1,61 @@
+//! The net over which a corporation runs.
+ghost use Rattle.std.specs.Prelude.{◌≡◌, ◌<◌, ◌^◌, All, IfOk};
+ghost use Rattle.rr_books.specs.Book.{Book};
+ghost use Rattle.rr_network.specs.Layout.{IsStateOf};
+ghost use Rattle.rr_network.specs.Network.{net_of as network_of, network as network_of_book};
+ghost use Rattle.rr_net.specs.Running.{net_of};
+
+use crate::centres::{terminal_places, token_places, values_in};
+use crate::joining::placed_links;
+use crate::trains::centre_limits;
+use rr_board::Board;
+use rr_checker::Net;
+use rr_network::{Layout, Network};
+use rr_roster::{Corp, Kind};
+use rr_tiles::Manifest;
+use std::alloc::{AllocError, Global};
+
+/// The net over which a corporation runs trains of these kinds on a network of the board.
+///
+/// All links are in it, the link of number n at place n - 1. Centres have their places among the network's stops. Each
+/// hexside has one number, whichever links end there. Routes don't pass off-board areas, nor cities whose slots are all
+/// filled by tokens of others; a slot kept for a home isn't filled. The phase is that of the greatest train bought: from
+/// the first 5 on an off-board area has its second value. The trains keep their order. Only memory can fail.
+pub fn net_of(
+    alloc: Global,
+    board: &Board,
+    network: &Network,
+    corp: Corp,
+    trains: &[Kind],
+    phase: Kind,
+) -> Result<Net, AllocError>
+    ensures value { IfOk result (λ net. net ≡ net_of board.now.hexes network.now corp trains.now phase) }
+    ensures small { IfOk result (λ net. All (λ value. value < 2 ^ 16) net.values) }
+{
+    let links = placed_links(alloc, board.hexes(), network)?;
+    let tokens = token_places(alloc, network.stops(), network.stations(), corp)?;
+    let terminals = terminal_places(alloc, network.stops(), network.stations(), corp)?;
+    let values = values_in(alloc, phase, network.stops())?;
+    let limits = centre_limits(alloc, trains)?;
+    Ok(Net::new(links, tokens, terminals, values, limits))
+}
+
+/// The net over which a corporation runs trains of these kinds on a board with what was put there: it is that of
+/// `net_of` on the network of the board. Only memory can fail.
+pub fn net_on_board(
+    alloc: Global,
+    board: &Board,
+    tiles: &Manifest,
+    layout: &Layout,
+    corp: Corp,
+    trains: &[Kind],
+    phase: Kind,
+) -> Result<Net, AllocError>
+    ensures value { IfOk result (λ net. net ≡ net_of board.now.hexes (network_of board.now tiles.now layout.now) corp trains.now phase) }
+    ensures book { IfOk result (λ net. (book : Book) → IsStateOf book layout.now → net ≡ net_of board.now.hexes (network_of_book board.now tiles.now book) corp trains.now phase) }
+    ensures small { IfOk result (λ net. All (λ value. value < 2 ^ 16) net.values) }
+{
+    let network = Network::of(alloc, board, tiles, layout)?;
+    let net = net_of(alloc, board, &network, corp, trains, phase)?;
+    Ok(net)
+}

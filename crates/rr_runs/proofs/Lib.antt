@@ -1,0 +1,6 @@
+pub mod WordLemmas
+pub mod CourseLemmas
+pub mod ApartLemmas
+pub mod SheetLemmas
+pub mod BoundLemmas
+pub mod LawLemmas

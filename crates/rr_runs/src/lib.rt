@@ -1,0 +1,19 @@
+//! Sheets of runs: whether a sheet is that of a lawful run, what the run earns, and the law of certificates for sheets.
+#![tactic(auto)]
+
+mod apart;
+mod clause;
+mod course;
+mod fault;
+mod judge;
+pub mod laws;
+mod revenue;
+#[cfg(test)]
+mod tests;
+mod word;
+
+pub use clause::Clause;
+pub use fault::Fault;
+pub use judge::legal;
+pub use rr_checker::{CentreLimit, CertTree, Fate, Link, Net, Node, check};
+pub use rr_sheets::{LinkNumbers, Sheet, TrainWord};

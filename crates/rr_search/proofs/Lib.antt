@@ -1,0 +1,4 @@
+mod FoundLemmas
+mod Oriented
+mod Reversal
+mod WholeLemmas

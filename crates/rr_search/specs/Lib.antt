@@ -1,0 +1,4 @@
+pub mod Fault
+pub mod Found
+pub mod Orientation
+pub mod Whole

@@ -1,0 +1,20 @@
+//! The run that earns most, and the certificate that none earns more.
+#![tactic(auto)]
+
+mod candidate;
+mod certificate;
+mod fault;
+mod found;
+mod full;
+mod kinds;
+mod routes;
+mod runs;
+mod search;
+mod sheets;
+#[cfg(test)]
+mod tests;
+mod tracks;
+mod whole;
+
+pub use fault::Fault;
+pub use search::best;

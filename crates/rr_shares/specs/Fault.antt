@@ -1,8 +1,0 @@
-use Rattle.std.specs.Prelude.{ℕ}
-use Rattle.rr_shares.specs.declared.fault.Fault.{Fault}
-use Rattle.rr_shares.specs.declared.fault.Fault.TheVariants.{NotForSale, PoolOverHalf}
-
--- the number that replies give a fault
-abbrev pub number_of : Fault → ℕ
-number_of NotForSale = 22
-number_of PoolOverHalf = 28

@@ -1,0 +1,7 @@
+pub mod CertificateLemmas
+pub mod EachLemmas
+pub mod ForestLemmas
+pub mod JoinedLemmas
+pub mod SameLemmas
+pub mod SheetLemmas
+pub mod TreeLemmas

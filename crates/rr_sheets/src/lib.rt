@@ -1,0 +1,17 @@
+//! The words of sheets and certificates: which links each train runs over, and the tree that shows that no run earns more.
+#![tactic(auto)]
+
+mod certificate;
+mod fault;
+mod forest;
+pub mod laws;
+mod sheet;
+mod word;
+mod writing;
+
+pub use certificate::{read_certificate, write_certificate};
+pub use fault::Fault;
+pub use sheet::{LinkNumbers, Sheet, TrainWord};
+
+#[cfg(test)]
+mod tests;
