@@ -168,17 +168,23 @@ fn judges_two_trains(rt: HostRuntime) -> Result<(), Fail> {
     Ok(())
 }
 
-// two centres with a track between, which lies in the hex of the second
+// the row with a second track of hex 1, from its first hexside to a town: no walk goes from the one track to the other
 #[test]
 fn refuses_to_turn_back(rt: HostRuntime) -> Result<(), Fail> {
     let alloc = rt.alloc();
     let links = vec![in alloc;
         link(0, 0, Node::Centre(0)),
         link(1, 0, Node::Hexside(1)),
-        link(1, 1, Node::Centre(1)),
+        link(1, 0, Node::Hexside(4)),
+        link(2, 1, Node::Centre(1)),
+        link(2, 2, Node::Centre(1)),
+        link(3, 2, Node::Centre(2)),
+        link(3, 3, Node::Centre(2)),
+        link(4, 3, Node::Centre(3)),
+        link(5, 4, Node::Centre(4)),
     ]?;
-    let sheet = one_word(alloc, Kind::Two, &[1, 2, 3])?;
-    let verdict = judged(alloc, links, &[], &[CentreLimit::AtMost(2)], &sheet)?;
+    let sheet = one_word(alloc, Kind::Three, &[4, 2, 3, 9])?;
+    let verdict = judged(alloc, links, &[3], &[CentreLimit::AtMost(3)], &sheet)?;
     assert!(rt; verdict == Verdict::Breaks(Clause::NoWalk));
     Ok(())
 }

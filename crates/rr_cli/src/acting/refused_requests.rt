@@ -12,76 +12,6 @@ const BEGINNING: usize = 1_000_003;
 
 const WANT_OF_MEMORY: &[u8] = b"no 70 out of memory\n";
 
-/// What is asked, the replies where no memory is refused, and where the first line is refused it. Each command is asked
-/// twice. A query asks for no memory, nor does a command that the rules refuse.
-type Asked = (&'static [u8], &'static [u8], &'static [u8]);
-
-const OPENING: [Asked; 5] = [
-    (
-        b"0 g1 open a b c d\n0 g1 open a b c d\n",
-        b"ok g1 1\nno 52 stale stamp 1\n",
-        b"no 70 out of memory\nok g1 1\n",
-    ),
-    (
-        b"1 g1 buy a\n1 g1 buy a\n",
-        b"ok g1 2\nno 52 stale stamp 2\n",
-        b"no 70 out of memory\nok g1 2\n",
-    ),
-    (
-        b"2 g1 buy b\n2 g1 buy b\n",
-        b"ok g1 3\nno 52 stale stamp 3\n",
-        b"no 70 out of memory\nok g1 3\n",
-    ),
-    (
-        b"3 g1 buy a\ncash g1 a\ncash g1 bank\nlimit g1\nstamp g1\n",
-        b"no 20 not your turn\n= 580\n= 9660\n= 16\n= 3\n",
-        b"no 20 not your turn\n= 580\n= 9660\n= 16\n= 3\n",
-    ),
-    (
-        b"tables\nasked g1\nprivates g1 a\nprivates g1 c\n",
-        b"= g1\n= D&H 70\n= SV\n= -\n",
-        b"= g1\n= D&H 70\n= SV\n= -\n",
-    ),
-];
-
-/// A table of two behind its auction and a first stock round in which nobody did anything.
-const BEFORE: &[u8] =
-    b"0 g2 open a b\n1 g2 buy a\n2 g2 buy b\n3 g2 buy a\n4 g2 buy b\n5 g2 buy a\n6 g2 buy b\n\
-    7 g2 par b B&O 100\n8 g2 done a\n9 g2 done b\n";
-
-const STOCK_ROUND: [Asked; 6] = [
-    (
-        b"10 g2 par a PRR 100\n10 g2 par a PRR 100\n",
-        b"ok g2 11\nno 52 stale stamp 11\n",
-        b"no 70 out of memory\nok g2 11\n",
-    ),
-    (
-        b"11 g2 done a\n11 g2 done a\n",
-        b"ok g2 12\nno 52 stale stamp 12\n",
-        b"no 70 out of memory\nok g2 12\n",
-    ),
-    (
-        b"12 g2 buy b B&O offer\n12 g2 buy b B&O offer\n",
-        b"ok g2 13\nno 52 stale stamp 13\n",
-        b"no 70 out of memory\nok g2 13\n",
-    ),
-    (
-        b"13 g2 swap b offer\n13 g2 swap b offer\n",
-        b"ok g2 14\nno 52 stale stamp 14\n",
-        b"no 70 out of memory\nok g2 14\n",
-    ),
-    (
-        b"14 g2 sell b B&O 1\n14 g2 sell b B&O 1\n",
-        b"ok g2 15\nno 52 stale stamp 15\n",
-        b"no 70 out of memory\nok g2 15\n",
-    ),
-    (
-        b"15 g2 buy a PRR offer\nholds g2 a PRR\nholds g2 b NYC\nprice g2 PRR\norder g2\ndue g2\n",
-        b"no 20 not your turn\n= 30\n= 10\n= 100 0 0\n= B&O PRR\n= b stock\n",
-        b"no 20 not your turn\n= 30\n= 10\n= 100 0 0\n= B&O PRR\n= b stock\n",
-    ),
-];
-
 /// What one run of the program writes; with what the disk had before it, and the room for both taken beforehand.
 #[derive(Drop)]
 struct Runs {
@@ -132,24 +62,6 @@ fn run_until_done(
     Ok(disk)
 }
 
-/// Asks each in a run of its own.
-fn ask_all(
-    rt: &impl Abort,
-    alloc: Global,
-    mut disk: MemoryDisk,
-    game: &[Asked],
-    runs: &mut Runs,
-) -> Result<(), Fail> {
-    let serve = serve_plan(alloc)?;
-    for (input, replies, refused_once) in game {
-        disk = run_until_done(rt, alloc, &serve, disk, input, runs)?;
-        let written = runs.output.as_slice();
-        let right = written == *replies || written == *refused_once;
-        assert!(rt; right);
-    }
-    Ok(())
-}
-
 #[test]
 fn whichever_request_is_refused(rt: HostRuntime) -> Result<(), Fail> {
     let alloc = rt.alloc();
@@ -159,20 +71,43 @@ fn whichever_request_is_refused(rt: HostRuntime) -> Result<(), Fail> {
     };
     let format = format_plan(alloc)?;
     let serve = serve_plan(alloc)?;
-    let (_, other) = run_once(
-        alloc,
-        &format,
-        MemoryDisk::new(alloc, ROOM)?,
-        b"",
-        &mut runs,
-    )?;
-    let (status, other) = run_once(alloc, &serve, other, BEFORE, &mut runs)?;
-    assert_eq!(rt; status, 0);
-    assert!(rt; runs.output.ends_with(b"ok g2 10\n"));
     let disk = MemoryDisk::new(alloc, ROOM)?;
     let _beginning = Vec::<u8>::with_capacity(alloc, BEGINNING)?;
-    let disk = run_until_done(&rt, alloc, &format, disk, b"", &mut runs)?;
+    let mut disk = run_until_done(&rt, alloc, &format, disk, b"", &mut runs)?;
     assert_eq!(rt; runs.output.as_slice(), b"ok\n".as_slice());
-    ask_all(&rt, alloc, disk, &OPENING, &mut runs)?;
-    ask_all(&rt, alloc, other, &STOCK_ROUND, &mut runs)
+    // Each command twice in one run, with the replies where no memory is refused, and where the first line is refused
+    // it. A query asks for none, nor does a command that the rules refuse.
+    let game: [(&[u8], &[u8], &[u8]); 5] = [
+        (
+            b"0 g1 open a b c d\n0 g1 open a b c d\n",
+            b"ok g1 1\nno 52 stale stamp 1\n",
+            b"no 70 out of memory\nok g1 1\n",
+        ),
+        (
+            b"1 g1 buy a\n1 g1 buy a\n",
+            b"ok g1 2\nno 52 stale stamp 2\n",
+            b"no 70 out of memory\nok g1 2\n",
+        ),
+        (
+            b"2 g1 buy b\n2 g1 buy b\n",
+            b"ok g1 3\nno 52 stale stamp 3\n",
+            b"no 70 out of memory\nok g1 3\n",
+        ),
+        (
+            b"3 g1 buy a\ncash g1 a\ncash g1 bank\nlimit g1\nstamp g1\n",
+            b"no 20 not your turn\n= 580\n= 9660\n= 16\n= 3\n",
+            b"no 20 not your turn\n= 580\n= 9660\n= 16\n= 3\n",
+        ),
+        (
+            b"tables\nasked g1\nprivates g1 a\nprivates g1 c\n",
+            b"= g1\n= D&H 70\n= SV\n= -\n",
+            b"= g1\n= D&H 70\n= SV\n= -\n",
+        ),
+    ];
+    for (input, replies, refused_once) in game {
+        disk = run_until_done(&rt, alloc, &serve, disk, input, &mut runs)?;
+        let right = runs.output.as_slice() == replies || runs.output.as_slice() == refused_once;
+        assert!(rt; right);
+    }
+    Ok(())
 }

@@ -136,6 +136,20 @@ fn lines_of_every_length(rt: HostRuntime) -> Result<(), Fail> {
 }
 
 #[test]
+fn refusals_of_lines(rt: HostRuntime) -> Result<(), Fail> {
+    let (_, _, disk) = formatted(&rt, ROSTER)?;
+    let input =
+        b"0 g1 open a b\n0 g1 open a b\n1 g2 open a b\n1 g1 buy c\n1 g1 buy b\n0 g1 buy b\n1 g3 buy a\ncash g3 a\ncash g1 c\n1 g1 open a b\n";
+    let (status, output, _) = served(&rt, disk, input)?;
+    assert_eq!(rt; status, 0);
+    assert_eq!(rt;
+        output.as_slice(),
+        b"ok g1 1\nno 52 stale stamp 1\nno 52 stale stamp 0\nno 1 no such name\nno 20 not your turn\nno 52 stale stamp 1\nno 68 no such table\nno 68 no such table\nno 1 no such name\nno 52 stale stamp 1\n".as_slice()
+    );
+    Ok(())
+}
+
+#[test]
 fn refusals_of_format(rt: HostRuntime) -> Result<(), Fail> {
     let alloc = rt.alloc();
     let (status, output, disk) = formatted(&rt, b"private = []")?;

@@ -1,0 +1,68 @@
+//! Laws of the definitions, each the contract of a function that does nothing.
+ghost use Rattle.rr_sound.specs.Play.{AuctionStaysWithinHalf, MoneyStaysAlongPlays, PoolStaysWithinHalfAlongPlays};
+ghost use Rattle.rr_sound.specs.Seating.{TurnIsAtTheTable};
+ghost use Rattle.rr_sound.specs.Sound.{StockRoundsStaySound, StockStaysDealt, StockStaysSolvent};
+
+/// Whatever the book, the seat in turn in a stock round and the seat with priority sit at the table.
+pub fn turn_is_at_the_table()
+    ensures { TurnIsAtTheTable }
+{}
+
+/// Where no seat and no corporation has less than nothing, none has after whatever lawful command of a stock round.
+pub fn stock_stays_solvent()
+    ensures { StockStaysSolvent }
+{}
+
+/// Where each certificate has a place of the table, each has one after whatever lawful command of a stock round.
+pub fn stock_stays_dealt()
+    ensures { StockStaysDealt }
+{}
+
+/// Whatever lawful commands of stock rounds are played on a sound book, it stays sound: nobody but the bank has less
+/// than nothing, each certificate has a place of the table, and the pool has at most half of each corporation.
+pub fn stock_rounds_stay_sound()
+    ensures { StockRoundsStaySound }
+{
+    rr_stock::laws::pool_stays_within_half();
+}
+
+/// Where the pool has at most half of each corporation, it has at most half of each after whatever act of the auction.
+pub fn auction_stays_within_half()
+    ensures { AuctionStaysWithinHalf }
+{}
+
+/// At a table of two players or more, whatever lawful acts the auction takes and whatever lawful commands of stock
+/// rounds follow, the balances of bank, seats and corporations go on summing to 12,000, and only the bank's may be
+/// negative.
+pub fn money_stays_along_plays()
+    ensures { MoneyStaysAlongPlays }
+{
+    rr_books::laws::money_is_kept();
+}
+
+/// From the opening of a table on, the pool never has more than half of a corporation, whatever acts the auction took and
+/// whatever lawful commands of stock rounds followed.
+pub fn pool_stays_within_half_along_plays()
+    ensures { PoolStaysWithinHalfAlongPlays }
+{
+    rr_stock::laws::pool_stays_within_half();
+}
+
+#[cfg(test)]
+mod tests {
+    use super::{
+        auction_stays_within_half, money_stays_along_plays, pool_stays_within_half_along_plays,
+        stock_rounds_stay_sound, stock_stays_dealt, stock_stays_solvent, turn_is_at_the_table,
+    };
+
+    #[test]
+    fn laws_are_called(_rt: HostRuntime) {
+        turn_is_at_the_table();
+        stock_stays_solvent();
+        stock_stays_dealt();
+        stock_rounds_stay_sound();
+        auction_stays_within_half();
+        money_stays_along_plays();
+        pool_stays_within_half_along_plays();
+    }
+}
