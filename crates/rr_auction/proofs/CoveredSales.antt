@@ -2,7 +2,7 @@
 use Rattle.std.specs.Prelude.{◌≡◌, ℕ, ◌<◌, ℤ, pos, ◌+ℤ◌, ◌-ℤ◌, ◌≤ℤ◌, Bool, true, false, not, nat_lt, ◌&&◌, List, [], ◌∷◌, ◌++◌, Option, None, Some, find, map, max, refl}
 use Rattle.std.proofs.Common.{sym, ◌∙◌, ap, subst, cond, arith}
 use Rattle.std.proofs.Math.Path.{fun_ext}
-use Rattle.std.proofs.lemmas.Bool.{eqb-true}
+use Rattle.std.proofs.lemmas.Bool.{eqb-true, lt-ltb}
 use Rattle.std.proofs.lemmas.Bool.Decides.{nat_tests}
 use Rattle.std.proofs.lemmas.Int.{ints}
 use Rattle.rr_roster.specs.declared.company.Private.{Private}
@@ -20,7 +20,7 @@ use Rattle.rr_books.specs.declared.entries.Entry.TheVariants as E
 use Rattle.rr_books.specs.Book.{Book, balance, balance-push, balance_after, holder, holder-push, holder_after, players, seats_up_to}
 use Rattle.rr_books.specs.Same.{same_cert, same_party}
 use Rattle.rr_books.specs.Shares.{Holders, is_at, share_numbers}
-use Rattle.rr_books.specs.State.{has_party}
+use Rattle.rr_books.specs.State.{has_party, has_place}
 use Rattle.rr_desk.specs.Effects.{adds, moves_if}
 use Rattle.rr_auction.specs.Bids.{Bids, bid_of, tied_on, tied_up}
 use Rattle.rr_desk.specs.Incomes.{dollars, owner, pays_if, pays_income}
@@ -40,14 +40,14 @@ same_bids H K b t h =
     same_sum (bid_on K b t) (bid_on H b t) (λ q. ap (λ (x : Option Place). cond (is_at x L.Offer) (bid_of b q t) 0) (h q))
 
 -- another certificate than a private moves
-goes_by_move : (n : ℕ) (book : Book) (cert : Cert) (to : Place) → IsCoveredBook n book → ((q : Private) → same_cert (C.Private q) cert ≡ false) → after book (progress book) (E.Move cert to) ≡ progress book → GoesOn n book (E.Move cert to ∷ [])
-goes_by_move n book cert to h other still =
+goes_by_move : (n : ℕ) (book : Book) (cert : Cert) (to : Place) → IsCoveredBook n book → has_place n to ≡ true → ((q : Private) → same_cert (C.Private q) cert ≡ false) → after book (progress book) (E.Move cert to) ≡ progress book → GoesOn n book (E.Move cert to ∷ [])
+goes_by_move n book cert to h there other still =
     let e = E.Move cert to in
     let K : Holders = λ c. holder_after c (holder book c) e in
     let Covered : Progress → Type 0 = λ x. IsCovered n K (λ p. balance_after p (balance book p) e) x in
     let as_before : (q : Private) → K (C.Private q) ≡ holder book (C.Private q) = λ q. ap (λ (b : Bool). cond b (Some to) (holder book (C.Private q))) (other q) in
     let was = h.covered in
-    goes_by n book e h refl refl (subst Covered (sym still) (record {
+    goes_by n book e h refl refl there (subst Covered (sym still) (record {
       turn = was.turn;
       bidders = was.bidders;
       seats = λ t.
@@ -59,23 +59,23 @@ goes_by_move n book cert to h other still =
     }))
 
 -- the lowest share of a corporation, if there is one
-goes_by_share : (n : ℕ) (book : Book) (test : Cert → Bool) (c : Corp) (to : Place) (ns : List ShareNumber) → IsCoveredBook n book → GoesOn n book (moves_if (find test (map (λ m. C.Share c m) ns)) to)
-goes_by_share n book test c to [] h = goes_nowhere n book h
-goes_by_share n book test c to (m ∷ ms) h = by_test (test (C.Share c m)) (goes_by_share n book test c to ms h)
+goes_by_share : (n : ℕ) (book : Book) (test : Cert → Bool) (c : Corp) (to : Place) (ns : List ShareNumber) → IsCoveredBook n book → has_place n to ≡ true → GoesOn n book (moves_if (find test (map (λ m. C.Share c m) ns)) to)
+goes_by_share n book test c to [] h there = goes_nowhere n book h
+goes_by_share n book test c to (m ∷ ms) h there = by_test (test (C.Share c m)) (goes_by_share n book test c to ms h there)
   where
     by_test : (b : Bool) → GoesOn n book (moves_if (find test (map (λ m. C.Share c m) ms)) to) → GoesOn n book (moves_if (cond b (Some (C.Share c m)) (find test (map (λ m. C.Share c m) ms))) to)
-    by_test true later = goes_by_move n book (C.Share c m) to h (λ q. refl) refl
+    by_test true later = goes_by_move n book (C.Share c m) to h there (λ q. refl) refl
     by_test false later = later
 
 -- what comes with a private
-goes_by_gift : (n : ℕ) (p : Private) (s : Seat) (book : Book) → IsCoveredBook n book → GoesOn n book (gift p s book)
+goes_by_gift : (n : ℕ) (p : Private) (s : Seat) (book : Book) → IsCoveredBook n book → s.0 < n → GoesOn n book (gift p s book)
 unfolding gift
-goes_by_gift n Private.Ca s book h = goes_by_share n book (λ cert. is_at (holder book cert) L.Offer) Corp.Prr (L.Seat s) share_numbers h
-goes_by_gift n Private.Bo s book h = goes_by_move n book (C.President Corp.Bo) (L.Seat s) h (λ q. refl) refl
-goes_by_gift n Private.Sv s book h = goes_nowhere n book h
-goes_by_gift n Private.Csl s book h = goes_nowhere n book h
-goes_by_gift n Private.Dh s book h = goes_nowhere n book h
-goes_by_gift n Private.Mh s book h = goes_nowhere n book h
+goes_by_gift n Private.Ca s book h seated = goes_by_share n book (λ cert. is_at (holder book cert) L.Offer) Corp.Prr (L.Seat s) share_numbers h (lt-ltb s.0 n seated)
+goes_by_gift n Private.Bo s book h seated = goes_by_move n book (C.President Corp.Bo) (L.Seat s) h (lt-ltb s.0 n seated) (λ q. refl) refl
+goes_by_gift n Private.Sv s book h seated = goes_nowhere n book h
+goes_by_gift n Private.Csl s book h seated = goes_nowhere n book h
+goes_by_gift n Private.Dh s book h seated = goes_nowhere n book h
+goes_by_gift n Private.Mh s book h seated = goes_nowhere n book h
 
 off_offer : (b : Bool) (s : Seat) (x : Option Place) → is_at (cond b (Some (L.Seat s)) x) L.Offer ≡ cond b false (is_at x L.Offer)
 off_offer true s x = refl
@@ -97,10 +97,10 @@ sold_bids H b t p s =
     (λ q. ap (λ (u : Bool). cond u (bid_of b q t) 0) (off_offer (same_private q p) s (H (C.Private q))) ∙ sold_if (same_private q p) (is_unsold H q) (bid_of b q t))
 
 -- a private becomes a seat's
-goes_by_title : (n : ℕ) (book : Book) (p : Private) (s : Seat) → IsCoveredBook n book → GoesOn n book (E.Move (C.Private p) (L.Seat s) ∷ [])
-goes_by_title n book p s h =
+goes_by_title : (n : ℕ) (book : Book) (p : Private) (s : Seat) → IsCoveredBook n book → s.0 < n → GoesOn n book (E.Move (C.Private p) (L.Seat s) ∷ [])
+goes_by_title n book p s h seated =
     let was = h.covered in
-    goes_by n book (E.Move (C.Private p) (L.Seat s)) h refl refl (record {
+    goes_by n book (E.Move (C.Private p) (L.Seat s)) h refl refl (lt-ltb s.0 n seated) (record {
       turn = was.turn;
       bidders = was.bidders;
       seats = λ t.
@@ -128,7 +128,7 @@ goes_by_price n book s m h seated enough =
     let was = h.covered in
     let H = holder book in
     let b = (progress book).bids in
-    goes_by n book (E.Pay (P.Seat s) P.Bank (dollars m)) h (none_more n) (seat_there s.0 n seated) (record {
+    goes_by n book (E.Pay (P.Seat s) P.Bank (dollars m)) h (none_more n) (seat_there s.0 n seated) refl (record {
       turn = was.turn;
       bidders = was.bidders;
       seats = λ t.
@@ -153,9 +153,9 @@ goes_by_sale n book s p m h seated enough =
     ∙ sold_bids (holder book) (progress book).bids s p s in
     let cash : balance sold (P.Seat s) ≡ balance book (P.Seat s) = balance-push book move (P.Seat s) ∙ nothing_paid (balance book (P.Seat s)) in
     let can : pos m ≤ℤ (balance sold (P.Seat s) -ℤ pos (all_bids (holder sold) (progress sold).bids s)) = omega (arith, ints) in
-    goes_then n (adds move) (pay ∷ gift p s ∷ []) book (goes_by_title n book p s h)
+    goes_then n (adds move) (pay ∷ gift p s ∷ []) book (goes_by_title n book p s h seated)
     (λ titled. goes_then n pay (gift p s ∷ []) sold (goes_by_price n sold s m titled seated can)
-    (λ paid. goes_once n (gift p s) _ (goes_by_gift n p s _ paid)))
+    (λ paid. goes_once n (gift p s) _ (goes_by_gift n p s _ paid seated)))
 
 no_more_seats : (n : ℕ) (party : Party) → has_party n party ≡ true → max n (seats_up_to party) ≡ n
 no_more_seats n P.Bank h = omega arith
@@ -170,7 +170,7 @@ gains false m k cash h = omega (arith, ints)
 goes_by_income : (n : ℕ) (book : Book) (party : Party) (m : ℕ) → IsCoveredBook n book → has_party n party ≡ true → GoesOn n book (E.Pay P.Bank party (dollars m) ∷ [])
 goes_by_income n book party m h there =
     let was = h.covered in
-    goes_by n book (E.Pay P.Bank party (dollars m)) h (no_more_seats n party there) there (record {
+    goes_by n book (E.Pay P.Bank party (dollars m)) h (no_more_seats n party there) there refl (record {
       turn = was.turn;
       bidders = was.bidders;
       seats = λ t. gains (same_party (P.Seat t) party) m (all_bids (holder book) (progress book).bids t) (balance book (P.Seat t)) (was.seats t);

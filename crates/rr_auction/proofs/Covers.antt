@@ -23,6 +23,7 @@ use Rattle.rr_books.specs.Shares.{Holders, privates}
 use Rattle.rr_books.specs.Totals.{pays_among}
 use Rattle.rr_desk.specs.Effects.{Effect, in_turn}
 use Rattle.rr_auction.specs.Bids.{Bids, bid_of, with_bid}
+use Rattle.rr_auction.specs.Dealt.{moves_within}
 use Rattle.rr_auction.specs.Fit.{all_bids}
 use Rattle.rr_auction.specs.Progress.{Progress, after, progress}
 use Rattle.rr_auction.specs.Rules.{Accounts}
@@ -40,9 +41,10 @@ pub record IsCoveredBook (n : ℕ) (book : Book) : Type 0 where
   pub players : players book ≡ n
   pub covered : IsCovered n (holder book) (balance book) (progress book)
 
--- further entries pay among the parties of the table, and lead to a book in which it is so
+-- further entries pay and move among those of the table, and lead to a book in which it is so
 pub record GoesOn (n : ℕ) (book more : Book) : Type 0 where
   pub among : list_all (pays_among n) more ≡ true
+  pub within : list_all (moves_within n) more ≡ true
   pub later : IsCoveredBook n (book ++ more)
 
 -- the same, said of equal holders, money and progress
@@ -61,7 +63,7 @@ both false d h g = h
 pub goes_nowhere : (n : ℕ) (book : Book) → IsCoveredBook n book → GoesOn n book []
 goes_nowhere n book covered =
     let Covered : Book → Type 0 = λ b. IsCoveredBook n b in
-    record { among = refl; later = subst Covered (sym (append-nil book)) covered }
+    record { among = refl; within = refl; later = subst Covered (sym (append-nil book)) covered }
 
 -- some entries, and then others
 pub goes_further : (n : ℕ) (book xs ys : Book) → GoesOn n book xs → GoesOn n (book ++ xs) ys → GoesOn n book (xs ++ ys)
@@ -69,6 +71,7 @@ goes_further n book xs ys first others =
     let Covered : Book → Type 0 = λ b. IsCoveredBook n b in
     record {
       among = list_all-append (pays_among n) xs ys ∙ both _ _ first.among others.among;
+      within = list_all-append (moves_within n) xs ys ∙ both _ _ first.within others.within;
       later = subst Covered (append_assoc book xs ys) others.later;
     }
 
@@ -81,9 +84,10 @@ pub goes_once : (n : ℕ) (f : Effect) (book : Book) → GoesOn n book (f book) 
 goes_once n f book first = goes_then n f [] book first (λ covered. goes_nowhere n (book ++ f book) covered)
 
 -- one entry
-pub goes_by : (n : ℕ) (book : Book) (e : Entry) → IsCoveredBook n book → players_after n e ≡ n → pays_among n e ≡ true → IsCovered n (λ c. holder_after c (holder book c) e) (λ p. balance_after p (balance book p) e) (after book (progress book) e) → GoesOn n book (e ∷ [])
-goes_by n book e before same among covered = record {
+pub goes_by : (n : ℕ) (book : Book) (e : Entry) → IsCoveredBook n book → players_after n e ≡ n → pays_among n e ≡ true → moves_within n e ≡ true → IsCovered n (λ c. holder_after c (holder book c) e) (λ p. balance_after p (balance book p) e) (after book (progress book) e) → GoesOn n book (e ∷ [])
+goes_by n book e before same among within covered = record {
   among = both _ _ among refl;
+  within = both _ _ within refl;
   later = record {
     players = players-push book e ∙ ap (λ (m : ℕ). players_after m e) before.players ∙ same;
     covered = covered_moved n _ _ _ _ _ _ (λ c. holder-push book e c) (λ p. balance-push book e p) (progress-append book (e ∷ [])) covered;
@@ -96,7 +100,7 @@ nothing_paid x = omega (arith, ints)
 -- a step of the game
 pub goes_by_step : (n : ℕ) (book : Book) (marker : Marker) → IsCoveredBook n book → IsCovered n (holder book) (balance book) (after book (progress book) (E.Step marker)) → GoesOn n book (E.Step marker ∷ [])
 goes_by_step n book marker before covered =
-    goes_by n book (E.Step marker) before refl refl
+    goes_by n book (E.Step marker) before refl refl refl
     (covered_moved n (holder book) (holder book) (balance book) (λ p. balance_after p (balance book p) (E.Step marker)) _ _ (λ c. refl) (λ p. nothing_paid _) refl covered)
 
 -- sums over the privates

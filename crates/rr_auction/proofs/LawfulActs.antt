@@ -234,7 +234,7 @@ goes_by_passing n roster book s brings h lawful =
 goes_by_mark : (n : ℕ) (book : Book) (c : Corp) (cell : Option Cell) → IsCoveredBook n book → GoesOn n book (mark_at c cell)
 goes_by_mark n book c None h = goes_nowhere n book h
 goes_by_mark n book c (Some cell) h =
-    goes_by n book (E.Mark c cell) h refl refl
+    goes_by n book (E.Mark c cell) h refl refl refl
     (covered_moved n (holder book) (holder book) (balance book) (λ p. balance_after p (balance book p) (E.Mark c cell)) _ _ (λ d. refl) (λ p. nothing_paid _) refl h.covered)
 
 -- a par
@@ -248,7 +248,7 @@ goes_by_par n rows book s c m h =
     (λ marked. goes_once n settle _ (goes_by_settling n _ marked)))
 
 -- whatever act the rules don't refuse
-goes_by_lawful : (n : ℕ) (roster : Terms) (rows : List charts.Row) (book : Book) (act : Act) → IsCoveredBook n book → verdict roster rows book act ≡ None → GoesOn n book (entries_of roster rows book act)
+pub goes_by_lawful : (n : ℕ) (roster : Terms) (rows : List charts.Row) (book : Book) (act : Act) → IsCoveredBook n book → verdict roster rows book act ≡ None → GoesOn n book (entries_of roster rows book act)
 goes_by_lawful n roster rows book (A.BuyPrivate s) h lawful = goes_by_buying n roster book s h lawful
 goes_by_lawful n roster rows book (A.Bid s p m) h lawful = goes_by_bidding n roster book s p m h lawful
 goes_by_lawful n roster rows book (A.Pass s) h lawful = goes_by_passing n roster book s (brings_incomes (players book) (holder book) (progress book)) h lawful

@@ -12,3 +12,4 @@ pub mod CoveredBids
 pub mod CoveredSales
 pub mod LawfulActs
 pub mod OpenedTable
+pub mod Dealing

@@ -10,3 +10,4 @@ pub mod Fit
 pub mod Opening
 pub mod SoundMoney
 pub mod WorkedAuction
+pub mod Dealt

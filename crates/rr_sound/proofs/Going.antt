@@ -22,6 +22,7 @@ use Rattle.rr_books.specs.State.{has_party, has_place}
 use Rattle.rr_books.specs.Totals.{pays_among}
 use Rattle.rr_desk.specs.Effects.{Effect, adds, in_turn}
 use Rattle.rr_desk.specs.Incomes.{dollars}
+use Rattle.rr_auction.specs.Dealt.{moves_within}
 use Rattle.rr_sound.specs.Sound.{IsSolvent}
 
 -- what each seat will have to pay
@@ -39,11 +40,6 @@ pub record CanPay (n : ℕ) (o : Debts) (book : Book) : Type 0 where
   pub seated : players book ≡ n
   pub seats : (t : Seat) → pos (o t) ≤ℤ balance book (P.Seat t)
   pub corporations : (c : Corp) → pos 0 ≤ℤ balance book (P.Corp c)
-
--- the entry moves a certificate to a place of the table, if it moves one
-abbrev pub moves_within : ℕ → Entry → Bool
-moves_within n (E.Move cert to) = has_place n to
-moves_within n _ = true
 
 -- further entries pay and move among those of the table, and lead to a book in which it can pay
 pub record GoesOn (n : ℕ) (o : Debts) (book more : Book) : Type 0 where

@@ -1,15 +1,13 @@
 -- A table's book that is in order.
-use Rattle.std.specs.Prelude.{◌≡◌, ℕ, ◌<◌, pos, ◌≤ℤ◌, Bool, true, false, List, [], ◌∷◌, ◌++◌, Option, None, Some, fold, ⊤}
+use Rattle.std.specs.Prelude.{◌≡◌, ℕ, ◌<◌, pos, ◌≤ℤ◌, List, [], ◌∷◌, ◌++◌, None, fold, ⊤}
 use Rattle.rr_roster.specs.declared.company.Corp.{Corp}
 use Rattle.rr_roster.specs.Terms.{Terms}
 use Rattle.rr_chart.specs.Chart.{Row}
 use Rattle.rr_books.specs.declared.acts.Act.{Act}
-use Rattle.rr_books.specs.declared.certificates.Cert.{Cert}
-use Rattle.rr_books.specs.declared.parties.Place.{Place}
 use Rattle.rr_books.specs.declared.parties.Seat.{Seat}
 use Rattle.rr_books.specs.declared.parties.Party.TheVariants as P
-use Rattle.rr_books.specs.Book.{Book, balance, holder, players}
-use Rattle.rr_books.specs.State.{has_place}
+use Rattle.rr_books.specs.Book.{Book, balance, players}
+pub use Rattle.rr_auction.specs.Dealt.{IsDealt, is_placed}
 use Rattle.rr_stock.specs.Effects.{entries_of}
 use Rattle.rr_stock.specs.PoolLimits.{HasHalfAtMost}
 use Rattle.rr_stock.specs.Rules.{verdict}
@@ -19,15 +17,6 @@ pub record IsSolvent (n : ℕ) (book : Book) : Type 0 where
   pub seated : players book ≡ n
   pub seats : (s : Seat) → pos 0 ≤ℤ balance book (P.Seat s)
   pub corporations : (c : Corp) → pos 0 ≤ℤ balance book (P.Corp c)
-
--- a certificate has a place of a table of so many players
-abbrev pub is_placed : ℕ → Option Place → Bool
-is_placed n None = false
-is_placed n (Some place) = has_place n place
-
--- so has each of the certificates
-abbrev pub IsDealt : ℕ → Book → Type 0
-IsDealt n book = (cert : Cert) → is_placed n (holder book cert) ≡ true
 
 -- a solvent table, whose certificates have their places, and whose pool has at most half of each corporation
 pub record IsSound (n : ℕ) (book : Book) : Type 0 where

@@ -1,5 +1,5 @@
 //! Laws of the definitions, each the contract of a function that does nothing.
-ghost use Rattle.rr_sound.specs.Play.{AuctionStaysWithinHalf, MoneyStaysAlongPlays, PoolStaysWithinHalfAlongPlays};
+ghost use Rattle.rr_sound.specs.Play.{AuctionStaysWithinHalf, MoneyStaysAlongPlays, PoolStaysWithinHalfAlongPlays, SoundAlongPlays};
 ghost use Rattle.rr_sound.specs.Seating.{TurnIsAtTheTable};
 ghost use Rattle.rr_sound.specs.Sound.{StockRoundsStaySound, StockStaysDealt, StockStaysSolvent};
 
@@ -48,11 +48,21 @@ pub fn pool_stays_within_half_along_plays()
     rr_stock::laws::pool_stays_within_half();
 }
 
+/// At a table of two players or more, whose roster names each corporation, the book is sound from the opening on, whatever
+/// lawful acts the auction takes and whatever lawful commands of stock rounds follow: nobody but the bank has less than
+/// nothing, each certificate has a place of the table, and the pool has at most half of each corporation.
+pub fn sound_along_plays()
+    ensures { SoundAlongPlays }
+{
+    rr_stock::laws::pool_stays_within_half();
+}
+
 #[cfg(test)]
 mod tests {
     use super::{
         auction_stays_within_half, money_stays_along_plays, pool_stays_within_half_along_plays,
-        stock_rounds_stay_sound, stock_stays_dealt, stock_stays_solvent, turn_is_at_the_table,
+        sound_along_plays, stock_rounds_stay_sound, stock_stays_dealt, stock_stays_solvent,
+        turn_is_at_the_table,
     };
 
     #[test]
@@ -64,5 +74,6 @@ mod tests {
         auction_stays_within_half();
         money_stays_along_plays();
         pool_stays_within_half_along_plays();
+        sound_along_plays();
     }
 }

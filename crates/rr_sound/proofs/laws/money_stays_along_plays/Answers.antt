@@ -1,9 +1,7 @@
-use Rattle.std.specs.Prelude.{◌≡◌, ℕ, pos, ℤ, ◌≤ℤ◌, true, [], ◌∷◌, ◌++◌, length}
+use Rattle.std.specs.Prelude.{◌≡◌, true, [], ◌∷◌, ◌++◌, length}
 use Rattle.std.specs.List.{list_all}
 use Rattle.std.proofs.Common.{sym, ◌∙◌, ap, subst, arith, append_assoc}
-use Rattle.std.proofs.lemmas.Int.{ints}
 use Rattle.std.proofs.lemmas.List.Folds.{list_all-append}
-use Rattle.rr_books.specs.declared.parties.Party.TheVariants as P
 use Rattle.rr_books.specs.declared.entries.Entry.TheVariants as E
 use Rattle.rr_books.specs.declared.entries.Marker.TheVariants as M
 use Rattle.rr_books.specs.Book.{Book, balance}
@@ -13,14 +11,11 @@ use Rattle.rr_auction.specs.Opening.{opened}
 use Rattle.rr_auction.specs.SoundMoney.{HasSoundMoney}
 use Rattle.rr_auction.proofs.LawfulActs as auction
 use Rattle.rr_auction.proofs.OpenedTable.{covered_opened}
-use Rattle.rr_sound.specs.Sound.{IsSolvent}
 use Rattle.rr_sound.specs.Play.{auctioned}
 use Rattle.rr_sound.proofs.Going.{both, solvent_without_debt}
+use Rattle.rr_sound.proofs.SoundPlays.{solvent_after_bids}
 use Rattle.rr_sound.proofs.StockPlays.{goes_by_acts}
 use Rattle.rr_sound.proofs.laws.money_stays_along_plays.Goals as goal
-
-no_less : (m : ℕ) (cash : ℤ) → pos m ≤ℤ cash → pos 0 ≤ℤ cash
-no_less m cash h = omega (arith, ints)
 
 pub returns : goal.returns
 returns c roster rows names bids trades two lawful_bids lawful_trades =
@@ -28,16 +23,9 @@ returns c roster rows names bids trades two lawful_bids lawful_trades =
     let began = E.Step (M.Auction names) in
     let opening = opening_entries n roster in
     let bid = auction.goes_by_acts n roster rows bids (opened names roster) (covered_opened names roster two) lawful_bids in
-    let covered = bid.2.later.covered in
-    let Solvent : Book → Type 0 = λ book. IsSolvent n book in
     let Sound : Book → Type 0 = λ book. HasSoundMoney n book in
-    let solvent : IsSolvent n (opened names roster ++ bid.0) = record {
-      seated = bid.2.later.players;
-      seats = λ s. no_less _ (balance (opened names roster ++ bid.0) (P.Seat s)) (covered.seats s);
-      corporations = λ corp. covered.corporations corp;
-    } in
     let book = auctioned roster rows names bids in
-    let traded = goes_by_acts n roster rows trades book (omega arith) (subst Solvent (sym bid.1) solvent) lawful_trades in
+    let traded = goes_by_acts n roster rows trades book (omega arith) (solvent_after_bids roster rows names bids two lawful_bids) lawful_trades in
     let left = solvent_without_debt n (book ++ traded.0) traded.2.later in
     let all : book ++ traded.0 ≡ opening ++ ((began ∷ bid.0) ++ traded.0) =
     ap (λ (b : Book). b ++ traded.0) (bid.1 ∙ append_assoc opening (began ∷ []) bid.0) ∙ append_assoc opening (began ∷ bid.0) traded.0 in
