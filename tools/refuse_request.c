@@ -2,8 +2,9 @@
  * Refuses one request for memory of a program, by LD_PRELOAD.
  *
  * The requests are counted from the program's first request of exactly START bytes, by which a test says that it
- * begins; the one of the number in REFUSED_REQUEST is refused, and no other. At the program's end the file named
- * in REFUSAL_REPORT gets a line: "refused", or "unreached" where the program made fewer requests.
+ * begins, or from its start where COUNT_FROM_START is set; the one of the number in REFUSED_REQUEST is refused, and no
+ * other. At the program's end the file named in REFUSAL_REPORT gets a line: "refused", or "unreached" where the program
+ * made fewer requests.
  */
 #define _GNU_SOURCE
 #include <dlfcn.h>
@@ -31,6 +32,7 @@ __attribute__((constructor)) static void begin(void) {
     real_aligned_alloc = dlsym(RTLD_NEXT, "aligned_alloc");
     const char *number = getenv("REFUSED_REQUEST");
     if (number != NULL) wanted = atol(number);
+    if (getenv("COUNT_FROM_START") != NULL) counted = 0;
 }
 
 __attribute__((destructor)) static void end(void) {

@@ -16,7 +16,8 @@ use Rattle.rr_routes.specs.Certificates.{MayUse}
 use Rattle.rr_routes.proofs.Reaching.{begins, continues, WalkTo-holds}
 use Rattle.rr_checker.specs.declared.step.Step.{Step}
 use Rattle.rr_checker.specs.Steps.{same_node, has_token, is_terminal, HasStep, passes_at, may_follow, goes_on}
-use Rattle.rr_checker.specs.Searching.{ArePlaces, AreMarkedSteps, AreEnds, EndsAt, IsGraphOf}
+use Rattle.rr_reach.specs.Places.{ArePlaces, AreMarkedItems, IsGraphOf}
+use Rattle.rr_checker.specs.Searching.{AreEnds, EndsAt}
 use Rattle.rr_checker.proofs.StepLemmas.{yes, no, to_true, to_false, Decides-same_node, Decides-has_token, Decides-is_terminal, Decides-passes, HasStep-Joins, StepOver, step_over, AreSteps}
 
 parts : (a b c : Bool) → (not a && (b && c)) ≡ true → (a ≡ false) × (b ≡ true) × (c ≡ true)
@@ -31,7 +32,7 @@ module _ (net : Net) (fates : List Fate) (train : ℕ) where
   -- the graph over the steps of a train, and the places at which a walk may begin
   pub record IsSearched (steps : List Step) (graph : List (List ℕ)) (starts : List ℕ) : Type 0 where
     pub all : AreSteps net fates train (length net.links) steps
-    pub rows : IsGraphOf net steps (length steps) graph
+    pub rows : IsGraphOf (goes_on net) steps (length steps) graph
     pub first : ArePlaces (λ step. has_token net step.from) steps (length steps) starts
 
   module _ (steps : List Step) (graph : List (List ℕ)) (starts : List ℕ) (s : IsSearched steps graph starts) where
@@ -115,7 +116,7 @@ module _ (net : Net) (fates : List Fate) (train : ℕ) where
 
     -- the marked steps end where walks end
     pub marked-ends : (marks : List Bool) (marked : List Step) → ((state : ℕ) → state < length graph → IsMarked marks state ↔ IsReached graph starts state)
-        → AreMarkedSteps steps marks (length steps) marked → AreEnds net (MayUse fates train) marked
+        → AreMarkedItems steps marks (length steps) marked → AreEnds net (MayUse fates train) marked
     marked-ends marks marked m a link node = (
       λ found.
           let step = found.0 in

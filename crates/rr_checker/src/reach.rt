@@ -2,11 +2,12 @@
 ghost use Rattle.std.specs.Prelude.{◌≡◌, IfOk, length};
 ghost use Rattle.rr_routes.specs.Certificates.{MayUse};
 ghost use Rattle.rr_checker.specs.Steps.{goes_on, has_token};
-ghost use Rattle.rr_checker.specs.Searching.{AreEnds, AreMarkedSteps, ArePlaces, IsGraphOf};
+ghost use Rattle.rr_reach.specs.Places.{ArePlaces, IsGraphOf};
+ghost use Rattle.rr_checker.specs.Searching.{AreEnds};
 
 use crate::railway::Net;
 use crate::step::{Step, has_token, is_terminal, may_follow, steps_of};
-use rr_reach::{Followers, reached};
+use rr_reach::{Followers, marked_items, reached};
 use rr_routes::Fate;
 use std::alloc::{AllocError, Global};
 
@@ -23,7 +24,7 @@ pub(crate) fn ends_of(
     let graph = graph_of(alloc, net, &steps)?;
     let starts = starts_of(alloc, net, &steps)?;
     let marks = reached(alloc, &graph, &starts)?;
-    let ends = marked_steps(alloc, &steps, &marks)?;
+    let ends = marked_items(alloc, &steps, &marks)?;
     Ok(ends)
 }
 
@@ -43,7 +44,7 @@ fn starts_of(alloc: Global, net: &Net, steps: &[Step]) -> Result<Vec<usize>, All
 
 // for each step the places of those by which a walk that ends with it may go on
 fn graph_of(alloc: Global, net: &Net, steps: &[Step]) -> Result<Vec<Followers>, AllocError>
-    ensures { IfOk result (λ graph. IsGraphOf net.now steps.now (length steps.now) graph.items) }
+    ensures { IfOk result (λ graph. IsGraphOf (goes_on net.now) steps.now (length steps.now) graph.items) }
 {
     let mut graph = Vec::new(alloc);
     for step in steps {
@@ -72,18 +73,4 @@ fn followers_of(
         followers.push(place)?;
     }
     Ok(followers)
-}
-
-fn marked_steps(alloc: Global, steps: &[Step], marks: &[bool]) -> Result<Vec<Step>, AllocError>
-    requires { length marks.now ≡ length steps.now }
-    ensures { IfOk result (λ marked. AreMarkedSteps steps.now marks.now (length steps.now) marked.items) }
-{
-    let mut marked = Vec::new(alloc);
-    for (place, step) in steps.iter().enumerate() {
-        if !marks[place] {
-            continue;
-        }
-        marked.push(*step)?;
-    }
-    Ok(marked)
 }

@@ -13,13 +13,14 @@ use Rattle.rr_network.specs.declared.node.Node.{Node}
 use Rattle.rr_network.specs.declared.step.Step.{Step}
 use Rattle.rr_network.specs.Node.{same_node}
 use Rattle.rr_network.specs.Network.{Net}
-use Rattle.rr_network.specs.Walk.{ArePlaces, AreMarkedSteps, EndsWalk, IsGraphOf, Reached, ReachesLink, ReachesNode, goes_on, has_token, is_terminal, may_follow, reaches_link, reaches_node, steps_of}
+use Rattle.rr_reach.specs.Places.{ArePlaces, AreMarkedItems, IsGraphOf}
+use Rattle.rr_network.specs.Walk.{EndsWalk, Reached, ReachesLink, ReachesNode, goes_on, has_token, is_terminal, may_follow, reaches_link, reaches_node, steps_of}
 use Rattle.rr_network.specs.Walk.EndsWalk.{Begins, GoesOn}
 
 -- the graph over the steps of a network, and the places at which a walk may begin
 pub record IsSearched (net : Net) (corp : Corp) (steps : List Step) (graph : List (List ℕ)) (starts : List ℕ) : Type 0 where
   pub all : steps ≡ steps_of net.links
-  pub rows : IsGraphOf net corp steps (length steps) graph
+  pub rows : IsGraphOf (goes_on net corp) steps (length steps) graph
   pub first : ArePlaces (λ step. has_token net.stations corp step.from) steps (length steps) starts
 
 both_true : (a b : Bool) → (not a && b) ≡ true → (a ≡ false) × (b ≡ true)
@@ -68,7 +69,7 @@ reached_from_walk net corp steps graph starts s _ (GoesOn step next walk free c 
     }
 
 -- the marked steps are those with which a walk ends
-pub marked-EndsWalk : (net : Net) (corp : Corp) (steps : List Step) (graph : List (List ℕ)) (starts : List ℕ) (marks : List Bool) (marked : List Step) → IsSearched net corp steps graph starts → ((state : ℕ) → state < length graph → IsMarked marks state ↔ IsReached graph starts state) → AreMarkedSteps steps marks (length steps) marked → (step : Step) → Contains marked step ↔ EndsWalk net corp step
+pub marked-EndsWalk : (net : Net) (corp : Corp) (steps : List Step) (graph : List (List ℕ)) (starts : List ℕ) (marks : List Bool) (marked : List Step) → IsSearched net corp steps graph starts → ((state : ℕ) → state < length graph → IsMarked marks state ↔ IsReached graph starts state) → AreMarkedItems steps marks (length steps) marked → (step : Step) → Contains marked step ↔ EndsWalk net corp step
 marked-EndsWalk net corp steps graph starts marks marked s m a step = (
   λ c. let h = (a step).0 c in
       subst (λ (x : Step). EndsWalk net corp x) h.here (walk_from_reached net corp steps graph starts step s h.place ((m h.place (omega (arith, h.inside, s.rows.states))).0 h.marked)).1,

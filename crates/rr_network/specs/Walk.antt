@@ -1,7 +1,6 @@
 -- Walks over the links of a network, and what a corporation reaches by them.
-use Rattle.std.specs.Prelude.{◌≡◌, ℕ, ◌+◌, ◌==◌, ◌&&◌, ◌||◌, ◌⊎◌, ◌↔◌, ◌<◌, not, nat_le, Bool, true, false, List, [], ◌∷◌, Option, None, Some, option_map, find, count_by, bytes_eq, Contains, length, slice_index_or}
+use Rattle.std.specs.Prelude.{◌≡◌, ℕ, ◌+◌, ◌==◌, ◌&&◌, ◌||◌, ◌⊎◌, not, nat_le, Bool, true, false, List, [], ◌∷◌, Option, None, Some, option_map, find, count_by, bytes_eq, Contains}
 use Rattle.std.specs.List.{list_any}
-use Rattle.rr_reach.specs.Reach.{followers, IsMarked}
 use Rattle.rr_roster.specs.declared.company.Corp.{Corp}
 use Rattle.rr_roster.specs.Company.{corp_index}
 use Rattle.rr_tiles.specs.declared.part.Kind.{Kind}
@@ -117,24 +116,3 @@ reaches_node reached node = has_token reached.stations reached.corp node || list
 -- a walk that ends with the first step may go on by the second
 abbrev pub goes_on : Net → Corp → Step → Step → Bool
 goes_on net corp step next = not (is_terminal net.stops net.stations corp step.to) && may_follow step next
-
--- these are the places, among the first n, of the steps that pass the test
-pub record ArePlaces (test : Step → Bool) (steps : List Step) (n : ℕ) (places : List ℕ) : Type 0 where
-  pub sound : (k : ℕ) (d : Step) → Contains places k → (k < n) × (test (slice_index_or steps k d) ≡ true)
-  pub complete : (k : ℕ) (d : Step) → k < n → test (slice_index_or steps k d) ≡ true → Contains places k
-
--- the followers of each of the first n steps are the places of those by which a walk may go on
-pub record IsGraphOf (net : Net) (corp : Corp) (steps : List Step) (n : ℕ) (graph : List (List ℕ)) : Type 0 where
-  pub states : length graph ≡ n
-  pub places : (k : ℕ) (d : Step) → k < n → ArePlaces (goes_on net corp (slice_index_or steps k d)) steps (length steps) (followers graph k)
-
--- a step at one of the first n places has a mark
-pub record HasMark (steps : List Step) (marks : List Bool) (n : ℕ) (step : Step) : Type 0 where
-  pub place : ℕ
-  pub inside : place < n
-  pub here : slice_index_or steps place step ≡ step
-  pub marked : IsMarked marks place
-
--- these are the marked ones of the first n steps
-abbrev pub AreMarkedSteps : List Step → List Bool → ℕ → List Step → Type 0
-AreMarkedSteps steps marks n marked = (step : Step) → Contains marked step ↔ HasMark steps marks n step

@@ -4,13 +4,14 @@ ghost use Rattle.std.specs.List.{list_any};
 ghost use Rattle.rr_network.specs.Node.{same_node};
 ghost use Rattle.rr_network.specs.declared.node.Node.{Node};
 ghost use Rattle.rr_network.specs.declared.step.Step.{Step};
-ghost use Rattle.rr_network.specs.Walk.{ArePlaces, AreMarkedSteps, EndsWalk, IsGraphOf, ReachesLink, ReachesNode, goes_on, has_token, reaches_link, reaches_node};
+ghost use Rattle.rr_reach.specs.Places.{ArePlaces, IsGraphOf};
+ghost use Rattle.rr_network.specs.Walk.{EndsWalk, ReachesLink, ReachesNode, goes_on, has_token, reaches_link, reaches_node};
 
 use crate::layout::Station;
 use crate::network::Network;
 use crate::node::{Node, same_node};
 use crate::step::{Step, has_token, is_terminal, may_follow, steps_of};
-use rr_reach::{Followers, reached};
+use rr_reach::{Followers, marked_items, reached};
 use rr_roster::Corp;
 use std::alloc::{AllocError, Global};
 use std::marker::Model;
@@ -79,7 +80,7 @@ fn walks_of(alloc: Global, network: &Network, corp: Corp) -> Result<Vec<Step>, A
     let graph = graph_of(alloc, network, corp, &steps)?;
     let starts = starts_of(alloc, network, corp, &steps)?;
     let marks = reached(alloc, &graph, &starts)?;
-    let ends = marked_steps(alloc, &steps, &marks)?;
+    let ends = marked_items(alloc, &steps, &marks)?;
     Ok(ends)
 }
 
@@ -109,7 +110,7 @@ fn graph_of(
     corp: Corp,
     steps: &[Step],
 ) -> Result<Vec<Followers>, AllocError>
-    ensures { IfOk result (λ graph. IsGraphOf network.now corp steps.now (length steps.now) graph.items) }
+    ensures { IfOk result (λ graph. IsGraphOf (goes_on network.now corp) steps.now (length steps.now) graph.items) }
 {
     let mut graph = Vec::new(alloc);
     for step in steps {
@@ -139,18 +140,4 @@ fn followers_of(
         followers.push(place)?;
     }
     Ok(followers)
-}
-
-fn marked_steps(alloc: Global, steps: &[Step], marks: &[bool]) -> Result<Vec<Step>, AllocError>
-    requires { length marks.now ≡ length steps.now }
-    ensures { IfOk result (λ marked. AreMarkedSteps steps.now marks.now (length steps.now) marked.items) }
-{
-    let mut marked = Vec::new(alloc);
-    for (place, step) in steps.iter().enumerate() {
-        if !marks[place] {
-            continue;
-        }
-        marked.push(*step)?;
-    }
-    Ok(marked)
 }

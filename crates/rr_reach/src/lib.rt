@@ -2,9 +2,11 @@
 #![tactic(auto)]
 
 mod graph;
+mod marking;
 mod search;
 
 pub use graph::Followers;
+pub use marking::marked_items;
 pub use search::reached;
 
 #[cfg(test)]

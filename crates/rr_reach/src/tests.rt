@@ -1,5 +1,5 @@
 //! Graphs small enough to be followed by hand.
-use crate::{Followers, reached};
+use crate::{Followers, marked_items, reached};
 use std::alloc::Global;
 use std::test::Fail;
 
@@ -58,5 +58,12 @@ fn reaches_all_or_nothing(rt: HostRuntime) -> Result<(), Fail> {
     // 9 is no state
     let from_all = reached(rt.alloc(), &graph, &[9, 3, 5])?;
     assert!(rt; from_all.iter().all(|mark| *mark));
+    Ok(())
+}
+
+#[test]
+fn takes_the_marked_items(rt: HostRuntime) -> Result<(), Fail> {
+    let marked = marked_items(rt.alloc(), &[7, 8, 9, 8], &[true, false, true])?;
+    assert_eq!(rt; marked.as_slice(), [7, 9].as_slice());
     Ok(())
 }

@@ -7,5 +7,6 @@ pub mod Plays
 pub mod Due
 pub mod TurnCounts
 pub mod WorkedRounds
+pub mod WorkedLimits
 pub mod PoolLimits
 pub mod SoldShares

@@ -2,6 +2,7 @@
 ghost use Rattle.rr_stock.specs.PoolLimits.{PoolStaysWithinHalf};
 ghost use Rattle.rr_stock.specs.SoldShares.{LawfulSalesMoveShares};
 ghost use Rattle.rr_stock.specs.TurnCounts.{OneTurnAtMost};
+ghost use Rattle.rr_stock.specs.WorkedLimits.{WorkedMustSell, WorkedSecondPurchase, WorkedSixty, WorkedSuccession};
 ghost use Rattle.rr_stock.specs.WorkedRounds.{WorkedEnd, WorkedFloat, WorkedPar, WorkedPresidency, WorkedSale};
 
 /// Whatever the book and the command, its entries end at most one turn and begin at most one stock round.
@@ -45,4 +46,24 @@ pub fn worked_float()
 /// As all seats have passed in a row, what is sold out goes up, the privates pay, and the next stock round begins.
 pub fn worked_end()
     ensures { WorkedEnd }
+{}
+
+/// Nobody buys more than 60% of a corporation in white and yellow.
+pub fn worked_sixty()
+    ensures { WorkedSixty }
+{}
+
+/// Who has more than 60% of a corporation in white or yellow has to sell first, once sales are lawful.
+pub fn worked_must_sell()
+    ensures { WorkedMustSell }
+{}
+
+/// Several shares are bought in one turn only from the pool, and only in brown.
+pub fn worked_second_purchase()
+    ensures { WorkedSecondPurchase }
+{}
+
+/// A president goes below 20% only where another player has as much, who becomes president.
+pub fn worked_succession()
+    ensures { WorkedSuccession }
 {}

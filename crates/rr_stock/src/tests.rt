@@ -1,6 +1,7 @@
 use crate::laws::{
     lawful_sales_move_shares, one_turn_at_most, pool_stays_within_half, worked_end, worked_float,
-    worked_par, worked_presidency, worked_sale,
+    worked_must_sell, worked_par, worked_presidency, worked_sale, worked_second_purchase,
+    worked_sixty, worked_succession,
 };
 use crate::{Fault, due, judge, step};
 use rr_books::{Act, Books, Corp, Entry, Marker, Money, Party, Seat};
@@ -84,4 +85,8 @@ fn laws_are_called(_rt: HostRuntime) {
     worked_par();
     worked_float();
     worked_end();
+    worked_sixty();
+    worked_must_sell();
+    worked_second_purchase();
+    worked_succession();
 }

@@ -1,4 +1,5 @@
-use Rattle.rr_network.specs.Walk.{ArePlaces, goes_on}
+use Rattle.rr_reach.specs.Places.{ArePlaces}
+use Rattle.rr_network.specs.Walk.{goes_on}
 use Rattle.rr_network.proofs.reach.followers_of.Given as goal
 
 abbrev pub invariant-loop-place : goal.invariant-loop-place

@@ -1,4 +1,5 @@
-use Rattle.rr_network.specs.Walk.{ArePlaces, has_token}
+use Rattle.rr_reach.specs.Places.{ArePlaces}
+use Rattle.rr_network.specs.Walk.{has_token}
 use Rattle.rr_network.proofs.reach.starts_of.Given as goal
 
 abbrev pub invariant-loop-place : goal.invariant-loop-place
