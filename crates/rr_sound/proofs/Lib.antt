@@ -6,3 +6,11 @@ pub mod StockPlays
 pub mod Auctioned
 pub mod PoolPlays
 pub mod SoundPlays
+pub mod Untouched
+pub mod Gaining
+pub mod AuctionPresidents
+pub mod Bystanders
+pub mod Leaders
+pub mod PricedShares
+pub mod StockPresidents
+pub mod PresidentPlays

@@ -1,3 +1,4 @@
 pub mod Seating
 pub mod Sound
 pub mod Play
+pub mod Presidencies

@@ -1,5 +1,6 @@
 //! Laws of the definitions, each the contract of a function that does nothing.
 ghost use Rattle.rr_sound.specs.Play.{AuctionStaysWithinHalf, MoneyStaysAlongPlays, PoolStaysWithinHalfAlongPlays, SoundAlongPlays};
+ghost use Rattle.rr_sound.specs.Presidencies.{AuctionStaysGoverned, GovernedHasGreatestPresidents, PresidentsStayGreatest, StockStaysGoverned};
 ghost use Rattle.rr_sound.specs.Seating.{TurnIsAtTheTable};
 ghost use Rattle.rr_sound.specs.Sound.{StockRoundsStaySound, StockStaysDealt, StockStaysSolvent};
 
@@ -57,11 +58,42 @@ pub fn sound_along_plays()
     rr_stock::laws::pool_stays_within_half();
 }
 
+/// From the opening of a table on, whatever lawful acts the auction takes, each corporation awaits its par, with no more
+/// than 20% of it at any seat, or is led by its president.
+pub fn auction_stays_governed()
+    ensures { AuctionStaysGoverned }
+{}
+
+/// A solvent table whose corporations all await their par or are led by their presidents stays so with whatever lawful
+/// command of a stock round.
+pub fn stock_stays_governed()
+    ensures { StockStaysGoverned }
+{
+    rr_stock::laws::lawful_sales_move_shares();
+}
+
+/// Where each corporation awaits its par or is led by its president, each 20% certificate is in the offering, or with a
+/// player than whom no other holds more of the corporation.
+pub fn governed_has_greatest_presidents()
+    ensures { GovernedHasGreatestPresidents }
+{}
+
+/// From the opening of a table of two to six on, whatever lawful acts the auction takes and whatever lawful commands of
+/// stock rounds follow, each 20% certificate is in the offering, or with a player than whom no other holds more of that
+/// corporation.
+pub fn presidents_stay_greatest()
+    ensures { PresidentsStayGreatest }
+{
+    rr_stock::laws::lawful_sales_move_shares();
+}
+
 #[cfg(test)]
 mod tests {
     use super::{
-        auction_stays_within_half, money_stays_along_plays, pool_stays_within_half_along_plays,
-        sound_along_plays, stock_rounds_stay_sound, stock_stays_dealt, stock_stays_solvent,
+        auction_stays_governed, auction_stays_within_half, governed_has_greatest_presidents,
+        money_stays_along_plays, pool_stays_within_half_along_plays, presidents_stay_greatest,
+        sound_along_plays, stock_rounds_stay_sound, stock_stays_dealt, stock_stays_governed,
+        stock_stays_solvent,
         turn_is_at_the_table,
     };
 
@@ -75,5 +107,9 @@ mod tests {
         money_stays_along_plays();
         pool_stays_within_half_along_plays();
         sound_along_plays();
+        auction_stays_governed();
+        stock_stays_governed();
+        governed_has_greatest_presidents();
+        presidents_stay_greatest();
     }
 }
