@@ -9,7 +9,7 @@ use Rattle.rr_roster.specs.declared.company.Private.TheVariants as P
 use Rattle.rr_roster.specs.Company.{corp_name, private_name}
 use Rattle.rr_board.specs.Words.{corp_of, private_of}
 
-corp_named : (x : Corp) → Some x ≡ corp_of (corp_name x)
+pub corp_named : (x : Corp) → Some x ≡ corp_of (corp_name x)
 corp_named C.Prr = refl
 corp_named C.Nyc = refl
 corp_named C.Cpr = refl
@@ -19,7 +19,7 @@ corp_named C.Erie = refl
 corp_named C.Nynh = refl
 corp_named C.Bm = refl
 
-private_named : (x : Private) → Some x ≡ private_of (private_name x)
+pub private_named : (x : Private) → Some x ≡ private_of (private_name x)
 private_named P.Sv = refl
 private_named P.Csl = refl
 private_named P.Dh = refl

@@ -1,4 +1,7 @@
 pub mod Fault
 pub mod Plan
-pub mod Words
+pub mod Sound
+pub mod Spelling
 pub mod Reading
+pub mod Words
+pub mod Lines

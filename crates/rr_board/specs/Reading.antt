@@ -1,118 +1,52 @@
 -- How a text spells a board, and which line is wrong where it spells none.
-use Rattle.std.specs.Prelude.{◌≡◌, ℕ, ◌≤◌, List, [], ◌∷◌, ◌++◌, length, if◌then◌else◌, Option, None, Some, option_map, option_and_then, bytes_eq, codes}
-use Rattle.rr_words.specs.Name.{hex_name_of}
-use Rattle.rr_words.specs.Numeral.{small_number_of}
+use Rattle.std.specs.Prelude.{◌≡◌, ℕ, ◌≤◌, List, [], ◌∷◌, ◌++◌, length, map}
+use Rattle.std.specs.List.{AllZip}
 use Rattle.rr_words.specs.Text.{NumberedWords, rows_of, IsSmallAscii}
-use Rattle.rr_roster.specs.declared.company.Corp.{Corp}
-use Rattle.rr_roster.specs.declared.company.Private.{Private}
-use Rattle.rr_tiles.specs.Reading.{tile_of}
 use Rattle.rr_board.specs.declared.fault.Fault.{Fault}
 use Rattle.rr_board.specs.declared.fault.Fault.TheVariants.{BadBoard, OutOfMemory}
-use Rattle.rr_board.specs.declared.hex.Place.{Place}
-use Rattle.rr_board.specs.declared.hex.Colour.{Colour}
-use Rattle.rr_board.specs.declared.hex.Hex.{Hex}
-use Rattle.rr_board.specs.declared.hex.Home.{Home}
-use Rattle.rr_board.specs.Plan.{Plan, bare, hex_named, may_take_hex, slots_at, may_take_home}
-use Rattle.rr_board.specs.Words.{place_of, colour_of, cost_and_tile, corp_of, private_of}
+use Rattle.rr_board.specs.Plan.{Plan}
+use Rattle.rr_board.specs.Sound.{IsBoard}
+use Rattle.rr_board.specs.Spelling.{Line, SpellsLine, StandBehindTheirHexes, blocks_in, hexes_in, homes_in}
 
-abbrev pub hex_with : List ℕ → Place → Colour → ℕ × List (List ℕ) → Option Hex
-hex_with name place colour more =
-    option_map (λ tile. record { name = name; place = place; colour = colour; cost = more.0; tile = tile }) (tile_of more.1)
+-- Each row is spelled as a hex, a home or a block. The board has the hexes, homes and blocks of the rows in their order.
+pub record SpellsRows (rows : List NumberedWords) (plan : Plan) : Type 0 where
+  pub lines : List Line
+  pub each_row : AllZip SpellsLine (map (λ row. row.words) rows) lines
+  pub hexes_are : plan.hexes ≡ hexes_in lines
+  pub homes_are : plan.homes ≡ homes_in lines
+  pub blocks_are : plan.blocks ≡ blocks_in lines
+  pub behind_hexes : StandBehindTheirHexes lines
+  pub is_board : IsBoard plan
 
--- the hex that these words and those behind them spell
-abbrev pub hex_of : List ℕ → List ℕ → List ℕ → List (List ℕ) → Option Hex
-hex_of name place colour rest =
-    option_and_then (λ n. option_and_then (λ p. option_and_then (λ c. option_and_then (hex_with n p c) (cost_and_tile rest)) (colour_of colour)) (place_of place)) (hex_name_of name)
-
-abbrev pub with_hex : Plan → Hex → Option Plan
-with_hex plan hex =
-    if may_take_hex plan.hexes hex then Some (record { hexes = plan.hexes ++ hex ∷ []; homes = plan.homes; blocks = plan.blocks })
-    else None
-
--- the board with the hex of a line `hex <name> <q>,<r> <colour> [cost=N] <tile text>` more
-abbrev pub add_hex : Plan → List (List ℕ) → Option Plan
-add_hex plan [] = None
-add_hex plan (name ∷ []) = None
-add_hex plan (name ∷ place ∷ []) = None
-add_hex plan (name ∷ place ∷ colour ∷ rest) = option_and_then (with_hex plan) (hex_of name place colour rest)
-
-abbrev pub with_home : Plan → Home → ℕ → Option Plan
-with_home plan home slots =
-    if may_take_home plan.homes home slots then Some (record { hexes = plan.hexes; homes = plan.homes ++ home ∷ []; blocks = plan.blocks })
-    else None
-
-abbrev pub home_in : Plan → Corp → ℕ → Hex → Option Plan
-home_in plan corp centre hex =
-    option_and_then (with_home plan (record { corp = corp; hex = hex.name; centre = centre })) (slots_at hex.tile.parts centre)
-
--- the board with the home that these words spell more
-abbrev pub home_of : Plan → List ℕ → List ℕ → List ℕ → Option Plan
-home_of plan corp hex centre =
-    option_and_then (λ c. option_and_then (λ n. option_and_then (home_in plan c n) (hex_named plan.hexes hex)) (small_number_of centre 1 65535)) (corp_of corp)
-
--- the board with the home of a line `home <corporation> <hex> <centre>` more
-abbrev pub add_home : Plan → List (List ℕ) → Option Plan
-add_home plan [] = None
-add_home plan (corp ∷ []) = None
-add_home plan (corp ∷ hex ∷ []) = None
-add_home plan (corp ∷ hex ∷ centre ∷ []) = home_of plan corp hex centre
-add_home plan (corp ∷ hex ∷ centre ∷ more ∷ rest) = None
-
-abbrev pub block_in : Plan → Private → Hex → Plan
-block_in plan private hex = record { hexes = plan.hexes; homes = plan.homes; blocks = plan.blocks ++ record { private = private; hex = hex.name } ∷ [] }
-
--- the board with the blocked hex that these words spell more
-abbrev pub block_of : Plan → List ℕ → List ℕ → Option Plan
-block_of plan private hex = option_and_then (λ p. option_map (block_in plan p) (hex_named plan.hexes hex)) (private_of private)
-
--- the board with the blocked hex of a line `block <private> <hex>` more
-abbrev pub add_block : Plan → List (List ℕ) → Option Plan
-add_block plan [] = None
-add_block plan (private ∷ []) = None
-add_block plan (private ∷ hex ∷ []) = block_of plan private hex
-add_block plan (private ∷ hex ∷ more ∷ rest) = None
-
--- the board with what a line says more, if it may say that there
-abbrev pub add_line : Plan → List (List ℕ) → Option Plan
-add_line plan [] = None
-add_line plan (head ∷ rest) =
-    if bytes_eq head (codes "hex") then add_hex plan rest
-    else if bytes_eq head (codes "home") then add_home plan rest
-    else if bytes_eq head (codes "block") then add_block plan rest
-    else None
-
--- what the lines of a text come to: a board, or the number of the first wrong line
-pub data Outcome : Type 0 where
-  Spelled : Plan → Outcome
-  Wrong : ℕ → Outcome
-
-abbrev pub or_wrong : (Plan → Outcome) → ℕ → Option Plan → Outcome
-or_wrong next line None = Wrong line
-or_wrong next line (Some plan) = next plan
-
--- what these lines come to behind those that gave the board so far
-unfoldable pub outcome : Plan → List NumberedWords → Outcome
-outcome plan [] = Spelled plan
-outcome plan (row ∷ rows) = or_wrong (λ next. outcome next rows) row.number (add_line plan row.words)
-
--- only memory may be wanting, or this is the first wrong line
-abbrev pub IsRowsFault : List NumberedWords → Fault → Type 0
-IsRowsFault rows (BadBoard line) = outcome bare rows ≡ Wrong line
-IsRowsFault rows OutOfMemory = Unit {0}
-
--- the lines of the text spell the board, and it has a hex
+-- the rows of the text, which are its lines but for empty ones and comments, spell the board, and it has a hex
 pub record Spells (text : List ℕ) (plan : Plan) : Type 0 where
   pub small_ascii : IsSmallAscii text
-  pub spelled : outcome bare (rows_of text) ≡ Spelled plan
+  pub rows_spelled : SpellsRows (rows_of text) plan
   pub some_hex : 1 ≤ length plan.hexes
+
+-- the rows above this one spell hexes, homes and blocks, and with this one they spell none
+pub record IsFirstWrong (rows : List NumberedWords) (number : ℕ) : Type 0 where
+  pub above : List NumberedWords
+  pub here : NumberedWords
+  pub below : List NumberedWords
+  pub plan : Plan
+  pub split : rows ≡ above ++ here ∷ below
+  pub numbered : number ≡ here.number
+  pub above_spelled : SpellsRows above plan
+  pub here_wrong : (other : Plan) → ¬ SpellsRows (above ++ here ∷ []) other
 
 -- the line that tells why a text spells no board, or 0 where it is the text as a whole
 pub data IsBadAt (text : List ℕ) : ℕ → Type 0 where
   NotSmallAscii : ¬ IsSmallAscii text → IsBadAt text 0
-  WithoutHex : (plan : Plan) → IsSmallAscii text → outcome bare (rows_of text) ≡ Spelled plan → length plan.hexes ≡ 0 → IsBadAt text 0
-  WrongLine : (line : ℕ) → IsSmallAscii text → outcome bare (rows_of text) ≡ Wrong line → IsBadAt text line
+  WithoutHex : (plan : Plan) → IsSmallAscii text → SpellsRows (rows_of text) plan → length plan.hexes ≡ 0 → IsBadAt text 0
+  WrongLine : (line : ℕ) → IsSmallAscii text → IsFirstWrong (rows_of text) line → IsBadAt text line
 
 -- only memory may be wanting, or no board is spelled
 abbrev pub IsRefusal : List ℕ → Fault → Type 0
 IsRefusal text (BadBoard line) = IsBadAt text line × ((plan : Plan) → ¬ Spells text plan)
 IsRefusal text OutOfMemory = Unit {0}
+
+-- why rows spell no hexes, homes and blocks
+abbrev pub IsRowsFault : List NumberedWords → Fault → Type 0
+IsRowsFault rows (BadBoard line) = IsFirstWrong rows line
+IsRowsFault rows OutOfMemory = Unit {0}

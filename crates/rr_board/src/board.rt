@@ -34,8 +34,8 @@ impl Model for Board {
 impl Board {
     ghost use Rattle.rr_board.specs.Plan.{Plan, bare};
     ghost use Rattle.rr_words.specs.Text.{row_of};
-    ghost use Rattle.rr_board.specs.Reading.Outcome.{Spelled};
-    ghost use Rattle.rr_board.specs.Reading.{Spells, IsRefusal, IsRowsFault, outcome, add_hex, add_home, add_block, add_line, block_of, home_of, with_hex};
+    ghost use Rattle.rr_board.specs.Lines.{add_hex, add_home, add_block, add_line, block_of, home_of, with_hex};
+    ghost use Rattle.rr_board.specs.Reading.{Spells, SpellsRows, IsRefusal, IsRowsFault};
 
     /// Reads a board from its text.
     ///
@@ -68,7 +68,7 @@ impl Board {
 
     fn read_rows(alloc: Global, rows: &[Row]) -> Result<Board, Fault>
         ensures { MatchResult result
-            (λ board. outcome bare (map row_of rows.now) ≡ Spelled board)
+            (λ board. SpellsRows (map row_of rows.now) board)
             (λ fault. IsRowsFault (map row_of rows.now) fault) }
     {
         let mut board = Board::bare(alloc);

@@ -1,7 +1,7 @@
 //! The words of a line that names a hex.
 ghost use Rattle.std.specs.Prelude.{◌≡◌, ℕ, ◌<◌, length, map, option_map, IfOk, IfSome};
 ghost use Rattle.rr_board.specs.Words.{behind_cost, behind_st, colour_of, coordinate_of, cost_and_tile, place_of};
-ghost use Rattle.rr_board.specs.Reading.{hex_of};
+ghost use Rattle.rr_board.specs.Lines.{hex_of};
 ghost use Rattle.rr_tiles.specs.Reading.{cut_of, place_of as first_place_of};
 
 use crate::hex::{Colour, Hex, Place};

@@ -4,6 +4,7 @@
 mod company;
 mod document;
 mod fault;
+pub mod laws;
 mod numbers;
 mod roster;
 mod rules;

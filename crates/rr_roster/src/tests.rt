@@ -1,4 +1,4 @@
-use crate::{Corp, Fault, Kind, Private, Roster, Rule};
+use crate::{Corp, Fault, Kind, Private, Roster, Rule, laws};
 use std::alloc::Global;
 use std::test::Fail;
 
@@ -45,6 +45,7 @@ fn reads_the_shipped_roster(rt: HostRuntime) -> Result<(), Fail> {
     assert_eq!(rt; roster.count(Kind::Diesel), 6);
     assert_eq!(rt; roster.trade(), 800);
     roster.keeps_rules();
+    laws::rosters_are_told_apart();
     let order = roster.corporations();
     assert_eq!(rt; order[0], Corp::Prr);
     assert_eq!(rt; order[3], Corp::Bo);

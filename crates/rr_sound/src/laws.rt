@@ -93,8 +93,7 @@ mod tests {
         auction_stays_governed, auction_stays_within_half, governed_has_greatest_presidents,
         money_stays_along_plays, pool_stays_within_half_along_plays, presidents_stay_greatest,
         sound_along_plays, stock_rounds_stay_sound, stock_stays_dealt, stock_stays_governed,
-        stock_stays_solvent,
-        turn_is_at_the_table,
+        stock_stays_solvent, turn_is_at_the_table,
     };
 
     #[test]

@@ -89,7 +89,7 @@ no_slash c digit = grind (arith, nat_tests)
 no_colon : (c : ℕ) → is_ascii_digit c ≡ true → (c == 58) ≡ false
 no_colon c digit = grind (arith, nat_tests)
 
-decimal-without : (mark n : ℕ) → n ≤ 990 → ((c : ℕ) → is_ascii_digit c ≡ true → (c == mark) ≡ false) → Without mark (decimal n)
+pub decimal-without : (mark n : ℕ) → n ≤ 990 → ((c : ℕ) → is_ascii_digit c ≡ true → (c == mark) ≡ false) → Without mark (decimal n)
 decimal-without mark n small other =
     let wide : n < 2 ^ 64 = omega arith in
     All-weaker (λ c. is_ascii_digit c ≡ true) (λ c. (c == mark) ≡ false) other (decimal n) (AllPass-from_list_all is_ascii_digit (decimal n) (digits_decimal digits_model n wide))

@@ -2,6 +2,7 @@ pub mod CentreLemmas
 pub mod EachLemmas
 pub mod EdgeLemmas
 pub mod ElementLemmas
+pub mod FirstWordLemmas
 pub mod KeepingLemmas
 pub mod ManifestLemmas
 pub mod OptionLemmas

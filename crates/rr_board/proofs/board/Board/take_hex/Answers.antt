@@ -1,5 +1,5 @@
 use Rattle.std.proofs.Common.{ap, ◌∙◌}
-use Rattle.rr_board.specs.Reading.{with_hex}
+use Rattle.rr_board.specs.Lines.{with_hex}
 use Rattle.std.specs.Prelude.{option_and_then}
 use Rattle.rr_board.proofs.LineLemmas.{add_hex-short, add_hex-long}
 use Rattle.rr_board.proofs.board.Board.take_hex.Goals as goal
