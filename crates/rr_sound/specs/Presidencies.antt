@@ -35,7 +35,7 @@ pub record IsLed (n : ℕ) (book : Book) (c : Corp) : Type 0 where
 abbrev pub HasGreatestPresidents : ℕ → Book → Type 0
 HasGreatestPresidents n book = (c : Corp) → IsOffered book c ⊎ IsLed n book c
 
--- the share that a private still brings whoever gets it or gives it up: the C&A 10% of the PRR, the M&H 10% of the NYC
+-- the share that a private can still bring: the C&A 10% of the PRR to its buyer, the M&H 10% of the NYC in exchange
 abbrev pub promised : Holders → Corp → ℕ
 promised holders Corp.Prr = if is_at (holders (C.Private Private.Ca)) L.Offer then 10 else 0
 promised holders Corp.Nyc = if is_at (holders (C.Private Private.Mh)) L.Gone then 0 else 10
@@ -52,8 +52,8 @@ pub record AwaitsPar (book : Book) (c : Corp) : Type 0 where
 abbrev pub IsGoverned : ℕ → Book → Type 0
 IsGoverned n book = (c : Corp) → AwaitsPar book c ⊎ IsLed n book c
 
--- the same while the auction runs: what the C&A and the B&O bring is in the offering as long as they are, and the B&O
--- has its president when it is to get its par
+-- the same while the auction runs: the 20% of the PRR is in the offering as long as the C&A is, and that of the B&O as
+-- long as the B&O private is; and the B&O has its president when its par is due
 pub record IsGovernedInAuction (n : ℕ) (book : Book) : Type 0 where
   pub governed : IsGoverned n book
   pub pennsylvania : is_unsold (holder book) Private.Ca ≡ true → IsOffered book Corp.Prr
