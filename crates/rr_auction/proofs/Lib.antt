@@ -13,3 +13,9 @@ pub mod CoveredSales
 pub mod LawfulActs
 pub mod OpenedTable
 pub mod Dealing
+pub mod Histories
+pub mod Raising
+pub mod Entries
+pub mod Passes
+pub mod Raisers
+pub mod TurnCounts

@@ -11,3 +11,8 @@ pub mod Opening
 pub mod SoundMoney
 pub mod WorkedAuction
 pub mod Dealt
+pub mod History
+pub mod AuctionLaws
+pub mod WorkedTellings
+pub mod RaisingLaws
+pub mod TurnLaws

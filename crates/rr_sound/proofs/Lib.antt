@@ -14,3 +14,4 @@ pub mod Leaders
 pub mod PricedShares
 pub mod StockPresidents
 pub mod PresidentPlays
+pub mod Priorities

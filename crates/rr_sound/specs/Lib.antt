@@ -2,3 +2,4 @@ pub mod Seating
 pub mod Sound
 pub mod Play
 pub mod Presidencies
+pub mod Priority

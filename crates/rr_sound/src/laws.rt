@@ -1,6 +1,7 @@
 //! Laws of the definitions, each the contract of a function that does nothing.
 ghost use Rattle.rr_sound.specs.Play.{AuctionStaysWithinHalf, MoneyStaysAlongPlays, PoolStaysWithinHalfAlongPlays, SoundAlongPlays};
 ghost use Rattle.rr_sound.specs.Presidencies.{AuctionStaysGoverned, GovernedHasGreatestPresidents, PresidentsStayGreatest, StockStaysGoverned};
+ghost use Rattle.rr_sound.specs.Priority.{FirstTurnIsOfPriority, PriorityIsOne};
 ghost use Rattle.rr_sound.specs.Seating.{TurnIsAtTheTable};
 ghost use Rattle.rr_sound.specs.Sound.{StockRoundsStaySound, StockStaysDealt, StockStaysSolvent};
 
@@ -87,11 +88,23 @@ pub fn presidents_stay_greatest()
     rr_stock::laws::lawful_sales_move_shares();
 }
 
+/// The auction and the stock rounds name one and the same seat for priority until the first stock round begins, and in it
+/// until the first purchase or sale.
+pub fn priority_is_one()
+    ensures { PriorityIsOne }
+{}
+
+/// The first stock round begins with the turn of the seat that has priority by the auction.
+pub fn first_turn_is_of_priority()
+    ensures { FirstTurnIsOfPriority }
+{}
+
 #[cfg(test)]
 mod tests {
     use super::{
-        auction_stays_governed, auction_stays_within_half, governed_has_greatest_presidents,
-        money_stays_along_plays, pool_stays_within_half_along_plays, presidents_stay_greatest,
+        auction_stays_governed, auction_stays_within_half, first_turn_is_of_priority,
+        governed_has_greatest_presidents, money_stays_along_plays,
+        pool_stays_within_half_along_plays, presidents_stay_greatest, priority_is_one,
         sound_along_plays, stock_rounds_stay_sound, stock_stays_dealt, stock_stays_governed,
         stock_stays_solvent, turn_is_at_the_table,
     };
@@ -110,5 +123,7 @@ mod tests {
         stock_stays_governed();
         governed_has_greatest_presidents();
         presidents_stay_greatest();
+        priority_is_one();
+        first_turn_is_of_priority();
     }
 }
