@@ -6,3 +6,4 @@ pub mod AuctionCounts
 pub mod PartsMove
 pub mod OpenedParts
 pub mod Playing
+pub mod Soundness

@@ -5,9 +5,8 @@ use Rattle.rr_chart.specs.Chart.{Row}
 use Rattle.rr_chart.specs.Reading as chart
 use Rattle.rr_chart.specs.declared.fault.Fault as chart_fault
 use Rattle.rr_roster.specs.Terms.{Terms}
-use Rattle.rr_roster.specs.Spelled as roster
-use Rattle.rr_roster.specs.Rules.{KeepsAll}
-use Rattle.rr_roster.specs.Reading.{IsAnswer, lines_of}
+use Rattle.rr_roster.specs.Reading as roster
+use Rattle.rr_roster.specs.Reading.{IsAnswer}
 use Rattle.rr_roster.specs.declared.fault.Fault as roster_fault
 use Rattle.rr_tiles.specs.Manifest as manifest
 use Rattle.rr_tiles.specs.declared.supply.Supply.{Supply}
@@ -36,8 +35,7 @@ IsChartText text = (rows : List Row) × chart.Spells text rows
 
 -- the text spells this roster, which keeps every rule, and is no longer than a kit's text may be
 pub record IsRosterText (text : List ℕ) (terms : Terms) : Type 0 where
-  pub spelled : roster.Spells text (lines_of terms)
-  pub right : KeepsAll (lines_of terms)
+  pub spelled : roster.SpellsRoster text terms
   pub short : length text ≤ 65536
 
 -- the text spells a manifest

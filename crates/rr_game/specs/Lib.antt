@@ -6,3 +6,4 @@ pub mod Play
 pub mod Parts
 pub mod Keeping
 pub mod Queries
+pub mod Sound

@@ -4,6 +4,7 @@
 mod fault;
 mod game;
 mod kit;
+pub mod laws;
 mod names;
 mod queries;
 

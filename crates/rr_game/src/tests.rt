@@ -2,7 +2,7 @@
 ghost use Rattle.std.specs.Prelude.{◌≡◌, ◌≤◌, true};
 ghost use Rattle.rr_game.specs.Names.{amount_in};
 
-use crate::{Fault, Game, Kit};
+use crate::{Fault, Game, Kit, laws};
 use rr_auction::Due;
 use rr_books::{Cell, Corp, Money, Place, Private, Seat};
 use rr_code::{Account, Command, Owner};
@@ -130,4 +130,11 @@ fn the_first_wrong_text_is_told(rt: HostRuntime) -> Result<(), Fail> {
     }
     assert_eq!(rt; Fault::BadBoard(2).number(), 7);
     Ok(())
+}
+
+#[test]
+fn laws_are_called(_rt: HostRuntime) {
+    laws::sound();
+    laws::kits_name_corporations();
+    laws::plays_go_on();
 }

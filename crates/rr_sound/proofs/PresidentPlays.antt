@@ -10,7 +10,6 @@ use Rattle.rr_roster.specs.declared.company.Private.{Private}
 use Rattle.rr_roster.specs.declared.company.Corp.{Corp}
 use Rattle.rr_roster.specs.Terms.{Terms, IsOrder, order_of}
 use Rattle.rr_chart.specs.Chart.{Row}
-use Rattle.rr_books.specs.declared.parties.Party.TheVariants as P
 use Rattle.rr_books.specs.declared.parties.Place.TheVariants as L
 use Rattle.rr_books.specs.declared.certificates.Cert.{Cert}
 use Rattle.rr_books.specs.declared.certificates.Cert.TheVariants as C
@@ -19,7 +18,7 @@ use Rattle.rr_books.specs.declared.entries.Cell.{Cell}
 use Rattle.rr_books.specs.declared.entries.Entry.TheVariants as E
 use Rattle.rr_books.specs.declared.entries.Marker.TheVariants as M
 use Rattle.rr_books.specs.declared.acts.Act.{Act}
-use Rattle.rr_books.specs.Book.{Book, balance, holder, holder-append, holder-push}
+use Rattle.rr_books.specs.Book.{Book, holder, holder-append, holder-push}
 use Rattle.rr_books.specs.Opening.{kinds, opening_entries, opening_moves, opening_payments, opening_trains, start_of, trains_of}
 use Rattle.rr_books.specs.Shares.{Holders, certificates, is_at, share}
 use Rattle.rr_books.specs.ShareLaws.{share-parts}
@@ -121,16 +120,6 @@ governed_by_bids n roster rows (act ∷ bids) book lawful covered h =
 
 no_less : (m : ℕ) (cash : ℤ) → pos m ≤ℤ cash → pos 0 ≤ℤ cash
 no_less m cash h = omega (arith, ints)
-
--- a covered table is solvent
-pub covered_solvent : (n : ℕ) (book : Book) → IsCoveredBook n book → IsSolvent n book
-covered_solvent n book h =
-    let covered = h.covered in
-    record {
-      seated = h.players;
-      seats = λ s. no_less _ (balance book (P.Seat s)) (covered.seats s);
-      corporations = λ c. covered.corporations c;
-    }
 
 -- and whatever lawful commands of stock rounds follow
 pub governed_by_trades : LawfulSalesMoveShares → (n : ℕ) (roster : Terms) (rows : List Row) (trades : List Act) (book : Book) → 0 < n → n ≤ 6 → AreLawful roster rows book trades → IsSolvent n book → IsGoverned n book → IsGoverned n (with_acts roster rows book trades)

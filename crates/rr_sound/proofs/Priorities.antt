@@ -1,5 +1,5 @@
 -- The auction and the stock rounds agree on priority.
-use Rattle.std.specs.Prelude.{◌≡◌, ℕ, Bool, true, false, [], ◌∷◌, ◌++◌, Option, None, Some, ◌⊎◌, unwrap_or, if◌then◌else◌, ◌||◌, refl}
+use Rattle.std.specs.Prelude.{◌≡◌, ℕ, Bool, true, false, [], ◌∷◌, ◌++◌, ◌⊎◌, unwrap_or, if◌then◌else◌, refl}
 use Rattle.std.specs.List.{list_any}
 use Rattle.std.proofs.Common.{sym, ◌∙◌, ap, append_assoc, append-nil, inl, inr, subst}
 use Rattle.std.proofs.lemmas.Bool.{false≢true, or_parts}

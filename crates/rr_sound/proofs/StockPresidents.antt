@@ -30,7 +30,7 @@ use Rattle.rr_stock.specs.SoldShares.{LawfulSalesMoveShares}
 use Rattle.rr_stock.specs.Situation.{Situation, situation_of}
 use Rattle.rr_sound.specs.Presidencies.{AwaitsPar, IsGoverned, IsLed}
 use Rattle.rr_sound.specs.Sound.{IsSolvent, is_placed, with_act}
-use Rattle.rr_sound.proofs.Going.{moves_within}
+use Rattle.rr_auction.specs.Dealt.{moves_within}
 use Rattle.rr_sound.proofs.StockActs.{goes_by_lawful}
 use Rattle.rr_sound.proofs.Untouched.{IsUntouched, awaits_still, awaiting, leads_still, same_is, spares_none}
 use Rattle.rr_sound.proofs.Bystanders.{done_spares, par_spares, purchase_spares, sale_spares, swap_spares}

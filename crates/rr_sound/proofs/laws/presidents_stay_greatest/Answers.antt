@@ -4,7 +4,8 @@ use Rattle.rr_auction.specs.Opening.{opened}
 use Rattle.rr_auction.proofs.OpenedTable.{covered_opened}
 use Rattle.rr_sound.specs.Play.{auctioned}
 use Rattle.rr_sound.specs.Sound.{with_acts}
-use Rattle.rr_sound.proofs.PresidentPlays.{covered_solvent, governed_at_first, governed_by_bids, governed_by_trades, greatest_where_governed}
+use Rattle.rr_sound.proofs.PresidentPlays.{governed_at_first, governed_by_bids, governed_by_trades, greatest_where_governed}
+use Rattle.rr_sound.proofs.SoundPlays.{solvent_by_cover}
 use Rattle.rr_sound.proofs.laws.presidents_stay_greatest.Goals as goal
 
 pub returns : goal.returns
@@ -14,4 +15,4 @@ returns c roster rows names bids trades order two six lawful_bids lawful_trades 
     let auction = governed_by_bids n roster rows bids (opened names roster) lawful_bids (covered_opened names roster two) (governed_at_first n names roster order) in
     let h = auction.1 in
     greatest_where_governed n (with_acts roster rows book trades)
-    (governed_by_trades c.lawful_sales_move_shares.ensures n roster rows trades book (omega arith) six lawful_trades (covered_solvent n book auction.0) h.governed)
+    (governed_by_trades c.lawful_sales_move_shares.ensures n roster rows trades book (omega arith) six lawful_trades (solvent_by_cover n book auction.0) h.governed)

@@ -1,0 +1,56 @@
+-- A table that is in order whatever commands it accepted.
+use Rattle.std.specs.Prelude.{◌≡◌, ℕ, ◌≤◌, List, [], ◌∷◌, ◌++◌, None, length, ⊤}
+use Rattle.rr_roster.specs.Terms.{IsOrder, order_of}
+use Rattle.rr_books.specs.Book.{Book}
+use Rattle.rr_auction.specs.Opening.{opened}
+use Rattle.rr_auction.specs.SoundMoney.{HasSoundMoney}
+use Rattle.rr_stock.specs.PoolLimits.{HasHalfAtMost}
+use Rattle.rr_sound.specs.Presidencies.{HasGreatestPresidents}
+use Rattle.rr_sound.specs.Sound.{IsDealt}
+use Rattle.rr_code.specs.declared.command.Command.{Command}
+use Rattle.rr_code.specs.declared.command.Command.TheVariants.{Open}
+use Rattle.rr_game.specs.declared.kit.Kit.{Kit}
+use Rattle.rr_game.specs.Kits.{KitTexts, SpellsKit}
+use Rattle.rr_game.specs.Play.{play, played_on, players_of}
+use Rattle.rr_game.specs.Verdict.{command_verdict}
+
+-- the book of a table of n that is in order: bank, seats and corporations have 12,000 together, and no one but the bank
+-- has less than nothing; each certificate has a place of the table; each 20% certificate is in the offering, or with a
+-- player than whom no other has more of the corporation; and the pool has at most half of each
+pub record IsSoundTable (n : ℕ) (book : Book) : Type 0 where
+  pub money : HasSoundMoney n book
+  pub dealt : IsDealt n book
+  pub presidents : HasGreatestPresidents n book
+  pub pool : HasHalfAtMost book
+
+-- none of these commands is refused in the book that those before it made
+abbrev pub AreAccepted : Kit → List (List ℕ) → Book → List Command → Type 0
+AreAccepted kit players book [] = ⊤
+AreAccepted kit players book (command ∷ others) =
+    (command_verdict kit players book command ≡ None) × AreAccepted kit players (played_on kit players book command) others
+
+-- two to six players open a table, and then no command is refused
+abbrev pub ArePlayed : Kit → List Command → Type 0
+ArePlayed kit (Open players ∷ commands) =
+    (2 ≤ length players) × (length players ≤ 6) × AreAccepted kit players (opened players kit.roster) commands
+ArePlayed kit _ = ⊥
+
+-- the kit's roster names each corporation once
+abbrev pub NamesCorporations : Kit → Type 0
+NamesCorporations kit = IsOrder (order_of kit.roster)
+
+-- so does each right kit's
+abbrev pub KitsNameCorporations : Type 0
+KitsNameCorporations = (texts : KitTexts) (kit : Kit) → SpellsKit texts kit → NamesCorporations kit
+
+-- with such a kit, a table is in order whatever commands it is played with
+abbrev pub TablesStaySound : Type 0
+TablesStaySound =
+    (kit : Kit) (commands : List Command) → NamesCorporations kit → ArePlayed kit commands
+    → IsSoundTable (length (players_of commands)) (play kit commands)
+
+-- a play goes on with each command that isn't refused in its book
+abbrev pub PlaysGoOn : Type 0
+PlaysGoOn =
+    (kit : Kit) (commands : List Command) (command : Command) → ArePlayed kit commands
+    → command_verdict kit (players_of commands) (play kit commands) command ≡ None → ArePlayed kit (commands ++ command ∷ [])
