@@ -31,14 +31,14 @@ fn bytes_of(alloc: Global, number: u64) -> Result<Vec<u8>, AllocError>
 fn append_from<D: Disk>(
     alloc: Global,
     disk: &mut D,
-    half: &mut Half,
+    part: &mut Part,
     first: u64,
 ) -> Result<u64, Fail> {
     let mut buffer = RecordBuffer::new(alloc)?;
     let mut last = first.saturating_sub(1);
     for number in first..RECORDS + 1 {
         let bytes = bytes_of(alloc, number)?;
-        if half.append(disk, &mut buffer, number, &bytes).is_err() {
+        if part.append(disk, &mut buffer, number, &bytes).is_err() {
             return Ok(last);
         }
         last = number;
@@ -46,14 +46,14 @@ fn append_from<D: Disk>(
     Ok(last)
 }
 
-// Scans the half: it has the records up to the last acknowledged one, and perhaps the next.
+// Scans the part: it has the records up to the last acknowledged one, and perhaps the next.
 fn check_records<D: Disk>(
     rt: &impl Abort,
     alloc: Global,
     disk: &mut D,
     acknowledged: u64,
-) -> Result<Half, Fail> {
-    let scanned = scan(alloc, disk, HalfIndex::First, 1)?;
+) -> Result<Part, Fail> {
+    let scanned = scan(alloc, disk, PartIndex::First, 1)?;
     let count = scanned.records.len() as u64;
     assert!(rt;
         count == acknowledged || count == acknowledged.saturating_add(1),
@@ -66,7 +66,7 @@ fn check_records<D: Disk>(
         let want = bytes_of(alloc, number)?;
         assert_eq!(rt; bytes.as_slice(), want.as_slice(), "record {number}");
     }
-    Ok(scanned.half)
+    Ok(scanned.part)
 }
 
 // Stops the disk with one choice for every unsynced range but the last.
@@ -105,16 +105,16 @@ fn check_stops(
 }
 
 #[test]
-fn first_record_of_a_new_half(rt: HostRuntime) -> Result<(), Fail> {
+fn first_record_of_a_new_part(rt: HostRuntime) -> Result<(), Fail> {
     let alloc = rt.alloc();
     let mut disk = blank(alloc, 4, 1 << 16)?;
     let mut buffer = RecordBuffer::new(alloc)?;
-    let mut half = Half {
-        index: HalfIndex::First,
+    let mut part = Part {
+        index: PartIndex::First,
         next_slot: 0,
     };
-    half.append(&mut disk, &mut buffer, 1, b"g1 open a b c d")?;
-    assert_eq!(rt; half.next_slot, 1);
+    part.append(&mut disk, &mut buffer, 1, b"g1 open a b c d")?;
+    assert_eq!(rt; part.next_slot, 1);
     let file = disk.content();
     assert_eq!(rt; file.len(), 4 * PAGE);
     assert_eq!(rt; file[8192], 0xa5);
@@ -125,9 +125,28 @@ fn first_record_of_a_new_half(rt: HostRuntime) -> Result<(), Fail> {
     ];
     assert_eq!(rt; &file[8205..8220], line.as_slice());
     assert_eq!(rt; file[12288], 0);
-    let scanned = scan(alloc, &mut disk, HalfIndex::First, 1)?;
-    assert_eq!(rt; scanned.half, half);
+    let scanned = scan(alloc, &mut disk, PartIndex::First, 1)?;
+    assert_eq!(rt; scanned.part, part);
     assert_eq!(rt; scanned.records.len(), 1);
+    Ok(())
+}
+
+#[test]
+fn parts_follow_one_another(rt: HostRuntime) -> Result<(), Fail> {
+    let table = [
+        (PartIndex::First, Some(PartIndex::Second), 8_192),
+        (PartIndex::Second, Some(PartIndex::Third), 1_056_768),
+        (PartIndex::Third, Some(PartIndex::Fourth), 2_375_680),
+        (PartIndex::Fourth, None, 3_424_256),
+    ];
+    for (index, next, gate) in table {
+        assert_eq!(&rt; index.next(), next);
+        let part = Part {
+            index,
+            next_slot: 0,
+        };
+        assert_eq!(&rt; part.next_gate(), gate);
+    }
     Ok(())
 }
 
@@ -138,24 +157,24 @@ fn slot_255_holds_nothing(rt: HostRuntime) -> Result<(), Fail> {
     let mut buffer = RecordBuffer::new(alloc)?;
     let long = vec![in alloc; 7u8; 8179]?;
     let longer = vec![in alloc; 7u8; 8180]?;
-    let mut half = Half {
-        index: HalfIndex::Second,
+    let mut part = Part {
+        index: PartIndex::Second,
         next_slot: 254,
     };
-    let refused = half.append(&mut disk, &mut buffer, 1, &long);
+    let refused = part.append(&mut disk, &mut buffer, 1, &long);
     assert_eq!(rt; refused, Err(Fault::HalfFull));
-    assert_eq!(rt; half.next_slot, 254);
-    half.next_slot = 253;
-    assert!(rt; half.has_room(8179) && !half.has_room(8180) && !half.has_room(0));
-    assert_eq!(rt; half.next_gate(), 2_093_056);
+    assert_eq!(rt; part.next_slot, 254);
+    part.next_slot = 253;
+    assert!(rt; part.has_room(8179) && !part.has_room(8180) && !part.has_room(0));
+    assert_eq!(rt; part.next_gate(), 2_093_056);
     assert_eq!(rt;
-        half.append(&mut disk, &mut buffer, 1, &longer),
+        part.append(&mut disk, &mut buffer, 1, &longer),
         Err(Fault::HalfFull)
     );
-    half.append(&mut disk, &mut buffer, 1, &long)?;
-    assert_eq!(rt; half.next_slot, 255);
+    part.append(&mut disk, &mut buffer, 1, &long)?;
+    assert_eq!(rt; part.next_slot, 255);
     assert_eq!(rt;
-        half.append(&mut disk, &mut buffer, 2, b"one more"),
+        part.append(&mut disk, &mut buffer, 2, b"one more"),
         Err(Fault::HalfFull)
     );
     Ok(())
@@ -166,28 +185,28 @@ fn scan_says_why_it_ended(rt: HostRuntime) -> Result<(), Fail> {
     let alloc = rt.alloc();
     let mut disk = blank(alloc, 5, 1 << 16)?;
     let mut buffer = RecordBuffer::new(alloc)?;
-    let mut half = Half {
-        index: HalfIndex::First,
+    let mut part = Part {
+        index: PartIndex::First,
         next_slot: 0,
     };
-    half.append(&mut disk, &mut buffer, 6, b"six")?;
-    half.append(&mut disk, &mut buffer, 8, b"eight")?;
-    let other = scan(alloc, &mut disk, HalfIndex::First, 6)?;
+    part.append(&mut disk, &mut buffer, 6, b"six")?;
+    part.append(&mut disk, &mut buffer, 8, b"eight")?;
+    let other = scan(alloc, &mut disk, PartIndex::First, 6)?;
     assert_eq!(rt; other.end, RunEnd::OtherNumber);
     assert_eq!(rt; other.records.len(), 1);
-    assert_eq!(rt; other.half.next_slot, 1);
+    assert_eq!(rt; other.part.next_slot, 1);
     disk.write_at(12288 + 8, &[7])?;
     assert_eq!(rt;
-        scan(alloc, &mut disk, HalfIndex::First, 6)?.records.len(),
+        scan(alloc, &mut disk, PartIndex::First, 6)?.records.len(),
         2
     );
     // The second record of length 0, and then of 8,180 bytes.
     disk.write_at(12288 + 9, &[0, 0, 0, 0])?;
-    let empty = scan(alloc, &mut disk, HalfIndex::First, 6)?;
+    let empty = scan(alloc, &mut disk, PartIndex::First, 6)?;
     assert_eq!(rt; empty.end, RunEnd::Damaged);
     assert_eq!(rt; empty.records.len(), 1);
     disk.write_at(12288 + 9, &[0, 0, 0x1f, 0xf4])?;
-    let long = scan(alloc, &mut disk, HalfIndex::First, 6)?;
+    let long = scan(alloc, &mut disk, PartIndex::First, 6)?;
     assert_eq!(rt; long.end, RunEnd::Damaged);
     assert_eq!(rt; long.records.len(), 1);
     Ok(())
@@ -198,7 +217,7 @@ fn check_append(
     rt: &impl Abort,
     alloc: Global,
     file: &[u8],
-    half: Half,
+    part: Part,
     number: u64,
     calls: u64,
     within: bool,
@@ -209,12 +228,12 @@ fn check_append(
     } else {
         FaultyDisk::after(disk, calls)
     };
-    let mut stopped = half;
+    let mut stopped = part;
     let mut buffer = RecordBuffer::new(alloc)?;
     let bytes = bytes_of(alloc, number)?;
     let result = stopped.append(&mut faulty, &mut buffer, number, &bytes);
     assert_eq!(rt; result, Err(Fault::Disk(rr_disk::Fault::DeviceFailed)));
-    assert_eq!(rt; stopped, half);
+    assert_eq!(rt; stopped, part);
     check_stops(rt, alloc, &faulty.into_inner(), number.saturating_sub(1))
 }
 
@@ -223,17 +242,17 @@ fn every_stop_leaves_what_was_acknowledged(rt: HostRuntime) -> Result<(), Fail> 
     let alloc = rt.alloc();
     let mut disk = blank(alloc, 58, ROOM)?;
     let mut buffer = RecordBuffer::new(alloc)?;
-    let mut half = Half {
-        index: HalfIndex::First,
+    let mut part = Part {
+        index: PartIndex::First,
         next_slot: 0,
     };
     for number in 1..RECORDS + 1 {
         for calls in 0..4 {
-            check_append(&rt, alloc, disk.content(), half, number, calls, false)?;
-            check_append(&rt, alloc, disk.content(), half, number, calls, true)?;
+            check_append(&rt, alloc, disk.content(), part, number, calls, false)?;
+            check_append(&rt, alloc, disk.content(), part, number, calls, true)?;
         }
         let bytes = bytes_of(alloc, number)?;
-        half.append(&mut disk, &mut buffer, number, &bytes)?;
+        part.append(&mut disk, &mut buffer, number, &bytes)?;
         check_stops(&rt, alloc, &disk, number)?;
     }
     Ok(())
@@ -245,17 +264,17 @@ fn every_call_fails_once(rt: HostRuntime) -> Result<(), Fail> {
     for calls in 0..4 * RECORDS {
         let disk = blank(alloc, 58, ROOM)?;
         let mut disk = FaultyDisk::once(disk, calls, 3);
-        let mut half = Half {
-            index: HalfIndex::First,
+        let mut part = Part {
+            index: PartIndex::First,
             next_slot: 0,
         };
-        let acknowledged = append_from(alloc, &mut disk, &mut half, 1)?;
+        let acknowledged = append_from(alloc, &mut disk, &mut part, 1)?;
         assert_eq!(&rt; acknowledged, calls / 4);
-        // Opened again, the half goes on with what it has.
+        // Opened again, the part goes on with what it has.
         disk.sync()?;
-        let mut half = check_records(&rt, alloc, &mut disk, acknowledged)?;
-        let next = scan(alloc, &mut disk, HalfIndex::First, 1)?.records.len() as u64;
-        let last = append_from(alloc, &mut disk, &mut half, next.saturating_add(1))?;
+        let mut part = check_records(&rt, alloc, &mut disk, acknowledged)?;
+        let next = scan(alloc, &mut disk, PartIndex::First, 1)?.records.len() as u64;
+        let last = append_from(alloc, &mut disk, &mut part, next.saturating_add(1))?;
         assert_eq!(&rt; last, RECORDS);
         check_records(&rt, alloc, &mut disk, RECORDS)?;
     }
@@ -265,7 +284,7 @@ fn every_call_fails_once(rt: HostRuntime) -> Result<(), Fail> {
 #[test]
 fn faults_have_their_numbers(rt: HostRuntime) -> Result<(), Fail> {
     let alloc = rt.alloc();
-    halves_have_one_run();
+    parts_have_one_run();
     let device = Fault::Disk(rr_disk::Fault::DeviceFailed);
     let table = [
         (Fault::HalfFull, 61, "half full"),
@@ -278,7 +297,7 @@ fn faults_have_their_numbers(rt: HostRuntime) -> Result<(), Fail> {
     }
     let mut disk = blank(alloc, 1, 1 << 13)?;
     assert_eq!(&rt;
-        scan(alloc, &mut disk, HalfIndex::First, 1).err(),
+        scan(alloc, &mut disk, PartIndex::First, 1).err(),
         Some(device)
     );
     Ok(())

@@ -16,7 +16,7 @@ root_on a b same is =
       open_gate = same 0 (omega arith) ∙ is.open_gate;
       number = number_from-same a b 1 8 (λ i low high. same i (omega arith)) ∙ is.number;
       directory = number_from-same a b 9 8 (λ i low high. same i (omega arith)) ∙ is.directory;
-      half = same 17 (omega arith) ∙ is.half;
+      part = same 17 (omega arith) ∙ is.part;
       first_record = number_from-same a b 18 8 (λ i low high. same i (omega arith)) ∙ is.first_record;
       version = number_from-same a b 34 2 (λ i low high. same i (omega arith)) ∙ is.version;
     }
@@ -55,22 +55,22 @@ one_kit file place a b is_a is_b =
     λ i. record { chart = chart i; roster = roster i; tiles = tiles i; board = board i }
 
 -- texts stand on their bytes
-pub text_on : (a b : List ℕ) (place : ℕ) (text : List ℕ) → ((i : ℕ) → place ≤ i → i < length a → slice_index b i ≡ slice_index a i) → length a ≤ length b → IsTextAt a place text → IsTextAt b place text
+pub text_on : (a b : List ℕ) (place : ℕ) (text : List ℕ) → ((i : ℕ) → place ≤ i → i < behind place text → slice_index b i ≡ slice_index a i) → length a ≤ length b → IsTextAt a place text → IsTextAt b place text
 text_on a b place text same longer is =
     record {
       short = is.short;
       within = omega (arith, is.within);
-      count = number_from-same a b place 4 (λ i low high. same i low (omega (arith, is.within))) ∙ is.count;
-      standing = λ i h. same (place + 4 + i) (omega arith) (omega (arith, is.within)) ∙ is.standing i h;
+      count = number_from-same a b place 4 (λ i low high. same i low (omega arith)) ∙ is.count;
+      standing = λ i h. same (place + 4 + i) (omega arith) (omega arith) ∙ is.standing i h;
     }
 
-pub kit_on : (a b : List ℕ) (place : ℕ) (kit : Kit) → ((i : ℕ) → place ≤ i → i < length a → slice_index b i ≡ slice_index a i) → length a ≤ length b → IsKitAt a place kit → IsKitAt b place kit
+pub kit_on : (a b : List ℕ) (place : ℕ) (kit : Kit) → ((i : ℕ) → place ≤ i → i < behind_kit place kit → slice_index b i ≡ slice_index a i) → length a ≤ length b → IsKitAt a place kit → IsKitAt b place kit
 kit_on a b place kit same longer is =
     record {
-      chart = text_on a b place kit.chart same longer is.chart;
-      roster = text_on a b (behind place kit.chart) kit.roster (λ i low high. same i (omega arith) high) longer is.roster;
-      tiles = text_on a b (behind (behind place kit.chart) kit.roster) kit.tiles (λ i low high. same i (omega arith) high) longer is.tiles;
-      board = text_on a b (behind (behind (behind place kit.chart) kit.roster) kit.tiles) kit.board (λ i low high. same i (omega arith) high) longer is.board;
+      chart = text_on a b place kit.chart (λ i low high. same i low (omega arith)) longer is.chart;
+      roster = text_on a b (behind place kit.chart) kit.roster (λ i low high. same i (omega arith) (omega arith)) longer is.roster;
+      tiles = text_on a b (behind (behind place kit.chart) kit.roster) kit.tiles (λ i low high. same i (omega arith) (omega arith)) longer is.tiles;
+      board = text_on a b (behind (behind (behind place kit.chart) kit.roster) kit.tiles) kit.board (λ i low high. same i (omega arith) (omega arith)) longer is.board;
     }
 
 -- how many bytes the spellings have

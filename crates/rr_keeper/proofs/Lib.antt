@@ -1,4 +1,4 @@
-pub mod Halves
+pub mod Parts
 pub mod Kits
 pub mod Places
 pub mod Slots

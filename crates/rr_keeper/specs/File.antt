@@ -1,10 +1,10 @@
 -- The form of the file. Numbers are big-endian.
-use Rattle.std.specs.Prelude.{◌≡◌, ◌≢◌, ℕ, ◌+◌, ◌*◌, ◌<◌, ◌≤◌, List, [], ◌++◌, length, slice_index}
+use Rattle.std.specs.Prelude.{◌≡◌, ◌≢◌, ℕ, ◌+◌, ◌*◌, ◌<◌, ◌≤◌, ◌⊎◌, List, [], ◌∷◌, ◌++◌, length, slice_index}
 use Rattle.byteorder.specs.Endian.{big_from, big_bytes}
-use Rattle.rr_journal.specs.declared.layout.HalfIndex.TheVariants.{First, Second}
+use Rattle.rr_journal.specs.declared.layout.PartIndex.{PartIndex}
 use Rattle.rr_journal.specs.declared.reading.RunEnd.{RunEnd}
 use Rattle.rr_journal.specs.declared.reading.RunEnd.TheVariants.{Closed}
-use Rattle.rr_journal.specs.Layout.{StandsAt}
+use Rattle.rr_journal.specs.Layout.{StandsAt, all_parts}
 use Rattle.rr_journal.specs.Run.{Run}
 
 -- the texts of a kit
@@ -18,12 +18,12 @@ pub record Kit : Type 0 where
 unfoldable pub number_from : List ℕ → ℕ → ℕ → ℕ
 number_from file place count = big_from place count file
 
--- page 0 is an open root with these fields: number, directory page, half, first record number, version
+-- page 0 is an open root with these fields: number, directory page, part, first record number, version
 pub record IsRoot (file : List ℕ) : Type 0 where
   pub open_gate : slice_index file 0 ≡ 0xa5
   pub number : number_from file 1 8 ≡ 1
   pub directory : number_from file 9 8 ≡ 514
-  pub half : slice_index file 17 ≡ 0
+  pub part : slice_index file 17 ≡ 0
   pub first_record : number_from file 18 8 ≡ 1
   pub version : number_from file 34 2 ≡ 0
 
@@ -49,37 +49,45 @@ pub record IsKitAt (file : List ℕ) (place : ℕ) (kit : Kit) : Type 0 where
 abbrev pub behind_kit : ℕ → Kit → ℕ
 behind_kit place kit = behind (behind (behind (behind place kit.chart) kit.roster) kit.tiles) kit.board
 
--- the byte where page 514 begins
+-- the byte where page 514 begins, and how many bytes a file has: 1,092 pages
 abbrev pub kit_place : ℕ
 kit_place = 2105344
 
--- The near lines' records stand in the journal's first half, up to a shut slot, and the far lines' in its second, which
--- ends so behind them. They are numbered on from 1.
-pub record HasHalves (file : List ℕ) (near far : List (List ℕ)) (end : RunEnd) : Type 0 where
-  pub first : Run file First 0 1 near Closed
-  pub second : Run file Second 0 (1 + length near) far end
+abbrev pub file_length : ℕ
+file_length = 4472832
 
--- The journal holds the records of these lines, and ends so behind them. Its second half counts only where the first ends
--- at a shut slot.
-pub data HasRecords (file : List ℕ) (lines : List (List ℕ)) (end : RunEnd) : Type 0 where
-  In_halves : (near far : List (List ℕ)) → lines ≡ near ++ far → HasHalves file near far end → HasRecords file lines end
-  In_first : end ≢ Closed → Run file First 0 1 lines end → HasRecords file lines end
+-- the near lines' records stand in one part, up to a shut slot, and the far lines' in the parts behind it
+pub record GoesOn (file : List ℕ) (part : PartIndex) (Behind : ℕ → List (List ℕ) → RunEnd → Type 0) (number : ℕ) (lines : List (List ℕ)) (end : RunEnd) : Type 0 where
+  pub near : List (List ℕ)
+  pub far : List (List ℕ)
+  pub joined : lines ≡ near ++ far
+  pub first : Run file part 0 number near Closed
+  pub second : Behind (number + length near) far end
 
--- the file holds this kit and the records of these lines, and the journal ends so behind them
+-- These parts, one after another, hold the records of these lines, of this number and one more each, and end so behind them.
+-- A part counts only where the one before it ends at a shut slot.
+unfoldable pub HasRecords : List ℕ → List PartIndex → ℕ → List (List ℕ) → RunEnd → Type 0
+HasRecords file [] number lines end = (lines ≡ []) × (end ≡ Closed)
+HasRecords file (part ∷ parts) number lines end =
+    ((end ≢ Closed) × Run file part 0 number lines end) ⊎ GoesOn file part (HasRecords file parts) number lines end
+
+-- the file holds this kit and the records of these lines, numbered on from 1, and the journal ends so behind them
 pub record HasForm (file : List ℕ) (kit : Kit) (lines : List (List ℕ)) (end : RunEnd) : Type 0 where
+  pub long : file_length ≤ length file
   pub root : IsRoot file
   pub texts : IsKitAt file kit_place kit
-  pub records : HasRecords file lines end
+  pub records : HasRecords file all_parts 1 lines end
 
 -- the file is a store with this kit and the records of these lines
 abbrev pub IsStore : List ℕ → Kit → List (List ℕ) → Type 0
 IsStore file kit lines = HasForm file kit lines Closed
 
--- The file is a new store: it has no record, it is whole pages, as many as its root counts, and all else in it is zeros.
+-- The file is a new store: it has no record, it is as long as a store has to be, in the pages that its root counts, and all
+-- but its root and its kit is zeros.
 pub record IsNewStore (file : List ℕ) (kit : Kit) : Type 0 where
   pub store : IsStore file kit []
-  pub pages : 4096 * number_from file 26 8 ≡ length file
-  pub no_longer : length file < behind_kit kit_place kit + 4096
+  pub no_longer : length file ≡ file_length
+  pub pages : 4096 * number_from file 26 8 ≡ file_length
   pub before_kit : (i : ℕ) → 36 ≤ i → i < kit_place → slice_index file i ≡ 0
   pub behind : (i : ℕ) → behind_kit kit_place kit ≤ i → slice_index file i ≡ 0
 

@@ -1,6 +1,6 @@
 pub mod Fault
 pub mod File
-pub mod Halves
+pub mod Parts
 pub mod Keeper
 pub mod Lent
 pub mod Opening

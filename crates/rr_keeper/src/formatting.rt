@@ -8,11 +8,12 @@ ghost use Rattle.rr_keeper.specs.Lent.{lent_kit};
 use crate::device::put;
 use crate::fault::Fault;
 use crate::root::root_of;
-use crate::texts::{KIT_PAGE, KIT_PLACE, Texts, spell_kit};
+use crate::texts::{FILE_PAGES, KIT_PLACE, Texts, spell_kit};
 use rr_disk::Disk;
 use std::alloc::Global;
 
-/// Makes a store without a record of an empty file: the kit's texts first, and then the root that makes them count.
+/// Makes a store without a record of an empty file: the kit's texts and the zeros behind them first, and then the root that
+/// makes them count.
 ///
 /// A file that isn't empty is refused as `NotEmpty` and stays as it is, and so does an empty one where memory was wanted.
 /// After `DeviceFailed`, or a stop within the call, the file may hold anything.
@@ -44,8 +45,7 @@ pub fn format<D: Disk>(alloc: Global, disk: &mut D, texts: Texts<'_>) -> Result<
         return Err(Fault::NotEmpty);
     }
     let kit = spell_kit(alloc, texts)?;
-    let pages = KIT_PAGE + kit.len() as u64 / 4096;
     put(disk, KIT_PLACE, &kit)?;
-    put(disk, 0, &root_of(pages))?;
+    put(disk, 0, &root_of(FILE_PAGES))?;
     Ok(())
 }

@@ -5,36 +5,36 @@ ghost use Rattle.rr_journal.specs.Layout.{HasRoom, start_page, slots_for, spelli
 ghost use Rattle.rr_journal.specs.Stops.{next_gate};
 ghost use Rattle.rr_keeper.specs.Fault.{CountsFault};
 ghost use Rattle.rr_keeper.specs.File.{Kit, IsStore};
-ghost use Rattle.rr_keeper.specs.Halves.{gone_on, place_for, HasPlace};
+ghost use Rattle.rr_keeper.specs.Parts.{gone_on, place_for, HasPlace};
 
 use crate::fault::Fault;
 use rr_disk::Disk;
-use rr_journal::{Half, HalfIndex, RecordBuffer};
+use rr_journal::{Part, RecordBuffer};
 
 /// An open store: the disk, and where the next line goes.
 #[derive(Drop)]
 pub struct Keeper<D: Drop> {
     disk: D,
-    half: Half,
+    part: Part,
     buffer: RecordBuffer,
     next_number: u64,
     broken: bool,
-    ghost few: { next_number < start_page half.index + half.next_slot },
+    ghost few: { next_number < start_page part.index + part.next_slot },
 }
 
 impl<D: Disk + Drop> Keeper<D> {
-    ghost use Rattle.rr_keeper.specs.Keeper.{disk_of, half_of, number_of_next, is_broken, IsUnchanged, Keeps};
+    ghost use Rattle.rr_keeper.specs.Keeper.{disk_of, part_of, number_of_next, is_broken, IsUnchanged, Keeps};
 
-    pub(crate) fn new(disk: D, half: Half, buffer: RecordBuffer, next_number: u64) -> Keeper<D>
-        requires { next_number < start_page half.index + half.next_slot }
+    pub(crate) fn new(disk: D, part: Part, buffer: RecordBuffer, next_number: u64) -> Keeper<D>
+        requires { next_number < start_page part.index + part.next_slot }
         ensures disk { disk_of result ≡ disk }
-        ensures half { half_of result ≡ half }
+        ensures part { part_of result ≡ part }
         ensures number { number_of_next result ≡ next_number }
         ensures whole { is_broken result ≡ false }
     {
         Keeper {
             disk,
-            half,
+            part,
             buffer,
             next_number,
             broken: false,
@@ -43,9 +43,9 @@ impl<D: Disk + Drop> Keeper<D> {
 
     /// Appends a line's record. After `Ok` the line is safe on the disk. It takes no memory.
     ///
-    /// Where the first half of the journal has no room, lines go on in the second, and stay there. `HalfFull` where that
-    /// has none either, and `OpenAgain` where a device call failed before: then nothing has changed. After `DeviceFailed`
-    /// the line may be on the disk or not, and the keeper is broken.
+    /// Where the part of the journal under way has no room, lines go on in the next, and stay there. `HalfFull` where none
+    /// is left, and `OpenAgain` where a device call failed before: then nothing has changed. After `DeviceFailed` the line
+    /// may be on the disk or not, and the keeper is broken.
     pub fn append(&mut self, line: &[u8]) -> Result<(), Fault>
         requires { 0 < length line.now }
 
@@ -70,18 +70,18 @@ impl<D: Disk + Drop> Keeper<D> {
         // The whole record was written, and synced.
         ensures written { OnOk result (D.Honest (disk_of self.new)
             → D.state (disk_of self.new) ≡ after_sync (after_write (D.state (disk_of self.old))
-            (next_gate (place_for (half_of self.old) (length line.now)))
+            (next_gate (place_for (part_of self.old) (length line.now)))
             (spelling (number_of_next self.old) line.now))) }
-        ensures half { OnOk result (half_of self.new ≡ record {
-          index = (place_for (half_of self.old) (length line.now)).index;
-          next_slot = (place_for (half_of self.old) (length line.now)).next_slot + slots_for (length line.now);
+        ensures part { OnOk result (part_of self.new ≡ record {
+          index = (place_for (part_of self.old) (length line.now)).index;
+          next_slot = (place_for (part_of self.old) (length line.now)).next_slot + slots_for (length line.now);
         }) }
         ensures number { OnOk result (number_of_next self.new ≡ number_of_next self.old + 1) }
 
         // When each refusal comes, and what it leaves.
         ensures again { IsErrOf result Fault.OpenAgain ↔ IsTrue (is_broken self.old) }
         ensures full { IsErrOf result Fault.HalfFull
-            ↔ ((is_broken self.old ≡ false) × (HasPlace (half_of self.old) (length line.now) → ⊥)) }
+            ↔ ((is_broken self.old ≡ false) × (HasPlace (part_of self.old) (length line.now) → ⊥)) }
         ensures unchanged { (result ≡ Err Fault.OpenAgain) ⊎ (result ≡ Err Fault.HalfFull)
             → IsUnchanged self.old self.new }
         ensures kept { IsErrOf result Fault.HalfFull
@@ -100,10 +100,10 @@ impl<D: Disk + Drop> Keeper<D> {
         if self.broken {
             return Err(Fault::OpenAgain);
         }
-        let mut half = place_for(&self.half, line.len());
-        match half.append(&mut self.disk, &mut self.buffer, self.next_number, line) {
+        let mut part = place_for(&self.part, line.len());
+        match part.append(&mut self.disk, &mut self.buffer, self.next_number, line) {
             Ok(()) => {
-                self.half = half;
+                self.part = part;
                 self.next_number += 1;
                 Ok(())
             }
@@ -131,28 +131,28 @@ impl<D: Disk + Drop> Keeper<D> {
     }
 }
 
-// Where a line of so many bytes goes: in the half under way, or else, behind the first, at the start of the second.
-fn place_for(half: &Half, count: usize) -> Half
-    ensures place { HasRoom result.next_slot count → result ≡ place_for half.now count }
-    ensures room { HasRoom result.next_slot count ↔ HasPlace half.now count }
-    ensures pages { start_page half.now.index + half.now.next_slot ≤ start_page result.index + result.next_slot }
+// Where a line of so many bytes goes: in the part under way, or else at the start of the next.
+fn place_for(part: &Part, count: usize) -> Part
+    ensures place { HasRoom result.next_slot count → result ≡ place_for part.now count }
+    ensures room { HasRoom result.next_slot count ↔ HasPlace part.now count }
+    ensures pages { start_page part.now.index + part.now.next_slot ≤ start_page result.index + result.next_slot }
 {
-    if half.has_room(count) {
-        return *half;
+    if part.has_room(count) {
+        return *part;
     }
-    gone_on(*half)
+    gone_on(*part)
 }
 
-// Where records go on where a half has no room.
-fn gone_on(half: Half) -> Half
-    ensures next { result ≡ gone_on half.index half }
-    ensures pages { start_page half.index + half.next_slot ≤ start_page result.index + result.next_slot }
+// Where records go on where a part has no room.
+fn gone_on(part: Part) -> Part
+    ensures next { result ≡ gone_on part }
+    ensures pages { start_page part.index + part.next_slot ≤ start_page result.index + result.next_slot }
 {
-    match half.index {
-        HalfIndex::First => Half {
-            index: HalfIndex::Second,
+    match part.index.next() {
+        Some(index) => Part {
+            index,
             next_slot: 0,
         },
-        HalfIndex::Second => half,
+        None => part,
     }
 }

@@ -1,7 +1,7 @@
 //! The file of a club's tables: a root page, the journal of accepted lines, and the four texts of the kit.
 //!
-//! Pages have 4,096 bytes and numbers are big-endian. Page 0 is the root, pages 2 to 257 are the journal's first half,
-//! pages 258 to 513 its second, and the texts begin with page 514.
+//! Pages have 4,096 bytes and numbers are big-endian. Page 0 is the root. The journal has four parts, used one after
+//! another: pages 2 to 257, 258 to 513, 580 to 835, and 836 to 1091, where the file ends. The texts begin with page 514.
 #![tactic(auto)]
 
 mod device;

@@ -1,11 +1,11 @@
 ghost use Rattle.std.specs.Prelude.{◌≡◌, ◌+◌, ◌^◌, ◌<◌, ◌≤◌, ◌∷◌, ◌++◌, List, false, ℕ, length, vec_len, OnOk, OnErr, IfOk, IfErr, IsErrOf, IsOkUnless};
 ghost use Rattle.rr_disk.specs.Disk.{IsAt, after_sync, counted};
-ghost use Rattle.rr_journal.specs.Layout.{start_page};
+ghost use Rattle.rr_journal.specs.Layout.{start_page, all_parts, parts_before, parts_behind};
 ghost use Rattle.rr_journal.specs.Reading.{lines};
 ghost use Rattle.rr_journal.specs.Run.{Run, slots_of};
 ghost use Rattle.rr_keeper.specs.Fault.{Counts, CountsFault};
-ghost use Rattle.rr_keeper.specs.File.{Kit, IsRoot, IsTextAt, IsKitAt, HasRecords, IsStore, number_from, kit_place};
-ghost use Rattle.rr_keeper.specs.Halves.{Continues};
+ghost use Rattle.rr_keeper.specs.File.{Kit, IsRoot, IsTextAt, IsKitAt, HasRecords, IsStore, number_from, file_length, kit_place};
+ghost use Rattle.rr_keeper.specs.Parts.{Continues, ContinuesFrom};
 ghost use Rattle.rr_keeper.specs.Keeper.{disk_of, is_broken, Keeps};
 ghost use Rattle.rr_keeper.specs.Opening.{kit_of, Refuses, IsOfReading, SyncsOnce};
 
@@ -14,9 +14,9 @@ use crate::fault::Fault;
 use crate::keeper::Keeper;
 use crate::numbers::u32_from;
 use crate::root::{ROOT_BYTES, is_root};
-use crate::texts::{KIT_PLACE, KitTexts, TEXT_LIMIT};
+use crate::texts::{FILE_BYTES, KIT_PLACE, KitTexts, TEXT_LIMIT};
 use rr_disk::Disk;
-use rr_journal::{Half, HalfIndex, RecordBuffer, RunEnd, Scanned, scan};
+use rr_journal::{Part, PartIndex, RecordBuffer, RunEnd, Scanned, scan};
 use std::alloc::Global;
 
 /// What an opening gives.
@@ -38,7 +38,7 @@ pub struct Refused<D: Drop> {
 /// What an opening reads.
 struct Found {
     buffer: RecordBuffer,
-    half: Half,
+    part: Part,
     texts: KitTexts,
     lines: Vec<Vec<u8>>,
 }
@@ -83,13 +83,13 @@ pub fn open<D: Disk + Drop>(alloc: Global, mut disk: D) -> Result<Opened<D>, Ref
         Ok(found) => {
             let Found {
                 buffer,
-                half,
+                part,
                 texts,
                 lines,
             } = found;
             let next_number = 1 + lines.len() as u64;
             Ok(Opened {
-                keeper: Keeper::new(disk, half, buffer, next_number),
+                keeper: Keeper::new(disk, part, buffer, next_number),
                 texts,
                 lines,
             })
@@ -102,8 +102,8 @@ fn read_store<D: Disk>(alloc: Global, disk: &mut D) -> Result<Found, Fault>
     ensures store { IfOk result (λ found. D.Honest disk.new
         → IsStore (D.state disk.old).content (kit_of found.texts) (lines found.lines.items)) }
     ensures next { IfOk result (λ found. D.Honest disk.new
-        → Continues (D.state disk.old).content (lines found.lines.items) found.half) }
-    ensures few { IfOk result (λ found. 1 + vec_len found.lines < start_page found.half.index + found.half.next_slot) }
+        → Continues (D.state disk.old).content (lines found.lines.items) found.part) }
+    ensures few { IfOk result (λ found. 1 + vec_len found.lines < start_page found.part.index + found.part.next_slot) }
     ensures refused { IfErr result (Refuses (D.Honest disk.new) (D.state disk.old).content) }
 
     ensures synced { OnOk result (D.Honest disk.new
@@ -124,7 +124,7 @@ fn read_store<D: Disk>(alloc: Global, disk: &mut D) -> Result<Found, Fault>
     match scanned.end {
         RunEnd::Closed => Ok(Found {
             buffer,
-            half: scanned.half,
+            part: scanned.part,
             texts,
             lines: scanned.records,
         }),
@@ -135,8 +135,9 @@ fn read_store<D: Disk>(alloc: Global, disk: &mut D) -> Result<Found, Fault>
 
 fn read_root<D: Disk>(disk: &mut D) -> Result<(), Fault>
     ensures found { OnOk result (D.Honest disk.new → IsRoot (D.state disk.old).content) }
+    ensures long { OnOk result (D.Honest disk.new → file_length ≤ length (D.state disk.old).content) }
     ensures none { IsErrOf result Fault.NotAStore → D.Honest disk.new
-        → IsRoot (D.state disk.old).content → length (D.state disk.old).content < kit_place }
+        → IsRoot (D.state disk.old).content → length (D.state disk.old).content < file_length }
     ensures only { IfErr result IsOfReading }
 
     ensures fault { CountsFault (D.fault_count disk.old) (D.fault_count disk.new) result }
@@ -145,7 +146,7 @@ fn read_root<D: Disk>(disk: &mut D) -> Result<(), Fault>
     ensures same_past { D.Honest disk.new → D.past disk.new ≡ D.past disk.old }
     ensures writes { D.write_count disk.new ≡ D.write_count disk.old }
 {
-    if disk.len() < KIT_PLACE {
+    if disk.len() < FILE_BYTES {
         return Err(Fault::NotAStore);
     }
     let mut root = [0u8; ROOT_BYTES];
@@ -265,14 +266,14 @@ fn behind(place: u64, text: &[u8]) -> u64
     place + 4 + text.len() as u64
 }
 
-// The records of the journal: those of the first half, and, where they end at a shut slot, those of the second.
+// The records of the journal.
 fn read_records<D: Disk>(alloc: Global, disk: &mut D) -> Result<Scanned, Fault>
     ensures found { IfOk result (λ scanned. D.Honest disk.new
-        → HasRecords (D.state disk.old).content (lines scanned.records.items) scanned.end) }
+        → HasRecords (D.state disk.old).content all_parts 1 (lines scanned.records.items) scanned.end) }
     ensures next { IfOk result (λ scanned. scanned.end ≡ RunEnd.Closed → D.Honest disk.new
-        → Continues (D.state disk.old).content (lines scanned.records.items) scanned.half) }
+        → Continues (D.state disk.old).content (lines scanned.records.items) scanned.part) }
     ensures few { IfOk result (λ scanned.
-        1 + vec_len scanned.records < start_page scanned.half.index + scanned.half.next_slot) }
+        1 + vec_len scanned.records < start_page scanned.part.index + scanned.part.next_slot) }
     ensures only { IfErr result IsOfReading }
     ensures never_none { IsErrOf result Fault.NotAStore → ⊥ }
 
@@ -282,31 +283,63 @@ fn read_records<D: Disk>(alloc: Global, disk: &mut D) -> Result<Scanned, Fault>
     ensures same_past { D.Honest disk.new → D.past disk.new ≡ D.past disk.old }
     ensures writes { D.write_count disk.new ≡ D.write_count disk.old }
 {
-    let near = read_half(alloc, disk, HalfIndex::First, 1)?;
+    let scanned = read_from(alloc, disk, PartIndex::First, 1)?;
+    Ok(scanned)
+}
+
+// The records of a part, of this number and one more each, and, where they end at a shut slot, those of the parts behind it.
+fn read_from<D: Disk>(
+    alloc: Global,
+    disk: &mut D,
+    index: PartIndex,
+    first_number: u64,
+) -> Result<Scanned, Fault>
+    requires { first_number < start_page index }
+    ensures found { IfOk result (λ scanned. D.Honest disk.new
+        → HasRecords (D.state disk.old).content (index ∷ parts_behind index) first_number (lines scanned.records.items) scanned.end) }
+    ensures next { IfOk result (λ scanned. scanned.end ≡ RunEnd.Closed → D.Honest disk.new
+        → (begun : List (List ℕ)) → first_number ≡ 1 + length begun
+        → HasRecords (D.state disk.old).content (parts_before index) 1 begun RunEnd.Closed
+        → ContinuesFrom (D.state disk.old).content index begun (lines scanned.records.items) scanned.part) }
+    ensures few { IfOk result (λ scanned.
+        first_number + vec_len scanned.records < start_page scanned.part.index + scanned.part.next_slot) }
+    ensures only { IfErr result IsOfReading }
+    ensures never_none { IsErrOf result Fault.NotAStore → ⊥ }
+
+    ensures fault { CountsFault (D.fault_count disk.old) (D.fault_count disk.new) result }
+    ensures honest { D.Honest disk.new → D.Honest disk.old }
+    ensures same_state { D.Honest disk.new → D.state disk.new ≡ D.state disk.old }
+    ensures same_past { D.Honest disk.new → D.past disk.new ≡ D.past disk.old }
+    ensures writes { D.write_count disk.new ≡ D.write_count disk.old }
+{
+    let near = read_part(alloc, disk, index, first_number)?;
     match near.end {
-        RunEnd::Closed => {
-            let first_number = 1 + near.records.len() as u64;
-            let far = read_half(alloc, disk, HalfIndex::Second, first_number)?;
-            let all = joined(near, far)?;
-            Ok(all)
-        }
         RunEnd::OtherNumber | RunEnd::Damaged => Ok(near),
+        RunEnd::Closed => match index.next() {
+            None => Ok(near),
+            Some(next) => {
+                let next_number = first_number + near.records.len() as u64;
+                let far = read_from(alloc, disk, next, next_number)?;
+                let all = joined(near, far)?;
+                Ok(all)
+            }
+        },
     }
 }
 
-// The records of a half, of this number and one more each.
-fn read_half<D: Disk>(
+// The records of a part, of this number and one more each.
+fn read_part<D: Disk>(
     alloc: Global,
     disk: &mut D,
-    index: HalfIndex,
+    index: PartIndex,
     first_number: u64,
 ) -> Result<Scanned, Fault>
-    requires { first_number ≤ 256 }
+    requires { first_number < 836 }
     ensures found { IfOk result (λ scanned. D.Honest disk.new
         → Run (D.state disk.old).content index 0 first_number (lines scanned.records.items) scanned.end) }
-    ensures half { IfOk result (λ scanned. (scanned.half.index
-        ≡ index) × (scanned.half.next_slot ≡ slots_of (lines scanned.records.items))) }
-    ensures few { IfOk result (λ scanned. vec_len scanned.records ≤ scanned.half.next_slot) }
+    ensures part { IfOk result (λ scanned. (scanned.part.index
+        ≡ index) × (scanned.part.next_slot ≡ slots_of (lines scanned.records.items))) }
+    ensures few { IfOk result (λ scanned. vec_len scanned.records ≤ scanned.part.next_slot) }
     ensures only { IfErr result IsOfReading }
     ensures never_none { IsErrOf result Fault.NotAStore → ⊥ }
 
@@ -320,20 +353,20 @@ fn read_half<D: Disk>(
     Ok(scanned)
 }
 
-// The records of both halves; the next one goes on in the second if that has any.
+// The near records and the far ones behind them; the next one goes on behind the far ones if there are any.
 fn joined(near: Scanned, far: Scanned) -> Result<Scanned, Fault>
     ensures records { IfOk result (λ all. all.records.items ≡ near.records.items ++ far.records.items) }
     ensures end { IfOk result (λ all. all.end ≡ far.end) }
-    ensures near { IfOk result (λ all. vec_len far.records ≡ 0 → all.half ≡ near.half) }
-    ensures far { IfOk result (λ all. 0 < vec_len far.records → all.half ≡ far.half) }
+    ensures near { IfOk result (λ all. vec_len far.records ≡ 0 → all.part ≡ near.part) }
+    ensures far { IfOk result (λ all. 0 < vec_len far.records → all.part ≡ far.part) }
     ensures only { IfErr result (λ fault. fault ≡ Fault.OutOfMemory) }
 {
     let mut records = near.records;
     let mut more = far.records;
-    let half = if more.is_empty() { near.half } else { far.half };
+    let part = if more.is_empty() { near.part } else { far.part };
     records.append(&mut more)?;
     Ok(Scanned {
-        half,
+        part,
         records,
         end: far.end,
     })

@@ -6,8 +6,8 @@ use std::alloc::{AllocError, Global};
 use std::process::Abort;
 use std::test::Fail;
 
-// Room for a file of 515 pages, and for the records of both halves.
-const ROOM: usize = 1 << 23;
+// Room for a file of 1,092 pages, for the bytes of its formatting, and for the records of all parts.
+const ROOM: usize = 1 << 24;
 
 // The byte where the texts begin.
 const PLACE: usize = 2_105_344;
@@ -49,17 +49,20 @@ fn bytes_of_a_new_store(rt: HostRuntime) -> Result<(), Fail> {
     let alloc = rt.alloc();
     let mut disk = formatted(alloc)?;
     let file = disk.content();
-    assert_eq!(rt; file.len(), 2_109_440);
+    assert_eq!(rt; file.len(), 4_472_832);
     let root = [
         0xa5, 0, 0, 0, 0, 0, 0, 0, 1, 0, 0, 0, 0, 0, 0, 2, 2, 0, 0, 0, 0, 0, 0, 0, 0, 1, 0, 0, 0,
-        0, 0, 0, 2, 3, 0, 0,
+        0, 0, 0, 4, 0x44, 0, 0,
     ];
     assert!(rt; file.starts_with(root.as_slice()));
     let texts = [
         0, 0, 0, 2, b'c', b'1', 0, 0, 0, 1, b'r', 0, 0, 0, 0, 0, 0, 0, 2, b'b', b'd', 0,
     ];
     assert_eq!(rt; &file[PLACE..2_105_366], texts.as_slice());
-    assert_eq!(rt; file[8192], 0);
+    // The gate of slot 0 of each part.
+    for gate in [8_192, 1_056_768, 2_375_680, 3_424_256] {
+        assert_eq!(&rt; file[gate], 0);
+    }
     let texts = Texts {
         chart: b"",
         roster: b"",
@@ -108,6 +111,10 @@ fn files_that_are_no_store(rt: HostRuntime) -> Result<(), Fail> {
         let disk = changed(alloc, changes)?;
         assert_eq!(rt; reopened(alloc, disk).err(), Some(Fault::NotAStore));
     }
+    // The pages up to the end of the texts alone.
+    let disk = formatted(alloc)?;
+    let short = MemoryDisk::from_bytes(alloc, ROOM, &disk.content()[..2_109_440])?;
+    assert_eq!(rt; reopened(alloc, short).err(), Some(Fault::NotAStore));
     let empty_record = changed(alloc, &[(8192, 0xa5), (8200, 1)])?;
     let fault = reopened(alloc, empty_record).err();
     assert_eq!(rt; fault, Some(Fault::Damaged(8)));
@@ -118,9 +125,9 @@ fn files_that_are_no_store(rt: HostRuntime) -> Result<(), Fail> {
 #[test]
 fn a_broken_keeper(rt: HostRuntime) -> Result<(), Fail> {
     let alloc = rt.alloc();
-    // An opening makes twelve device calls here: a sync, and the reads of the root, of each text's length and bytes,
-    // and of slot 0 of each half.
-    let mut keeper = reopened(alloc, FaultyDisk::once(formatted(alloc)?, 12, 0))?.keeper;
+    // An opening makes fourteen device calls here: a sync, and the reads of the root, of each text's length and bytes,
+    // and of slot 0 of each part.
+    let mut keeper = reopened(alloc, FaultyDisk::once(formatted(alloc)?, 14, 0))?.keeper;
     assert_eq!(rt; keeper.append(b"g1 pass").err(), Some(Fault::DeviceFailed));
     assert!(rt; keeper.is_broken());
     assert_eq!(rt; keeper.append(b"g1 pass").err(), Some(Fault::OpenAgain));
@@ -164,11 +171,11 @@ fn check_lines(
 }
 
 #[test]
-fn lines_go_on_in_the_second_half(rt: HostRuntime) -> Result<(), Fail> {
+fn lines_go_on_in_the_next_part(rt: HostRuntime) -> Result<(), Fail> {
     let alloc = rt.alloc();
     let mut disk = formatted(alloc)?;
     let mut count = 0;
-    for next in [254, 255, 256, 300, 510] {
+    for next in [254, 255, 256, 511, 766, 1020] {
         let mut keeper = reopened(alloc, disk)?.keeper;
         append_lines(alloc, &mut keeper, count, next)?;
         count = next;
@@ -193,8 +200,8 @@ fn a_long_line_leaves_a_slot_free(rt: HostRuntime) -> Result<(), Fail> {
     opened.keeper.append(b"g1 pass")?;
     let disk = opened.keeper.into_disk();
     let file = disk.content();
-    assert_eq!(rt; file.len(), 2_109_440);
-    // The gates of slots 253 and 254 of the first half, and of slots 0 and 2 of the second.
+    assert_eq!(rt; file.len(), 4_472_832);
+    // The gates of slots 253 and 254 of the first part, and of slots 0 and 2 of the second.
     assert_eq!(rt; file[1_044_480], 0xa5);
     assert_eq!(rt; file[1_048_576], 0);
     assert_eq!(rt; file[1_056_768], 0xa5);
@@ -206,8 +213,14 @@ fn a_long_line_leaves_a_slot_free(rt: HostRuntime) -> Result<(), Fail> {
     Ok(())
 }
 
-// Stops the disk with one choice for what isn't synced: the store has the lines of its first half, and perhaps one more.
-fn check_stop(rt: &impl Abort, alloc: Global, disk: &MemoryDisk, kept: Kept) -> Result<(), Fail> {
+// Stops the disk with one choice for what isn't synced: the store has so many lines, and perhaps one more.
+fn check_stop(
+    rt: &impl Abort,
+    alloc: Global,
+    disk: &MemoryDisk,
+    kept: Kept,
+    before: usize,
+) -> Result<(), Fail> {
     let kept = vec![in alloc; kept; disk.unsynced().len()]?;
     let choice = Choice {
         kept: &kept,
@@ -215,18 +228,22 @@ fn check_stop(rt: &impl Abort, alloc: Global, disk: &MemoryDisk, kept: Kept) -> 
     };
     assert!(rt; disk.allows(choice));
     let count = reopened(alloc, disk.stop(choice)?)?.lines.len();
-    assert!(rt; count == 255 || count == 256, "{count} lines");
+    assert!(rt;
+        count == before || count == before.saturating_add(1),
+        "{count} lines"
+    );
     Ok(())
 }
 
 #[test]
-fn stops_on_the_way_to_the_second_half(rt: HostRuntime) -> Result<(), Fail> {
+fn stops_on_the_way_behind_the_texts(rt: HostRuntime) -> Result<(), Fail> {
     let alloc = rt.alloc();
     let mut keeper = reopened(alloc, formatted(alloc)?)?.keeper;
-    append_lines(alloc, &mut keeper, 0, 255)?;
+    append_lines(alloc, &mut keeper, 0, 510)?;
     let full = keeper.into_disk();
-    // Two reads for each record more than in an empty store, and none of slot 255.
-    let opening = 11 + 2 * 255;
+    // Ten device calls before the journal, two reads for each record, none of slot 255 of a full part, and one of slot 0 of
+    // each part with no record.
+    let opening = 10 + 2 * 510 + 2;
     for calls in 0..4 {
         let disk = MemoryDisk::from_bytes(alloc, ROOM, full.content())?;
         let disk = FaultyDisk::once(disk, opening + calls, 4096);
@@ -234,7 +251,7 @@ fn stops_on_the_way_to_the_second_half(rt: HostRuntime) -> Result<(), Fail> {
         assert_eq!(rt; keeper.append(b"g1 pass").err(), Some(Fault::DeviceFailed));
         let left = keeper.into_disk().into_inner();
         for kept in [Kept::Old, Kept::New, Kept::Fill(0xa5)] {
-            check_stop(&rt, alloc, &left, kept)?;
+            check_stop(&rt, alloc, &left, kept, 510)?;
         }
     }
     Ok(())

@@ -12,6 +12,14 @@ pub(crate) const KIT_PAGE: u64 = 514;
 /// The byte where the texts begin.
 pub(crate) const KIT_PLACE: u64 = 2_105_344;
 
+/// The pages of a file, and its bytes.
+pub(crate) const FILE_PAGES: u64 = 1_092;
+
+pub(crate) const FILE_BYTES: u64 = 4_472_832;
+
+/// The bytes from the texts to the end of a file.
+const KIT_BYTES: usize = 2_367_488;
+
 /// The most bytes that a text may have.
 pub(crate) const TEXT_LIMIT: usize = 65_536;
 
@@ -33,7 +41,7 @@ pub struct KitTexts {
     pub board: Vec<u8>,
 }
 
-/// The bytes of the texts in the file, filled with zeros to a whole page.
+/// The bytes of the texts in the file, and the zeros behind them to its end.
 pub(crate) fn spell_kit(alloc: Global, texts: Texts<'_>) -> Result<Vec<u8>, Fault>
     requires chart { length texts.chart.now ≤ 65536 }
     requires roster { length texts.roster.now ≤ 65536 }
@@ -42,8 +50,33 @@ pub(crate) fn spell_kit(alloc: Global, texts: Texts<'_>) -> Result<Vec<u8>, Faul
     ensures bytes { IfOk result (λ kit. kit.items ≡ spelled_kit (lent_kit texts.entry)
         ++ replicate (vec_len kit - (16 + length texts.entry.chart.now + length texts.entry.roster.now + length texts.entry.tiles.now + length texts.entry.board.now)) 0) }
     ensures enough { IfOk result (λ kit. 16 + length texts.entry.chart.now + length texts.entry.roster.now + length texts.entry.tiles.now + length texts.entry.board.now ≤ vec_len kit) }
-    ensures no_longer { IfOk result (λ kit. vec_len kit < 16 + length texts.entry.chart.now + length texts.entry.roster.now + length texts.entry.tiles.now + length texts.entry.board.now + 4096) }
-    ensures pages { IfOk result (λ kit. 4096 * (vec_len kit / 4096) ≡ vec_len kit) }
+    ensures whole { IfOk result (λ kit. vec_len kit ≡ 2367488) }
+    ensures err { IsOkUnless result Fault.OutOfMemory }
+{
+    let mut kit = spell_texts(alloc, texts)?;
+    fill(&mut kit, KIT_BYTES)?;
+    Ok(kit)
+}
+
+// Zeros behind the texts.
+fn fill(kit: &mut Vec<u8>, len: usize) -> Result<(), Fault>
+    requires { vec_len kit.old ≤ len }
+    ensures bytes { OnOk result (kit.new.items ≡ kit.old.items ++ replicate (len - vec_len kit.old) 0) }
+    ensures len { OnOk result (vec_len kit.new ≡ len) }
+    ensures err { IsOkUnless result Fault.OutOfMemory }
+{
+    kit.resize(len, 0)?;
+    Ok(())
+}
+
+fn spell_texts(alloc: Global, texts: Texts<'_>) -> Result<Vec<u8>, Fault>
+    requires chart { length texts.chart.now ≤ 65536 }
+    requires roster { length texts.roster.now ≤ 65536 }
+    requires tiles { length texts.tiles.now ≤ 65536 }
+    requires board { length texts.board.now ≤ 65536 }
+    ensures bytes { IfOk result (λ kit. kit.items ≡ spelled_kit (lent_kit texts.entry)) }
+    ensures len { IfOk result (λ kit. vec_len kit
+        ≡ 16 + length texts.entry.chart.now + length texts.entry.roster.now + length texts.entry.tiles.now + length texts.entry.board.now) }
     ensures err { IsOkUnless result Fault.OutOfMemory }
 {
     let mut kit = Vec::new(alloc);
@@ -51,8 +84,6 @@ pub(crate) fn spell_kit(alloc: Global, texts: Texts<'_>) -> Result<Vec<u8>, Faul
     spell_text(&mut kit, texts.roster)?;
     spell_text(&mut kit, texts.tiles)?;
     spell_text(&mut kit, texts.board)?;
-    let whole = kit.len().next_multiple_of(4096);
-    kit.resize(whole, 0)?;
     Ok(kit)
 }
 

@@ -10,7 +10,6 @@ use Rattle.rr_code.specs.declared.query.Query.TheVariants as Q
 use Rattle.rr_code.specs.declared.line.Line.{Line}
 use Rattle.rr_code.specs.declared.line.Line.TheVariants as L
 use Rattle.rr_code.specs.Line.{SpellsLine}
-use Rattle.rr_code.proofs.TextLemmas.{line-unique}
 use Rattle.rr_moderator.specs.declared.fault.Fault.{Fault}
 use Rattle.rr_moderator.specs.declared.fault.Fault.TheVariants as F
 use Rattle.rr_moderator.specs.Answer.{accepted_text}
@@ -18,6 +17,7 @@ use Rattle.rr_moderator.specs.Fault.{refusal_of}
 use Rattle.rr_moderator.specs.Queries.{Answer, answer_of_table, asked_answer, cash_answer, due_answer, holds_answer, limit_answer, order_answer, price_answer, privates_answer, query_text, reply_of, stamp_answer, turns_answer}
 use Rattle.rr_moderator.specs.Serving.{Held, Meets, Responds, Takes, TooLong, Malformed, Broken, Read, Accepted, Refused, NoRoom, Fails, reply_to}
 use Rattle.rr_moderator.specs.World.{TableState, World, state_after, table_named, world_verdict}
+use Rattle.rr_moderator.proofs.ServingLemmas.{one_line}
 use Rattle.rr_moderator.specs.Alone.{Alone, Exchange, IsCalm, IsDisturbed, Names, Picks, Runs, disturbs, line_table, query_table}
 
 -- a table in the world after another entry
@@ -153,9 +153,6 @@ meets_alone old new name (L.Command stamp table c) outcome about meets calm =
     takes_alone old new stamp name c (subst (λ k. Takes old stamp k c new outcome) (some_same table name about) meets) calm
 meets_alone old new name (L.Query query) outcome about meets calm =
     (meets.1 ∙ query_alone old.kit old.tables name query about, ap (λ h. table_named h.tables name) meets.0, ap (λ h. h.kit) meets.0)
-
-one_line : (line : List ℕ) (l m : Line) → SpellsLine line l → SpellsLine line m → l ≡ m
-one_line line l m first second = line-unique l m first.is_line second.is_line (sym first.spelled ∙ second.spelled)
 
 -- a line that names the table
 responds_alone : (old new : Held) (line name : List ℕ) (l : Line) → SpellsLine line l → line_table l ≡ Some name

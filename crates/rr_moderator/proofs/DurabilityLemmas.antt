@@ -1,5 +1,6 @@
 -- What answering a line does to the file, from what keeping its record does.
-use Rattle.std.proofs.Common.{◌≡◌, ◌⊎◌, ℕ, ◌≤◌, ◌==◌, Bool, false, true, not, List, [], ◌∷◌, ◌++◌, length, Option, None, Some, Result, Ok, Err, inl, inr, if◌then◌else◌, refl, sym, ap, subst, ◌∙◌, arith}
+use Rattle.std.proofs.Common.{◌≡◌, ◌⊎◌, ℕ, ◌≤◌, ◌==◌, Bool, false, true, not, List, [], ◌∷◌, ◌++◌, length, Option, None, Some, Result, Ok, Err, IsErrOf, inl, inr, if◌then◌else◌, refl, sym, ap, subst, ◌∙◌, arith}
+use Rattle.std.specs.List.{after_first}
 use Rattle.std.proofs.lemmas.Bool.Decides.{nat_tests}
 use Rattle.rr_disk.specs.Disk.{DiskState}
 use Rattle.rr_disk.specs.Moments.{EachImage, LeavesOnly}
@@ -7,23 +8,27 @@ use Rattle.rr_disk.proofs.MomentLemmas.{started, weaker}
 use Rattle.rr_game.specs.declared.kit.Kit.{Kit}
 use Rattle.rr_code.specs.declared.command.Command.{Command}
 use Rattle.rr_code.specs.declared.command.Command.TheVariants.{Open}
+use Rattle.rr_code.specs.declared.line.Line.{Line}
 use Rattle.rr_code.specs.declared.line.Line.TheVariants as L
+use Rattle.rr_words.specs.Line.{is_space}
 use Rattle.rr_code.specs.Line.{SpellsLine}
 use Rattle.rr_code.specs.Command.{SpellsRecord}
 use Rattle.rr_keeper.specs.declared.keeper.Keeper.{Keeper}
 use Rattle.rr_keeper.specs.File.{Kit as Texts}
-use Rattle.rr_keeper.specs.Keeper.{disk_of, is_broken}
-use Rattle.rr_keeper.proofs.Halves.{is_store}
+use Rattle.rr_keeper.specs.Keeper.{disk_of, is_broken, part_of}
+use Rattle.rr_keeper.specs.Parts.{HasPlace}
+use Rattle.rr_keeper.proofs.Parts.{is_store}
 use Rattle.rr_moderator.specs.declared.fault.Fault.{Fault}
 use Rattle.rr_moderator.specs.declared.fault.Fault.TheVariants as F
 use Rattle.rr_moderator.specs.World.{TableState, World, present_stamp, state_after, table_named, verdict_in, world_after, world_verdict}
 use Rattle.rr_moderator.specs.Serving.{Held, MayAppend, Takes, Accepted, Refused, NoRoom, Fails, accepted_reply, outcome_of, reply_to, with_tables}
 use Rattle.rr_moderator.specs.Replaying.{Opens, Replayed, TakesRecord}
-use Rattle.rr_moderator.specs.Durability.{BeforeOrAfter, CountsTold, IsStoreWith, Keeping, Lasts, Passed, Stands}
+use Rattle.rr_moderator.specs.Durability.{BeforeOrAfter, CountsTold, HasNoPlace, IsStoreWith, Keeping, Lasts, Passed, Stands, tells_full}
 use Rattle.rr_moderator.specs.Fault.{refusal_of}
 use Rattle.rr_serve.specs.Serving.{tells_failure}
 use Rattle.rr_moderator.proofs.ReplayLemmas.{Replays-push}
-use Rattle.rr_moderator.proofs.Telling.{accepted_calm, counts_told, half_full_calm, memory_calm, verdict_calm}
+use Rattle.rr_moderator.proofs.ServingLemmas.{one_line}
+use Rattle.rr_moderator.proofs.Telling.{SaysNeither, accepted_calm, counts_told, failure_calm, half_full_calm, memory_calm, verdict_calm}
 
 -- a lawful command has the present stamp of its table
 
@@ -62,11 +67,16 @@ replayed_more texts records kit tables stamp name bytes c spelled lawful h =
       replayed = Replays-push kit [] tables (world_after tables name c) records bytes h.replayed (takes_record kit tables stamp name bytes c spelled lawful);
     }
 
+-- the verdict on a line that was read, if it is a command
+abbrev line_verdict : Held → Line → Option Fault
+line_verdict held (L.Command stamp name c) = verdict_in held.kit held.tables stamp name c
+line_verdict held (L.Query query) = None
+
 module _ {D : Type 0} (Honest : D → Type 0) (state : D → DiskState) (past : D → List DiskState) (faults : D → ℕ) (old : Keeper D) (before : Held) (line : List ℕ) where
   -- the file opens as what is held
   pub stands_opens : (texts : Texts) → Stands old (state (disk_of old)) texts before → EachImage (state (disk_of old)) (λ image. Opens image before)
   stands_opens texts s = λ image is.
-      record { texts = texts; records = s.records; store = is_store image texts s.records s.keeps.near s.keeps.far s.keeps.parts (s.keeps.each image is); replayed = s.replayed; whole = s.whole }
+      record { texts = texts; records = s.records; store = is_store image texts (part_of old).index s.records s.keeps.front s.keeps.own s.keeps.joined (s.keeps.each image is); replayed = s.replayed; whole = s.whole }
 
   -- the disk counted no fault, and the reply says nothing of one
   counts_none : (new : Keeper D) (reply : List ℕ) → tells_failure reply ≡ false → faults (disk_of new) ≡ faults (disk_of old)
@@ -75,8 +85,9 @@ module _ {D : Type 0} (Honest : D → Type 0) (state : D → DiskState) (past : 
 
   -- a line that leaves keeper and tables as they were
   pub lasts_same : (new : Keeper D) (after : Held) (reply : List ℕ) → new ≡ old → (is_broken new ≡ false → after ≡ before) → tells_failure reply ≡ false
+      → (tells_full reply ≡ true → HasNoPlace old before line) → (HasNoPlace old before line → (reply ≡ refusal_of F.HalfFull) ⊎ (reply ≡ refusal_of F.OutOfMemory))
       → Lasts Honest state past faults old before line new after reply
-  lasts_same new after reply same held calm =
+  lasts_same new after reply same held calm full in_time =
       record {
         honest = λ h. subst (λ (k : Keeper D). Honest (disk_of k)) same h;
         stops = λ h texts s. subst (λ (k : Keeper D). LeavesOnly (past (disk_of old)) (state (disk_of old)) (past (disk_of k)) (state (disk_of k)) (BeforeOrAfter before line))
@@ -85,16 +96,41 @@ module _ {D : Type 0} (Honest : D → Type 0) (state : D → DiskState) (past : 
             (subst (λ (x : Held). Stands old (state (disk_of old)) texts x) (sym (held whole)) s);
         untouched = λ unlawful. same;
         counts = counts_none new reply calm (ap (λ (k : Keeper D). faults (disk_of k)) same);
+        full = full;
+        in_time = in_time;
       }
 
+  -- a line that is no lawful command, and whose reply says neither
+  pub lasts_unlawful : (new : Keeper D) (after : Held) (reply : List ℕ) → new ≡ old → (is_broken new ≡ false → after ≡ before) → SaysNeither reply → ¬ MayAppend before line
+      → Lasts Honest state past faults old before line new after reply
+  lasts_unlawful new after reply same held calm unlawful =
+      lasts_same new after reply same held calm.0 (λ told. absurd (cc (sym told ∙ calm.1))) (λ none. absurd (unlawful none.lawful))
+
   module _ (stamp : ℕ) (name bytes : List ℕ) (c : Command) (short : length line ≤ 8000) (spells : SpellsLine line (L.Command stamp name c))
-      (spelled : SpellsRecord bytes name c) (whole : before.broken ≡ false) where
+      (spelled : SpellsRecord bytes name c) (behind : bytes ≡ after_first is_space line) (whole : before.broken ≡ false) (was : before.broken ≡ is_broken old) where
     abbrev lawful_now : Type 0
     lawful_now = verdict_in before.kit before.tables stamp name c ≡ None
 
     abbrev append_of : lawful_now → MayAppend before line
     append_of lawful =
         record { stamp = stamp; name = name; command = c; short = short; spelled = spells; whole = whole; lawful = lawful }
+
+    abbrev IsFull : Type 0
+    IsFull = HasPlace (part_of old) (length bytes) → ⊥
+
+    no_place : lawful_now → IsFull → HasNoPlace old before line
+    no_place lawful full = record { lawful = append_of lawful; full = subst (λ (record_bytes : List ℕ). HasPlace (part_of old) (length record_bytes) → ⊥) behind full }
+
+    is_full : HasNoPlace old before line → IsFull
+    is_full none = subst (λ (record_bytes : List ℕ). HasPlace (part_of old) (length record_bytes) → ⊥) (sym behind) none.full
+
+    -- a line that a rule refuses isn't lawful
+    unlawful_now : (fault : Fault) → verdict_in before.kit before.tables stamp name c ≡ Some fault → ¬ MayAppend before line
+    unlawful_now fault verdict lawful =
+        let same = one_line line (L.Command stamp name c) (L.Command lawful.stamp lawful.name lawful.command) spells lawful.spelled in
+        let of_line : Line → Option Fault = λ l. line_verdict before l in
+        let both : Some fault ≡ None = sym verdict ∙ (ap of_line same ∙ lawful.lawful) in
+        absurd (cc both)
 
     opens_either : lawful_now → (texts : Texts) (s : Stands old (state (disk_of old)) texts before) (image : List ℕ) → IsStoreWith texts s.records bytes image → BeforeOrAfter before line image
     opens_either lawful texts s image (inl store) =
@@ -113,7 +149,7 @@ module _ {D : Type 0} (Honest : D → Type 0) (state : D → DiskState) (past : 
 
     -- a command whose record was kept
     kept_ok : (new : Keeper D) (after : Held) (reply : List ℕ) → lawful_now → after ≡ with_tables before (world_after before.tables name c)
-        → tells_failure reply ≡ false
+        → SaysNeither reply
         → Keeping Honest state past faults old bytes (Ok tt) new → Lasts Honest state past faults old before line new after reply
     kept_ok new after reply lawful held calm k =
         record {
@@ -126,13 +162,17 @@ module _ {D : Type 0} (Honest : D → Type 0) (state : D → DiskState) (past : 
             whole = whole;
           });
           untouched = λ unlawful. absurd (unlawful (append_of lawful));
-          counts = counts_none new reply calm k.counts;
+          counts = counts_none new reply calm.0 k.counts;
+          full = λ told. absurd (cc (sym told ∙ calm.1));
+          in_time = λ none. absurd (cc (k.full (sym was ∙ whole) (is_full none)));
         }
 
     -- a command whose record wasn't
     kept_err : (new : Keeper D) (after : Held) (fault : Fault) → lawful_now → (is_broken new ≡ false → after ≡ before)
+        → (tells_full (refusal_of fault) ≡ true → HasNoPlace old before line)
+        → (HasNoPlace old before line → (refusal_of fault ≡ refusal_of F.HalfFull) ⊎ (refusal_of fault ≡ refusal_of F.OutOfMemory))
         → Keeping Honest state past faults old bytes (Err fault) new → Lasts Honest state past faults old before line new after (refusal_of fault)
-    kept_err new after fault lawful held k =
+    kept_err new after fault lawful held full in_time k =
         record {
           honest = k.honest;
           stops = λ h texts s. weaker (k.stops h texts s.records s.keeps) (BeforeOrAfter before line) (opens_either lawful texts s);
@@ -144,6 +184,8 @@ module _ {D : Type 0} (Honest : D → Type 0) (state : D → DiskState) (past : 
           });
           untouched = λ unlawful. absurd (unlawful (append_of lawful));
           counts = counts_told (faults (disk_of old)) (faults (disk_of new)) fault k.counts;
+          full = full;
+          in_time = in_time;
         }
 
     abbrev Untouched : Keeper D → Type 0
@@ -153,31 +195,45 @@ module _ {D : Type 0} (Honest : D → Type 0) (state : D → DiskState) (past : 
     failed new after same broken unbroken = let both : true ≡ false = sym broken ∙ (same ∙ unbroken) in absurd cc
 
     -- a device that wasn't asked hasn't failed
-    not_asked : (new : Keeper D) (after : Held) → before.broken ≡ is_broken old → after.broken ≡ is_broken new → after.broken ≡ true → new ≡ old → ⊥
-    not_asked new after was same broken still =
+    not_asked : (new : Keeper D) (after : Held) → after.broken ≡ is_broken new → after.broken ≡ true → new ≡ old → ⊥
+    not_asked new after same broken still =
         let both : true ≡ false = sym broken ∙ same ∙ ap (λ (k : Keeper D). is_broken k) still ∙ sym was ∙ whole in cc
 
     no_room_calm : (fault : Fault) → (fault ≡ F.HalfFull) ⊎ (fault ≡ F.OutOfMemory) → tells_failure (refusal_of fault) ≡ false
     no_room_calm fault (inl full) = ap (λ (f : Fault). tells_failure (refusal_of f)) full ∙ half_full_calm
-    no_room_calm fault (inr memory) = ap (λ (f : Fault). tells_failure (refusal_of f)) memory ∙ memory_calm
+    no_room_calm fault (inr memory) = ap (λ (f : Fault). tells_failure (refusal_of f)) memory ∙ memory_calm.0
 
-    refused_lasts : (new : Keeper D) (after : Held) (fault : Fault) → before.broken ≡ is_broken old → after.broken ≡ is_broken new → Untouched new
+    abbrev FullIsTold : Fault → Type 0
+    FullIsTold fault = fault ≡ F.HalfFull → IsFull
+
+    no_room_full : (fault : Fault) → lawful_now → FullIsTold fault → (fault ≡ F.HalfFull) ⊎ (fault ≡ F.OutOfMemory) → tells_full (refusal_of fault) ≡ true → HasNoPlace old before line
+    no_room_full fault lawful full (inl is) told = no_place lawful (full is)
+    no_room_full fault lawful full (inr memory) told = absurd (cc (sym told ∙ (ap (λ (f : Fault). tells_full (refusal_of f)) memory ∙ memory_calm.1)))
+
+    no_room_told : (fault : Fault) → (fault ≡ F.HalfFull) ⊎ (fault ≡ F.OutOfMemory) → (refusal_of fault ≡ refusal_of F.HalfFull) ⊎ (refusal_of fault ≡ refusal_of F.OutOfMemory)
+    no_room_told fault (inl is) = inl (ap refusal_of is)
+    no_room_told fault (inr is) = inr (ap refusal_of is)
+
+    refused_lasts : (new : Keeper D) (after : Held) (fault : Fault) → after.broken ≡ is_broken new → Untouched new → FullIsTold fault
         → Takes before stamp name c after (Err fault) → (new ≡ old) ⊎ Keeping Honest state past faults old bytes (Err fault) new
         → Lasts Honest state past faults old before line new after (refusal_of fault)
-    refused_lasts new after fault was same untouched (Refused f verdict held) h =
-        lasts_same new after (refusal_of f) (untouched f verdict) (λ unbroken. held)
-        (verdict_calm before.kit (table_named before.tables name) (length before.tables) stamp c f verdict)
-    refused_lasts new after fault was same untouched (NoRoom f lawful why held) (inl still) =
-        lasts_same new after (refusal_of f) still (λ unbroken. held) (no_room_calm f why)
-    refused_lasts new after fault was same untouched (NoRoom f lawful why held) (inr k) = kept_err new after f lawful (λ unbroken. held) k
-    refused_lasts new after fault was same untouched (Fails lawful held) (inl still) =
-        absurd (not_asked new after was same (ap (λ (x : Held). x.broken) held) still)
-    refused_lasts new after fault was same untouched (Fails lawful held) (inr k) =
-        kept_err new after F.DeviceFailed lawful (failed new after same (ap (λ (x : Held). x.broken) held)) k
+    refused_lasts new after fault same untouched full (Refused f verdict held) h =
+        lasts_unlawful new after (refusal_of f) (untouched f verdict) (λ unbroken. held)
+        (verdict_calm before.kit (table_named before.tables name) (length before.tables) stamp c f verdict) (unlawful_now f verdict)
+    refused_lasts new after fault same untouched full (NoRoom f lawful why held) (inl still) =
+        lasts_same new after (refusal_of f) still (λ unbroken. held) (no_room_calm f why) (no_room_full f lawful full why) (λ none. no_room_told f why)
+    refused_lasts new after fault same untouched full (NoRoom f lawful why held) (inr k) =
+        kept_err new after f lawful (λ unbroken. held) (no_room_full f lawful full why) (λ none. no_room_told f why) k
+    refused_lasts new after fault same untouched full (Fails lawful held) (inl still) =
+        absurd (not_asked new after same (ap (λ (x : Held). x.broken) held) still)
+    refused_lasts new after fault same untouched full (Fails lawful held) (inr k) =
+        kept_err new after F.DeviceFailed lawful (failed new after same (ap (λ (x : Held). x.broken) held)) (λ told. absurd (cc (sym told ∙ failure_calm)))
+        (λ none. absurd (cc (k.full (sym was ∙ whole) (is_full none)))) k
 
-    pub command_lasts : (new : Keeper D) (after : Held) (result : Result (Unit {0}) Fault) (reply : List ℕ) → before.broken ≡ is_broken old → after.broken ≡ is_broken new
-        → Untouched new → Takes before stamp name c after (outcome_of result reply) → Passed (λ k bs r k'. Keeping Honest state past faults k bs r k') old bytes new result
+    pub command_lasts : (new : Keeper D) (after : Held) (result : Result (Unit {0}) Fault) (reply : List ℕ) → after.broken ≡ is_broken new
+        → Untouched new → (IsErrOf result F.HalfFull → IsFull) → Takes before stamp name c after (outcome_of result reply) → Passed (λ k bs r k'. Keeping Honest state past faults k bs r k') old bytes new result
         → Lasts Honest state past faults old before line new after (reply_to (outcome_of result reply))
-    command_lasts new after (Ok u) reply was same untouched (Accepted lawful held) k =
+    command_lasts new after (Ok u) reply same untouched full (Accepted lawful held) k =
         kept_ok new after (accepted_reply before.tables name c) lawful held (accepted_calm name (state_after (table_named before.tables name) c).stamp) k
-    command_lasts new after (Err fault) reply was same untouched takes h = refused_lasts new after fault was same untouched takes h
+    command_lasts new after (Err fault) reply same untouched full takes h =
+        refused_lasts new after fault same untouched (λ is. full (ap (λ (f : Fault). Err f) is)) takes h

@@ -3,7 +3,7 @@ use Rattle.std.proofs.Common.{◌≡◌, ℕ, List, [], ◌∷◌, false, refl, 
 use Rattle.rr_game.specs.declared.kit.Kit.{Kit}
 use Rattle.rr_code.proofs.TextLemmas.{record-unique}
 use Rattle.rr_keeper.specs.File.{kit_place}
-use Rattle.rr_keeper.proofs.Halves.{one_reading}
+use Rattle.rr_keeper.proofs.Parts.{one_reading}
 use Rattle.rr_keeper.proofs.Kits.{one_kit}
 use Rattle.rr_moderator.specs.Replaying.{Replays, TakesRecord}
 use Rattle.rr_moderator.specs.World.{World, world_after}

@@ -42,12 +42,12 @@ unlawful kit tables bytes name c fault only refused table other spells lawful =
 pub refused_record : (kit : Kit) (tables : World) (bytes name : List ℕ) (c : Command) (stamp : ℕ) (fault : Fault)
     → ((table : List ℕ) (other : Command) → SpellsRecord bytes table other → let r : Result Reads code.Fault = Ok (name, c) in r ≡ Ok (table, other))
     → stamp ≡ present_stamp (table_named tables name)
-    → MayRefuse (verdict_in kit tables stamp name c) false false fault false
+    → MayRefuse (verdict_in kit tables stamp name c) ⊥ false fault false
     → (fault ≡ F.OutOfMemory) ⊎ IsUnlawful kit tables bytes
 refused_record kit tables bytes name c stamp fault only at (inl by_rule) =
     inr (unlawful kit tables bytes name c fault only (subst (λ n. verdict_in kit tables n name c ≡ Some fault) at by_rule.0))
 refused_record kit tables bytes name c stamp F.OutOfMemory only at (inr out) = inl refl
-refused_record kit tables bytes name c stamp F.HalfFull only at (inr out) = let both = out.1.1 in cc
+refused_record kit tables bytes name c stamp F.HalfFull only at (inr out) = absurd out.1.1
 refused_record kit tables bytes name c stamp F.DeviceFailed only at (inr out) = let both = out.1 in cc
 refused_record kit tables bytes name c stamp F.OpenAgain only at (inr out) = let both = out.1 in cc
 refused_record kit tables bytes name c stamp fault only at (inr out) = absurd out.1

@@ -1,4 +1,4 @@
--- Which replies say that the device failed.
+-- Which replies say that the device failed, or that the file is full.
 use Rattle.std.proofs.Common.{◌≡◌, ℕ, ◌==◌, Bool, true, false, not, List, [], ◌∷◌, ◌++◌, codes, Option, None, Some, if◌then◌else◌, option_map, nat_le, refl, subst}
 use Rattle.std.specs.Fmt.{digits}
 use Rattle.rr_game.specs.declared.kit.Kit.{Kit}
@@ -16,7 +16,7 @@ use Rattle.rr_serve.specs.Serving.{tells_failure}
 use Rattle.rr_moderator.specs.declared.fault.Fault.{Fault}
 use Rattle.rr_moderator.specs.declared.fault.Fault.TheVariants as F
 use Rattle.rr_moderator.specs.Answer.{accepted_text, answer_of}
-use Rattle.rr_moderator.specs.Durability.{CountsTold}
+use Rattle.rr_moderator.specs.Durability.{CountsTold, tells_full}
 use Rattle.rr_moderator.specs.Fault.{of_game, of_keeper, refusal_of}
 use Rattle.rr_moderator.specs.Queries.{Answer, answer_of_named, answer_of_table, asked_answer, cash_answer, due_answer, holds_answer, limit_answer, order_answer, price_answer, privates_answer, query_text, reply_of, stamp_answer, turns_answer}
 use Rattle.rr_moderator.specs.Replaying.{CountsFailure}
@@ -39,45 +39,57 @@ pub counts_kept : (old new : ℕ) (fault : keeper.Fault) → Counts old new faul
 counts_kept old new K.DeviceFailed h = h
 counts_kept old new _ h = h
 
--- an acceptance doesn't say that the device failed
-pub accepted_calm : (name : List ℕ) (stamp : ℕ) → tells_failure (accepted_text name stamp) ≡ false
-accepted_calm name stamp = refl
+-- that a reply says neither
+abbrev pub SaysNeither : List ℕ → Type 0
+SaysNeither reply = (tells_failure reply ≡ false) × (tells_full reply ≡ false)
+
+-- an acceptance says neither
+pub accepted_calm : (name : List ℕ) (stamp : ℕ) → SaysNeither (accepted_text name stamp)
+accepted_calm name stamp = (refl, refl)
 
 -- nor do the refusals of lines of no form, and of lines to a device that failed before
-pub too_long_calm : tells_failure (refusal_of F.LineTooLong) ≡ false
+pub too_long_calm : SaysNeither (refusal_of F.LineTooLong)
 unfolding digits
-too_long_calm = refl
+too_long_calm = (refl, refl)
 
-pub malformed_calm : tells_failure (refusal_of F.MalformedLine) ≡ false
+pub malformed_calm : SaysNeither (refusal_of F.MalformedLine)
 unfolding digits
-malformed_calm = refl
+malformed_calm = (refl, refl)
 
-pub open_again_calm : tells_failure (refusal_of F.OpenAgain) ≡ false
+pub open_again_calm : SaysNeither (refusal_of F.OpenAgain)
 unfolding digits
-open_again_calm = refl
+open_again_calm = (refl, refl)
 
 pub half_full_calm : tells_failure (refusal_of F.HalfFull) ≡ false
 unfolding digits
 half_full_calm = refl
 
-pub memory_calm : tells_failure (refusal_of F.OutOfMemory) ≡ false
+pub full_told : tells_full (refusal_of F.HalfFull) ≡ true
 unfolding digits
-memory_calm = refl
+full_told = refl
+
+pub failure_calm : tells_full (refusal_of F.DeviceFailed) ≡ false
+unfolding digits
+failure_calm = refl
+
+pub memory_calm : SaysNeither (refusal_of F.OutOfMemory)
+unfolding digits
+memory_calm = (refl, refl)
 
 -- no rule says it
 
 abbrev IsCalm : Option Fault → Type 0
 IsCalm None = Unit {0}
-IsCalm (Some fault) = tells_failure (refusal_of fault) ≡ false
+IsCalm (Some fault) = SaysNeither (refusal_of fault)
 
 calm_if : (b : Bool) (o p : Option Fault) → IsCalm o → IsCalm p → IsCalm (if b then o else p)
 calm_if true o p h k = h
 calm_if false o p h k = k
 
-game_calm : (fault : game.Fault) → tells_failure (refusal_of (of_game fault)) ≡ false
+game_calm : (fault : game.Fault) → SaysNeither (refusal_of (of_game fault))
 unfolding digits
-game_calm G.NoSuchName = refl
-game_calm _ = refl
+game_calm G.NoSuchName = (refl, refl)
+game_calm _ = (refl, refl)
 
 rules_calm : (o : Option game.Fault) → IsCalm (option_map of_game o)
 rules_calm None = tt
@@ -86,48 +98,48 @@ rules_calm (Some fault) = game_calm fault
 table_calm : (kit : Kit) (t : TableState) (stamp : ℕ) (c : Command) → IsCalm (table_verdict kit t stamp c)
 unfolding digits
 table_calm kit t stamp c =
-    calm_if (not (t.stamp == stamp)) _ _ refl (calm_if (is_full t) _ _ refl (rules_calm (command_verdict kit _ _ c)))
+    calm_if (not (t.stamp == stamp)) _ _ (refl, refl) (calm_if (is_full t) _ _ (refl, refl) (rules_calm (command_verdict kit _ _ c)))
 
 opening_calm : (t : Option TableState) (n stamp : ℕ) → IsCalm (opening_verdict t n stamp)
 unfolding digits
-opening_calm (Some t) n stamp = refl
-opening_calm None n stamp = calm_if (not (stamp == 0)) _ _ refl (calm_if (nat_le 64 n) _ _ refl tt)
+opening_calm (Some t) n stamp = (refl, refl)
+opening_calm None n stamp = calm_if (not (stamp == 0)) _ _ (refl, refl) (calm_if (nat_le 64 n) _ _ (refl, refl) tt)
 
 pub world_calm : (kit : Kit) (t : Option TableState) (n stamp : ℕ) (c : Command) → IsCalm (world_verdict kit t n stamp c)
 unfolding digits
 world_calm kit t n stamp (Open players) = opening_calm t n stamp
-world_calm kit None n stamp _ = refl
+world_calm kit None n stamp _ = (refl, refl)
 world_calm kit (Some t) n stamp c = table_calm kit t stamp c
 
--- no fault of a verdict says it
+-- no fault of a verdict says one of them
 pub verdict_calm : (kit : Kit) (t : Option TableState) (n stamp : ℕ) (c : Command) (fault : Fault) → world_verdict kit t n stamp c ≡ Some fault
-    → tells_failure (refusal_of fault) ≡ false
+    → SaysNeither (refusal_of fault)
 verdict_calm kit t n stamp c fault is = let P : Option Fault → Type 0 = IsCalm in subst P is (world_calm kit t n stamp c)
 
 -- nor does a reply to a query
 
-words_calm : (words : List (List ℕ)) → tells_failure (answer_of words ++ codes "\n") ≡ false
-words_calm [] = refl
-words_calm (word ∷ words) = refl
+words_calm : (words : List (List ℕ)) → SaysNeither (answer_of words ++ codes "\n")
+words_calm [] = (refl, refl)
+words_calm (word ∷ words) = (refl, refl)
 
-named_calm : (o : Option (List (List ℕ))) → tells_failure (reply_of (answer_of_named o)) ≡ false
+named_calm : (o : Option (List (List ℕ))) → SaysNeither (reply_of (answer_of_named o))
 unfolding digits
-named_calm None = refl
+named_calm None = (refl, refl)
 named_calm (Some words) = words_calm words
 
-table_answer_calm : (ask : TableState → Answer) (t : Option TableState) → ((t : TableState) → tells_failure (reply_of (ask t)) ≡ false)
-    → tells_failure (reply_of (answer_of_table ask t)) ≡ false
+table_answer_calm : (ask : TableState → Answer) (t : Option TableState) → ((t : TableState) → SaysNeither (reply_of (ask t)))
+    → SaysNeither (reply_of (answer_of_table ask t))
 unfolding digits
-table_answer_calm ask None calm = refl
+table_answer_calm ask None calm = (refl, refl)
 table_answer_calm ask (Some t) calm = calm t
 
-pub query_calm : (kit : Kit) (tables : World) (query : Query) → tells_failure (query_text kit tables query) ≡ false
+pub query_calm : (kit : Kit) (tables : World) (query : Query) → SaysNeither (query_text kit tables query)
 query_calm kit tables Q.Tables = words_calm _
-query_calm kit tables (Q.Stamp table) = table_answer_calm stamp_answer (table_named tables table) (λ t. refl)
-query_calm kit tables (Q.Turns table) = table_answer_calm (turns_answer kit) (table_named tables table) (λ t. refl)
+query_calm kit tables (Q.Stamp table) = table_answer_calm stamp_answer (table_named tables table) (λ t. (refl, refl))
+query_calm kit tables (Q.Turns table) = table_answer_calm (turns_answer kit) (table_named tables table) (λ t. (refl, refl))
 query_calm kit tables (Q.Due table) = table_answer_calm (due_answer kit) (table_named tables table) (λ t. words_calm _)
 query_calm kit tables (Q.Cash table of) = table_answer_calm (cash_answer kit of) (table_named tables table) (λ t. named_calm _)
-query_calm kit tables (Q.Limit table) = table_answer_calm (limit_answer kit) (table_named tables table) (λ t. refl)
+query_calm kit tables (Q.Limit table) = table_answer_calm (limit_answer kit) (table_named tables table) (λ t. (refl, refl))
 query_calm kit tables (Q.Asked table) = table_answer_calm (asked_answer kit) (table_named tables table) (λ t. words_calm _)
 query_calm kit tables (Q.Holds table player corp) = table_answer_calm (holds_answer kit player corp) (table_named tables table) (λ t. named_calm _)
 query_calm kit tables (Q.Price table corp) = table_answer_calm (price_answer kit corp) (table_named tables table) (λ t. words_calm _)

@@ -1,12 +1,17 @@
 -- What the file has of a moderator's tables, whatever a stop leaves.
-use Rattle.std.specs.Prelude.{◌≡◌, ◌⊎◌, ℕ, Bool, false, true, List, [], ◌∷◌, ◌++◌, Result, Ok, Err}
+use Rattle.std.specs.Prelude.{◌≡◌, ◌⊎◌, ℕ, Bool, false, true, List, [], ◌∷◌, ◌++◌, length, nat_eq, codes, Result, Ok, Err, IsErrOf}
+use Rattle.std.specs.List.{after_first, starts_with}
 use Rattle.rr_disk.specs.Disk.{DiskState, counted}
 use Rattle.rr_disk.specs.Moments.{LeavesOnly}
 use Rattle.rr_keeper.specs.declared.keeper.Keeper.{Keeper}
 use Rattle.rr_keeper.specs.File.{IsStore, Kit as Texts}
-use Rattle.rr_keeper.specs.Keeper.{Keeps, disk_of, is_broken}
+use Rattle.rr_keeper.specs.Keeper.{Keeps, disk_of, is_broken, part_of}
+use Rattle.rr_keeper.specs.Parts.{HasPlace}
 use Rattle.rr_moderator.specs.declared.fault.Fault.{Fault}
+use Rattle.rr_moderator.specs.declared.fault.Fault.TheVariants as F
+use Rattle.rr_moderator.specs.Fault.{refusal_of}
 use Rattle.rr_moderator.specs.World.{world_after}
+use Rattle.rr_words.specs.Line.{is_space}
 use Rattle.rr_serve.specs.Lines.{taken}
 use Rattle.rr_serve.specs.Serving.{Served, tells_failure}
 use Rattle.rr_moderator.specs.Serving.{Held, MayAppend, Speaks, Spoken, said, with_tables}
@@ -28,7 +33,8 @@ CountsEnd old new (Err fault) = CountsFailure old new fault
 
 -- What keeping a record does to an honest disk: a stop at any moment leaves a store with the record or without; behind it
 -- each image is one with the record if it was taken, and one without if it wasn't, unless the device failed. Of every disk:
--- the keeping fails by the device exactly where the disk counts a fault.
+-- the keeping fails by the device exactly where the disk counts a fault, and where no part of the file that is left has room, it
+-- fails by that.
 pub record Keeping {D : Type 0} (Honest : D → Type 0) (state : D → DiskState) (past : D → List DiskState) (faults : D → ℕ)
     (old : Keeper D) (bytes : List ℕ) (result : Result (Unit {0}) Fault) (new : Keeper D) : Type 0 where
   pub honest : Honest (disk_of new) → Honest (disk_of old)
@@ -37,6 +43,7 @@ pub record Keeping {D : Type 0} (Honest : D → Type 0) (state : D → DiskState
   pub keeps : Honest (disk_of new) → is_broken new ≡ false → (texts : Texts) (records : List (List ℕ)) → Keeps old (state (disk_of old)) texts records
       → Keeps new (state (disk_of new)) texts (with_record result records bytes)
   pub counts : CountsEnd (faults (disk_of old)) (faults (disk_of new)) result
+  pub full : is_broken old ≡ false → (HasPlace (part_of old) (length bytes) → ⊥) → IsErrOf result F.HalfFull
 
 -- what became of a journal in a call that may have a record kept: it wasn't asked, and the call is refused; or the call
 -- ended as the keeping did
@@ -66,9 +73,19 @@ abbrev pub CountsTold : ℕ → ℕ → Bool → Type 0
 CountsTold old new true = new ≡ counted old
 CountsTold old new false = new ≡ old
 
+-- the reply says that the file has no room
+abbrev pub tells_full : List ℕ → Bool
+tells_full reply = starts_with nat_eq reply (codes "no 61 ")
+
+-- the line's command is lawful, but no part of the file that is left has room for what is journaled of it
+pub record HasNoPlace {D : Type 0} (keeper : Keeper D) (held : Held) (line : List ℕ) : Type 0 where
+  pub lawful : MayAppend held line
+  pub full : HasPlace (part_of keeper) (length (after_first is_space line)) → ⊥
+
 -- What answering a line does to an honest disk whose file stands for what is held: a stop at any moment leaves a file that
 -- opens as before the line or as after it, and the file stands for what is held then, unless the device failed. Of every
--- disk: the reply says that the device failed exactly where the disk counts a fault.
+-- disk: the reply says that the device failed exactly where the disk counts a fault; that the file is full, only where it has
+-- no room for a lawful command, and there it says so or that memory was wanted.
 pub record Lasts {D : Type 0} (Honest : D → Type 0) (state : D → DiskState) (past : D → List DiskState) (faults : D → ℕ)
     (old : Keeper D) (before : Held) (line : List ℕ) (new : Keeper D) (after : Held) (reply : List ℕ) : Type 0 where
   pub honest : Honest (disk_of new) → Honest (disk_of old)
@@ -78,6 +95,8 @@ pub record Lasts {D : Type 0} (Honest : D → Type 0) (state : D → DiskState) 
       → Stands new (state (disk_of new)) texts after
   pub untouched : ¬ MayAppend before line → new ≡ old
   pub counts : CountsTold (faults (disk_of old)) (faults (disk_of new)) (tells_failure reply)
+  pub full : tells_full reply ≡ true → HasNoPlace old before line
+  pub in_time : HasNoPlace old before line → (reply ≡ refusal_of F.HalfFull) ⊎ (reply ≡ refusal_of F.OutOfMemory)
 
 -- what keeps the file, what is held, and the reply made last
 abbrev pub Told : Type 0 → Type 0

@@ -42,19 +42,19 @@ opening_verdict None tables stamp =
     else if nat_le 64 tables then Some F.TooManyTables
     else None
 
--- what may keep a command that no rule refuses from being taken: want of memory, or the file, if it may fill up.
+-- what may keep a command that no rule refuses from being taken: want of memory, or the file, where that is full for it.
 -- Before and after tell whether the device has failed
-abbrev pub IsKeptOut : Bool → Bool → Fault → Bool → Type 0
-IsKeptOut may_fill before F.OutOfMemory after = after ≡ before
-IsKeptOut may_fill before F.HalfFull after = (after ≡ before) × (may_fill ≡ true)
-IsKeptOut may_fill before F.DeviceFailed after = after ≡ true
-IsKeptOut may_fill before F.OpenAgain after = before ≡ true
-IsKeptOut may_fill before _ after = ⊥
+abbrev pub IsKeptOut : Type 0 → Bool → Fault → Bool → Type 0
+IsKeptOut Full before F.OutOfMemory after = after ≡ before
+IsKeptOut Full before F.HalfFull after = (after ≡ before) × Full
+IsKeptOut Full before F.DeviceFailed after = after ≡ true
+IsKeptOut Full before F.OpenAgain after = before ≡ true
+IsKeptOut Full before _ after = ⊥
 
 -- what a taker of commands may answer where this is the verdict
-abbrev pub MayRefuse : Option Fault → Bool → Bool → Fault → Bool → Type 0
-MayRefuse verdict may_fill before fault after =
-    ((verdict ≡ Some fault) × (after ≡ before)) ⊎ ((verdict ≡ None) × IsKeptOut may_fill before fault after)
+abbrev pub MayRefuse : Option Fault → Type 0 → Bool → Fault → Bool → Type 0
+MayRefuse verdict Full before fault after =
+    ((verdict ≡ Some fault) × (after ≡ before)) ⊎ ((verdict ≡ None) × IsKeptOut Full before fault after)
 
 -- what a judge of a table's commands may find where this is the verdict: the verdict's fault, or want of memory
 abbrev pub MayFind : Option Fault → Fault → Type 0

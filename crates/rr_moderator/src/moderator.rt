@@ -1,12 +1,13 @@
-ghost use Rattle.std.specs.Prelude.{◌≡◌, ◌<◌, ◌≤◌, ℕ, List, Result, false, length, ◌∷◌, OnOk, OnErr, IfOk, IfErr, Some};
+ghost use Rattle.std.specs.Prelude.{◌≡◌, ◌<◌, ◌≤◌, ℕ, List, Result, false, length, ◌∷◌, OnOk, OnErr, IfOk, IfErr, IsErrOf, Some};
 ghost use Rattle.std.specs.Borrow.{sem};
 ghost use Rattle.std.specs.Io.BufRead.{Rests};
 ghost use Rattle.std.specs.Io.KnownBytes.{Appends};
 ghost use Rattle.rr_disk.specs.Disk.{after_sync};
 ghost use Rattle.rr_disk.specs.Moments.{LeavesOnly};
 ghost use Rattle.rr_keeper.specs.File.{Kit as Texts};
-ghost use Rattle.rr_keeper.specs.Keeper.{disk_of, is_broken};
+ghost use Rattle.rr_keeper.specs.Keeper.{disk_of, is_broken, part_of};
 ghost use Rattle.rr_keeper.specs.Opening.{SyncsOnce, kit_of};
+ghost use Rattle.rr_keeper.specs.Parts.{HasPlace};
 ghost use Rattle.rr_serve.specs.declared.faults.Fault as serve;
 ghost use Rattle.rr_serve.specs.Answering.{AppendsFront};
 ghost use Rattle.rr_serve.specs.Lines.{taken};
@@ -287,6 +288,7 @@ impl<D: Disk + Drop> State<D> {
         ensures takes { Takes (held_by self.old.keeper self.old.tables) stamp table.now command.now (held_by self.new.keeper self.new.tables) (outcome_of result self.new.reply) }
         ensures untouched { (fault : Fault) → verdict_in self.old.tables.kit (world_of self.old.tables.map.entries) stamp table.now command.now ≡ Some fault
             → self.new.keeper ≡ self.old.keeper }
+        ensures full { IsErrOf result Fault.HalfFull → HasPlace (part_of self.old.keeper) (length bytes.now) → ⊥ }
         ensures kept { Passed (λ old bytes result new. Keeping D.Honest D.state D.past D.fault_count old bytes result new) self.old.keeper bytes.now self.new.keeper result }
     {
         let stamp = self

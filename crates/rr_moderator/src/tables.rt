@@ -42,8 +42,8 @@ pub(crate) trait Journal {
     ghost use Rattle.std.specs.Prelude.{Bool, Result};
     ghost use Rattle.rr_moderator.specs.declared.fault.Fault as fault;
 
-    // There may be no room for a record.
-    ghost may_fill: { Bool };
+    // There is no room for a record.
+    ghost IsFull: { Self → List ℕ → Type 0 };
 
     // The device has failed, and nothing is kept any more.
     ghost broken: { Self → Bool };
@@ -55,7 +55,7 @@ pub(crate) trait Journal {
     fn keep(&mut self, bytes: &[u8]) -> Result<(), Fault>
         requires { 0 < length bytes.now }
         ensures ok { OnOk result (broken self.new ≡ false) }
-        ensures err { IfErr result (λ fault. IsKeptOut may_fill (broken self.old) fault (broken self.new)) }
+        ensures err { IfErr result (λ fault. IsKeptOut (IsFull self.old bytes.now) (broken self.old) fault (broken self.new)) }
         ensures kept { Kept self.old bytes.now result self.new };
 }
 
@@ -64,7 +64,7 @@ pub(crate) trait Journal {
 pub(crate) struct Standing;
 
 impl Journal for Standing {
-    ghost may_fill = { false };
+    ghost IsFull = { λ _ _. ⊥ };
 
     ghost broken = { λ _. false };
 
@@ -76,10 +76,11 @@ impl Journal for Standing {
 }
 
 impl<D: Disk + Drop> Journal for Keeper<D> {
-    ghost use Rattle.rr_keeper.specs.Keeper.{is_broken};
+    ghost use Rattle.rr_keeper.specs.Keeper.{is_broken, part_of};
+    ghost use Rattle.rr_keeper.specs.Parts.{HasPlace};
     ghost use Rattle.rr_moderator.specs.Durability.{Keeping};
 
-    ghost may_fill = { true };
+    ghost IsFull = { λ keeper bytes. HasPlace (part_of keeper) (length bytes) → ⊥ };
 
     ghost broken = { λ keeper. is_broken keeper };
 
@@ -144,7 +145,7 @@ impl Table {
         requires small { amount_in command.now ≤ 10000000000 }
         ensures verdict { IsGameOf kit.now self.old.accepted.items self.old.game → MatchResult result
             (λ _. table_verdict kit.now (table_of self.old.accepted.items self.old.stamp) stamp command.now ≡ None)
-            (λ fault. MayRefuse (table_verdict kit.now (table_of self.old.accepted.items self.old.stamp) stamp command.now) J.may_fill (J.broken journal.old) fault (J.broken journal.new)) }
+            (λ fault. MayRefuse (table_verdict kit.now (table_of self.old.accepted.items self.old.stamp) stamp command.now) (J.IsFull journal.old bytes.now) (J.broken journal.old) fault (J.broken journal.new)) }
         ensures accepted { OnOk result (table_of self.new.accepted.items self.new.stamp ≡ with_command (table_of self.old.accepted.items self.old.stamp) command.now) }
         ensures stamp { IfOk result (λ stamp. stamp ≡ self.new.stamp) }
         ensures played { OnOk result (IsGameOf kit.now self.old.accepted.items self.old.game → IsGameOf kit.now self.new.accepted.items self.new.game) }
@@ -274,7 +275,7 @@ impl Tables {
         requires small { amount_in command.now ≤ 10000000000 }
         ensures verdict { MatchResult result
             (λ _. verdict_in self.old.kit (world_of self.old.map.entries) stamp name.now command.now ≡ None)
-            (λ fault. MayRefuse (verdict_in self.old.kit (world_of self.old.map.entries) stamp name.now command.now) J.may_fill (J.broken journal.old) fault (J.broken journal.new)) }
+            (λ fault. MayRefuse (verdict_in self.old.kit (world_of self.old.map.entries) stamp name.now command.now) (J.IsFull journal.old bytes.now) (J.broken journal.old) fault (J.broken journal.new)) }
         ensures world { OnOk result (world_of self.new.map.entries ≡ world_after (world_of self.old.map.entries) name.now command.now) }
         ensures stamp { IfOk result (λ new. new ≡ (state_after (table_named (world_of self.old.map.entries) name.now) command.now).stamp) }
         ensures whole { OnOk result (J.broken journal.new ≡ false) }
@@ -303,7 +304,7 @@ impl Tables {
         requires { 0 < length bytes.now }
         ensures verdict { MatchResult result
             (λ _. opening_verdict (option_map state_of (get bytes_eq self.old.map name.now)) (index_map_len self.old.map) stamp ≡ None)
-            (λ fault. MayRefuse (opening_verdict (option_map state_of (get bytes_eq self.old.map name.now)) (index_map_len self.old.map) stamp) J.may_fill (J.broken journal.old) fault (J.broken journal.new)) }
+            (λ fault. MayRefuse (opening_verdict (option_map state_of (get bytes_eq self.old.map name.now)) (index_map_len self.old.map) stamp) (J.IsFull journal.old bytes.now) (J.broken journal.old) fault (J.broken journal.new)) }
         ensures world { OnOk result (world_of self.new.map.entries ≡ world_after (world_of self.old.map.entries) name.now (Command.Open players.now)) }
         ensures stamp { IfOk result (λ new. (new ≡ 1) × (get bytes_eq self.old.map name.now ≡ None)) }
         ensures whole { OnOk result (J.broken journal.new ≡ false) }
@@ -366,7 +367,7 @@ impl Tables {
         requires small { amount_in command.now ≤ 10000000000 }
         ensures verdict { MatchResult result
             (λ _. step_verdict self.old.kit (option_map state_of (get bytes_eq self.old.map name.now)) stamp command.now ≡ None)
-            (λ fault. MayRefuse (step_verdict self.old.kit (option_map state_of (get bytes_eq self.old.map name.now)) stamp command.now) J.may_fill (J.broken journal.old) fault (J.broken journal.new)) }
+            (λ fault. MayRefuse (step_verdict self.old.kit (option_map state_of (get bytes_eq self.old.map name.now)) stamp command.now) (J.IsFull journal.old bytes.now) (J.broken journal.old) fault (J.broken journal.new)) }
         ensures world { OnOk result (world_of self.new.map.entries ≡ world_after (world_of self.old.map.entries) name.now command.now) }
         ensures stamp { IfOk result (λ new. new ≡ (state_after (option_map state_of (get bytes_eq self.old.map name.now)) command.now).stamp) }
         ensures whole { OnOk result (J.broken journal.new ≡ false) }

@@ -8,7 +8,7 @@ use std::io::{ErrorKind, Read, Write};
 use std::test::Fail;
 
 // Room for a file of 515 pages, and for the records of a whole half.
-pub(crate) const ROOM: usize = 1 << 22;
+pub(crate) const ROOM: usize = 1 << 23;
 
 pub(crate) const CHART: &[u8] = b"# two rows\n90 100p 112\n. 80y\n";
 

@@ -17,14 +17,12 @@ returns-clause-store g c = λ honest.
     let empty : length (g.D.Disk.state c.args.disk.now).content ≡ 0 = omega (arith, c.len.ensures old, c.if-len-ne0.false) in
     let whole : length c.root_of.result ≡ 36 = search rules in
     let long = c.in_ok-kit.ensures.enough in
-    let short = c.in_ok-kit.ensures.no_longer in
-    let pages = c.in_ok-kit.ensures.pages in
+    let size = c.in_ok-kit.ensures.whole in
     let counts = c.root_of.ensures.pages in
     let content = two_writes (g.D.Disk.state c.args.disk.now) (g.D.Disk.state c.put.new.disk) (g.D.Disk.state c.put-2.new.disk) kit_place spelled c.root_of.result (omega (arith, len, long)) (omega (arith, whole)) (c.in_ok-put.ensures.done mid) (c.in_ok-put-2.ensures.done honest) in
     subst (λ (file : List ℕ). IsNewStore file kit) (sym content)
     (new_store kit (g.D.Disk.state c.args.disk.now).content spelled c.root_of.result _ empty (is ∙ c.in_ok-kit.ensures.bytes) whole c.requires.chart c.requires.roster c.requires.tiles c.requires.board
-    c.root_of.ensures.root (omega (arith, counts, c.len-2.ensures, len)) (omega (arith, len, pages))
-    (omega (arith, len, short)))
+    c.root_of.ensures.root counts (omega (arith, len, size)))
 
 pub returns-clause-each : goal.returns-clause-each
 returns-clause-each g c = λ honest.

@@ -15,12 +15,12 @@ module _ (blank first second third last : List ℕ) (one : Stays 1 blank first) 
   unput i (inr (inr h)) = four i (inr h) ∙ (three i (inr (omega arith)) ∙ (two i (inr (omega arith)) ∙ one i (inr (omega arith))))
 
   is_root : number_from first 1 8 ≡ 1 → number_from second 9 8 ≡ 514 → number_from third 18 8 ≡ 1 → slice_index blank 0 ≡ 165 → slice_index blank 17 ≡ 0 → number_from blank 34 2 ≡ 0 → IsRoot last
-  is_root number directory record_number gate half version =
+  is_root number directory record_number gate part version =
       record {
         open_gate = unput 0 (inl (omega arith)) ∙ gate;
         number = number_from-same first last 1 8 (λ i low high. four i (inl (omega arith)) ∙ (three i (inl (omega arith)) ∙ two i (inl (omega arith)))) ∙ number;
         directory = number_from-same second last 9 8 (λ i low high. four i (inl (omega arith)) ∙ three i (inl (omega arith))) ∙ directory;
-        half = unput 17 (inr (inl refl)) ∙ half;
+        part = unput 17 (inr (inl refl)) ∙ part;
         first_record = number_from-same third last 18 8 (λ i low high. four i (inl (omega arith))) ∙ record_number;
         version = number_from-same blank last 34 2 (λ i low high. unput i (inr (inr low))) ∙ version;
       }

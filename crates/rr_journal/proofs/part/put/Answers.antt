@@ -1,7 +1,7 @@
 use Rattle.std.proofs.Common.{◌∙◌, arith}
 use Rattle.rr_disk.specs.Disk.{Some_out}
 use Rattle.rr_journal.proofs.Lists.{on_err}
-use Rattle.rr_journal.proofs.half.put.Goals as goal
+use Rattle.rr_journal.proofs.part.put.Goals as goal
 
 pub returns-in_err-write_at-clause-failed : goal.returns-in_err-write_at-clause-failed
 returns-in_err-write_at-clause-failed g c = on_err c.from_residual.result c.in_err-write_at.ensures.failed

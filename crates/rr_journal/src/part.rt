@@ -4,28 +4,28 @@ ghost use Rattle.rr_disk.specs.Moments.{LeavesOnly};
 ghost use Rattle.rr_journal.specs.Faults.{CountsFault};
 ghost use Rattle.rr_journal.specs.Layout.{HasRoom, slots_for, spelling};
 
-use crate::layout::{HalfIndex, fits_slots, gate_place, slots_for};
+use crate::layout::{PartIndex, fits_slots, gate_place, slots_for};
 use crate::{Fault, RecordBuffer};
 use rr_disk::Disk;
 
-/// A half of the journal, and where its next record goes.
+/// A part of the journal, and where its next record goes.
 #[derive(Clone, Copy, Debug, PartialEq, Eq)]
-pub struct Half {
-    pub index: HalfIndex,
-    /// The slot in which the next record begins, 0 to 255. At 255 the half is full.
+pub struct Part {
+    pub index: PartIndex,
+    /// The slot in which the next record begins, 0 to 255. At 255 the part is full.
     pub next_slot: u8,
 }
 
-impl Half {
+impl Part {
     ghost use Rattle.rr_journal.specs.Run.{Run};
     ghost use Rattle.rr_journal.specs.declared.reading.RunEnd.TheVariants.{Closed};
     ghost use Rattle.rr_journal.specs.Stops.{next_gate, IsReady, Keeps, MayLeave};
 
-    /// Writes a record behind those of the half, and returns once it is on the disk: its bytes and the closed gate
+    /// Writes a record behind those of the part, and returns once it is on the disk: its bytes and the closed gate
     /// behind them in one write, a sync, its gate in one write, a sync. It takes no memory.
     ///
-    /// `HalfFull` where the half's slots don't suffice, or the bytes are more than two slots hold; then no device call
-    /// was made. `Disk` where a device call failed: the record may be on the disk or not, and the half must be read
+    /// `HalfFull` where the part's slots don't suffice, or the bytes are more than two slots hold; then no device call
+    /// was made. `Disk` where a device call failed: the record may be on the disk or not, and the part must be read
     /// again before anything is appended.
     pub fn append<D: Disk>(
         &mut self,
@@ -63,7 +63,7 @@ impl Half {
             → LeavesOnly (D.past disk.old) (D.state disk.old) (D.past disk.new) (D.state disk.new)
             (MayLeave self.old (D.state disk.old) number bytes.now) }
 
-        // So it leaves the half's records from before the call, with the new one or without.
+        // So it leaves the part's records from before the call, with the new one or without.
         ensures before_or_after { D.Honest disk.new → (first : ℕ) (lines : List (List ℕ))
             → Keeps self.old (D.state disk.old) first lines → number ≡ first + length lines
             → LeavesOnly (D.past disk.old) (D.state disk.old) (D.past disk.new) (D.state disk.new)
@@ -96,7 +96,7 @@ impl Half {
     /// The byte of the file at which the next slot begins: its gate.
     pub fn next_gate(&self) -> u64
         ensures place { result ≡ next_gate self.now }
-        ensures small { result < 4096 * 514 }
+        ensures small { result < 4096 * 1092 }
     {
         gate_place(self.index, self.next_slot)
     }
