@@ -1,20 +1,24 @@
 -- The board that rows spell, and the first row that is wrong where they spell none.
 use Rattle.std.proofs.Common.{◌≡◌, ℕ, ◌+◌, ◌<◌, ◌≤◌, suc, refl, sym, ap, ◌∙◌, subst, List, [], ◌∷◌, ◌++◌, length, map, get_or, take, drop, append-nil, append_assoc, length-append, Option, None, Some, option_and_then, inl, inr, arith}
-use Rattle.std.specs.Prelude.{Bool, false, true}
+use Rattle.std.specs.Prelude.{Bool, codes, false, true}
 use Rattle.std.specs.List.{AllZip}
 use Rattle.std.proofs.Math.Seq.{drop-cons, get_or-append_seam, take-append_seam}
 use Rattle.std.proofs.lemmas.Bool.{cases_order}
 use Rattle.std.proofs.lemmas.List.{get_or_append_left, map-append, take_all, take-append-drop, take-append-le}
+use Rattle.std.proofs.lemmas.List.Sums.{sum_by-cons}
 use Rattle.std.proofs.lemmas.Option.{none-some, same_Some}
 use Rattle.rr_words.specs.Text.{NumberedWords, row_of, rows_of, IsSmallAscii}
 use Rattle.rr_words.specs.declared.text.Row.{Row}
 use Rattle.rr_tiles.specs.Each.{added}
+use Rattle.rr_tiles.specs.Tile.{centres_of}
 use Rattle.rr_tiles.proofs.EachLemmas.{added-cons, added-front_none, added-kept, added-none, added-one}
+use Rattle.rr_tiles.proofs.WordCountLemmas.{centres-le-words, words_in_rows, words_in_rows-cons, words_in_rows-text}
 use Rattle.rr_board.specs.Lines.{add_line, plan_of}
 use Rattle.rr_board.specs.Plan.{Plan, bare}
 use Rattle.rr_board.specs.Reading.{IsBadAt, IsFirstWrong, IsRefusal, IsRowsFault, NotSmallAscii, Spells, SpellsRows, WithoutHex, WrongLine}
-use Rattle.rr_board.specs.Sound.{IsBoard}
-use Rattle.rr_board.specs.Spelling.{HasItsHexIn, Line, SpellsLine, StandBehindTheirHexes, blocks_in, hexes_in, homes_in}
+use Rattle.rr_board.specs.Sound.{IsBoard, IsWholeBoard, centres_on}
+use Rattle.rr_board.specs.Spelling.{HasItsHexIn, Line, SpellsLine, StandBehindTheirHexes, blocks_in, colour_word, hexes_in, homes_in, place_word}
+use Rattle.rr_board.specs.Spelling.Line.{BlockLine, HexLine, HomeLine}
 use Rattle.rr_board.specs.declared.fault.Fault.{Fault}
 use Rattle.rr_board.specs.declared.fault.Fault.TheVariants.{BadBoard, OutOfMemory}
 use Rattle.rr_board.proofs.AddingLemmas.{add_line-found, add_line-spelled, and_line, plan_for, plan_for-more, plan_is}
@@ -174,3 +178,26 @@ Spells-read text rows plan small rows_are read some = record { small_ascii = sma
 
 pub Spells-once : (text : List ℕ) (plan other : Plan) → Spells text plan → Spells text other → other ≡ plan
 Spells-once text plan other first second = SpellsRows-once (rows_of text) plan other first.rows_spelled second.rows_spelled
+
+-- a board's text has a word for each centre
+centres_on-lines : (rows : List NumberedWords) (lines : List Line) → AllZip SpellsLine (words_in rows) lines → centres_on (hexes_in lines) ≤ words_in_rows rows
+centres_on-lines [] [] each = omega arith
+centres_on-lines [] (line ∷ lines) each = absurd each
+centres_on-lines (row ∷ rows) [] each = absurd each
+centres_on-lines (row ∷ rows) (HexLine hex ∷ lines) each =
+    let hex_words = each.0 in
+    let words : length row.words ≡ length (codes "hex" ∷ hex.name ∷ place_word hex.place ∷ colour_word hex.colour ∷ (hex_words.cost_words ++ hex_words.tile_words)) = ap length hex_words.words_are in
+    let sum : centres_on (hex ∷ hexes_in lines) ≡ length (centres_of hex.tile.parts) + centres_on (hexes_in lines) = sum_by-cons (λ h. length (centres_of h.tile.parts)) hex (hexes_in lines) in
+    omega (arith, words, sum, length-append hex_words.cost_words hex_words.tile_words, words_in_rows-cons row rows, centres-le-words hex_words.tile_words hex.tile hex_words.tile_spelled, centres_on-lines rows lines each.1)
+centres_on-lines (row ∷ rows) (HomeLine home ∷ lines) each = omega (arith, words_in_rows-cons row rows, centres_on-lines rows lines each.1)
+centres_on-lines (row ∷ rows) (BlockLine block ∷ lines) each = omega (arith, words_in_rows-cons row rows, centres_on-lines rows lines each.1)
+
+pub IsWholeBoard-spelled : (text : List ℕ) (plan : Plan) → Spells text plan → IsWholeBoard plan
+IsWholeBoard-spelled text plan spelled =
+    let rows = spelled.rows_spelled in
+    let same : centres_on plan.hexes ≡ centres_on (hexes_in rows.lines) = ap centres_on rows.hexes_are in
+    record {
+      is_board = rows.is_board;
+      some_hex = spelled.some_hex;
+      few_centres = omega (arith, same, centres_on-lines (rows_of text) rows.lines rows.each_row, words_in_rows-text text, spelled.small_ascii.small);
+    }

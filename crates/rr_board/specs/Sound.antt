@@ -1,8 +1,9 @@
 -- What a board may have.
-use Rattle.std.specs.Prelude.{◌≡◌, ◌≢◌, ℕ, ◌+◌, ◌≤◌, ℤ, pos, negsuc, true, List, length, count_by, All, AllPairs, Any, Contains, Some}
+use Rattle.std.specs.Prelude.{◌≡◌, ◌≢◌, ℕ, ◌+◌, ◌≤◌, ℤ, pos, negsuc, true, List, length, count_by, sum_by, All, AllPairs, Any, Contains, Some}
 use Rattle.std.specs.List.{list_any}
 use Rattle.rr_words.specs.Name.{IsHexName}
 use Rattle.rr_tiles.specs.Sound.{IsTile}
+use Rattle.rr_tiles.specs.Tile.{centres_of}
 use Rattle.rr_board.specs.declared.hex.Colour.TheVariants.{Red}
 use Rattle.rr_board.specs.declared.hex.Hex.{Hex}
 use Rattle.rr_board.specs.declared.hex.Home.{Home}
@@ -56,3 +57,13 @@ pub record IsBoard (plan : Plan) : Type 0 where
   pub places_once : AllPairs HaveDifferentPlaces plan.hexes
   pub fair_homes : All (IsFairHome plan) plan.homes
   pub one_home_each : AllPairs AreOfDifferentCorps plan.homes
+
+-- how many centres are printed on the hexes
+abbrev pub centres_on : List Hex → ℕ
+centres_on hexes = sum_by (λ hex. length (centres_of hex.tile.parts)) hexes
+
+-- a board with a hex, and with no more centres than a text has bytes
+pub record IsWholeBoard (plan : Plan) : Type 0 where
+  pub is_board : IsBoard plan
+  pub some_hex : 1 ≤ length plan.hexes
+  pub few_centres : centres_on plan.hexes ≤ 65536

@@ -1,4 +1,7 @@
 //! What a board has: hexes, homes and blocked hexes.
+ghost use Rattle.std.specs.Prelude.{◌≡◌, option_map};
+ghost use Rattle.rr_board.specs.Plan.{hex_named};
+
 use rr_roster::{Corp, Private};
 use rr_tiles::Tile;
 use rr_words::HexName;
@@ -50,4 +53,11 @@ pub struct Home {
 pub struct Block {
     pub private: Private,
     pub hex: HexName,
+}
+
+// the hex of a name, if there is one
+pub(crate) fn hex_named<'a>(hexes: &'a [Hex], name: &[u8]) -> Option<&'a Hex>
+    ensures { option_map (λ hex. hex.now) result ≡ hex_named hexes.now name.now }
+{
+    hexes.iter().find(|hex| hex.name.as_bytes() == name)
 }

@@ -2,6 +2,7 @@
 #![tactic(auto)]
 
 mod board;
+mod draft;
 mod fault;
 mod hex;
 mod hex_words;

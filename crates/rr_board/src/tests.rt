@@ -18,6 +18,7 @@ block SV F
 #[test]
 fn reads_the_small_board(rt: HostRuntime) -> Result<(), Fail> {
     let board = Board::read(rt.alloc(), SMALL)?;
+    board.keeps_rules();
     let hexes = board.hexes();
     assert_eq!(rt; hexes.len(), 6);
     for (i, name, q, r, colour, parts) in [

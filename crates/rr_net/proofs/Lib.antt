@@ -5,3 +5,4 @@ pub mod CentreLemmas
 pub mod ReachLemmas
 pub mod LyingLemmas
 pub mod CityLemmas
+pub mod ValueLemmas

@@ -1,6 +1,7 @@
 //! The centres of a net: those with a token of the corporation, those where its routes end, and what each is worth.
-ghost use Rattle.std.specs.Prelude.{◌≡◌, ◌<◌, ◌^◌, All, map, IfOk};
+ghost use Rattle.std.specs.Prelude.{◌≡◌, ℕ, ◌≤◌, All, map, slice_index, IfOk};
 ghost use Rattle.rr_net.specs.Centres.{ends_routes, has_own_token, is_late, places, stands_at, value_in};
+ghost use Rattle.rr_network.specs.Stops.{IsStop};
 ghost use Rattle.rr_network.specs.Walk.{has_token, is_filled, is_other_at, token_at};
 ghost use Rattle.rr_network.specs.declared.node.Node.TheVariants as N;
 
@@ -98,8 +99,9 @@ pub(crate) fn values_in(
     phase: TrainKind,
     stops: &[Stop],
 ) -> Result<Vec<u32>, AllocError>
+    requires { All IsStop stops.now }
     ensures values { IfOk result (λ values. values.items ≡ map (value_in phase) stops.now) }
-    ensures small { IfOk result (λ values. All (λ value. value < 2 ^ 16) values.items) }
+    ensures modest { IfOk result (λ values. (centre : ℕ) → slice_index values.items centre ≤ 990) }
 {
     let mut values = Vec::new(alloc);
     for stop in stops {

@@ -2,4 +2,5 @@ pub mod Node
 pub mod Facing
 pub mod Layout
 pub mod Network
+pub mod Stops
 pub mod Walk

@@ -7,6 +7,7 @@ mod network;
 mod node;
 mod reach;
 mod step;
+mod survey;
 
 pub use layout::{Lay, Layout, Station};
 pub use network::{Network, Stop, last_lay};

@@ -8,3 +8,4 @@ pub mod ManifestLemmas
 pub mod OptionLemmas
 pub mod SupplyLemmas
 pub mod TileLemmas
+pub mod WordCountLemmas

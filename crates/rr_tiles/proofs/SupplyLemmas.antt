@@ -103,6 +103,7 @@ supply_of-found (colour ∷ number ∷ count ∷ text) supply is =
         number_to_999 = found.to_999;
         count_from_1 = found.count_is.from_1;
         count_to_50 = found.count_is.to_50;
+        sound_tile = (tile_of-found text tile.0 tile.1).is_tile;
         no_off_board = kept.0;
       };
     })

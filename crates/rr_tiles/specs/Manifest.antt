@@ -2,6 +2,7 @@
 use Rattle.std.specs.Prelude.{◌≡◌, ◌≢◌, ℕ, ◌≤◌, false, List, [], ◌∷◌, ◌++◌, map, codes, decimal, All, AllPairs}
 use Rattle.std.specs.List.{AllZip}
 use Rattle.rr_words.specs.Text.{NumberedWords, rows_of, IsSmallAscii}
+use Rattle.rr_tiles.specs.Sound.{IsTile}
 use Rattle.rr_tiles.specs.Spelling.{SpellsTile}
 use Rattle.rr_tiles.specs.Supply.{has_off_board}
 use Rattle.rr_tiles.specs.declared.fault.Fault.{Fault}
@@ -15,12 +16,13 @@ colour_word Yellow = codes "yellow"
 colour_word Green = codes "green"
 colour_word Brown = codes "brown"
 
--- a number from 1 to 999 and a count from 1 to 50, of a tile without an off-board area
+-- a number from 1 to 999 and a count from 1 to 50, of a sound tile without an off-board area
 pub record IsSupply (supply : Supply) : Type 0 where
   pub number_from_1 : 1 ≤ supply.number
   pub number_to_999 : supply.number ≤ 999
   pub count_from_1 : 1 ≤ supply.count
   pub count_to_50 : supply.count ≤ 50
+  pub sound_tile : IsTile supply.tile
   pub no_off_board : has_off_board supply.tile.parts ≡ false
 
 -- the words are the colour, the number, x and the count, and words that spell the tile

@@ -2,7 +2,7 @@ use Rattle.std.proofs.Common.{ap, ◌∙◌}
 use Rattle.rr_board.specs.Lines.{with_hex}
 use Rattle.std.specs.Prelude.{option_and_then}
 use Rattle.rr_board.proofs.LineLemmas.{add_hex-short, add_hex-long}
-use Rattle.rr_board.proofs.board.Board.take_hex.Goals as goal
+use Rattle.rr_board.proofs.draft.Draft.take_hex.Goals as goal
 
 pub returns-in_default : goal.returns-in_default
 returns-in_default c = add_hex-short _ _ c.in_default.len_below

@@ -1,6 +1,6 @@
 use Rattle.std.proofs.Common.{arith}
 use Rattle.rr_network.proofs.NetworkLemmas.{parts_next, parts_done}
-use Rattle.rr_network.proofs.network.Network.add_parts.Goals as goal
+use Rattle.rr_network.proofs.survey.Survey.add_parts.Goals as goal
 
 pub loop-part-preserved : goal.loop-part-preserved
 loop-part-preserved c =
