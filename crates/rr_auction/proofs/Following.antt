@@ -5,8 +5,9 @@ use Rattle.rr_books.specs.Book.{Book}
 use Rattle.rr_books.specs.State.{IsStateOf}
 use Rattle.rr_desk.specs.Desk.{OnDesk}
 use Rattle.rr_desk.specs.Effects.{Effect, Takes, in_turn}
+use Rattle.rr_desk.specs.Playing as playing
 use Rattle.rr_auction.specs.Plays.{Plays}
-use Rattle.rr_auction.specs.Progress.{Progress, after, beginning, follow, progress}
+use Rattle.rr_auction.specs.Progress.{Progress, IsProgressOf, after, beginning, follow, progress}
 
 pub follow-append : (book xs ys : Book) (a : Progress) → follow book a (xs ++ ys) ≡ follow (book ++ xs) (follow book a xs) ys
 follow-append book [] ys a = ap (λ (b : Book). follow b a ys) (sym (append-nil book))
@@ -29,63 +30,12 @@ plays_of f a b old new taken made book h k =
 
 -- no effect
 pub plays_nothing : (a : Progress) (d : OnDesk) → Plays (in_turn []) a d a d
-plays_nothing a d book h k = (sym (append-nil d.entries), h, k)
+plays_nothing a d = playing.plays_nothing IsProgressOf d a
 
 -- an effect, and then the others
 pub plays_then : (f : Effect) (fs : List Effect) (a b c : Progress) (d e g : OnDesk) → Plays f a d b e → Plays (in_turn fs) b e c g → Plays (in_turn (f ∷ fs)) a d c g
-plays_then f fs a b c d e g first others book h k =
-    let present = book ++ d.entries in
-    let one = first book h k in
-    let two = others book one.1 one.2 in (
-      two.0
-          ∙ ap (λ (es : Book). es ++ in_turn fs (book ++ es)) one.0
-          ∙ ap (λ (so_far : Book). (d.entries ++ f present) ++ in_turn fs so_far) (sym (append_assoc book d.entries (f present)))
-          ∙ append_assoc d.entries (f present) (in_turn fs (present ++ f present)),
-      two.1,
-      two.2,
-    )
+plays_then f fs a b c d e g first others = playing.plays_then IsProgressOf f fs d e g a b c first others
 
 -- one effect alone
 pub plays_one : (f : Effect) (a b : Progress) (d e : OnDesk) → Plays f a d b e → Plays (in_turn (f ∷ [])) a d b e
-plays_one f a b d e first = plays_then f [] a b b d e e first (plays_nothing b e)
-
-in_turn-append : (fs gs : List Effect) (book : Book) → in_turn (fs ++ gs) book ≡ in_turn fs book ++ in_turn gs (book ++ in_turn fs book)
-in_turn-append [] gs book = ap (λ (b : Book). in_turn gs b) (sym (append-nil book))
-in_turn-append (f ∷ fs) gs book =
-    let more = f book in
-    let rest = in_turn fs (book ++ more) in
-    ap (λ (es : Book). more ++ es) (in_turn-append fs gs (book ++ more))
-    ∙ sym (append_assoc more rest (in_turn gs ((book ++ more) ++ rest)))
-    ∙ ap (λ (b : Book). (more ++ rest) ++ in_turn gs b) (append_assoc book more rest)
-
--- some effects, and then one more
-pub plays_more : (fs : List Effect) (f : Effect) (a b c : Progress) (d e g : OnDesk) → Plays (in_turn fs) a d b e → Plays f b e c g → Plays (in_turn (fs ++ f ∷ [])) a d c g
-plays_more fs f a b c d e g first last book h k =
-    let present = book ++ d.entries in
-    let one = first book h k in
-    let two = last book one.1 one.2 in
-    let es = in_turn fs present in (
-      two.0
-          ∙ ap (λ (xs : Book). xs ++ f (book ++ xs)) one.0
-          ∙ append_assoc d.entries es (f (book ++ (d.entries ++ es)))
-          ∙ ap (λ (b : Book). d.entries ++ (es ++ f b)) (sym (append_assoc book d.entries es))
-          ∙ ap (λ (xs : Book). d.entries ++ (es ++ xs)) (sym (append-nil (f (present ++ es))))
-          ∙ ap (λ (xs : Book). d.entries ++ xs) (sym (in_turn-append fs (f ∷ []) present)),
-      two.1,
-      two.2,
-    )
-
-pub takes_more : (fs : List Effect) (f : Effect) (d e g : OnDesk) → Takes (in_turn fs) d e → Takes f e g → Takes (in_turn (fs ++ f ∷ [])) d g
-takes_more fs f d e g first last book h =
-    let present = book ++ d.entries in
-    let one = first book h in
-    let two = last book one.1 in
-    let es = in_turn fs present in (
-      two.0
-          ∙ ap (λ (xs : Book). xs ++ f (book ++ xs)) one.0
-          ∙ append_assoc d.entries es (f (book ++ (d.entries ++ es)))
-          ∙ ap (λ (b : Book). d.entries ++ (es ++ f b)) (sym (append_assoc book d.entries es))
-          ∙ ap (λ (xs : Book). d.entries ++ (es ++ xs)) (sym (append-nil (f (present ++ es))))
-          ∙ ap (λ (xs : Book). d.entries ++ xs) (sym (in_turn-append fs (f ∷ []) present)),
-      two.1,
-    )
+plays_one f a b d e first = playing.plays_one IsProgressOf f d e a b first

@@ -14,11 +14,12 @@ use Rattle.rr_books.specs.ShareLaws.{holder-of_state}
 use Rattle.rr_books.specs.State.{State, IsStateOf, cash_of, holder_in}
 use Rattle.rr_desk.specs.Desk.{OnDesk}
 use Rattle.rr_desk.specs.Effects.{Effect, Takes, adds}
+use Rattle.rr_desk.specs.Playing as playing
 use Rattle.rr_auction.specs.declared.fault.Fault.{Fault}
 use Rattle.rr_auction.specs.declared.fault.Fault.TheVariants as F
 use Rattle.rr_auction.specs.Effects.{entries_of, row}
 use Rattle.rr_auction.specs.Plays.{Plays}
-use Rattle.rr_auction.specs.Progress.{Progress, after_act, progress}
+use Rattle.rr_auction.specs.Progress.{Progress, IsProgressOf, after_act, progress}
 use Rattle.rr_auction.specs.Rules.{Accounts, verdict, verdict_in}
 use Rattle.rr_auction.proofs.Following.{plays_of}
 
@@ -38,9 +39,7 @@ row_shown roster rows act book s a h k =
 
 -- the same entries, by another effect
 pub plays_same : (f g : Effect) (a b : Progress) (old new : OnDesk) → ((book : Book) → IsStateOf book old.books → progress book ≡ a → f book ≡ g book) → Plays f a old b new → Plays g a old b new
-plays_same f g a b old new same played book h k =
-    let all = played book h k in
-    (all.0 ∙ ap (λ (es : Book). old.entries ++ es) (same (book ++ old.entries) h k), all.1, all.2)
+plays_same f g a b old new same played = playing.plays_same IsProgressOf f g old new a b same played
 
 -- the command that the table is told
 pub plays_said : (act : Act) (a b : Progress) (old new : OnDesk) → b ≡ after_act old.books.players (holder_in old.books) a act → Takes (adds (E.Step (M.Act act))) old new → Plays (adds (E.Step (M.Act act))) a old b new

@@ -3,3 +3,4 @@ pub mod Effects
 pub mod EffectLaws
 pub mod Incomes
 pub mod Seating
+pub mod Playing

@@ -1,4 +1,5 @@
 pub mod KitLemmas
+pub mod OneKit
 pub mod LeavesAuction
 pub mod Leaving
 pub mod StockLeaves

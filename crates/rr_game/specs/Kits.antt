@@ -72,6 +72,10 @@ pub record SpellsKit (texts : KitTexts) (kit : Kit) : Type 0 where
   pub tiles : IsManifestText texts.tiles
   pub board : IsBoardText texts.board
 
+-- texts spell one kit
+abbrev pub OneKit : Type 0
+OneKit = (texts : KitTexts) (kit other : Kit) → SpellsKit texts kit → SpellsKit texts other → kit ≡ other
+
 -- each of the four texts is right
 abbrev pub IsRightKit : KitTexts → Type 0
 IsRightKit texts = (kit : Kit) × SpellsKit texts kit

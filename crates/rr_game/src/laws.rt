@@ -1,4 +1,5 @@
 //! Laws of the definitions, each the contract of a function that does nothing.
+ghost use Rattle.rr_game.specs.Kits.{OneKit};
 ghost use Rattle.rr_game.specs.Sound.{KitsNameCorporations, PlaysGoOn, TablesStaySound};
 
 /// Whatever two to six players open a table, with a kit whose roster names each corporation, and whatever commands it
@@ -12,6 +13,11 @@ pub fn sound()
     rr_stock::laws::pool_stays_within_half();
     rr_stock::laws::lawful_sales_move_shares();
 }
+
+/// The four texts of a kit spell one chart and one roster.
+pub fn kits_are_told_apart()
+    ensures { OneKit }
+{}
 
 /// The roster of each right kit names each corporation.
 pub fn kits_name_corporations()

@@ -135,6 +135,7 @@ fn the_first_wrong_text_is_told(rt: HostRuntime) -> Result<(), Fail> {
 #[test]
 fn laws_are_called(_rt: HostRuntime) {
     laws::sound();
+    laws::kits_are_told_apart();
     laws::kits_name_corporations();
     laws::plays_go_on();
 }

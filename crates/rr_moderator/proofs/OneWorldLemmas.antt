@@ -2,9 +2,12 @@
 use Rattle.std.proofs.Common.{◌≡◌, ℕ, List, [], ◌∷◌, false, refl, sym, subst, ◌∙◌}
 use Rattle.rr_game.specs.declared.kit.Kit.{Kit}
 use Rattle.rr_code.proofs.TextLemmas.{record-unique}
-use Rattle.rr_keeper.specs.File.{kit_place}
+use Rattle.rr_game.specs.Kits.{SpellsKit}
+use Rattle.rr_game.proofs.OneKit as game_kits
+use Rattle.rr_keeper.specs.File.{kit_place, Kit as Texts}
 use Rattle.rr_keeper.proofs.Parts.{one_reading}
 use Rattle.rr_keeper.proofs.Kits.{one_kit}
+use Rattle.rr_moderator.specs.Formatting.{kit_texts}
 use Rattle.rr_moderator.specs.Replaying.{Replays, TakesRecord}
 use Rattle.rr_moderator.specs.World.{World, world_after}
 use Rattle.rr_moderator.specs.OneWorld.{NewStoreOpens, OneWorld}
@@ -22,9 +25,11 @@ same_replay kit other old a b (bytes ∷ records) ra rb =
 
 pub one_world : OneWorld
 one_world file a b one other =
-    let records = one_reading file one.records other.records _ _ one.store.records other.store.records in (
-      one_kit file kit_place one.texts other.texts one.store.texts other.store.texts,
+    let records = one_reading file one.records other.records _ _ one.store.records other.store.records in
+    let texts = one_kit file kit_place one.texts other.texts one.store.texts other.store.texts in (
+      texts,
       records.0,
+      game_kits.one_kit (kit_texts one.texts) a.kit b.kit one.replayed.right (subst (λ (t : Texts). SpellsKit (kit_texts t) b.kit) texts other.replayed.right),
       same_replay a.kit b.kit [] a.tables b.tables one.records one.replayed.replayed
           (subst (λ (rs : List (List ℕ)). Replays b.kit [] rs b.tables) records.0 other.replayed.replayed),
       one.whole ∙ sym other.whole,
