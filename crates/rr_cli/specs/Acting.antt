@@ -6,6 +6,7 @@ use Rattle.rr_disk.specs.Moments.{EachImage}
 use Rattle.rr_keeper.specs.File.{IsNewStore, Kit as Texts}
 use Rattle.rr_keeper.specs.Opening.{SyncsOnce}
 use Rattle.rr_serve.specs.declared.faults.Fault as serve
+use Rattle.rr_serve.specs.Answering.{AppendsFront}
 use Rattle.rr_serve.specs.Serving.{Session}
 use Rattle.rr_moderator.specs.declared.fault.Fault.{Fault}
 use Rattle.rr_moderator.specs.declared.fault.Fault.TheVariants.{DeviceFailed, NotEmpty, OutOfMemory}
@@ -23,15 +24,15 @@ use Rattle.rr_cli.specs.declared.ending.Ending.TheVariants.{Done, Faulted}
 use Rattle.rr_cli.specs.declared.plans.Plan.{Plan}
 use Rattle.rr_cli.specs.declared.plans.Plan.TheVariants.{Format, Serve}
 
--- `ok` was written and all is done, or the writer failed
+-- `ok` was written and all is done, or a front of it, and the writer failed
 abbrev pub IsAcknowledged : Option (List ℕ) → Option (List ℕ) → Ending → Type 0
 IsAcknowledged contents held ending =
-    ((ending ≡ Done) × Appends contents held (codes "ok\n")) ⊎ (ending ≡ Faulted 69)
+    ((ending ≡ Done) × Appends contents held (codes "ok\n")) ⊎ ((ending ≡ Faulted 69) × AppendsFront contents held (codes "ok\n"))
 
--- the refusal was written and the program ends with its number, or the writer failed
+-- the refusal was written and the program ends with its number, or a front of it, and the writer failed
 abbrev pub IsRefused : Fault → Option (List ℕ) → Option (List ℕ) → Ending → Type 0
 IsRefused fault contents held ending =
-    ((ending ≡ Faulted (number_of fault)) × Appends contents held (refusal_of fault)) ⊎ (ending ≡ Faulted 69)
+    ((ending ≡ Faulted (number_of fault)) × Appends contents held (refusal_of fault)) ⊎ ((ending ≡ Faulted 69) × AppendsFront contents held (refusal_of fault))
 
 -- the refusal was written, or that of want of memory where there was no room for it, or the writer failed
 abbrev pub IsRefusedOr70 : Fault → Option (List ℕ) → Option (List ℕ) → Ending → Type 0

@@ -1,7 +1,8 @@
 //! What the program does with a plan, over a disk, a reader and a writer.
-ghost use Rattle.std.specs.Prelude.{◌≡◌, ◌⊎◌, IsTrue};
+ghost use Rattle.std.specs.Prelude.{◌≡◌, ◌⊎◌, IsTrue, false};
 ghost use Rattle.std.specs.Io.KnownBytes.{Appends};
 ghost use Rattle.rr_keeper.specs.Lent.{lent_kit};
+ghost use Rattle.rr_serve.specs.Answering.{AppendsFront};
 ghost use Rattle.rr_moderator.specs.Fault.{refusal_of};
 ghost use Rattle.rr_cli.specs.Acting.{Acts, Formats, IsAcknowledged, IsRefused, IsRefusedOr70, Serves, ending_of};
 
@@ -124,12 +125,17 @@ fn write_refusal<W: Write>(fault: Fault, line: &[u8], writer: &mut W) -> Ending
     }
 }
 
-/// Writes the whole line and lets the writer hold nothing back.
+/// Writes the whole line and lets the writer hold nothing back; or a front of it, where the writer fails.
 fn write_line<W: Write>(line: &[u8], writer: &mut W) -> bool
-    ensures { IsTrue result → Appends (W.contents writer.old) (W.contents writer.new) line.now }
+    ensures written { IsTrue result → Appends (W.contents writer.old) (W.contents writer.new) line.now }
+    ensures failed { result ≡ false → AppendsFront (W.contents writer.old) (W.contents writer.new) line.now }
 {
-    if writer.write_all(line).is_err() {
-        return false;
+    let mut written = 0;
+    while written < line.len() {
+        match writer.write(&line[written..]) {
+            Ok(count) if 0 < count => written += count,
+            _ => return false,
+        }
     }
     writer.flush().is_ok()
 }
