@@ -1,4 +1,5 @@
-//! Times the search on random boards of 30 to 50 hexes: how often it gives a certificate, and how long it takes.
+//! Times the search on random boards of 30 to 50 hexes: how often it gives a certificate, and how long it takes. The trains
+//! are those of the late game.
 #![tactic(auto)]
 
 use anyhow::Result;
@@ -106,14 +107,16 @@ fn net_of(alloc: Global, dice: &mut Dice, trains: usize, tokens: usize) -> Resul
     let mut limits = Vec::new(alloc);
     for _train in 0..trains {
         limits.push(match dice.below(4) {
-            0 => CentreLimit::AtMost(3),
-            1 => CentreLimit::AtMost(4),
-            2 => CentreLimit::AtMost(5),
+            0 => CentreLimit::AtMost(4),
+            1 => CentreLimit::AtMost(5),
+            2 => CentreLimit::AtMost(6),
             _ => CentreLimit::Unlimited,
         })?;
     }
     Ok(Net::new(board.links, stations, board.terminals, board.values, limits))
 }
+
+const ROUNDS: usize = 50;
 
 fn main(rt: HostRuntime) -> Result<()> {
     for trains in 1..5usize {
@@ -122,7 +125,7 @@ fn main(rt: HostRuntime) -> Result<()> {
             let mut given = 0;
             let mut slow = 0;
             let mut longest = 0;
-            for _round in 0..10 {
+            for _round in 0..ROUNDS {
                 let net = net_of(rt.alloc(), &mut dice, trains, tokens)?;
                 let start = Instant::now(&rt)?;
                 if best(rt.alloc(), &net, 1024).is_ok() {
@@ -134,7 +137,7 @@ fn main(rt: HostRuntime) -> Result<()> {
                     slow += 1;
                 }
             }
-            println!(rt; "{trains} trains, {tokens} tokens: {given} of 10 certified, {slow} over 100 ms, the longest {longest} ms")?;
+            println!(rt; "{trains} trains, {tokens} tokens: {given} of {ROUNDS} certified, {slow} over 100 ms, the longest {longest} ms")?;
         }
     }
     Ok(())

@@ -3,12 +3,13 @@ ghost use Rattle.std.specs.Prelude.{◌≡◌, ◌≤◌, IfSome, MatchResult, t
 ghost use Rattle.rr_search.specs.Found.{AreKinds, IsCertified, IsModest};
 ghost use Rattle.rr_search.specs.declared.fault.Fault.TheVariants.{OutOfMemory};
 
-use crate::certificate::{Purse, tree_for};
+use crate::certificate::tree_for;
+use crate::choice::Aim;
 use crate::fault::Fault;
 use crate::routes::lines_of;
-use crate::runs::{Attempt, Choices, improve};
+use crate::runs::{Attempt, Choices, Trial, improve};
 use crate::tracks::{Tracks, reached_tracks};
-use rr_checker::{CertTree, Fate, Net, check};
+use rr_checker::{CertTree, Net, check};
 use rr_roster::Kind;
 use rr_runs::{Fault as Refusal, legal};
 use rr_sheets::{LinkNumbers, Sheet, TrainWord};
@@ -17,11 +18,12 @@ use std::alloc::{AllocError, Global};
 // how many routes are tried beside others
 const TRIES: usize = 200_000;
 
-// how often a search for a tree may look at what a train reaches
-const LOOKS: usize = 8000;
+// how often a search for a tree may look at what the trains reach
+const LOOKS: usize = 8_000;
 
-// what a track beside decided ones weighs in the searches for a tree, one after the other, in hundredths
-const WEIGHTS: [u64; 3] = [85, 100, 60];
+// how the searches for a tree, one after the other, guess at the size of trees: what doubles it, and what a track beside
+// decided ones weighs in hundredths
+const GUESSES: [(u64, u64); 2] = [(10, 90), (5, 60)];
 
 // a run that earns most, and a certificate of at most so many nodes, if the search finds both
 pub(crate) fn candidate(
@@ -35,8 +37,13 @@ pub(crate) fn candidate(
 {
     let tracks = reached_tracks(alloc, net)?;
     let (sheet, worth) = good_sheet(alloc, &tracks, kinds)?;
-    for near in WEIGHTS {
-        if let Some(tree) = tree_within(alloc, &tracks, worth, near, limit)? {
+    for (doubling, near) in GUESSES {
+        let aim = Aim {
+            claim: worth,
+            doubling,
+            near,
+        };
+        if let Some(tree) = tree_for(alloc, &tracks, &aim, limit, LOOKS)? {
             if stands(alloc, net, &sheet, &tree, limit)? {
                 return Ok(Some((sheet, tree)));
             }
@@ -69,24 +76,6 @@ fn stands(
     }
 }
 
-// a tree of at most so many nodes for the claim
-fn tree_within(
-    alloc: Global,
-    tracks: &Tracks,
-    claim: u64,
-    near: u64,
-    limit: usize,
-) -> Result<Option<CertTree>, AllocError> {
-    let mut fates = vec![in alloc; Fate::Open; tracks.places.len()]?;
-    let mut purse = Purse {
-        nodes: limit,
-        looks: LOOKS,
-    };
-    tree_for(
-        alloc, tracks, claim, near, &mut fates, &mut purse, limit, None,
-    )
-}
-
 // the sheet of a run that earns much, and what it earns
 fn good_sheet(alloc: Global, tracks: &Tracks, kinds: &[Kind]) -> Result<(Sheet, u64), AllocError> {
     let mut trains = Vec::new(alloc);
@@ -94,19 +83,15 @@ fn good_sheet(alloc: Global, tracks: &Tracks, kinds: &[Kind]) -> Result<(Sheet, 
         let lines = lines_of(alloc, tracks, limit)?;
         trains.push(Choices { lines })?;
     }
-    let mut best = Attempt::new(alloc);
-    let mut tries = TRIES;
-    let nothing = Attempt::new(alloc);
-    improve(
-        alloc,
-        &trains,
-        trains.len(),
-        &nothing,
-        &mut best,
-        &mut tries,
-    )?;
-    let sheet = written(alloc, tracks, &trains, kinds, &best)?;
-    Ok((sheet, best.worth))
+    let mut trial = Trial::new(alloc, tracks.ways.len(), TRIES)?;
+    improve(alloc, &trains, trains.len(), 0, &mut trial)?;
+    match &trial.best {
+        None => Ok((Sheet::new(alloc), 0)),
+        Some(best) => {
+            let sheet = written(alloc, tracks, &trains, kinds, best)?;
+            Ok((sheet, best.worth))
+        }
+    }
 }
 
 // the picks as a sheet

@@ -1,21 +1,30 @@
-//! The search for a certificate: a tree of splits, each of the track that promises the smallest trees below it.
-use crate::tracks::{Tracks, Way, bound_of, is_centre, is_marked, is_same, marks_of};
+//! The search for a certificate: a tree that splits the tracks in dispute, and takes from all trains the tracks that none of
+//! them can have.
+use crate::choice::{Aim, best_split, set_fate};
+use crate::lost::{holdings_of, is_open, least_worth, lost_tracks, may_go_to};
+use crate::sights::{Outlook, outlook_of};
+use crate::tracks::{Tracks, has_mark, mark, unmark};
 use crate::whole::choice_at;
-use rr_checker::{CentreLimit, CertTree, Fate, Node};
+use rr_checker::{CertTree, Fate};
 use std::alloc::{AllocError, Global};
 
-// what may still be spent: nodes of the tree, and looks at what a train reaches
-#[derive(Clone, Copy, Debug)]
-pub(crate) struct Purse {
-    pub(crate) nodes: usize,
-    pub(crate) looks: usize,
+// A node above the present one, or that one: the tracks that no train can have there, and those of them that are denied
+// in front of its split. What is denied there is denied in the whole tree below.
+#[derive(Debug, Drop)]
+pub(crate) struct Level {
+    lost: Vec<bool>,
+    denied: Vec<usize>,
 }
 
-// what a train reaches, and the greatest values that it counts there
+// what is decided so far, and what may still be spent: nodes of the tree, and looks at what the trains reach
 #[derive(Debug, Drop)]
-struct Outlook {
-    marks: Vec<bool>,
-    bound: u64,
+pub(crate) struct Growth {
+    pub(crate) fates: Vec<Fate>,
+    pub(crate) levels: Vec<Level>,
+    pub(crate) nodes: usize,
+    pub(crate) looks: usize,
+    // whether the tree has a full leaf, under which the links out of reach are decided too
+    pub(crate) has_full: bool,
 }
 
 // what becomes of a node
@@ -26,46 +35,99 @@ enum Finding {
     GivenUp,
 }
 
-// A tree that shows under the fates that no run earns more than the claim, if one is found. `near` is what a track beside
-// decided ones weighs, in hundredths.
+// the split above a node: its track, and the train that has it there
+#[derive(Clone, Copy, Debug)]
+pub(crate) struct Given {
+    track: usize,
+    train: usize,
+}
+
+// a tree that shows that no run earns more than the claim, if one is found
 pub(crate) fn tree_for(
     alloc: Global,
     tracks: &Tracks,
-    claim: u64,
-    near: u64,
-    fates: &mut Vec<Fate>,
-    purse: &mut Purse,
+    aim: &Aim,
+    nodes: usize,
+    looks: usize,
+) -> Result<Option<CertTree>, AllocError> {
+    let mut growth = Growth {
+        fates: vec![in alloc; Fate::Open; tracks.places.len()]?,
+        levels: Vec::new(alloc),
+        nodes,
+        looks,
+        has_full: false,
+    };
+    match tree_under(alloc, tracks, aim, &mut growth, None, nodes)? {
+        Some(tree) if growth.has_full => {
+            let whole = with_outer(alloc, tracks, tree)?;
+            Ok(Some(whole))
+        }
+        other => Ok(other),
+    }
+}
+
+// the tree in front of which the links out of reach are denied
+fn with_outer(alloc: Global, tracks: &Tracks, tree: CertTree) -> Result<CertTree, AllocError> {
+    let mut tree = tree;
+    for place in &tracks.outer {
+        tree = denied_before(alloc, tracks, tree, *place)?;
+    }
+    Ok(tree)
+}
+
+// a split of a link that no train can have, with the tree where it is denied
+fn denied_before(
+    alloc: Global,
+    tracks: &Tracks,
+    tree: CertTree,
+    place: usize,
+) -> Result<CertTree, AllocError> {
+    let mut children = Vec::new(alloc);
+    children.push(tree)?;
+    for train in 0..tracks.limits.len() {
+        children.push(CertTree::Bad(train))?;
+    }
+    Ok(CertTree::Split(place, children))
+}
+
+// a tree that shows the same under what is decided so far, if one is found
+fn tree_under(
+    alloc: Global,
+    tracks: &Tracks,
+    aim: &Aim,
+    growth: &mut Growth,
+    last: Option<Given>,
     depth: usize,
-    last: Option<(usize, usize)>,
 ) -> Result<Option<CertTree>, AllocError> {
     if depth == 0 {
         return Ok(None);
     }
-    let track = match outcome(alloc, tracks, claim, near, fates, purse, last)? {
+    let track = match node_at(alloc, tracks, aim, growth, last)? {
         Finding::Leaf(leaf) => return Ok(Some(leaf)),
         Finding::GivenUp => return Ok(None),
         Finding::Split(track) => track,
     };
+    let trains = tracks.limits.len();
     let mut children = Vec::new(alloc);
-    for place in 0..tracks.limits.len().saturating_add(1) {
-        set_fate(fates, track, choice_at(place));
-        let child = tree_for(
-            alloc,
-            tracks,
-            claim,
-            near,
-            fates,
-            purse,
-            depth - 1,
-            Some((track, place)),
-        )?;
-        match child {
+    for turn in 0..trains.saturating_add(1) {
+        let place = trains.saturating_sub(turn);
+        set_fate(&mut growth.fates, track, choice_at(place));
+        let given = given_at(track, place);
+        match tree_under(alloc, tracks, aim, growth, given, depth - 1)? {
             None => return Ok(None),
             Some(child) => children.push(child)?,
         }
     }
-    set_fate(fates, track, Fate::Open);
-    Ok(Some(CertTree::Split(place_of(tracks, track), children)))
+    set_fate(&mut growth.fates, track, Fate::Open);
+    children.reverse();
+    let split = CertTree::Split(place_of(tracks, track), children);
+    let tree = left_level(alloc, tracks, growth, split)?;
+    Ok(Some(tree))
+}
+
+fn given_at(track: usize, place: usize) -> Option<Given> {
+    let train = place.checked_sub(1)?;
+    Some(Given { track, train })
 }
 
 fn place_of(tracks: &Tracks, track: usize) -> usize {
@@ -75,272 +137,240 @@ fn place_of(tracks: &Tracks, track: usize) -> usize {
     }
 }
 
-fn set_fate(fates: &mut Vec<Fate>, track: usize, fate: Fate) {
-    if let Some(old) = fates.get_mut(track) {
-        *old = fate;
+// the tree with what its level denies in front of it; the level is left
+fn left_level(
+    alloc: Global,
+    tracks: &Tracks,
+    growth: &mut Growth,
+    tree: CertTree,
+) -> Result<CertTree, AllocError> {
+    let mut tree = tree;
+    if let Some(level) = growth.levels.pop() {
+        for track in &level.denied {
+            set_fate(&mut growth.fates, *track, Fate::Open);
+            tree = denied_before(alloc, tracks, tree, place_of(tracks, *track))?;
+        }
+    }
+    Ok(tree)
+}
+
+// a leaf where one stands, else the track to split, at a level of its own
+fn node_at(
+    alloc: Global,
+    tracks: &Tracks,
+    aim: &Aim,
+    growth: &mut Growth,
+    last: Option<Given>,
+) -> Result<Finding, AllocError> {
+    if !spend(growth, 1) {
+        return Ok(Finding::GivenUp);
+    }
+    let outlook = outlook_of(alloc, tracks, &growth.fates, &[])?;
+    if let Some(leaf) = leaf_of(aim, &outlook) {
+        return Ok(Finding::Leaf(leaf));
+    }
+    if let Some(leaf) = clash_of(alloc, tracks, growth, &outlook, last)? {
+        return Ok(Finding::Leaf(leaf));
+    }
+    grown(alloc, tracks, aim, growth, &outlook)
+}
+
+fn spend(growth: &mut Growth, nodes: usize) -> bool {
+    match growth.nodes.checked_sub(nodes) {
+        Some(left) => {
+            growth.nodes = left;
+            true
+        }
+        None => false,
     }
 }
 
-// a leaf where one stands, else the track to split
-fn outcome(
+fn leaf_of(aim: &Aim, outlook: &Outlook) -> Option<CertTree> {
+    if let Some(train) = outlook.stranded {
+        return Some(CertTree::Bad(train));
+    }
+    if outlook.worth <= aim.claim {
+        return Some(CertTree::Bound);
+    }
+    None
+}
+
+// the leaf where the train can't have the track that it was just given
+fn clash_of(
     alloc: Global,
     tracks: &Tracks,
-    claim: u64,
-    near: u64,
-    fates: &mut Vec<Fate>,
-    purse: &mut Purse,
-    last: Option<(usize, usize)>,
+    growth: &mut Growth,
+    outlook: &Outlook,
+    last: Option<Given>,
+) -> Result<Option<CertTree>, AllocError> {
+    let Some(given) = last else {
+        return Ok(None);
+    };
+    set_fate(&mut growth.fates, given.track, Fate::Open);
+    let holdings = holdings_of(alloc, tracks, &growth.fates)?;
+    let fits = match holdings.get(given.train) {
+        Some(holding) => may_go_to(
+            tracks,
+            &growth.fates,
+            holding,
+            outlook,
+            given.track,
+            given.train,
+        ),
+        None => true,
+    };
+    set_fate(&mut growth.fates, given.track, Fate::Of(given.train));
+    if fits {
+        return Ok(None);
+    }
+    Ok(Some(CertTree::Bad(given.train)))
+}
+
+// a level for the node; a leaf where denying the lost tracks is enough, else the track to split
+fn grown(
+    alloc: Global,
+    tracks: &Tracks,
+    aim: &Aim,
+    growth: &mut Growth,
+    outlook: &Outlook,
 ) -> Result<Finding, AllocError> {
-    if purse.nodes == 0 {
-        return Ok(Finding::GivenUp);
+    let holdings = holdings_of(alloc, tracks, &growth.fates)?;
+    let lost = lost_tracks(alloc, tracks, &growth.fates, &holdings, outlook)?;
+    let rest = outlook_of(alloc, tracks, &growth.fates, &lost)?;
+    let copy = Vec::from_slice(alloc, &lost)?;
+    growth.levels.push(Level {
+        lost: copy,
+        denied: Vec::new(alloc),
+    })?;
+    if rest.is_closed(aim.claim) {
+        return closed(alloc, tracks, aim, growth, lost);
     }
-    purse.nodes = purse.nodes.saturating_sub(1);
-    if let Some(train) = clashing(tracks, fates, last) {
-        return Ok(Finding::Leaf(CertTree::Bad(train)));
+    if least_worth(tracks, &holdings) <= aim.claim {
+        return split(alloc, tracks, aim, growth, &rest, &lost);
     }
-    let outlooks = outlooks_of(alloc, tracks, fates)?;
-    if total_of(&outlooks) <= claim {
-        return Ok(Finding::Leaf(CertTree::Bound));
-    }
-    if let Some(train) = stranded(fates, &outlooks) {
-        return Ok(Finding::Leaf(CertTree::Bad(train)));
-    }
-    match best_split(alloc, tracks, claim, near, fates, purse, &outlooks)? {
+    filled(alloc, tracks, aim, growth, &rest, &lost)
+}
+
+fn split(
+    alloc: Global,
+    tracks: &Tracks,
+    aim: &Aim,
+    growth: &mut Growth,
+    outlook: &Outlook,
+    lost: &[bool],
+) -> Result<Finding, AllocError> {
+    let looks = &mut growth.looks;
+    let fates = &mut growth.fates;
+    match best_split(alloc, tracks, aim, fates, outlook, lost, looks)? {
         Some(track) => Ok(Finding::Split(track)),
         None => Ok(Finding::GivenUp),
     }
 }
 
-// the train to which the last split gave a track that it can't have
-fn clashing(tracks: &Tracks, fates: &[Fate], last: Option<(usize, usize)>) -> Option<usize> {
-    let (track, place) = last?;
-    let train = place.checked_sub(1)?;
-    if clashes(tracks, fates, track, train) {
-        return Some(train);
-    }
-    None
-}
-
-fn outlooks_of(alloc: Global, tracks: &Tracks, fates: &[Fate]) -> Result<Vec<Outlook>, AllocError> {
-    let mut outlooks = Vec::new(alloc);
-    for (train, limit) in tracks.limits.iter().enumerate() {
-        let marks = marks_of(alloc, tracks, fates, train, None)?;
-        let bound = bound_of(tracks, limit, &marks);
-        outlooks.push(Outlook { marks, bound })?;
-    }
-    Ok(outlooks)
-}
-
-fn total_of(outlooks: &[Outlook]) -> u64 {
-    let mut total = 0u64;
-    for outlook in outlooks {
-        total = total.saturating_add(outlook.bound);
-    }
-    total
-}
-
-// a train that doesn't reach a track of its own
-fn stranded(fates: &[Fate], outlooks: &[Outlook]) -> Option<usize> {
-    for (track, fate) in fates.iter().enumerate() {
-        if let Fate::Of(owner) = fate {
-            if !reaches(outlooks, *owner, track) {
-                return Some(*owner);
-            }
-        }
-    }
-    None
-}
-
-fn reaches(outlooks: &[Outlook], train: usize, track: usize) -> bool {
-    match outlooks.get(train) {
-        Some(outlook) => is_marked(&outlook.marks, track),
-        None => false,
-    }
-}
-
-// Whether the train can't have the track beside those that are decided: a third one at a node, one centre too many, or a
-// hexside of another train.
-fn clashes(tracks: &Tracks, fates: &[Fate], track: usize, train: usize) -> bool {
-    match tracks.ways.get(track.saturating_mul(2)) {
-        None => false,
-        Some(way) => {
-            meets_badly(tracks, fates, track, train, &way.from)
-                || meets_badly(tracks, fates, track, train, &way.to)
-                || counts_over(tracks, fates, track, train)
-        }
-    }
-}
-
-fn meets_badly(tracks: &Tracks, fates: &[Fate], track: usize, train: usize, node: &Node) -> bool {
-    let mut own = 0usize;
-    for (place, fate) in fates.iter().enumerate() {
-        if let Fate::Of(owner) = fate {
-            if place != track && touches(tracks, place, node) {
-                if *owner == train {
-                    own = own.saturating_add(1);
-                } else if !is_centre(node) {
-                    return true;
-                }
-            }
-        }
-    }
-    own >= 2
-}
-
-fn touches(tracks: &Tracks, track: usize, node: &Node) -> bool {
-    match tracks.ways.get(track.saturating_mul(2)) {
-        Some(way) => is_same(&way.from, node) || is_same(&way.to, node),
-        None => false,
-    }
-}
-
-// whether the train's own tracks, with one more, touch more centres than it counts
-fn counts_over(tracks: &Tracks, fates: &[Fate], track: usize, train: usize) -> bool {
-    let mut counted = 0usize;
-    for stop in &tracks.stops {
-        let touched = stop
-            .arrivals
-            .as_slice()
-            .iter()
-            .any(|way| is_own(tracks, fates, track, train, *way));
-        if touched {
-            counted = counted.saturating_add(1);
-        }
-    }
-    match tracks.limits.get(train) {
-        Some(CentreLimit::AtMost(most)) => *most < counted,
-        Some(CentreLimit::Unlimited) | None => false,
-    }
-}
-
-fn is_own(tracks: &Tracks, fates: &[Fate], track: usize, train: usize, way: usize) -> bool {
-    match tracks.ways.get(way) {
-        Some(way) => way.track == track || fates.get(way.track) == Some(&Fate::Of(train)),
-        None => false,
-    }
-}
-
-// the open track whose split promises the fewest nodes
-fn best_split(
+// Where no leaf `b` can stand below: all lost tracks are denied, and where no other is open the leaf is full.
+fn filled(
     alloc: Global,
     tracks: &Tracks,
-    claim: u64,
-    near: u64,
-    fates: &[Fate],
-    purse: &mut Purse,
-    outlooks: &[Outlook],
-) -> Result<Option<usize>, AllocError> {
-    let mut best = None;
-    let mut least = u64::MAX;
-    for track in 0..tracks.places.len() {
-        if purse.looks == 0 {
-            return Ok(None);
-        }
-        if fates.get(track) != Some(&Fate::Open) {
-            continue;
-        }
-        let bounds = bounds_without(alloc, tracks, fates, purse, outlooks, track)?;
-        let score = score_of(tracks, claim, near, fates, outlooks, &bounds, track);
-        if score < least {
-            least = score;
-            best = Some(track);
+    aim: &Aim,
+    growth: &mut Growth,
+    outlook: &Outlook,
+    lost: &[bool],
+) -> Result<Finding, AllocError> {
+    if !growth.has_full {
+        growth.has_full = true;
+        let each = tracks.limits.len().saturating_add(1);
+        if !spend(growth, tracks.outer.len().saturating_mul(each)) {
+            return Ok(Finding::GivenUp);
         }
     }
-    Ok(best)
+    if !deny(tracks, growth, lost)? {
+        return Ok(Finding::GivenUp);
+    }
+    if growth.fates.iter().any(|fate| is_open(fate)) {
+        return split(alloc, tracks, aim, growth, outlook, lost);
+    }
+    let leaf = left_level(alloc, tracks, growth, CertTree::Full)?;
+    Ok(Finding::Leaf(leaf))
 }
 
-// what each train counts at most without the track
-fn bounds_without(
+// the leaf that stands where enough of the lost tracks are denied
+fn closed(
     alloc: Global,
     tracks: &Tracks,
-    fates: &[Fate],
-    purse: &mut Purse,
-    outlooks: &[Outlook],
-    track: usize,
-) -> Result<Vec<u64>, AllocError> {
-    let mut bounds = Vec::new(alloc);
-    for (train, outlook) in outlooks.iter().enumerate() {
-        if is_marked(&outlook.marks, track) {
-            purse.looks = purse.looks.saturating_sub(1);
-            let marks = marks_of(alloc, tracks, fates, train, Some(track))?;
-            bounds.push(bound_at(tracks, train, &marks))?;
-        } else {
-            bounds.push(outlook.bound)?;
+    aim: &Aim,
+    growth: &mut Growth,
+    lost: Vec<bool>,
+) -> Result<Finding, AllocError> {
+    let enough = enough_of(alloc, tracks, aim, growth, lost)?;
+    if !deny(tracks, growth, &enough)? {
+        return Ok(Finding::GivenUp);
+    }
+    let outlook = outlook_of(alloc, tracks, &growth.fates, &[])?;
+    match leaf_of(aim, &outlook) {
+        None => Ok(Finding::GivenUp),
+        Some(leaf) => {
+            let tree = left_level(alloc, tracks, growth, leaf)?;
+            Ok(Finding::Leaf(tree))
         }
     }
-    Ok(bounds)
 }
 
-fn bound_at(tracks: &Tracks, train: usize, marks: &[bool]) -> u64 {
-    match tracks.limits.get(train) {
-        Some(limit) => bound_of(tracks, limit, marks),
-        None => 0,
-    }
-}
-
-// how many nodes a split of the track promises, in sixteenths
-fn score_of(
+// Those of the lost tracks that are enough. The ones that were lost last go first: the others are denied for more of the
+// tree.
+fn enough_of(
+    alloc: Global,
     tracks: &Tracks,
-    claim: u64,
-    near: u64,
-    fates: &[Fate],
-    outlooks: &[Outlook],
-    bounds: &[u64],
-    track: usize,
-) -> u64 {
-    let mut denied = 0u64;
-    for bound in bounds {
-        denied = denied.saturating_add(*bound);
-    }
-    let mut score = cost_of(claim, denied);
-    let mut is_useful = false;
-    for (train, (outlook, bound)) in outlooks.iter().zip(bounds).enumerate() {
-        if !is_marked(&outlook.marks, track) {
-            score = score.saturating_add(16);
-            continue;
-        }
-        is_useful = true;
-        if clashes(tracks, fates, track, train) {
-            score = score.saturating_add(16);
-        } else {
-            let taken = denied.saturating_sub(*bound).saturating_add(outlook.bound);
-            score = score.saturating_add(cost_of(claim, taken) / 5 * 4);
+    aim: &Aim,
+    growth: &Growth,
+    lost: Vec<bool>,
+) -> Result<Vec<bool>, AllocError> {
+    let mut enough = lost;
+    let order = order_of(alloc, growth, &enough)?;
+    for track in &order {
+        unmark(&mut enough, *track);
+        let outlook = outlook_of(alloc, tracks, &growth.fates, &enough)?;
+        if !outlook.is_closed(aim.claim) {
+            mark(&mut enough, *track);
         }
     }
-    if !is_useful {
-        return u64::MAX;
-    }
-    if is_near(tracks, fates, track) {
-        return score.saturating_mul(near) / 100;
-    }
-    score
+    Ok(enough)
 }
 
-// how many nodes a tree promises whose greatest values come to so much, in sixteenths
-fn cost_of(claim: u64, bound: u64) -> u64 {
-    if bound <= claim {
-        return 16;
+// the marked tracks, those of the lowest levels first
+fn order_of(alloc: Global, growth: &Growth, marks: &[bool]) -> Result<Vec<usize>, AllocError> {
+    let mut order = Vec::new(alloc);
+    for (track, is_marked) in marks.iter().enumerate() {
+        if *is_marked {
+            order.push(track)?;
+        }
     }
-    let gap = ((bound - claim) / 10).min(40);
-    64u64 << gap
+    let levels = &growth.levels;
+    order.sort_by_key(|track| usize::MAX.saturating_sub(level_of(levels, *track)))?;
+    Ok(order)
 }
 
-// whether a decided track of some train touches an end of the track
-fn is_near(tracks: &Tracks, fates: &[Fate], track: usize) -> bool {
-    match tracks.ways.get(track.saturating_mul(2)) {
-        None => false,
-        Some(way) => fates.iter().enumerate().any(|(place, fate)| is_taken(fate)
-            && touches_way(tracks, place, way)),
+// the highest level at which no train can have the track
+fn level_of(levels: &[Level], track: usize) -> usize {
+    match levels.iter().position(|level| has_mark(&level.lost, track)) {
+        Some(place) => place,
+        None => levels.len(),
     }
 }
 
-fn is_taken(fate: &Fate) -> bool {
-    match fate {
-        Fate::Open | Fate::Denied => false,
-        Fate::Of(_) => true,
+// denies the marked tracks, each at the highest level that can, and tells whether there were nodes for that
+fn deny(tracks: &Tracks, growth: &mut Growth, marks: &[bool]) -> Result<bool, AllocError> {
+    let each = tracks.limits.len().saturating_add(1);
+    for (track, is_marked) in marks.iter().enumerate() {
+        if *is_marked {
+            if !spend(growth, each) {
+                return Ok(false);
+            }
+            let place = level_of(&growth.levels, track);
+            if let Some(level) = growth.levels.get_mut(place) {
+                level.denied.push(track)?;
+            }
+            set_fate(&mut growth.fates, track, Fate::Denied);
+        }
     }
-}
-
-fn touches_way(tracks: &Tracks, track: usize, way: &Way) -> bool {
-    touches(tracks, track, &way.from) || touches(tracks, track, &way.to)
+    Ok(true)
 }

@@ -3,14 +3,17 @@
 
 mod candidate;
 mod certificate;
+mod choice;
 mod fault;
 mod found;
 mod full;
 mod kinds;
+mod lost;
 mod routes;
 mod runs;
 mod search;
 mod sheets;
+mod sights;
 #[cfg(test)]
 mod tests;
 mod tracks;

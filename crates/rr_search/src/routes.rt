@@ -1,25 +1,38 @@
-//! The routes over the tracks, longer and longer.
-use crate::tracks::{Tracks, has_counted, is_centre, is_same};
-use rr_checker::{CentreLimit, Node};
+//! The routes over the tracks: a path from a token to a centre, or two that have nothing but the token in common.
+use crate::tracks::{Tracks, has_counted, has_mark, mark, unmark};
+use rr_checker::CentreLimit;
 use std::alloc::{AllocError, Global};
 
-// how many walks of one length are followed at most
-const WALKS: usize = 4000;
+// how many paths from one token are followed at most
+const ARMS: usize = 4000;
 
-// a walk from a centre, with no node twice
+// how many of them, those that earn most, are joined in pairs
+const JOINED: usize = 400;
+
+// how many routes of a train are kept, those that earn most
+const LINES: usize = 5000;
+
+// a path from a token to a centre: its ways, the centres on it but for the token, and what these are worth
 #[derive(Debug, Drop)]
-struct Trail {
+struct Arm {
     ways: Vec<usize>,
     centres: usize,
     worth: u64,
-    has_token: bool,
+}
+
+// the path that is followed, the nodes on it or not to be on it, and the paths found
+#[derive(Debug, Drop)]
+struct Walker {
+    ways: Vec<usize>,
+    shut: Vec<bool>,
+    arms: Vec<Arm>,
 }
 
 // a route: its tracks in order, the hexsides on it, and what it earns
 #[derive(Debug, Drop)]
 pub(crate) struct Line {
     pub(crate) tracks: Vec<usize>,
-    pub(crate) sides: Vec<Node>,
+    pub(crate) sides: Vec<usize>,
     pub(crate) worth: u64,
 }
 
@@ -30,173 +43,194 @@ pub(crate) fn lines_of(
     limit: &CentreLimit,
 ) -> Result<Vec<Line>, AllocError> {
     let mut lines = Vec::new(alloc);
-    let mut trails = beginnings(alloc, tracks)?;
-    for _length in 0..tracks.places.len() {
-        if trails.is_empty() {
-            break;
+    let mut earlier = vec![in alloc; false; tracks.ways.len()]?;
+    for start in &tracks.starts {
+        let token = tracks.beginning(*start);
+        if mark(&mut earlier, token) {
+            add_lines(alloc, tracks, limit, token, &earlier, &mut lines)?;
         }
-        add_lines(alloc, tracks, &trails, &mut lines)?;
-        trails = longer(alloc, tracks, limit, &trails)?;
     }
     lines.sort_by_key(|line| u64::MAX.saturating_sub(line.worth))?;
+    lines.truncate(LINES);
     Ok(lines)
 }
 
-// the walks of one way from a centre
-fn beginnings(alloc: Global, tracks: &Tracks) -> Result<Vec<Trail>, AllocError> {
-    let mut trails = Vec::new(alloc);
-    for (place, way) in tracks.ways.iter().enumerate() {
-        if is_centre(&way.from) {
-            let mut trail = Trail {
-                ways: Vec::new(alloc),
-                centres: 0,
-                worth: 0,
-                has_token: false,
-            };
-            count_stop(tracks, &mut trail, &way.from);
-            count_stop(tracks, &mut trail, &way.to);
-            trail.ways.push(place)?;
-            trails.push(trail)?;
-        }
-    }
-    Ok(trails)
-}
-
-// counts the node, if it is a centre
-fn count_stop(tracks: &Tracks, trail: &mut Trail, node: &Node) {
-    for stop in &tracks.stops {
-        if is_same(&stop.node, node) {
-            trail.centres = trail.centres.saturating_add(1);
-            trail.worth = trail.worth.saturating_add(stop.worth);
-            trail.has_token = trail.has_token || stop.has_token;
-        }
-    }
-}
-
-// the walks of one way more
-fn longer(
+// adds the routes over the token that pass none of the earlier ones
+fn add_lines(
     alloc: Global,
     tracks: &Tracks,
     limit: &CentreLimit,
-    trails: &[Trail],
-) -> Result<Vec<Trail>, AllocError> {
-    let mut further = Vec::new(alloc);
-    for trail in trails {
-        if !has_counted(limit, trail.centres) && further.len() < WALKS {
-            add_longer(alloc, tracks, trail, &mut further)?;
-        }
+    token: usize,
+    earlier: &[bool],
+    lines: &mut Vec<Line>,
+) -> Result<(), AllocError> {
+    let mut arms = arms_of(alloc, tracks, limit, token, earlier)?;
+    arms.sort_by_key(|arm| u64::MAX.saturating_sub(arm.worth))?;
+    let Some(stop) = tracks.stop_at(token) else {
+        return Ok(());
+    };
+    let own = stop.worth;
+    for arm in &arms {
+        let line = line_of(alloc, tracks, &[], &arm.ways, own.saturating_add(arm.worth))?;
+        lines.push(line)?;
     }
-    Ok(further)
+    if stop.is_terminal {
+        return Ok(());
+    }
+    arms.truncate(JOINED);
+    add_pairs(alloc, tracks, limit, own, &arms, lines)
 }
 
-fn add_longer(
+// adds the routes of two paths each
+fn add_pairs(
     alloc: Global,
     tracks: &Tracks,
-    trail: &Trail,
-    further: &mut Vec<Trail>,
+    limit: &CentreLimit,
+    own: u64,
+    arms: &[Arm],
+    lines: &mut Vec<Line>,
 ) -> Result<(), AllocError> {
-    if let Some(last) = trail.ways.last() {
-        if let Some(followers) = tracks.graph.get(*last) {
-            add_each(alloc, tracks, trail, followers.as_slice(), further)?;
-        }
-    }
-    Ok(())
-}
-
-fn add_each(
-    alloc: Global,
-    tracks: &Tracks,
-    trail: &Trail,
-    followers: &[usize],
-    further: &mut Vec<Trail>,
-) -> Result<(), AllocError> {
-    for next in followers {
-        if let Some(way) = tracks.ways.get(*next) {
-            if !visits(tracks, trail, &way.to) {
-                let more = gone_on(alloc, tracks, trail, *next, &way.to)?;
-                further.push(more)?;
+    for (place, arm) in arms.iter().enumerate() {
+        let nodes = nodes_of(alloc, tracks, arm)?;
+        for other in arms.iter().take(place) {
+            let centres = arm.centres.saturating_add(other.centres);
+            if !has_counted(limit, centres) && !meets(tracks, &nodes, other) {
+                let worth = own.saturating_add(arm.worth).saturating_add(other.worth);
+                lines.push(line_of(alloc, tracks, &arm.ways, &other.ways, worth)?)?;
             }
         }
     }
     Ok(())
 }
 
-// the walk with one way more, to the node
-fn gone_on(
-    alloc: Global,
-    tracks: &Tracks,
-    trail: &Trail,
-    next: usize,
-    to: &Node,
-) -> Result<Trail, AllocError> {
-    let mut ways = Vec::from_slice(alloc, &trail.ways)?;
-    ways.push(next)?;
-    let mut more = Trail {
-        ways,
-        centres: trail.centres,
-        worth: trail.worth,
-        has_token: trail.has_token,
-    };
-    count_stop(tracks, &mut more, to);
-    Ok(more)
-}
-
-// whether the walk comes to the node, or begins there
-fn visits(tracks: &Tracks, trail: &Trail, node: &Node) -> bool {
-    trail.ways.iter().any(|way| ends_at(tracks, *way, node))
-}
-
-fn ends_at(tracks: &Tracks, way: usize, node: &Node) -> bool {
-    match tracks.ways.get(way) {
-        Some(way) => is_same(&way.from, node) || is_same(&way.to, node),
-        None => false,
+// marks of the nodes on the path
+fn nodes_of(alloc: Global, tracks: &Tracks, arm: &Arm) -> Result<Vec<bool>, AllocError> {
+    let mut nodes = vec![in alloc; false; tracks.ways.len()]?;
+    for way in &arm.ways {
+        mark(&mut nodes, tracks.ending(*way));
     }
+    Ok(nodes)
 }
 
-// adds those of the walks that are routes
-fn add_lines(
+fn meets(tracks: &Tracks, nodes: &[bool], arm: &Arm) -> bool {
+    arm.ways
+        .iter()
+        .any(|way| has_mark(nodes, tracks.ending(*way)))
+}
+
+// the paths from the token, within the limit, that pass none of the earlier tokens
+fn arms_of(
     alloc: Global,
     tracks: &Tracks,
-    trails: &[Trail],
-    lines: &mut Vec<Line>,
-) -> Result<(), AllocError> {
-    for trail in trails {
-        if trail.has_token && ends_well(tracks, trail) {
-            let line = line_of(alloc, tracks, trail)?;
-            lines.push(line)?;
+    limit: &CentreLimit,
+    token: usize,
+    earlier: &[bool],
+) -> Result<Vec<Arm>, AllocError> {
+    let mut walker = Walker {
+        ways: Vec::new(alloc),
+        shut: Vec::from_slice(alloc, earlier)?,
+        arms: Vec::new(alloc),
+    };
+    let depth = tracks.ways.len();
+    for start in &tracks.starts {
+        if tracks.beginning(*start) == token {
+            follow(alloc, tracks, limit, *start, 1, 0, &mut walker, depth)?;
         }
     }
+    Ok(walker.arms)
+}
+
+// Goes on over the way from a path that counts so many centres, the token among them, and notes each centre that it comes
+// to.
+fn follow(
+    alloc: Global,
+    tracks: &Tracks,
+    limit: &CentreLimit,
+    way: usize,
+    centres: usize,
+    worth: u64,
+    walker: &mut Walker,
+    depth: usize,
+) -> Result<(), AllocError> {
+    let node = tracks.ending(way);
+    if depth == 0 || walker.arms.len() >= ARMS || !mark(&mut walker.shut, node) {
+        return Ok(());
+    }
+    walker.ways.push(way)?;
+    let mut centres = centres;
+    let mut worth = worth;
+    if let Some(stop) = tracks.stop_at(way) {
+        centres = centres.saturating_add(1);
+        worth = worth.saturating_add(stop.worth);
+        note(alloc, walker, centres, worth)?;
+    }
+    if !has_counted(limit, centres) {
+        if let Some(followers) = tracks.graph.get(way) {
+            for next in followers.as_slice() {
+                follow(
+                    alloc,
+                    tracks,
+                    limit,
+                    *next,
+                    centres,
+                    worth,
+                    walker,
+                    depth - 1,
+                )?;
+            }
+        }
+    }
+    walker.ways.pop();
+    unmark(&mut walker.shut, node);
     Ok(())
 }
 
-// whether the walk ends at a centre, and begins with the lower track: its other direction is left out
-fn ends_well(tracks: &Tracks, trail: &Trail) -> bool {
-    match (trail.ways.first(), trail.ways.last()) {
-        (Some(first), Some(last)) => *first / 2 < *last / 2 && comes_to_centre(tracks, *last),
+// notes the path that is followed, which counts so many centres, the token among them
+fn note(alloc: Global, walker: &mut Walker, centres: usize, worth: u64) -> Result<(), AllocError> {
+    let ways = Vec::from_slice(alloc, &walker.ways)?;
+    walker.arms.push(Arm {
+        ways,
+        centres: centres.saturating_sub(1),
+        worth,
+    })?;
+    Ok(())
+}
+
+// the route back over the one path and on over the other, in the direction that begins with the lower track
+fn line_of(
+    alloc: Global,
+    tracks: &Tracks,
+    back: &[usize],
+    on: &[usize],
+    worth: u64,
+) -> Result<Line, AllocError> {
+    let mut line = Line {
+        tracks: Vec::new(alloc),
+        sides: Vec::new(alloc),
+        worth,
+    };
+    add_ways(tracks, back, &mut line)?;
+    line.tracks.reverse();
+    add_ways(tracks, on, &mut line)?;
+    if is_backward(&line.tracks) {
+        line.tracks.reverse();
+    }
+    Ok(line)
+}
+
+fn is_backward(tracks: &[usize]) -> bool {
+    match (tracks.first(), tracks.last()) {
+        (Some(first), Some(last)) => last < first,
         _ => false,
     }
 }
 
-fn comes_to_centre(tracks: &Tracks, way: usize) -> bool {
-    match tracks.ways.get(way) {
-        Some(way) => is_centre(&way.to),
-        None => false,
-    }
-}
-
-fn line_of(alloc: Global, tracks: &Tracks, trail: &Trail) -> Result<Line, AllocError> {
-    let mut line = Line {
-        tracks: Vec::new(alloc),
-        sides: Vec::new(alloc),
-        worth: trail.worth,
-    };
-    for place in &trail.ways {
-        if let Some(way) = tracks.ways.get(*place) {
-            line.tracks.push(way.track)?;
-            if !is_centre(&way.to) {
-                line.sides.push(way.to)?;
-            }
+fn add_ways(tracks: &Tracks, ways: &[usize], line: &mut Line) -> Result<(), AllocError> {
+    for way in ways {
+        line.tracks.push(*way / 2)?;
+        if tracks.stop_at(*way).is_none() {
+            line.sides.push(tracks.ending(*way))?;
         }
     }
-    Ok(line)
+    Ok(())
 }

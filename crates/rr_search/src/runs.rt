@@ -1,7 +1,6 @@
 //! The best run of all trains over their routes.
 use crate::routes::Line;
-use crate::tracks::is_same;
-use rr_checker::Node;
+use crate::tracks::{has_mark, mark, unmark};
 use std::alloc::{AllocError, Global};
 
 // the routes of one train
@@ -10,98 +9,108 @@ pub(crate) struct Choices {
     pub(crate) lines: Vec<Line>,
 }
 
-// for the trains from the last to the first the place of its route, if it has one; the hexsides taken; what they earn
+// for the trains from the last to the first the place of its route, if it has one; what they earn
 #[derive(Debug, Drop)]
 pub(crate) struct Attempt {
     pub(crate) picks: Vec<Option<usize>>,
-    pub(crate) sides: Vec<Node>,
     pub(crate) worth: u64,
 }
 
-impl Attempt {
-    pub(crate) fn new(alloc: Global) -> Attempt {
-        Attempt {
+// the best run so far, the picks and the hexsides of the present one, and how many routes may still be tried
+#[derive(Debug, Drop)]
+pub(crate) struct Trial {
+    pub(crate) best: Option<Attempt>,
+    picks: Vec<Option<usize>>,
+    taken: Vec<bool>,
+    tries: usize,
+}
+
+impl Trial {
+    pub(crate) fn new(alloc: Global, nodes: usize, tries: usize) -> Result<Trial, AllocError> {
+        Ok(Trial {
+            best: None,
             picks: Vec::new(alloc),
-            sides: Vec::new(alloc),
-            worth: 0,
+            taken: vec![in alloc; false; nodes]?,
+            tries,
+        })
+    }
+
+    // keeps the present run, if it earns more than the best so far
+    fn keep(&mut self, alloc: Global, worth: u64) -> Result<(), AllocError> {
+        if self.beats(worth) {
+            let picks = Vec::from_slice(alloc, &self.picks)?;
+            self.best = Some(Attempt { picks, worth });
         }
+        Ok(())
+    }
+
+    // whether a run that earns so much is better than the best so far
+    fn beats(&self, worth: u64) -> bool {
+        match &self.best {
+            Some(best) => best.worth < worth,
+            None => true,
+        }
+    }
+
+    fn has_room_for(&self, line: &Line) -> bool {
+        !line.sides.iter().any(|side| has_mark(&self.taken, *side))
     }
 }
 
-// Tries the routes of the first so many trains beside what is taken, and keeps the best run. At most so many tries.
+// Tries the routes of the first so many trains beside what is taken, and keeps the best run.
 pub(crate) fn improve(
     alloc: Global,
     trains: &[Choices],
     left: usize,
-    now: &Attempt,
-    best: &mut Attempt,
-    tries: &mut usize,
+    worth: u64,
+    trial: &mut Trial,
 ) -> Result<(), AllocError> {
     if left == 0 {
-        if best.picks.is_empty() || now.worth > best.worth {
-            *best = with(alloc, now, None, None)?;
-        }
-        return Ok(());
+        return trial.keep(alloc, worth);
     }
     let rest = most_of(trains, left - 1);
-    let stay = with(alloc, now, None, Some(None))?;
     if let Some(choices) = trains.get(left - 1) {
         for (place, line) in choices.lines.iter().enumerate() {
-            let most = now.worth.saturating_add(line.worth).saturating_add(rest);
-            if *tries == 0 || most <= best.worth {
+            let most = worth.saturating_add(line.worth);
+            if trial.tries == 0 || !trial.beats(most.saturating_add(rest)) {
                 break;
             }
-            *tries = tries.saturating_sub(1);
-            if is_apart(line, now) {
-                let next = with(alloc, now, Some(line), Some(Some(place)))?;
-                improve(alloc, trains, left - 1, &next, best, tries)?;
+            trial.tries = trial.tries.saturating_sub(1);
+            if trial.has_room_for(line) {
+                take(trial, line, place)?;
+                improve(alloc, trains, left - 1, most, trial)?;
+                give_back(trial, line);
             }
         }
     }
-    improve(alloc, trains, left - 1, &stay, best, tries)
+    trial.picks.push(None)?;
+    improve(alloc, trains, left - 1, worth, trial)?;
+    trial.picks.pop();
+    Ok(())
+}
+
+fn take(trial: &mut Trial, line: &Line, place: usize) -> Result<(), AllocError> {
+    trial.picks.push(Some(place))?;
+    for side in &line.sides {
+        mark(&mut trial.taken, *side);
+    }
+    Ok(())
+}
+
+fn give_back(trial: &mut Trial, line: &Line) {
+    trial.picks.pop();
+    for side in &line.sides {
+        unmark(&mut trial.taken, *side);
+    }
 }
 
 // what the first so many trains earn at most
 fn most_of(trains: &[Choices], count: usize) -> u64 {
     let mut most = 0u64;
-    for (train, choices) in trains.iter().enumerate() {
-        if train < count {
-            if let Some(line) = choices.lines.first() {
-                most = most.saturating_add(line.worth);
-            }
+    for choices in trains.iter().take(count) {
+        if let Some(line) = choices.lines.first() {
+            most = most.saturating_add(line.worth);
         }
     }
     most
-}
-
-fn is_apart(line: &Line, now: &Attempt) -> bool {
-    !line.sides.iter().any(|side| takes(now, side))
-}
-
-fn takes(now: &Attempt, side: &Node) -> bool {
-    now.sides.iter().any(|taken| is_same(taken, side))
-}
-
-// the same attempt, with one more route and pick
-fn with(
-    alloc: Global,
-    now: &Attempt,
-    line: Option<&Line>,
-    pick: Option<Option<usize>>,
-) -> Result<Attempt, AllocError> {
-    let mut picks = Vec::from_slice(alloc, &now.picks)?;
-    let mut sides = Vec::from_slice(alloc, &now.sides)?;
-    let mut worth = now.worth;
-    if let Some(pick) = pick {
-        picks.push(pick)?;
-    }
-    if let Some(line) = line {
-        sides.extend_from_slice(&line.sides)?;
-        worth = worth.saturating_add(line.worth);
-    }
-    Ok(Attempt {
-        picks,
-        sides,
-        worth,
-    })
 }

@@ -1,6 +1,6 @@
 //! The links that the corporation reaches, each gone over from either end.
 use rr_checker::{CentreLimit, Fate, Link, Net, Node, value};
-use rr_reach::{Followers, reached};
+use rr_reach::Followers;
 use std::alloc::{AllocError, Global};
 
 // a link, gone over from one end to the other
@@ -13,13 +13,20 @@ pub(crate) struct Way {
     pub(crate) to: Node,
 }
 
-// a centre, and the ways that end there
+// a centre
 #[derive(Debug, Drop)]
 pub(crate) struct Stop {
     pub(crate) node: Node,
     pub(crate) worth: u64,
     pub(crate) has_token: bool,
-    pub(crate) arrivals: Followers,
+    pub(crate) is_terminal: bool,
+}
+
+// the node where a way begins, and the other tracks that touch it
+#[derive(Debug, Drop)]
+pub(crate) struct Joint {
+    pub(crate) is_side: bool,
+    pub(crate) others: Followers,
 }
 
 // the links that matter, and how walks go on over them
@@ -27,6 +34,9 @@ pub(crate) struct Stop {
 pub(crate) struct Tracks {
     // the places of the links in the net
     pub(crate) places: Vec<usize>,
+    // the places of the links that no walk goes over
+    pub(crate) outer: Vec<usize>,
+    // two for each track
     pub(crate) ways: Vec<Way>,
     // for each way those that may follow it
     pub(crate) graph: Vec<Followers>,
@@ -34,58 +44,152 @@ pub(crate) struct Tracks {
     pub(crate) starts: Vec<usize>,
     // the centres, the greatest value first
     pub(crate) stops: Vec<Stop>,
+    // for each way the stop where it ends
+    pub(crate) ends: Vec<Option<usize>>,
+    // for each way the node where it ends, named by the first way that ends there
+    nodes: Vec<usize>,
+    // for each way the node where it begins
+    pub(crate) joints: Vec<Joint>,
     pub(crate) limits: Vec<CentreLimit>,
+}
+
+impl Tracks {
+    // the node where the way ends
+    pub(crate) fn ending(&self, way: usize) -> usize {
+        match self.nodes.get(way) {
+            Some(node) => *node,
+            None => 0,
+        }
+    }
+
+    // the node where the way begins: there the same track's other way ends
+    pub(crate) fn beginning(&self, way: usize) -> usize {
+        if way % 2 == 0 {
+            return self.ending(way.saturating_add(1));
+        }
+        self.ending(way.saturating_sub(1))
+    }
+
+    // the centre where the way ends
+    pub(crate) fn stop_at(&self, way: usize) -> Option<&Stop> {
+        match self.ends.get(way) {
+            Some(Some(stop)) => self.stops.get(*stop),
+            Some(None) | None => None,
+        }
+    }
 }
 
 // the tracks that the corporation reaches
 pub(crate) fn reached_tracks(alloc: Global, net: &Net) -> Result<Tracks, AllocError> {
-    let mut all = Vec::new(alloc);
-    for place in 0..net.links().len() {
-        all.push(place)?;
-    }
-    let wide = tracks_over(alloc, net, all)?;
-    let marks = reached(alloc, &wide.graph, &wide.starts)?;
-    let places = marked_places(alloc, &wide, &marks)?;
-    tracks_over(alloc, net, places)
+    let marks = reached_links(alloc, net)?;
+    let places = places_with(alloc, &marks, true)?;
+    let outer = places_with(alloc, &marks, false)?;
+    let ways = ways_over(alloc, net, &places)?;
+    let stops = stops_of(alloc, net, &ways)?;
+    Ok(Tracks {
+        places,
+        outer,
+        graph: graph_of(alloc, net, &ways)?,
+        starts: starts_of(alloc, net, &ways)?,
+        ends: ends_of(alloc, &stops, &ways)?,
+        nodes: nodes_of(alloc, &ways)?,
+        joints: joints_of(alloc, net, &ways)?,
+        limits: Vec::from_slice(alloc, net.trains())?,
+        ways,
+        stops,
+    })
 }
 
-fn marked_places(alloc: Global, tracks: &Tracks, marks: &[bool]) -> Result<Vec<usize>, AllocError> {
-    let mut places = Vec::new(alloc);
-    for (track, place) in tracks.places.iter().enumerate() {
-        if is_marked(marks, track) {
-            places.push(*place)?;
+// which links a walk from a token goes over
+fn reached_links(alloc: Global, net: &Net) -> Result<Vec<bool>, AllocError> {
+    let count = net.links().len();
+    let mut seen = vec![in alloc; false; count.saturating_mul(2)]?;
+    let mut marks = vec![in alloc; false; count]?;
+    let mut pending = Vec::new(alloc);
+    add_beginnings(net, &mut seen, &mut pending)?;
+    for _turn in 0..count.saturating_mul(2) {
+        match pending.pop() {
+            None => return Ok(marks),
+            Some(way) => {
+                mark(&mut marks, way.track);
+                add_followers(net, &way, &mut seen, &mut pending)?;
+            }
         }
     }
-    Ok(places)
+    Ok(marks)
 }
 
-// whether a walk goes over the track, in either direction
-pub(crate) fn is_marked(marks: &[bool], track: usize) -> bool {
-    let first = track.saturating_mul(2);
-    has_mark(marks, first) || has_mark(marks, first.saturating_add(1))
+fn add_beginnings(
+    net: &Net,
+    seen: &mut Vec<bool>,
+    pending: &mut Vec<Way>,
+) -> Result<(), AllocError> {
+    for (place, link) in net.links().iter().enumerate() {
+        let back = backward(place, link);
+        if is_one_of(net.tokens(), &back.from) && mark(seen, place.saturating_mul(2)) {
+            pending.push(back)?;
+        }
+    }
+    Ok(())
 }
 
-fn has_mark(marks: &[bool], way: usize) -> bool {
-    match marks.get(way) {
+fn add_followers(
+    net: &Net,
+    way: &Way,
+    seen: &mut Vec<bool>,
+    pending: &mut Vec<Way>,
+) -> Result<(), AllocError> {
+    if is_one_of(net.terminals(), &way.to) {
+        return Ok(());
+    }
+    for (place, link) in net.links().iter().enumerate() {
+        let number = place.saturating_mul(2);
+        let back = backward(place, link);
+        if may_follow(way, &back) && mark(seen, number) {
+            pending.push(back)?;
+        }
+        let ahead = forward(place, link);
+        if may_follow(way, &ahead) && mark(seen, number.saturating_add(1)) {
+            pending.push(ahead)?;
+        }
+    }
+    Ok(())
+}
+
+// marks the place, and tells whether it wasn't marked before
+pub(crate) fn mark(marks: &mut Vec<bool>, place: usize) -> bool {
+    match marks.get_mut(place) {
+        Some(mark) => {
+            let new = !*mark;
+            *mark = true;
+            new
+        }
+        None => false,
+    }
+}
+
+pub(crate) fn unmark(marks: &mut Vec<bool>, place: usize) {
+    if let Some(mark) = marks.get_mut(place) {
+        *mark = false;
+    }
+}
+
+pub(crate) fn has_mark(marks: &[bool], place: usize) -> bool {
+    match marks.get(place) {
         Some(mark) => *mark,
         None => false,
     }
 }
 
-fn tracks_over(alloc: Global, net: &Net, places: Vec<usize>) -> Result<Tracks, AllocError> {
-    let ways = ways_over(alloc, net, &places)?;
-    let graph = graph_of(alloc, net, &ways)?;
-    let starts = starts_of(alloc, net, &ways)?;
-    let stops = stops_of(alloc, net, &ways)?;
-    let limits = Vec::from_slice(alloc, net.trains())?;
-    Ok(Tracks {
-        places,
-        ways,
-        graph,
-        starts,
-        stops,
-        limits,
-    })
+// the places that are marked, or those that aren't
+fn places_with(alloc: Global, marks: &[bool], wanted: bool) -> Result<Vec<usize>, AllocError> {
+    let mut places = Vec::new(alloc);
+    for (place, mark) in marks.iter().enumerate() {
+        if *mark == wanted {
+            places.push(place)?;
+        }
+    }
+    Ok(places)
 }
 
 fn ways_over(alloc: Global, net: &Net, places: &[usize]) -> Result<Vec<Way>, AllocError> {
@@ -199,14 +303,13 @@ fn stops_of(alloc: Global, net: &Net, ways: &[Way]) -> Result<Vec<Stop>, AllocEr
     let mut stops = Vec::new(alloc);
     for centre in 0..net.values().len() {
         let has_token = net.tokens().iter().any(|token| *token == centre);
-        let arrivals = arrivals_at(alloc, ways, centre)?;
-        if has_token || !arrivals.as_slice().is_empty() {
+        if has_token || ways.iter().any(|way| is_at(&way.to, centre)) {
             let worth = value(net, centre) as u64;
             stops.push(Stop {
                 node: Node::Centre(centre),
                 worth,
                 has_token,
-                arrivals,
+                is_terminal: net.terminals().iter().any(|place| *place == centre),
             })?;
         }
     }
@@ -214,14 +317,53 @@ fn stops_of(alloc: Global, net: &Net, ways: &[Way]) -> Result<Vec<Stop>, AllocEr
     Ok(stops)
 }
 
-fn arrivals_at(alloc: Global, ways: &[Way], centre: usize) -> Result<Followers, AllocError> {
-    let mut arrivals = Followers::new(alloc);
-    for (place, way) in ways.iter().enumerate() {
-        if is_at(&way.to, centre) {
-            arrivals.push(place)?;
+fn ends_of(alloc: Global, stops: &[Stop], ways: &[Way]) -> Result<Vec<Option<usize>>, AllocError> {
+    let mut ends = Vec::new(alloc);
+    for way in ways {
+        ends.push(place_of(stops, &way.to))?;
+    }
+    Ok(ends)
+}
+
+fn place_of(stops: &[Stop], node: &Node) -> Option<usize> {
+    stops.iter().position(|stop| is_same(&stop.node, node))
+}
+
+fn nodes_of(alloc: Global, ways: &[Way]) -> Result<Vec<usize>, AllocError> {
+    let mut nodes = Vec::new(alloc);
+    for way in ways {
+        nodes.push(first_to(ways, &way.to))?;
+    }
+    Ok(nodes)
+}
+
+fn first_to(ways: &[Way], node: &Node) -> usize {
+    match ways.iter().position(|way| is_same(&way.to, node)) {
+        Some(place) => place,
+        None => ways.len(),
+    }
+}
+
+fn joints_of(alloc: Global, net: &Net, ways: &[Way]) -> Result<Vec<Joint>, AllocError> {
+    let mut joints = Vec::new(alloc);
+    for way in ways {
+        joints.push(Joint {
+            is_side: !is_centre(&way.from),
+            others: others_at(alloc, ways, way)?,
+        })?;
+    }
+    Ok(joints)
+}
+
+// the other tracks that touch the node where the way begins
+fn others_at(alloc: Global, ways: &[Way], way: &Way) -> Result<Followers, AllocError> {
+    let mut others = Followers::new(alloc);
+    for other in ways {
+        if other.track != way.track && is_same(&other.from, &way.from) {
+            others.push(other.track)?;
         }
     }
-    Ok(arrivals)
+    Ok(others)
 }
 
 // whether the train may run over the track
@@ -233,118 +375,10 @@ pub(crate) fn may_use(fates: &[Fate], train: usize, track: usize) -> bool {
     }
 }
 
-// the ways that the train reaches under the fates, without one of the tracks
-pub(crate) fn marks_of(
-    alloc: Global,
-    tracks: &Tracks,
-    fates: &[Fate],
-    train: usize,
-    without: Option<usize>,
-) -> Result<Vec<bool>, AllocError> {
-    let mut marks = vec![in alloc; false; tracks.ways.len()]?;
-    let mut pending = Vec::new(alloc);
-    visit(
-        tracks,
-        fates,
-        train,
-        without,
-        &tracks.starts,
-        &mut marks,
-        &mut pending,
-    )?;
-    for _turn in 0..tracks.ways.len() {
-        match pending.pop() {
-            None => return Ok(marks),
-            Some(way) => {
-                if let Some(followers) = tracks.graph.get(way) {
-                    let next = followers.as_slice();
-                    visit(
-                        tracks,
-                        fates,
-                        train,
-                        without,
-                        next,
-                        &mut marks,
-                        &mut pending,
-                    )?;
-                }
-            }
-        }
-    }
-    Ok(marks)
-}
-
-// marks those of the ways that may be used, and notes the newly marked ones as pending
-fn visit(
-    tracks: &Tracks,
-    fates: &[Fate],
-    train: usize,
-    without: Option<usize>,
-    ways: &[usize],
-    marks: &mut Vec<bool>,
-    pending: &mut Vec<usize>,
-) -> Result<(), AllocError> {
-    for way in ways {
-        if is_free(tracks, fates, train, without, *way) && newly_marked(marks, *way) {
-            pending.push(*way)?;
-        }
-    }
-    Ok(())
-}
-
-fn is_free(
-    tracks: &Tracks,
-    fates: &[Fate],
-    train: usize,
-    without: Option<usize>,
-    way: usize,
-) -> bool {
-    match tracks.ways.get(way) {
-        Some(way) => without != Some(way.track) && may_use(fates, train, way.track),
-        None => false,
-    }
-}
-
-fn newly_marked(marks: &mut Vec<bool>, way: usize) -> bool {
-    match marks.get_mut(way) {
-        Some(mark) => {
-            let new = !*mark;
-            *mark = true;
-            new
-        }
-        None => false,
-    }
-}
-
-// the greatest values that a train of the limit counts among the centres reached
-pub(crate) fn bound_of(tracks: &Tracks, limit: &CentreLimit, marks: &[bool]) -> u64 {
-    let mut counted = 0usize;
-    let mut sum = 0u64;
-    for stop in &tracks.stops {
-        if has_counted(limit, counted) {
-            return sum;
-        }
-        if is_reached(stop, marks) {
-            counted = counted.saturating_add(1);
-            sum = sum.saturating_add(stop.worth);
-        }
-    }
-    sum
-}
-
 // whether a train of the limit counts no more than so many
 pub(crate) fn has_counted(limit: &CentreLimit, counted: usize) -> bool {
     match limit {
         CentreLimit::AtMost(most) => *most <= counted,
         CentreLimit::Unlimited => false,
     }
-}
-
-fn is_reached(stop: &Stop, marks: &[bool]) -> bool {
-    stop.has_token
-        || stop
-            .arrivals
-            .as_slice()
-            .iter()
-            .any(|way| has_mark(marks, *way))
 }
