@@ -38,7 +38,9 @@ fn layout(alloc: Global) -> Result<Layout, Fail> {
 fn network(alloc: Global, layout: &Layout) -> Result<Network, Fail> {
     let board = Board::read(alloc, SMALL)?;
     let tiles = Manifest::read(alloc, TILES)?;
-    Ok(Network::of(alloc, &board, &tiles, layout)?)
+    let network = Network::of(alloc, &board, &tiles, layout)?;
+    network.keeps_rules();
+    Ok(network)
 }
 
 #[test]
@@ -83,6 +85,7 @@ fn shares_hexsides(rt: HostRuntime) {
         assert_ne!(rt; side, hexside_at(&other, edge));
     }
     laws::hexsides();
+    laws::hexes_keep_their_centres();
 }
 
 #[test]
