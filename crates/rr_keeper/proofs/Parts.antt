@@ -1,5 +1,5 @@
 -- The parts of the journal: that a file has one reading, and where its next record goes.
-use Rattle.std.proofs.Common.{◌≡◌, ◌⊎◌, inl, inr, ℕ, suc, ◌+◌, ◌*◌, ◌<◌, ◌≤◌, List, [], ◌∷◌, ◌++◌, length, slice_index, Vec, Option, None, Some, refl, sym, ap, ◌∙◌, subst, arith, length-append}
+use Rattle.std.proofs.Common.{◌≡◌, ◌⊎◌, inl, inr, ℕ, ◌+◌, ◌*◌, ◌<◌, ◌≤◌, List, [], ◌∷◌, ◌++◌, length, slice_index, Vec, None, Some, refl, sym, ap, ◌∙◌, subst, arith, length-append}
 use Rattle.std.proofs.lemmas.List.{append-nil, append_assoc}
 use Rattle.std.specs.declared.alloc.Global.{Global}
 use Rattle.rr_journal.specs.declared.part.Part.{Part}
@@ -7,11 +7,11 @@ use Rattle.rr_journal.specs.declared.layout.PartIndex.{PartIndex}
 use Rattle.rr_journal.specs.declared.layout.PartIndex.TheVariants.{First, Second, Third, Fourth}
 use Rattle.rr_journal.specs.declared.reading.RunEnd.{RunEnd}
 use Rattle.rr_journal.specs.declared.reading.RunEnd.TheVariants.{Closed, OtherNumber, Damaged}
-use Rattle.rr_journal.specs.Layout.{IsOpen, start_page, gate_place, next_part, all_parts, parts_before, parts_behind}
+use Rattle.rr_journal.specs.Layout.{start_page, gate_place, next_part, all_parts, parts_before, parts_behind}
 use Rattle.rr_journal.specs.Reading.{lines}
 use Rattle.rr_journal.specs.Run.{Run, slots_of}
-use Rattle.rr_journal.proofs.Runs.{one_run, run_same, run_fits, some_slot}
-use Rattle.rr_keeper.specs.File.{Kit, HasRecords, GoesOn, IsStore}
+use Rattle.rr_journal.proofs.Runs.{one_run, run_same, run_fits}
+use Rattle.rr_keeper.specs.File.{Kit, HasRecords, IsStore}
 use Rattle.rr_keeper.specs.Parts.{AreShut, HoldsUpTo, ContinuesFrom, Continues}
 use Rattle.rr_keeper.specs.Keeper.{IsStoreUpTo}
 use Rattle.rr_keeper.proofs.Slots.{length-lines, few_lines}

@@ -262,8 +262,10 @@ fn a_failing_device_ends_the_service(rt: HostRuntime) -> Result<(), Fail> {
     let alloc = rt.alloc();
     let mut fails = false;
     let mut goes_on = false;
+    let new = formatted(alloc)?;
     for calls in 0..24 {
-        let disk = FaultyDisk::after(formatted(alloc)?, calls);
+        let disk = MemoryDisk::from_bytes(alloc, ROOM, new.content())?;
+        let disk = FaultyDisk::after(disk, calls);
         match opened(alloc, disk) {
             Ok(mut moderator) => {
                 let mut reader = b"0 t1 open ann bob\ntables\n".as_slice();

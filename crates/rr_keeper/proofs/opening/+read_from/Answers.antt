@@ -1,5 +1,4 @@
-use Rattle.std.proofs.Common.{◌≡◌, ℕ, ◌+◌, List, ◌∷◌, ◌++◌, length, Vec, sym, ap, ◌∙◌, subst, arith, rules}
-use Rattle.std.specs.declared.alloc.Global.{Global}
+use Rattle.std.proofs.Common.{◌≡◌, ◌+◌, ◌∷◌, sym, ap, ◌∙◌, subst, arith}
 use Rattle.rr_disk.specs.Disk.{DiskState}
 use Rattle.rr_journal.specs.declared.reading.RunEnd.{RunEnd}
 use Rattle.rr_journal.specs.declared.reading.RunEnd.TheVariants.{Closed}
@@ -7,7 +6,6 @@ use Rattle.rr_journal.specs.Layout.{parts_behind}
 use Rattle.rr_journal.specs.Reading.{lines}
 use Rattle.rr_journal.specs.Run.{Run}
 use Rattle.rr_keeper.specs.File.{HasRecords}
-use Rattle.rr_keeper.specs.Parts.{ContinuesFrom}
 use Rattle.rr_keeper.proofs.Parts.{not_closed, breaks_in, last_alone, found_on, next_on}
 use Rattle.rr_keeper.proofs.opening.+read_from.Goals as goal
 

@@ -1,5 +1,4 @@
-use Rattle.std.proofs.Common.{refl}
-use Rattle.std.proofs.Common.{[]}
+use Rattle.std.proofs.Common.{[], refl}
 use Rattle.rr_journal.specs.Reading.{lines}
 use Rattle.rr_keeper.proofs.Parts.{from_first, nothing_before}
 use Rattle.rr_keeper.proofs.opening.read_records.Goals as goal
