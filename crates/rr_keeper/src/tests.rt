@@ -98,6 +98,16 @@ fn lines_are_kept(rt: HostRuntime) -> Result<(), Fail> {
     Ok(())
 }
 
+// The pages of a new store up to the end of its texts.
+fn cut_behind_the_texts(alloc: Global) -> Result<MemoryDisk, Fail> {
+    let disk = formatted(alloc)?;
+    let front = match disk.content().get(..2_109_440) {
+        Some(front) => front,
+        None => b"".as_slice(),
+    };
+    Ok(MemoryDisk::from_bytes(alloc, ROOM, front)?)
+}
+
 #[test]
 fn files_that_are_no_store(rt: HostRuntime) -> Result<(), Fail> {
     let alloc = rt.alloc();
@@ -111,9 +121,7 @@ fn files_that_are_no_store(rt: HostRuntime) -> Result<(), Fail> {
         let disk = changed(alloc, changes)?;
         assert_eq!(rt; reopened(alloc, disk).err(), Some(Fault::NotAStore));
     }
-    // The pages up to the end of the texts alone.
-    let disk = formatted(alloc)?;
-    let short = MemoryDisk::from_bytes(alloc, ROOM, &disk.content()[..2_109_440])?;
+    let short = cut_behind_the_texts(alloc)?;
     assert_eq!(rt; reopened(alloc, short).err(), Some(Fault::NotAStore));
     let empty_record = changed(alloc, &[(8192, 0xa5), (8200, 1)])?;
     let fault = reopened(alloc, empty_record).err();
