@@ -116,7 +116,7 @@ fn net_of(alloc: Global, dice: &mut Dice, trains: usize, tokens: usize) -> Resul
     Ok(Net::new(board.links, stations, board.terminals, board.values, limits))
 }
 
-const ROUNDS: usize = 50;
+const ROUNDS: usize = 20;
 
 fn main(rt: HostRuntime) -> Result<()> {
     for trains in 1..5usize {
