@@ -21,10 +21,11 @@ use Rattle.rr_network.specs.Walk.{ReachesLink, Reached, reaches_link}
 use Rattle.rr_lay.specs.declared.fault.Fault.{Fault}
 use Rattle.rr_lay.specs.declared.fault.Fault.TheVariants as F
 use Rattle.rr_lay.specs.Judging.{After, Needs}
-use Rattle.rr_lay.specs.Phase.{is_open, phase}
+use Rattle.rr_lay.specs.Phase.{is_open}
 use Rattle.rr_lay.specs.Position.{Position}
 use Rattle.rr_lay.specs.Rows.{cost_verdict, row_entries}
 use Rattle.rr_desk.specs.Effects.{Effect}
+use Rattle.rr_trains.specs.Phases.{phase}
 use Rattle.rr_lay.specs.Tiles.{faces_hexes, hexes_with, is_blocked, is_next_colour, laid_colour}
 
 -- the colour is open and the next one on the hex, a tile is left, and nothing blocks the hex

@@ -9,16 +9,17 @@ ghost use Rattle.rr_lay.specs.Rows.{IsDone, cost_verdict, row_entries};
 ghost use Rattle.rr_lay.specs.Position.{position_in, position_of};
 ghost use Rattle.rr_lay.specs.Laying.{IsLayVerdict, IsVerdictOn, cost_at, first_lay_verdict, lay_cost, lay_row, supply_verdict};
 
+use crate::colours::is_open;
 use crate::fault::Fault;
 use crate::hexes::{hexes_with, is_blocked, is_next_colour, laid_colour};
 use crate::rows::{judge_cost, pay_cost};
-use crate::trains::{is_open, phase};
 use crate::upgrades::{is_upgrade, reaches_new_link};
 use rr_board::{Board, Hex};
 use rr_books::{Act, Books, Corp, Entry, Marker};
 use rr_desk::{Desk, Entries};
 use rr_network::{Lay, Layout, last_lay};
 use rr_tiles::{Manifest, Supply};
+use rr_trains::phase;
 use std::alloc::Global;
 
 /// Lays a tile for a corporation, which pays the hex's cost to the bank where no tile was laid there before,

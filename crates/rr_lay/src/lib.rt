@@ -1,6 +1,7 @@
 //! The rules of laying tiles and of placing tokens: which ones a table's book takes, and what they add to it.
 #![tactic(auto)]
 
+mod colours;
 mod fault;
 mod hexes;
 pub mod laws;
@@ -8,13 +9,11 @@ mod laying;
 mod placing;
 mod rows;
 mod slots;
-mod trains;
 mod upgrades;
 
 pub use fault::Fault;
 pub use laying::tile;
 pub use placing::token;
-pub use trains::phase;
 
 #[cfg(test)]
 mod tests;

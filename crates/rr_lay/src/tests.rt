@@ -1,7 +1,6 @@
 //! Tiles and tokens on the small board, with PRR's first token in A.
 ghost use Rattle.std.specs.Prelude.{◌≤◌, IfOk};
 
-use crate::phase;
 use rr_board::Board;
 use rr_books::{Books, Cert, Corp, Entry, Kind, Marker, Money, Party, Place, Private, Seat, Train};
 use rr_desk::Desk;
@@ -164,10 +163,8 @@ fn green_from_the_first_3(rt: HostRuntime) -> Result<(), Fail> {
     let alloc = rt.alloc();
     let mut layout = first_token(alloc)?;
     let two = books(alloc, Place::Offer, Place::Offer)?;
-    assert_eq!(rt; phase(&two), Kind::Two);
     assert_eq!(rt; lay(alloc, &mut layout, two, b"B", 23, 2)?.fault, 32);
     let three = books(alloc, Place::Offer, Place::Gone)?;
-    assert_eq!(rt; phase(&three), Kind::Three);
     assert_eq!(rt; lay(alloc, &mut layout, three, b"B", 24, 2)?.fault, 34);
     assert_eq!(rt; layout.lays().len(), 0);
     let three = books(alloc, Place::Offer, Place::Gone)?;

@@ -1,0 +1,7 @@
+pub mod Places
+pub mod Phases
+pub mod PhaseLaws
+pub mod Sales
+pub mod SaleLaws
+pub mod Effects
+pub mod WorkedTrains

@@ -1,0 +1,21 @@
+//! Which trains are where, what is on sale, what the phase of the game says, and what the first train of a kind brings
+//! about.
+#![tactic(auto)]
+
+mod firsts;
+pub mod laws;
+mod phases;
+mod places;
+mod prices;
+mod sales;
+
+pub use firsts::{first_train, give_lowest_train};
+pub use phases::{is_over_train_limit, is_sold, phase, rounds_in_set, sells_privates, train_limit};
+pub use places::{has_train_at, lowest_train, trains_at, trains_held};
+pub use prices::{TrainOnSale, cheapest, is_traded_in, price, trade_price};
+pub use rr_books::{Books, Corp, Kind, Place, Train, TrainSource};
+pub use rr_desk::Desk;
+pub use sales::is_on_sale;
+
+#[cfg(test)]
+mod tests;
