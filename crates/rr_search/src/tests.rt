@@ -64,6 +64,48 @@ fn runs_a_diesel_off_the_board(rt: HostRuntime) -> Result<(), Fail> {
     Ok(())
 }
 
+// A diesel on eleven links in a row: the tree that splits each of them has 4,095 nodes.
+fn long_board(alloc: Global) -> Result<Net, Fail>
+    ensures values { IfOk result (λ net. (centre : ℕ) → value net centre ≤ 65535) }
+    ensures centres { IfOk result (λ net. length net.values ≤ 65536) }
+    ensures trains { IfOk result (λ net. length net.trains ≤ 1000) }
+{
+    let links = vec![in alloc;
+        link(0, 0, Node::Centre(0)),
+        link(1, 0, Node::Hexside(1)),
+        link(2, 1, Node::Centre(1)),
+        link(2, 2, Node::Centre(1)),
+        link(3, 2, Node::Hexside(3)),
+        link(4, 3, Node::Centre(2)),
+        link(4, 4, Node::Centre(2)),
+        link(5, 4, Node::Hexside(5)),
+        link(6, 5, Node::Centre(3)),
+        link(6, 6, Node::Centre(3)),
+        link(7, 6, Node::Centre(4)),
+    ]?;
+    let tokens = vec![in alloc; 2]?;
+    let terminals = vec![in alloc; 4]?;
+    let values = vec![in alloc; 20, 10, 30, 40, 50]?;
+    let trains = vec![in alloc; CentreLimit::Unlimited]?;
+    Ok(Net::new(links, tokens, terminals, values, trains))
+}
+
+#[test]
+fn finds_more_than_the_whole_tree_shows(rt: HostRuntime) -> Result<(), Fail> {
+    let net = long_board(rt.alloc())?;
+    let (sheet, tree) = best(rt.alloc(), &net, 1024)?;
+    let words = sheet.as_slice();
+    assert_eq!(rt; words.len(), 1);
+    let word = &words[0];
+    assert_eq!(rt;
+        word.links.as_slice(),
+        [1, 2, 3, 4, 5, 6, 7, 8, 9, 10, 11].as_slice()
+    );
+    assert!(rt; check(rt.alloc(), &net, 150, &tree)?);
+    assert!(rt; !check(rt.alloc(), &net, 149, &tree)?);
+    Ok(())
+}
+
 #[test]
 fn gives_up_where_it_may(rt: HostRuntime) -> Result<(), Fail> {
     let net = small_board(rt.alloc(), CentreLimit::AtMost(2))?;
