@@ -87,32 +87,3 @@ pub fn seat_in_turn_buys()
 pub fn worked_tellings()
     ensures { TellingsAreWorked }
 {}
-
-#[cfg(test)]
-mod tests {
-    use super::{
-        bids_are_the_last, first_price_falls_by_passes, free_private_is_bought,
-        incomes_come_by_passes, money_stays, par_is_owed_by_the_buyer,
-        priority_is_left_of_the_buyer, raisers_sit_left_of_the_highest, raising_goes_left,
-        seat_in_turn_buys, turn_is_left_of_the_last, turns_are_counted, worked_auction,
-        worked_tellings,
-    };
-
-    #[test]
-    fn laws_are_called(_rt: HostRuntime) {
-        money_stays();
-        worked_auction();
-        bids_are_the_last();
-        priority_is_left_of_the_buyer();
-        turn_is_left_of_the_last();
-        first_price_falls_by_passes();
-        worked_tellings();
-        incomes_come_by_passes();
-        raisers_sit_left_of_the_highest();
-        raising_goes_left();
-        par_is_owed_by_the_buyer();
-        turns_are_counted();
-        free_private_is_bought();
-        seat_in_turn_buys();
-    }
-}

@@ -16,6 +16,3 @@ pub use auction::Auction;
 pub use due::Due;
 pub use fault::Fault;
 pub use opening::open_table;
-
-#[cfg(test)]
-mod tests;

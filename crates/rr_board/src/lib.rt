@@ -12,6 +12,3 @@ pub use board::Board;
 pub use fault::Fault;
 pub use hex::{Block, Colour, Hex, Home, Place};
 pub use home_words::slots_at;
-
-#[cfg(test)]
-mod tests;

@@ -18,6 +18,3 @@ pub use ledger::Books;
 pub use parties::{Money, Party, Place, Seat};
 pub use rr_roster::{Corp, Kind, Private};
 pub use start::{certificate_limit, starting_money};
-
-#[cfg(test)]
-mod tests;

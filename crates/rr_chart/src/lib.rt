@@ -5,8 +5,6 @@ mod cell;
 mod chart;
 mod fault;
 mod reader;
-#[cfg(test)]
-mod tests;
 
 pub use cell::{Cell, ParCell, Place, Zone};
 pub use chart::Chart;

@@ -10,8 +10,6 @@ mod own;
 mod railway;
 mod reach;
 mod step;
-#[cfg(test)]
-mod tests;
 mod trips;
 
 pub use centres::value;

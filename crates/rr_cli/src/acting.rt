@@ -139,8 +139,3 @@ fn write_line<W: Write>(line: &[u8], writer: &mut W) -> bool
     }
     writer.flush().is_ok()
 }
-
-#[cfg(test)]
-mod refused_requests;
-#[cfg(test)]
-mod tests;

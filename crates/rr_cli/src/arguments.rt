@@ -183,6 +183,3 @@ pub fn plan<'a>(alloc: Global, words: &'a [&'a str]) -> Result<Plan, Fault>
         Err(error) => Err(refusal(alloc, &error)),
     }
 }
-
-#[cfg(test)]
-mod tests;

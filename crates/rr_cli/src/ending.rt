@@ -26,25 +26,3 @@ pub fn status(ending: Ending) -> u8
         Ending::Faulted(_) => 4,
     }
 }
-
-#[cfg(test)]
-mod tests {
-    use super::*;
-
-    #[test]
-    fn statuses(rt: HostRuntime) {
-        for (ending, expected) in [
-            (Ending::Done, 0),
-            (Ending::WordsRefused, 2),
-            (Ending::Faulted(3), 3),
-            (Ending::Faulted(7), 3),
-            (Ending::Faulted(63), 3),
-            (Ending::Faulted(64), 3),
-            (Ending::Faulted(60), 4),
-            (Ending::Faulted(69), 4),
-            (Ending::Faulted(70), 4),
-        ] {
-            assert_eq!(rt; status(ending), expected, "at {ending:?}");
-        }
-    }
-}

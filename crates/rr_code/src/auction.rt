@@ -6,6 +6,7 @@ ghost use Rattle.rr_code.specs.Reading.{read_bid, read_pass, read_par};
 use crate::command::Command;
 use crate::companies::{read_corp, read_private};
 use crate::fault::Fault;
+use crate::names::next_player;
 use crate::words::Words;
 use crate::writing::{write_number, write_word};
 use rr_roster::{Corp, Private};
@@ -15,10 +16,9 @@ pub fn read_bid(words: &mut Words) -> Option<Command>
     ensures exact { result ≡ read_bid words.old }
     ensures found { IfSome result (λ c. IsCommand c × (codes "bid" ∷ words.old ≡ spelling c)) }
 {
-    let player = Name::player(words.next()?)?;
+    let player = next_player(words)?;
     let private = read_private(words.next()?)?;
-    let amount = number(words.next()?)?;
-    words.end()?;
+    let amount = number(words.last()?)?;
     Some(Command::Bid {
         player,
         private,
@@ -30,8 +30,7 @@ pub fn read_pass(words: &mut Words) -> Option<Command>
     ensures exact { result ≡ read_pass words.old }
     ensures found { IfSome result (λ c. IsCommand c × (codes "pass" ∷ words.old ≡ spelling c)) }
 {
-    let player = Name::player(words.next()?)?;
-    words.end()?;
+    let player = Name::player(words.last()?)?;
     Some(Command::Pass { player })
 }
 
@@ -39,10 +38,9 @@ pub fn read_par(words: &mut Words) -> Option<Command>
     ensures exact { result ≡ read_par words.old }
     ensures found { IfSome result (λ c. IsCommand c × (codes "par" ∷ words.old ≡ spelling c)) }
 {
-    let player = Name::player(words.next()?)?;
+    let player = next_player(words)?;
     let corp = read_corp(words.next()?)?;
-    let price = number(words.next()?)?;
-    words.end()?;
+    let price = number(words.last()?)?;
     Some(Command::Par {
         player,
         corp,

@@ -5,6 +5,7 @@ ghost use Rattle.rr_words.specs.Name.{IsTableName};
 
 use crate::auction;
 use crate::fault::Fault;
+use crate::names::next_table;
 use crate::players::Players;
 use crate::stock::{self, ShareSource};
 use crate::words::Words;
@@ -199,7 +200,7 @@ pub(crate) fn record_from_words(words: &mut Words) -> Option<(Name, Command)>
     ensures exact { result ≡ read_record_words words.old }
     ensures found { IfSome result (λ r. IsTableName r.0 × IsCommand r.1 × (words.old ≡ r.0 ∷ spelling r.1)) }
 {
-    let table = Name::table(words.next()?)?;
+    let table = next_table(words)?;
     let command = Command::from_words(words)?;
     Some((table, command))
 }

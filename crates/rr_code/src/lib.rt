@@ -7,6 +7,7 @@ mod companies;
 mod fault;
 pub mod laws;
 mod line;
+mod names;
 mod players;
 mod query;
 mod stock;
@@ -19,6 +20,3 @@ pub use line::{Line, unstamped};
 pub use players::Players;
 pub use query::{Account, Owner, Query};
 pub use stock::ShareSource;
-
-#[cfg(test)]
-mod tests;

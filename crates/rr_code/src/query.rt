@@ -2,6 +2,7 @@ ghost use Rattle.std.specs.Prelude.{◌≡◌, ◌∷◌, codes, IfSome};
 ghost use Rattle.rr_code.specs.Query.{IsQuery, IsAccount, IsOwner, query_words, account_word, owner_word, account_of, owner_of, read_query_words, read_tables, read_stamp, read_turns, read_due, read_cash, read_limit, read_asked, read_privates, read_holds, read_price, read_order};
 
 use crate::companies::read_corp;
+use crate::names::{next_player, next_table, only_table};
 use crate::words::Words;
 use rr_roster::Corp;
 use rr_words::Name;
@@ -162,8 +163,7 @@ fn read_stamp(words: &mut Words) -> Option<Query>
     ensures exact { result ≡ read_stamp words.old }
     ensures found { IfSome result (λ query. IsQuery query × (codes "stamp" ∷ words.old ≡ query_words query)) }
 {
-    let table = Name::table(words.next()?)?;
-    words.end()?;
+    let table = only_table(words)?;
     Some(Query::Stamp { table })
 }
 
@@ -171,8 +171,7 @@ fn read_turns(words: &mut Words) -> Option<Query>
     ensures exact { result ≡ read_turns words.old }
     ensures found { IfSome result (λ query. IsQuery query × (codes "turns" ∷ words.old ≡ query_words query)) }
 {
-    let table = Name::table(words.next()?)?;
-    words.end()?;
+    let table = only_table(words)?;
     Some(Query::Turns { table })
 }
 
@@ -180,8 +179,7 @@ fn read_due(words: &mut Words) -> Option<Query>
     ensures exact { result ≡ read_due words.old }
     ensures found { IfSome result (λ query. IsQuery query × (codes "due" ∷ words.old ≡ query_words query)) }
 {
-    let table = Name::table(words.next()?)?;
-    words.end()?;
+    let table = only_table(words)?;
     Some(Query::Due { table })
 }
 
@@ -189,9 +187,8 @@ fn read_cash(words: &mut Words) -> Option<Query>
     ensures exact { result ≡ read_cash words.old }
     ensures found { IfSome result (λ query. IsQuery query × (codes "cash" ∷ words.old ≡ query_words query)) }
 {
-    let table = Name::table(words.next()?)?;
-    let of = Account::read(words.next()?)?;
-    words.end()?;
+    let table = next_table(words)?;
+    let of = Account::read(words.last()?)?;
     Some(Query::Cash { table, of })
 }
 
@@ -199,8 +196,7 @@ fn read_limit(words: &mut Words) -> Option<Query>
     ensures exact { result ≡ read_limit words.old }
     ensures found { IfSome result (λ query. IsQuery query × (codes "limit" ∷ words.old ≡ query_words query)) }
 {
-    let table = Name::table(words.next()?)?;
-    words.end()?;
+    let table = only_table(words)?;
     Some(Query::Limit { table })
 }
 
@@ -208,8 +204,7 @@ fn read_asked(words: &mut Words) -> Option<Query>
     ensures exact { result ≡ read_asked words.old }
     ensures found { IfSome result (λ query. IsQuery query × (codes "asked" ∷ words.old ≡ query_words query)) }
 {
-    let table = Name::table(words.next()?)?;
-    words.end()?;
+    let table = only_table(words)?;
     Some(Query::Asked { table })
 }
 
@@ -217,9 +212,8 @@ fn read_privates(words: &mut Words) -> Option<Query>
     ensures exact { result ≡ read_privates words.old }
     ensures found { IfSome result (λ query. IsQuery query × (codes "privates" ∷ words.old ≡ query_words query)) }
 {
-    let table = Name::table(words.next()?)?;
-    let of = Owner::read(words.next()?)?;
-    words.end()?;
+    let table = next_table(words)?;
+    let of = Owner::read(words.last()?)?;
     Some(Query::Privates { table, of })
 }
 
@@ -227,10 +221,9 @@ fn read_holds(words: &mut Words) -> Option<Query>
     ensures exact { result ≡ read_holds words.old }
     ensures found { IfSome result (λ query. IsQuery query × (codes "holds" ∷ words.old ≡ query_words query)) }
 {
-    let table = Name::table(words.next()?)?;
-    let player = Name::player(words.next()?)?;
-    let corp = read_corp(words.next()?)?;
-    words.end()?;
+    let table = next_table(words)?;
+    let player = next_player(words)?;
+    let corp = read_corp(words.last()?)?;
     Some(Query::Holds {
         table,
         player,
@@ -242,9 +235,8 @@ fn read_price(words: &mut Words) -> Option<Query>
     ensures exact { result ≡ read_price words.old }
     ensures found { IfSome result (λ query. IsQuery query × (codes "price" ∷ words.old ≡ query_words query)) }
 {
-    let table = Name::table(words.next()?)?;
-    let corp = read_corp(words.next()?)?;
-    words.end()?;
+    let table = next_table(words)?;
+    let corp = read_corp(words.last()?)?;
     Some(Query::Price { table, corp })
 }
 
@@ -252,7 +244,6 @@ fn read_order(words: &mut Words) -> Option<Query>
     ensures exact { result ≡ read_order words.old }
     ensures found { IfSome result (λ query. IsQuery query × (codes "order" ∷ words.old ≡ query_words query)) }
 {
-    let table = Name::table(words.next()?)?;
-    words.end()?;
+    let table = only_table(words)?;
     Some(Query::Order { table })
 }

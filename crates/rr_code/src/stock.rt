@@ -6,6 +6,7 @@ ghost use Rattle.rr_code.specs.Reading.{source_of, read_buy, read_sell, read_swa
 use crate::command::Command;
 use crate::companies::read_corp;
 use crate::fault::Fault;
+use crate::names::next_player;
 use crate::words::Words;
 use crate::writing::{write_number, write_word};
 use rr_roster::Corp;
@@ -49,13 +50,12 @@ pub fn read_buy(words: &mut Words) -> Option<Command>
     ensures exact { result ≡ read_buy words.old }
     ensures found { IfSome result (λ c. IsCommand c × (codes "buy" ∷ words.old ≡ spelling c)) }
 {
-    let player = Name::player(words.next()?)?;
+    let player = next_player(words)?;
     let Some(word) = words.next() else {
         return Some(Command::BuyPrivate { player });
     };
     let corp = read_corp(word)?;
-    let source = ShareSource::read(words.next()?)?;
-    words.end()?;
+    let source = ShareSource::read(words.last()?)?;
     Some(Command::BuyShare {
         player,
         corp,
@@ -67,10 +67,9 @@ pub fn read_sell(words: &mut Words) -> Option<Command>
     ensures exact { result ≡ read_sell words.old }
     ensures found { IfSome result (λ c. IsCommand c × (codes "sell" ∷ words.old ≡ spelling c)) }
 {
-    let player = Name::player(words.next()?)?;
+    let player = next_player(words)?;
     let corp = read_corp(words.next()?)?;
-    let count = number(words.next()?)?;
-    words.end()?;
+    let count = number(words.last()?)?;
     Some(Command::Sell {
         player,
         corp,
@@ -82,9 +81,8 @@ pub fn read_swap(words: &mut Words) -> Option<Command>
     ensures exact { result ≡ read_swap words.old }
     ensures found { IfSome result (λ c. IsCommand c × (codes "swap" ∷ words.old ≡ spelling c)) }
 {
-    let player = Name::player(words.next()?)?;
-    let source = ShareSource::read(words.next()?)?;
-    words.end()?;
+    let player = next_player(words)?;
+    let source = ShareSource::read(words.last()?)?;
     Some(Command::Swap { player, source })
 }
 
@@ -92,8 +90,7 @@ pub fn read_done(words: &mut Words) -> Option<Command>
     ensures exact { result ≡ read_done words.old }
     ensures found { IfSome result (λ c. IsCommand c × (codes "done" ∷ words.old ≡ spelling c)) }
 {
-    let player = Name::player(words.next()?)?;
-    words.end()?;
+    let player = Name::player(words.last()?)?;
     Some(Command::Done { player })
 }
 

@@ -1,5 +1,5 @@
 //! The words of a line, one after another.
-ghost use Rattle.std.specs.Prelude.{◌≡◌, [], ◌∷◌, ◌≢◌, MatchOption};
+ghost use Rattle.std.specs.Prelude.{◌≡◌, ℕ, List, [], ◌∷◌, ◌≢◌, MatchOption};
 ghost use Rattle.rr_words.specs.Line.{words_of};
 
 use rr_words::split_word;
@@ -34,6 +34,15 @@ impl<'a> Words<'a> {
         let line = self.rest?;
         let (word, rest) = split_word(line);
         self.rest = rest;
+        Some(word)
+    }
+
+    /// The next word, if it is the only one that is left.
+    pub fn last(&mut self) -> Option<&'a [u8]>
+        ensures { MatchOption result ((word : List ℕ) → self.old ≢ word ∷ []) (λ word. self.old ≡ word.now ∷ []) }
+    {
+        let word = self.next()?;
+        self.end()?;
         Some(word)
     }
 

@@ -11,6 +11,3 @@ pub use desk::Desk;
 pub use entries::Entries;
 pub use incomes::pay_incomes;
 pub use seating::left_of;
-
-#[cfg(test)]
-mod tests;

@@ -20,6 +20,3 @@ pub use fault::Fault;
 pub use faulty::FaultyDisk;
 pub use file::FileDisk;
 pub use memory::MemoryDisk;
-
-#[cfg(test)]
-mod tests;

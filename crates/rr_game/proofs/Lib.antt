@@ -7,4 +7,3 @@ pub mod AuctionCounts
 pub mod PartsMove
 pub mod OpenedParts
 pub mod Playing
-pub mod Soundness

@@ -6,4 +6,3 @@ pub mod Play
 pub mod Parts
 pub mod Keeping
 pub mod Queries
-pub mod Sound

@@ -1,30 +1,7 @@
-//! Laws of the definitions, each the contract of a function that does nothing.
+//! A law of the definitions, the contract of a function that does nothing.
 ghost use Rattle.rr_game.specs.Kits.{OneKit};
-ghost use Rattle.rr_game.specs.Sound.{KitsNameCorporations, PlaysGoOn, TablesStaySound};
-
-/// Whatever two to six players open a table, with a kit whose roster names each corporation, and whatever commands it
-/// accepts then, the balances of bank, seats and corporations sum to 12,000 and only the bank's may be negative, each
-/// certificate has a place of the table, each 20% certificate is in the offering or with a player than whom no other
-/// has more of the corporation, and the pool has at most half of each.
-pub fn sound()
-    ensures { TablesStaySound }
-{
-    rr_books::laws::money_is_kept();
-    rr_stock::laws::pool_stays_within_half();
-    rr_stock::laws::lawful_sales_move_shares();
-}
 
 /// The four texts of a kit spell one chart and one roster.
 pub fn kits_are_told_apart()
     ensures { OneKit }
-{}
-
-/// The roster of each right kit names each corporation.
-pub fn kits_name_corporations()
-    ensures { KitsNameCorporations }
-{}
-
-/// What a table was played with, and one command more that isn't refused in its book, is what a table is played with.
-pub fn plays_go_on()
-    ensures { PlaysGoOn }
 {}

@@ -11,6 +11,3 @@ mod queries;
 pub use fault::Fault;
 pub use game::Game;
 pub use kit::Kit;
-
-#[cfg(test)]
-mod tests;

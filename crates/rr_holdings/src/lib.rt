@@ -15,6 +15,3 @@ pub use rr_books::{Books, Corp, Seat, certificate_limit};
 pub use rr_chart::Chart;
 pub use rr_market::Market;
 pub use sales::{has_lawful_sale, judge_sale, judge_sell, must_sell_first};
-
-#[cfg(test)]
-mod tests;

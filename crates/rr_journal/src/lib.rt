@@ -15,6 +15,3 @@ pub use law::parts_have_one_run;
 pub use layout::PartIndex;
 pub use part::Part;
 pub use reading::{RunEnd, Scanned, scan};
-
-#[cfg(test)]
-mod tests;

@@ -18,6 +18,3 @@ pub use formatting::format;
 pub use keeper::Keeper;
 pub use opening::{Opened, Refused, open};
 pub use texts::{KitTexts, Texts};
-
-#[cfg(test)]
-mod tests;

@@ -14,6 +14,3 @@ mod upgrades;
 pub use fault::Fault;
 pub use laying::tile;
 pub use placing::token;
-
-#[cfg(test)]
-mod tests;

@@ -14,6 +14,3 @@ pub use moves::par_cell;
 pub use order::OperatingOrder;
 pub use rr_books::{Cell, Corp};
 pub use rr_chart::{Chart, Zone};
-
-#[cfg(test)]
-mod tests;

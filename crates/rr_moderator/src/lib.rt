@@ -8,14 +8,9 @@ mod moderator;
 mod opening;
 mod reply;
 mod tables;
-#[cfg(test)]
-mod tests;
 
 pub use fault::Fault;
 pub use moderator::{Moderator, Refused};
 pub use opening::format;
 pub use reply::Reply;
 pub use rr_keeper::Texts;
-
-#[cfg(test)]
-mod game_tests;

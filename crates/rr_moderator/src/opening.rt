@@ -138,6 +138,3 @@ fn replay_record(alloc: Global, tables: &mut Tables, bytes: &[u8]) -> Result<(),
     tables.take(alloc, stamp, &name, &command, bytes, &mut Standing)?;
     Ok(())
 }
-
-#[cfg(test)]
-mod tests;

@@ -5,8 +5,6 @@ mod centres;
 mod joining;
 pub mod laws;
 mod running;
-#[cfg(test)]
-mod tests;
 mod trains;
 
 pub use running::{net_of, net_on_board};

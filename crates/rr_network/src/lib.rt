@@ -14,6 +14,3 @@ pub use network::{Network, Stop, last_lay};
 pub use node::{Axial, CentreAt, Hexside, Link, Node, across, hexside_at, same_node};
 pub use reach::Reach;
 pub use step::node_of;
-
-#[cfg(test)]
-mod tests;

@@ -8,6 +8,3 @@ mod search;
 pub use graph::Followers;
 pub use marking::marked_items;
 pub use search::reached;
-
-#[cfg(test)]
-mod tests;

@@ -9,8 +9,6 @@ mod numbers;
 mod roster;
 mod rules;
 mod spelled;
-#[cfg(test)]
-mod tests;
 
 pub use company::{Corp, Kind, Private};
 pub use fault::{Fault, Rule};

@@ -8,6 +8,3 @@ mod sales;
 
 pub use purchases::Purchases;
 pub use rounds::Rounds;
-
-#[cfg(test)]
-mod tests;

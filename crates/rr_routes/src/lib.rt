@@ -4,8 +4,6 @@
 mod certificate;
 pub mod laws;
 mod net;
-#[cfg(test)]
-mod tests;
 
 pub use certificate::{CertTree, Fate};
 pub use net::{CentreLimit, Link, Node};

@@ -8,8 +8,6 @@ mod fault;
 mod judge;
 pub mod laws;
 mod revenue;
-#[cfg(test)]
-mod tests;
 mod word;
 
 pub use clause::Clause;

@@ -14,8 +14,6 @@ mod runs;
 mod search;
 mod sheets;
 mod sights;
-#[cfg(test)]
-mod tests;
 mod tracks;
 mod whole;
 

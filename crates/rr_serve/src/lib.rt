@@ -8,8 +8,6 @@ pub mod laws;
 mod line_buffer;
 mod reading;
 mod serving;
-#[cfg(test)]
-mod tests;
 
 pub use answering::{Machine, line};
 pub use faults::Fault;

@@ -14,6 +14,3 @@ pub use giving::give_lowest_shares;
 pub use holdings::{heir, percents};
 pub use selling::sell_shares;
 pub use succession::{Handover, hand_over, handover_after_sale, handover_due, settle_presidency};
-
-#[cfg(test)]
-mod tests;

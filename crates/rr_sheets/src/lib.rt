@@ -12,6 +12,3 @@ mod writing;
 pub use certificate::{read_certificate, write_certificate};
 pub use fault::Fault;
 pub use sheet::{LinkNumbers, Sheet, TrainWord};
-
-#[cfg(test)]
-mod tests;

@@ -13,6 +13,3 @@ pub use fault::Fault;
 pub use judging::judge;
 pub use rows::step;
 pub use waiting::due;
-
-#[cfg(test)]
-mod tests;

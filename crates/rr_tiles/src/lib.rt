@@ -9,8 +9,6 @@ mod keeping;
 mod manifest;
 mod part;
 mod supply;
-#[cfg(test)]
-mod tests;
 mod tile;
 
 pub use edge::{Edge, Edges};

@@ -16,6 +16,3 @@ pub use prices::{TrainOnSale, cheapest, is_traded_in, price, trade_price};
 pub use rr_books::{Books, Corp, Kind, Place, Train, TrainSource};
 pub use rr_desk::Desk;
 pub use sales::is_on_sale;
-
-#[cfg(test)]
-mod tests;

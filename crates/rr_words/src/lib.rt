@@ -11,6 +11,3 @@ pub use line::{split_word, words};
 pub use name::{HexName, Name};
 pub use numeral::{number, small_number};
 pub use text::{Row, rows};
-
-#[cfg(test)]
-mod tests;

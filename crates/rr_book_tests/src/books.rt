@@ -1,0 +1,300 @@
+use crate::opening::{self, check};
+use rr_books::laws::money_is_kept;
+use rr_books::{
+    Act, Books, Cert, Corp, Entry, Fault, Kind, Marker, Money, Names, Party, Place, Private, Seat,
+    ShareNumber, Train, Words, certificate_limit, starting_money,
+};
+use rr_words::{HexName, Name};
+use std::process::Abort;
+
+const A: Party = Party::Seat(Seat(0));
+
+const B: Party = Party::Seat(Seat(1));
+
+const PRR: Party = Party::Corp(Corp::Prr);
+
+const LAST_FOUR: Train = Train {
+    kind: Kind::Four,
+    number: 4,
+};
+
+const NO_FOUR: Train = Train {
+    kind: Kind::Four,
+    number: 5,
+};
+
+fn cash(books: &Books, party: Party) -> i64 {
+    books.balance(party).0
+}
+
+/// How many players there are, and how many payments there were.
+fn counts(books: &Books) -> (u8, u32) {
+    (books.players(), books.payments())
+}
+
+fn pay(
+    rt: &impl Abort,
+    books: &mut Books,
+    from: Party,
+    to: Party,
+    amount: i64,
+) -> Result<(), Fault> {
+    assert!(rt; 0 <= amount && amount < 10000);
+    assert!(rt; books.payments() < 100);
+    books.pay(from, to, Money(amount))
+}
+
+fn give(books: &mut Books, cert: Cert, to: Place) -> Result<(), Fault> {
+    books.give(cert, to)
+}
+
+fn give_train(books: &mut Books, train: Train, to: Place) -> Result<(), Fault> {
+    books.give_train(train, to)
+}
+
+fn holder(books: &Books, cert: Cert) -> Place {
+    books.holder(cert)
+}
+
+fn train_holder(books: &Books, train: Train) -> Option<Place> {
+    books.train_holder(train)
+}
+
+fn copied(rt: &impl Abort, entry: &Entry) -> Entry {
+    entry.copy().expect(rt, "memory")
+}
+
+#[test]
+fn each_player_has_the_money_for_the_start(rt: HostRuntime) {
+    for (players, money) in [(2, 1200), (3, 800), (4, 600), (5, 480), (6, 400)] {
+        let books = opening::books(&rt, players);
+        check(&rt, "cash", cash(&books, A), money);
+        check(&rt, "cash of the bank", cash(&books, Party::Bank), 9600);
+        check(&rt, "counts", counts(&books), (players, u32::from(players)));
+    }
+}
+
+#[test]
+fn a_seat_beyond_the_last_has_no_money(rt: HostRuntime) {
+    let books = opening::books(&rt, 4);
+    check(&rt, "cash", cash(&books, Party::Seat(Seat(4))), 0);
+}
+
+#[test]
+fn limits_follow_the_number_of_players(rt: HostRuntime) {
+    for (players, limit, money) in [
+        (2, 28, 1200),
+        (3, 20, 800),
+        (4, 16, 600),
+        (5, 13, 480),
+        (6, 11, 400),
+    ] {
+        check(&rt, "limit", certificate_limit(players), limit);
+        check(&rt, "starting money", starting_money(players), Money(money));
+    }
+}
+
+#[test]
+fn a_payer_has_what_it_pays(rt: HostRuntime) {
+    let mut books = opening::books(&rt, 4);
+    for (from, to, amount, result, left, got, payments) in [
+        (A, PRR, 600, Ok(()), 0, 600, 5),
+        (B, B, 600, Ok(()), 600, 600, 6),
+        (Party::Bank, A, 9601, Ok(()), -1, 9601, 7),
+        (PRR, A, 601, Err(Fault::TooLittleCash), 600, 9601, 7),
+    ] {
+        check(
+            &rt,
+            "payment",
+            pay(&rt, &mut books, from, to, amount),
+            result,
+        );
+        check(&rt, "cash of the payer", cash(&books, from), left);
+        check(&rt, "cash of the payee", cash(&books, to), got);
+        check(&rt, "counts", counts(&books), (4, payments));
+    }
+    assert!(rt; Party::Bank.is_bank() && !PRR.is_bank());
+}
+
+#[test]
+fn nobody_else_pays(rt: HostRuntime) {
+    let mut books = opening::books(&rt, 3);
+    let nobody = Party::Seat(Seat(3));
+    assert!(rt; books.has_party(A) && !books.has_party(nobody));
+    check(
+        &rt,
+        "payment",
+        pay(&rt, &mut books, A, nobody, 9999),
+        Err(Fault::NoSuchName),
+    );
+}
+
+#[test]
+fn a_president_and_two_shares_are_40_percent(rt: HostRuntime) {
+    let mut books = opening::books(&rt, 3);
+    let seat = Place::Seat(Seat(2));
+    for cert in [
+        Cert::President(Corp::Prr),
+        Cert::Share(Corp::Prr, ShareNumber::One),
+        Cert::Share(Corp::Prr, ShareNumber::Eight),
+    ] {
+        check(&rt, "gift", give(&mut books, cert, seat), Ok(()));
+    }
+    check(&rt, "share", books.share(seat, Corp::Prr), 40);
+    check(&rt, "certificates", books.counted(Seat(2), Corp::Prr), 3);
+    check(&rt, "president", books.president(Corp::Prr), Some(Seat(2)));
+    check(
+        &rt,
+        "another share",
+        holder(&books, Cert::Share(Corp::Nyc, ShareNumber::One)),
+        Place::Offer,
+    );
+}
+
+#[test]
+fn all_is_offered_at_first(rt: HostRuntime) {
+    let books = opening::books(&rt, 3);
+    check(&rt, "share", books.share(Place::Offer, Corp::Prr), 100);
+    check(&rt, "president", books.president(Corp::Prr), None);
+}
+
+#[test]
+fn nobody_else_gets_a_certificate(rt: HostRuntime) {
+    let mut books = opening::books(&rt, 3);
+    let nobody = Place::Seat(Seat(3));
+    assert!(rt; books.has_place(Place::Seat(Seat(2))) && !books.has_place(nobody));
+    check(
+        &rt,
+        "gift",
+        give(&mut books, Cert::Private(Private::Sv), nobody),
+        Err(Fault::NoSuchName),
+    );
+}
+
+#[test]
+fn trains_are_those_of_the_roster(rt: HostRuntime) {
+    let books = opening::books(&rt, 3);
+    check(&rt, "4s", books.train_count(Kind::Four), 4);
+    check(&rt, "Ds", books.train_count(Kind::Diesel), 6);
+    assert!(rt; books.has_train(LAST_FOUR) && !books.has_train(NO_FOUR));
+}
+
+#[test]
+fn no_other_train_goes_to_a_place(rt: HostRuntime) {
+    let mut books = opening::books(&rt, 3);
+    check(
+        &rt,
+        "holder",
+        train_holder(&books, LAST_FOUR),
+        Some(Place::Offer),
+    );
+    check(&rt, "holder of none", train_holder(&books, NO_FOUR), None);
+    let bm = Place::Corp(Corp::Bm);
+    check(&rt, "gift", give_train(&mut books, LAST_FOUR, bm), Ok(()));
+    check(&rt, "holder", train_holder(&books, LAST_FOUR), Some(bm));
+    check(
+        &rt,
+        "gift of none",
+        give_train(&mut books, NO_FOUR, Place::Gone),
+        Err(Fault::NoSuchName),
+    );
+}
+
+/// The names of ann and bob.
+fn names(rt: &(impl Abort + AllocGlobal)) -> Names {
+    let mut names = Names::new(rt.alloc());
+    for letters in [b"ann", b"bob"] {
+        let name = Name::player(letters).expect(rt, "a player's name");
+        names.push(name).expect(rt, "memory");
+    }
+    names
+}
+
+/// How many names a copy of `open` has.
+fn count_of_copy(rt: &impl Abort, open: &Act) -> usize {
+    match &open.copy().expect(rt, "memory") {
+        Act::Open { names } => names.as_slice().len(),
+        _ => 0,
+    }
+}
+
+#[test]
+fn commands_are_copied(rt: HostRuntime) {
+    let open = Act::Open { names: names(&rt) };
+    check(&rt, "names", count_of_copy(&rt, &open), 2);
+}
+
+#[test]
+fn markers_are_copied(rt: HostRuntime) {
+    let copy = names(&rt).copy().expect(&rt, "memory");
+    let marker = Marker::Auction(copy).copy().expect(&rt, "memory");
+    assert!(rt; matches!(marker, Marker::Auction(_)));
+}
+
+/// A run whose certificate is a copy of its sheet.
+fn run(rt: &(impl Abort + AllocGlobal)) -> Entry {
+    let sheet = Words::of(rt.alloc(), b"2 1>2").expect(rt, "memory");
+    let certificate = sheet.copy().expect(rt, "memory");
+    Entry::Best {
+        corp: Corp::Co,
+        sheet,
+        certificate,
+    }
+}
+
+fn has_certificate(entry: &Entry, bytes: &[u8]) -> bool {
+    match entry {
+        Entry::Best { certificate, .. } => certificate.as_bytes() == bytes,
+        _ => false,
+    }
+}
+
+#[test]
+fn certificates_are_copied(rt: HostRuntime) {
+    let copy = copied(&rt, &run(&rt));
+    assert!(rt; has_certificate(&copy, b"2 1>2"));
+}
+
+#[test]
+fn tiles_are_copied(rt: HostRuntime) {
+    let hex = HexName::read(b"D10").expect(&rt, "a hex");
+    let laid = Entry::Lay {
+        hex,
+        tile: 57,
+        turn: 3,
+    };
+    assert!(rt;
+        matches!(
+            copied(&rt, &laid),
+            Entry::Lay {
+                tile: 57,
+                turn: 3,
+                ..
+            }
+        )
+    );
+}
+
+#[test]
+fn faults_have_words_and_numbers(rt: HostRuntime) {
+    for (fault, text, number) in [
+        (Fault::NoSuchName, "no such name", 1),
+        (Fault::TooLittleCash, "too little cash", 2),
+        (Fault::OutOfMemory, "out of memory", 70),
+    ] {
+        let words = format!(in rt.alloc(); "{fault}").expect(&rt, "memory");
+        check(&rt, "text", words.as_str(), text);
+        check(&rt, "number", fault.number(), number);
+    }
+}
+
+#[test]
+fn shares_are_numbered_from_1_to_8(rt: HostRuntime) {
+    check(&rt, "number", ShareNumber::One.number(), 1);
+    check(&rt, "count", ShareNumber::ALL.len(), 8);
+}
+
+#[test]
+fn laws_are_called() {
+    money_is_kept();
+}

@@ -1,0 +1,183 @@
+use crate::opening::{self, check, check_entries};
+use rr_books::{
+    Cell, Cert, Corp, Entry, Fault, Kind, Marker, Money, Party, Place, Private, Seat, ShareNumber,
+    Train,
+};
+use rr_desk::{Desk, Entries, left_of, pay_incomes};
+use std::process::Abort;
+
+const A: Seat = Seat(0);
+
+const FIRST: Train = Train {
+    kind: Kind::Two,
+    number: 1,
+};
+
+fn cash(desk: &Desk, party: Party) -> i64 {
+    desk.books().balance(party).0
+}
+
+/// The seat `A` pays the bank.
+fn pay(rt: &impl Abort, desk: &mut Desk, amount: i64) -> Result<(), Fault> {
+    assert!(rt; 0 <= amount && amount < 10000);
+    assert!(rt; desk.books().payments() < 100);
+    desk.pay(Party::Seat(A), Party::Bank, Money(amount))
+}
+
+fn give(desk: &mut Desk, cert: Cert, to: Place) -> Result<(), Fault> {
+    desk.give(cert, to)
+}
+
+fn give_train(desk: &mut Desk, train: Train, to: Place) -> Result<(), Fault> {
+    desk.give_train(train, to)
+}
+
+fn pay_all_incomes(rt: &(impl Abort + AllocGlobal), desk: &mut Desk) -> Result<(), Fault> {
+    assert!(rt; desk.books().payments() < 100);
+    pay_incomes(desk, &opening::roster(rt))
+}
+
+#[test]
+fn pays_and_steps(rt: HostRuntime) {
+    let mut desk = opening::desk(&rt);
+    check(&rt, "payment", pay(&rt, &mut desk, 200), Ok(()));
+    check(&rt, "step", desk.step(Marker::Stock), Ok(()));
+    check(&rt, "cash", cash(&desk, Party::Seat(A)), 1000);
+    check_entries(
+        &rt,
+        desk.entries().as_slice(),
+        0,
+        "[Pay { from: Seat(Seat(0)), to: Bank, amount: Money(200) }, Step(Stock)]",
+    );
+}
+
+#[test]
+fn marks(rt: HostRuntime) {
+    let mut desk = opening::desk(&rt);
+    let cell = Cell { row: 2, column: 6 };
+    check(&rt, "mark", desk.mark(Corp::Prr, cell), Ok(()));
+    check_entries(
+        &rt,
+        desk.entries().as_slice(),
+        0,
+        "[Mark { corp: Prr, cell: Cell { row: 2, column: 6 } }]",
+    );
+}
+
+#[test]
+fn gives_the_lowest_share(rt: HostRuntime) {
+    let mut desk = opening::desk(&rt);
+    check(
+        &rt,
+        "share",
+        desk.give_lowest_share(Corp::Erie, Place::Offer, Place::Seat(A)),
+        Ok(()),
+    );
+    check(
+        &rt,
+        "next share",
+        desk.lowest_share(Corp::Erie, Place::Offer),
+        Some(Cert::Share(Corp::Erie, ShareNumber::Two)),
+    );
+    let (books, entries) = desk.into_parts();
+    check(&rt, "percent", books.share(Place::Seat(A), Corp::Erie), 10);
+    check_entries(
+        &rt,
+        entries.as_slice(),
+        0,
+        "[Move { cert: Share(Erie, One), to: Seat(Seat(0)) }]",
+    );
+}
+
+#[test]
+fn gives_a_certificate_and_a_train(rt: HostRuntime) {
+    let mut desk = opening::desk(&rt);
+    check(
+        &rt,
+        "president",
+        give(&mut desk, Cert::President(Corp::Erie), Place::Pool),
+        Ok(()),
+    );
+    check(
+        &rt,
+        "train",
+        give_train(&mut desk, FIRST, Place::Corp(Corp::Nyc)),
+        Ok(()),
+    );
+    let (books, entries) = desk.into_parts();
+    check(
+        &rt,
+        "holder",
+        books.holder(Cert::President(Corp::Erie)),
+        Place::Pool,
+    );
+    check(
+        &rt,
+        "holder of the train",
+        books.train_holder(FIRST),
+        Some(Place::Corp(Corp::Nyc)),
+    );
+    check_entries(
+        &rt,
+        entries.as_slice(),
+        0,
+        "[Move { cert: President(Erie), to: Pool }, Train { train: Train { kind: Two, number: 1 }, to: Corp(Nyc) }]",
+    );
+}
+
+#[test]
+fn pays_the_incomes(rt: HostRuntime) {
+    let mut desk = opening::desk(&rt);
+    for (private, place) in [
+        (Private::Dh, Place::Seat(A)),
+        (Private::Sv, Place::Corp(Corp::Prr)),
+    ] {
+        check(
+            &rt,
+            "private",
+            give(&mut desk, Cert::Private(private), place),
+            Ok(()),
+        );
+    }
+    check(&rt, "incomes", pay_all_incomes(&rt, &mut desk), Ok(()));
+    check(&rt, "cash", cash(&desk, Party::Seat(A)), 1215);
+    check_entries(
+        &rt,
+        desk.entries().as_slice(),
+        0,
+        "[Move { cert: Private(Dh), to: Seat(Seat(0)) }, Move { cert: Private(Sv), to: Corp(Prr) }, Pay { from: Bank, to: Corp(Prr), amount: Money(5) }, Pay { from: Bank, to: Seat(Seat(0)), amount: Money(15) }]",
+    );
+}
+
+#[test]
+fn the_first_seat_is_on_the_left_of_the_last(rt: HostRuntime) {
+    check(&rt, "left", left_of(A, 3), Seat(1));
+    check(&rt, "left of the last", left_of(Seat(2), 3), A);
+}
+
+#[test]
+fn what_is_refused_at_a_desk(rt: HostRuntime) {
+    let mut desk = opening::desk(&rt);
+    check(
+        &rt,
+        "payment",
+        pay(&rt, &mut desk, 1201),
+        Err(Fault::TooLittleCash),
+    );
+    check(
+        &rt,
+        "gift",
+        give(&mut desk, Cert::President(Corp::Bo), Place::Seat(Seat(2))),
+        Err(Fault::NoSuchName),
+    );
+    check(&rt, "entries", desk.entries().as_slice().len(), 0);
+}
+
+#[test]
+fn entries_begin_empty(rt: HostRuntime) {
+    let mut entries = Entries::new(rt.alloc());
+    check(&rt, "entries", entries.as_slice().len(), 0);
+    let stock = Entry::Step(Marker::Stock);
+    check(&rt, "push", entries.push(stock), Ok(()));
+    check(&rt, "entries", entries.as_slice().len(), 1);
+}

@@ -1,0 +1,18 @@
+//! Tests of the books of a table and of the crates of rules that stand on them alone. Their helpers have no contracts:
+//! what the calls promise is proved where they are defined, and a test compares values as it runs.
+#![tactic(auto)]
+
+#[cfg(test)]
+mod books;
+#[cfg(test)]
+mod desk;
+#[cfg(test)]
+mod market;
+#[cfg(test)]
+mod opening;
+#[cfg(test)]
+mod rounds;
+#[cfg(test)]
+mod shares;
+#[cfg(test)]
+mod trains;

@@ -1,0 +1,183 @@
+use crate::opening::{self, check, check_entries};
+use rr_books::{Books, Cert, Corp, Party, Place, Seat};
+use rr_desk::Desk;
+use rr_shares::laws::{
+    heir_has_the_most, presidency_stays_with_a_seat, president_has_the_most, sales_move_shares,
+    worked_heirs,
+};
+use rr_shares::{
+    Handover, float, float_if_due, floats_now, give_lowest_shares, hand_over, handover_after_sale,
+    handover_due, heir, percents, sell_shares, settle_presidency,
+};
+use std::process::Abort;
+
+const A: Seat = Seat(0);
+
+const B: Seat = Seat(1);
+
+const PRR: Corp = Corp::Prr;
+
+/// Gives so many 10% shares of the offer.
+fn give_shares(rt: &impl Abort, desk: &mut Desk, count: u8, to: Seat) {
+    let place = Place::Seat(to);
+    assert!(rt; desk.books().has_place(place));
+    give_lowest_shares(desk, PRR, count, Place::Offer, place).expect(rt, "memory");
+}
+
+fn give_presidency(rt: &impl Abort, desk: &mut Desk, to: Seat) {
+    desk.give(Cert::President(PRR), Place::Seat(to))
+        .expect(rt, "a seat of the table");
+}
+
+/// A desk at a table of two players, at which `A` is the president of the PRR with 40% of it, and `B` has so many 10%
+/// shares.
+fn dealt(rt: &(impl Abort + AllocGlobal), count: u8) -> Desk {
+    let mut desk = opening::desk(rt);
+    give_presidency(rt, &mut desk, A);
+    give_shares(rt, &mut desk, 2, A);
+    give_shares(rt, &mut desk, count, B);
+    desk
+}
+
+fn settle(rt: &impl Abort, desk: &mut Desk) {
+    settle_presidency(desk, PRR).expect(rt, "memory");
+}
+
+fn sell(rt: &impl Abort, desk: &mut Desk, seller: Seat, count: u8) {
+    sell_shares(desk, PRR, seller, count).expect(rt, "memory");
+}
+
+fn hand(rt: &impl Abort, desk: &mut Desk, handover: &Handover) {
+    let players = desk.books().players();
+    assert!(rt; handover.from.0 < players && handover.to.0 < players);
+    hand_over(desk, PRR, handover).expect(rt, "memory");
+}
+
+fn float_with(rt: &impl Abort, desk: &mut Desk, par: u16) {
+    assert!(rt; desk.books().payments() < 100);
+    float(desk, PRR, par).expect(rt, "memory");
+}
+
+fn float_where_due(rt: &impl Abort, desk: &mut Desk, par: Option<u16>) {
+    assert!(rt; desk.books().payments() < 100);
+    float_if_due(desk, PRR, par, false).expect(rt, "memory");
+}
+
+/// What the seats hold.
+fn held(desk: &Desk) -> [u16; 6] {
+    percents(desk.books(), PRR)
+}
+
+/// What the corporation has.
+fn cash(desk: &Desk) -> i64 {
+    desk.books().balance(Party::Corp(PRR)).0
+}
+
+fn counted(books: &Books, seat: Seat) -> u8 {
+    books.counted(seat, PRR)
+}
+
+fn floats(books: &Books, floated: bool) -> bool {
+    floats_now(books, PRR, Some(100), floated)
+}
+
+#[test]
+fn an_equal_holder_does_not_take_over(rt: HostRuntime) {
+    let mut desk = dealt(&rt, 4);
+    settle(&rt, &mut desk);
+    check(&rt, "entries", desk.entries().as_slice().len(), 7);
+    check(&rt, "handover", handover_due(desk.books(), PRR), None);
+    check(&rt, "percents", held(&desk), [40, 40, 0, 0, 0, 0]);
+}
+
+#[test]
+fn a_greater_holder_takes_over(rt: HostRuntime) {
+    let mut desk = dealt(&rt, 5);
+    settle(&rt, &mut desk);
+    check_entries(
+        &rt,
+        desk.entries().as_slice(),
+        8,
+        "[Move { cert: Share(Prr, Three), to: Seat(Seat(0)) }, Move { cert: Share(Prr, Four), to: Seat(Seat(0)) }, Move { cert: President(Prr), to: Seat(Seat(1)) }]",
+    );
+    check(&rt, "percents", held(&desk), [40, 50, 0, 0, 0, 0]);
+    check(&rt, "certificates of A", counted(desk.books(), A), 4);
+    check(&rt, "certificates of B", counted(desk.books(), B), 4);
+}
+
+#[test]
+fn hands_the_presidency_over(rt: HostRuntime) {
+    let mut desk = dealt(&rt, 3);
+    hand(&rt, &mut desk, &Handover { from: A, to: B });
+    check(&rt, "president", desk.books().president(PRR), Some(B));
+    check(&rt, "percents", held(&desk), [40, 30, 0, 0, 0, 0]);
+}
+
+#[test]
+fn the_heir_is_the_nearest_on_the_left(rt: HostRuntime) {
+    check(
+        &rt,
+        "heir of B",
+        heir(&[30, 20, 0, 30, 0, 0], 4, B),
+        Some(Seat(3)),
+    );
+    check(
+        &rt,
+        "heir of D",
+        heir(&[30, 20, 40, 30, 0, 0], 4, Seat(3)),
+        Some(Seat(2)),
+    );
+    check(&rt, "no heir", heir(&[20, 20, 0, 10, 0, 0], 4, B), None);
+}
+
+#[test]
+fn sells_shares_and_the_presidency_goes(rt: HostRuntime) {
+    let mut desk = dealt(&rt, 3);
+    check(
+        &rt,
+        "handover",
+        handover_after_sale(desk.books(), PRR, A, 1),
+        None,
+    );
+    sell(&rt, &mut desk, A, 2);
+    check_entries(
+        &rt,
+        desk.entries().as_slice(),
+        6,
+        "[Move { cert: Share(Prr, Three), to: Seat(Seat(0)) }, Move { cert: Share(Prr, Four), to: Seat(Seat(0)) }, Move { cert: President(Prr), to: Seat(Seat(1)) }, Move { cert: Share(Prr, One), to: Pool }, Move { cert: Share(Prr, Two), to: Pool }]",
+    );
+    check(&rt, "percents", held(&desk), [20, 30, 0, 0, 0, 0]);
+}
+
+#[test]
+fn floats_with_ten_times_its_par(rt: HostRuntime) {
+    let mut desk = dealt(&rt, 2);
+    assert!(rt; floats(desk.books(), false) && !floats(desk.books(), true));
+    float_where_due(&rt, &mut desk, Some(100));
+    check(&rt, "cash", cash(&desk), 1000);
+    check_entries(
+        &rt,
+        desk.entries().as_slice(),
+        5,
+        "[Pay { from: Bank, to: Corp(Prr), amount: Money(1000) }, Step(Float(Prr))]",
+    );
+}
+
+#[test]
+fn does_not_float_with_half_in_the_offer(rt: HostRuntime) {
+    let mut desk = dealt(&rt, 1);
+    assert!(rt; !floats(desk.books(), false));
+    float_where_due(&rt, &mut desk, None);
+    check(&rt, "entries", desk.entries().as_slice().len(), 4);
+    float_with(&rt, &mut desk, 67);
+    check(&rt, "cash", cash(&desk), 670);
+}
+
+#[test]
+fn laws_are_called() {
+    presidency_stays_with_a_seat();
+    heir_has_the_most();
+    president_has_the_most();
+    sales_move_shares();
+    worked_heirs();
+}

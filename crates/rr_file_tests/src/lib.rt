@@ -1,0 +1,11 @@
+//! Tests of the disks, of the journal and of the keeper of a store's file.
+#![tactic(auto)]
+
+#[cfg(test)]
+mod calls;
+#[cfg(test)]
+mod disks;
+#[cfg(test)]
+mod journal;
+#[cfg(test)]
+mod keeper;

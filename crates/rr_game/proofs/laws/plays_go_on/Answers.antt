@@ -1,5 +1,0 @@
-use Rattle.rr_game.proofs.Soundness.{played_more}
-use Rattle.rr_game.proofs.laws.plays_go_on.Goals as goal
-
-pub returns : goal.returns
-returns c kit commands command played next = played_more kit commands command played next

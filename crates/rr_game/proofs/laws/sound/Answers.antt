@@ -1,5 +1,0 @@
-use Rattle.rr_game.proofs.Soundness.{sound_along}
-use Rattle.rr_game.proofs.laws.sound.Goals as goal
-
-pub returns : goal.returns
-returns c kit commands order played = sound_along c.money_is_kept.ensures (record { pool = c.pool_stays_within_half.ensures; sales = c.lawful_sales_move_shares.ensures }) kit commands order played

@@ -1,0 +1,13 @@
+//! The tests of the crates that read a kit: `rr_words`, `rr_roster`, `rr_chart`, `rr_tiles` and `rr_board`.
+#![tactic(auto)]
+
+#[cfg(test)]
+mod board;
+#[cfg(test)]
+mod chart;
+#[cfg(test)]
+mod roster;
+#[cfg(test)]
+mod tiles;
+#[cfg(test)]
+mod words;

@@ -1,0 +1,283 @@
+use rr_serve::{Fault, LONGEST_LINE, LineBuffer, Machine, laws, line, serve};
+use std::alloc::{AllocError, Global};
+use std::cell::Cell;
+use std::io;
+use std::io::{ErrorKind, Read, Write};
+use std::process::Abort;
+use std::test::Fail;
+
+/// Replies with the line itself, and says which lines are too long.
+#[derive(Drop)]
+struct Echo {
+    reply: Vec<u8>,
+    lines: usize,
+}
+
+impl Machine for Echo {
+    ghost Answers = { λ _ _ _. Unit {0} };
+
+    ghost reply_of = { λ echo. echo.reply.items };
+
+    fn take(&mut self, line: &[u8]) {
+        self.lines = self.lines.saturating_add(1);
+        self.reply.clear();
+        let text = if line.len() > LONGEST_LINE {
+            b"no 67 line too long".as_slice()
+        } else {
+            line
+        };
+        let _ = self.reply.extend_from_slice(text);
+        let _ = self.reply.push(b'\n');
+    }
+
+    fn reply(&self) -> &[u8] {
+        self.reply.as_slice()
+    }
+}
+
+/// A writer with so much room, that takes a byte a call and tells how many bytes are flushed.
+#[derive(Drop)]
+struct Drip<'a> {
+    bytes: Vec<u8>,
+    room: usize,
+    flushed: &'a Cell<usize>,
+}
+
+impl Write for Drip<'_> {
+    fn write(&mut self, buf: &[u8]) -> io::Result<usize> {
+        match buf.first() {
+            Some(byte) if self.bytes.len() < self.room => {
+                self.bytes.push(*byte)?;
+                Ok(1)
+            }
+            _ => Err(io::Error::from(ErrorKind::BrokenPipe)),
+        }
+    }
+
+    fn flush(&mut self) -> io::Result<()> {
+        self.flushed.set(self.bytes.len());
+        Ok(())
+    }
+}
+
+/// A writer that takes nothing, or one that can't be flushed.
+#[derive(Drop)]
+struct Stuck {
+    takes: bool,
+}
+
+impl Write for Stuck {
+    fn write(&mut self, buf: &[u8]) -> io::Result<usize> {
+        Ok(if self.takes { buf.len() } else { 0 })
+    }
+
+    fn flush(&mut self) -> io::Result<()> {
+        Err(io::Error::from(ErrorKind::BrokenPipe))
+    }
+}
+
+/// A reader that fails behind its last byte. It notes how many bytes were flushed as each line began.
+#[derive(Drop)]
+struct Torn<'a> {
+    rest: &'a [u8],
+    begins: bool,
+    flushed: &'a Cell<usize>,
+    seen: Vec<usize>,
+}
+
+impl Read for Torn<'_> {
+    fn read(&mut self, buf: &mut [u8]) -> io::Result<usize> {
+        if self.begins {
+            self.seen.push(self.flushed.get())?;
+        }
+        match self.rest.split_first() {
+            Some((byte, others)) if !buf.is_empty() => {
+                buf[0] = *byte;
+                self.begins = *byte == b'\n';
+                self.rest = others;
+                Ok(1)
+            }
+            _ => Err(io::Error::from(ErrorKind::ConnectionReset)),
+        }
+    }
+}
+
+fn make_echo(alloc: Global) -> Result<Echo, AllocError> {
+    let reply = Vec::with_capacity(alloc, LONGEST_LINE + 1)?;
+    Ok(Echo { reply, lines: 0 })
+}
+
+fn make_buffer(alloc: Global) -> Result<LineBuffer, AllocError> {
+    LineBuffer::new(alloc)
+}
+
+// How the serving ended, and how many lines the machine took.
+#[derive(Clone, Copy)]
+struct Served {
+    result: Result<(), Fault>,
+    lines: usize,
+}
+
+// The calls have no contracts, so that what a test does costs its proof little.
+fn serve_lines<R: Read, W: Write>(
+    alloc: Global,
+    buffer: &mut LineBuffer,
+    reader: &mut R,
+    writer: &mut W,
+) -> Result<Served, AllocError> {
+    let mut machine = make_echo(alloc)?;
+    let result = serve(&mut machine, reader, writer, buffer);
+    Ok(Served {
+        result,
+        lines: machine.lines,
+    })
+}
+
+// Serves a whole input to a writer that takes all.
+fn check_served(
+    rt: &impl Abort,
+    alloc: Global,
+    buffer: &mut LineBuffer,
+    input: &[u8],
+    output: &[u8],
+) -> Result<usize, Fail> {
+    let mut reader = input;
+    let mut written = Vec::new(alloc);
+    let served = serve_lines(alloc, buffer, &mut reader, &mut written)?;
+    assert_eq!(rt; served.result, Ok(()));
+    assert!(rt; written.as_slice() == output);
+    Ok(served.lines)
+}
+
+#[test]
+fn answers_each_line(rt: HostRuntime) -> Result<(), Fail> {
+    let mut buffer = make_buffer(rt.alloc())?;
+    for (input, output) in [
+        ("", ""),
+        ("\n", "\n"),
+        ("one\n", "one\n"),
+        ("one\n\ntwo\n", "one\n\ntwo\n"),
+        ("one\ntwo", "one\nno 55 malformed line\n"),
+        ("\r", "no 55 malformed line\n"),
+    ] {
+        let (input, output) = (input.as_bytes(), output.as_bytes());
+        check_served(&rt, rt.alloc(), &mut buffer, input, output)?;
+    }
+    Ok(())
+}
+
+#[test]
+fn tells_lines_too_long(rt: HostRuntime) -> Result<(), Fail> {
+    let mut buffer = make_buffer(rt.alloc())?;
+    for (length, refused) in [(8_000, false), (8_001, true), (20_000, true)] {
+        let mut input = vec![in rt.alloc(); b'x'; length]?;
+        input.extend_from_slice(b"\nnext\n")?;
+        let input = input.as_slice();
+        let output = if refused {
+            b"no 67 line too long\nnext\n".as_slice()
+        } else {
+            input
+        };
+        check_served(&rt, rt.alloc(), &mut buffer, input, output)?;
+    }
+    Ok(())
+}
+
+#[test]
+fn a_long_rest_is_malformed(rt: HostRuntime) -> Result<(), Fail> {
+    let input = vec![in rt.alloc(); b'x'; 8_001]?;
+    let mut buffer = make_buffer(rt.alloc())?;
+    let output = b"no 55 malformed line\n".as_slice();
+    let lines = check_served(&rt, rt.alloc(), &mut buffer, &input, output)?;
+    assert_eq!(rt; lines, 0);
+    Ok(())
+}
+
+#[test]
+fn ends_where_the_device_fails(rt: HostRuntime) -> Result<(), Fail> {
+    let mut buffer = make_buffer(rt.alloc())?;
+    let mut reader = b"no 6\nno 60 device failed\nmore\n".as_slice();
+    let mut written = Vec::new(rt.alloc());
+    let served = serve_lines(rt.alloc(), &mut buffer, &mut reader, &mut written)?;
+    assert_eq!(rt; served.result, Err(Fault::DeviceFailed));
+    assert_eq!(rt; served.lines, 2);
+    assert!(rt; written.as_slice() == b"no 6\nno 60 device failed\n".as_slice());
+    assert!(rt; reader == b"more\n".as_slice());
+    Ok(())
+}
+
+#[test]
+fn answers_before_it_reads_on(rt: HostRuntime) -> Result<(), Fail> {
+    let flushed = Cell::new(0);
+    let mut buffer = make_buffer(rt.alloc())?;
+    let mut reader = Torn {
+        rest: b"one\n\nthree\nfo",
+        begins: true,
+        flushed: &flushed,
+        seen: Vec::new(rt.alloc()),
+    };
+    let mut writer = Drip {
+        bytes: Vec::new(rt.alloc()),
+        room: usize::MAX,
+        flushed: &flushed,
+    };
+    let served = serve_lines(rt.alloc(), &mut buffer, &mut reader, &mut writer)?;
+    assert_eq!(rt; served.result, Err(Fault::StreamFailed));
+    assert!(rt; writer.bytes.as_slice() == b"one\n\nthree\n".as_slice());
+    assert!(rt; reader.seen.as_slice() == [0, 4, 5, 11].as_slice());
+    Ok(())
+}
+
+#[test]
+fn ends_where_the_writer_fails(rt: HostRuntime) -> Result<(), Fail> {
+    let flushed = Cell::new(0);
+    let mut buffer = make_buffer(rt.alloc())?;
+    for (input, room, output) in [
+        ("one\ntwo\nthree\n", 6, "one\ntw"),
+        ("one\nthree", 9, "one\nno 55"),
+    ] {
+        let mut reader = input.as_bytes();
+        let mut writer = Drip {
+            bytes: Vec::new(rt.alloc()),
+            room,
+            flushed: &flushed,
+        };
+        let served = serve_lines(rt.alloc(), &mut buffer, &mut reader, &mut writer)?;
+        assert_eq!(rt; served.result, Err(Fault::StreamFailed));
+        assert!(rt; writer.bytes.as_slice() == output.as_bytes());
+        assert_eq!(rt; flushed.get(), 4);
+    }
+    Ok(())
+}
+
+fn answered<W: Write>(machine: &mut Echo, bytes: &[u8], writer: &mut W) -> Result<(), Fault> {
+    line(machine, bytes, writer)
+}
+
+#[test]
+fn a_line_is_taken_whatever_the_writer_does(rt: HostRuntime) -> Result<(), Fail> {
+    let mut machine = make_echo(rt.alloc())?;
+    for takes in [false, true] {
+        let result = answered(&mut machine, b"pay", &mut Stuck { takes });
+        assert_eq!(rt; result, Err(Fault::StreamFailed));
+    }
+    let mut written = Vec::new(rt.alloc());
+    assert_eq!(rt; answered(&mut machine, b"give", &mut written), Ok(()));
+    assert!(rt; written.as_slice() == b"give\n".as_slice());
+    assert_eq!(rt; machine.lines, 3);
+    Ok(())
+}
+
+#[test]
+fn faults_have_numbers_and_texts(rt: HostRuntime) -> Result<(), Fail> {
+    for (fault, number, text) in [
+        (Fault::DeviceFailed, 60, "device failed"),
+        (Fault::StreamFailed, 69, "stream failed"),
+    ] {
+        assert_eq!(rt; fault.number(), number);
+        assert_eq!(rt; format!(in rt.alloc(); "{fault}")?.as_str(), text);
+    }
+    laws::splitting();
+    laws::taking();
+    Ok(())
+}

@@ -1,0 +1,167 @@
+//! A game of two from a small kit, and kits that are refused.
+ghost use Rattle.std.specs.Prelude.{◌≡◌, ◌≤◌, true};
+ghost use Rattle.rr_game.specs.Names.{amount_in};
+
+use crate::fixtures::{A, B, ROSTER};
+use rr_auction::Due;
+use rr_books::{Cell, Corp, Money, Place, Private};
+use rr_code::{Account, Command, Owner};
+use rr_game::{Fault, Game, Kit};
+use rr_words::Name;
+use std::alloc::Global;
+use std::process::Abort;
+
+const CHART: &[u8] = b"60y 67 71 76 82 90 100p\n";
+
+const BOARD: &[u8] = b"hex A 0,0 white\n";
+
+fn player(rt: &impl Abort, word: &[u8]) -> Name {
+    Name::player(word).expect(rt, "a player's name")
+}
+
+fn command(rt: &impl Abort, words: &[u8]) -> Command {
+    Command::read(words).expect(rt, "a command")
+}
+
+fn kit(rt: &impl Abort, alloc: Global, chart: &[u8], roster: &[u8], board: &[u8]) -> Kit {
+    Kit::read(alloc, chart, roster, b"", board).expect(rt, "a kit")
+}
+
+/// Why the texts of a kit are refused.
+fn refusal(
+    alloc: Global,
+    chart: &[u8],
+    roster: &[u8],
+    tiles: &[u8],
+    board: &[u8],
+) -> Option<Fault> {
+    Kit::read(alloc, chart, roster, tiles, board).err()
+}
+
+fn is_small(command: &Command) -> bool
+    ensures { result ≡ true → amount_in command.now ≤ 10000000000 }
+{
+    match command {
+        Command::Bid { amount, .. } => *amount <= 10_000_000_000,
+        _ => true,
+    }
+}
+
+/// The game after a command.
+fn after(rt: &impl Abort, game: &Game, alloc: Global, command: &Command, kit: &Kit) -> Game {
+    assert!(rt; game.played() < 4096);
+    assert!(rt; is_small(command));
+    game.step(alloc, command, kit)
+        .expect(rt, "a lawful command")
+}
+
+fn opened(rt: &impl Abort, command: Command, kit: &Kit) -> Game {
+    match command {
+        Command::Open { players } => Game::open(players, kit),
+        _ => rt.abort(),
+    }
+}
+
+/// The game of a and b after these commands.
+fn played(rt: &impl Abort, alloc: Global, kit: &Kit, lines: &[&[u8]]) -> Game {
+    let mut game = opened(rt, command(rt, b"open a b"), kit);
+    for words in lines {
+        game = after(rt, &game, alloc, &command(rt, *words), kit);
+    }
+    game
+}
+
+fn cash(rt: &impl Abort, game: &Game, player: Name) -> Money {
+    game.cash(&Account::Player(player))
+        .expect(rt, "a player of the table")
+}
+
+fn holds(rt: &impl Abort, game: &Game, player: &Name, corp: Corp) -> u8 {
+    game.holds(player, corp).expect(rt, "a player of the table")
+}
+
+fn place(rt: &impl Abort, game: &Game, player: Name) -> Place {
+    game.place(&Owner::Player(player))
+        .expect(rt, "a player of the table")
+}
+
+#[test]
+fn a_kit_has_a_roster_and_a_chart(rt: HostRuntime) {
+    let kit = kit(&rt, rt.alloc(), CHART, ROSTER.as_bytes(), BOARD);
+    assert_eq!(rt; kit.roster().face(Private::Sv), 20);
+    assert_eq!(rt; kit.chart().par_cells().len(), 1);
+}
+
+#[test]
+fn a_game_begins_with_the_auction(rt: HostRuntime) {
+    let kit = kit(&rt, rt.alloc(), CHART, ROSTER.as_bytes(), BOARD);
+    let game = played(&rt, rt.alloc(), &kit, &[]);
+    assert_eq!(rt; game.due(), Due::Turn(A));
+    assert_eq!(rt; game.asked(&kit), Some((Private::Sv, Money(20))));
+    assert_eq!(rt; game.limit(), 28);
+}
+
+#[test]
+fn an_auction_and_the_stock_round_behind_it(rt: HostRuntime) {
+    let alloc = rt.alloc();
+    let kit = kit(&rt, alloc, CHART, ROSTER.as_bytes(), BOARD);
+    let lines: [&[u8]; 9] = [
+        b"buy a",
+        b"buy b",
+        b"buy a",
+        b"buy b",
+        b"buy a",
+        b"buy b",
+        b"par b B&O 100",
+        b"par a PRR 100",
+        b"done a",
+    ];
+    let game = played(&rt, alloc, &kit, &lines[..7]);
+    assert_eq!(rt; game.due(), Due::Stock(A));
+    assert_eq!(rt; game.turns(), 6);
+    let game = played(&rt, alloc, &kit, &lines);
+    assert_eq!(rt; game.due(), Due::Stock(B));
+    assert_eq!(rt; game.turns(), 7);
+    assert_eq!(rt; game.played(), 10);
+    assert_eq!(rt; game.asked(&kit), None);
+    let a = player(&rt, b"a");
+    assert_eq!(rt; game.player(A), b"a".as_slice());
+    assert_eq!(rt; cash(&rt, &game, a), Money(750));
+    assert_eq!(rt; holds(&rt, &game, &a, Corp::Prr), 30);
+    assert_eq!(rt; place(&rt, &game, a), Place::Seat(A));
+    assert!(rt; game.owns(Place::Seat(A), Private::Sv));
+    let cell = Cell { row: 0, column: 6 };
+    assert_eq!(rt; game.price(Corp::Prr, &kit), Some((100, cell)));
+    let order = [Corp::Bo, Corp::Prr];
+    assert_eq!(rt; game.order(&kit).as_slice(), order.as_slice());
+}
+
+#[test]
+fn the_first_wrong_text_is_told(rt: HostRuntime) {
+    let roster = ROSTER.as_bytes();
+    let wrong: [(&[u8], &[u8], &[u8], &[u8], Fault); 4] = [
+        (
+            b"100\n",
+            b"x",
+            b"x",
+            b"x",
+            Fault::BadChart { line: 0, word: 0 },
+        ),
+        (CHART, b"x", b"x", b"x", Fault::BadRoster),
+        (CHART, roster, b"x\n", b"x", Fault::BadManifest(1)),
+        (CHART, roster, b"", b"\nx\n", Fault::BadBoard(2)),
+    ];
+    for (chart, roster, tiles, board, fault) in wrong {
+        let told = refusal(rt.alloc(), chart, roster, tiles, board);
+        assert_eq!(rt; told, Some(fault));
+    }
+    assert_eq!(rt; Fault::BadBoard(2).number(), 7);
+}
+
+#[test]
+fn laws_are_called(_rt: HostRuntime) {
+    rr_game::laws::kits_are_told_apart();
+    rr_laws::sound();
+    rr_laws::kits_name_corporations();
+    rr_laws::plays_go_on();
+}

@@ -1,0 +1,289 @@
+//! Rows on a small chart that has each zone.
+use crate::fixtures::{A, B, books, chart};
+use rr_books::{Books, Cert, Corp, Place, Private, Seat, ShareNumber};
+use rr_chart::Chart;
+use rr_holdings::laws::one_share_suffices;
+use rr_holdings::{
+    Fault, certificates_counted, has_lawful_sale, is_over_certificates, is_over_limit,
+    is_over_sixty, judge_sale, judge_sell, must_sell_first, would_be_over_certificates,
+    would_be_over_sixty,
+};
+use rr_market::Market;
+use std::alloc::Global;
+use std::process::Abort;
+
+const CHART: &str = "60y 67p 71p\n50o 55 60\n40b 45 50\n";
+
+const PRR: Corp = Corp::Prr;
+
+const NYC: Corp = Corp::Nyc;
+
+const AT_A: Place = Place::Seat(A);
+
+const AT_B: Place = Place::Seat(B);
+
+/// The zone of a token, or none before it is on the chart.
+#[derive(Clone, Copy)]
+enum At {
+    Nowhere,
+    White,
+    Yellow,
+    Orange,
+    Brown,
+}
+
+/// The corporation's certificates that a place gets: the president's, if asked, and so many shares from a number on.
+type Lot = (Corp, bool, usize, usize, Place);
+
+#[derive(Drop)]
+struct Table {
+    books: Books,
+    market: Market,
+    chart: Chart,
+}
+
+impl Table {
+    /// A table of so many players, with these privates and shares given, and these tokens put on the chart.
+    fn dealt(
+        rt: &impl Abort,
+        alloc: Global,
+        players: u8,
+        privates: &[(Private, Place)],
+        lots: &[Lot],
+        tokens: &[(Corp, At)],
+    ) -> Table {
+        let mut table = Table {
+            books: books(rt, alloc, players),
+            market: Market::new(),
+            chart: chart(rt, alloc, CHART),
+        };
+        for (private, to) in privates {
+            table.give(rt, Cert::Private(*private), *to);
+        }
+        for lot in lots {
+            table.give_lot(rt, *lot);
+        }
+        for (corp, at) in tokens {
+            table.put(rt, *corp, *at);
+        }
+        table
+    }
+
+    fn give(&mut self, rt: &impl Abort, cert: Cert, to: Place) {
+        self.books.give(cert, to).expect(rt, "a place of the table");
+    }
+
+    fn give_lot(&mut self, rt: &impl Abort, lot: Lot) {
+        let (corp, president, first, count, to) = lot;
+        if president {
+            self.give(rt, Cert::President(corp), to);
+        }
+        for number in ShareNumber::ALL.iter().skip(first).take(count) {
+            self.give(rt, Cert::Share(corp, *number), to);
+        }
+    }
+
+    fn put(&mut self, rt: &impl Abort, corp: Corp, at: At) {
+        match at {
+            At::Nowhere => (),
+            At::White => self.begin(rt, corp),
+            At::Yellow => self.fall(rt, corp, 0),
+            At::Orange => self.fall(rt, corp, 1),
+            At::Brown => self.fall(rt, corp, 2),
+        }
+    }
+
+    fn begin(&mut self, rt: &impl Abort, corp: Corp) {
+        let _cell = self.market.set(&self.chart, corp, 67).expect(rt, "a par");
+    }
+
+    fn fall(&mut self, rt: &impl Abort, corp: Corp, rows: u8) {
+        self.begin(rt, corp);
+        self.step_left(corp);
+        self.step_down(corp, rows);
+    }
+
+    fn step_left(&mut self, corp: Corp) {
+        let _cell = self.market.withheld(&self.chart, corp);
+    }
+
+    fn step_down(&mut self, corp: Corp, rows: u8) {
+        let _cell = self.market.sold(&self.chart, corp, rows);
+    }
+
+    fn counted(&self, seat: Seat) -> u8 {
+        certificates_counted(&self.books, &self.market, &self.chart, seat)
+    }
+
+    fn is_over_certificates(&self, seat: Seat) -> bool {
+        is_over_certificates(&self.books, &self.market, &self.chart, seat)
+    }
+
+    fn takes_too_many(&self, seat: Seat, corp: Corp) -> bool {
+        would_be_over_certificates(&self.books, &self.market, &self.chart, seat, corp)
+    }
+
+    fn is_over_sixty(&self, seat: Seat, corp: Corp) -> bool {
+        is_over_sixty(&self.books, &self.market, &self.chart, seat, corp)
+    }
+
+    fn takes_too_much(&self, seat: Seat, corp: Corp, added: u8) -> bool {
+        would_be_over_sixty(&self.books, &self.market, &self.chart, seat, corp, added)
+    }
+
+    fn is_over(&self, seat: Seat) -> bool {
+        is_over_limit(&self.books, &self.market, &self.chart, seat)
+    }
+
+    fn sale(&self, seat: Seat, corp: Corp, count: u64) -> Result<(), Fault> {
+        judge_sale(&self.books, &self.market, &self.chart, seat, corp, count)
+    }
+
+    fn sell(&self, is_first: bool, seat: Seat, corp: Corp) -> Result<(), Fault> {
+        judge_sell(
+            &self.books,
+            &self.market,
+            &self.chart,
+            is_first,
+            seat,
+            corp,
+            1,
+        )
+    }
+
+    fn can_sell(&self, is_first: bool, seat: Seat) -> bool {
+        has_lawful_sale(&self.books, &self.market, &self.chart, is_first, seat)
+    }
+
+    fn must_sell(&self, is_first: bool, seat: Seat) -> bool {
+        must_sell_first(&self.books, &self.market, &self.chart, is_first, seat)
+    }
+}
+
+/// Whether these are the fault's words.
+fn is_worded(rt: &impl Abort, alloc: Global, fault: Fault, words: &str) -> bool {
+    let said = format!(in alloc; "{fault}").expect(rt, "enough memory");
+    said.as_str() == words
+}
+
+#[test]
+fn certificates_in_a_coloured_zone_are_not_counted(rt: HostRuntime) {
+    let mut table = Table::dealt(
+        &rt,
+        rt.alloc(),
+        6,
+        &[
+            (Private::Sv, AT_A),
+            (Private::Bo, AT_A),
+            (Private::Csl, AT_B),
+        ],
+        &[
+            (PRR, true, 0, 3, AT_A),
+            (NYC, true, 0, 4, AT_A),
+            (Corp::Bm, false, 0, 2, AT_A),
+        ],
+        &[(PRR, At::White)],
+    );
+    assert_eq!(rt; table.counted(A), 13);
+    table.put(&rt, NYC, At::Yellow);
+    assert_eq!(rt; table.counted(A), 8);
+    assert_eq!(rt; table.counted(B), 1);
+}
+
+#[test]
+fn six_players_hold_eleven_certificates(rt: HostRuntime) {
+    for (players, is_over) in [(6, true), (5, false)] {
+        let mut table = Table::dealt(
+            &rt,
+            rt.alloc(),
+            players,
+            &[(Private::Sv, AT_A), (Private::Csl, AT_A)],
+            &[(PRR, true, 0, 8, AT_A)],
+            &[(NYC, At::Yellow)],
+        );
+        assert_eq!(rt; table.is_over_certificates(A), false);
+        assert_eq!(rt; table.takes_too_many(A, Corp::Bm), is_over);
+        assert_eq!(rt; table.takes_too_many(A, NYC), false);
+        table.give(&rt, Cert::Private(Private::Dh), AT_A);
+        assert_eq!(rt; table.is_over_certificates(A), is_over);
+    }
+}
+
+#[test]
+fn more_than_sixty_percent_is_held_in_orange_and_brown(rt: HostRuntime) {
+    for (at, is_over) in [
+        (At::Nowhere, true),
+        (At::White, true),
+        (At::Yellow, true),
+        (At::Orange, false),
+        (At::Brown, false),
+    ] {
+        let lots = [(PRR, true, 0, 4, AT_A)];
+        let mut table = Table::dealt(&rt, rt.alloc(), 3, &[], &lots, &[(PRR, at)]);
+        assert_eq!(rt; table.is_over_sixty(A, PRR), false);
+        assert_eq!(rt; table.takes_too_much(A, PRR, 0), false);
+        assert_eq!(rt; table.takes_too_much(A, PRR, 10), is_over);
+        table.give_lot(&rt, (PRR, false, 4, 1, AT_A));
+        assert_eq!(rt; table.is_over_sixty(A, PRR), is_over);
+        assert_eq!(rt; table.is_over(A), is_over);
+    }
+}
+
+#[test]
+fn the_pool_holds_half(rt: HostRuntime) {
+    let lots = [(PRR, false, 0, 3, Place::Pool), (PRR, false, 3, 3, AT_A)];
+    let mut table = Table::dealt(&rt, rt.alloc(), 3, &[], &lots, &[]);
+    assert_eq!(rt; table.sale(A, PRR, 1), Err(Fault::NotForSale));
+    table.put(&rt, PRR, At::White);
+    for (count, verdict) in [
+        (3, Err(Fault::PoolOverHalf)),
+        (2, Ok(())),
+        (0, Err(Fault::NotForSale)),
+        (4, Err(Fault::NotForSale)),
+        (1844674407370955162, Err(Fault::NotForSale)),
+    ] {
+        assert_eq!(rt; table.sale(A, PRR, count), verdict);
+    }
+}
+
+#[test]
+fn a_president_leaves_a_successor(rt: HostRuntime) {
+    let lots = [(PRR, true, 0, 1, AT_A), (PRR, false, 1, 1, AT_B)];
+    let mut table = Table::dealt(&rt, rt.alloc(), 3, &[], &lots, &[(PRR, At::White)]);
+    assert_eq!(rt; table.sale(A, PRR, 1), Ok(()));
+    assert_eq!(rt; table.sale(A, PRR, 2), Err(Fault::NotForSale));
+    table.give_lot(&rt, (PRR, false, 2, 1, AT_B));
+    assert_eq!(rt; table.sale(A, PRR, 2), Ok(()));
+}
+
+#[test]
+fn nothing_is_sold_in_the_first_stock_round(rt: HostRuntime) {
+    let lots = [(NYC, true, 0, 5, AT_A)];
+    let mut table = Table::dealt(&rt, rt.alloc(), 3, &[], &lots, &[(NYC, At::White)]);
+    assert_eq!(rt; table.sell(true, A, PRR), Err(Fault::FirstStockRound));
+    assert_eq!(rt; table.sell(false, A, PRR), Err(Fault::NotForSale));
+    for (is_first, seat, may_and_must) in [(true, A, false), (false, A, true), (false, B, false)] {
+        assert_eq!(rt; table.can_sell(is_first, seat), may_and_must);
+        assert_eq!(rt; table.must_sell(is_first, seat), may_and_must);
+    }
+    table.give_lot(&rt, (NYC, false, 0, 1, Place::Pool));
+    assert_eq!(rt; table.can_sell(false, A), true);
+    assert_eq!(rt; table.must_sell(false, A), false);
+}
+
+#[test]
+fn faults_have_words_and_numbers(rt: HostRuntime) {
+    for (fault, words, number) in [
+        (Fault::NotForSale, "not for sale", 22),
+        (Fault::FirstStockRound, "first stock round", 27),
+        (Fault::PoolOverHalf, "pool over 50 percent", 28),
+    ] {
+        assert!(rt; is_worded(&rt, rt.alloc(), fault, words));
+        assert_eq!(rt; fault.number(), number);
+    }
+}
+
+#[test]
+fn the_law_is_called(_rt: HostRuntime) {
+    one_share_suffices();
+}
