@@ -2,7 +2,7 @@
 #![tactic(auto)]
 
 use rr_cli::{Ending, Plan, act, plan, refuse, status};
-use rr_disk::FileDisk;
+use rr_disk::{FileDisk, Unknown};
 use rr_moderator::{Fault, Texts};
 use std::alloc::{AllocError, Global};
 use std::io::{BufReader, ErrorKind, writer};
@@ -125,7 +125,7 @@ fn open_file(rt: &HostRuntime, plan: &Plan, path: &str, make: bool, texts: Texts
         Ok(reader) => reader,
         Err(_) => return end(rt, Fault::OutOfMemory),
     };
-    match FileDisk::open(rt, path, make) {
+    match FileDisk::open(rt, path, make, Unknown) {
         Ok(disk) => {
             let (status, _) = act(rt.alloc(), plan, texts, disk, &mut reader, &mut writer(rt));
             status

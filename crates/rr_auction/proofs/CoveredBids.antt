@@ -9,14 +9,14 @@ use Rattle.rr_roster.specs.Company.{private_index}
 use Rattle.rr_books.specs.declared.parties.Seat.{Seat}
 use Rattle.rr_books.specs.declared.parties.Party.TheVariants as P
 use Rattle.rr_books.specs.Shares.{Holders}
-use Rattle.rr_desk.specs.Seating.{left_at_table, left_of}
-use Rattle.rr_auction.specs.Bids.{Bids, bid_of, tied_on, tied_up, with_bid}
-use Rattle.rr_auction.specs.Fit.{all_bids, bid_on}
-use Rattle.rr_auction.specs.Progress.{Progress, after_bid, after_last_pass, after_leaving, after_par, after_pass, after_turn_pass, all_pass}
+use Rattle.rr_books.specs.Seating.{left_at_table, left_of}
+use Rattle.rr_bids.specs.Bids.{Bids, bid_of, tied_on, tied_up, with_bid}
+use Rattle.rr_auction.proofs.AllBids.{all_bids, bid_on}
+use Rattle.rr_bids.specs.Progress.{Progress, after_bid, after_last_pass, after_leaving, after_par, after_pass, after_turn_pass, all_pass}
 use Rattle.rr_auction.specs.Rules.{Accounts, free_cash}
-use Rattle.rr_auction.specs.Unsold.{is_unsold, same_private}
+use Rattle.rr_bids.specs.Unsold.{is_unsold, same_private}
 use Rattle.rr_auction.proofs.Covers.{IsCovered, bid_written, same_sum}
-use Rattle.rr_auction.proofs.Fitting.{split}
+use Rattle.rr_auction.proofs.AllBids.{split}
 
 other_private : (b : Bids) (p : Private) (s : Seat) (m : ℕ) (q : Private) (t : Seat) → same_private q p ≡ false → bid_of (with_bid b p s m) q t ≡ bid_of b q t
 other_private b p s m q t other =

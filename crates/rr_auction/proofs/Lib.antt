@@ -1,12 +1,9 @@
-pub mod Following
+pub mod AllBids
 pub mod Quiet
 pub mod Openings
-pub mod Tables
 pub mod Standing
-pub mod Fitting
+pub mod WrittenOut
 pub mod Bidders
-pub mod Settlements
-pub mod Turns
 pub mod Covers
 pub mod CoveredBids
 pub mod CoveredSales

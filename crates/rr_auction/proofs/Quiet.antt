@@ -12,20 +12,14 @@ use Rattle.rr_books.specs.declared.certificates.ShareNumber.{ShareNumber}
 use Rattle.rr_books.specs.declared.certificates.Cert.{Cert}
 use Rattle.rr_books.specs.declared.certificates.Cert.TheVariants as C
 use Rattle.rr_books.specs.declared.entries.Cell.{Cell}
-use Rattle.rr_books.specs.declared.entries.Entry.{Entry}
 use Rattle.rr_books.specs.Book.{Book, holder, players}
 use Rattle.rr_books.specs.Shares.{is_at, share_numbers}
 use Rattle.rr_desk.specs.Effects.{Effect, in_turn, moves_if}
 use Rattle.rr_market.specs.Moves.{mark_at}
 use Rattle.rr_desk.specs.Incomes.{owner, pay_incomes_of, pays_if, pays_income}
 use Rattle.rr_auction.specs.Effects.{gift}
-use Rattle.rr_auction.specs.Progress.{Progress, after, follow}
-use Rattle.rr_auction.proofs.Following.{follow-append}
-
--- entries that each leave it leave it together
-pub follow_still : {X : Type 0} (g : X → Entry) → ((book : Book) (a : Progress) (x : X) → after book a (g x) ≡ a) → (book : Book) (a : Progress) (xs : List X) → follow book a (map g xs) ≡ a
-follow_still g h book a [] = refl
-follow_still g h book a (x ∷ xs) = ap (λ (b : Progress). follow (book ++ g x ∷ []) b (map g xs)) (h book a x) ∙ follow_still g h (book ++ g x ∷ []) a xs
+use Rattle.rr_bids.specs.Progress.{Progress, follow}
+use Rattle.rr_bids.specs.ProgressLaws.{follow-append}
 
 -- effects that each leave it leave it together
 pub effects_still : {X : Type 0} (f : X → Effect) → ((book : Book) (a : Progress) (x : X) → follow book a (f x book) ≡ a) → (book : Book) (a : Progress) (xs : List X) → follow book a (in_turn (map f xs) book) ≡ a

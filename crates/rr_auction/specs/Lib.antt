@@ -1,12 +1,10 @@
 pub mod Fault
-pub mod Unsold
-pub mod Bids
-pub mod Progress
+pub use Rattle.rr_bids.specs.Unsold
+pub use Rattle.rr_bids.specs.Bids
+pub use Rattle.rr_bids.specs.Progress
 pub mod Rules
 pub mod Effects
-pub mod Plays
-pub mod PlayLaws
-pub mod Fit
+pub mod Small
 pub mod Opening
 pub mod SoundMoney
 pub mod WorkedAuction

@@ -1,16 +1,11 @@
 ghost use Rattle.std.specs.Prelude.{◌≡◌};
-ghost use Rattle.rr_auction.specs.Fault.{number_of, of_books};
-ghost use Rattle.rr_auction.specs.declared.fault.Fault.TheVariants.{OutOfMemory};
+ghost use Rattle.rr_auction.specs.Fault.{number_of};
 
-use std::alloc::{AllocError, AllocFailed};
 use thiserror::Error;
 
 /// Why the auction refuses a command.
 #[derive(Clone, Copy, Debug, Drop, PartialEq, Eq, Error)]
 pub enum Fault {
-    /// A seat that the table doesn't have.
-    #[error("no such name")]
-    NoSuchName,
     /// The seat has less than the price.
     #[error("too little cash")]
     TooLittleCash,
@@ -32,9 +27,6 @@ pub enum Fault {
     /// What is due now isn't this command.
     #[error("wrong step")]
     WrongStep,
-    /// A request for memory was refused.
-    #[error("out of memory")]
-    OutOfMemory,
 }
 
 impl Fault {
@@ -43,7 +35,6 @@ impl Fault {
         ensures { result ≡ number_of self.now }
     {
         match self {
-            Fault::NoSuchName => 1,
             Fault::TooLittleCash => 2,
             Fault::NotYourTurn => 20,
             Fault::BidTooLow(_) => 21,
@@ -51,35 +42,6 @@ impl Fault {
             Fault::CashTiedUp => 23,
             Fault::NotAPar => 31,
             Fault::WrongStep => 42,
-            Fault::OutOfMemory => 70,
         }
-    }
-}
-
-impl From<rr_books::Fault> for Fault {
-    ghost from_gives = { λ fault wrapped. wrapped ≡ of_books fault };
-
-    fn from(fault: rr_books::Fault) -> Fault {
-        match fault {
-            rr_books::Fault::NoSuchName => Fault::NoSuchName,
-            rr_books::Fault::TooLittleCash => Fault::TooLittleCash,
-            rr_books::Fault::OutOfMemory => Fault::OutOfMemory,
-        }
-    }
-}
-
-impl From<AllocError> for Fault {
-    ghost from_gives = { λ _ fault. fault ≡ OutOfMemory };
-
-    fn from(_error: AllocError) -> Fault {
-        Fault::OutOfMemory
-    }
-}
-
-impl<T: Drop> From<AllocFailed<T>> for Fault {
-    ghost from_gives = { λ _ fault. fault ≡ OutOfMemory };
-
-    fn from(_error: AllocFailed<T>) -> Fault {
-        Fault::OutOfMemory
     }
 }

@@ -1,18 +1,18 @@
 //! The auction of the privates, with which a game begins.
 #![tactic(auto)]
 
-mod auction;
-mod bids;
 mod due;
 mod fault;
 mod judging;
 pub mod laws;
 mod opening;
-mod rows;
+mod playing;
+mod pricing;
 mod settling;
-mod unsold;
 
-pub use auction::Auction;
-pub use due::Due;
+pub use due::{Due, is_over, turns};
 pub use fault::Fault;
+pub use judging::judge;
 pub use opening::open_table;
+pub use playing::play;
+pub use pricing::asked;

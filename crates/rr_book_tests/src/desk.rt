@@ -1,9 +1,15 @@
 use crate::opening::{self, check, check_entries};
+use rr_bids::Bidding;
 use rr_books::{
     Cell, Cert, Corp, Entry, Fault, Kind, Marker, Money, Party, Place, Private, Seat, ShareNumber,
     Train,
 };
-use rr_desk::{Desk, Entries, left_of, pay_incomes};
+use rr_layout::Layout;
+use rr_market::Market;
+use rr_desk::{
+    Desk, Entries, Position, give_lowest_share, left_of, lowest_share, pay_incomes,
+};
+use rr_rounds::Rounds;
 use std::process::Abort;
 
 const A: Seat = Seat(0);
@@ -20,20 +26,31 @@ fn cash(desk: &Desk, party: Party) -> i64 {
 /// The seat `A` pays the bank.
 fn pay(rt: &impl Abort, desk: &mut Desk, amount: i64) -> Result<(), Fault> {
     assert!(rt; 0 <= amount && amount < 10000);
-    assert!(rt; desk.books().payments() < 100);
-    desk.pay(Party::Seat(A), Party::Bank, Money(amount))
+    desk.push(Entry::Pay {
+        from: Party::Seat(A),
+        to: Party::Bank,
+        amount: Money(amount),
+    })
 }
 
 fn give(desk: &mut Desk, cert: Cert, to: Place) -> Result<(), Fault> {
-    desk.give(cert, to)
+    desk.push(Entry::Move { cert, to })
 }
 
-fn give_train(desk: &mut Desk, train: Train, to: Place) -> Result<(), Fault> {
-    desk.give_train(train, to)
+fn give_train(rt: &impl Abort, desk: &mut Desk, train: Train, to: Place) -> Result<(), Fault> {
+    assert!(rt; desk.books().has_train(train));
+    desk.push(Entry::Train { train, to })
+}
+
+fn step(desk: &mut Desk, marker: Marker) -> Result<(), Fault> {
+    desk.push(Entry::Step(marker))
+}
+
+fn mark(desk: &mut Desk, corp: Corp, cell: Cell) -> Result<(), Fault> {
+    desk.push(Entry::Mark { corp, cell })
 }
 
 fn pay_all_incomes(rt: &(impl Abort + AllocGlobal), desk: &mut Desk) -> Result<(), Fault> {
-    assert!(rt; desk.books().payments() < 100);
     pay_incomes(desk, &opening::roster(rt))
 }
 
@@ -41,7 +58,7 @@ fn pay_all_incomes(rt: &(impl Abort + AllocGlobal), desk: &mut Desk) -> Result<(
 fn pays_and_steps(rt: HostRuntime) {
     let mut desk = opening::desk(&rt);
     check(&rt, "payment", pay(&rt, &mut desk, 200), Ok(()));
-    check(&rt, "step", desk.step(Marker::Stock), Ok(()));
+    check(&rt, "step", step(&mut desk, Marker::Stock), Ok(()));
     check(&rt, "cash", cash(&desk, Party::Seat(A)), 1000);
     check_entries(
         &rt,
@@ -55,7 +72,7 @@ fn pays_and_steps(rt: HostRuntime) {
 fn marks(rt: HostRuntime) {
     let mut desk = opening::desk(&rt);
     let cell = Cell { row: 2, column: 6 };
-    check(&rt, "mark", desk.mark(Corp::Prr, cell), Ok(()));
+    check(&rt, "mark", mark(&mut desk, Corp::Prr, cell), Ok(()));
     check_entries(
         &rt,
         desk.entries().as_slice(),
@@ -70,16 +87,17 @@ fn gives_the_lowest_share(rt: HostRuntime) {
     check(
         &rt,
         "share",
-        desk.give_lowest_share(Corp::Erie, Place::Offer, Place::Seat(A)),
+        give_lowest_share(&mut desk, Corp::Erie, Place::Offer, Place::Seat(A)),
         Ok(()),
     );
     check(
         &rt,
         "next share",
-        desk.lowest_share(Corp::Erie, Place::Offer),
+        lowest_share(desk.books(), Corp::Erie, Place::Offer),
         Some(Cert::Share(Corp::Erie, ShareNumber::Two)),
     );
-    let (books, entries) = desk.into_parts();
+    let (position, entries) = desk.into_parts();
+    let books = position.books();
     check(&rt, "percent", books.share(Place::Seat(A), Corp::Erie), 10);
     check_entries(
         &rt,
@@ -101,10 +119,11 @@ fn gives_a_certificate_and_a_train(rt: HostRuntime) {
     check(
         &rt,
         "train",
-        give_train(&mut desk, FIRST, Place::Corp(Corp::Nyc)),
+        give_train(&rt, &mut desk, FIRST, Place::Corp(Corp::Nyc)),
         Ok(()),
     );
-    let (books, entries) = desk.into_parts();
+    let (position, entries) = desk.into_parts();
+    let books = position.books();
     check(
         &rt,
         "holder",
@@ -156,21 +175,35 @@ fn the_first_seat_is_on_the_left_of_the_last(rt: HostRuntime) {
 }
 
 #[test]
-fn what_is_refused_at_a_desk(rt: HostRuntime) {
+fn a_payment_of_more_than_a_seat_has_leaves_it_with_less_than_nothing(rt: HostRuntime) {
     let mut desk = opening::desk(&rt);
+    check(&rt, "payment", pay(&rt, &mut desk, 1201), Ok(()));
+    check(&rt, "cash", cash(&desk, Party::Seat(A)), -1);
+}
+
+#[test]
+fn the_market_and_the_rounds_follow(rt: HostRuntime) {
+    let mut desk = opening::desk(&rt);
+    let cell = Cell { row: 2, column: 6 };
+    check(&rt, "mark", mark(&mut desk, Corp::Prr, cell), Ok(()));
+    check(&rt, "step", step(&mut desk, Marker::Stock), Ok(()));
+    let position = desk.position();
+    check(&rt, "cell", position.market().cell(Corp::Prr), Some(cell));
     check(
         &rt,
-        "payment",
-        pay(&rt, &mut desk, 1201),
-        Err(Fault::TooLittleCash),
+        "stock round",
+        position.rounds().is_under_way(),
+        true,
     );
-    check(
-        &rt,
-        "gift",
-        give(&mut desk, Cert::President(Corp::Bo), Place::Seat(Seat(2))),
-        Err(Fault::NoSuchName),
-    );
-    check(&rt, "entries", desk.entries().as_slice().len(), 0);
+}
+
+#[test]
+fn a_position_is_made_of_its_views(rt: HostRuntime) {
+    let opened = opening::position(&rt, 3);
+    let books = *opened.books();
+    assert!(rt; books.payments() <= 3);
+    let position = Position::of_views(books, Bidding::open(), Market::new(), Rounds::new(), Layout::new(), 3);
+    check(&rt, "players", position.books().players(), 3);
 }
 
 #[test]

@@ -3,6 +3,8 @@
 #![tactic(auto)]
 
 #[cfg(test)]
+mod bids;
+#[cfg(test)]
 mod books;
 #[cfg(test)]
 mod desk;

@@ -1,6 +1,6 @@
 //! Tables that have just opened.
 use rr_books::{Books, Entry};
-use rr_desk::Desk;
+use rr_desk::{Desk, Position};
 use rr_roster::Roster;
 use std::fmt::Debug;
 use std::process::Abort;
@@ -29,9 +29,15 @@ pub(crate) fn books(rt: &(impl Abort + AllocGlobal), players: u8) -> Books {
     Books::open(players, &roster(rt))
 }
 
+/// The position of a table of so many players, from 2 to 6.
+pub(crate) fn position(rt: &(impl Abort + AllocGlobal), players: u8) -> Position {
+    assert!(rt; 2 <= players && players <= 6);
+    Position::open(players, &roster(rt))
+}
+
 /// A desk at a table of two players.
 pub(crate) fn desk(rt: &(impl Abort + AllocGlobal)) -> Desk {
-    Desk::new(rt.alloc(), books(rt, 2))
+    Desk::new(rt.alloc(), position(rt, 2))
 }
 
 /// Stops where a value is not the one that is wanted. A function, so that this is proved once for all tests.

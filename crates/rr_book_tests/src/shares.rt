@@ -1,5 +1,5 @@
 use crate::opening::{self, check, check_entries};
-use rr_books::{Books, Cert, Corp, Party, Place, Seat};
+use rr_books::{Books, Cert, Corp, Entry, Party, Place, Seat};
 use rr_desk::Desk;
 use rr_shares::laws::{
     heir_has_the_most, presidency_stays_with_a_seat, president_has_the_most, sales_move_shares,
@@ -19,14 +19,15 @@ const PRR: Corp = Corp::Prr;
 
 /// Gives so many 10% shares of the offer.
 fn give_shares(rt: &impl Abort, desk: &mut Desk, count: u8, to: Seat) {
-    let place = Place::Seat(to);
-    assert!(rt; desk.books().has_place(place));
-    give_lowest_shares(desk, PRR, count, Place::Offer, place).expect(rt, "memory");
+    give_lowest_shares(desk, PRR, count, Place::Offer, Place::Seat(to)).expect(rt, "memory");
 }
 
 fn give_presidency(rt: &impl Abort, desk: &mut Desk, to: Seat) {
-    desk.give(Cert::President(PRR), Place::Seat(to))
-        .expect(rt, "a seat of the table");
+    desk.push(Entry::Move {
+        cert: Cert::President(PRR),
+        to: Place::Seat(to),
+    })
+    .expect(rt, "memory");
 }
 
 /// A desk at a table of two players, at which `A` is the president of the PRR with 40% of it, and `B` has so many 10%
@@ -48,18 +49,14 @@ fn sell(rt: &impl Abort, desk: &mut Desk, seller: Seat, count: u8) {
 }
 
 fn hand(rt: &impl Abort, desk: &mut Desk, handover: &Handover) {
-    let players = desk.books().players();
-    assert!(rt; handover.from.0 < players && handover.to.0 < players);
     hand_over(desk, PRR, handover).expect(rt, "memory");
 }
 
 fn float_with(rt: &impl Abort, desk: &mut Desk, par: u16) {
-    assert!(rt; desk.books().payments() < 100);
     float(desk, PRR, par).expect(rt, "memory");
 }
 
 fn float_where_due(rt: &impl Abort, desk: &mut Desk, par: Option<u16>) {
-    assert!(rt; desk.books().payments() < 100);
     float_if_due(desk, PRR, par, false).expect(rt, "memory");
 }
 

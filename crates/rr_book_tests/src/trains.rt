@@ -1,6 +1,10 @@
 use crate::opening::{self, check, check_entries};
+use rr_bids::Bidding;
 use rr_books::{Books, Cert, Corp, Kind, Money, Place, Private, Seat, Train, TrainSource};
-use rr_desk::Desk;
+use rr_desk::{Desk, Position};
+use rr_layout::Layout;
+use rr_market::Market;
+use rr_rounds::Rounds;
 use rr_trains::laws::{
     cheapest_leads, phase_is_the_greatest_sold, worked_diesel, worked_first_five,
     worked_first_four, worked_tie,
@@ -46,7 +50,16 @@ fn check_first(
     bought: bool,
     wanted: &str,
 ) {
-    let mut desk = Desk::new(rt.alloc(), books);
+    assert!(rt; books.payments() <= 1000);
+    let position = Position::of_views(
+        books,
+        Bidding::open(),
+        Market::new(),
+        Rounds::new(),
+        Layout::new(),
+        1000,
+    );
+    let mut desk = Desk::new(rt.alloc(), position);
     if bought {
         buy(rt, &mut desk, kind, corp);
     }

@@ -7,3 +7,4 @@ pub mod StateLaws
 pub mod ShareLaws
 pub mod Opening
 pub mod Totals
+pub mod Seating

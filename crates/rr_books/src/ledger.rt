@@ -1,10 +1,10 @@
-ghost use Rattle.std.specs.Prelude.{◌≡◌, ℕ, ◌+◌, ◌<◌, ◌≤◌, ℤ, pos, neg_ℤ, ◌≤ℤ◌, Bool, true, false, [], ◌∷◌, None, Some, OnOk, OnErr, MatchResult, ◌&&◌, is_some, nat_lt, nat_le, count_by, slice_index_or, if◌then◌else◌};
+ghost use Rattle.std.specs.Prelude.{◌≡◌, ℕ, ◌+◌, ◌<◌, ◌≤◌, max, ℤ, pos, neg_ℤ, ◌≤ℤ◌, Bool, true, false, [], ◌∷◌, None, Some, OnOk, OnErr, MatchResult, ◌&&◌, is_some, nat_lt, nat_le, count_by, slice_index_or, if◌then◌else◌};
 ghost use Rattle.rr_roster.specs.Terms.{count_of as roster_count_of};
 ghost use Rattle.rr_books.specs.Same.{same_cert, same_train};
-ghost use Rattle.rr_books.specs.Book.{Book, balance, payments, players, balance_after, holder, train_holder};
+ghost use Rattle.rr_books.specs.Book.{Book, seats_up_to, balance, payments, players, balance_after, holder, train_holder};
 ghost use Rattle.rr_books.specs.Opening.{opening_entries};
 ghost use Rattle.rr_books.specs.Shares.{share, counted, president, is_at, share_numbers};
-ghost use Rattle.rr_books.specs.State.{IsStateOf, Extends, cash_of, place_of, count_of, has_train, train_place_of, has_party, has_place, is_bank, payment_verdict, move_verdict, train_move_verdict, holder_in, MovesMoney};
+ghost use Rattle.rr_books.specs.State.{IsStateOf, Extends, cash_of, place_of, count_of, has_train, train_place_of, has_party, has_place, is_bank, Fits, party_index, payment_verdict, move_verdict, train_move_verdict, holder_in, MovesMoney};
 
 use crate::certificates::{Cert, ShareNumber, Train};
 use crate::entries::Entry;
@@ -100,7 +100,6 @@ impl Books {
     pub fn balance(&self, party: Party) -> Money
         ensures shown { result.0 ≡ cash_of self.now party }
         ensures book { (book : Book) → IsStateOf book self.now → result.0 ≡ balance book party }
-        ensures solvent { is_bank party ≡ false → pos 0 ≤ℤ result.0 }
         ensures least { neg_ℤ (pos 4000000000000012000) ≤ℤ result.0 }
         ensures greatest { result.0 ≤ℤ pos 4000000000000012000 }
     {
@@ -243,6 +242,8 @@ impl Books {
         if !from.is_bank() && self.balance(from).0 < amount.0 {
             return Err(Fault::TooLittleCash);
         }
+        // A table has at most six players, so that both have their place in the row of balances.
+        let _players = self.players();
         self.transfer(from, to, amount.0);
         Ok(())
     }
@@ -271,7 +272,7 @@ impl Books {
         if !self.has_place(to) {
             return Err(Fault::NoSuchName);
         }
-        self.places[cert.index()] = to;
+        self.move_certificate(cert, to);
         Ok(())
     }
 
@@ -303,29 +304,79 @@ impl Books {
         if !self.has_place(to) {
             return Err(Fault::NoSuchName);
         }
-        self.trains[train.index()] = to;
+        self.move_train(train, to);
         Ok(())
     }
 
-    // Pays what the payer is known to have.
+    /// The next entry of the book, whatever it says: who pays may have less than the amount, and a seat that is paid is
+    /// at the table from then on.
+    pub fn follow(&mut self, entry: &Entry)
+        requires fits { Fits self.old entry.now }
+        requires room { self.old.payments < 400000000 }
+        ensures book { Extends self.old self.new (entry.now ∷ []) }
+        ensures payments { self.new.payments ≤ self.old.payments + 1 }
+    {
+        match entry {
+            Entry::Pay { from, to, amount } => self.transfer(*from, *to, amount.0),
+            Entry::Move { cert, to } => self.move_certificate(*cert, *to),
+            Entry::Train { train, to } => self.move_train(*train, *to),
+            Entry::Mark { .. } => (),
+            Entry::Lay { .. } => (),
+            Entry::Station { .. } => (),
+            Entry::Best { .. } => (),
+            Entry::Step(_) => (),
+        }
+    }
+
+    // Pays the amount, whatever the payer has.
     fn transfer(&mut self, from: Party, to: Party, amount: i64)
-        requires payer { has_party self.old.players from ≡ true }
-        requires payee { has_party self.old.players to ≡ true }
+        requires payer { party_index from < 15 }
+        requires payee { party_index to < 15 }
         requires not_negative { pos 0 ≤ℤ amount }
         requires small { amount ≤ℤ pos 10000000000 }
-        requires enough { is_bank from ≡ false → amount ≤ℤ cash_of self.old from }
         requires room { self.old.payments < 400000000 }
+        ensures book { Extends self.old self.new (Entry.Pay from to (record { 0 = amount }) ∷ []) }
         ensures cash { (p : Party) → cash_of self.new p ≡ balance_after p (cash_of self.old p) (Entry.Pay from to (record { 0 = amount })) }
         ensures payments { self.new.payments ≡ self.old.payments + 1 }
-        ensures players { self.new.players ≡ self.old.players }
+        ensures players { self.new.players ≡ max self.old.players (seats_up_to to) }
         ensures places { self.new.places ≡ self.old.places }
         ensures trains { self.new.trains ≡ self.old.trains }
         ensures counts { self.new.counts ≡ self.old.counts }
     {
         let payer = from.index();
         let payee = to.index();
+        let seats = seats_up_to(to);
+        self.players = self.players.max(seats);
         move_money(&mut self.cash, payer, payee, amount);
         self.payments += 1;
+    }
+
+    fn move_certificate(&mut self, cert: Cert, to: Place)
+        ensures book { Extends self.old self.new (Entry.Move cert to ∷ []) }
+        ensures place { (c : Cert) → place_of self.new c ≡ (if same_cert c cert then to else place_of self.old c) }
+        ensures cash { self.new.cash ≡ self.old.cash }
+        ensures payments { self.new.payments ≡ self.old.payments }
+        ensures players { self.new.players ≡ self.old.players }
+        ensures trains { self.new.trains ≡ self.old.trains }
+        ensures counts { self.new.counts ≡ self.old.counts }
+    {
+        self.places[cert.index()] = to;
+    }
+
+    // Moves a train that there is.
+    fn move_train(&mut self, train: Train, to: Place)
+        requires { has_train self.old train ≡ true }
+        ensures book { Extends self.old self.new (Entry.Train train to ∷ []) }
+        ensures place { (t : Train) → train_place_of self.new t ≡ (if same_train t train then Some to else train_place_of self.old t) }
+        ensures cash { self.new.cash ≡ self.old.cash }
+        ensures payments { self.new.payments ≡ self.old.payments }
+        ensures players { self.new.players ≡ self.old.players }
+        ensures places { self.new.places ≡ self.old.places }
+        ensures counts { self.new.counts ≡ self.old.counts }
+    {
+        // No kind has more than twenty trains, so that this one has its place in the row.
+        let _count = self.train_count(train.kind);
+        self.trains[train.index()] = to;
     }
 
     // How many 10% certificates of the corporation are at the place.
@@ -344,6 +395,18 @@ impl Books {
         ensures { result ≡ is_at (holder_in self.now cert) place }
     {
         self.holder(cert) == place
+    }
+}
+
+// How many seats a table has at least, if it has the party.
+fn seats_up_to(party: Party) -> u8
+    requires { party_index party < 15 }
+    ensures value { result ≡ seats_up_to party }
+    ensures bound { result ≤ 6 }
+{
+    match party {
+        Party::Seat(seat) => seat.0 + 1,
+        _ => 0,
     }
 }
 

@@ -8,6 +8,7 @@ mod faults;
 pub mod laws;
 mod ledger;
 mod parties;
+mod seating;
 mod start;
 
 pub use acts::{Act, Names, ShareSource, TrainSource, Words};
@@ -17,4 +18,5 @@ pub use faults::Fault;
 pub use ledger::Books;
 pub use parties::{Money, Party, Place, Seat};
 pub use rr_roster::{Corp, Kind, Private};
+pub use seating::left_of;
 pub use start::{certificate_limit, starting_money};

@@ -1,22 +1,26 @@
 -- What the program writes, and how it ends.
-use Rattle.std.specs.Prelude.{◌≡◌, ◌⊎◌, ◌<◌, false, ℕ, List, ◌∷◌, length, Option, Result, Ok, Err, codes}
+use Rattle.std.specs.Prelude.{◌≡◌, ◌⊎◌, ◌<◌, false, ℕ, List, [], ◌∷◌, length, Option, Result, Ok, Err, codes}
 use Rattle.std.specs.Io.KnownBytes.{Appends}
-use Rattle.rr_disk.specs.Disk.{DiskState, after_sync}
-use Rattle.rr_disk.specs.Moments.{EachImage}
-use Rattle.rr_keeper.specs.File.{IsNewStore, Kit as Texts}
-use Rattle.rr_keeper.specs.Opening.{SyncsOnce}
+use Rattle.rr_disk.specs.Disk.{DiskState}
+use Rattle.rr_disk.specs.Moments.{LeavesOnly}
+use Rattle.rr_kit.specs.Kits.{IsRightKit, KitTexts, SpellsKit}
 use Rattle.rr_serve.specs.declared.faults.Fault as serve
 use Rattle.rr_serve.specs.Answering.{AppendsFront}
 use Rattle.rr_serve.specs.Serving.{Session}
+use Rattle.rr_store.specs.declared.fault.Fault as store
+use Rattle.rr_store.specs.declared.fault.Fault.TheVariants as T
+use Rattle.rr_store.specs.Allowing.{Between, FormatAllows, OpenAllows}
+use Rattle.rr_store.specs.Fault.{CountsFailure}
+use Rattle.rr_store.specs.Files.{RefusesOpening}
+use Rattle.rr_store.specs.Formatting.{RefusesFormat}
+use Rattle.rr_store.specs.Holding.{Carries}
+use Rattle.rr_store.specs.World.{Follows, TableCommand}
 use Rattle.rr_moderator.specs.declared.fault.Fault.{Fault}
-use Rattle.rr_moderator.specs.declared.fault.Fault.TheVariants.{DeviceFailed, NotEmpty, OutOfMemory}
+use Rattle.rr_moderator.specs.declared.fault.Fault.TheVariants.{OutOfMemory}
 use Rattle.rr_moderator.specs.declared.moderator.Moderator.{Moderator}
-use Rattle.rr_moderator.specs.Fault.{number_of, refusal_of}
-use Rattle.rr_moderator.specs.Holding.{disk_under, held_of, keeper_of, told_of}
-use Rattle.rr_game.specs.Kits.{IsRightKit}
-use Rattle.rr_moderator.specs.Formatting.{RefusesFormat, kit_texts}
-use Rattle.rr_moderator.specs.Replaying.{CountsFailure, Opens, RefusesOpening, Replayed}
-use Rattle.rr_moderator.specs.Durability.{SpeaksAndLasts, Stands, told}
+use Rattle.rr_moderator.specs.Fault.{number_of, of_store, refusal_of}
+use Rattle.rr_moderator.specs.Holding.{disk_under, held_of, store_of, told_of}
+use Rattle.rr_moderator.specs.Durability.{Opens, SpeaksAndLasts, StandsAlong, told}
 use Rattle.rr_moderator.specs.Serving.{EndsAs}
 use Rattle.rr_cli.specs.Ending.{status_of}
 use Rattle.rr_cli.specs.declared.ending.Ending.{Ending}
@@ -39,16 +43,16 @@ abbrev pub IsRefusedOr70 : Fault → Option (List ℕ) → Option (List ℕ) →
 IsRefusedOr70 fault contents held ending = IsRefused fault contents held ending ⊎ IsRefused OutOfMemory contents held ending
 
 -- What a `format` over these texts does to a disk and a writer, and the status with which it ends.
-pub data Formats {D : Type 0} (Honest : D → Type 0) (state : D → DiskState) (faults : D → ℕ) (texts : Texts) (old new : D)
+pub data Formats {D : Type 0} (Honest : D → Type 0) (state : D → DiskState) (faults : D → ℕ) (texts : KitTexts) (old new : D)
     (contents held : Option (List ℕ)) : ℕ → Type 0 where
-  Made : (ending : Ending) → IsRightKit (kit_texts texts) → (Honest new → 0 < length (state old).content → ⊥)
-      → (Honest new → IsNewStore (state new).content texts) → (Honest new → EachImage (state new) (λ image. IsNewStore image texts))
+  Made : (ending : Ending) → IsRightKit texts → (Honest new → 0 < length (state old).content → ⊥)
+      → (Honest new → FormatAllows texts (state old) (state new) (Ok tt))
       → (Honest new → Honest old) → faults new ≡ faults old
       → IsAcknowledged contents held ending → Formats Honest state faults texts old new contents held (status_of ending)
-  Not_made : (fault : Fault) (ending : Ending) → RefusesFormat (Honest new) (state old).content texts fault
-      → (Honest new → 0 < length (state old).content → fault ≡ NotEmpty) → (fault ≡ DeviceFailed) ⊎ (new ≡ old)
+  Not_made : (fault : store.Fault) (ending : Ending) → RefusesFormat (Honest new) (state old).content texts fault
+      → (Honest new → 0 < length (state old).content → fault ≡ T.NotEmpty) → (fault ≡ T.DeviceFailed) ⊎ (new ≡ old)
       → (Honest new → Honest old) → CountsFailure (faults old) (faults new) fault
-      → IsRefusedOr70 fault contents held ending → Formats Honest state faults texts old new contents held (status_of ending)
+      → IsRefusedOr70 (of_store fault) contents held ending → Formats Honest state faults texts old new contents held (status_of ending)
 
 -- how a run ends whose serving ended so
 abbrev pub ending_of : Result (Unit {0}) Fault → Ending
@@ -56,37 +60,47 @@ ending_of (Ok _) = Done
 ending_of (Err fault) = Faulted (number_of fault)
 
 -- Why the tables that are served are those of the file: it stands for them, on an honest disk that was synced and not
--- written; and they are lawful on every disk.
-pub record Begins {D : Type 0} (Honest : D → Type 0) (state : D → DiskState) (past : D → List DiskState) (old : D) (begun : Moderator D) : Type 0 where
+-- written, and that carries them; and of every disk they came of lawful commands, nothing was written, and the device hasn't
+-- failed.
+pub record Begins {D : Type 0} (Honest : D → Type 0) (state : D → DiskState) (past : D → List DiskState) (faults writes : D → ℕ) (old : D) (begun : Moderator D) : Type 0 where
   pub honest : Honest (disk_under begun) → Honest old
   pub opens : Honest (disk_under begun) → Opens (state old).content (held_of begun)
-  pub synced : Honest (disk_under begun)
-      → (state (disk_under begun) ≡ after_sync (state old)) × (past (disk_under begun) ≡ state old ∷ past old)
-  pub stands : Honest (disk_under begun) → (texts : Texts) × Stands (keeper_of begun) (state (disk_under begun)) texts (held_of begun)
-  pub lawful : (texts : Texts) × (records : List (List ℕ)) × Replayed texts records (held_of begun).kit (held_of begun).tables
+  pub stands : Honest (disk_under begun) → (texts : KitTexts)
+      × Between (past old) (state old) (past (disk_under begun)) (state (disk_under begun))
+      (λ moments. OpenAllows (state old) moments (state (disk_under begun)) (Ok (texts, (held_of begun).tables)))
+      × SpellsKit texts (held_of begun).kit × Carries state (store_of begun) texts
+  pub lawful : (texts : KitTexts) × SpellsKit texts (held_of begun).kit
+      × (commands : List TableCommand) × Follows (held_of begun).kit [] commands (held_of begun).tables
   pub whole : (held_of begun).broken ≡ false
+  pub no_fault : faults (disk_under begun) ≡ faults old
+  pub no_write : writes (disk_under begun) ≡ writes old
 
 -- What `serve` does with a disk, a reader and a writer, and the status with which it ends: the file is opened, each line is
--- answered so that what it comes to lasts, and what is written are the replies to what is read; or the file is refused, the
--- reader isn't read and the disk is synced at most.
-pub data Serves {D : Type 0} (Honest : D → Type 0) (state : D → DiskState) (past : D → List DiskState) (faults : D → ℕ) (old new : D)
+-- answered so that what it comes to lasts, what is written are the replies to what is read, and whatever a stop leaves
+-- stands for what was held then, or for that with the command pending then; or the file is refused, the reader isn't read
+-- and the disk is synced at most.
+pub data Serves {D : Type 0} (Honest : D → Type 0) (state : D → DiskState) (past : D → List DiskState) (faults writes syncs : D → ℕ) (old new : D)
     (remaining left contents held : Option (List ℕ)) : ℕ → Type 0 where
   Served : (begun ended : Moderator D) (result : Result (Unit {0}) Fault) (cause : Result (Unit {0}) serve.Fault)
-      → Begins Honest state past old begun
+      → Begins Honest state past faults writes old begun
       → EndsAs result cause
-      → Session (SpeaksAndLasts Honest state past faults) told (told_of begun) (told_of ended) remaining left contents held cause
+      → (session : Session (SpeaksAndLasts Honest state past faults writes syncs) told (told_of begun) (told_of ended) remaining left contents held cause)
+      → (Honest (disk_under ended) → (texts : KitTexts) → Carries state (store_of begun) texts
+      → LeavesOnly (past (disk_under begun)) (state (disk_under begun)) (past (disk_under ended)) (state (disk_under ended))
+      (StandsAlong Honest state past faults writes syncs texts (told_of begun) session.lines session.replies (told_of ended) session.served))
       → new ≡ disk_under ended
-      → Serves Honest state past faults old new remaining left contents held (status_of (ending_of result))
-  Not_served : (fault : Fault) (ending : Ending) → RefusesOpening (Honest new) (state old).content fault
-      → (Honest new → Honest old) → (Honest new → SyncsOnce (past old) (state old) (past new) (state new))
-      → CountsFailure (faults old) (faults new) fault
-      → left ≡ remaining → IsRefusedOr70 fault contents held ending
-      → Serves Honest state past faults old new remaining left contents held (status_of ending)
+      → Serves Honest state past faults writes syncs old new remaining left contents held (status_of (ending_of result))
+  Not_served : (fault : store.Fault) (ending : Ending) → RefusesOpening (Honest new) (state old).content fault
+      → (Honest new → Honest old)
+      → (Honest new → Between (past old) (state old) (past new) (state new) (λ moments. OpenAllows (state old) moments (state new) (Err fault)))
+      → CountsFailure (faults old) (faults new) fault → writes new ≡ writes old
+      → left ≡ remaining → IsRefusedOr70 (of_store fault) contents held ending
+      → Serves Honest state past faults writes syncs old new remaining left contents held (status_of ending)
 
 -- what a plan does
-abbrev pub Acts : {D : Type 0} → (D → Type 0) → (D → DiskState) → (D → List DiskState) → (D → ℕ) → Plan → Texts → D → D
+abbrev pub Acts : {D : Type 0} → (D → Type 0) → (D → DiskState) → (D → List DiskState) → (D → ℕ) → (D → ℕ) → (D → ℕ) → Plan → KitTexts → D → D
     → Option (List ℕ) → Option (List ℕ) → Option (List ℕ) → Option (List ℕ) → ℕ → Type 0
-Acts Honest state past faults (Format file chart roster tiles board) texts old new remaining left contents held status =
+Acts Honest state past faults writes syncs (Format file chart roster tiles board) texts old new remaining left contents held status =
     (left ≡ remaining) × Formats Honest state faults texts old new contents held status
-Acts Honest state past faults (Serve file) texts old new remaining left contents held status =
-    Serves Honest state past faults old new remaining left contents held status
+Acts Honest state past faults writes syncs (Serve file) texts old new remaining left contents held status =
+    Serves Honest state past faults writes syncs old new remaining left contents held status

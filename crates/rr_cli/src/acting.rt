@@ -1,7 +1,7 @@
 //! What the program does with a plan, over a disk, a reader and a writer.
 ghost use Rattle.std.specs.Prelude.{◌≡◌, ◌⊎◌, IsTrue, false};
 ghost use Rattle.std.specs.Io.KnownBytes.{Appends};
-ghost use Rattle.rr_keeper.specs.Lent.{lent_kit};
+ghost use Rattle.rr_store.specs.Lent.{lent_texts};
 ghost use Rattle.rr_serve.specs.Answering.{AppendsFront};
 ghost use Rattle.rr_moderator.specs.Fault.{refusal_of};
 ghost use Rattle.rr_cli.specs.Acting.{Acts, Formats, IsAcknowledged, IsRefused, IsRefusedOr70, Serves, ending_of};
@@ -27,7 +27,7 @@ pub fn act<D: Disk + Drop, R: Read, W: Write>(
     reader: &mut R,
     writer: &mut W,
 ) -> (u8, D)
-    ensures { Acts D.Honest D.state D.past D.fault_count plan.now (lent_kit texts.entry) disk result.1 (R.remaining reader.old) (R.remaining reader.new)
+    ensures { Acts D.Honest D.state D.past D.fault_count D.write_count D.sync_count plan.now (lent_texts texts.entry) disk result.1 (R.remaining reader.old) (R.remaining reader.new)
         (W.contents writer.old) (W.contents writer.new) result.0 }
 {
     match plan {
@@ -42,7 +42,7 @@ fn format<D: Disk + Drop, W: Write>(
     mut disk: D,
     writer: &mut W,
 ) -> (u8, D)
-    ensures { Formats D.Honest D.state D.fault_count (lent_kit texts.entry) disk result.1
+    ensures { Formats D.Honest D.state D.fault_count (lent_texts texts.entry) disk result.1
         (W.contents writer.old) (W.contents writer.new) result.0 }
 {
     match rr_moderator::format(alloc, &mut disk, texts) {
@@ -51,7 +51,7 @@ fn format<D: Disk + Drop, W: Write>(
             (status(ending), disk)
         }
         Err(fault) => {
-            let ending = refuse(alloc, fault, writer);
+            let ending = refuse(alloc, Fault::from(fault), writer);
             (status(ending), disk)
         }
     }
@@ -63,7 +63,7 @@ fn serve<D: Disk + Drop, R: Read, W: Write>(
     reader: &mut R,
     writer: &mut W,
 ) -> (u8, D)
-    ensures { Serves D.Honest D.state D.past D.fault_count disk result.1 (R.remaining reader.old) (R.remaining reader.new)
+    ensures { Serves D.Honest D.state D.past D.fault_count D.write_count D.sync_count disk result.1 (R.remaining reader.old) (R.remaining reader.new)
         (W.contents writer.old) (W.contents writer.new) result.0 }
 {
     match Moderator::open(alloc, disk) {
@@ -73,7 +73,7 @@ fn serve<D: Disk + Drop, R: Read, W: Write>(
         }
         Err(refused) => {
             let Refused { fault, disk } = refused;
-            let ending = refuse(alloc, fault, writer);
+            let ending = refuse(alloc, Fault::from(fault), writer);
             (status(ending), disk)
         }
     }

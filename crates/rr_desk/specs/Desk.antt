@@ -1,12 +1,17 @@
--- What lies on a desk: the working books, and the entries of the command under way.
-use Rattle.std.specs.Prelude.{◌++◌}
+-- What lies on a desk: the position, and the entries of the command under way.
+use Rattle.std.specs.Prelude.{◌≡◌, ◌++◌}
 use Rattle.rr_books.specs.Book.{Book}
-use Rattle.rr_books.specs.State.{State, IsStateOf}
+use Rattle.rr_desk.specs.Effects.{Effect}
+use Rattle.rr_position.specs.Position.{OnTable, IsPositionOf}
 
 pub record OnDesk : Type 0 where
-  pub books : State
+  pub position : OnTable
   pub entries : Book
 
--- the desk's books stand for the table's book with the entries so far
+-- the desk's position stands for the table's book with the entries so far
 abbrev pub Holds : Book → OnDesk → Type 0
-Holds book d = IsStateOf (book ++ d.entries) d.books
+Holds book d = IsPositionOf (book ++ d.entries) d.position
+
+-- the desk took the effect: its entries follow on those before, and the position stands for them too
+abbrev pub Takes : Effect → OnDesk → OnDesk → Type 0
+Takes effect old new = (book : Book) → Holds book old → (new.entries ≡ old.entries ++ effect (book ++ old.entries)) × Holds book new

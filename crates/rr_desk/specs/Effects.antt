@@ -8,7 +8,6 @@ use Rattle.rr_books.specs.declared.entries.Entry.{Entry}
 use Rattle.rr_books.specs.declared.entries.Entry.TheVariants as E
 use Rattle.rr_books.specs.Book.{Book, holder}
 use Rattle.rr_books.specs.Shares.{Holders, is_at, share_numbers}
-use Rattle.rr_desk.specs.Desk.{OnDesk, Holds}
 
 -- the entries that something adds, by the book so far
 abbrev pub Effect : Type 0
@@ -34,7 +33,3 @@ moves_if (Some cert) to = E.Move cert to ∷ []
 -- the lowest of a corporation's 10% certificates that are at one place moves to another, if there is one
 abbrev pub moves_lowest_share : Corp → Place → Place → Effect
 moves_lowest_share c from to book = moves_if (lowest_share (holder book) c from) to
-
--- the desk took the effect: its entries follow on those before, and the books stand for them too
-abbrev pub Takes : Effect → OnDesk → OnDesk → Type 0
-Takes effect old new = (book : Book) → Holds book old → (new.entries ≡ old.entries ++ effect (book ++ old.entries)) × Holds book new

@@ -1,6 +1,3 @@
-pub mod Desk
 pub mod Effects
-pub mod EffectLaws
 pub mod Incomes
-pub mod Seating
-pub mod Playing
+pub mod Desk

@@ -1,11 +1,12 @@
-ghost use Rattle.std.specs.Prelude.{◌≡◌, ◌+◌, ◌<◌, ◌≤◌, ◌≤ℤ◌, pos, OnOk, IfErr, IfSome, true};
+ghost use Rattle.std.specs.Prelude.{◌≡◌, ◌<◌, ◌≤ℤ◌, pos, OnOk, IfErr, IfSome};
 ghost use Rattle.rr_roster.specs.Terms.{income_of};
-ghost use Rattle.rr_books.specs.State.{cash_of, has_party, holder_in, place_of};
-ghost use Rattle.rr_desk.specs.Effects.{Takes};
-ghost use Rattle.rr_desk.specs.Incomes.{dollars, owner, pay_incomes, pays_income};
+ghost use Rattle.rr_books.specs.Book.{Book, holder, players};
+ghost use Rattle.rr_books.specs.State.{IsStateOf, party_index};
+ghost use Rattle.rr_desk.specs.Incomes.{owner, pay_incomes, pays_income};
+ghost use Rattle.rr_desk.specs.Desk.{Takes};
 
 use crate::desk::Desk;
-use rr_books::{Books, Cert, Fault, Money, Party, Place, Private, Seat};
+use rr_books::{Books, Cert, Entry, Fault, Money, Party, Place, Private};
 use rr_roster::Roster;
 
 /// The privates pay their owners out of the bank, the cheapest first: each the seat or corporation that has it. One
@@ -15,15 +16,8 @@ use rr_roster::Roster;
 ///
 /// `OutOfMemory`; some of the privates may have paid then.
 pub fn pay_incomes(desk: &mut Desk, roster: &Roster) -> Result<(), Fault>
-    requires { desk.old.books.payments + 6 ≤ 400000000 }
     ensures fault { IfErr result (λ fault. fault ≡ Fault.OutOfMemory) }
     ensures takes { OnOk result (Takes (pay_incomes roster.now) desk.old desk.new) }
-    ensures richer { OnOk result ((seat : Seat) → cash_of desk.old.books (Party.Seat seat) ≤ℤ cash_of desk.new.books (Party.Seat seat)) }
-    ensures payments { desk.new.books.payments ≤ desk.old.books.payments + 6 }
-    ensures players { desk.new.books.players ≡ desk.old.books.players }
-    ensures places { desk.new.books.places ≡ desk.old.books.places }
-    ensures trains { desk.new.books.trains ≡ desk.old.books.trains }
-    ensures counts { desk.new.books.counts ≡ desk.old.books.counts }
 {
     for private in Private::ALL {
         pay_income(private, desk, roster)?;
@@ -34,20 +28,17 @@ pub fn pay_incomes(desk: &mut Desk, roster: &Roster) -> Result<(), Fault>
 // The private pays its owner.
 #[tactic(auto, unfolding(crate::specs::Incomes::pays_income))]
 fn pay_income(private: Private, desk: &mut Desk, roster: &Roster) -> Result<(), Fault>
-    requires { desk.old.books.payments < 400000000 }
     ensures fault { IfErr result (λ fault. fault ≡ Fault.OutOfMemory) }
     ensures takes { OnOk result (Takes (pays_income roster.now private) desk.old desk.new) }
-    ensures richer { OnOk result ((seat : Seat) → cash_of desk.old.books (Party.Seat seat) ≤ℤ cash_of desk.new.books (Party.Seat seat)) }
-    ensures payments { desk.new.books.payments ≤ desk.old.books.payments + 1 }
-    ensures players { desk.new.books.players ≡ desk.old.books.players }
-    ensures places { desk.new.books.places ≡ desk.old.books.places }
-    ensures trains { desk.new.books.trains ≡ desk.old.books.trains }
-    ensures counts { desk.new.books.counts ≡ desk.old.books.counts }
 {
     let income = income(private, roster);
     match owner(private, desk.books()) {
         Some(party) => {
-            desk.pay(Party::Bank, party, income)?;
+            desk.push(Entry::Pay {
+                from: Party::Bank,
+                to: party,
+                amount: income,
+            })?;
             Ok(())
         }
         None => Ok(()),
@@ -64,8 +55,8 @@ fn income(private: Private, roster: &Roster) -> Money
 
 // Who gets the private's income: the seat or corporation that has it.
 fn owner(private: Private, books: &Books) -> Option<Party>
-    ensures value { result ≡ owner books.now.players (holder_in books.now (Cert.Private private)) }
-    ensures party { IfSome result (λ party. has_party books.now.players party ≡ true) }
+    ensures book { (book : Book) → IsStateOf book books.now → result ≡ owner (players book) (holder book (Cert.Private private)) }
+    ensures party { IfSome result (λ party. party_index party < 15) }
 {
     match books.holder(Cert::Private(private)) {
         Place::Seat(seat) => {

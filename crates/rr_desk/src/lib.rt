@@ -1,13 +1,15 @@
-//! The desk on which one command of a table is worked out: a working copy of the books, and the entries so far. With it
-//! what the privates pay their owners, and who sits on whose left.
+//! The desk on which one command of a table is worked out: a working copy of the position, and the entries so far. With
+//! it the lowest share of a place, what the privates pay their owners, and who sits on whose left.
 #![tactic(auto)]
 
 mod desk;
 mod entries;
 mod incomes;
-mod seating;
+mod shares;
 
 pub use desk::Desk;
-pub use entries::Entries;
 pub use incomes::pay_incomes;
-pub use seating::left_of;
+pub use entries::Entries;
+pub use rr_books::left_of;
+pub use rr_position::Position;
+pub use shares::{give_lowest_share, lowest_share};

@@ -1,9 +1,10 @@
 -- What a write leaves of a file, and what an image has of the settled one.
-use Rattle.std.proofs.Common.{◌≡◌, ◌⊎◌, inl, inr, ℕ, ◌+◌, ◌-◌, ◌<◌, ◌≤◌, min, max, List, [], ◌∷◌, ◌++◌, length, take, drop, replicate, get_or, refl, sym, ◌∙◌, ap, subst, arith, length-append, length-drop}
+use Rattle.std.proofs.Common.{◌≡◌, ◌⊎◌, inl, inr, ℕ, zero, suc, ◌+◌, ◌-◌, ◌<◌, ◌≤◌, min, max, List, [], ◌∷◌, ◌++◌, length, take, drop, replicate, get_or, refl, sym, ◌∙◌, ap, subst, arith, length-append, length-drop}
 use Rattle.std.proofs.lemmas.Bool.{cases_lt}
+use Rattle.std.proofs.lemmas.Grind.{common_steps}
 use Rattle.std.proofs.lemmas.List.{ext_get_or, length-take, length-replicate, get_or-append_right, get_or_append_left, get_or-take, get_or-drop, get_or-replicate, get_or_past}
-use Rattle.rr_disk.specs.Disk.{DiskState, IsOutside, furthest_end, IsImage, written, after_write, after_sync, Torn, IsAt}
-use Rattle.rr_disk.specs.Moments.{EachImage}
+use Rattle.rr_disk.specs.Disk.{DiskState, IsOutside, furthest_end, IsImage, written, after_write, after_failed_write, length_after, after_sync, Torn, IsAt}
+use Rattle.rr_disk.specs.Moments.{EachImage, TornFrom}
 
 pub IsOutside-append : (xs ys : List (ℕ × ℕ)) (i : ℕ) → IsOutside xs i → IsOutside ys i → IsOutside (xs ++ ys) i
 IsOutside-append [] ys i a b = b
@@ -111,18 +112,29 @@ each_at_rest state P none here image is = subst P (sym (image_at_rest state imag
 pub each_synced : (state : DiskState) (P : List ℕ → Type 0) → P state.content → EachImage (after_sync state) P
 each_synced state P here = each_at_rest (after_sync state) P refl here
 
--- an image within a write is one before the write, torn there
-pub record TornImage (state : DiskState) (at n : ℕ) (image : List ℕ) : Type 0 where
-  pub earlier : List ℕ
-  pub is_image : IsImage state earlier
-  pub torn : Torn at n earlier image
+-- a write is a tear that came out, and a tear may change nothing
+pub torn_whole : (file : List ℕ) (at : ℕ) (bytes : List ℕ) → Torn at (length bytes) file (written file at bytes)
+torn_whole file at bytes =
+    let len = length-written file at bytes in
+    record { no_shorter = omega (arith, len); no_longer = omega (arith, len); same = λ i h apart. written_outside file at bytes i apart }
+
+pub torn_same : (at n : ℕ) (file : List ℕ) → Torn at n file file
+torn_same at n file = record { no_shorter = omega arith; no_longer = omega arith; same = λ i h apart. refl }
+
+pub torn_wider : (at m n : ℕ) (old new : List ℕ) → m ≤ n → Torn at m old new → Torn at n old new
+torn_wider at m n old new more torn =
+    record {
+      no_shorter = torn.no_shorter;
+      no_longer = omega (arith, torn.no_longer);
+      same = λ i h apart. torn.same i h (elim apart [ inl before ↦ inl before | inr behind ↦ inr (omega arith) ]);
+    }
 
 -- what is said of the image alone: outside the write's range it has what the settled file has outside the earlier ranges
 untouched : (state : DiskState) (at n : ℕ) (image : List ℕ) → Type 0
 untouched state at n image = (i : ℕ) → i < length state.settled → IsOutside state.ranges i → (i < at) ⊎ (at + n ≤ i) → get_or image i 0 ≡ get_or state.settled i 0
 
 torn_image_from : (state : DiskState) (at n : ℕ) (image : List ℕ) → length state.settled ≤ length image → length image ≤ max (length state.settled) (max (furthest_end state.ranges) (at + n)) → untouched state at n image
-    → TornImage state at n image
+    → TornFrom state at n image
 unfolding untouched
 torn_image_from state at n image no_shorter no_longer kept =
     let old = take n (drop at state.settled) in
@@ -138,7 +150,7 @@ torn_image_from state at n image no_shorter no_longer kept =
     ∙ (get_or-take n (drop at state.settled) (i - at) 0 (omega arith) ∙ (get_or-drop at state.settled (i - at) 0 ∙ ap (λ (k : ℕ). get_or state.settled k 0) (omega arith)))) in
     record {
       earlier = take size whole;
-      is_image = record {
+      was = record {
         no_shorter = omega arith;
         no_longer = omega arith;
         kept = λ i h out. elim (cases_lt i at) [
@@ -152,40 +164,56 @@ torn_image_from state at n image no_shorter no_longer kept =
       torn = record { no_shorter = omega arith; no_longer = omega arith; same = λ i h apart. sym (outside i (omega arith) apart) };
     }
 
-pub torn_image : (state : DiskState) (at : ℕ) (bytes image : List ℕ) → IsImage (after_write state at bytes) image → TornImage state at (length bytes) image
+-- an image before the write is one, torn or not
+pub torn_nothing : (state : DiskState) (at n : ℕ) (image : List ℕ) → IsImage state image → TornFrom state at n image
+torn_nothing state at n image is = record { earlier = image; was = is; torn = torn_same at n image }
+
+-- an image within a write is one before the write, torn there
+torn_ranged : (state : DiskState) (at n : ℕ) (image : List ℕ) → IsImage (record { content = state.content; settled = state.settled; ranges = state.ranges ++ (at, at + n) ∷ [] }) image → TornFrom state at n image
 unfolding untouched
-torn_image state at [] image is =
-    record { earlier = image; is_image = is; torn = record { no_shorter = omega arith; no_longer = omega arith; same = λ i h apart. refl } }
-torn_image state at (byte ∷ bytes) image is =
-    let n = length (byte ∷ bytes) in
+torn_ranged state at n image is =
     let furthest : furthest_end (state.ranges ++ (at, at + n) ∷ []) ≡ max (furthest_end state.ranges) (max (at + n) 0) = furthest_end-append state.ranges ((at, at + n) ∷ []) in
     torn_image_from state at n image is.no_shorter (omega (arith, is.no_longer)) (λ i h out apart. is.kept i h (IsOutside-append state.ranges ((at, at + n) ∷ []) i out (apart, tt)))
+
+pub torn_image : (state : DiskState) (at : ℕ) (bytes image : List ℕ) → IsImage (after_write state at bytes) image → TornFrom state at (length bytes) image
+torn_image state at [] image is = torn_nothing state at 0 image is
+torn_image state at (byte ∷ bytes) image is = torn_ranged state at (length (byte ∷ bytes)) image (record { no_shorter = is.no_shorter; no_longer = is.no_longer; kept = is.kept })
+
+wider_from : (state : DiskState) (at m n : ℕ) (image : List ℕ) → m ≤ n → TornFrom state at m image → TornFrom state at n image
+wider_from state at m n image more torn = record { earlier = torn.earlier; was = torn.was; torn = torn_wider at m n torn.earlier image more torn.torn }
+
+-- the same where fewer bytes went out, and of a write that failed
+pub torn_from : (state : DiskState) (at n : ℕ) (other image : List ℕ) → length other ≤ n → IsImage (after_write state at other) image → TornFrom state at n image
+torn_from state at n other image fewer is = wider_from state at (length other) n image fewer (torn_image state at other image is)
+
+pub torn_failed : (state : DiskState) (at n upto : ℕ) (front image : List ℕ) → upto ≤ n → IsImage (after_failed_write state at upto front) image → TornFrom state at n image
+torn_failed state at n zero front image no_more is = torn_nothing state at n image is
+torn_failed state at n (suc upto) front image no_more is =
+    wider_from state at (suc upto) n image no_more (torn_ranged state at (suc upto) image (record { no_shorter = is.no_shorter; no_longer = is.no_longer; kept = is.kept }))
+
+-- a write that went out whole is one that failed behind its last byte
+pub all_out : (state : DiskState) (at : ℕ) (bytes : List ℕ) → after_write state at bytes ≡ after_failed_write state at (length bytes) bytes
+all_out state at [] = refl
+all_out state at (byte ∷ bytes) = refl
 
 -- a fact that outlives any change there holds of each image within the write
 pub each_torn : (state : DiskState) (at : ℕ) (bytes : List ℕ) (P : List ℕ → Type 0) → EachImage state P → ((old new : List ℕ) → P old → Torn at (length bytes) old new → P new) → EachImage (after_write state at bytes) P
 each_torn state at bytes P here outlives image is =
     let torn = torn_image state at bytes image is in
-    outlives torn.earlier image (here torn.earlier torn.is_image) torn.torn
+    outlives torn.earlier image (here torn.earlier torn.was) torn.torn
 
 -- where nothing is unsynced, an image within a write is the settled file, torn there
 pub torn_at_rest : (state : DiskState) (at : ℕ) (bytes image : List ℕ) → state.ranges ≡ [] → IsImage (after_write state at bytes) image → Torn at (length bytes) state.settled image
 torn_at_rest state at bytes image none is =
     let torn = torn_image state at bytes image is in
-    subst (λ (old : List ℕ). Torn at (length bytes) old image) (image_at_rest state torn.earlier none torn.is_image) torn.torn
+    subst (λ (old : List ℕ). Torn at (length bytes) old image) (image_at_rest state torn.earlier none torn.was) torn.torn
 
-pub torn_wider : (at m n : ℕ) (old new : List ℕ) → m ≤ n → Torn at m old new → Torn at n old new
-torn_wider at m n old new more torn =
-    record {
-      no_shorter = torn.no_shorter;
-      no_longer = omega (arith, torn.no_longer);
-      same = λ i h apart. torn.same i h (elim apart [ inl before ↦ inl before | inr behind ↦ inr (omega arith) ]);
-    }
-
--- the same for the other bytes of a write of n bytes that failed
+-- the same of each image after a write of n bytes that failed
 pub each_failed : (state : DiskState) (at n : ℕ) (P : List ℕ → Type 0) → EachImage state P → ((old new : List ℕ) → P old → Torn at n old new → P new)
-    → (other : List ℕ) → length other ≤ n → EachImage (after_write state at other) P
-each_failed state at n P here outlives other no_more =
-    each_torn state at other P here (λ old new had torn. outlives old new had (torn_wider at (length other) n old new no_more torn))
+    → (upto : ℕ) (front : List ℕ) → upto ≤ n → EachImage (after_failed_write state at upto front) P
+each_failed state at n P here outlives upto front no_more image is =
+    let torn = torn_failed state at n upto front image no_more is in
+    outlives torn.earlier image (here torn.earlier torn.was) torn.torn
 
 outside_front : (xs ys : List (ℕ × ℕ)) (i : ℕ) → IsOutside (xs ++ ys) i → IsOutside xs i
 outside_front [] ys i out = tt
@@ -215,8 +243,25 @@ pub written_may_stay : (state : DiskState) (at : ℕ) (bytes : List ℕ) → IsI
 written_may_stay state at [] is = is
 written_may_stay state at (byte ∷ bytes) is = overwritten_may_stay state at (byte ∷ bytes) is
 
+-- and after one that failed and of which nothing is seen
+pub failed_may_stay : (state : DiskState) (at n : ℕ) → IsImage state state.content → IsImage (after_failed_write state at n []) (after_failed_write state at n []).content
+failed_may_stay state at zero is = is
+failed_may_stay state at (suc n) is =
+    let range : ℕ × ℕ = (at, at + suc n) in
+    let furthest : furthest_end (state.ranges ++ range ∷ []) ≡ max (furthest_end state.ranges) (max (at + suc n) 0) = furthest_end-append state.ranges (range ∷ []) in
+    record {
+      no_shorter = is.no_shorter;
+      no_longer = omega (arith, is.no_longer, furthest);
+      kept = λ i h out. is.kept i h (outside_front state.ranges (range ∷ []) i out);
+    }
+
 pub synced_may_stay : (state : DiskState) → IsImage (after_sync state) (after_sync state).content
 synced_may_stay state = record { no_shorter = omega arith; no_longer = omega arith; kept = λ i h out. refl }
+
+-- how long the file is after a write
+pub length-after_write : (state : DiskState) (at : ℕ) (bytes : List ℕ) → length (after_write state at bytes).content ≡ length_after (length state.content) at (length bytes)
+length-after_write state at [] = refl
+length-after_write state at (byte ∷ bytes) = length-written state.content at (byte ∷ bytes) ∙ grind (arith, common_steps)
 
 -- zeros behind a file change no byte that is read by its place
 pub padded_same : (file : List ℕ) (n i : ℕ) → get_or (file ++ replicate n 0) i 0 ≡ get_or file i 0

@@ -1,7 +1,7 @@
 -- How a caller carries "a stop at any moment leaves only files that have P" from call to call.
-use Rattle.std.proofs.Common.{◌≡◌, ℕ, ◌≤◌, List, [], ◌∷◌, ◌++◌, length, refl, sym, ◌∙◌, ap, subst}
+use Rattle.std.proofs.Common.{◌≡◌, ℕ, ◌≤◌, List, [], ◌∷◌, ◌++◌, refl, sym, ◌∙◌, ap, subst}
 use Rattle.std.proofs.lemmas.List.{append_assoc}
-use Rattle.rr_disk.specs.Disk.{DiskState, after_write, FailedWrite, Nothing_out, Some_out}
+use Rattle.rr_disk.specs.Disk.{DiskState, after_failed_write, FailedWrite, Nothing_out, Some_out}
 use Rattle.rr_disk.specs.Moments.{EachImage, EachImageOf, LeavesOnly}
 
 pub EachImageOf-append : (front states : List DiskState) (P : List ℕ → Type 0) → EachImageOf front P → EachImageOf states P → EachImageOf (front ++ states) P
@@ -41,12 +41,12 @@ module _ {past_old : List DiskState} {old : DiskState} {past : List DiskState} {
   pub becomes : {past_new : List DiskState} {new : DiskState} (known : DiskState) → past_new ≡ now ∷ past → new ≡ known → EachImage known P → LeavesOnly past_old old past_new new P
   becomes {past_new} {new} known passed is here = goes_on new passed (subst (λ (s : DiskState). EachImage s P) (sym is) here)
 
-  -- after a write of n bytes that failed: whatever other bytes went out in their place, each image has P
+  -- after a write of n bytes that failed: whatever of its range is unsynced, each image has P
   pub fails : {at n : ℕ} {past_new : List DiskState} {new : DiskState} → FailedWrite at n past now past_new new
-      → ((other : List ℕ) → length other ≤ n → EachImage (after_write now at other) P) → LeavesOnly past_old old past_new new P
+      → ((upto : ℕ) (front : List ℕ) → upto ≤ n → EachImage (after_failed_write now at upto front) P) → LeavesOnly past_old old past_new new P
   fails {at} {n} {past_new} {new} failed here = elim failed [
     | Nothing_out same_past same_state ↦ stays same_past same_state
-    | Some_out other no_more passed is ↦ becomes (after_write now at other) passed is (here other no_more)
+    | Some_out upto front fewer no_more passed is ↦ becomes (after_failed_write now at upto front) passed is (here upto front no_more)
   ]
 
   -- a second run from where the first ended

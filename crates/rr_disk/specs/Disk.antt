@@ -1,6 +1,6 @@
 -- What a disk holds, what its calls do to that, and what a stop may leave of it.
 -- Bytes are numbers here; that they are below 256 is nowhere used, so what is said of every image is said of more lists than a disk can hold.
-use Rattle.std.specs.Prelude.{◌≡◌, ◌⊎◌, ℕ, ◌+◌, ◌-◌, ◌^◌, ◌<◌, ◌≤◌, min, max, ◌==◌, if◌then◌else◌, List, [], ◌∷◌, ◌++◌, length, take, drop, replicate, slice_index, Result, Ok, Err}
+use Rattle.std.specs.Prelude.{◌≡◌, ◌⊎◌, ℕ, zero, suc, ◌+◌, ◌-◌, ◌^◌, ◌<◌, ◌≤◌, min, max, ◌==◌, if◌then◌else◌, List, [], ◌∷◌, ◌++◌, length, take, drop, replicate, slice_index, Result, Ok, Err}
 use Rattle.rr_disk.specs.declared.fault.Fault.{Fault}
 use Rattle.rr_disk.specs.declared.fault.Fault.TheVariants.{DeviceFailed, OutOfMemory}
 
@@ -48,10 +48,23 @@ after_write state at (byte ∷ bytes) =
 abbrev pub after_sync : DiskState → DiskState
 after_sync state = record { content = state.content; settled = state.content; ranges = [] }
 
--- a write of n bytes that fails: nothing went out, or other bytes did, no more than n
+-- After a write that failed: so many bytes of its range are unsynced, also past the end of the file, and a read gives these
+-- bytes in the front of it. Where none is unsynced nothing changed
+abbrev pub after_failed_write : DiskState → ℕ → ℕ → List ℕ → DiskState
+after_failed_write state at zero front = state
+after_failed_write state at (suc n) front =
+    record {
+      content = (after_write state at front).content;
+      settled = state.settled;
+      ranges = state.ranges ++ (at, at + suc n) ∷ [];
+    }
+
+-- A write of n bytes that fails: nothing went out; or its range is unsynced, up to all of it, and a read gives other bytes
+-- in a front of that.
 pub data FailedWrite (at n : ℕ) (past_old : List DiskState) (old : DiskState) (past_new : List DiskState) (new : DiskState) : Type 0 where
   Nothing_out : past_new ≡ past_old → new ≡ old → FailedWrite at n past_old old past_new new
-  Some_out : (other : List ℕ) → length other ≤ n → past_new ≡ old ∷ past_old → new ≡ after_write old at other → FailedWrite at n past_old old past_new new
+  Some_out : (upto : ℕ) (front : List ℕ) → length front ≤ upto → upto ≤ n → past_new ≡ old ∷ past_old → new ≡ after_failed_write old at upto front
+      → FailedWrite at n past_old old past_new new
 
 -- the file after a write of n bytes at this place that a stop cut short: any bytes in the range and past the old end, the same elsewhere
 pub record Torn (at n : ℕ) (old new : List ℕ) : Type 0 where

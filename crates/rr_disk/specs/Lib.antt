@@ -2,6 +2,7 @@ pub mod Cached
 pub mod CallLog
 pub mod Choice
 pub mod Disk
+pub mod Events
 pub mod Faulty
 pub mod File
 pub mod Memory

@@ -1,5 +1,5 @@
 -- What a disk in memory holds.
-use Rattle.std.specs.Prelude.{◌≡◌, ℕ, List, []}
+use Rattle.std.specs.Prelude.{◌≡◌, ℕ, Bool, false, List, []}
 use Rattle.rr_disk.specs.Disk.{DiskState}
 use Rattle.rr_disk.specs.Cached.{state_of}
 use Rattle.rr_disk.specs.CallLog.{past_of, used_of}
@@ -19,6 +19,10 @@ room_of disk = disk.room
 abbrev pub used_of_room : MemoryDisk → ℕ
 used_of_room disk = used_of disk.log
 
+-- a call was refused for want of room
+abbrev pub is_full : MemoryDisk → Bool
+is_full disk = disk.full
+
 abbrev pub memory_faults : MemoryDisk → ℕ
 memory_faults disk = disk.faults
 
@@ -34,6 +38,7 @@ pub record IsFresh (content : List ℕ) (room : ℕ) (disk : MemoryDisk) : Type 
   pub past : memory_past disk ≡ []
   pub limit : room_of disk ≡ room
   pub used : used_of_room disk ≡ 0
+  pub works : is_full disk ≡ false
   pub faults : memory_faults disk ≡ 0
   pub writes : memory_writes disk ≡ 0
   pub syncs : memory_syncs disk ≡ 0

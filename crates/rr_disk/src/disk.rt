@@ -1,5 +1,5 @@
-ghost use Rattle.std.specs.Prelude.{◌≡◌, ◌+◌, ◌^◌, ◌≤◌, ◌∷◌, List, ℕ, length, OnOk, OnErr};
-ghost use Rattle.rr_disk.specs.Disk.{DiskState, IsImage, IsAt, after_write, after_sync, FailedWrite, CountsFault, counted};
+ghost use Rattle.std.specs.Prelude.{◌≡◌, ◌+◌, ◌^◌, ◌<◌, ◌≤◌, ◌∷◌, List, ℕ, length, OnOk, OnErr};
+ghost use Rattle.rr_disk.specs.Disk.{DiskState, IsImage, IsAt, after_write, after_sync, FailedWrite, length_after, CountsFault, counted};
 
 use crate::Fault;
 
@@ -20,12 +20,20 @@ pub trait Disk {
 
     ghost sync_count: { Self → ℕ };
 
+    /// The length of the file in bytes, as the device tells it.
+    ghost file_len: { Self → ℕ };
+
     /// The device did so far what these clauses say.
     ghost Honest: { Self → Type 0 };
 
+    /// The device refused no call so far that it has to take: no read within the file, no write that ends at byte 2^63 or
+    /// before, no sync.
+    ghost Works: { Self → Type 0 };
+
     /// The length of the file in bytes. No device call.
     fn len(&self) -> u64
-        ensures { Honest self.now → result ≡ length (state self.now).content };
+        ensures told { result ≡ file_len self.now }
+        ensures content { Honest self.now → result ≡ length (state self.now).content };
 
     /// Reads all of `into` from byte `at` on. A read past the end is a fault, and after a fault `into` may hold anything.
     fn read_at(&mut self, at: u64, into: &mut [u8]) -> Result<(), Fault>
@@ -35,7 +43,10 @@ pub trait Disk {
         ensures same_past { Honest self.new → past self.new ≡ past self.old }
         ensures fault { CountsFault (fault_count self.old) (fault_count self.new) result }
         ensures writes { write_count self.new ≡ write_count self.old }
-        ensures syncs { sync_count self.new ≡ sync_count self.old };
+        ensures syncs { sync_count self.new ≡ sync_count self.old }
+        ensures works { Works self.new → Works self.old }
+        ensures refused { OnErr result (Works self.new → file_len self.old < at + length into.old) }
+        ensures same_len { file_len self.new ≡ file_len self.old };
 
     /// Writes these bytes from byte `at` on. A gap between the end and `at` becomes zeros; an empty write changes nothing.
     /// A write that ends past byte 2^63 is a fault.
@@ -47,7 +58,10 @@ pub trait Disk {
         ensures within { OnOk result (at + length bytes.now ≤ 2 ^ 63) }
         ensures fault { CountsFault (fault_count self.old) (fault_count self.new) result }
         ensures writes { write_count self.new ≡ counted (write_count self.old) }
-        ensures syncs { sync_count self.new ≡ sync_count self.old };
+        ensures syncs { sync_count self.new ≡ sync_count self.old }
+        ensures works { Works self.new → Works self.old }
+        ensures refused { OnErr result (Works self.new → 2 ^ 63 < at + length bytes.now) }
+        ensures len { OnOk result (file_len self.new ≡ length_after (file_len self.old) at (length bytes.now)) };
 
     /// After it a stop leaves what a read gives. One that fails settles nothing.
     fn sync(&mut self) -> Result<(), Fault>
@@ -58,7 +72,10 @@ pub trait Disk {
         ensures failed_past { OnErr result (Honest self.new → past self.new ≡ past self.old) }
         ensures fault { CountsFault (fault_count self.old) (fault_count self.new) result }
         ensures writes { write_count self.new ≡ write_count self.old }
-        ensures syncs { sync_count self.new ≡ counted (sync_count self.old) };
+        ensures syncs { sync_count self.new ≡ counted (sync_count self.old) }
+        ensures works { Works self.new → Works self.old }
+        ensures refused { OnErr result (Works self.new → ⊥) }
+        ensures same_len { file_len self.new ≡ file_len self.old };
 
     /// How many device calls failed so far, up to 2^64 - 1.
     fn faults(&self) -> u64

@@ -1,4 +1,4 @@
-ghost use Rattle.std.specs.Prelude.{◌≡◌, ◌↔◌, ◌+◌, ◌*◌, ◌^◌, ◌<◌, ◌≤◌, ◌∷◌, [], length, IfOk, OnOk, OnErr, IsOk, IsErrOf, IsTrue, IsOkUnless, max, vec_len, ◌-◌};
+ghost use Rattle.std.specs.Prelude.{◌≡◌, ◌↔◌, ◌+◌, ◌*◌, ◌^◌, ◌<◌, ◌≤◌, ◌∷◌, [], length, IfOk, OnOk, OnErr, IsOk, IsErrOf, IsTrue, IsOkUnless, true, false, max, vec_len, ◌-◌};
 ghost use Rattle.std.specs.Vec.{vec_capacity};
 ghost use Rattle.rr_disk.specs.Disk.{IsImage, furthest_end, length_after, IsAt, after_write, after_sync, CountsFault, counted};
 ghost use Rattle.rr_disk.specs.Cached.{state_of};
@@ -18,13 +18,15 @@ const CALL: usize = 16;
 /// A disk in memory. It takes all its memory when it is made, and knows each write and sync that was made on it.
 ///
 /// Its `room`, in bytes, is one limit over the file's length, the bytes of all writes together, and 16 bytes for each
-/// write and sync. A call that would pass it is a fault.
+/// write and sync. A call that would pass it is a fault; nothing of it goes out. A disk works until that happens first.
 #[derive(Drop)]
 pub struct MemoryDisk {
     alloc: Global,
     room: usize,
     file: CachedFile,
     log: CallLog,
+    /// A call was refused for want of room.
+    full: bool,
     faults: u64,
     writes: u64,
     syncs: u64,
@@ -136,6 +138,7 @@ impl MemoryDisk {
             room,
             file,
             log,
+            full: false,
             faults: 0,
             writes: 0,
             syncs: 0,
@@ -163,7 +166,7 @@ fn len_after(len: usize, end: u64, added: usize) -> usize
 }
 
 impl Disk for MemoryDisk {
-    ghost use Rattle.rr_disk.specs.Memory.{memory_state, memory_past, memory_faults, memory_writes, memory_syncs, room_of, used_of_room};
+    ghost use Rattle.rr_disk.specs.Memory.{memory_state, memory_past, memory_faults, memory_writes, memory_syncs, room_of, used_of_room, is_full};
 
     ghost state = { λ disk. state_of disk.file };
 
@@ -175,7 +178,11 @@ impl Disk for MemoryDisk {
 
     ghost sync_count = { λ disk. disk.syncs };
 
+    ghost file_len = { λ disk. length (state_of disk.file).content };
+
     ghost Honest = { λ _. Unit {0} };
+
+    ghost Works = { λ disk. disk.full ≡ false };
 
     fn len(&self) -> u64
         ensures { result ≡ length (memory_state self.now).content }
@@ -193,6 +200,7 @@ impl Disk for MemoryDisk {
 
         // It fails past the end alone.
         ensures within { IsOk result ↔ (at + length into.old ≤ length (memory_state self.old).content) }
+        ensures works { is_full self.new ≡ is_full self.old }
         ensures used { used_of_room self.new ≡ used_of_room self.old }
         ensures room { room_of self.new ≡ room_of self.old }
     {
@@ -222,6 +230,12 @@ impl Disk for MemoryDisk {
         ensures used { OnOk result (used_of_room self.new ≡ used_of_room self.old + length bytes.now + 16) }
         ensures unused { OnErr result (used_of_room self.new ≡ used_of_room self.old) }
         ensures room { room_of self.new ≡ room_of self.old }
+        ensures len { OnOk result (length (memory_state self.new).content ≡ length_after (length (memory_state self.old).content) at (length bytes.now)) }
+
+        // It is full from the first call on that would end by 2^63 and has no room.
+        ensures works { OnOk result (is_full self.new ≡ is_full self.old) }
+        ensures full { OnErr result (at + length bytes.now ≤ 2 ^ 63 → is_full self.new ≡ true) }
+        ensures far { 2 ^ 63 < at + length bytes.now → is_full self.new ≡ is_full self.old }
     {
         self.writes = self.writes.saturating_add(1);
         if let Some(end) = end_of(at, bytes.len()) {
@@ -231,6 +245,9 @@ impl Disk for MemoryDisk {
                 self.file.write(at, bytes);
                 return Ok(());
             }
+            self.full = true;
+            self.faults = self.faults.saturating_add(1);
+            return Err(Fault::DeviceFailed);
         }
         self.faults = self.faults.saturating_add(1);
         Err(Fault::DeviceFailed)
@@ -250,6 +267,8 @@ impl Disk for MemoryDisk {
         ensures used { OnOk result (used_of_room self.new ≡ used_of_room self.old + 16) }
         ensures unused { OnErr result (used_of_room self.new ≡ used_of_room self.old) }
         ensures room { room_of self.new ≡ room_of self.old }
+        ensures works { OnOk result (is_full self.new ≡ is_full self.old) }
+        ensures full { OnErr result (is_full self.new ≡ true) }
     {
         self.syncs = self.syncs.saturating_add(1);
         if fits(self.file.content().len(), 0, self.room - self.log.used()) {
@@ -257,6 +276,7 @@ impl Disk for MemoryDisk {
             self.file.sync();
             return Ok(());
         }
+        self.full = true;
         self.faults = self.faults.saturating_add(1);
         Err(Fault::DeviceFailed)
     }

@@ -26,6 +26,15 @@ pub(crate) fn write<D: Disk>(disk: &mut D, at: u64, bytes: &[u8]) -> Result<(), 
     disk.write_at(at, bytes)
 }
 
+// One write by the function over any disk, and one with its sync.
+pub(crate) fn write_once<D: Disk>(disk: &mut D, at: u64, bytes: &[u8]) -> Result<(), Fault> {
+    rr_disk::write(disk, at, bytes)
+}
+
+pub(crate) fn put<D: Disk>(disk: &mut D, at: u64, bytes: &[u8]) -> Result<(), Fault> {
+    rr_disk::put(disk, at, bytes)
+}
+
 pub(crate) fn sync<D: Disk>(disk: &mut D) -> Result<(), Fault> {
     disk.sync()
 }

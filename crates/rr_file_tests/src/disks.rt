@@ -1,8 +1,9 @@
 use crate::calls;
 use crate::calls::{
-    beneath, counts, empty, failing_after, failing_once, in_memory, read, stopped, sync, write,
+    beneath, counts, empty, failing_after, failing_once, in_memory, put, read, stopped, sync,
+    write, write_once,
 };
-use rr_disk::{Fault, FaultyDisk, FileDisk, Kept, MemoryDisk};
+use rr_disk::{Fault, FaultyDisk, FileDisk, Kept, MemoryDisk, Unknown};
 use std::process::Abort;
 use std::test::Fail;
 use std::{env, fs, process};
@@ -46,6 +47,20 @@ fn a_gap_is_zeros(rt: HostRuntime) -> Result<(), Fail> {
     sync(&mut disk)?;
     check_memory(&rt, &disk, b"abc\0\0Z", &[], 6);
     assert_eq!(rt; counts(&disk), [1, 2, 1, 6]);
+    Ok(())
+}
+
+#[test]
+fn a_put_is_synced(rt: HostRuntime) -> Result<(), Fail> {
+    let mut disk = in_memory(rt.alloc(), 1000, b"abc")?;
+    write_once(&mut disk, 1, b"XY")?;
+    check_memory(&rt, &disk, b"aXY", &[(1, 3)], 3);
+    put(&mut disk, 3, b"Z")?;
+    check_memory(&rt, &disk, b"aXYZ", &[], 4);
+    assert_eq!(rt; counts(&disk), [0, 2, 1, 4]);
+    let mut failing = failing_after(disk, 1);
+    assert_eq!(rt; put(&mut failing, 0, b"WW"), Err(Fault::DeviceFailed));
+    check_memory(&rt, &beneath(failing), b"WWYZ", &[(0, 2)], 4);
     Ok(())
 }
 
@@ -139,8 +154,8 @@ fn a_hundred_thousand_calls(rt: HostRuntime) -> Result<(), Fail> {
     Ok(())
 }
 
-fn open(rt: &HostRuntime, path: &str, make: bool) -> Result<FileDisk, Fault> {
-    FileDisk::open(rt, path, make)
+fn open(rt: &HostRuntime, path: &str, make: bool) -> Result<FileDisk<Unknown>, Fault> {
+    FileDisk::open(rt, path, make, Unknown)
 }
 
 #[test]
@@ -155,10 +170,16 @@ fn a_file_keeps_its_bytes(rt: HostRuntime) -> Result<(), Fail> {
     let mut disk = open(&rt, path, true)?;
     write(&mut disk, 2, b"abc")?;
     sync(&mut disk)?;
-    assert_eq!(rt; read::<FileDisk, 6>(&mut disk, 0), Err(Fault::DeviceFailed));
+    assert_eq!(rt;
+        read::<FileDisk<Unknown>, 6>(&mut disk, 0),
+        Err(Fault::DeviceFailed)
+    );
     assert_eq!(rt; counts(&disk), [1, 1, 1, 5]);
     let mut again = open(&rt, path, false)?;
-    assert_eq!(rt; read::<FileDisk, 5>(&mut again, 0), Ok(*b"\0\0abc"));
+    assert_eq!(rt;
+        read::<FileDisk<Unknown>, 5>(&mut again, 0),
+        Ok(*b"\0\0abc")
+    );
     fs::remove_file(&rt, path)?;
     Ok(())
 }

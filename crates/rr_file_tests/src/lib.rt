@@ -4,8 +4,12 @@
 #[cfg(test)]
 mod calls;
 #[cfg(test)]
+mod directory;
+#[cfg(test)]
 mod disks;
 #[cfg(test)]
 mod journal;
 #[cfg(test)]
 mod keeper;
+#[cfg(test)]
+mod pages;

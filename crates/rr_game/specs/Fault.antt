@@ -1,14 +1,7 @@
--- The refusals: their numbers, and the refusals of the layers below as refusals of the game.
+-- The refusals: their numbers, and those of the rules as refusals of the game.
 use Rattle.std.specs.Prelude.{ℕ}
-use Rattle.rr_chart.specs.declared.fault.Fault as chart
-use Rattle.rr_chart.specs.declared.fault.Fault.TheVariants as H
-use Rattle.rr_roster.specs.declared.fault.Fault as roster
-use Rattle.rr_roster.specs.declared.fault.Fault.TheVariants as R
-use Rattle.rr_roster.specs.Rules.{rule_number}
-use Rattle.rr_tiles.specs.declared.fault.Fault as tiles
-use Rattle.rr_tiles.specs.declared.fault.Fault.TheVariants as T
-use Rattle.rr_board.specs.declared.fault.Fault as board
-use Rattle.rr_board.specs.declared.fault.Fault.TheVariants as B
+use Rattle.rr_books.specs.declared.faults.Fault as books
+use Rattle.rr_books.specs.declared.faults.Fault.TheVariants as B
 use Rattle.rr_auction.specs.declared.fault.Fault as auction
 use Rattle.rr_auction.specs.declared.fault.Fault.TheVariants as A
 use Rattle.rr_stock.specs.declared.fault.Fault as stock
@@ -20,11 +13,6 @@ use Rattle.rr_game.specs.declared.fault.Fault.TheVariants as F
 abbrev pub number_of : Fault → ℕ
 number_of F.NoSuchName = 1
 number_of F.TooLittleCash = 2
-number_of (F.BadChart line word) = 3
-number_of F.BadRoster = 4
-number_of (F.RosterRule rule) = 5
-number_of (F.BadManifest line) = 6
-number_of (F.BadBoard line) = 7
 number_of F.NotYourTurn = 20
 number_of (F.BidTooLow least) = 21
 number_of F.NotForSale = 22
@@ -40,25 +28,7 @@ number_of F.NotAPar = 31
 number_of F.WrongStep = 42
 number_of F.OutOfMemory = 70
 
-abbrev pub of_chart : chart.Fault → Fault
-of_chart (H.BadChart line word) = F.BadChart line word
-of_chart H.OutOfMemory = F.OutOfMemory
-
-abbrev pub of_roster : roster.Fault → Fault
-of_roster R.Shape = F.BadRoster
-of_roster (R.Broken rule) = F.RosterRule (rule_number rule)
-of_roster R.OutOfMemory = F.OutOfMemory
-
-abbrev pub of_manifest : tiles.Fault → Fault
-of_manifest (T.BadManifest line) = F.BadManifest line
-of_manifest T.OutOfMemory = F.OutOfMemory
-
-abbrev pub of_board : board.Fault → Fault
-of_board (B.BadBoard line) = F.BadBoard line
-of_board B.OutOfMemory = F.OutOfMemory
-
 abbrev pub of_auction : auction.Fault → Fault
-of_auction A.NoSuchName = F.NoSuchName
 of_auction A.TooLittleCash = F.TooLittleCash
 of_auction A.NotYourTurn = F.NotYourTurn
 of_auction (A.BidTooLow least) = F.BidTooLow least
@@ -66,10 +36,8 @@ of_auction A.NotForSale = F.NotForSale
 of_auction A.CashTiedUp = F.CashTiedUp
 of_auction A.NotAPar = F.NotAPar
 of_auction A.WrongStep = F.WrongStep
-of_auction A.OutOfMemory = F.OutOfMemory
 
 abbrev pub of_stock : stock.Fault → Fault
-of_stock S.NoSuchName = F.NoSuchName
 of_stock S.TooLittleCash = F.TooLittleCash
 of_stock S.NotYourTurn = F.NotYourTurn
 of_stock S.NotForSale = F.NotForSale
@@ -82,4 +50,8 @@ of_stock S.SecondPurchase = F.SecondPurchase
 of_stock S.MustSellFirst = F.MustSellFirst
 of_stock S.NotAPar = F.NotAPar
 of_stock S.WrongStep = F.WrongStep
-of_stock S.OutOfMemory = F.OutOfMemory
+
+abbrev pub of_books : books.Fault → Fault
+of_books B.NoSuchName = F.NoSuchName
+of_books B.TooLittleCash = F.TooLittleCash
+of_books B.OutOfMemory = F.OutOfMemory

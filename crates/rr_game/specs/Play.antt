@@ -4,16 +4,16 @@ use Rattle.rr_books.specs.declared.acts.Act.{Act}
 use Rattle.rr_books.specs.Book.{Book}
 use Rattle.rr_auction.specs.Effects as auction
 use Rattle.rr_auction.specs.Opening.{opened}
-use Rattle.rr_stock.specs.Effects as stock
+use Rattle.rr_sequence.specs.Sequence as sequence
 use Rattle.rr_code.specs.declared.command.Command.{Command}
 use Rattle.rr_code.specs.declared.command.Command.TheVariants.{Open}
-use Rattle.rr_game.specs.declared.kit.Kit.{Kit}
+use Rattle.rr_kit.specs.declared.kit.Kit.{Kit}
 use Rattle.rr_game.specs.Names.{act_of}
 use Rattle.rr_game.specs.Verdict.{auction_is_over}
 
--- what an accepted act adds to the book, once the auction is over or before
+-- what an accepted act adds to the book, with what follows on it, once the auction is over or before
 abbrev pub entries_once : Bool → Kit → Book → Act → Book
-entries_once over kit book act = if over then stock.entries_of kit.roster kit.chart book act else auction.entries_of kit.roster kit.chart book act
+entries_once over kit book act = if over then sequence.entries_of kit.roster kit.chart book act else auction.entries_of kit.roster kit.chart book act
 
 abbrev pub entries_of : Kit → Book → Act → Book
 entries_of kit book act = entries_once (auction_is_over book) kit book act

@@ -7,7 +7,7 @@ use Rattle.rr_auction.specs.Rules as auction
 use Rattle.rr_stock.specs.Rules as stock
 use Rattle.rr_code.specs.declared.command.Command.{Command}
 use Rattle.rr_code.specs.declared.command.Command.TheVariants.{Open}
-use Rattle.rr_game.specs.declared.kit.Kit.{Kit}
+use Rattle.rr_kit.specs.declared.kit.Kit.{Kit}
 use Rattle.rr_game.specs.declared.fault.Fault.{Fault}
 use Rattle.rr_game.specs.declared.fault.Fault.TheVariants as F
 use Rattle.rr_game.specs.Fault.{of_auction, of_stock}

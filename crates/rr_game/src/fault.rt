@@ -1,11 +1,9 @@
 ghost use Rattle.std.specs.Prelude.{◌≡◌};
-ghost use Rattle.rr_game.specs.Fault.{number_of, of_auction, of_board, of_chart, of_manifest, of_roster, of_stock};
-ghost use Rattle.rr_game.specs.declared.fault.Fault.TheVariants.{OutOfMemory};
+ghost use Rattle.rr_game.specs.Fault.{number_of, of_auction, of_books, of_stock};
 
-use std::alloc::{AllocError, AllocFailed};
 use thiserror::Error;
 
-/// Why a kit's text or a command is refused.
+/// Why a command or a query is refused.
 #[derive(Clone, Copy, Debug, Drop, PartialEq, Eq, Error)]
 pub enum Fault {
     /// A player who isn't at the table.
@@ -14,22 +12,6 @@ pub enum Fault {
     /// The payer has less than the amount.
     #[error("too little cash")]
     TooLittleCash,
-    /// The chart's text spells no chart: its first wrong word, by its line and its place there, both from 1.
-    /// Both are 0 where no single word is wrong.
-    #[error("bad chart {line} {word}")]
-    BadChart { line: usize, word: usize },
-    /// The roster's text isn't of a roster's shape.
-    #[error("bad roster")]
-    BadRoster,
-    /// The first of its rules that a roster breaks.
-    #[error("roster rule {0}")]
-    RosterRule(u8),
-    /// The manifest's text spells no manifest; its first wrong line, from 1, or 0 where the text is wrong as a whole.
-    #[error("bad manifest {0}")]
-    BadManifest(usize),
-    /// The board's text spells no board; its first wrong line, from 1, or 0 where the text is wrong as a whole.
-    #[error("bad board {0}")]
-    BadBoard(usize),
     /// Another seat is due.
     #[error("not your turn")]
     NotYourTurn,
@@ -83,11 +65,6 @@ impl Fault {
         match self {
             Fault::NoSuchName => 1,
             Fault::TooLittleCash => 2,
-            Fault::BadChart { .. } => 3,
-            Fault::BadRoster => 4,
-            Fault::RosterRule(_) => 5,
-            Fault::BadManifest(_) => 6,
-            Fault::BadBoard(_) => 7,
             Fault::NotYourTurn => 20,
             Fault::BidTooLow(_) => 21,
             Fault::NotForSale => 22,
@@ -106,57 +83,11 @@ impl Fault {
     }
 }
 
-impl From<rr_chart::Fault> for Fault {
-    ghost from_gives = { λ fault wrapped. wrapped ≡ of_chart fault };
-
-    fn from(fault: rr_chart::Fault) -> Fault {
-        match fault {
-            rr_chart::Fault::BadChart { line, word } => Fault::BadChart { line, word },
-            rr_chart::Fault::OutOfMemory => Fault::OutOfMemory,
-        }
-    }
-}
-
-impl From<rr_roster::Fault> for Fault {
-    ghost from_gives = { λ fault wrapped. wrapped ≡ of_roster fault };
-
-    fn from(fault: rr_roster::Fault) -> Fault {
-        match fault {
-            rr_roster::Fault::Shape => Fault::BadRoster,
-            rr_roster::Fault::Broken(rule) => Fault::RosterRule(rule.number()),
-            rr_roster::Fault::OutOfMemory => Fault::OutOfMemory,
-        }
-    }
-}
-
-impl From<rr_tiles::Fault> for Fault {
-    ghost from_gives = { λ fault wrapped. wrapped ≡ of_manifest fault };
-
-    fn from(fault: rr_tiles::Fault) -> Fault {
-        match fault {
-            rr_tiles::Fault::BadManifest { line } => Fault::BadManifest(line),
-            rr_tiles::Fault::OutOfMemory => Fault::OutOfMemory,
-        }
-    }
-}
-
-impl From<rr_board::Fault> for Fault {
-    ghost from_gives = { λ fault wrapped. wrapped ≡ of_board fault };
-
-    fn from(fault: rr_board::Fault) -> Fault {
-        match fault {
-            rr_board::Fault::BadBoard { line } => Fault::BadBoard(line),
-            rr_board::Fault::OutOfMemory => Fault::OutOfMemory,
-        }
-    }
-}
-
 impl From<rr_auction::Fault> for Fault {
     ghost from_gives = { λ fault wrapped. wrapped ≡ of_auction fault };
 
     fn from(fault: rr_auction::Fault) -> Fault {
         match fault {
-            rr_auction::Fault::NoSuchName => Fault::NoSuchName,
             rr_auction::Fault::TooLittleCash => Fault::TooLittleCash,
             rr_auction::Fault::NotYourTurn => Fault::NotYourTurn,
             rr_auction::Fault::BidTooLow(least) => Fault::BidTooLow(least),
@@ -164,7 +95,6 @@ impl From<rr_auction::Fault> for Fault {
             rr_auction::Fault::CashTiedUp => Fault::CashTiedUp,
             rr_auction::Fault::NotAPar => Fault::NotAPar,
             rr_auction::Fault::WrongStep => Fault::WrongStep,
-            rr_auction::Fault::OutOfMemory => Fault::OutOfMemory,
         }
     }
 }
@@ -174,7 +104,6 @@ impl From<rr_stock::Fault> for Fault {
 
     fn from(fault: rr_stock::Fault) -> Fault {
         match fault {
-            rr_stock::Fault::NoSuchName => Fault::NoSuchName,
             rr_stock::Fault::TooLittleCash => Fault::TooLittleCash,
             rr_stock::Fault::NotYourTurn => Fault::NotYourTurn,
             rr_stock::Fault::NotForSale => Fault::NotForSale,
@@ -187,23 +116,18 @@ impl From<rr_stock::Fault> for Fault {
             rr_stock::Fault::MustSellFirst => Fault::MustSellFirst,
             rr_stock::Fault::NotAPar => Fault::NotAPar,
             rr_stock::Fault::WrongStep => Fault::WrongStep,
-            rr_stock::Fault::OutOfMemory => Fault::OutOfMemory,
         }
     }
 }
 
-impl From<AllocError> for Fault {
-    ghost from_gives = { λ _ fault. fault ≡ OutOfMemory };
+impl From<rr_books::Fault> for Fault {
+    ghost from_gives = { λ fault wrapped. wrapped ≡ of_books fault };
 
-    fn from(_error: AllocError) -> Fault {
-        Fault::OutOfMemory
-    }
-}
-
-impl<T: Drop> From<AllocFailed<T>> for Fault {
-    ghost from_gives = { λ _ fault. fault ≡ OutOfMemory };
-
-    fn from(_error: AllocFailed<T>) -> Fault {
-        Fault::OutOfMemory
+    fn from(fault: rr_books::Fault) -> Fault {
+        match fault {
+            rr_books::Fault::NoSuchName => Fault::NoSuchName,
+            rr_books::Fault::TooLittleCash => Fault::TooLittleCash,
+            rr_books::Fault::OutOfMemory => Fault::OutOfMemory,
+        }
     }
 }

@@ -1,13 +1,12 @@
-//! The game of one table: the kit that its texts spell, and the rules joined.
+//! The game of one table: the rules joined.
 #![tactic(auto)]
 
 mod fault;
 mod game;
-mod kit;
-pub mod laws;
 mod names;
 mod queries;
+mod rules;
 
 pub use fault::Fault;
 pub use game::Game;
-pub use kit::Kit;
+pub use rr_kit::Kit;

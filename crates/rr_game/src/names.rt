@@ -1,6 +1,7 @@
-ghost use Rattle.std.specs.Prelude.{◌≡◌, ◌<◌, ◌≤◌, length, None, Some, position, bytes_eq, IfSome, MatchResult};
+ghost use Rattle.std.specs.Prelude.{◌≡◌, ◌<◌, ◌≤◌, length, None, Some, position, bytes_eq, IfOk, IfSome, MatchResult};
 ghost use Rattle.rr_books.specs.Book.{Book};
-ghost use Rattle.rr_auction.specs.Fit.{amount_of};
+ghost use Rattle.rr_auction.specs.Small.{IsSmall};
+ghost use Rattle.rr_stock.specs.Small.{HasSeat};
 ghost use Rattle.rr_game.specs.Names.{act_of, amount_in, owner_place, party_of, player_word, seat_of, source_of};
 
 use crate::fault::Fault;
@@ -10,13 +11,14 @@ use rr_code::{Account, Command, Owner, ShareSource};
 use rr_words::Name;
 
 impl Game {
-    ghost use Rattle.rr_game.specs.declared.kit.Kit.{Kit};
+    ghost use Rattle.rr_kit.specs.declared.kit.Kit.{Kit};
     ghost use Rattle.rr_game.specs.Verdict.{command_verdict};
 
     /// The command with seats in place of names.
     pub(crate) fn act(&self, command: &Command) -> Result<Act, Fault>
+        requires { amount_in command.now ≤ 10000000000 }
         ensures { MatchResult result
-            (λ act. (act_of self.now.players command.now ≡ Some act) × (amount_of act ≡ amount_in command.now))
+            (λ act. (act_of self.now.players command.now ≡ Some act) × HasSeat act × IsSmall act)
             (λ fault. (act_of self.now.players command.now ≡ None) × ((kit : Kit) (book : Book) → command_verdict kit self.now.players book command.now ≡ Some fault)) }
     {
         match command {
@@ -75,9 +77,10 @@ impl Game {
 
     /// The seat of a player.
     pub(crate) fn seat(&self, player: &Name) -> Result<Seat, Fault>
-        ensures { MatchResult result
+        ensures value { MatchResult result
             (λ seat. seat_of self.now.players player.now ≡ Some seat)
             (λ fault. (fault ≡ Fault.NoSuchName) × (seat_of self.now.players player.now ≡ None)) }
+        ensures bound { IfOk result (λ seat. seat.0 < 6) }
     {
         match place_among(player, self.players.as_slice()) {
             Some(seat) => Ok(Seat(seat as u8)),

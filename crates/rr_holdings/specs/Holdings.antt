@@ -7,9 +7,10 @@ use Rattle.rr_books.specs.declared.parties.Seat.{Seat}
 use Rattle.rr_books.specs.declared.parties.Place.TheVariants as L
 use Rattle.rr_books.specs.Book.{Book, players, holder}
 use Rattle.rr_books.specs.Shares.{Holders, share}
-use Rattle.rr_books.specs.State.{State as Tables, holder_in}
+use Rattle.rr_books.specs.State.{holder_in}
 use Rattle.rr_market.specs.Marks.{price_of, zone_of, price_at, zone_at}
-use Rattle.rr_market.specs.State.{State as Tokens, cell_in}
+use Rattle.rr_market.specs.State.{cell_in}
+use Rattle.rr_position.specs.Position.{OnTable}
 
 -- the number of players, the holder of each certificate, and the price and the zone of each corporation's shares,
 -- which have none before its token is on the chart
@@ -23,13 +24,13 @@ pub record Holdings : Type 0 where
 abbrev pub holdings_of : List Row → Book → Holdings
 holdings_of rows book = record { players = players book; holders = holder book; prices = price_of rows book; zones = zone_of rows book }
 
--- the holdings by the running tables of the books and the market
-abbrev pub holdings_in : List Row → Tables → Tokens → Holdings
-holdings_in rows tables tokens = record {
-  players = tables.players;
-  holders = holder_in tables;
-  prices = λ c. price_at rows (cell_in tokens c);
-  zones = λ c. zone_at rows (cell_in tokens c);
+-- the holdings by what runs along with the book
+abbrev pub holdings_in : List Row → OnTable → Holdings
+holdings_in rows p = record {
+  players = p.books.players;
+  holders = holder_in p.books;
+  prices = λ c. price_at rows (cell_in p.market c);
+  zones = λ c. zone_at rows (cell_in p.market c);
 }
 
 -- how much of a corporation a seat holds, in percent

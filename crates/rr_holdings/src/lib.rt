@@ -1,4 +1,4 @@
-//! What a seat may hold and what it may sell, by the books, the market and the chart of a table.
+//! What a seat may hold and what it may sell, by what runs along with the book of a table, and the chart.
 #![tactic(auto)]
 
 mod fault;
@@ -11,7 +11,7 @@ pub use limits::{
     certificates_counted, is_over_certificates, is_over_limit, is_over_sixty,
     would_be_over_certificates, would_be_over_sixty,
 };
-pub use rr_books::{Books, Corp, Seat, certificate_limit};
+pub use rr_books::{Corp, Seat, certificate_limit};
 pub use rr_chart::Chart;
-pub use rr_market::Market;
+pub use rr_position::Position;
 pub use sales::{has_lawful_sale, judge_sale, judge_sell, must_sell_first};

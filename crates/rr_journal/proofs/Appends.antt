@@ -2,9 +2,9 @@
 use Rattle.std.proofs.Common.{◌≡◌, inl, inr, ℕ, zero, suc, ◌+◌, ◌-◌, ◌<◌, ◌≤◌, max, List, [], ◌∷◌, length, slice_index, refl, sym, ap, ◌∙◌, subst, arith}
 use Rattle.std.proofs.lemmas.Bool.{cases_lt, cases_eq}
 use Rattle.std.proofs.lemmas.List.{ext_get_or}
-use Rattle.rr_disk.specs.Disk.{DiskState, IsImage, written, after_write, after_sync, Torn}
+use Rattle.rr_disk.specs.Disk.{DiskState, IsImage, written, after_write, after_failed_write, after_sync, Torn}
 use Rattle.rr_disk.specs.Moments.{EachImage}
-use Rattle.rr_disk.proofs.ImageLemmas.{length-written, written_before, written_inside, written_behind, written_outside, each_failed, each_synced}
+use Rattle.rr_disk.proofs.ImageLemmas.{length-written, written_before, written_inside, written_behind, torn_whole, torn_same, each_torn, each_failed, each_synced}
 use Rattle.rr_journal.specs.declared.part.Part.{Part}
 use Rattle.rr_journal.specs.Layout.{IsOpen, StandsAt, spelling_behind_gate, spelling}
 use Rattle.rr_journal.specs.Stops.{next_gate, IsReady, MayLeave}
@@ -42,15 +42,6 @@ pub content_written : (state : DiskState) (at : ℕ) (bytes : List ℕ) → 0 < 
 content_written state at [] some = absurd (omega arith)
 content_written state at (byte ∷ bytes) some = refl
 
--- a write is a tear that came out
-torn_written : (file : List ℕ) (at : ℕ) (bytes : List ℕ) → Torn at (length bytes) file (written file at bytes)
-torn_written file at bytes =
-    let len = length-written file at bytes in
-    record { no_shorter = omega (arith, len); no_longer = omega (arith, len); same = λ i h apart. written_outside file at bytes i apart }
-
-torn_nothing : (at n : ℕ) (file : List ℕ) → Torn at n file file
-torn_nothing at n file = record { no_shorter = omega arith; no_longer = omega arith; same = λ i h apart. refl }
-
 -- a tear within the range of an earlier one
 torn_again : (at n a m : ℕ) (old mid new : List ℕ) → at ≤ a → a + m ≤ at + n → Torn at n old mid → Torn a m mid new → Torn at n old new
 torn_again at n a m old mid new low high first then =
@@ -80,7 +71,7 @@ module _ (part : Part) (before : DiskState) (number : ℕ) (bytes : List ℕ) (r
     pub shut : IsOpen image part.index part.next_slot → ⊥
 
   pub at_first : EachImage before Shut
-  at_first image is = record { earlier = image; was = is; elsewhere = torn_nothing gate (suc (length body)) image; shut = ready.shut image is }
+  at_first image is = record { earlier = image; was = is; elsewhere = torn_same gate (suc (length body)) image; shut = ready.shut image is }
 
   shut_torn : (old new : List ℕ) → Shut old → Torn (gate + 1) (length body) old new → Shut new
   shut_torn old new had torn =
@@ -129,9 +120,12 @@ module _ (part : Part) (before : DiskState) (number : ℕ) (bytes : List ℕ) (r
         ];
       }
 
-  -- after the first write, whatever of it went out
-  pub first : (other : List ℕ) → length other ≤ length body → EachImage (after_write before (gate + 1) other) (MayLeave part before number bytes)
-  first other no_more image is = shut_may image (each_failed before (gate + 1) (length body) Shut at_first shut_torn other no_more image is)
+  -- after the first write, and where it failed
+  pub first : EachImage (after_write before (gate + 1) body) (MayLeave part before number bytes)
+  first image is = shut_may image (each_torn before (gate + 1) body Shut at_first shut_torn image is)
+
+  pub first_failed : (upto : ℕ) (front : List ℕ) → upto ≤ length body → EachImage (after_failed_write before (gate + 1) upto front) (MayLeave part before number bytes)
+  first_failed upto front no_more image is = shut_may image (each_failed before (gate + 1) (length body) Shut at_first shut_torn upto front no_more image is)
 
   module _ (stays : IsImage before before.content) where
     abbrev pub middle : DiskState
@@ -140,7 +134,7 @@ module _ (part : Part) (before : DiskState) (number : ℕ) (bytes : List ℕ) (r
     staged : Staged middle.content
     staged =
         let is = content_written before (gate + 1) body some_body in
-        let had = shut_torn before.content (written before.content (gate + 1) body) (at_first before.content stays) (torn_written before.content (gate + 1) body) in
+        let had = shut_torn before.content (written before.content (gate + 1) body) (at_first before.content stays) (torn_whole before.content (gate + 1) body) in
         let here : Staged (written before.content (gate + 1) body) = record {
           earlier = had.earlier;
           was = had.was;
@@ -156,14 +150,17 @@ module _ (part : Part) (before : DiskState) (number : ℕ) (bytes : List ℕ) (r
     pub middle_may : EachImage middle (MayLeave part before number bytes)
     middle_may image is = staged_may image (each_staged image is)
 
-    -- after the second, whatever of it went out
-    pub second : (other : List ℕ) → length other ≤ 1 → EachImage (after_write middle gate other) (MayLeave part before number bytes)
-    second other no_more image is = staged_may image (each_failed middle gate 1 Staged each_staged staged_torn other no_more image is)
+    -- after the second, and where it failed
+    pub second : EachImage (after_write middle gate (165 ∷ [])) (MayLeave part before number bytes)
+    second image is = staged_may image (each_torn middle gate (165 ∷ []) Staged each_staged staged_torn image is)
+
+    pub second_failed : (upto : ℕ) (front : List ℕ) → upto ≤ 1 → EachImage (after_failed_write middle gate upto front) (MayLeave part before number bytes)
+    second_failed upto front no_more image is = staged_may image (each_failed middle gate 1 Staged each_staged staged_torn upto front no_more image is)
 
     pub last : EachImage (after_sync (after_write middle gate (165 ∷ []))) (MayLeave part before number bytes)
     last =
         each_synced (after_write middle gate (165 ∷ [])) (MayLeave part before number bytes)
-        (staged_may (written middle.content gate (165 ∷ [])) (staged_torn middle.content (written middle.content gate (165 ∷ [])) staged (torn_written middle.content gate (165 ∷ []))))
+        (staged_may (written middle.content gate (165 ∷ [])) (staged_torn middle.content (written middle.content gate (165 ∷ [])) staged (torn_whole middle.content gate (165 ∷ []))))
 
 -- the state in the end is that after one write of the whole record, and a sync
 pub whole_written : (before : DiskState) (part : Part) (number : ℕ) (bytes : List ℕ)

@@ -1,5 +1,6 @@
 pub mod Appends
 pub mod Bytes
+pub mod DeviceLemmas
 pub mod OneRun
 pub mod Lists
 pub mod Moments

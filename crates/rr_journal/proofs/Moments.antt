@@ -1,7 +1,7 @@
 -- The moments of an append, from call to call, and the runs of records that a stop within it leaves.
 use Rattle.std.proofs.Common.{◌≡◌, ◌⊎◌, inl, inr, ℕ, max, ◌+◌, ◌-◌, ◌^◌, ◌<◌, List, [], ◌∷◌, ◌++◌, length, slice_index, refl, sym, ap, ◌∙◌, subst, arith}
 use Rattle.std.proofs.lemmas.List.{append-nil}
-use Rattle.rr_disk.specs.Disk.{DiskState, IsImage, written, after_write, after_sync, FailedWrite}
+use Rattle.rr_disk.specs.Disk.{DiskState, IsImage, written, after_write, after_failed_write, after_sync, FailedWrite}
 use Rattle.rr_disk.specs.Moments.{EachImage, LeavesOnly}
 use Rattle.rr_disk.proofs.ImageLemmas.{length-written, written_before, written_inside, each_synced, each_at_rest}
 use Rattle.rr_disk.proofs.MomentLemmas.{started, becomes, fails}
@@ -15,7 +15,7 @@ use Rattle.rr_journal.specs.Stops.{next_gate, IsReady, Keeps, IsAtRest, MayLeave
 use Rattle.rr_journal.proofs.Bytes.{at_same}
 use Rattle.rr_journal.proofs.Runs.{run_on, run_ends, some_slot, slots_of-append}
 use Rattle.rr_journal.proofs.Spelling.{is_record, shut_behind, length_behind}
-use Rattle.rr_journal.proofs.Appends.{at_first, shut_may, first, middle_may, second, last}
+use Rattle.rr_journal.proofs.Appends.{at_first, shut_may, first, first_failed, middle_may, second, second_failed, last}
 
 module _ (part : Part) (before : DiskState) (past : List DiskState) (number : ℕ) (bytes : List ℕ) (ready : IsReady part before) where
   abbrev P : List ℕ → Type 0
@@ -25,7 +25,7 @@ module _ (part : Part) (before : DiskState) (past : List DiskState) (number : �
   begun = started past before P (λ image is. shut_may part before number bytes ready image (at_first part before number bytes ready image is))
 
   pub first_fails : {past_new : List DiskState} {new : DiskState} → FailedWrite (next_gate part + 1) (length (spelling_behind_gate number bytes)) past before past_new new → LeavesOnly past before past_new new P
-  first_fails failed = fails begun failed (first part before number bytes ready)
+  first_fails failed = fails begun failed (first_failed part before number bytes ready)
 
   module _ (stays : IsImage before before.content) where
     abbrev pub staged : DiskState
@@ -33,19 +33,19 @@ module _ (part : Part) (before : DiskState) (past : List DiskState) (number : �
 
     pub first_done : {past_mid : List DiskState} {mid : DiskState} → past_mid ≡ staged ∷ before ∷ past → mid ≡ after_sync staged → LeavesOnly past before past_mid mid P
     first_done {past_mid} {mid} passed is =
-        let written = becomes begun {past_new = before ∷ past} {new = staged} staged refl refl (first part before number bytes ready (spelling_behind_gate number bytes) (omega arith)) in
+        let written = becomes begun {past_new = before ∷ past} {new = staged} staged refl refl (first part before number bytes ready) in
         becomes written {past_new = past_mid} {new = mid} (after_sync staged) passed is (middle_may part before number bytes ready stays)
 
     pub second_fails : {past_mid past_new : List DiskState} {mid new : DiskState} → past_mid ≡ staged ∷ before ∷ past → mid ≡ after_sync staged → FailedWrite (next_gate part) 1 past_mid mid past_new new → LeavesOnly past before past_new new P
     second_fails passed is failed =
-        fails (first_done passed is) failed (λ other no_more. subst (λ (state : DiskState). EachImage (after_write state (next_gate part) other) P) (sym is) (second part before number bytes ready stays other no_more))
+        fails (first_done passed is) failed (λ upto front no_more. subst (λ (state : DiskState). EachImage (after_failed_write state (next_gate part) upto front) P) (sym is) (second_failed part before number bytes ready stays upto front no_more))
 
     pub second_done : {past_mid past_new : List DiskState} {mid new : DiskState} → past_mid ≡ staged ∷ before ∷ past → mid ≡ after_sync staged
         → past_new ≡ after_write mid (next_gate part) (165 ∷ []) ∷ mid ∷ past_mid → new ≡ after_sync (after_write mid (next_gate part) (165 ∷ [])) → LeavesOnly past before past_new new P
     second_done {past_mid} {past_new} {mid} {new} passed is passed_then is_then =
         let opened = after_write mid (next_gate part) (165 ∷ []) in
         let written = becomes (first_done passed is) {past_new = mid ∷ past_mid} {new = opened} opened refl refl
-        (subst (λ (state : DiskState). EachImage (after_write state (next_gate part) (165 ∷ [])) P) (sym is) (second part before number bytes ready stays (165 ∷ []) (omega arith))) in
+        (subst (λ (state : DiskState). EachImage (after_write state (next_gate part) (165 ∷ [])) P) (sym is) (second part before number bytes ready stays)) in
         becomes written {past_new = past_new} {new = new} (after_sync opened) passed_then is_then
         (subst (λ (state : DiskState). EachImage (after_sync (after_write state (next_gate part) (165 ∷ []))) P) (sym is) (last part before number bytes ready stays))
 

@@ -1,7 +1,7 @@
-ghost use Rattle.std.specs.Prelude.{◌≡◌, ◌⊎◌, ◌↔◌, ◌+◌, ◌*◌, ◌<◌, ◌≤◌, [], ◌∷◌, ◌++◌, List, ℕ, length, OnOk, OnErr, IsErrOf, IsTrue};
+ghost use Rattle.std.specs.Prelude.{◌≡◌, ◌⊎◌, ◌↔◌, ◌+◌, ◌*◌, ◌^◌, ◌<◌, ◌≤◌, [], ◌∷◌, ◌++◌, List, ℕ, length, OnOk, OnErr, IsErrOf, IsTrue};
 ghost use Rattle.rr_disk.specs.Disk.{FailedWrite, after_write, after_sync, counted};
 ghost use Rattle.rr_disk.specs.Moments.{LeavesOnly};
-ghost use Rattle.rr_journal.specs.Faults.{CountsFault};
+ghost use Rattle.rr_journal.specs.Faults.{CountsFault, OnDeviceFault};
 ghost use Rattle.rr_journal.specs.Layout.{HasRoom, slots_for, spelling};
 
 use crate::layout::{PartIndex, fits_slots, gate_place, slots_for};
@@ -46,6 +46,10 @@ impl Part {
         ensures no_call { IsErrOf result Fault.HalfFull → disk.new ≡ disk.old }
         ensures fault { CountsFault (D.fault_count disk.old) (D.fault_count disk.new) result }
         ensures no_memory { IsErrOf result Fault.OutOfMemory → ⊥ }
+
+        // A disk that works doesn't fail here.
+        ensures device { OnDeviceFault result (D.Works disk.new → ⊥) }
+        ensures works { D.Works disk.new → D.Works disk.old }
 
         // Two writes and two syncs, and fewer only where one fails.
         ensures writes { D.write_count disk.new ≤ D.write_count disk.old + 2 }
@@ -118,6 +122,8 @@ fn put<D: Disk>(disk: &mut D, at: u64, bytes: &[u8]) -> Result<(), Fault>
     ensures syncs { D.sync_count disk.new ≤ D.sync_count disk.old + 1 }
     ensures synced { OnOk result (D.sync_count disk.new ≡ counted (D.sync_count disk.old)) }
     ensures honest { D.Honest disk.new → D.Honest disk.old }
+    ensures works { D.Works disk.new → D.Works disk.old }
+    ensures refused { OnErr result (D.Works disk.new → 2 ^ 63 < at + length bytes.now) }
 {
     disk.write_at(at, bytes)?;
     disk.sync()?;

@@ -1,6 +1,7 @@
-ghost use Rattle.std.specs.Prelude.{◌≡◌, ◌^◌, ◌<◌, ◌≤◌, List, ℕ, length, IsErrOf, IfOk, OnOk};
+ghost use Rattle.std.specs.Prelude.{◌≡◌, ◌+◌, ◌^◌, ◌<◌, ◌≤◌, List, ℕ, length, IsErrOf, IfOk, OnOk};
 ghost use Rattle.rr_disk.specs.Disk.{IsAt};
-ghost use Rattle.rr_journal.specs.Faults.{CountsFault};
+ghost use Rattle.rr_journal.specs.Faults.{CountsFault, OnDeviceFault};
+ghost use Rattle.rr_journal.specs.Layout.{gate_place};
 ghost use Rattle.rr_journal.specs.Reading.{lines, Tells, Begins, FitsThere};
 ghost use Rattle.rr_journal.specs.Run.{Run, slots_of};
 ghost use Rattle.rr_journal.specs.Stops.{next_gate, IsAtRest, Keeps};
@@ -73,6 +74,11 @@ pub fn scan<D: Disk>(
     ensures same_past { D.Honest disk.new → D.past disk.new ≡ D.past disk.old }
     ensures writes { D.write_count disk.new ≡ D.write_count disk.old }
     ensures syncs { D.sync_count disk.new ≡ D.sync_count disk.old }
+
+    // A disk that works fails only where the file ends before slot 255.
+    ensures device { OnDeviceFault result (D.Works disk.new → D.file_len disk.old < gate_place index 255) }
+    ensures works { D.Works disk.new → D.Works disk.old }
+    ensures same_len { D.file_len disk.new ≡ D.file_len disk.old }
 {
     let mut part = Part {
         index,
@@ -118,6 +124,9 @@ fn read_record<D: Disk>(
     ensures same_past { D.Honest disk.new → D.past disk.new ≡ D.past disk.old }
     ensures writes { D.write_count disk.new ≡ D.write_count disk.old }
     ensures syncs { D.sync_count disk.new ≡ D.sync_count disk.old }
+    ensures device { OnDeviceFault result (D.Works disk.new → D.file_len disk.old < gate_place part.index 255) }
+    ensures works { D.Works disk.new → D.Works disk.old }
+    ensures same_len { D.file_len disk.new ≡ D.file_len disk.old }
 {
     let gate = gate_place(part.index, part.next_slot);
     let mut header = [0u8; HEADER_BYTES];
@@ -144,6 +153,9 @@ fn read_bytes<D: Disk>(alloc: Global, disk: &mut D, at: u64, count: usize) -> Re
     ensures same_past { D.Honest disk.new → D.past disk.new ≡ D.past disk.old }
     ensures writes { D.write_count disk.new ≡ D.write_count disk.old }
     ensures syncs { D.sync_count disk.new ≡ D.sync_count disk.old }
+    ensures device { OnDeviceFault result (D.Works disk.new → D.file_len disk.old < at + count) }
+    ensures works { D.Works disk.new → D.Works disk.old }
+    ensures same_len { D.file_len disk.new ≡ D.file_len disk.old }
 {
     let mut bytes = vec![in alloc; 0; count]?;
     disk.read_at(at, &mut bytes)?;

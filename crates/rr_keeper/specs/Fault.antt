@@ -41,3 +41,17 @@ Counts old new F.OutOfMemory = new ≡ old
 abbrev pub CountsFault : {T : Type 0} → ℕ → ℕ → Result T Fault → Type 0
 CountsFault old new (Ok value) = new ≡ old
 CountsFault old new (Err fault) = Counts old new fault
+
+-- where the device failed, so
+abbrev pub OnDevice : Fault → Type 0 → Type 0
+OnDevice F.DeviceFailed P = P
+OnDevice F.HalfFull P = Unit {0}
+OnDevice (F.Damaged clause) P = Unit {0}
+OnDevice F.NotAStore P = Unit {0}
+OnDevice F.NotEmpty P = Unit {0}
+OnDevice F.OpenAgain P = Unit {0}
+OnDevice F.OutOfMemory P = Unit {0}
+
+abbrev pub OnDeviceFault : {T : Type 0} → Result T Fault → Type 0 → Type 0
+OnDeviceFault (Ok value) P = Unit {0}
+OnDeviceFault (Err fault) P = OnDevice fault P

@@ -1,6 +1,6 @@
 -- What an opening tells of a file.
-use Rattle.std.specs.Prelude.{◌≡◌, ℕ, List, ◌∷◌}
-use Rattle.rr_disk.specs.Disk.{DiskState, after_sync}
+use Rattle.std.specs.Prelude.{◌≡◌, ℕ, List}
+pub use Rattle.rr_disk.specs.Moments.{SyncsOnce, Not_synced, Synced}
 use Rattle.rr_journal.specs.declared.reading.RunEnd.{RunEnd}
 use Rattle.rr_journal.specs.declared.reading.RunEnd.TheVariants.{OtherNumber, Damaged}
 use Rattle.rr_keeper.specs.declared.fault.Fault.{Fault}
@@ -44,8 +44,3 @@ IsOfReading F.NotAStore = Unit {0}
 IsOfReading F.NotEmpty = ⊥
 IsOfReading F.OpenAgain = ⊥
 IsOfReading F.OutOfMemory = Unit {0}
-
--- what an opening does to a disk: one sync at most, and no write
-pub data SyncsOnce (past_old : List DiskState) (old : DiskState) (past_new : List DiskState) (new : DiskState) : Type 0 where
-  Not_synced : past_new ≡ past_old → new ≡ old → SyncsOnce past_old old past_new new
-  Synced : past_new ≡ old ∷ past_old → new ≡ after_sync old → SyncsOnce past_old old past_new new

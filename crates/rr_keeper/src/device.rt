@@ -1,5 +1,5 @@
 // The calls on a disk, with the refusals of this crate.
-ghost use Rattle.std.specs.Prelude.{◌≡◌, ◌∷◌, ◌≤◌, length, OnOk, OnErr, IsOkUnless};
+ghost use Rattle.std.specs.Prelude.{◌≡◌, ◌+◌, ◌^◌, ◌∷◌, ◌<◌, ◌≤◌, length, OnOk, OnErr, IsOkUnless};
 ghost use Rattle.rr_disk.specs.Disk.{IsAt, after_write, after_sync, counted};
 ghost use Rattle.rr_keeper.specs.Fault.{CountsFault};
 
@@ -18,6 +18,10 @@ pub(crate) fn read<D: Disk>(disk: &mut D, at: u64, into: &mut [u8]) -> Result<()
     ensures same_past { D.Honest disk.new → D.past disk.new ≡ D.past disk.old }
     ensures writes { D.write_count disk.new ≡ D.write_count disk.old }
     ensures syncs { D.sync_count disk.new ≡ D.sync_count disk.old }
+
+    ensures works { D.Works disk.new → D.Works disk.old }
+    ensures refused { OnErr result (D.Works disk.new → D.file_len disk.old < at + length into.old) }
+    ensures same_len { D.file_len disk.new ≡ D.file_len disk.old }
 {
     disk.read_at(at, into)?;
     Ok(())
@@ -38,6 +42,10 @@ pub(crate) fn sync<D: Disk>(disk: &mut D) -> Result<(), Fault>
     ensures honest { D.Honest disk.new → D.Honest disk.old }
     ensures writes { D.write_count disk.new ≡ D.write_count disk.old }
     ensures syncs { D.sync_count disk.new ≡ counted (D.sync_count disk.old) }
+
+    ensures works { D.Works disk.new → D.Works disk.old }
+    ensures refused { OnErr result (D.Works disk.new → ⊥) }
+    ensures same_len { D.file_len disk.new ≡ D.file_len disk.old }
 {
     disk.sync()?;
     Ok(())
@@ -56,6 +64,10 @@ pub(crate) fn put<D: Disk>(disk: &mut D, at: u64, bytes: &[u8]) -> Result<(), Fa
     ensures honest { D.Honest disk.new → D.Honest disk.old }
     ensures writes { D.write_count disk.new ≡ counted (D.write_count disk.old) }
     ensures synced { OnOk result (D.sync_count disk.new ≡ counted (D.sync_count disk.old)) }
+    ensures syncs { D.sync_count disk.new ≤ D.sync_count disk.old + 1 }
+
+    ensures works { D.Works disk.new → D.Works disk.old }
+    ensures refused { OnErr result (D.Works disk.new → 2 ^ 63 < at + length bytes.now) }
 {
     disk.write_at(at, bytes)?;
     sync(disk)?;

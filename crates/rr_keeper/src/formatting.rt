@@ -1,7 +1,7 @@
 ghost use Rattle.std.specs.Prelude.{◌≡◌, ◌⊎◌, ◌+◌, ◌<◌, ◌≤◌, length, OnOk, IfErr, IsErrOf};
 ghost use Rattle.rr_disk.specs.Disk.{counted};
 ghost use Rattle.rr_disk.specs.Moments.{EachImage};
-ghost use Rattle.rr_keeper.specs.Fault.{CountsFault};
+ghost use Rattle.rr_keeper.specs.Fault.{CountsFault, OnDeviceFault};
 ghost use Rattle.rr_keeper.specs.File.{IsNewStore};
 ghost use Rattle.rr_keeper.specs.Lent.{lent_kit};
 
@@ -40,6 +40,12 @@ pub fn format<D: Disk>(alloc: Global, disk: &mut D, texts: Texts<'_>) -> Result<
     ensures honest { D.Honest disk.new → D.Honest disk.old }
     ensures writes { OnOk result (D.write_count disk.new ≡ counted (counted (D.write_count disk.old))) }
     ensures syncs { OnOk result (D.sync_count disk.new ≡ counted (counted (D.sync_count disk.old))) }
+    ensures few_writes { D.write_count disk.new ≤ D.write_count disk.old + 2 }
+    ensures few_syncs { D.sync_count disk.new ≤ D.sync_count disk.old + 2 }
+
+    // A disk that works doesn't fail here.
+    ensures device { OnDeviceFault result (D.Works disk.new → ⊥) }
+    ensures works { D.Works disk.new → D.Works disk.old }
 {
     if disk.len() != 0 {
         return Err(Fault::NotEmpty);

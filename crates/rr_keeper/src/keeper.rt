@@ -3,7 +3,7 @@ ghost use Rattle.rr_disk.specs.Disk.{DiskState, after_sync, after_write};
 ghost use Rattle.rr_disk.specs.Moments.{LeavesOnly};
 ghost use Rattle.rr_journal.specs.Layout.{HasRoom, start_page, slots_for, spelling};
 ghost use Rattle.rr_journal.specs.Stops.{next_gate};
-ghost use Rattle.rr_keeper.specs.Fault.{CountsFault};
+ghost use Rattle.rr_keeper.specs.Fault.{CountsFault, OnDeviceFault};
 ghost use Rattle.rr_keeper.specs.File.{Kit, IsStore};
 ghost use Rattle.rr_keeper.specs.Parts.{gone_on, place_for, HasPlace};
 
@@ -94,6 +94,11 @@ impl<D: Disk + Drop> Keeper<D> {
 
         ensures fault { CountsFault (D.fault_count (disk_of self.old)) (D.fault_count (disk_of self.new)) result }
         ensures honest { D.Honest (disk_of self.new) → D.Honest (disk_of self.old) }
+
+        // A disk that works doesn't fail here.
+        ensures device { OnDeviceFault result (D.Works (disk_of self.new) → ⊥) }
+        ensures works { D.Works (disk_of self.new) → D.Works (disk_of self.old) }
+
         ensures writes { D.write_count (disk_of self.new) ≤ D.write_count (disk_of self.old) + 2 }
         ensures syncs { D.sync_count (disk_of self.new) ≤ D.sync_count (disk_of self.old) + 2 }
     {

@@ -1,9 +1,9 @@
-ghost use Rattle.std.specs.Prelude.{◌≡◌, ◌+◌, ◌^◌, ◌<◌, ◌≤◌, ◌∷◌, ◌++◌, List, false, ℕ, length, vec_len, OnOk, OnErr, IfOk, IfErr, IsErrOf, IsOkUnless};
+ghost use Rattle.std.specs.Prelude.{◌≡◌, ◌+◌, ◌*◌, ◌^◌, ◌<◌, ◌≤◌, ◌∷◌, ◌++◌, List, false, ℕ, length, vec_len, OnOk, OnErr, IfOk, IfErr, IsErrOf, IsOkUnless};
 ghost use Rattle.rr_disk.specs.Disk.{IsAt, after_sync, counted};
 ghost use Rattle.rr_journal.specs.Layout.{start_page, all_parts, parts_before, parts_behind};
 ghost use Rattle.rr_journal.specs.Reading.{lines};
 ghost use Rattle.rr_journal.specs.Run.{Run, slots_of};
-ghost use Rattle.rr_keeper.specs.Fault.{Counts, CountsFault};
+ghost use Rattle.rr_keeper.specs.Fault.{Counts, CountsFault, OnDevice, OnDeviceFault};
 ghost use Rattle.rr_keeper.specs.File.{Kit, IsRoot, IsTextAt, IsKitAt, HasRecords, IsStore, number_from, file_length, kit_place};
 ghost use Rattle.rr_keeper.specs.Parts.{Continues, ContinuesFrom};
 ghost use Rattle.rr_keeper.specs.Keeper.{disk_of, is_broken, Keeps};
@@ -78,6 +78,14 @@ pub fn open<D: Disk + Drop>(alloc: Global, mut disk: D) -> Result<Opened<D>, Ref
     ensures writes { IfOk result (λ opened.
         D.write_count (disk_of opened.keeper) ≡ D.write_count disk) }
     ensures writes_left { IfErr result (λ refused. D.write_count refused.disk ≡ D.write_count disk) }
+    ensures syncs { IfOk result (λ opened.
+        D.sync_count (disk_of opened.keeper) ≡ counted (D.sync_count disk)) }
+    ensures syncs_left { IfErr result (λ refused. D.sync_count refused.disk ≤ D.sync_count disk + 1) }
+
+    // Whatever the file holds, a disk that works doesn't fail here.
+    ensures device { IfErr result (λ refused. OnDevice refused.fault (D.Works refused.disk → ⊥)) }
+    ensures works { IfOk result (λ opened. D.Works (disk_of opened.keeper) → D.Works disk) }
+    ensures works_left { IfErr result (λ refused. D.Works refused.disk → D.Works disk) }
 {
     match read_store(alloc, &mut disk) {
         Ok(found) => {
@@ -115,6 +123,10 @@ fn read_store<D: Disk>(alloc: Global, disk: &mut D) -> Result<Found, Fault>
     ensures fault { CountsFault (D.fault_count disk.old) (D.fault_count disk.new) result }
     ensures honest { D.Honest disk.new → D.Honest disk.old }
     ensures writes { D.write_count disk.new ≡ D.write_count disk.old }
+    ensures one_sync { OnOk result (D.sync_count disk.new ≡ counted (D.sync_count disk.old)) }
+    ensures few_syncs { D.sync_count disk.new ≤ D.sync_count disk.old + 1 }
+    ensures device { OnDeviceFault result (D.Works disk.new → ⊥) }
+    ensures works { D.Works disk.new → D.Works disk.old }
 {
     let buffer = RecordBuffer::new(alloc)?;
     sync(disk)?;
@@ -136,6 +148,7 @@ fn read_store<D: Disk>(alloc: Global, disk: &mut D) -> Result<Found, Fault>
 fn read_root<D: Disk>(disk: &mut D) -> Result<(), Fault>
     ensures found { OnOk result (D.Honest disk.new → IsRoot (D.state disk.old).content) }
     ensures long { OnOk result (D.Honest disk.new → file_length ≤ length (D.state disk.old).content) }
+    ensures told { OnOk result (file_length ≤ D.file_len disk.old) }
     ensures none { IsErrOf result Fault.NotAStore → D.Honest disk.new
         → IsRoot (D.state disk.old).content → length (D.state disk.old).content < file_length }
     ensures only { IfErr result IsOfReading }
@@ -145,6 +158,10 @@ fn read_root<D: Disk>(disk: &mut D) -> Result<(), Fault>
     ensures same_state { D.Honest disk.new → D.state disk.new ≡ D.state disk.old }
     ensures same_past { D.Honest disk.new → D.past disk.new ≡ D.past disk.old }
     ensures writes { D.write_count disk.new ≡ D.write_count disk.old }
+    ensures syncs { D.sync_count disk.new ≡ D.sync_count disk.old }
+    ensures device { OnDeviceFault result (D.Works disk.new → ⊥) }
+    ensures works { D.Works disk.new → D.Works disk.old }
+    ensures same_len { D.file_len disk.new ≡ D.file_len disk.old }
 {
     if disk.len() < FILE_BYTES {
         return Err(Fault::NotAStore);
@@ -170,6 +187,10 @@ fn read_texts<D: Disk>(alloc: Global, disk: &mut D) -> Result<KitTexts, Fault>
     ensures same_state { D.Honest disk.new → D.state disk.new ≡ D.state disk.old }
     ensures same_past { D.Honest disk.new → D.past disk.new ≡ D.past disk.old }
     ensures writes { D.write_count disk.new ≡ D.write_count disk.old }
+    ensures syncs { D.sync_count disk.new ≡ D.sync_count disk.old }
+    ensures device { OnDeviceFault result (D.Works disk.new → ⊥) }
+    ensures works { D.Works disk.new → D.Works disk.old }
+    ensures same_len { D.file_len disk.new ≡ D.file_len disk.old }
 {
     let chart = read_text(alloc, disk, KIT_PLACE)?;
     let place = behind(KIT_PLACE, &chart);
@@ -199,6 +220,10 @@ fn read_text<D: Disk>(alloc: Global, disk: &mut D, place: u64) -> Result<Vec<u8>
     ensures same_state { D.Honest disk.new → D.state disk.new ≡ D.state disk.old }
     ensures same_past { D.Honest disk.new → D.past disk.new ≡ D.past disk.old }
     ensures writes { D.write_count disk.new ≡ D.write_count disk.old }
+    ensures syncs { D.sync_count disk.new ≡ D.sync_count disk.old }
+    ensures device { OnDeviceFault result (D.Works disk.new → ⊥) }
+    ensures works { D.Works disk.new → D.Works disk.old }
+    ensures same_len { D.file_len disk.new ≡ D.file_len disk.old }
 {
     let len = disk.len();
     if len < 4 {
@@ -229,6 +254,10 @@ fn read_count<D: Disk>(disk: &mut D, place: u64) -> Result<usize, Fault>
     ensures same_state { D.Honest disk.new → D.state disk.new ≡ D.state disk.old }
     ensures same_past { D.Honest disk.new → D.past disk.new ≡ D.past disk.old }
     ensures writes { D.write_count disk.new ≡ D.write_count disk.old }
+    ensures syncs { D.sync_count disk.new ≡ D.sync_count disk.old }
+    ensures device { OnDeviceFault result (D.Works disk.new → D.file_len disk.old < place + 4) }
+    ensures works { D.Works disk.new → D.Works disk.old }
+    ensures same_len { D.file_len disk.new ≡ D.file_len disk.old }
 {
     let mut count = [0u8; 4];
     read(disk, place, &mut count)?;
@@ -252,6 +281,10 @@ fn read_bytes<D: Disk>(
     ensures same_state { D.Honest disk.new → D.state disk.new ≡ D.state disk.old }
     ensures same_past { D.Honest disk.new → D.past disk.new ≡ D.past disk.old }
     ensures writes { D.write_count disk.new ≡ D.write_count disk.old }
+    ensures syncs { D.sync_count disk.new ≡ D.sync_count disk.old }
+    ensures device { OnDeviceFault result (D.Works disk.new → D.file_len disk.old < place + count) }
+    ensures works { D.Works disk.new → D.Works disk.old }
+    ensures same_len { D.file_len disk.new ≡ D.file_len disk.old }
 {
     let mut bytes = vec![in alloc; 0u8; count]?;
     read(disk, place, &mut bytes)?;
@@ -282,6 +315,10 @@ fn read_records<D: Disk>(alloc: Global, disk: &mut D) -> Result<Scanned, Fault>
     ensures same_state { D.Honest disk.new → D.state disk.new ≡ D.state disk.old }
     ensures same_past { D.Honest disk.new → D.past disk.new ≡ D.past disk.old }
     ensures writes { D.write_count disk.new ≡ D.write_count disk.old }
+    ensures syncs { D.sync_count disk.new ≡ D.sync_count disk.old }
+    ensures device { OnDeviceFault result (D.Works disk.new → D.file_len disk.old < 4096 * 1091) }
+    ensures works { D.Works disk.new → D.Works disk.old }
+    ensures same_len { D.file_len disk.new ≡ D.file_len disk.old }
 {
     let scanned = read_from(alloc, disk, PartIndex::First, 1)?;
     Ok(scanned)
@@ -311,6 +348,10 @@ fn read_from<D: Disk>(
     ensures same_state { D.Honest disk.new → D.state disk.new ≡ D.state disk.old }
     ensures same_past { D.Honest disk.new → D.past disk.new ≡ D.past disk.old }
     ensures writes { D.write_count disk.new ≡ D.write_count disk.old }
+    ensures syncs { D.sync_count disk.new ≡ D.sync_count disk.old }
+    ensures device { OnDeviceFault result (D.Works disk.new → D.file_len disk.old < 4096 * 1091) }
+    ensures works { D.Works disk.new → D.Works disk.old }
+    ensures same_len { D.file_len disk.new ≡ D.file_len disk.old }
 {
     let near = read_part(alloc, disk, index, first_number)?;
     match near.end {
@@ -348,6 +389,10 @@ fn read_part<D: Disk>(
     ensures same_state { D.Honest disk.new → D.state disk.new ≡ D.state disk.old }
     ensures same_past { D.Honest disk.new → D.past disk.new ≡ D.past disk.old }
     ensures writes { D.write_count disk.new ≡ D.write_count disk.old }
+    ensures syncs { D.sync_count disk.new ≡ D.sync_count disk.old }
+    ensures device { OnDeviceFault result (D.Works disk.new → D.file_len disk.old < 4096 * 1091) }
+    ensures works { D.Works disk.new → D.Works disk.old }
+    ensures same_len { D.file_len disk.new ≡ D.file_len disk.old }
 {
     let scanned = scan(alloc, disk, index, first_number)?;
     Ok(scanned)

@@ -6,6 +6,8 @@ mod board;
 #[cfg(test)]
 mod chart;
 #[cfg(test)]
+mod kit;
+#[cfg(test)]
 mod roster;
 #[cfg(test)]
 mod tiles;

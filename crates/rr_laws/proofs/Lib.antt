@@ -1,1 +1,4 @@
+pub mod LeavesAuction
+pub mod Leaving
+pub mod StockLeaves
 mod Soundness

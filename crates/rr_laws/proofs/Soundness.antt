@@ -1,7 +1,7 @@
 -- What stays true of a table's book, whatever commands the table accepts.
 use Rattle.std.specs.Prelude.{◌≡◌, ℕ, ◌≤◌, ◌<◌, Bool, true, false, List, [], ◌∷◌, ◌++◌, Option, None, Some, fold, length, option_map, refl}
 use Rattle.std.specs.List.{list_all}
-use Rattle.std.proofs.Common.{sym, ◌∙◌, ap, arith, append_assoc}
+use Rattle.std.proofs.Common.{sym, ◌∙◌, ap, subst, arith, append_assoc}
 use Rattle.std.proofs.lemmas.Bool.{false≢true}
 use Rattle.std.proofs.lemmas.List.Folds.{list_all-append}
 use Rattle.rr_roster.specs.Terms.{Terms}
@@ -18,10 +18,12 @@ use Rattle.rr_auction.proofs.Covers.{IsCoveredBook}
 use Rattle.rr_auction.proofs.Dealing.{dealt_after, dealt_by, dealt_opened}
 use Rattle.rr_auction.proofs.LawfulActs as bids
 use Rattle.rr_auction.proofs.OpenedTable.{covered_opened}
-use Rattle.rr_stock.specs.Effects as stock
-use Rattle.rr_stock.specs.PoolLimits.{HasHalfAtMost, PoolStaysWithinHalf}
+use Rattle.rr_sequence.specs.Sequence as sequence
+use Rattle.rr_sequence.proofs.Whole.{entries_are_whole}
+use Rattle.rr_stock.specs.PoolLimits.{HasHalfAtMost}
+use Rattle.rr_sequence.specs.PoolLimits.{PoolStaysWithinHalf}
 use Rattle.rr_stock.specs.Rules as trading
-use Rattle.rr_stock.specs.SoldShares.{LawfulSalesMoveShares}
+use Rattle.rr_sequence.specs.SoldShares.{LawfulSalesMoveShares}
 use Rattle.rr_sound.specs.Presidencies.{IsGoverned, IsGovernedInAuction}
 use Rattle.rr_sound.specs.Sound.{IsDealt, IsSolvent}
 use Rattle.rr_sound.proofs.AuctionPresidents.{governed_by_act}
@@ -34,13 +36,14 @@ use Rattle.rr_sound.proofs.StockActs.{goes_by_lawful}
 use Rattle.rr_sound.proofs.StockPresidents.{governed_by_command}
 use Rattle.rr_code.specs.declared.command.Command.{Command}
 use Rattle.rr_code.specs.declared.command.Command.TheVariants.{Open}
-use Rattle.rr_game.specs.declared.kit.Kit.{Kit}
+use Rattle.rr_kit.specs.declared.kit.Kit.{Kit}
 use Rattle.rr_game.specs.Names.{act_of}
 use Rattle.rr_game.specs.Play.{act_entries, entries_of, entries_once, play, played_on, players_of}
 use Rattle.rr_laws.specs.Sound.{AreAccepted, ArePlayed, IsSoundTable, NamesCorporations}
 use Rattle.rr_game.specs.Verdict.{act_verdict, auction_is_over, command_verdict, verdict, verdict_once}
-use Rattle.rr_game.proofs.Leaving.{auction_left}
-use Rattle.rr_game.proofs.StockLeaves.{stock_leaves}
+use Rattle.rr_laws.proofs.LeavesAuction.{leaves_auction}
+use Rattle.rr_laws.proofs.Leaving.{auction_left}
+use Rattle.rr_laws.proofs.StockLeaves.{stock_leaves}
 
 -- what the stock rounds promise of the pool, and of sales
 pub record StockLaws : Type 0 where
@@ -96,11 +99,11 @@ by_bid n kit book act going lawful h =
 
 -- a command of a stock round
 by_trade : StockLaws → (n : ℕ) → 0 < n → n ≤ 6 → (kit : Kit) (book : Book) (act : Act) → auction_is_over book ≡ true → trading.verdict kit.chart book act ≡ None
-    → Stands n kit.roster book → Stands n kit.roster (book ++ stock.entries_of kit.roster kit.chart book act)
+    → Stands n kit.roster book → Stands n kit.roster (book ++ sequence.entries_of kit.roster kit.chart book act)
 by_trade laws n some few kit book act over lawful h =
-    let es = stock.entries_of kit.roster kit.chart book act in
+    let es = sequence.entries_of kit.roster kit.chart book act in
     let on = goes_by_lawful n kit.roster kit.chart book act some lawful h.solvent in
-    let left = auction_left book es over (stock_leaves kit.roster kit.chart book act) in
+    let left = auction_left book es over (subst (λ (added : Book). list_all leaves_auction added ≡ true) (sym (entries_are_whole kit.roster kit.chart book act lawful)) (stock_leaves kit.roster kit.chart book act)) in
     record {
       paid = paid_on n kit.roster book es h.paid on.among;
       covered = λ going. absurd (false≢true (sym going ∙ left.over));

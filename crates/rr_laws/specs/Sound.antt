@@ -9,8 +9,8 @@ use Rattle.rr_sound.specs.Presidencies.{HasGreatestPresidents}
 use Rattle.rr_sound.specs.Sound.{IsDealt}
 use Rattle.rr_code.specs.declared.command.Command.{Command}
 use Rattle.rr_code.specs.declared.command.Command.TheVariants.{Open}
-use Rattle.rr_game.specs.declared.kit.Kit.{Kit}
-use Rattle.rr_game.specs.Kits.{KitTexts, SpellsKit}
+use Rattle.rr_kit.specs.declared.kit.Kit.{Kit}
+use Rattle.rr_kit.specs.Kits.{KitTexts, SpellsKit}
 use Rattle.rr_game.specs.Play.{play, played_on, players_of}
 use Rattle.rr_game.specs.Verdict.{command_verdict}
 

@@ -11,8 +11,8 @@ pub fn sound()
     ensures { TablesStaySound }
 {
     rr_books::laws::money_is_kept();
-    rr_stock::laws::pool_stays_within_half();
-    rr_stock::laws::lawful_sales_move_shares();
+    rr_sequence::laws::pool_stays_within_half();
+    rr_sequence::laws::lawful_sales_move_shares();
 }
 
 /// The roster of each right kit names each corporation.

@@ -6,8 +6,8 @@ use Rattle.rr_board.specs.declared.hex.Hex.{Hex}
 use Rattle.rr_board.specs.Plan.{Plan, hex_named}
 use Rattle.rr_tiles.specs.declared.supply.Supply.{Supply}
 use Rattle.rr_tiles.specs.Supply.{supply_at}
-use Rattle.rr_network.specs.declared.layout.Lay.{Lay}
-use Rattle.rr_network.specs.declared.layout.Station.{Station}
+use Rattle.rr_layout.specs.declared.layout.Lay.{Lay}
+use Rattle.rr_layout.specs.declared.layout.Station.{Station}
 use Rattle.rr_lay.specs.declared.fault.Fault.{Fault}
 use Rattle.rr_lay.specs.declared.fault.Fault.TheVariants as F
 use Rattle.rr_lay.specs.Judging.{After, Needs}

@@ -10,11 +10,11 @@ use Rattle.rr_tiles.specs.declared.supply.Supply.{Supply}
 use Rattle.rr_tiles.specs.Supply.{supply_at}
 use Rattle.rr_tiles.specs.Tile.{turned}
 use Rattle.rr_tiles.specs.Keeping.{Keeps}
-use Rattle.rr_network.specs.declared.layout.Lay.{Lay}
+use Rattle.rr_layout.specs.declared.layout.Lay.{Lay}
 use Rattle.rr_network.specs.declared.node.Link.{Link}
 use Rattle.rr_network.specs.declared.node.Node.{Node}
 use Rattle.rr_network.specs.declared.node.Node.TheVariants as N
-use Rattle.rr_network.specs.Layout.{last_lay, lays}
+use Rattle.rr_layout.specs.Layout.{last_lay, lays}
 use Rattle.rr_network.specs.Network.{Net, face_on, net_of}
 use Rattle.rr_network.specs.Node.{same_node}
 use Rattle.rr_network.specs.Walk.{ReachesLink, Reached, reaches_link}
@@ -23,7 +23,7 @@ use Rattle.rr_lay.specs.declared.fault.Fault.TheVariants as F
 use Rattle.rr_lay.specs.Judging.{After, Needs}
 use Rattle.rr_lay.specs.Phase.{is_open}
 use Rattle.rr_lay.specs.Position.{Position}
-use Rattle.rr_lay.specs.Rows.{cost_verdict, row_entries}
+use Rattle.rr_lay.specs.Rows.{cost_verdict, puts}
 use Rattle.rr_desk.specs.Effects.{Effect}
 use Rattle.rr_trains.specs.Phases.{phase}
 use Rattle.rr_lay.specs.Tiles.{faces_hexes, hexes_with, is_blocked, is_next_colour, laid_colour}
@@ -121,4 +121,4 @@ cost_at all (Some hex) = lay_cost all hex
 
 -- what laying the tile adds: the command's words, the payment of the cost where it is the first tile there, and the tile
 abbrev pub lay_row : Plan → Corp → Lay → Effect
-lay_row plan corp lay book = row_entries (A.Lay corp lay.hex lay.tile lay.turn) corp (cost_at (lays book) (hex_named plan.hexes lay.hex)) (E.Lay lay.hex lay.tile lay.turn)
+lay_row plan corp lay book = puts (A.Lay corp lay.hex lay.tile lay.turn) corp (cost_at (lays book) (hex_named plan.hexes lay.hex)) (E.Lay lay.hex lay.tile lay.turn) book

@@ -10,8 +10,8 @@ use Rattle.rr_board.specs.declared.hex.Home.{Home}
 use Rattle.rr_board.specs.Plan.{Plan, hex_named, is_home_at, slots_at}
 use Rattle.rr_tiles.specs.declared.supply.Supply.{Supply}
 use Rattle.rr_desk.specs.Effects.{Effect}
-use Rattle.rr_network.specs.declared.layout.Station.{Station}
-use Rattle.rr_network.specs.Layout.{Placed, stations}
+use Rattle.rr_layout.specs.declared.layout.Station.{Station}
+use Rattle.rr_layout.specs.Layout.{Placed, stations}
 use Rattle.rr_network.specs.Network.{face_on}
 use Rattle.rr_network.specs.Walk.{ReachesNode, node_of}
 use Rattle.rr_lay.specs.declared.fault.Fault.{Fault}
@@ -19,7 +19,7 @@ use Rattle.rr_lay.specs.declared.fault.Fault.TheVariants as F
 use Rattle.rr_lay.specs.Judging.{After, Needs}
 use Rattle.rr_lay.specs.Laying.{net_now}
 use Rattle.rr_lay.specs.Position.{Position}
-use Rattle.rr_lay.specs.Rows.{cost_verdict, row_entries}
+use Rattle.rr_lay.specs.Rows.{cost_verdict, puts}
 
 abbrev pub is_token_of : Corp → Station → Bool
 is_token_of corp station = corp_index station.corp == corp_index corp
@@ -90,4 +90,4 @@ IsStationVerdict plan tiles tokens now station verdict = IsVerdictAt plan tiles 
 
 -- what placing the token adds: the command's words, the payment of its cost, be it 0, and the token
 abbrev pub station_row : Station → Effect
-station_row station book = row_entries (A.Station station.corp station.hex station.centre) station.corp (Some (token_cost (placed_by (stations book) station.corp))) (E.Station station.corp station.hex station.centre)
+station_row station book = puts (A.Station station.corp station.hex station.centre) station.corp (Some (token_cost (placed_by (stations book) station.corp))) (E.Station station.corp station.hex station.centre) book

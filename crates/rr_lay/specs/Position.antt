@@ -9,9 +9,9 @@ use Rattle.rr_books.specs.declared.certificates.Train.{Train}
 use Rattle.rr_books.specs.Book.{Book, balance, holder, train_holder}
 use Rattle.rr_books.specs.State.{State, IsStateOf, cash_of, holder_in, train_place_of}
 use Rattle.rr_books.specs.ShareLaws.{holder-of_state}
-use Rattle.rr_network.specs.declared.layout.Lay.{Lay}
-use Rattle.rr_network.specs.declared.layout.Station.{Station}
-use Rattle.rr_network.specs.Layout as layout
+use Rattle.rr_layout.specs.declared.layout.Lay.{Lay}
+use Rattle.rr_layout.specs.declared.layout.Station.{Station}
+use Rattle.rr_layout.specs.Layout as layout
 
 pub record Position : Type 0 where
   pub holders : Cert → Option Place
@@ -29,7 +29,7 @@ abbrev pub position_in : State → layout.Placed → Position
 position_in books placed = record { holders = holder_in books; trains = train_place_of books; cash = cash_of books; lays = placed.lays; stations = placed.stations }
 
 -- where both stand for a book, they show the position that it tells
-pub position-of_state : (book : Book) (books : State) (placed : layout.Placed) → IsStateOf book books → layout.IsStateOf book placed → position_in books placed ≡ position_of book
+pub position-of_state : (book : Book) (books : State) (placed : layout.Placed) → IsStateOf book books → layout.IsLayoutOf book placed → position_in books placed ≡ position_of book
 position-of_state book books placed h p =
     let put : (Cert → Option Place) → (Train → Option Place) → (Party → ℤ) → List Lay → List Station → Position = λ a b c d e. record { holders = a; trains = b; cash = c; lays = d; stations = e } in
     ap (λ (x : Cert → Option Place). put x (train_place_of books) (cash_of books) placed.lays placed.stations) (holder-of_state book books h)

@@ -17,9 +17,9 @@ use Rattle.rr_tiles.specs.declared.supply.Supply.{Supply}
 use Rattle.rr_tiles.specs.declared.part.Part.{Part}
 use Rattle.rr_tiles.specs.declared.part.Part.TheVariants.{Track as OfTrack, Centre as OfCentre}
 use Rattle.rr_tiles.specs.Supply.{supply_at}
-use Rattle.rr_network.specs.declared.layout.Lay.{Lay}
+use Rattle.rr_layout.specs.declared.layout.Lay.{Lay}
 use Rattle.rr_network.specs.declared.node.Axial.{Axial}
-use Rattle.rr_network.specs.Layout.{last_lay}
+use Rattle.rr_layout.specs.Layout.{last_lay}
 use Rattle.rr_network.specs.Node.{across}
 
 -- the colour of the last tile that was laid on a hex

@@ -7,7 +7,8 @@ ghost use Rattle.rr_lay.specs.Tiles.{faces_hex, faces_hexes, hexes_with, is_bloc
 
 use rr_board::{Block, Hex};
 use rr_books::{Books, Cert};
-use rr_network::{Axial, Lay, across, last_lay};
+use rr_layout::Lay;
+use rr_network::{Axial, across, last_lay};
 use rr_tiles::{Colour, Edge, Manifest, Part};
 use rr_words::HexName;
 

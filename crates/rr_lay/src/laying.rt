@@ -1,30 +1,32 @@
 //! Laying a tile.
-ghost use Rattle.std.specs.Prelude.{◌≡◌, ◌<◌, ◌≤◌, ◌+◌, ◌∷◌, ◌++◌, [], None, Some, MatchResult, IfErr, IfOk, OnOk, OnErr, ◌⊎◌};
-ghost use Rattle.rr_books.specs.State.{cash_of};
+ghost use Rattle.std.specs.Prelude.{◌≡◌, None, Some, MatchResult, IfErr, IfOk, OnOk, ◌⊎◌};
 ghost use Rattle.rr_books.specs.Book.{Book};
-ghost use Rattle.rr_network.specs.Layout as laid;
-ghost use Rattle.rr_desk.specs.Desk.{Holds};
 ghost use Rattle.rr_board.specs.Plan.{hex_named};
-ghost use Rattle.rr_lay.specs.Rows.{IsDone, cost_verdict, row_entries};
+ghost use Rattle.rr_layout.specs.Layout.{lays};
+ghost use Rattle.rr_position.specs.Position.{IsPositionOf};
+ghost use Rattle.rr_desk.specs.Desk.{Takes};
+ghost use Rattle.rr_lay.specs.Rows.{puts};
 ghost use Rattle.rr_lay.specs.Position.{position_in, position_of};
 ghost use Rattle.rr_lay.specs.Laying.{IsLayVerdict, IsVerdictOn, cost_at, first_lay_verdict, lay_cost, lay_row, supply_verdict};
 
 use crate::colours::is_open;
+ghost use Rattle.rr_books.specs.declared.faults.Fault.TheVariants as B;
+
 use crate::fault::Fault;
 use crate::hexes::{hexes_with, is_blocked, is_next_colour, laid_colour};
 use crate::rows::{judge_cost, pay_cost};
 use crate::upgrades::{is_upgrade, reaches_new_link};
-use rr_board::{Board, Hex};
-use rr_books::{Act, Books, Corp, Entry, Marker};
-use rr_desk::{Desk, Entries};
-use rr_network::{Lay, Layout, last_lay};
-use rr_tiles::{Manifest, Supply};
+use rr_board::Hex;
+use rr_books::{Act, Corp, Entry, Marker};
+use rr_kit::Kit;
+use rr_layout::Lay;
+use rr_network::last_lay;
+use rr_desk::{Desk, Position};
+use rr_tiles::Supply;
 use rr_trains::phase;
 use std::alloc::Global;
 
-/// Lays a tile for a corporation, which pays the hex's cost to the bank where no tile was laid there before,
-/// be it 0. The books and the entries come back with what was added, the command's words first, and the layout
-/// has the tile.
+/// Judges a corporation's laying a tile.
 ///
 /// # Errors
 ///
@@ -33,162 +35,128 @@ use std::alloc::Global;
 /// `TileGone` where as many hexes have this tile as there are of it; `BlockedHex` for a yellow tile on a hex
 /// that a private blocks which a player holds; `NotAnUpgrade` where the turned tile doesn't keep what lies
 /// there, or uses an edge that faces no hex; `NotReached` where the corporation reaches no link that the tile
-/// adds; `TooLittleCash` for the cost. `OutOfMemory` where none of those up to `BlockedHex` comes. The layout is as
-/// before then.
-pub fn tile(
+/// adds; `TooLittleCash` for the cost. `OutOfMemory` where none of those up to `BlockedHex` comes.
+pub fn judge_lay(
     alloc: Global,
-    board: &Board,
-    tiles: &Manifest,
-    desk: Desk,
-    layout: &mut Layout,
+    kit: &Kit,
+    position: &Position,
     corp: Corp,
     lay: &Lay,
-) -> Result<(Books, Entries), Fault>
-    requires { desk.books.payments < 400000000 }
-    ensures verdict { (book : Book) → Holds book desk → laid.IsStateOf (book ++ desk.entries) layout.old → MatchResult result
-        (λ _. IsLayVerdict board.now tiles.now (position_of (book ++ desk.entries)) corp lay.now None)
-        (λ fault. ((fault ≡ Fault.OutOfMemory) × (first_lay_verdict board.now tiles.now (position_of (book ++ desk.entries)) lay.now ≡ None)) ⊎ IsLayVerdict board.now tiles.now (position_of (book ++ desk.entries)) corp lay.now (Some fault)) }
-    ensures row { IfOk result (λ done. (book : Book) → Holds book desk → laid.IsStateOf (book ++ desk.entries) layout.old → IsDone (lay_row board.now corp lay.now) book desk (record { books = done.0; entries = done.1 }) layout.new) }
-    ensures players { IfOk result (λ done. done.0.players ≡ desk.books.players) }
-    ensures places { IfOk result (λ done. done.0.places ≡ desk.books.places) }
-    ensures trains { IfOk result (λ done. done.0.trains ≡ desk.books.trains) }
-    ensures counts { IfOk result (λ done. done.0.counts ≡ desk.books.counts) }
-    ensures payments { IfOk result (λ done. done.0.payments ≤ desk.books.payments + 1) }
-    ensures lays { OnOk result (layout.new.lays ≡ layout.old.lays ++ lay.now ∷ []) }
-    ensures stations { OnOk result (layout.new.stations ≡ layout.old.stations) }
-    ensures err { OnErr result (layout.new ≡ layout.old) }
+) -> Result<(), Fault>
+    ensures { (book : Book) → IsPositionOf book position.now → MatchResult result
+        (λ _. IsLayVerdict kit.now.board kit.now.tiles (position_of book) corp lay.now None)
+        (λ fault. ((fault ≡ Fault.OutOfMemory) × (first_lay_verdict kit.now.board kit.now.tiles (position_of book) lay.now ≡ None)) ⊎ IsLayVerdict kit.now.board kit.now.tiles (position_of book) corp lay.now (Some fault)) }
 {
-    let cost = match judge(alloc, board, tiles, desk.books(), layout, corp, lay) {
-        Ok(cost) => cost,
-        Err(fault) => return Err(fault),
-    };
-    match put(desk, layout, corp, lay, cost) {
-        Ok(done) => Ok(done),
-        Err(fault) => Err(fault),
-    }
+    judge(alloc, kit, position, corp, lay)
 }
 
-// Lays the tile, for which the corporation has the cost.
-fn put(
-    desk: Desk,
-    layout: &mut Layout,
-    corp: Corp,
-    lay: &Lay,
-    cost: Option<u16>,
-) -> Result<(Books, Entries), Fault>
-    requires room { desk.books.payments < 400000000 }
-    requires enough { cost_verdict (cash_of desk.books) corp cost ≡ None }
-    ensures row { IfOk result (λ done. (book : Book) → Holds book desk → laid.IsStateOf (book ++ desk.entries) layout.old →
-        IsDone (λ _. row_entries (Act.Lay corp lay.now.hex lay.now.tile lay.now.turn) corp cost (Entry.Lay lay.now.hex lay.now.tile lay.now.turn)) book desk (record { books = done.0; entries = done.1 }) layout.new) }
-    ensures fault { IfErr result (λ fault. fault ≡ Fault.OutOfMemory) }
-    ensures players { IfOk result (λ done. done.0.players ≡ desk.books.players) }
-    ensures places { IfOk result (λ done. done.0.places ≡ desk.books.places) }
-    ensures trains { IfOk result (λ done. done.0.trains ≡ desk.books.trains) }
-    ensures counts { IfOk result (λ done. done.0.counts ≡ desk.books.counts) }
-    ensures payments { IfOk result (λ done. done.0.payments ≤ desk.books.payments + 1) }
-    ensures lays { OnOk result (layout.new.lays ≡ layout.old.lays ++ lay.now ∷ []) }
-    ensures stations { OnOk result (layout.new.stations ≡ layout.old.stations) }
-    ensures err { OnErr result (layout.new ≡ layout.old) }
+/// Lays a tile for a corporation, which pays the hex's cost to the bank where no tile was laid there before, be it 0:
+/// the command's words, the payment, the tile.
+///
+/// # Errors
+///
+/// `OutOfMemory`; the desk may have some of the entries then.
+pub fn play_lay(kit: &Kit, desk: &mut Desk, corp: Corp, lay: &Lay) -> Result<(), rr_books::Fault>
+    ensures fault { IfErr result (λ fault. fault ≡ B.OutOfMemory) }
+    ensures takes { OnOk result (Takes (lay_row kit.now.board corp lay.now) desk.old desk.new) }
 {
-    let mut desk = desk;
-    desk.step(Marker::Act(Act::Lay {
+    let cost = cost_of(kit, desk.position(), lay);
+    put(desk, corp, lay, cost)
+}
+
+// What the tile costs, if it is the first one on its hex.
+fn cost_of(kit: &Kit, position: &Position, lay: &Lay) -> Option<u16>
+    ensures { (book : Book) → IsPositionOf book position.now → result ≡ cost_at (lays book) (hex_named kit.now.board.hexes lay.now.hex) }
+{
+    let hex = kit.board().hex(lay.hex.as_bytes())?;
+    lay_cost(position.layout().lays(), hex)
+}
+
+// Adds the words, the payment and the tile.
+#[tactic(auto, unfolding(crate::specs::Rows::puts))]
+fn put(desk: &mut Desk, corp: Corp, lay: &Lay, cost: Option<u16>) -> Result<(), rr_books::Fault>
+    ensures fault { IfErr result (λ fault. fault ≡ B.OutOfMemory) }
+    ensures takes { OnOk result (Takes (puts (Act.Lay corp lay.now.hex lay.now.tile lay.now.turn) corp cost (Entry.Lay lay.now.hex lay.now.tile lay.now.turn)) desk.old desk.new) }
+{
+    desk.push(Entry::Step(Marker::Act(Act::Lay {
         corp,
         hex: lay.hex,
         tile: lay.tile,
         turn: lay.turn,
-    }))?;
-    pay_cost(&mut desk, corp, cost)?;
-    let (books, entries) = desk.into_parts();
-    let mut entries = entries;
-    entries.push(Entry::Lay {
+    })))?;
+    pay_cost(desk, corp, cost)?;
+    desk.push(Entry::Lay {
         hex: lay.hex,
         tile: lay.tile,
         turn: lay.turn,
     })?;
-    layout.lay(lay.hex, lay.tile, lay.turn)?;
-    Ok((books, entries))
+    Ok(())
 }
 
-// What laying the tile costs, where the corporation may lay it.
 fn judge(
     alloc: Global,
-    board: &Board,
-    tiles: &Manifest,
-    books: &Books,
-    layout: &Layout,
+    kit: &Kit,
+    position: &Position,
     corp: Corp,
     lay: &Lay,
-) -> Result<Option<u16>, Fault>
-    ensures verdict { MatchResult result
-        (λ _. IsLayVerdict board.now tiles.now (position_in books.now layout.now) corp lay.now None)
-        (λ fault. ((fault ≡ Fault.OutOfMemory) × (first_lay_verdict board.now tiles.now (position_in books.now layout.now) lay.now ≡ None)) ⊎ IsLayVerdict board.now tiles.now (position_in books.now layout.now) corp lay.now (Some fault)) }
-    ensures first { IfOk result (λ _. first_lay_verdict board.now tiles.now (position_in books.now layout.now) lay.now ≡ None) }
-    ensures cost { IfOk result (λ cost. cost ≡ cost_at layout.now.lays (hex_named board.now.hexes lay.now.hex)) }
-    ensures enough { IfOk result (λ cost. cost_verdict (cash_of books.now) corp cost ≡ None) }
+) -> Result<(), Fault>
+    ensures { MatchResult result
+        (λ _. IsLayVerdict kit.now.board kit.now.tiles (position_in position.now.books position.now.layout) corp lay.now None)
+        (λ fault. ((fault ≡ Fault.OutOfMemory) × (first_lay_verdict kit.now.board kit.now.tiles (position_in position.now.books position.now.layout) lay.now ≡ None)) ⊎ IsLayVerdict kit.now.board kit.now.tiles (position_in position.now.books position.now.layout) corp lay.now (Some fault)) }
 {
-    let Some(hex) = board.hex(lay.hex.as_bytes()) else {
+    let Some(hex) = kit.board().hex(lay.hex.as_bytes()) else {
         return Err(Fault::NoSuchName);
     };
-    let Some(supply) = tiles.supply(lay.tile) else {
+    let Some(supply) = kit.tiles().supply(lay.tile) else {
         return Err(Fault::NoSuchName);
     };
-    let cost = judge_on(alloc, board, tiles, books, layout, corp, lay, hex, supply)?;
-    Ok(cost)
+    judge_on(alloc, kit, position, corp, lay, hex, supply)?;
+    Ok(())
 }
 
 fn judge_on(
     alloc: Global,
-    board: &Board,
-    tiles: &Manifest,
-    books: &Books,
-    layout: &Layout,
+    kit: &Kit,
+    position: &Position,
     corp: Corp,
     lay: &Lay,
     hex: &Hex,
     supply: &Supply,
-) -> Result<Option<u16>, Fault>
-    ensures verdict { MatchResult result
-        (λ _. IsVerdictOn board.now tiles.now (position_in books.now layout.now) corp lay.now hex.now supply.now None)
-        (λ fault. ((fault ≡ Fault.OutOfMemory) × (supply_verdict board.now tiles.now (position_in books.now layout.now) hex.now supply.now ≡ None)) ⊎ IsVerdictOn board.now tiles.now (position_in books.now layout.now) corp lay.now hex.now supply.now (Some fault)) }
-    ensures supply { IfOk result (λ _. supply_verdict board.now tiles.now (position_in books.now layout.now) hex.now supply.now ≡ None) }
-    ensures cost { IfOk result (λ cost. cost ≡ lay_cost layout.now.lays hex.now) }
-    ensures enough { IfOk result (λ cost. cost_verdict (cash_of books.now) corp cost ≡ None) }
+) -> Result<(), Fault>
+    ensures { MatchResult result
+        (λ _. IsVerdictOn kit.now.board kit.now.tiles (position_in position.now.books position.now.layout) corp lay.now hex.now supply.now None)
+        (λ fault. ((fault ≡ Fault.OutOfMemory) × (supply_verdict kit.now.board kit.now.tiles (position_in position.now.books position.now.layout) hex.now supply.now ≡ None)) ⊎ IsVerdictOn kit.now.board kit.now.tiles (position_in position.now.books position.now.layout) corp lay.now hex.now supply.now (Some fault)) }
 {
-    judge_supply(board, tiles, books, layout, hex, supply)?;
-    if !is_upgrade(alloc, board, tiles, layout.lays(), hex, supply, lay.turn)? {
+    judge_supply(kit, position, hex, supply)?;
+    let layout = position.layout();
+    if !is_upgrade(alloc, kit, layout, hex, supply, lay.turn)? {
         return Err(Fault::NotAnUpgrade);
     }
-    if !reaches_new_link(alloc, board, tiles, layout, corp, lay)? {
+    if !reaches_new_link(alloc, kit, position, corp, lay)? {
         return Err(Fault::NotReached);
     }
     let cost = lay_cost(layout.lays(), hex);
-    judge_cost(books, corp, cost)?;
-    Ok(cost)
+    judge_cost(position.books(), corp, cost)?;
+    Ok(())
 }
 
-fn judge_supply(
-    board: &Board,
-    tiles: &Manifest,
-    books: &Books,
-    layout: &Layout,
-    hex: &Hex,
-    supply: &Supply,
-) -> Result<(), Fault>
+fn judge_supply(kit: &Kit, position: &Position, hex: &Hex, supply: &Supply) -> Result<(), Fault>
     ensures { MatchResult result
-        (λ _. supply_verdict board.now tiles.now (position_in books.now layout.now) hex.now supply.now ≡ None)
-        (λ fault. supply_verdict board.now tiles.now (position_in books.now layout.now) hex.now supply.now ≡ Some fault) }
+        (λ _. supply_verdict kit.now.board kit.now.tiles (position_in position.now.books position.now.layout) hex.now supply.now ≡ None)
+        (λ fault. supply_verdict kit.now.board kit.now.tiles (position_in position.now.books position.now.layout) hex.now supply.now ≡ Some fault) }
 {
-    if !is_open(phase(books), supply.colour) {
+    let lays = position.layout().lays();
+    if !is_open(phase(position.books()), supply.colour) {
         return Err(Fault::ColourNotOpen);
     }
-    let laid = laid_colour(tiles, layout.lays(), &hex.name);
+    let laid = laid_colour(kit.tiles(), lays, &hex.name);
     if !is_next_colour(hex.colour, laid, supply.colour) {
         return Err(Fault::ColourNotOpen);
     }
-    if supply.count as usize <= hexes_with(layout.lays(), supply.number, board.hexes()) {
+    if supply.count as usize <= hexes_with(lays, supply.number, kit.board().hexes()) {
         return Err(Fault::TileGone);
     }
-    if is_blocked(books, board.blocks(), &hex.name, supply.colour) {
+    if is_blocked(position.books(), kit.board().blocks(), &hex.name, supply.colour) {
         return Err(Fault::BlockedHex);
     }
     Ok(())

@@ -12,5 +12,5 @@ mod slots;
 mod upgrades;
 
 pub use fault::Fault;
-pub use laying::tile;
-pub use placing::token;
+pub use laying::{judge_lay, play_lay};
+pub use placing::{judge_station, play_station};

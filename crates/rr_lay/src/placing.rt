@@ -1,30 +1,30 @@
 //! Placing a token.
-ghost use Rattle.std.specs.Prelude.{◌≡◌, ◌<◌, ◌≤◌, ◌+◌, ◌∷◌, ◌++◌, [], None, Some, MatchResult, IfErr, IfOk, OnOk, OnErr, ◌⊎◌, ◌↔◌, IsTrue};
+ghost use Rattle.std.specs.Prelude.{◌≡◌, None, Some, MatchResult, IfErr, IfOk, OnOk, ◌⊎◌, ◌↔◌, IsTrue};
 ghost use Rattle.rr_roster.specs.Terms.{tokens_of};
-ghost use Rattle.rr_books.specs.State.{cash_of};
 ghost use Rattle.rr_books.specs.Book.{Book};
-ghost use Rattle.rr_network.specs.Layout as laid;
+ghost use Rattle.rr_layout.specs.Layout.{stations};
 ghost use Rattle.rr_network.specs.Network.{net_of};
 ghost use Rattle.rr_network.specs.Walk.{ReachesNode, node_of};
-ghost use Rattle.rr_desk.specs.Desk.{Holds};
-ghost use Rattle.rr_lay.specs.Rows.{IsDone, cost_verdict, row_entries};
+ghost use Rattle.rr_position.specs.Position.{IsPositionOf};
+ghost use Rattle.rr_desk.specs.Desk.{Takes};
+ghost use Rattle.rr_lay.specs.Rows.{puts};
 ghost use Rattle.rr_lay.specs.Position.{position_in, position_of};
 ghost use Rattle.rr_lay.specs.Placing.{IsStationVerdict, IsVerdictOn, city_verdict, first_station_verdict, placed_by, slot_verdict, station_row, token_cost, token_verdict};
+ghost use Rattle.rr_books.specs.declared.faults.Fault.TheVariants as B;
 
 use crate::fault::Fault;
 use crate::rows::{judge_cost, pay_cost};
 use crate::slots::{city_slots, has_own_at, is_full, placed_by, token_cost};
-use rr_board::{Board, Hex};
-use rr_books::{Act, Books, Entry, Marker};
-use rr_desk::{Desk, Entries};
-use rr_network::{Layout, Network, Reach, Station, node_of};
-use rr_roster::Roster;
-use rr_tiles::Manifest;
+use rr_board::Hex;
+use rr_books::{Act, Entry, Marker};
+use rr_kit::Kit;
+use rr_layout::{Layout, Station};
+use rr_network::{Network, Reach, node_of};
+use rr_desk::{Desk, Position};
+use rr_roster::Corp;
 use std::alloc::{AllocError, Global};
 
-/// Places a corporation's token in a city, for which it pays the bank: nothing for its first token, by a payment
-/// of 0, 40 dollars for the second and 100 for each later one. The books and the entries come back with what was
-/// added, the command's words first, and the layout has the token.
+/// Judges placing a corporation's token in a city.
 ///
 /// # Errors
 ///
@@ -32,168 +32,138 @@ use std::alloc::{AllocError, Global};
 /// placed all its tokens; `NoSlot` where the centre is no city, each of its slots is filled, or kept for a
 /// corporation whose home it is and that has no token anywhere yet, or the corporation has a token there;
 /// `NotReached` where it doesn't reach the city; `TooLittleCash` for the cost. `OutOfMemory` where neither of the
-/// first two comes. The layout is as before then.
-pub fn token(
+/// first two comes.
+pub fn judge_station(
     alloc: Global,
-    board: &Board,
-    tiles: &Manifest,
-    roster: &Roster,
-    desk: Desk,
-    layout: &mut Layout,
+    kit: &Kit,
+    position: &Position,
     station: &Station,
-) -> Result<(Books, Entries), Fault>
-    requires { desk.books.payments < 400000000 }
-    ensures verdict { (book : Book) → Holds book desk → laid.IsStateOf (book ++ desk.entries) layout.old → MatchResult result
-        (λ _. IsStationVerdict board.now tiles.now (tokens_of roster.now station.now.corp) (position_of (book ++ desk.entries)) station.now None)
-        (λ fault. ((fault ≡ Fault.OutOfMemory) × (first_station_verdict board.now (tokens_of roster.now station.now.corp) (position_of (book ++ desk.entries)) station.now ≡ None)) ⊎ IsStationVerdict board.now tiles.now (tokens_of roster.now station.now.corp) (position_of (book ++ desk.entries)) station.now (Some fault)) }
-    ensures row { IfOk result (λ done. (book : Book) → Holds book desk → laid.IsStateOf (book ++ desk.entries) layout.old → IsDone (station_row station.now) book desk (record { books = done.0; entries = done.1 }) layout.new) }
-    ensures players { IfOk result (λ done. done.0.players ≡ desk.books.players) }
-    ensures places { IfOk result (λ done. done.0.places ≡ desk.books.places) }
-    ensures trains { IfOk result (λ done. done.0.trains ≡ desk.books.trains) }
-    ensures counts { IfOk result (λ done. done.0.counts ≡ desk.books.counts) }
-    ensures payments { IfOk result (λ done. done.0.payments ≤ desk.books.payments + 1) }
-    ensures lays { OnOk result (layout.new.lays ≡ layout.old.lays) }
-    ensures stations { OnOk result (layout.new.stations ≡ layout.old.stations ++ station.now ∷ []) }
-    ensures err { OnErr result (layout.new ≡ layout.old) }
+) -> Result<(), Fault>
+    ensures { (book : Book) → IsPositionOf book position.now → MatchResult result
+        (λ _. IsStationVerdict kit.now.board kit.now.tiles (tokens_of kit.now.roster station.now.corp) (position_of book) station.now None)
+        (λ fault. ((fault ≡ Fault.OutOfMemory) × (first_station_verdict kit.now.board (tokens_of kit.now.roster station.now.corp) (position_of book) station.now ≡ None)) ⊎ IsStationVerdict kit.now.board kit.now.tiles (tokens_of kit.now.roster station.now.corp) (position_of book) station.now (Some fault)) }
 {
-    let tokens = roster.tokens(station.corp);
-    let cost = match judge(alloc, board, tiles, tokens, desk.books(), layout, station) {
-        Ok(cost) => cost,
-        Err(fault) => return Err(fault),
-    };
-    match put(desk, layout, station, cost) {
-        Ok(done) => Ok(done),
-        Err(fault) => Err(fault),
-    }
+    judge(alloc, kit, position, station)
 }
 
-// Places the token, for which its corporation has the cost.
-fn put(
-    desk: Desk,
-    layout: &mut Layout,
-    station: &Station,
-    cost: u16,
-) -> Result<(Books, Entries), Fault>
-    requires room { desk.books.payments < 400000000 }
-    requires enough { cost_verdict (cash_of desk.books) station.now.corp (Some cost) ≡ None }
-    ensures row { IfOk result (λ done. (book : Book) → Holds book desk → laid.IsStateOf (book ++ desk.entries) layout.old →
-        IsDone (λ _. row_entries (Act.Station station.now.corp station.now.hex station.now.centre) station.now.corp (Some cost) (Entry.Station station.now.corp station.now.hex station.now.centre)) book desk (record { books = done.0; entries = done.1 }) layout.new) }
-    ensures fault { IfErr result (λ fault. fault ≡ Fault.OutOfMemory) }
-    ensures players { IfOk result (λ done. done.0.players ≡ desk.books.players) }
-    ensures places { IfOk result (λ done. done.0.places ≡ desk.books.places) }
-    ensures trains { IfOk result (λ done. done.0.trains ≡ desk.books.trains) }
-    ensures counts { IfOk result (λ done. done.0.counts ≡ desk.books.counts) }
-    ensures payments { IfOk result (λ done. done.0.payments ≤ desk.books.payments + 1) }
-    ensures lays { OnOk result (layout.new.lays ≡ layout.old.lays) }
-    ensures stations { OnOk result (layout.new.stations ≡ layout.old.stations ++ station.now ∷ []) }
-    ensures err { OnErr result (layout.new ≡ layout.old) }
+/// Places a corporation's token in a city, for which it pays the bank: nothing for its first token, by a payment
+/// of 0, 40 dollars for the second and 100 for each later one. The command's words, the payment, the token.
+///
+/// # Errors
+///
+/// `OutOfMemory`; the desk may have some of the entries then.
+pub fn play_station(desk: &mut Desk, station: &Station) -> Result<(), rr_books::Fault>
+    ensures fault { IfErr result (λ fault. fault ≡ B.OutOfMemory) }
+    ensures takes { OnOk result (Takes (station_row station.now) desk.old desk.new) }
 {
-    let mut desk = desk;
-    desk.step(Marker::Act(Act::Station {
+    let cost = cost_of(desk.position(), station.corp);
+    put(desk, station, cost)
+}
+
+// What the corporation's next token costs.
+fn cost_of(position: &Position, corp: Corp) -> u16
+    ensures shown { result ≡ token_cost (placed_by position.now.layout.stations corp) }
+    ensures book { (book : Book) → IsPositionOf book position.now → result ≡ token_cost (placed_by (stations book) corp) }
+{
+    let placed = placed_by(position.layout().stations(), corp);
+    token_cost(placed)
+}
+
+// Adds the words, the payment and the token.
+#[tactic(auto, unfolding(crate::specs::Rows::puts))]
+fn put(desk: &mut Desk, station: &Station, cost: u16) -> Result<(), rr_books::Fault>
+    ensures fault { IfErr result (λ fault. fault ≡ B.OutOfMemory) }
+    ensures takes { OnOk result (Takes (puts (Act.Station station.now.corp station.now.hex station.now.centre) station.now.corp (Some cost) (Entry.Station station.now.corp station.now.hex station.now.centre)) desk.old desk.new) }
+{
+    desk.push(Entry::Step(Marker::Act(Act::Station {
         corp: station.corp,
         hex: station.hex,
         centre: station.centre,
-    }))?;
-    pay_cost(&mut desk, station.corp, Some(cost))?;
-    let (books, entries) = desk.into_parts();
-    let mut entries = entries;
-    entries.push(Entry::Station {
+    })))?;
+    pay_cost(desk, station.corp, Some(cost))?;
+    desk.push(Entry::Station {
         corp: station.corp,
         hex: station.hex,
         centre: station.centre,
     })?;
-    layout.station(station.corp, station.hex, station.centre)?;
-    Ok((books, entries))
+    Ok(())
 }
 
-// What placing the token costs, where the corporation, which has so many, may place it.
 fn judge(
     alloc: Global,
-    board: &Board,
-    tiles: &Manifest,
-    tokens: u8,
-    books: &Books,
-    layout: &Layout,
+    kit: &Kit,
+    position: &Position,
     station: &Station,
-) -> Result<u16, Fault>
-    ensures verdict { MatchResult result
-        (λ _. IsStationVerdict board.now tiles.now tokens (position_in books.now layout.now) station.now None)
-        (λ fault. ((fault ≡ Fault.OutOfMemory) × (first_station_verdict board.now tokens (position_in books.now layout.now) station.now ≡ None)) ⊎ IsStationVerdict board.now tiles.now tokens (position_in books.now layout.now) station.now (Some fault)) }
-    ensures first { IfOk result (λ _. first_station_verdict board.now tokens (position_in books.now layout.now) station.now ≡ None) }
-    ensures cost { IfOk result (λ cost. cost ≡ token_cost (placed_by layout.now.stations station.now.corp)) }
-    ensures enough { IfOk result (λ cost. cost_verdict (cash_of books.now) station.now.corp (Some cost) ≡ None) }
+) -> Result<(), Fault>
+    ensures { MatchResult result
+        (λ _. IsStationVerdict kit.now.board kit.now.tiles (tokens_of kit.now.roster station.now.corp) (position_in position.now.books position.now.layout) station.now None)
+        (λ fault. ((fault ≡ Fault.OutOfMemory) × (first_station_verdict kit.now.board (tokens_of kit.now.roster station.now.corp) (position_in position.now.books position.now.layout) station.now ≡ None)) ⊎ IsStationVerdict kit.now.board kit.now.tiles (tokens_of kit.now.roster station.now.corp) (position_in position.now.books position.now.layout) station.now (Some fault)) }
 {
-    let Some(hex) = board.hex(station.hex.as_bytes()) else {
+    let Some(hex) = kit.board().hex(station.hex.as_bytes()) else {
         return Err(Fault::NoSuchName);
     };
-    let cost = judge_on(alloc, board, tiles, tokens, books, layout, station, hex)?;
-    Ok(cost)
+    judge_on(alloc, kit, position, station, hex)?;
+    Ok(())
 }
 
 fn judge_on(
     alloc: Global,
-    board: &Board,
-    tiles: &Manifest,
-    tokens: u8,
-    books: &Books,
-    layout: &Layout,
+    kit: &Kit,
+    position: &Position,
     station: &Station,
     hex: &Hex,
-) -> Result<u16, Fault>
-    ensures verdict { MatchResult result
-        (λ _. IsVerdictOn board.now tiles.now tokens (position_in books.now layout.now) station.now hex.now None)
-        (λ fault. ((fault ≡ Fault.OutOfMemory) × (token_verdict tokens layout.now.stations station.now.corp ≡ None)) ⊎ IsVerdictOn board.now tiles.now tokens (position_in books.now layout.now) station.now hex.now (Some fault)) }
-    ensures token { IfOk result (λ _. token_verdict tokens layout.now.stations station.now.corp ≡ None) }
-    ensures cost { IfOk result (λ cost. cost ≡ token_cost (placed_by layout.now.stations station.now.corp)) }
-    ensures enough { IfOk result (λ cost. cost_verdict (cash_of books.now) station.now.corp (Some cost) ≡ None) }
+) -> Result<(), Fault>
+    ensures { MatchResult result
+        (λ _. IsVerdictOn kit.now.board kit.now.tiles (tokens_of kit.now.roster station.now.corp) (position_in position.now.books position.now.layout) station.now hex.now None)
+        (λ fault. ((fault ≡ Fault.OutOfMemory) × (token_verdict (tokens_of kit.now.roster station.now.corp) position.now.layout.stations station.now.corp ≡ None)) ⊎ IsVerdictOn kit.now.board kit.now.tiles (tokens_of kit.now.roster station.now.corp) (position_in position.now.books position.now.layout) station.now hex.now (Some fault)) }
 {
-    judge_slot(alloc, board, tiles, tokens, layout, station, hex)?;
-    if !is_reached(alloc, board, tiles, layout, station)? {
+    judge_slot(alloc, kit, position.layout(), station, hex)?;
+    if !is_reached(alloc, kit, position.layout(), station)? {
         return Err(Fault::NotReached);
     }
-    let cost = token_cost(placed_by(layout.stations(), station.corp));
-    judge_cost(books, station.corp, Some(cost))?;
-    Ok(cost)
+    let cost = cost_of(position, station.corp);
+    judge_cost(position.books(), station.corp, Some(cost))?;
+    Ok(())
 }
 
 // Whether a token is left, and the city takes it.
 fn judge_slot(
     alloc: Global,
-    board: &Board,
-    tiles: &Manifest,
-    tokens: u8,
+    kit: &Kit,
     layout: &Layout,
     station: &Station,
     hex: &Hex,
 ) -> Result<(), Fault>
     ensures verdict { MatchResult result
-        (λ _. slot_verdict board.now tiles.now tokens layout.now hex.now station.now ≡ None)
-        (λ fault. ((fault ≡ Fault.OutOfMemory) × (token_verdict tokens layout.now.stations station.now.corp ≡ None)) ⊎ (slot_verdict board.now tiles.now tokens layout.now hex.now station.now ≡ Some fault)) }
-    ensures token { IfOk result (λ _. token_verdict tokens layout.now.stations station.now.corp ≡ None) }
+        (λ _. slot_verdict kit.now.board kit.now.tiles (tokens_of kit.now.roster station.now.corp) layout.now hex.now station.now ≡ None)
+        (λ fault. ((fault ≡ Fault.OutOfMemory) × (token_verdict (tokens_of kit.now.roster station.now.corp) layout.now.stations station.now.corp ≡ None)) ⊎ (slot_verdict kit.now.board kit.now.tiles (tokens_of kit.now.roster station.now.corp) layout.now hex.now station.now ≡ Some fault)) }
+    ensures token { IfOk result (λ _. token_verdict (tokens_of kit.now.roster station.now.corp) layout.now.stations station.now.corp ≡ None) }
 {
+    let tokens = kit.roster().tokens(station.corp);
     if tokens as usize <= placed_by(layout.stations(), station.corp) {
         return Err(Fault::NoTokenLeft);
     }
-    let slots = city_slots(alloc, tiles, layout.lays(), hex, station.centre)?;
-    judge_city(board, layout, station, slots)?;
+    let slots = city_slots(alloc, kit.tiles(), layout.lays(), hex, station.centre)?;
+    judge_city(kit, layout, station, slots)?;
     Ok(())
 }
 
 fn judge_city(
-    board: &Board,
+    kit: &Kit,
     layout: &Layout,
     station: &Station,
     slots: Option<u8>,
 ) -> Result<(), Fault>
     ensures { MatchResult result
-        (λ _. city_verdict board.now.homes layout.now.stations station.now slots ≡ None)
-        (λ fault. city_verdict board.now.homes layout.now.stations station.now slots ≡ Some fault) }
+        (λ _. city_verdict kit.now.board.homes layout.now.stations station.now slots ≡ None)
+        (λ fault. city_verdict kit.now.board.homes layout.now.stations station.now slots ≡ Some fault) }
 {
     let Some(slots) = slots else {
         return Err(Fault::NoSlot);
     };
     let stations = layout.stations();
-    if is_full(board.homes(), stations, &station.hex, station.centre, slots) {
+    let homes = kit.board().homes();
+    if is_full(homes, stations, &station.hex, station.centre, slots) {
         return Err(Fault::NoSlot);
     }
     if has_own_at(stations, station.corp, &station.hex, station.centre) {
@@ -205,14 +175,13 @@ fn judge_city(
 // Whether the corporation reaches the city.
 fn is_reached(
     alloc: Global,
-    board: &Board,
-    tiles: &Manifest,
+    kit: &Kit,
     layout: &Layout,
     station: &Station,
 ) -> Result<bool, AllocError>
-    ensures { IfOk result (λ answer. IsTrue answer ↔ ReachesNode (net_of board.now tiles.now layout.now) station.now.corp (node_of station.now)) }
+    ensures { IfOk result (λ answer. IsTrue answer ↔ ReachesNode (net_of kit.now.board kit.now.tiles layout.now) station.now.corp (node_of station.now)) }
 {
-    let network = Network::of(alloc, board, tiles, layout)?;
+    let network = Network::of(alloc, kit.board(), kit.tiles(), layout)?;
     let reach = Reach::of(alloc, &network, station.corp)?;
     let node = node_of(station);
     Ok(reach.has_node(&node))

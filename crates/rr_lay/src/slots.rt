@@ -6,7 +6,8 @@ ghost use Rattle.rr_network.specs.Network.{face_on};
 ghost use Rattle.rr_lay.specs.Placing.{is_kept, is_own_at, is_token_at, is_token_of, placed_by, slots_taken, token_cost};
 
 use rr_board::{Hex, Home, slots_at};
-use rr_network::{Lay, Station, last_lay};
+use rr_layout::{Lay, Station};
+use rr_network::last_lay;
 use rr_roster::Corp;
 use rr_tiles::Manifest;
 use rr_words::HexName;

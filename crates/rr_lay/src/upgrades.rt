@@ -1,13 +1,16 @@
 //! Whether a tile may lie on a hex in place of what lies there.
-ghost use Rattle.std.specs.Prelude.{◌≡◌, ◌∷◌, ◌++◌, ◌+◌, ◌<◌, ◌^◌, [], ◌↔◌, IsTrue, IfOk, OnOk};
+ghost use Rattle.std.specs.Prelude.{◌≡◌, ◌∷◌, ◌++◌, ◌+◌, ◌<◌, ◌^◌, [], ◌↔◌, IsTrue, IfOk, IfSome};
 ghost use Rattle.rr_tiles.specs.Tile.{turned};
 ghost use Rattle.rr_tiles.specs.Keeping.{Keeps};
 ghost use Rattle.rr_network.specs.Network.{face_on, net_of};
 ghost use Rattle.rr_lay.specs.Laying.{HasNewLink, IsUpgrade, ReachesNewLink, has_link, is_new_link, joins, same_link};
 
 use crate::hexes::faces_hexes;
-use rr_board::{Board, Hex};
-use rr_network::{Lay, Layout, Link, Network, Node, Reach, last_lay, same_node};
+use rr_board::Hex;
+use rr_desk::Position;
+use rr_kit::Kit;
+use rr_layout::{Lay, Layout, MOST_LAYS};
+use rr_network::{Link, Network, Node, Reach, last_lay, same_node};
 use rr_roster::Corp;
 use rr_tiles::{Manifest, Supply, Tile, keeps};
 use std::alloc::{AllocError, Global};
@@ -15,32 +18,31 @@ use std::alloc::{AllocError, Global};
 // Whether the turned tile keeps what lies on the hex, and each edge that it uses faces a hex.
 pub(crate) fn is_upgrade(
     alloc: Global,
-    board: &Board,
-    tiles: &Manifest,
-    lays: &[Lay],
+    kit: &Kit,
+    layout: &Layout,
     hex: &Hex,
     supply: &Supply,
     turn: u8,
 ) -> Result<bool, AllocError>
-    ensures { IfOk result (λ answer. IsTrue answer ↔ IsUpgrade board.now tiles.now lays.now hex.now supply.now turn) }
+    ensures { IfOk result (λ answer. IsTrue answer ↔ IsUpgrade kit.now.board kit.now.tiles layout.now.lays hex.now supply.now turn) }
 {
-    let kept = keeps_face(alloc, tiles, lays, hex, &supply.tile, turn)?;
+    let kept = keeps_face(alloc, kit.tiles(), layout, hex, &supply.tile, turn)?;
     let tile = supply.tile.turned(alloc, turn)?;
-    let faces = faces_hexes(board.hexes(), &hex.place, tile.parts());
+    let faces = faces_hexes(kit.board().hexes(), &hex.place, tile.parts());
     Ok(kept && faces)
 }
 
 fn keeps_face(
     alloc: Global,
     tiles: &Manifest,
-    lays: &[Lay],
+    layout: &Layout,
     hex: &Hex,
     tile: &Tile,
     turn: u8,
 ) -> Result<bool, AllocError>
-    ensures { IfOk result (λ answer. IsTrue answer ↔ Keeps (face_on tiles.now lays.now hex.now) (turned turn tile.now)) }
+    ensures { IfOk result (λ answer. IsTrue answer ↔ Keeps (face_on tiles.now layout.now.lays hex.now) (turned turn tile.now)) }
 {
-    let Some(lay) = last_lay(lays, &hex.name) else {
+    let Some(lay) = last_lay(layout.lays(), &hex.name) else {
         return Ok(keeps(&hex.tile, tile, turn));
     };
     let Some(old) = tiles.tile(lay.tile) else {
@@ -50,52 +52,34 @@ fn keeps_face(
     Ok(keeps(&old, tile, turn))
 }
 
-// What lies on the board with one tile more.
-fn layout_with(alloc: Global, layout: &Layout, lay: &Lay) -> Result<Layout, AllocError>
-    ensures lays { IfOk result (λ more. more.lays ≡ layout.now.lays ++ lay.now ∷ []) }
-    ensures stations { IfOk result (λ more. more.stations ≡ layout.now.stations) }
+// What lies on the board with one tile more, if there is room for it.
+fn layout_with(layout: &Layout, lay: &Lay) -> Option<Layout>
+    ensures { IfSome result (λ more. more ≡ record { lays = layout.now.lays ++ lay.now ∷ []; stations = layout.now.stations }) }
 {
-    let mut more = Layout::new(alloc);
-    copy_lays(&mut more, layout.lays())?;
-    copy_stations(&mut more, layout)?;
-    more.lay(lay.hex, lay.tile, lay.turn)?;
-    Ok(more)
-}
-
-fn copy_lays(copy: &mut Layout, lays: &[Lay]) -> Result<(), AllocError>
-    ensures lays { OnOk result (copy.new.lays ≡ copy.old.lays ++ lays.now) }
-    ensures stations { OnOk result (copy.new.stations ≡ copy.old.stations) }
-{
-    for lay in lays {
-        copy.lay(lay.hex, lay.tile, lay.turn)?;
+    if MOST_LAYS <= layout.lays().len() {
+        return None;
     }
-    Ok(())
-}
-
-fn copy_stations(copy: &mut Layout, layout: &Layout) -> Result<(), AllocError>
-    ensures lays { OnOk result (copy.new.lays ≡ copy.old.lays) }
-    ensures stations { OnOk result (copy.new.stations ≡ copy.old.stations ++ layout.now.stations) }
-{
-    for station in layout.stations() {
-        copy.station(station.corp, station.hex, station.centre)?;
-    }
-    Ok(())
+    let mut more = *layout;
+    more.lay(*lay);
+    Some(more)
 }
 
 // Whether the corporation reaches a link that the tile adds.
 pub(crate) fn reaches_new_link(
     alloc: Global,
-    board: &Board,
-    tiles: &Manifest,
-    layout: &Layout,
+    kit: &Kit,
+    position: &Position,
     corp: Corp,
     lay: &Lay,
 ) -> Result<bool, AllocError>
-    ensures { IfOk result (λ answer. IsTrue answer ↔ ReachesNewLink (net_of board.now tiles.now layout.now) (net_of board.now tiles.now (record { lays = layout.now.lays ++ lay.now ∷ []; stations = layout.now.stations })) corp) }
+    ensures { IfOk result (λ answer. IsTrue answer ↔ ReachesNewLink (net_of kit.now.board kit.now.tiles position.now.layout) (net_of kit.now.board kit.now.tiles (record { lays = position.now.layout.lays ++ lay.now ∷ []; stations = position.now.layout.stations })) corp) }
 {
-    let more = layout_with(alloc, layout, lay)?;
-    let old = Network::of(alloc, board, tiles, layout)?;
-    let new = Network::of(alloc, board, tiles, &more)?;
+    let layout = position.layout();
+    let Some(more) = layout_with(layout, lay) else {
+        return Err(AllocError);
+    };
+    let old = Network::of(alloc, kit.board(), kit.tiles(), layout)?;
+    let new = Network::of(alloc, kit.board(), kit.tiles(), &more)?;
     let reach = Reach::of(alloc, &new, corp)?;
     Ok(reaches_any(&reach, old.links(), new.links()))
 }

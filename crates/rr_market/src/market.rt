@@ -95,6 +95,42 @@ impl Market {
         price_at(chart, self.first(corp)?)
     }
 
+    /// The cell to which a dividend that is paid moves the corporation's token: right, at the right edge up. None where
+    /// it stays, or isn't on the chart.
+    pub fn cell_after_paying(&self, chart: &Chart, corp: Corp) -> Option<Cell>
+        ensures shown { result ≡ option_and_then (cell_after_paying chart.now) (cell_in self.now corp) }
+        ensures book { (book : Book) → IsMarketOf book self.now → mark_at corp result ≡ dividend_marks chart.now corp book }
+    {
+        moves::after_paying(chart, self.cell(corp)?)
+    }
+
+    /// The cell to which a dividend that is withheld moves the corporation's token: left, at the left edge down. None
+    /// where it stays, or isn't on the chart.
+    pub fn cell_after_withholding(&self, chart: &Chart, corp: Corp) -> Option<Cell>
+        ensures shown { result ≡ option_and_then (cell_after_withholding chart.now) (cell_in self.now corp) }
+        ensures book { (book : Book) → IsMarketOf book self.now → mark_at corp result ≡ withholding_marks chart.now corp book }
+    {
+        moves::after_withholding(chart, self.cell(corp)?)
+    }
+
+    /// The cell to which a sale of so many 10% shares moves the corporation's token: a row down for each, stopping
+    /// above the first missing cell. None where it stays, or isn't on the chart.
+    pub fn cell_after_sale(&self, chart: &Chart, corp: Corp, shares: u8) -> Option<Cell>
+        ensures shown { result ≡ option_and_then (cell_after_sale chart.now shares) (cell_in self.now corp) }
+        ensures book { (book : Book) → IsMarketOf book self.now → mark_at corp result ≡ sale_marks chart.now shares corp book }
+    {
+        moves::after_sale(chart, shares, self.cell(corp)?)
+    }
+
+    /// The cell to which the corporation's token moves where it is sold out as a stock round ends: one row up. None
+    /// where it stays, or isn't on the chart.
+    pub fn cell_after_rise(&self, chart: &Chart, corp: Corp) -> Option<Cell>
+        ensures shown { result ≡ option_and_then (cell_above chart.now) (cell_in self.now corp) }
+        ensures book { (book : Book) → IsMarketOf book self.now → mark_at corp result ≡ sold_out_marks chart.now corp book }
+    {
+        moves::up(chart, self.cell(corp)?)
+    }
+
     /// Puts the corporation's token on the par cell of a price. The result is the cell of its mark.
     ///
     /// # Errors
@@ -124,7 +160,7 @@ impl Market {
         ensures entries { (book : Book) → IsMarketOf book self.old → mark_at corp result ≡ dividend_marks chart.now corp book }
         ensures book { Follows self.old self.new (dividend_marks chart.now corp) }
     {
-        let cell = moves::after_paying(chart, self.cell(corp)?)?;
+        let cell = self.cell_after_paying(chart, corp)?;
         self.mark(corp, cell);
         Some(cell)
     }
@@ -137,7 +173,7 @@ impl Market {
         ensures entries { (book : Book) → IsMarketOf book self.old → mark_at corp result ≡ withholding_marks chart.now corp book }
         ensures book { Follows self.old self.new (withholding_marks chart.now corp) }
     {
-        let cell = moves::after_withholding(chart, self.cell(corp)?)?;
+        let cell = self.cell_after_withholding(chart, corp)?;
         self.mark(corp, cell);
         Some(cell)
     }
@@ -150,7 +186,7 @@ impl Market {
         ensures entries { (book : Book) → IsMarketOf book self.old → mark_at corp result ≡ sale_marks chart.now shares corp book }
         ensures book { Follows self.old self.new (sale_marks chart.now shares corp) }
     {
-        let cell = moves::after_sale(chart, shares, self.cell(corp)?)?;
+        let cell = self.cell_after_sale(chart, corp, shares)?;
         self.mark(corp, cell);
         Some(cell)
     }
@@ -163,7 +199,7 @@ impl Market {
         ensures entries { (book : Book) → IsMarketOf book self.old → mark_at corp result ≡ sold_out_marks chart.now corp book }
         ensures book { Follows self.old self.new (sold_out_marks chart.now corp) }
     {
-        let cell = moves::up(chart, self.cell(corp)?)?;
+        let cell = self.cell_after_rise(chart, corp)?;
         self.mark(corp, cell);
         Some(cell)
     }
@@ -178,8 +214,8 @@ impl Market {
         }
     }
 
-    // Reads the next entry of the book.
-    fn read(&mut self, entry: &Entry)
+    /// Reads the next entry of the book, of which a mark alone moves a token.
+    pub fn read(&mut self, entry: &Entry)
         ensures value { self.new ≡ after self.old entry.now }
         ensures book { (book : Book) → IsMarketOf book self.old → IsMarketOf (book ++ entry.now ∷ []) self.new }
     {

@@ -2,7 +2,7 @@
 use Rattle.std.proofs.Common.{◌≡◌, ◌⊎◌, ℕ, ◌<◌, ◌≤◌, Bool, true, false, cond, List, [], ◌∷◌, length, map, Option, None, Some, Result, inl, inr, bytes_eq, if◌then◌else◌, refl, sym, ap, subst, ◌∙◌, arith}
 use Rattle.std.proofs.lemmas.Slice.Eq.{bytes_eq-Decides}
 use Rattle.indexmap.specs.IndexMap.{insert_entry}
-use Rattle.rr_game.specs.declared.kit.Kit.{Kit}
+use Rattle.rr_kit.specs.declared.kit.Kit.{Kit}
 use Rattle.rr_code.specs.declared.command.Command.{Command}
 use Rattle.rr_code.specs.declared.command.Command.TheVariants.{Open}
 use Rattle.rr_code.specs.declared.query.Query.{Query}
@@ -13,10 +13,13 @@ use Rattle.rr_code.specs.Line.{SpellsLine}
 use Rattle.rr_moderator.specs.declared.fault.Fault.{Fault}
 use Rattle.rr_moderator.specs.declared.fault.Fault.TheVariants as F
 use Rattle.rr_moderator.specs.Answer.{accepted_text}
-use Rattle.rr_moderator.specs.Fault.{refusal_of}
+use Rattle.rr_moderator.specs.Fault.{of_store, refusal_of}
 use Rattle.rr_moderator.specs.Queries.{Answer, answer_of_table, asked_answer, cash_answer, due_answer, holds_answer, limit_answer, order_answer, price_answer, privates_answer, query_text, reply_of, stamp_answer, turns_answer}
-use Rattle.rr_moderator.specs.Serving.{Held, Meets, Responds, Takes, TooLong, Malformed, Broken, Read, Accepted, Refused, NoRoom, Fails, reply_to}
-use Rattle.rr_moderator.specs.World.{TableState, World, state_after, table_named, world_verdict}
+use Rattle.rr_moderator.specs.Serving.{Meets, Responds, TooLong, Malformed, Broken, Read, reply_to, text_of}
+use Rattle.rr_store.specs.declared.fault.Fault as store
+use Rattle.rr_store.specs.declared.fault.Fault.TheVariants as T
+use Rattle.rr_store.specs.Held.{Held, Takes, Accepted, Refused, NoRoom, Fails, Again}
+use Rattle.rr_store.specs.World.{TableState, World, state_after, table_named, world_verdict}
 use Rattle.rr_moderator.proofs.ServingLemmas.{one_line}
 use Rattle.rr_moderator.specs.Alone.{Alone, Exchange, IsCalm, IsDisturbed, Names, Picks, Runs, disturbs, line_table, query_table}
 
@@ -49,13 +52,13 @@ named_other (e ∷ es) name other v apart =
 
 -- a verdict doesn't depend on the number of tables, unless it tells of it
 
-opening_step : (first room : Bool) → let v : Option Fault = if first then Some (F.StaleStamp 0) else if room then Some F.TooManyTables else None in
-    (v ≡ Some F.TooManyTables → ⊥) → v ≡ (if first then Some (F.StaleStamp 0) else None)
+opening_step : (first room : Bool) → let v : Option store.Fault = if first then Some (T.StaleStamp 0) else if room then Some T.TooManyTables else None in
+    (v ≡ Some T.TooManyTables → ⊥) → v ≡ (if first then Some (T.StaleStamp 0) else None)
 opening_step true room few = refl
 opening_step false true few = absurd (few refl)
 opening_step false false few = refl
 
-uncounted : (kit : Kit) (t : Option TableState) (n stamp : ℕ) (c : Command) → (world_verdict kit t n stamp c ≡ Some F.TooManyTables → ⊥)
+uncounted : (kit : Kit) (t : Option TableState) (n stamp : ℕ) (c : Command) → (world_verdict kit t n stamp c ≡ Some T.TooManyTables → ⊥)
     → world_verdict kit t n stamp c ≡ world_verdict kit t 0 stamp c
 uncounted kit (Some t) n stamp (Open players) few = refl
 uncounted kit None n stamp (Open players) few = opening_step _ _ few
@@ -74,9 +77,9 @@ named_alone name (Some t) = let empty : Option TableState = None in ap (λ c. co
 abbrev Outcome : Type 0
 Outcome = List ℕ × Option TableState
 
-abbrev command_alone : List ℕ → Option TableState → Command → Option Fault → Outcome
+abbrev command_alone : List ℕ → Option TableState → Command → Option store.Fault → Outcome
 command_alone name t c None = (accepted_text name (state_after t c).stamp, Some (state_after t c))
-command_alone name t c (Some fault) = (refusal_of fault, t)
+command_alone name t c (Some fault) = (refusal_of (of_store fault), t)
 
 abbrev line_alone : Kit → List ℕ → Option TableState → Line → Outcome
 line_alone kit name t (L.Command stamp table c) = command_alone name t c (world_verdict kit t 0 stamp c)
@@ -123,34 +126,39 @@ abbrev Same : Held → Held → List ℕ → Outcome → List ℕ → Type 0
 Same old new name alone reply = (reply ≡ alone.0) × (table_named new.tables name ≡ alone.1) × (new.kit ≡ old.kit)
 
 -- a command that names the table
-takes_alone : (old new : Held) (stamp : ℕ) (name : List ℕ) (c : Command) {outcome : Result (List ℕ) Fault} → Takes old stamp name c new outcome
-    → ¬ IsDisturbed (reply_to outcome)
-    → Same old new name (command_alone name (table_named old.tables name) c (world_verdict old.kit (table_named old.tables name) 0 stamp c)) (reply_to outcome)
-takes_alone old new stamp name c (Accepted lawful after) calm =
+takes_alone : (old new : Held) (stamp : ℕ) (name : List ℕ) (c : Command) {result : Result ℕ store.Fault} → Takes old stamp name c new result
+    → ¬ IsDisturbed (reply_to (text_of name result))
+    → Same old new name (command_alone name (table_named old.tables name) c (world_verdict old.kit (table_named old.tables name) 0 stamp c)) (reply_to (text_of name result))
+takes_alone old new stamp name c (Accepted whole lawful after) calm =
     let t = table_named old.tables name in
-    let few : world_verdict old.kit t (length old.tables) stamp c ≡ Some F.TooManyTables → ⊥ = λ e. let none = lawful in cc in
+    let few : world_verdict old.kit t (length old.tables) stamp c ≡ Some T.TooManyTables → ⊥ = λ e. let none = lawful in cc in
     let v = sym (uncounted old.kit t (length old.tables) stamp c few) ∙ lawful in (
       ap (λ o. (command_alone name t c o).0) (sym v),
       ap (λ h. table_named h.tables name) after ∙ named_after old.tables name (state_after t c) ∙ ap (λ o. (command_alone name t c o).1) (sym v),
       ap (λ h. h.kit) after,
     )
-takes_alone old new stamp name c (Refused fault refused same) calm =
+takes_alone old new stamp name c (Refused fault whole refused same) calm =
     let t = table_named old.tables name in
-    let few : world_verdict old.kit t (length old.tables) stamp c ≡ Some F.TooManyTables → ⊥ =
-    λ e. calm (F.TooManyTables, refl, ap refusal_of (some_same fault F.TooManyTables (sym refused ∙ e))) in
+    let few : world_verdict old.kit t (length old.tables) stamp c ≡ Some T.TooManyTables → ⊥ =
+    λ e. calm (F.TooManyTables, refl, ap (λ (f : store.Fault). refusal_of (of_store f)) (some_same fault T.TooManyTables (sym refused ∙ e))) in
     let v = sym (uncounted old.kit t (length old.tables) stamp c few) ∙ refused in (
       ap (λ o. (command_alone name t c o).0) (sym v),
       ap (λ h. table_named h.tables name) same ∙ ap (λ o. (command_alone name t c o).1) (sym v),
       ap (λ h. h.kit) same,
     )
-takes_alone old new stamp name c (NoRoom fault lawful (inl full) same) calm = absurd (calm (fault, ap disturbs full, refl))
-takes_alone old new stamp name c (NoRoom fault lawful (inr memory) same) calm = absurd (calm (fault, ap disturbs memory, refl))
-takes_alone old new stamp name c (Fails lawful after) calm = absurd (calm (F.DeviceFailed, refl, refl))
+takes_alone old new stamp name c (NoRoom fault whole lawful (inl full) same) calm = absurd (calm (of_store fault, ap (λ (f : store.Fault). disturbs (of_store f)) full, refl))
+takes_alone old new stamp name c (NoRoom fault whole lawful (inr memory) same) calm = absurd (calm (of_store fault, ap (λ (f : store.Fault). disturbs (of_store f)) memory, refl))
+takes_alone old new stamp name c (Fails whole lawful after) calm = absurd (calm (F.DeviceFailed, refl, refl))
+takes_alone old new stamp name c (Again broken same) calm = absurd (calm (F.OpenAgain, refl, refl))
 
 meets_alone : (old new : Held) (name : List ℕ) (l : Line) (outcome : Result (List ℕ) Fault) → line_table l ≡ Some name → Meets old l new outcome
     → ¬ IsDisturbed (reply_to outcome) → Same old new name (line_alone old.kit name (table_named old.tables name) l) (reply_to outcome)
 meets_alone old new name (L.Command stamp table c) outcome about meets calm =
-    takes_alone old new stamp name c (subst (λ k. Takes old stamp k c new outcome) (some_same table name about) meets) calm
+    let named = some_same table name about in
+    let takes = subst (λ k. Takes old stamp k c new meets.0) named meets.1 in
+    let told : outcome ≡ text_of name meets.0 = subst (λ k. outcome ≡ text_of k meets.0) named meets.2 in
+    subst (λ (o : Result (List ℕ) Fault). Same old new name (command_alone name (table_named old.tables name) c (world_verdict old.kit (table_named old.tables name) 0 stamp c)) (reply_to o)) (sym told)
+    (takes_alone old new stamp name c takes (subst (λ (o : Result (List ℕ) Fault). ¬ IsDisturbed (reply_to o)) told calm))
 meets_alone old new name (L.Query query) outcome about meets calm =
     (meets.1 ∙ query_alone old.kit old.tables name query about, ap (λ h. table_named h.tables name) meets.0, ap (λ h. h.kit) meets.0)
 
@@ -174,13 +182,14 @@ Unmoved old new name = (table_named new.tables name ≡ table_named old.tables n
 unmoved : (old new : Held) (name : List ℕ) → new ≡ old → Unmoved old new name
 unmoved old new name same = (ap (λ h. table_named h.tables name) same, ap (λ h. h.kit) same)
 
-takes_other : (old new : Held) (stamp : ℕ) (name table : List ℕ) (c : Command) {outcome : Result (List ℕ) Fault} → bytes_eq name table ≡ false
-    → Takes old stamp table c new outcome → Unmoved old new name
-takes_other old new stamp name table c apart (Accepted lawful after) =
+takes_other : (old new : Held) (stamp : ℕ) (name table : List ℕ) (c : Command) {result : Result ℕ store.Fault} → bytes_eq name table ≡ false
+    → Takes old stamp table c new result → Unmoved old new name
+takes_other old new stamp name table c apart (Accepted whole lawful after) =
     (ap (λ h. table_named h.tables name) after ∙ named_other old.tables table name (state_after (table_named old.tables table) c) apart, ap (λ h. h.kit) after)
-takes_other old new stamp name table c apart (Refused fault refused same) = unmoved old new name same
-takes_other old new stamp name table c apart (NoRoom fault lawful why same) = unmoved old new name same
-takes_other old new stamp name table c apart (Fails lawful after) = (ap (λ h. table_named h.tables name) after, ap (λ h. h.kit) after)
+takes_other old new stamp name table c apart (Refused fault whole refused same) = unmoved old new name same
+takes_other old new stamp name table c apart (NoRoom fault whole lawful why same) = unmoved old new name same
+takes_other old new stamp name table c apart (Again broken same) = unmoved old new name same
+takes_other old new stamp name table c apart (Fails whole lawful after) = (ap (λ h. table_named h.tables name) after, ap (λ h. h.kit) after)
 
 apart_from : (b : Bool) (name table : List ℕ) → bytes_eq name table ≡ b → (name ≡ table → ⊥) → bytes_eq name table ≡ false
 apart_from true name table is apart = absurd (apart ((bytes_eq-Decides name table).0 is))
@@ -189,7 +198,7 @@ apart_from false name table is apart = is
 meets_other : (old new : Held) (line name : List ℕ) (l : Line) (outcome : Result (List ℕ) Fault) → SpellsLine line l → ¬ Names name line
     → Meets old l new outcome → Unmoved old new name
 meets_other old new line name (L.Command stamp table c) outcome spells none meets =
-    takes_other old new stamp name table c (apart_from (bytes_eq name table) name table refl (λ e. none (L.Command stamp table c, spells, ap Some (sym e)))) meets
+    takes_other old new stamp name table c (apart_from (bytes_eq name table) name table refl (λ e. none (L.Command stamp table c, spells, ap Some (sym e)))) meets.1
 meets_other old new line name (L.Query query) outcome spells none meets = unmoved old new name meets.0
 
 responds_other : (old new : Held) (line name : List ℕ) {outcome : Result (List ℕ) Fault} → ¬ Names name line → Responds old line new outcome → Unmoved old new name

@@ -1,239 +1,195 @@
--- What answering a line does to the file, from what keeping its record does.
-use Rattle.std.proofs.Common.{◌≡◌, ◌⊎◌, ℕ, ◌≤◌, ◌==◌, Bool, false, true, not, List, [], ◌∷◌, ◌++◌, length, Option, None, Some, Result, Ok, Err, IsErrOf, inl, inr, if◌then◌else◌, refl, sym, ap, subst, ◌∙◌, arith}
-use Rattle.std.specs.List.{after_first}
-use Rattle.std.proofs.lemmas.Bool.Decides.{nat_tests}
+-- What answering a line does to the file, from what the store's commit does.
+use Rattle.std.proofs.Common.{◌≡◌, ◌⊎◌, ℕ, ◌+◌, ◌≤◌, Bool, false, true, List, Option, None, Some, Result, Ok, Err, inl, inr, refl, sym, ap, subst, ◌∙◌, length, arith}
 use Rattle.rr_disk.specs.Disk.{DiskState}
-use Rattle.rr_disk.specs.Moments.{EachImage, LeavesOnly}
-use Rattle.rr_disk.proofs.MomentLemmas.{started, weaker}
-use Rattle.rr_game.specs.declared.kit.Kit.{Kit}
+use Rattle.rr_disk.specs.Moments.{LeavesOnly}
+use Rattle.rr_disk.proofs.MomentLemmas.{started}
+use Rattle.rr_kit.specs.Kits.{KitTexts}
 use Rattle.rr_code.specs.declared.command.Command.{Command}
-use Rattle.rr_code.specs.declared.command.Command.TheVariants.{Open}
 use Rattle.rr_code.specs.declared.line.Line.{Line}
 use Rattle.rr_code.specs.declared.line.Line.TheVariants as L
-use Rattle.rr_words.specs.Line.{is_space}
 use Rattle.rr_code.specs.Line.{SpellsLine}
-use Rattle.rr_code.specs.Command.{SpellsRecord}
-use Rattle.rr_keeper.specs.declared.keeper.Keeper.{Keeper}
-use Rattle.rr_keeper.specs.File.{Kit as Texts}
-use Rattle.rr_keeper.specs.Keeper.{disk_of, is_broken, part_of}
-use Rattle.rr_keeper.specs.Parts.{HasPlace}
-use Rattle.rr_keeper.proofs.Parts.{is_store}
-use Rattle.rr_moderator.specs.declared.fault.Fault.{Fault}
+use Rattle.rr_store.specs.declared.fault.Fault as store
+use Rattle.rr_store.specs.declared.fault.Fault.TheVariants as T
+use Rattle.rr_store.specs.declared.store.Store.{Store}
+use Rattle.rr_store.specs.Allowing.{BeforeOrAfter}
+use Rattle.rr_store.specs.Committing.{Commits, Spares}
+use Rattle.rr_store.specs.Held.{Held, Takes, Accepted, Refused, NoRoom, Fails, Again, stamp_after, with_tables}
+use Rattle.rr_store.specs.Holding.{Carries, IsFull, IsUnchanged, disk_of, held_of}
+use Rattle.rr_store.specs.World.{TableCommand, for_table, table_named, verdict_in, world_after}
+use Rattle.rr_store.proofs.Standing.{carried_keeps, commit_leaves, same_unchanged}
+use Rattle.rr_store.proofs.Verdicts.{no_failure}
 use Rattle.rr_moderator.specs.declared.fault.Fault.TheVariants as F
-use Rattle.rr_moderator.specs.World.{TableState, World, present_stamp, state_after, table_named, verdict_in, world_after, world_verdict}
-use Rattle.rr_moderator.specs.Serving.{Held, MayAppend, Takes, Accepted, Refused, NoRoom, Fails, accepted_reply, outcome_of, reply_to, with_tables}
-use Rattle.rr_moderator.specs.Replaying.{Opens, Replayed, TakesRecord}
-use Rattle.rr_moderator.specs.Durability.{BeforeOrAfter, CountsTold, HasNoPlace, IsStoreWith, Keeping, Lasts, Passed, Stands, tells_full}
-use Rattle.rr_moderator.specs.Fault.{refusal_of}
+use Rattle.rr_moderator.specs.Answer.{accepted_text}
+use Rattle.rr_moderator.specs.Fault.{of_store, refusal_of}
+use Rattle.rr_moderator.specs.Serving.{Gives, MayAppend, reply_to, text_of}
+use Rattle.rr_moderator.specs.Durability.{CountsTold, HasNoPlace, IsTaken, Lasts, tells_acceptance, tells_full}
 use Rattle.rr_serve.specs.Serving.{tells_failure}
-use Rattle.rr_moderator.proofs.ReplayLemmas.{Replays-push}
 use Rattle.rr_moderator.proofs.ServingLemmas.{one_line}
-use Rattle.rr_moderator.proofs.Telling.{SaysNeither, accepted_calm, counts_told, failure_calm, half_full_calm, memory_calm, verdict_calm}
+use Rattle.rr_moderator.proofs.Telling.{SaysNeither, accepted_calm, accepted_told, counts_told, failure_calm, failure_told, full_told, half_full_calm, memory_calm, refusal_calm, verdict_calm}
 
--- a lawful command has the present stamp of its table
+-- a reply can't say a thing and not say it
+both_ways : {A : Type 0} (b : Bool) → b ≡ true → b ≡ false → A
+both_ways b told calm = let both : true ≡ false = sym told ∙ calm in absurd (cc both)
 
-passed_test : (b : Bool) (f : Fault) (rest : Option Fault) → (if not b then Some f else rest) ≡ None → b ≡ true
-passed_test true f rest h = refl
-passed_test false f rest h = absurd cc
+unchanged_by : {D : Type 0} (old new : Store D) (fault : store.Fault) → (fault ≡ T.DeviceFailed → ⊥) → Spares old (Err fault) new → IsUnchanged old new
+unchanged_by old new T.DeviceFailed other h = absurd (other refl)
+unchanged_by old new _ other h = h
 
-same_number : (n m : ℕ) → (n == m) ≡ true → n ≡ m
-same_number n m h = grind (arith, nat_tests)
+-- a command of a line, as one line gives it
+abbrev named : Line → Option (ℕ × TableCommand)
+named (L.Command stamp name c) = Some (stamp, for_table name c)
+named (L.Query query) = None
 
-present : (kit : Kit) (t : Option TableState) (n stamp : ℕ) (c : Command) → world_verdict kit t n stamp c ≡ None → stamp ≡ present_stamp t
-present kit None n stamp (Open players) h = same_number stamp 0 (passed_test (stamp == 0) _ _ h)
-present kit (Some t) n stamp (Open players) h = absurd cc
-present kit None n stamp c h = absurd cc
-present kit (Some t) n stamp c h = sym (same_number t.stamp stamp (passed_test (t.stamp == stamp) _ _ h))
+same_some : (a b : ℕ × TableCommand) → Some a ≡ Some b → a ≡ b
+same_some a b e = cc
 
-takes_record : (kit : Kit) (tables : World) (stamp : ℕ) (name bytes : List ℕ) (c : Command)
-    → SpellsRecord bytes name c → verdict_in kit tables stamp name c ≡ None → TakesRecord kit tables bytes (world_after tables name c)
-takes_record kit tables stamp name bytes c spelled lawful =
-    let at : stamp ≡ present_stamp (table_named tables name) = present kit (table_named tables name) (length tables) stamp c lawful in
-    record {
-      name = name;
-      command = c;
-      spelled = spelled;
-      lawful = subst (λ n. verdict_in kit tables n name c ≡ None) at lawful;
-      taken = refl;
-    }
+same_given : (line : List ℕ) (stamp : ℕ) (name : List ℕ) (c : Command) (held : Held) (other : TableCommand) (g : Gives held line other) → SpellsLine line (L.Command stamp name c)
+    → (g.stamp ≡ stamp) × (other ≡ for_table name c)
+same_given line stamp name c held other g spells =
+    let lines = one_line line (L.Command g.stamp other.name other.command) (L.Command stamp name c) g.spelled spells in
+    let same = same_some (g.stamp, for_table other.name other.command) (stamp, for_table name c) (ap named lines) in
+    (ap (λ (x : ℕ × TableCommand). x.0) same, ap (λ (x : ℕ × TableCommand). x.1) same)
 
--- a kit and records with one more
-replayed_more : (texts : Texts) (records : List (List ℕ)) (kit : Kit) (tables : World) (stamp : ℕ) (name bytes : List ℕ) (c : Command)
-    → SpellsRecord bytes name c → verdict_in kit tables stamp name c ≡ None → Replayed texts records kit tables
-    → Replayed texts (records ++ bytes ∷ []) kit (world_after tables name c)
-replayed_more texts records kit tables stamp name bytes c spelled lawful h =
-    record {
-      right = h.right;
-      replayed = Replays-push kit [] tables (world_after tables name c) records bytes h.replayed (takes_record kit tables stamp name bytes c spelled lawful);
-    }
+module _ {D : Type 0} (Honest : D → Type 0) (state : D → DiskState) (past : D → List DiskState) (faults writes syncs : D → ℕ) (old new : Store D) (line reply : List ℕ) where
+  abbrev pub Lasting : Type 0
+  Lasting = Lasts Honest state past faults writes syncs old line new reply
 
--- the verdict on a line that was read, if it is a command
-abbrev line_verdict : Held → Line → Option Fault
-line_verdict held (L.Command stamp name c) = verdict_in held.kit held.tables stamp name c
-line_verdict held (L.Query query) = None
+  abbrev GoesOn : Type 0
+  GoesOn = Honest (disk_of new) → (held_of new).broken ≡ false → (texts : KitTexts) → Carries state old texts → Carries state new texts
 
-module _ {D : Type 0} (Honest : D → Type 0) (state : D → DiskState) (past : D → List DiskState) (faults : D → ℕ) (old : Keeper D) (before : Held) (line : List ℕ) where
-  -- the file opens as what is held
-  pub stands_opens : (texts : Texts) → Stands old (state (disk_of old)) texts before → EachImage (state (disk_of old)) (λ image. Opens image before)
-  stands_opens texts s = λ image is.
-      record { texts = texts; records = s.records; store = is_store image texts (part_of old).index s.records s.keeps.front s.keeps.own s.keeps.joined (s.keeps.each image is); replayed = s.replayed; whole = s.whole }
+  at_most : (count : D → ℕ) → disk_of new ≡ disk_of old → count (disk_of new) ≤ count (disk_of old) + 2
+  at_most count is = let e : count (disk_of new) ≡ count (disk_of old) = ap count is in omega arith
 
   -- the disk counted no fault, and the reply says nothing of one
-  counts_none : (new : Keeper D) (reply : List ℕ) → tells_failure reply ≡ false → faults (disk_of new) ≡ faults (disk_of old)
-      → CountsTold (faults (disk_of old)) (faults (disk_of new)) (tells_failure reply)
-  counts_none new reply calm same = subst (λ (b : Bool). CountsTold (faults (disk_of old)) (faults (disk_of new)) b) (sym calm) same
+  counts_none : tells_failure reply ≡ false → faults (disk_of new) ≡ faults (disk_of old) → CountsTold (faults (disk_of old)) (faults (disk_of new)) (tells_failure reply)
+  counts_none calm same = subst (λ (b : Bool). CountsTold (faults (disk_of old)) (faults (disk_of new)) b) (sym calm) same
 
-  -- a line that leaves keeper and tables as they were
-  pub lasts_same : (new : Keeper D) (after : Held) (reply : List ℕ) → new ≡ old → (is_broken new ≡ false → after ≡ before) → tells_failure reply ≡ false
-      → (tells_full reply ≡ true → HasNoPlace old before line) → (HasNoPlace old before line → (reply ≡ refusal_of F.HalfFull) ⊎ (reply ≡ refusal_of F.OutOfMemory))
-      → Lasts Honest state past faults old before line new after reply
-  lasts_same new after reply same held calm full in_time =
+  -- all is as it was, and the reply neither takes a command nor tells of a fault
+  lasts_unchanged : IsUnchanged old new → GoesOn → tells_failure reply ≡ false → tells_acceptance reply ≡ false
+      → (tells_full reply ≡ true → HasNoPlace old line) → (HasNoPlace old line → (reply ≡ refusal_of F.HalfFull) ⊎ (reply ≡ refusal_of F.OutOfMemory)) → Lasting
+  lasts_unchanged same goes_on calm refused full in_time =
       record {
-        honest = λ h. subst (λ (k : Keeper D). Honest (disk_of k)) same h;
-        stops = λ h texts s. subst (λ (k : Keeper D). LeavesOnly (past (disk_of old)) (state (disk_of old)) (past (disk_of k)) (state (disk_of k)) (BeforeOrAfter before line))
-            (sym same) (started (past (disk_of old)) (state (disk_of old)) (BeforeOrAfter before line) (λ image is. inl (stands_opens texts s image is)));
-        stands = λ h whole texts s. subst (λ (k : Keeper D). Stands k (state (disk_of k)) texts after) (sym same)
-            (subst (λ (x : Held). Stands old (state (disk_of old)) texts x) (sym (held whole)) s);
-        untouched = λ unlawful. same;
-        counts = counts_none new reply calm (ap (λ (k : Keeper D). faults (disk_of k)) same);
+        pending = None;
+        pends = tt;
+        accepted = λ told. both_ways (tells_acceptance reply) told refused;
+        honest = λ h. subst Honest same.disk h;
+        stops = λ h texts s. subst (λ (d : D). LeavesOnly (past (disk_of old)) (state (disk_of old)) (past d) (state d) (BeforeOrAfter texts (held_of old).tables None)) (sym same.disk)
+            (started (past (disk_of old)) (state (disk_of old)) (BeforeOrAfter texts (held_of old).tables None) (λ image is. inl (carried_keeps state old texts s image is)));
+        carries = goes_on;
+        spares = λ _ _. same;
+        untouched = λ _. same;
+        counts = counts_none calm (ap faults same.disk);
+        few_writes = at_most writes same.disk;
+        few_syncs = at_most syncs same.disk;
         full = full;
         in_time = in_time;
       }
 
-  -- a line that is no lawful command, and whose reply says neither
-  pub lasts_unlawful : (new : Keeper D) (after : Held) (reply : List ℕ) → new ≡ old → (is_broken new ≡ false → after ≡ before) → SaysNeither reply → ¬ MayAppend before line
-      → Lasts Honest state past faults old before line new after reply
-  lasts_unlawful new after reply same held calm unlawful =
-      lasts_same new after reply same held calm.0 (λ told. absurd (cc (sym told ∙ calm.1))) (λ none. absurd (unlawful none.lawful))
+  -- a line that gives no lawful command, and whose reply says nothing of it
+  pub lasts_unlawful : new ≡ old → SaysNeither reply → ¬ MayAppend (held_of old) line → Lasting
+  lasts_unlawful same calm unlawful =
+      lasts_unchanged (same_unchanged old new same) (λ h whole texts s. subst (λ (x : Store D). Carries state x texts) (sym same) s) calm.0 calm.2
+      (λ told. both_ways (tells_full reply) told calm.1) (λ none. absurd (unlawful (none.command, none.lawful)))
 
-  module _ (stamp : ℕ) (name bytes : List ℕ) (c : Command) (short : length line ≤ 8000) (spells : SpellsLine line (L.Command stamp name c))
-      (spelled : SpellsRecord bytes name c) (behind : bytes ≡ after_first is_space line) (whole : before.broken ≡ false) (was : before.broken ≡ is_broken old) where
-    abbrev lawful_now : Type 0
-    lawful_now = verdict_in before.kit before.tables stamp name c ≡ None
+  module _ (stamp : ℕ) (name : List ℕ) (c : Command) (short : length line ≤ 8000) (spells : SpellsLine line (L.Command stamp name c)) (whole : (held_of old).broken ≡ false) where
+    abbrev asked : TableCommand
+    asked = for_table name c
 
-    abbrev append_of : lawful_now → MayAppend before line
-    append_of lawful =
-        record { stamp = stamp; name = name; command = c; short = short; spelled = spells; whole = whole; lawful = lawful }
+    abbrev Lawful : Type 0
+    Lawful = verdict_in (held_of old).kit (held_of old).tables stamp name c ≡ None
 
-    abbrev IsFull : Type 0
-    IsFull = HasPlace (part_of old) (length bytes) → ⊥
+    gives : Lawful → Gives (held_of old) line asked
+    gives lawful = record { stamp = stamp; short = short; spelled = spells; whole = whole; lawful = lawful }
 
-    no_place : lawful_now → IsFull → HasNoPlace old before line
-    no_place lawful full = record { lawful = append_of lawful; full = subst (λ (record_bytes : List ℕ). HasPlace (part_of old) (length record_bytes) → ⊥) behind full }
+    -- what else the line gives is that
+    lawful_of : (other : TableCommand) → Gives (held_of old) line other → Lawful
+    lawful_of other g =
+        let same = same_given line stamp name c (held_of old) other g spells in
+        subst (λ (x : TableCommand). verdict_in (held_of old).kit (held_of old).tables stamp x.name x.command ≡ None) same.1
+        (subst (λ (n : ℕ). verdict_in (held_of old).kit (held_of old).tables n other.name other.command ≡ None) same.0 g.lawful)
 
-    is_full : HasNoPlace old before line → IsFull
-    is_full none = subst (λ (record_bytes : List ℕ). HasPlace (part_of old) (length record_bytes) → ⊥) (sym behind) none.full
+    full_of : (none : HasNoPlace old line) → IsFull old name c
+    full_of none = subst (λ (x : TableCommand). IsFull old x.name x.command) (same_given line stamp name c (held_of old) none.command none.lawful spells).1 none.full
 
-    -- a line that a rule refuses isn't lawful
-    unlawful_now : (fault : Fault) → verdict_in before.kit before.tables stamp name c ≡ Some fault → ¬ MayAppend before line
-    unlawful_now fault verdict lawful =
-        let same = one_line line (L.Command stamp name c) (L.Command lawful.stamp lawful.name lawful.command) spells lawful.spelled in
-        let of_line : Line → Option Fault = λ l. line_verdict before l in
-        let both : Some fault ≡ None = sym verdict ∙ (ap of_line same ∙ lawful.lawful) in
-        absurd (cc both)
+    abbrev Committed : Result ℕ store.Fault → Type 0
+    Committed taking = Commits Honest state past faults writes syncs old name stamp c new taking
 
-    opens_either : lawful_now → (texts : Texts) (s : Stands old (state (disk_of old)) texts before) (image : List ℕ) → IsStoreWith texts s.records bytes image → BeforeOrAfter before line image
-    opens_either lawful texts s image (inl store) =
-        inl (record { texts = texts; records = s.records; store = store; replayed = s.replayed; whole = s.whole })
-    opens_either lawful texts s image (inr store) =
-        inr (record {
-          taken = append_of lawful;
-          opens = record {
-            texts = texts;
-            records = s.records ++ bytes ∷ [];
-            store = store;
-            replayed = replayed_more texts s.records before.kit before.tables stamp name bytes c spelled lawful s.replayed;
-            whole = whole;
-          };
-        })
+    no_room : {A : Type 0} (taking : Result ℕ store.Fault) → (taking ≡ Err T.HalfFull → ⊥) → (taking ≡ Err T.OutOfMemory → ⊥) → (taking ≡ Err T.HalfFull) ⊎ (taking ≡ Err T.OutOfMemory) → A
+    no_room taking not_full not_memory (inl is) = absurd (not_full is)
+    no_room taking not_full not_memory (inr is) = absurd (not_memory is)
 
-    -- a command whose record was kept
-    kept_ok : (new : Keeper D) (after : Held) (reply : List ℕ) → lawful_now → after ≡ with_tables before (world_after before.tables name c)
-        → SaysNeither reply
-        → Keeping Honest state past faults old bytes (Ok tt) new → Lasts Honest state past faults old before line new after reply
-    kept_ok new after reply lawful held calm k =
+    taken : (n : ℕ) → reply ≡ accepted_text name n → n ≡ stamp_after (held_of old).tables name c → Lawful → held_of new ≡ with_tables (held_of old) (world_after (held_of old).tables name c)
+        → Committed (Ok n) → Lasting
+    taken n told counted lawful held_is k =
         record {
+          pending = Some asked;
+          pends = gives lawful;
+          accepted = λ _. record { command = asked; pends = refl; held = held_is; told = told ∙ ap (accepted_text name) counted };
           honest = k.honest;
-          stops = λ h texts s. weaker (k.stops h texts s.records s.keeps) (BeforeOrAfter before line) (opens_either lawful texts s);
-          stands = λ h unbroken texts s. subst (λ (x : Held). Stands new (state (disk_of new)) texts x) (sym held) (record {
-            records = s.records ++ bytes ∷ [];
-            keeps = k.keeps h unbroken texts s.records s.keeps;
-            replayed = replayed_more texts s.records before.kit before.tables stamp name bytes c spelled lawful s.replayed;
-            whole = whole;
-          });
-          untouched = λ unlawful. absurd (unlawful (append_of lawful));
-          counts = counts_none new reply calm.0 k.counts;
-          full = λ told. absurd (cc (sym told ∙ calm.1));
-          in_time = λ none. absurd (cc (k.full (sym was ∙ whole) (is_full none)));
+          stops = λ h texts s. commit_leaves texts (held_of old).tables stamp asked (Ok n) _ _ _ _ (k.allowed h texts s);
+          carries = k.carries;
+          spares = λ refused _. both_ways (tells_acceptance reply) acceptance refused;
+          untouched = λ unlawful. absurd (unlawful (asked, gives lawful));
+          counts = counts_none (ap tells_failure told ∙ (accepted_calm name n).0) k.counts;
+          few_writes = k.few_writes;
+          few_syncs = k.few_syncs;
+          full = λ is. both_ways (tells_full reply) is (ap tells_full told ∙ (accepted_calm name n).1);
+          in_time = λ none. no_room (Ok n) (λ e. absurd (cc e)) (λ e. absurd (cc e)) (k.in_time whole lawful (full_of none));
+        }
+      where
+        acceptance : tells_acceptance reply ≡ true
+        acceptance = ap tells_acceptance told ∙ accepted_told name n
+
+    failed : reply ≡ refusal_of F.DeviceFailed → Lawful → Committed (Err T.DeviceFailed) → Lasting
+    failed told lawful k =
+        record {
+          pending = Some asked;
+          pends = gives lawful;
+          accepted = λ is. both_ways (tells_acceptance reply) is (ap tells_acceptance told ∙ refusal_calm F.DeviceFailed);
+          honest = k.honest;
+          stops = λ h texts s. commit_leaves texts (held_of old).tables stamp asked (Err T.DeviceFailed) _ _ _ _ (k.allowed h texts s);
+          carries = k.carries;
+          spares = λ _ calm. both_ways (tells_failure reply) (ap tells_failure told ∙ failure_told) calm;
+          untouched = λ unlawful. absurd (unlawful (asked, gives lawful));
+          counts = subst (λ (r : List ℕ). CountsTold (faults (disk_of old)) (faults (disk_of new)) (tells_failure r)) (sym told)
+              (counts_told (faults (disk_of old)) (faults (disk_of new)) T.DeviceFailed k.counts);
+          few_writes = k.few_writes;
+          few_syncs = k.few_syncs;
+          full = λ is. both_ways (tells_full reply) is (ap tells_full told ∙ failure_calm);
+          in_time = λ none. no_room (Err T.DeviceFailed) (λ e. absurd (cc e)) (λ e. absurd (cc e)) (k.in_time whole lawful (full_of none));
         }
 
-    -- a command whose record wasn't
-    kept_err : (new : Keeper D) (after : Held) (fault : Fault) → lawful_now → (is_broken new ≡ false → after ≡ before)
-        → (tells_full (refusal_of fault) ≡ true → HasNoPlace old before line)
-        → (HasNoPlace old before line → (refusal_of fault ≡ refusal_of F.HalfFull) ⊎ (refusal_of fault ≡ refusal_of F.OutOfMemory))
-        → Keeping Honest state past faults old bytes (Err fault) new → Lasts Honest state past faults old before line new after (refusal_of fault)
-    kept_err new after fault lawful held full in_time k =
-        record {
-          honest = k.honest;
-          stops = λ h texts s. weaker (k.stops h texts s.records s.keeps) (BeforeOrAfter before line) (opens_either lawful texts s);
-          stands = λ h unbroken texts s. subst (λ (x : Held). Stands new (state (disk_of new)) texts x) (sym (held unbroken)) (record {
-            records = s.records;
-            keeps = k.keeps h unbroken texts s.records s.keeps;
-            replayed = s.replayed;
-            whole = s.whole;
-          });
-          untouched = λ unlawful. absurd (unlawful (append_of lawful));
-          counts = counts_told (faults (disk_of old)) (faults (disk_of new)) fault k.counts;
-          full = full;
-          in_time = in_time;
-        }
+    no_place : Lawful → IsFull old name c → HasNoPlace old line
+    no_place lawful full = record { command = asked; lawful = gives lawful; full = full }
 
-    abbrev Untouched : Keeper D → Type 0
-    Untouched new = (fault : Fault) → verdict_in before.kit before.tables stamp name c ≡ Some fault → new ≡ old
+    -- there was no room in the file or in memory
+    kept_out : (fault : store.Fault) → reply ≡ refusal_of (of_store fault) → Lawful → (fault ≡ T.HalfFull) ⊎ (fault ≡ T.OutOfMemory) → Committed (Err fault) → Lasting
+    kept_out fault told lawful (inl is) k =
+        let reply_is : reply ≡ refusal_of F.HalfFull = told ∙ ap (λ (f : store.Fault). refusal_of (of_store f)) is in
+        lasts_unchanged (unchanged_by old new fault (λ e. let both : T.HalfFull ≡ T.DeviceFailed = sym is ∙ e in absurd (cc both)) k.spares) k.carries
+        (ap tells_failure reply_is ∙ half_full_calm) (ap tells_acceptance reply_is ∙ refusal_calm F.HalfFull)
+        (λ _. no_place lawful (k.full (ap (λ (f : store.Fault). Err f) is))) (λ _. inl reply_is)
+    kept_out fault told lawful (inr is) k =
+        let reply_is : reply ≡ refusal_of F.OutOfMemory = told ∙ ap (λ (f : store.Fault). refusal_of (of_store f)) is in
+        lasts_unchanged (unchanged_by old new fault (λ e. let both : T.OutOfMemory ≡ T.DeviceFailed = sym is ∙ e in absurd (cc both)) k.spares) k.carries
+        (ap tells_failure reply_is ∙ memory_calm.0) (ap tells_acceptance reply_is ∙ refusal_calm F.OutOfMemory)
+        (λ full. both_ways (tells_full reply) full (ap tells_full reply_is ∙ memory_calm.1)) (λ _. inr reply_is)
 
-    failed : (new : Keeper D) (after : Held) → after.broken ≡ is_broken new → after.broken ≡ true → is_broken new ≡ false → after ≡ before
-    failed new after same broken unbroken = let both : true ≡ false = sym broken ∙ (same ∙ unbroken) in absurd cc
+    -- a rule refused it
+    ruled_out : (fault : store.Fault) → reply ≡ refusal_of (of_store fault) → verdict_in (held_of old).kit (held_of old).tables stamp name c ≡ Some fault → Committed (Err fault) → Lasting
+    ruled_out fault told verdict k =
+        let calm = verdict_calm (held_of old).kit (table_named (held_of old).tables name) (length (held_of old).tables) stamp c fault verdict in
+        lasts_unchanged (unchanged_by old new fault (no_failure (held_of old).kit (held_of old).tables stamp name c fault verdict) k.spares) k.carries
+        (ap tells_failure told ∙ calm.0) (ap tells_acceptance told ∙ calm.2)
+        (λ full. both_ways (tells_full reply) full (ap tells_full told ∙ calm.1))
+        (λ none. let both : None ≡ Some fault = sym (lawful_of none.command none.lawful) ∙ verdict in absurd (cc both))
 
-    -- a device that wasn't asked hasn't failed
-    not_asked : (new : Keeper D) (after : Held) → after.broken ≡ is_broken new → after.broken ≡ true → new ≡ old → ⊥
-    not_asked new after same broken still =
-        let both : true ≡ false = sym broken ∙ same ∙ ap (λ (k : Keeper D). is_broken k) still ∙ sym was ∙ whole in cc
+    lasts_by : (taking : Result ℕ store.Fault) → reply ≡ reply_to (text_of name taking) → Takes (held_of old) stamp name c (held_of new) taking → Committed taking → Lasting
+    lasts_by taking told (Accepted was lawful held_is) k = taken (stamp_after (held_of old).tables name c) told refl lawful held_is k
+    lasts_by taking told (Refused fault was verdict held_is) k = ruled_out fault told verdict k
+    lasts_by taking told (NoRoom fault was lawful why held_is) k = kept_out fault told lawful why k
+    lasts_by taking told (Fails was lawful held_is) k = failed told lawful k
+    lasts_by taking told (Again broken held_is) k = both_ways (held_of old).broken broken whole
 
-    no_room_calm : (fault : Fault) → (fault ≡ F.HalfFull) ⊎ (fault ≡ F.OutOfMemory) → tells_failure (refusal_of fault) ≡ false
-    no_room_calm fault (inl full) = ap (λ (f : Fault). tells_failure (refusal_of f)) full ∙ half_full_calm
-    no_room_calm fault (inr memory) = ap (λ (f : Fault). tells_failure (refusal_of f)) memory ∙ memory_calm.0
-
-    abbrev FullIsTold : Fault → Type 0
-    FullIsTold fault = fault ≡ F.HalfFull → IsFull
-
-    no_room_full : (fault : Fault) → lawful_now → FullIsTold fault → (fault ≡ F.HalfFull) ⊎ (fault ≡ F.OutOfMemory) → tells_full (refusal_of fault) ≡ true → HasNoPlace old before line
-    no_room_full fault lawful full (inl is) told = no_place lawful (full is)
-    no_room_full fault lawful full (inr memory) told = absurd (cc (sym told ∙ (ap (λ (f : Fault). tells_full (refusal_of f)) memory ∙ memory_calm.1)))
-
-    no_room_told : (fault : Fault) → (fault ≡ F.HalfFull) ⊎ (fault ≡ F.OutOfMemory) → (refusal_of fault ≡ refusal_of F.HalfFull) ⊎ (refusal_of fault ≡ refusal_of F.OutOfMemory)
-    no_room_told fault (inl is) = inl (ap refusal_of is)
-    no_room_told fault (inr is) = inr (ap refusal_of is)
-
-    refused_lasts : (new : Keeper D) (after : Held) (fault : Fault) → after.broken ≡ is_broken new → Untouched new → FullIsTold fault
-        → Takes before stamp name c after (Err fault) → (new ≡ old) ⊎ Keeping Honest state past faults old bytes (Err fault) new
-        → Lasts Honest state past faults old before line new after (refusal_of fault)
-    refused_lasts new after fault same untouched full (Refused f verdict held) h =
-        lasts_unlawful new after (refusal_of f) (untouched f verdict) (λ unbroken. held)
-        (verdict_calm before.kit (table_named before.tables name) (length before.tables) stamp c f verdict) (unlawful_now f verdict)
-    refused_lasts new after fault same untouched full (NoRoom f lawful why held) (inl still) =
-        lasts_same new after (refusal_of f) still (λ unbroken. held) (no_room_calm f why) (no_room_full f lawful full why) (λ none. no_room_told f why)
-    refused_lasts new after fault same untouched full (NoRoom f lawful why held) (inr k) =
-        kept_err new after f lawful (λ unbroken. held) (no_room_full f lawful full why) (λ none. no_room_told f why) k
-    refused_lasts new after fault same untouched full (Fails lawful held) (inl still) =
-        absurd (not_asked new after same (ap (λ (x : Held). x.broken) held) still)
-    refused_lasts new after fault same untouched full (Fails lawful held) (inr k) =
-        kept_err new after F.DeviceFailed lawful (failed new after same (ap (λ (x : Held). x.broken) held)) (λ told. absurd (cc (sym told ∙ failure_calm)))
-        (λ none. absurd (cc (k.full (sym was ∙ whole) (is_full none)))) k
-
-    pub command_lasts : (new : Keeper D) (after : Held) (result : Result (Unit {0}) Fault) (reply : List ℕ) → after.broken ≡ is_broken new
-        → Untouched new → (IsErrOf result F.HalfFull → IsFull) → Takes before stamp name c after (outcome_of result reply) → Passed (λ k bs r k'. Keeping Honest state past faults k bs r k') old bytes new result
-        → Lasts Honest state past faults old before line new after (reply_to (outcome_of result reply))
-    command_lasts new after (Ok u) reply same untouched full (Accepted lawful held) k =
-        kept_ok new after (accepted_reply before.tables name c) lawful held (accepted_calm name (state_after (table_named before.tables name) c).stamp) k
-    command_lasts new after (Err fault) reply same untouched full takes h =
-        refused_lasts new after fault same untouched (λ is. full (ap (λ (f : Fault). Err f) is)) takes h
+    pub command_lasts : (taking : Result ℕ store.Fault) → reply ≡ reply_to (text_of name taking) → Committed taking → Lasting
+    command_lasts taking told k = lasts_by taking told k.takes k

@@ -1,13 +1,8 @@
-pub mod Records
 pub mod Listing
-pub mod Outcomes
-pub mod WorldLemmas
 pub mod Replies
 pub mod ServingLemmas
 pub mod Telling
 pub mod DurabilityLemmas
 pub mod AlongLemmas
-pub mod OneWorldLemmas
 pub mod SessionLemmas
-pub mod ReplayLemmas
 pub mod AloneLemmas

@@ -1,5 +1,5 @@
 -- What the tables in memory say, as the answers that the accepted commands make.
-use Rattle.std.proofs.Common.{◌≡◌, ℕ, ◌+◌, ◌≤◌, List, [], ◌∷◌, ◌++◌, None, Some, Result, Ok, Err, length, option_map, take, get_or, slice_get, codes, bytes_eq, refl, sym, ap, subst, ◌∙◌, inl, inr, arith}
+use Rattle.std.proofs.Common.{◌≡◌, ℕ, ◌+◌, ◌≤◌, List, [], ◌∷◌, ◌++◌, Option, None, Some, Bool, true, false, Result, Ok, Err, length, option_map, take, get_or, slice_get, codes, bytes_eq, refl, sym, ap, subst, ◌∙◌, inl, inr, arith}
 use Rattle.std.specs.Map.{keys_of, lookup}
 use Rattle.std.proofs.lemmas.Bool.{cases_lt}
 use Rattle.std.proofs.lemmas.List.{flat_map_more, take_all, take_more}
@@ -7,11 +7,13 @@ use Rattle.std.proofs.lemmas.Option.{get_or_from_slice_get, none-some, slice_get
 use Rattle.std.proofs.lemmas.Map.Made.{lookup-map_values}
 use Rattle.rr_moderator.specs.declared.fault.Fault.{Fault}
 use Rattle.rr_moderator.specs.declared.fault.Fault.TheVariants as F
-use Rattle.rr_moderator.specs.declared.tables.Table.{Table}
 use Rattle.rr_moderator.specs.Answer.{answer_of, spaced}
-use Rattle.rr_moderator.specs.Holding.{state_of, world_of}
-use Rattle.rr_moderator.specs.Queries.{Answer, Writes, answer_of_table, fault_of, names, reply_of}
-use Rattle.rr_moderator.specs.World.{TableState, table_named}
+use Rattle.rr_moderator.specs.Queries.{Answer, Writes, answer_of_table, fault_of, reply_of}
+use Rattle.rr_store.specs.declared.fault.Fault as store
+use Rattle.rr_store.specs.declared.fault.Fault.TheVariants as T
+use Rattle.rr_store.specs.Held.{Held, LacksTable}
+use Rattle.rr_store.specs.World.{TableState, World, table_named}
+use Rattle.rr_moderator.specs.Fault.{of_store}
 
 past_end : (names : List (List ℕ)) (i : ℕ) → slice_get names i ≡ None → length names ≤ i
 past_end names i past = elim (cases_lt i (length names)) [ inl short ↦ absurd (none-some (get_or names i []) (sym past ∙ slice_get-get_or names i [] short)) | inr long ↦ long ]
@@ -41,30 +43,28 @@ written answer words text e same = (ap fault_of e, ap reply_of e ∙ ap (λ l. l
 pub refused : (answer : Answer) (expected fault : Fault) → answer ≡ Err expected → fault ≡ expected → fault_of answer ≡ Some fault
 refused answer expected fault e same = ap fault_of e ∙ ap Some (sym same)
 
--- the names of the tables in memory
-pub names-world_of : (entries : List (List ℕ × Table)) → names (world_of entries) ≡ keys_of entries
-names-world_of [] = refl
-names-world_of (e ∷ es) = ap (λ l. e.0 ∷ l) (names-world_of es)
-
--- the answer of the table that the tables in memory have at a name
-pub at_table : (entries : List (List ℕ × Table)) (name : List ℕ) (answer : TableState → Answer) (table : Table) → lookup (bytes_eq name) entries ≡ Some table →
-    answer_of_table answer (table_named (world_of entries) name) ≡ answer (state_of table)
-at_table entries name answer table e =
-    ap (answer_of_table answer) (lookup-map_values state_of (bytes_eq name) entries ∙ ap (option_map state_of) e)
-
-pub at_no_table : (entries : List (List ℕ × Table)) (name : List ℕ) (answer : TableState → Answer) → lookup (bytes_eq name) entries ≡ None →
-    answer_of_table answer (table_named (world_of entries) name) ≡ Err F.NoSuchTable
-at_no_table entries name answer e =
-    ap (answer_of_table answer) (lookup-map_values state_of (bytes_eq name) entries ∙ ap (option_map state_of) e)
-
-pub writes_at : {A : Type 0} (entries : List (List ℕ × Table)) (name : List ℕ) (answer : TableState → Answer) (table : Table) (result : Result A Fault) (text : List ℕ) →
-    lookup (bytes_eq name) entries ≡ Some table → Writes (answer (state_of table)) result text →
-    Writes (answer_of_table answer (table_named (world_of entries) name)) result text
-writes_at {A} entries name answer table result text e writes =
+-- the answer of the table that a store has at a name
+pub writes_at : {A : Type 0} (tables : World) (name : List ℕ) (answer : TableState → Answer) (t : TableState) (result : Result A Fault) (text : List ℕ) →
+    table_named tables name ≡ Some t → Writes (answer t) result text →
+    Writes (answer_of_table answer (table_named tables name)) result text
+writes_at {A} tables name answer t result text e writes =
     let P : Answer → Type 0 = λ a. Writes a result text in
-    subst P (sym (at_table entries name answer table e)) writes
+    subst P (sym (ap (answer_of_table answer) e)) writes
 
-pub refuses_at : (entries : List (List ℕ × Table)) (name : List ℕ) (answer : TableState → Answer) (fault : Fault) →
-    (fault ≡ F.NoSuchTable) × (lookup (bytes_eq name) entries ≡ None) →
-    fault_of (answer_of_table answer (table_named (world_of entries) name)) ≡ Some fault
-refuses_at entries name answer fault h = refused _ F.NoSuchTable fault (at_no_table entries name answer h.1) h.0
+-- a store whose device works lacks a table only where no table has the name
+pub refuses_at : (held : Held) (name : List ℕ) (answer : TableState → Answer) (fault : store.Fault) → held.broken ≡ false →
+    LacksTable held name fault →
+    fault_of (answer_of_table answer (table_named held.tables name)) ≡ Some (of_store fault)
+refuses_at held name answer T.NoSuchTable whole h = ap (λ (o : Option TableState). fault_of (answer_of_table answer o)) h.1
+refuses_at held name answer T.OpenAgain whole h = let both : true ≡ false = sym h ∙ whole in absurd (cc both)
+refuses_at held name answer (T.Kit fault) whole h = absurd h
+refuses_at held name answer (T.Game fault) whole h = absurd h
+refuses_at held name answer (T.StaleStamp stamp) whole h = absurd h
+refuses_at held name answer T.TooManyCommands whole h = absurd h
+refuses_at held name answer T.DeviceFailed whole h = absurd h
+refuses_at held name answer T.HalfFull whole h = absurd h
+refuses_at held name answer (T.Damaged clause) whole h = absurd h
+refuses_at held name answer T.NotAStore whole h = absurd h
+refuses_at held name answer T.NotEmpty whole h = absurd h
+refuses_at held name answer T.TooManyTables whole h = absurd h
+refuses_at held name answer T.OutOfMemory whole h = absurd h

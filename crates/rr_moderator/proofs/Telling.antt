@@ -1,7 +1,9 @@
 -- Which replies say that the device failed, or that the file is full.
 use Rattle.std.proofs.Common.{◌≡◌, ℕ, ◌==◌, Bool, true, false, not, List, [], ◌∷◌, ◌++◌, codes, Option, None, Some, if◌then◌else◌, option_map, nat_le, refl, subst}
 use Rattle.std.specs.Fmt.{digits}
-use Rattle.rr_game.specs.declared.kit.Kit.{Kit}
+use Rattle.rr_kit.specs.declared.kit.Kit.{Kit}
+use Rattle.rr_kit.specs.declared.fault.Fault as kit
+use Rattle.rr_kit.specs.declared.fault.Fault.TheVariants as I
 use Rattle.rr_game.specs.declared.fault.Fault as game
 use Rattle.rr_game.specs.declared.fault.Fault.TheVariants as G
 use Rattle.rr_game.specs.Verdict.{command_verdict}
@@ -9,18 +11,22 @@ use Rattle.rr_code.specs.declared.command.Command.{Command}
 use Rattle.rr_code.specs.declared.command.Command.TheVariants.{Open}
 use Rattle.rr_code.specs.declared.query.Query.{Query}
 use Rattle.rr_code.specs.declared.query.Query.TheVariants as Q
-use Rattle.rr_keeper.specs.declared.fault.Fault as keeper
-use Rattle.rr_keeper.specs.declared.fault.Fault.TheVariants as K
-use Rattle.rr_keeper.specs.Fault.{Counts}
+use Rattle.rr_store.specs.declared.fault.Fault as store
+use Rattle.rr_store.specs.declared.fault.Fault.TheVariants as T
+use Rattle.rr_store.specs.Fault.{CountsFailure, of_game as stored_game}
+use Rattle.rr_store.specs.World.{TableState, World, is_full, opening_verdict, table_named, table_verdict, world_verdict}
 use Rattle.rr_serve.specs.Serving.{tells_failure}
 use Rattle.rr_moderator.specs.declared.fault.Fault.{Fault}
 use Rattle.rr_moderator.specs.declared.fault.Fault.TheVariants as F
 use Rattle.rr_moderator.specs.Answer.{accepted_text, answer_of}
-use Rattle.rr_moderator.specs.Durability.{CountsTold, tells_full}
-use Rattle.rr_moderator.specs.Fault.{of_game, of_keeper, refusal_of}
+use Rattle.rr_moderator.specs.Durability.{CountsTold, tells_acceptance, tells_full}
+use Rattle.rr_moderator.specs.Fault.{of_store, refusal_of}
 use Rattle.rr_moderator.specs.Queries.{Answer, answer_of_named, answer_of_table, asked_answer, cash_answer, due_answer, holds_answer, limit_answer, order_answer, price_answer, privates_answer, query_text, reply_of, stamp_answer, turns_answer}
-use Rattle.rr_moderator.specs.Replaying.{CountsFailure}
-use Rattle.rr_moderator.specs.World.{TableState, World, is_full, opening_verdict, table_named, table_verdict, world_verdict}
+
+counts_kit : (old new : ℕ) (fault : kit.Fault) → new ≡ old → CountsTold old new (tells_failure (refusal_of (F.Kit fault)))
+unfolding digits
+counts_kit old new I.BadRoster h = h
+counts_kit old new _ h = h
 
 counts_game : (old new : ℕ) (fault : game.Fault) → new ≡ old → CountsTold old new (tells_failure (refusal_of (F.Game fault)))
 unfolding digits
@@ -28,37 +34,40 @@ counts_game old new G.NoSuchName h = h
 counts_game old new _ h = h
 
 -- a count that follows a fault follows the reply that refuses by it
-pub counts_told : (old new : ℕ) (fault : Fault) → CountsFailure old new fault → CountsTold old new (tells_failure (refusal_of fault))
+pub counts_told : (old new : ℕ) (fault : store.Fault) → CountsFailure old new fault → CountsTold old new (tells_failure (refusal_of (of_store fault)))
 unfolding digits
-counts_told old new F.DeviceFailed h = h
-counts_told old new (F.Game fault) h = counts_game old new fault h
+counts_told old new T.DeviceFailed h = h
+counts_told old new (T.Kit fault) h = counts_kit old new fault h
+counts_told old new (T.Game fault) h = counts_game old new fault h
 counts_told old new _ h = h
 
--- and so does the count that follows a fault of the keeper
-pub counts_kept : (old new : ℕ) (fault : keeper.Fault) → Counts old new fault → CountsFailure old new (of_keeper fault)
-counts_kept old new K.DeviceFailed h = h
-counts_kept old new _ h = h
-
--- that a reply says neither
+-- that a reply says neither that the device failed, nor that the file is full, nor that a command was taken
 abbrev pub SaysNeither : List ℕ → Type 0
-SaysNeither reply = (tells_failure reply ≡ false) × (tells_full reply ≡ false)
+SaysNeither reply = (tells_failure reply ≡ false) × (tells_full reply ≡ false) × (tells_acceptance reply ≡ false)
 
--- an acceptance says neither
-pub accepted_calm : (name : List ℕ) (stamp : ℕ) → SaysNeither (accepted_text name stamp)
+-- an acceptance says the last, and neither of the others
+pub accepted_told : (name : List ℕ) (stamp : ℕ) → tells_acceptance (accepted_text name stamp) ≡ true
+accepted_told name stamp = refl
+
+pub accepted_calm : (name : List ℕ) (stamp : ℕ) → (tells_failure (accepted_text name stamp) ≡ false) × (tells_full (accepted_text name stamp) ≡ false)
 accepted_calm name stamp = (refl, refl)
+
+-- no refusal says that a command was taken
+pub refusal_calm : (fault : Fault) → tells_acceptance (refusal_of fault) ≡ false
+refusal_calm fault = refl
 
 -- nor do the refusals of lines of no form, and of lines to a device that failed before
 pub too_long_calm : SaysNeither (refusal_of F.LineTooLong)
 unfolding digits
-too_long_calm = (refl, refl)
+too_long_calm = (refl, refl, refl)
 
 pub malformed_calm : SaysNeither (refusal_of F.MalformedLine)
 unfolding digits
-malformed_calm = (refl, refl)
+malformed_calm = (refl, refl, refl)
 
 pub open_again_calm : SaysNeither (refusal_of F.OpenAgain)
 unfolding digits
-open_again_calm = (refl, refl)
+open_again_calm = (refl, refl, refl)
 
 pub half_full_calm : tells_failure (refusal_of F.HalfFull) ≡ false
 unfolding digits
@@ -68,78 +77,82 @@ pub full_told : tells_full (refusal_of F.HalfFull) ≡ true
 unfolding digits
 full_told = refl
 
+pub failure_told : tells_failure (refusal_of F.DeviceFailed) ≡ true
+unfolding digits
+failure_told = refl
+
 pub failure_calm : tells_full (refusal_of F.DeviceFailed) ≡ false
 unfolding digits
 failure_calm = refl
 
 pub memory_calm : SaysNeither (refusal_of F.OutOfMemory)
 unfolding digits
-memory_calm = (refl, refl)
+memory_calm = (refl, refl, refl)
 
 -- no rule says it
 
-abbrev IsCalm : Option Fault → Type 0
+abbrev IsCalm : Option store.Fault → Type 0
 IsCalm None = Unit {0}
-IsCalm (Some fault) = SaysNeither (refusal_of fault)
+IsCalm (Some fault) = SaysNeither (refusal_of (of_store fault))
 
-calm_if : (b : Bool) (o p : Option Fault) → IsCalm o → IsCalm p → IsCalm (if b then o else p)
+calm_if : (b : Bool) (o p : Option store.Fault) → IsCalm o → IsCalm p → IsCalm (if b then o else p)
 calm_if true o p h k = h
 calm_if false o p h k = k
 
-game_calm : (fault : game.Fault) → SaysNeither (refusal_of (of_game fault))
+game_calm : (fault : game.Fault) → SaysNeither (refusal_of (of_store (stored_game fault)))
 unfolding digits
-game_calm G.NoSuchName = (refl, refl)
-game_calm _ = (refl, refl)
+game_calm G.NoSuchName = (refl, refl, refl)
+game_calm _ = (refl, refl, refl)
 
-rules_calm : (o : Option game.Fault) → IsCalm (option_map of_game o)
+rules_calm : (o : Option game.Fault) → IsCalm (option_map stored_game o)
 rules_calm None = tt
 rules_calm (Some fault) = game_calm fault
 
 table_calm : (kit : Kit) (t : TableState) (stamp : ℕ) (c : Command) → IsCalm (table_verdict kit t stamp c)
 unfolding digits
 table_calm kit t stamp c =
-    calm_if (not (t.stamp == stamp)) _ _ (refl, refl) (calm_if (is_full t) _ _ (refl, refl) (rules_calm (command_verdict kit _ _ c)))
+    calm_if (not (t.stamp == stamp)) _ _ (refl, refl, refl) (calm_if (is_full t) _ _ (refl, refl, refl) (rules_calm (command_verdict kit _ _ c)))
 
 opening_calm : (t : Option TableState) (n stamp : ℕ) → IsCalm (opening_verdict t n stamp)
 unfolding digits
-opening_calm (Some t) n stamp = (refl, refl)
-opening_calm None n stamp = calm_if (not (stamp == 0)) _ _ (refl, refl) (calm_if (nat_le 64 n) _ _ (refl, refl) tt)
+opening_calm (Some t) n stamp = (refl, refl, refl)
+opening_calm None n stamp = calm_if (not (stamp == 0)) _ _ (refl, refl, refl) (calm_if (nat_le 64 n) _ _ (refl, refl, refl) tt)
 
 pub world_calm : (kit : Kit) (t : Option TableState) (n stamp : ℕ) (c : Command) → IsCalm (world_verdict kit t n stamp c)
 unfolding digits
 world_calm kit t n stamp (Open players) = opening_calm t n stamp
-world_calm kit None n stamp _ = (refl, refl)
+world_calm kit None n stamp _ = (refl, refl, refl)
 world_calm kit (Some t) n stamp c = table_calm kit t stamp c
 
 -- no fault of a verdict says one of them
-pub verdict_calm : (kit : Kit) (t : Option TableState) (n stamp : ℕ) (c : Command) (fault : Fault) → world_verdict kit t n stamp c ≡ Some fault
-    → SaysNeither (refusal_of fault)
-verdict_calm kit t n stamp c fault is = let P : Option Fault → Type 0 = IsCalm in subst P is (world_calm kit t n stamp c)
+pub verdict_calm : (kit : Kit) (t : Option TableState) (n stamp : ℕ) (c : Command) (fault : store.Fault) → world_verdict kit t n stamp c ≡ Some fault
+    → SaysNeither (refusal_of (of_store fault))
+verdict_calm kit t n stamp c fault is = let P : Option store.Fault → Type 0 = IsCalm in subst P is (world_calm kit t n stamp c)
 
 -- nor does a reply to a query
 
 words_calm : (words : List (List ℕ)) → SaysNeither (answer_of words ++ codes "\n")
-words_calm [] = (refl, refl)
-words_calm (word ∷ words) = (refl, refl)
+words_calm [] = (refl, refl, refl)
+words_calm (word ∷ words) = (refl, refl, refl)
 
 named_calm : (o : Option (List (List ℕ))) → SaysNeither (reply_of (answer_of_named o))
 unfolding digits
-named_calm None = (refl, refl)
+named_calm None = (refl, refl, refl)
 named_calm (Some words) = words_calm words
 
 table_answer_calm : (ask : TableState → Answer) (t : Option TableState) → ((t : TableState) → SaysNeither (reply_of (ask t)))
     → SaysNeither (reply_of (answer_of_table ask t))
 unfolding digits
-table_answer_calm ask None calm = (refl, refl)
+table_answer_calm ask None calm = (refl, refl, refl)
 table_answer_calm ask (Some t) calm = calm t
 
 pub query_calm : (kit : Kit) (tables : World) (query : Query) → SaysNeither (query_text kit tables query)
 query_calm kit tables Q.Tables = words_calm _
-query_calm kit tables (Q.Stamp table) = table_answer_calm stamp_answer (table_named tables table) (λ t. (refl, refl))
-query_calm kit tables (Q.Turns table) = table_answer_calm (turns_answer kit) (table_named tables table) (λ t. (refl, refl))
+query_calm kit tables (Q.Stamp table) = table_answer_calm stamp_answer (table_named tables table) (λ t. (refl, refl, refl))
+query_calm kit tables (Q.Turns table) = table_answer_calm (turns_answer kit) (table_named tables table) (λ t. (refl, refl, refl))
 query_calm kit tables (Q.Due table) = table_answer_calm (due_answer kit) (table_named tables table) (λ t. words_calm _)
 query_calm kit tables (Q.Cash table of) = table_answer_calm (cash_answer kit of) (table_named tables table) (λ t. named_calm _)
-query_calm kit tables (Q.Limit table) = table_answer_calm (limit_answer kit) (table_named tables table) (λ t. (refl, refl))
+query_calm kit tables (Q.Limit table) = table_answer_calm (limit_answer kit) (table_named tables table) (λ t. (refl, refl, refl))
 query_calm kit tables (Q.Asked table) = table_answer_calm (asked_answer kit) (table_named tables table) (λ t. words_calm _)
 query_calm kit tables (Q.Holds table player corp) = table_answer_calm (holds_answer kit player corp) (table_named tables table) (λ t. named_calm _)
 query_calm kit tables (Q.Price table corp) = table_answer_calm (price_answer kit corp) (table_named tables table) (λ t. words_calm _)

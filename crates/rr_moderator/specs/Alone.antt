@@ -9,8 +9,9 @@ use Rattle.rr_code.specs.Line.{SpellsLine}
 use Rattle.rr_moderator.specs.declared.fault.Fault.{Fault}
 use Rattle.rr_moderator.specs.declared.fault.Fault.TheVariants as F
 use Rattle.rr_moderator.specs.Fault.{refusal_of}
-use Rattle.rr_moderator.specs.Serving.{Answers, Held}
-use Rattle.rr_moderator.specs.World.{table_named}
+use Rattle.rr_moderator.specs.Serving.{Answers}
+use Rattle.rr_store.specs.Held.{Held}
+use Rattle.rr_store.specs.World.{table_named}
 
 -- the table that a query names, if it names one
 abbrev pub query_table : Query → Option (List ℕ)

@@ -1,12 +1,15 @@
 -- The refusals: their numbers and their words.
 use Rattle.std.specs.Prelude.{ℕ, List, [], ◌++◌, codes, decimal}
+use Rattle.rr_kit.specs.declared.fault.Fault as kit
+use Rattle.rr_kit.specs.declared.fault.Fault.TheVariants as I
+use Rattle.rr_kit.specs.Fault as kits
 use Rattle.rr_game.specs.declared.fault.Fault as game
 use Rattle.rr_game.specs.declared.fault.Fault.TheVariants as G
 use Rattle.rr_game.specs.Fault as numbers
 use Rattle.rr_code.specs.declared.fault.Fault as code
 use Rattle.rr_code.specs.declared.fault.Fault.TheVariants as C
-use Rattle.rr_keeper.specs.declared.fault.Fault as keeper
-use Rattle.rr_keeper.specs.declared.fault.Fault.TheVariants as K
+use Rattle.rr_store.specs.declared.fault.Fault as store
+use Rattle.rr_store.specs.declared.fault.Fault.TheVariants as T
 use Rattle.rr_serve.specs.declared.faults.Fault as serve
 use Rattle.rr_serve.specs.declared.faults.Fault.TheVariants as S
 use Rattle.rr_moderator.specs.declared.fault.Fault.{Fault}
@@ -14,6 +17,7 @@ use Rattle.rr_moderator.specs.declared.fault.Fault.TheVariants as F
 
 -- the number that a reply gives
 abbrev pub number_of : Fault → ℕ
+number_of (F.Kit fault) = kits.number_of fault
 number_of (F.Game fault) = numbers.number_of fault
 number_of (F.StaleStamp stamp) = 52
 number_of F.TooManyCommands = 54
@@ -31,14 +35,17 @@ number_of F.StreamFailed = 69
 number_of F.OutOfMemory = 70
 
 -- the words behind the number
+abbrev pub kit_words : kit.Fault → List ℕ
+kit_words (I.BadChart line word) = codes "bad chart"
+kit_words I.BadRoster = codes "bad roster"
+kit_words (I.RosterRule rule) = codes "roster rule"
+kit_words (I.BadManifest line) = codes "bad manifest"
+kit_words (I.BadBoard line) = codes "bad board"
+kit_words I.OutOfMemory = codes "out of memory"
+
 abbrev pub game_words : game.Fault → List ℕ
 game_words G.NoSuchName = codes "no such name"
 game_words G.TooLittleCash = codes "too little cash"
-game_words (G.BadChart line word) = codes "bad chart"
-game_words G.BadRoster = codes "bad roster"
-game_words (G.RosterRule rule) = codes "roster rule"
-game_words (G.BadManifest line) = codes "bad manifest"
-game_words (G.BadBoard line) = codes "bad board"
 game_words G.NotYourTurn = codes "not your turn"
 game_words (G.BidTooLow least) = codes "bid too low"
 game_words G.NotForSale = codes "not for sale"
@@ -55,6 +62,7 @@ game_words G.WrongStep = codes "wrong step"
 game_words G.OutOfMemory = codes "out of memory"
 
 abbrev pub words_of : Fault → List ℕ
+words_of (F.Kit fault) = kit_words fault
 words_of (F.Game fault) = game_words fault
 words_of (F.StaleStamp stamp) = codes "stale stamp"
 words_of F.TooManyCommands = codes "too many commands"
@@ -72,16 +80,16 @@ words_of F.StreamFailed = codes "stream failed"
 words_of F.OutOfMemory = codes "out of memory"
 
 -- what follows the words: a line, a word, a rule, a bid, a stamp or a clause, each behind a space
-abbrev pub game_data : game.Fault → List ℕ
-game_data (G.BadChart line word) = (codes " " ++ decimal line) ++ (codes " " ++ decimal word)
-game_data (G.RosterRule rule) = codes " " ++ decimal rule
-game_data (G.BadManifest line) = codes " " ++ decimal line
-game_data (G.BadBoard line) = codes " " ++ decimal line
-game_data (G.BidTooLow least) = codes " " ++ decimal least
-game_data _ = []
+abbrev pub kit_data : kit.Fault → List ℕ
+kit_data (I.BadChart line word) = (codes " " ++ decimal line) ++ (codes " " ++ decimal word)
+kit_data (I.RosterRule rule) = codes " " ++ decimal rule
+kit_data (I.BadManifest line) = codes " " ++ decimal line
+kit_data (I.BadBoard line) = codes " " ++ decimal line
+kit_data _ = []
 
 abbrev pub data_of : Fault → List ℕ
-data_of (F.Game fault) = game_data fault
+data_of (F.Kit fault) = kit_data fault
+data_of (F.Game (G.BidTooLow least)) = codes " " ++ decimal least
 data_of (F.StaleStamp stamp) = codes " " ++ decimal stamp
 data_of (F.Damaged clause) = codes " " ++ decimal clause
 data_of _ = []
@@ -99,14 +107,20 @@ abbrev pub of_code : code.Fault → Fault
 of_code C.Malformed = F.MalformedLine
 of_code C.OutOfMemory = F.OutOfMemory
 
-abbrev pub of_keeper : keeper.Fault → Fault
-of_keeper K.DeviceFailed = F.DeviceFailed
-of_keeper K.HalfFull = F.HalfFull
-of_keeper (K.Damaged clause) = F.Damaged clause
-of_keeper K.NotAStore = F.NotAStore
-of_keeper K.NotEmpty = F.NotEmpty
-of_keeper K.OpenAgain = F.OpenAgain
-of_keeper K.OutOfMemory = F.OutOfMemory
+abbrev pub of_store : store.Fault → Fault
+of_store (T.Kit fault) = F.Kit fault
+of_store (T.Game fault) = F.Game fault
+of_store (T.StaleStamp stamp) = F.StaleStamp stamp
+of_store T.TooManyCommands = F.TooManyCommands
+of_store T.DeviceFailed = F.DeviceFailed
+of_store T.HalfFull = F.HalfFull
+of_store (T.Damaged clause) = F.Damaged clause
+of_store T.NotAStore = F.NotAStore
+of_store T.NotEmpty = F.NotEmpty
+of_store T.OpenAgain = F.OpenAgain
+of_store T.TooManyTables = F.TooManyTables
+of_store T.NoSuchTable = F.NoSuchTable
+of_store T.OutOfMemory = F.OutOfMemory
 
 abbrev pub of_serve : serve.Fault → Fault
 of_serve S.DeviceFailed = F.DeviceFailed

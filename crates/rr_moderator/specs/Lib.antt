@@ -1,11 +1,7 @@
 pub mod Fault
 pub mod Answer
-pub mod World
 pub mod Queries
 pub mod Serving
-pub mod Holding
-pub mod Formatting
-pub mod Replaying
 pub mod Durability
-pub mod OneWorld
+pub mod Holding
 pub mod Alone

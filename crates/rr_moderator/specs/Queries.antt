@@ -4,7 +4,7 @@ use Rattle.std.specs.Fmt.{signed_decimal}
 use Rattle.rr_roster.specs.declared.company.Corp.{Corp}
 use Rattle.rr_roster.specs.Company.{corp_name, private_name}
 use Rattle.rr_market.specs.Order.{operating_order}
-use Rattle.rr_game.specs.declared.kit.Kit.{Kit}
+use Rattle.rr_kit.specs.declared.kit.Kit.{Kit}
 use Rattle.rr_books.specs.declared.parties.Party.{Party}
 use Rattle.rr_books.specs.declared.parties.Place.{Place}
 use Rattle.rr_books.specs.Book.{Book, balance, holder, players}
@@ -25,7 +25,7 @@ use Rattle.rr_game.specs.declared.fault.Fault.TheVariants as G
 use Rattle.rr_game.specs.Names.{owner_place, party_of, player_word, seat_of}
 use Rattle.rr_game.specs.Play.{play, players_of}
 use Rattle.rr_game.specs.Queries.{due, holding, quote, turns}
-use Rattle.rr_moderator.specs.World.{TableState, World, table_named}
+use Rattle.rr_store.specs.World.{TableState, World, names, table_named}
 
 -- the words of an answer, or why there are none
 abbrev pub Answer : Type 0
@@ -99,10 +99,6 @@ price_answer kit corp t = Ok (price_words (quote kit.chart (book_of kit t) corp)
 -- the corporations with a price, in the order in which they operate
 abbrev pub order_answer : Kit → TableState → Answer
 order_answer kit t = Ok (map corp_name (operating_order kit.chart (book_of kit t)))
-
--- the names of the tables, in the order of opening
-abbrev pub names : World → List (List ℕ)
-names tables = map (λ t. t.0) tables
 
 -- the answer to a query
 abbrev pub query_answer : Kit → World → Query → Answer

@@ -1,23 +1,26 @@
 // The answers to queries, and the reply to an accepted command.
-ghost use Rattle.std.specs.Prelude.{◌≡◌, ◌≢◌, ◌+◌, ◌*◌, ◌≤◌, ◌++◌, List, ℕ, [], ◌∷◌, MatchResult, codes, filter, length, map, take};
-ghost use Rattle.indexmap.specs.IndexMap.{keys};
+ghost use Rattle.std.specs.Prelude.{◌≡◌, ◌≢◌, false, ◌+◌, ◌*◌, ◌≤◌, ◌++◌, List, ℕ, [], ◌∷◌, MatchResult, codes, filter, length, map, slice_get, take};
+ghost use Rattle.std.specs.Option.{option_copied};
 ghost use Rattle.rr_books.specs.Shares.{is_at};
 ghost use Rattle.rr_roster.specs.Company.{corp_name, private_name};
 ghost use Rattle.rr_books.specs.State.{holder_in};
 ghost use Rattle.rr_moderator.specs.Answer.{accepted_text, answer_of, asked_words, owned, price_words, spaced};
-ghost use Rattle.rr_moderator.specs.Holding.{state_of, world_of};
+ghost use Rattle.rr_store.specs.Holding.{game_of, held_of, state_of};
+ghost use Rattle.rr_store.specs.World.{names};
 ghost use Rattle.rr_game.specs.Keeping.{IsGameOf};
 ghost use Rattle.rr_game.specs.Names.{player_word};
 ghost use Rattle.rr_moderator.specs.Queries.{Writes, asked_answer, cash_answer, due_answer, due_words, holds_answer, limit_answer, order_answer, price_answer, privates_answer, query_answer, query_text, query_verdict, reply_of, stamp_answer, turns_answer};
 
 use crate::fault::Fault;
 use crate::reply::Reply;
-use crate::tables::{Table, Tables};
 use rr_auction::Due;
 use rr_books::{Cell, Cert, Money, Place, Seat};
 use rr_code::{Account, Owner, Query};
-use rr_game::{Game, Kit};
+use rr_disk::Disk;
+use rr_game::Game;
+use rr_kit::Kit;
 use rr_roster::{Corp, Private};
+use rr_store::{Store, Table};
 use rr_words::Name;
 
 impl Reply {
@@ -52,211 +55,242 @@ impl Reply {
     }
 }
 
-impl Tables {
-    /// Writes the answer to a query. It asks for no memory.
-    ///
-    /// # Errors
-    /// `NoSuchTable`, and then `NoSuchName` where the table has no player of that name.
-    pub(crate) fn answer(&self, query: &Query, reply: &mut Reply) -> Result<(), Fault>
-        ensures { MatchResult result
-            (λ _. (query_verdict self.now.kit (world_of self.now.map.entries) query.now ≡ None)
-            × (reply.new ≡ query_text self.now.kit (world_of self.now.map.entries) query.now))
-            (λ fault. query_verdict self.now.kit (world_of self.now.map.entries) query.now ≡ Some fault) }
-    {
-        reply.clear();
-        self.write_answer(query, reply)?;
-        reply.text(b"\n");
-        Ok(())
-    }
+/// Writes the answer to a query. It asks for no memory.
+///
+/// # Errors
+/// `NoSuchTable`, and then `NoSuchName` where the table has no player of that name.
+pub(crate) fn answer<D: Disk + Drop>(
+    store: &Store<D>,
+    query: &Query,
+    reply: &mut Reply,
+) -> Result<(), Fault>
+    requires { (held_of store.now).broken ≡ false }
+    ensures { MatchResult result
+        (λ _. (query_verdict (held_of store.now).kit (held_of store.now).tables query.now ≡ None)
+        × (reply.new ≡ query_text (held_of store.now).kit (held_of store.now).tables query.now))
+        (λ fault. query_verdict (held_of store.now).kit (held_of store.now).tables query.now ≡ Some fault) }
+{
+    reply.clear();
+    write_answer(store, query, reply)?;
+    reply.text(b"\n");
+    Ok(())
+}
 
-    /// Writes the answer to a query, but for the line feed.
-    fn write_answer(&self, query: &Query, reply: &mut Reply) -> Result<(), Fault>
-        requires { reply.old ≡ [] }
-        ensures answer { Writes (query_answer self.now.kit (world_of self.now.map.entries) query.now) result reply.new }
-        ensures bounded { length reply.new ≤ 1100 }
-    {
-        match query {
-            Query::Tables => {
-                self.write_names(reply);
-                Ok(())
-            }
-            Query::Stamp { table } => {
-                self.table(table)?.write_stamp(reply);
-                Ok(())
-            }
-            Query::Turns { table } => {
-                self.table(table)?.write_turns(reply);
-                Ok(())
-            }
-            Query::Due { table } => {
-                self.table(table)?.write_due(reply);
-                Ok(())
-            }
-            Query::Cash { table, of } => self.table(table)?.write_cash(of, reply),
-            Query::Limit { table } => {
-                self.table(table)?.write_limit(reply);
-                Ok(())
-            }
-            Query::Asked { table } => {
-                self.table(table)?.write_asked(self.kit(), reply);
-                Ok(())
-            }
-            Query::Privates { table, of } => self.table(table)?.write_privates(of, reply),
-            Query::Holds {
-                table,
-                player,
-                corp,
-            } => self.table(table)?.write_holds(player, *corp, reply),
-            Query::Price { table, corp } => {
-                self.table(table)?.write_price(*corp, self.kit(), reply);
-                Ok(())
-            }
-            Query::Order { table } => {
-                self.table(table)?.write_order(self.kit(), reply);
-                Ok(())
-            }
+/// Writes the answer to a query, but for the line feed.
+fn write_answer<D: Disk + Drop>(
+    store: &Store<D>,
+    query: &Query,
+    reply: &mut Reply,
+) -> Result<(), Fault>
+    requires whole { (held_of store.now).broken ≡ false }
+    requires empty { reply.old ≡ [] }
+    ensures answer { Writes (query_answer (held_of store.now).kit (held_of store.now).tables query.now) result reply.new }
+    ensures bounded { length reply.new ≤ 1100 }
+{
+    match query {
+        Query::Tables => {
+            write_names(store, reply);
+            Ok(())
         }
-    }
-
-    /// Writes the names of all tables, in the order of opening.
-    fn write_names(&self, reply: &mut Reply)
-        requires { reply.old ≡ [] }
-        ensures text { reply.new ≡ answer_of (keys self.now.map) }
-        ensures bounded { length reply.new ≤ 1100 }
-    {
-        reply.text(b"=");
-        for place in 0..64 {
-            self.write_name(place, reply);
+        Query::Stamp { table } => {
+            write_stamp(store.table(table)?, reply);
+            Ok(())
         }
-        write_nothing(reply);
-    }
-
-    /// Writes the name of the table at a place in the order of opening behind a space, if there is one.
-    fn write_name(&self, place: usize, reply: &mut Reply)
-        requires { length reply.old ≤ 4000 }
-        ensures text { reply.old ≡ codes "=" ++ spaced (take place (keys self.now.map)) →
-            reply.new ≡ codes "=" ++ spaced (take (place + 1) (keys self.now.map)) }
-        ensures bounded { length reply.new ≤ length reply.old + 17 }
-    {
-        match self.name(place) {
-            Some(name) => reply.word(name.as_bytes()),
-            None => {}
+        Query::Turns { table } => {
+            write_turns(store.table(table)?, reply);
+            Ok(())
+        }
+        Query::Due { table } => {
+            write_table_due(store.table(table)?, reply);
+            Ok(())
+        }
+        Query::Cash { table, of } => write_cash(store.table(table)?, of, reply),
+        Query::Limit { table } => {
+            write_limit(store.table(table)?, reply);
+            Ok(())
+        }
+        Query::Asked { table } => {
+            write_cheapest(store.table(table)?, store.kit(), reply);
+            Ok(())
+        }
+        Query::Privates { table, of } => write_owner(store.table(table)?, of, reply),
+        Query::Holds {
+            table,
+            player,
+            corp,
+        } => write_holds(store.table(table)?, player, *corp, reply),
+        Query::Price { table, corp } => {
+            write_price(store.table(table)?, *corp, store.kit(), reply);
+            Ok(())
+        }
+        Query::Order { table } => {
+            write_order(store.table(table)?, store.kit(), reply);
+            Ok(())
         }
     }
 }
 
-impl Table {
-    /// Writes the stamp of the last command.
-    fn write_stamp(&self, reply: &mut Reply)
-        requires { reply.old ≡ [] }
-        ensures text { reply_of (stamp_answer (state_of self.now)) ≡ reply.new ++ codes "\n" }
-        ensures bounded { length reply.new ≤ 40 }
-    {
-        reply.text(b"= ");
-        reply.number(self.stamp());
+/// Writes the names of all tables, in the order of opening.
+fn write_names<D: Disk + Drop>(store: &Store<D>, reply: &mut Reply)
+    requires whole { (held_of store.now).broken ≡ false }
+    requires empty { reply.old ≡ [] }
+    ensures text { reply.new ≡ answer_of (names (held_of store.now).tables) }
+    ensures bounded { length reply.new ≤ 1100 }
+{
+    reply.text(b"=");
+    for place in 0..count_of(store) {
+        write_name(store, place, reply);
     }
+    write_nothing(reply);
+}
 
-    /// Writes how many turns have ended, and to which the table can go back: to the first.
-    fn write_turns(&self, reply: &mut Reply)
-        requires { reply.old ≡ [] }
-        ensures text { (kit : Kit) → IsGameOf kit self.now.accepted.items self.now.game →
-            reply_of (turns_answer kit (state_of self.now)) ≡ reply.new ++ codes "\n" }
-        ensures bounded { length reply.new ≤ 50 }
-    {
-        reply.text(b"= ");
-        reply.number(self.game().turns());
-        reply.text(b" ");
-        reply.number(0);
+/// How many tables there are.
+fn count_of<D: Disk + Drop>(store: &Store<D>) -> usize
+    requires { (held_of store.now).broken ≡ false }
+    ensures count { result ≡ length (held_of store.now).tables }
+    ensures few { result ≤ 64 }
+{
+    match store.count() {
+        Ok(count) => count,
+        Err(_) => unreachable!(),
     }
+}
 
-    /// Writes who is due, and the step.
-    fn write_due(&self, reply: &mut Reply)
-        requires { reply.old ≡ [] }
-        ensures text { (kit : Kit) → IsGameOf kit self.now.accepted.items self.now.game →
-            reply_of (due_answer kit (state_of self.now)) ≡ reply.new ++ codes "\n" }
-        ensures bounded { length reply.new ≤ 40 }
-    {
-        write_due(self.game(), self.game().due(), reply);
+/// Writes the name of the table at a place in the order of opening behind a space, if there is one.
+fn write_name<D: Disk + Drop>(store: &Store<D>, place: usize, reply: &mut Reply)
+    requires whole { (held_of store.now).broken ≡ false }
+    requires room { length reply.old ≤ 4000 }
+    ensures text { reply.old ≡ codes "=" ++ spaced (take place (names (held_of store.now).tables)) →
+        reply.new ≡ codes "=" ++ spaced (take (place + 1) (names (held_of store.now).tables)) }
+    ensures bounded { length reply.new ≤ length reply.old + 17 }
+{
+    match name_at(store, place) {
+        Some(name) => reply.word(name.as_bytes()),
+        None => {}
     }
+}
 
-    /// Writes what an account has.
-    fn write_cash(&self, of: &Account, reply: &mut Reply) -> Result<(), Fault>
-        requires { reply.old ≡ [] }
-        ensures answer { (kit : Kit) → IsGameOf kit self.now.accepted.items self.now.game →
-            Writes (cash_answer kit of.now (state_of self.now)) result reply.new }
-        ensures bounded { length reply.new ≤ 40 }
-    {
-        let money = self.game().cash(of)?;
-        reply.text(b"= ");
-        reply.signed(money.0);
-        Ok(())
+/// The name of the table at a place in the order of opening, if there is one.
+fn name_at<D: Disk + Drop>(store: &Store<D>, place: usize) -> Option<&Name>
+    requires { (held_of store.now).broken ≡ false }
+    ensures { option_copied result ≡ slice_get (names (held_of store.now).tables) place }
+{
+    match store.name(place) {
+        Ok(found) => found,
+        Err(_) => unreachable!(),
     }
+}
 
-    /// Writes the certificate limit.
-    fn write_limit(&self, reply: &mut Reply)
-        requires { reply.old ≡ [] }
-        ensures text { (kit : Kit) → IsGameOf kit self.now.accepted.items self.now.game →
-            reply_of (limit_answer kit (state_of self.now)) ≡ reply.new ++ codes "\n" }
-        ensures bounded { length reply.new ≤ 40 }
-    {
-        reply.text(b"= ");
-        reply.number(u64::from(self.game().limit()));
-    }
+/// Writes the stamp of the last command.
+fn write_stamp(table: &Table, reply: &mut Reply)
+    requires { reply.old ≡ [] }
+    ensures text { reply_of (stamp_answer (state_of table.now)) ≡ reply.new ++ codes "\n" }
+    ensures bounded { length reply.new ≤ 40 }
+{
+    reply.text(b"= ");
+    reply.number(table.stamp());
+}
 
-    /// Writes what the cheapest private costs.
-    fn write_asked(&self, kit: &Kit, reply: &mut Reply)
-        requires { reply.old ≡ [] }
-        ensures text { IsGameOf kit.now self.now.accepted.items self.now.game →
-            reply_of (asked_answer kit.now (state_of self.now)) ≡ reply.new ++ codes "\n" }
-        ensures bounded { length reply.new ≤ 40 }
-    {
-        write_asked(self.game().asked(kit), reply);
-    }
+/// Writes how many turns have ended, and to which the table can go back: to the first.
+fn write_turns(table: &Table, reply: &mut Reply)
+    requires { reply.old ≡ [] }
+    ensures text { (kit : Kit) → IsGameOf kit (state_of table.now).accepted (game_of table.now) →
+        reply_of (turns_answer kit (state_of table.now)) ≡ reply.new ++ codes "\n" }
+    ensures bounded { length reply.new ≤ 50 }
+{
+    reply.text(b"= ");
+    reply.number(table.game().turns());
+    reply.text(b" ");
+    reply.number(0);
+}
 
-    /// Writes the privates of an owner.
-    fn write_privates(&self, of: &Owner, reply: &mut Reply) -> Result<(), Fault>
-        requires { reply.old ≡ [] }
-        ensures answer { (kit : Kit) → IsGameOf kit self.now.accepted.items self.now.game →
-            Writes (privates_answer kit of.now (state_of self.now)) result reply.new }
-        ensures bounded { length reply.new ≤ 40 }
-    {
-        let place = self.game().place(of)?;
-        write_privates(self.game(), place, reply);
-        Ok(())
-    }
+/// Writes who is due, and the step.
+fn write_table_due(table: &Table, reply: &mut Reply)
+    requires { reply.old ≡ [] }
+    ensures text { (kit : Kit) → IsGameOf kit (state_of table.now).accepted (game_of table.now) →
+        reply_of (due_answer kit (state_of table.now)) ≡ reply.new ++ codes "\n" }
+    ensures bounded { length reply.new ≤ 40 }
+{
+    write_due(table.game(), table.game().due(), reply);
+}
 
-    /// Writes how much of a corporation a player holds.
-    fn write_holds(&self, player: &Name, corp: Corp, reply: &mut Reply) -> Result<(), Fault>
-        requires { reply.old ≡ [] }
-        ensures answer { (kit : Kit) → IsGameOf kit self.now.accepted.items self.now.game →
-            Writes (holds_answer kit player.now corp (state_of self.now)) result reply.new }
-        ensures bounded { length reply.new ≤ 40 }
-    {
-        let percent = self.game().holds(player, corp)?;
-        reply.text(b"= ");
-        reply.number(u64::from(percent));
-        Ok(())
-    }
+/// Writes what an account has.
+fn write_cash(table: &Table, of: &Account, reply: &mut Reply) -> Result<(), Fault>
+    requires { reply.old ≡ [] }
+    ensures answer { (kit : Kit) → IsGameOf kit (state_of table.now).accepted (game_of table.now) →
+        Writes (cash_answer kit of.now (state_of table.now)) result reply.new }
+    ensures bounded { length reply.new ≤ 40 }
+{
+    let money = table.game().cash(of)?;
+    reply.text(b"= ");
+    reply.signed(money.0);
+    Ok(())
+}
 
-    /// Writes the price of a corporation's shares.
-    fn write_price(&self, corp: Corp, kit: &Kit, reply: &mut Reply)
-        requires { reply.old ≡ [] }
-        ensures text { IsGameOf kit.now self.now.accepted.items self.now.game →
-            reply_of (price_answer kit.now corp (state_of self.now)) ≡ reply.new ++ codes "\n" }
-        ensures bounded { length reply.new ≤ 70 }
-    {
-        write_quote(self.game().price(corp, kit), reply);
-    }
+/// Writes the certificate limit.
+fn write_limit(table: &Table, reply: &mut Reply)
+    requires { reply.old ≡ [] }
+    ensures text { (kit : Kit) → IsGameOf kit (state_of table.now).accepted (game_of table.now) →
+        reply_of (limit_answer kit (state_of table.now)) ≡ reply.new ++ codes "\n" }
+    ensures bounded { length reply.new ≤ 40 }
+{
+    reply.text(b"= ");
+    reply.number(u64::from(table.game().limit()));
+}
 
-    /// Writes the corporations in operating order.
-    fn write_order(&self, kit: &Kit, reply: &mut Reply)
-        requires { reply.old ≡ [] }
-        ensures text { IsGameOf kit.now self.now.accepted.items self.now.game →
-            reply_of (order_answer kit.now (state_of self.now)) ≡ reply.new ++ codes "\n" }
-        ensures bounded { length reply.new ≤ 50 }
-    {
-        write_corps(self.game().order(kit).as_slice(), reply);
-    }
+/// Writes what the cheapest private costs.
+fn write_cheapest(table: &Table, kit: &Kit, reply: &mut Reply)
+    requires { reply.old ≡ [] }
+    ensures text { IsGameOf kit.now (state_of table.now).accepted (game_of table.now) →
+        reply_of (asked_answer kit.now (state_of table.now)) ≡ reply.new ++ codes "\n" }
+    ensures bounded { length reply.new ≤ 40 }
+{
+    write_asked(table.game().asked(kit), reply);
+}
+
+/// Writes the privates of an owner.
+fn write_owner(table: &Table, of: &Owner, reply: &mut Reply) -> Result<(), Fault>
+    requires { reply.old ≡ [] }
+    ensures answer { (kit : Kit) → IsGameOf kit (state_of table.now).accepted (game_of table.now) →
+        Writes (privates_answer kit of.now (state_of table.now)) result reply.new }
+    ensures bounded { length reply.new ≤ 40 }
+{
+    let place = table.game().place(of)?;
+    write_privates(table.game(), place, reply);
+    Ok(())
+}
+
+/// Writes how much of a corporation a player holds.
+fn write_holds(table: &Table, player: &Name, corp: Corp, reply: &mut Reply) -> Result<(), Fault>
+    requires { reply.old ≡ [] }
+    ensures answer { (kit : Kit) → IsGameOf kit (state_of table.now).accepted (game_of table.now) →
+        Writes (holds_answer kit player.now corp (state_of table.now)) result reply.new }
+    ensures bounded { length reply.new ≤ 40 }
+{
+    let percent = table.game().holds(player, corp)?;
+    reply.text(b"= ");
+    reply.number(u64::from(percent));
+    Ok(())
+}
+
+/// Writes the price of a corporation's shares.
+fn write_price(table: &Table, corp: Corp, kit: &Kit, reply: &mut Reply)
+    requires { reply.old ≡ [] }
+    ensures text { IsGameOf kit.now (state_of table.now).accepted (game_of table.now) →
+        reply_of (price_answer kit.now corp (state_of table.now)) ≡ reply.new ++ codes "\n" }
+    ensures bounded { length reply.new ≤ 70 }
+{
+    write_quote(table.game().price(corp, kit), reply);
+}
+
+/// Writes the corporations in operating order.
+fn write_order(table: &Table, kit: &Kit, reply: &mut Reply)
+    requires { reply.old ≡ [] }
+    ensures text { IsGameOf kit.now (state_of table.now).accepted (game_of table.now) →
+        reply_of (order_answer kit.now (state_of table.now)) ≡ reply.new ++ codes "\n" }
+    ensures bounded { length reply.new ≤ 50 }
+{
+    write_corps(table.game().order(kit).as_slice(), reply);
 }
 
 /// Writes a share's price, and the row and the column of the token's cell.
@@ -338,7 +372,7 @@ fn write_asked(asked: Option<(Private, Money)>, reply: &mut Reply)
 /// Writes the privates that are at a place.
 fn write_privates(game: &Game, place: Place, reply: &mut Reply)
     requires { reply.old ≡ [] }
-    ensures text { reply.new ≡ answer_of (map private_name (owned (holder_in game.now.books) place)) }
+    ensures text { reply.new ≡ answer_of (map private_name (owned (holder_in game.now.position.books) place)) }
     ensures bounded { length reply.new ≤ 40 }
 {
     reply.text(b"=");
@@ -351,7 +385,7 @@ fn write_privates(game: &Game, place: Place, reply: &mut Reply)
 /// Writes the private's name behind a space, if it is at the place.
 fn write_owned(game: &Game, place: Place, private: Private, reply: &mut Reply)
     requires { length reply.old ≤ 4000 }
-    ensures text { reply.new ≡ reply.old ++ spaced (map private_name (filter (λ p. is_at (holder_in game.now.books (Cert.Private p)) place) (private ∷ []))) }
+    ensures text { reply.new ≡ reply.old ++ spaced (map private_name (filter (λ p. is_at (holder_in game.now.position.books (Cert.Private p)) place) (private ∷ []))) }
     ensures bounded { length reply.new ≤ length reply.old + 5 }
 {
     if !game.owns(place, private) {

@@ -1,5 +1,5 @@
 ghost use Rattle.std.specs.Prelude.{◌≡◌, ◌+◌, ◌≤◌, ◌++◌, length};
-ghost use Rattle.rr_moderator.specs.Fault.{data_of, game_data, game_words, number_of, of_code, of_game, of_keeper, of_serve, refusal_of, words_of};
+ghost use Rattle.rr_moderator.specs.Fault.{data_of, game_words, kit_data, kit_words, number_of, of_code, of_game, of_store, of_serve, refusal_of, words_of};
 ghost use Rattle.rr_moderator.specs.declared.fault.Fault.TheVariants.{OutOfMemory};
 
 use crate::reply::Reply;
@@ -9,7 +9,10 @@ use thiserror::Error;
 /// Why a line, a kit text or a file is refused.
 #[derive(Clone, Copy, Debug, Drop, PartialEq, Eq, Error)]
 pub enum Fault {
-    /// The kit or the rules of the game refuse it. Want of memory isn't told by this, but by `OutOfMemory`.
+    /// A text of the kit is refused. Want of memory isn't told by this, but by `OutOfMemory`.
+    #[error("{0}")]
+    Kit(rr_kit::Fault),
+    /// The rules of the game refuse it. Want of memory isn't told by this, but by `OutOfMemory`.
     #[error("{0}")]
     Game(rr_game::Fault),
     /// The stamp isn't the table's, which is given.
@@ -62,6 +65,7 @@ impl Fault {
         ensures { result ≡ number_of self.now }
     {
         match self {
+            Fault::Kit(fault) => fault.number(),
             Fault::Game(fault) => fault.number(),
             Fault::StaleStamp(_) => 52,
             Fault::TooManyCommands => 54,
@@ -100,7 +104,11 @@ impl Fault {
         ensures bounded { length reply.new ≤ length reply.old + 42 }
     {
         match *self {
-            Fault::Game(fault) => write_game_data(fault, reply),
+            Fault::Kit(fault) => write_kit_data(fault, reply),
+            Fault::Game(rr_game::Fault::BidTooLow(least)) => {
+                reply.text(b" ");
+                reply.number(least);
+            }
             Fault::StaleStamp(number) => {
                 reply.text(b" ");
                 reply.number(number);
@@ -119,6 +127,7 @@ impl Fault {
         ensures short { length result.now ≤ 20 }
     {
         match self {
+            Fault::Kit(fault) => kit_words(*fault),
             Fault::Game(fault) => game_words(*fault),
             Fault::StaleStamp(_) => "stale stamp",
             Fault::TooManyCommands => "too many commands",
@@ -138,7 +147,22 @@ impl Fault {
     }
 }
 
-/// The words of a refusal by the kit or the rules.
+/// The words of a refusal of a kit.
+fn kit_words(fault: rr_kit::Fault) -> &'static str
+    ensures value { result.now ≡ kit_words fault }
+    ensures short { length result.now ≤ 20 }
+{
+    match fault {
+        rr_kit::Fault::BadChart { .. } => "bad chart",
+        rr_kit::Fault::BadRoster => "bad roster",
+        rr_kit::Fault::RosterRule(_) => "roster rule",
+        rr_kit::Fault::BadManifest(_) => "bad manifest",
+        rr_kit::Fault::BadBoard(_) => "bad board",
+        rr_kit::Fault::OutOfMemory => "out of memory",
+    }
+}
+
+/// The words of a refusal by the rules.
 fn game_words(fault: rr_game::Fault) -> &'static str
     ensures value { result.now ≡ game_words fault }
     ensures short { length result.now ≤ 20 }
@@ -146,11 +170,6 @@ fn game_words(fault: rr_game::Fault) -> &'static str
     match fault {
         rr_game::Fault::NoSuchName => "no such name",
         rr_game::Fault::TooLittleCash => "too little cash",
-        rr_game::Fault::BadChart { .. } => "bad chart",
-        rr_game::Fault::BadRoster => "bad roster",
-        rr_game::Fault::RosterRule(_) => "roster rule",
-        rr_game::Fault::BadManifest(_) => "bad manifest",
-        rr_game::Fault::BadBoard(_) => "bad board",
         rr_game::Fault::NotYourTurn => "not your turn",
         rr_game::Fault::BidTooLow(_) => "bid too low",
         rr_game::Fault::NotForSale => "not for sale",
@@ -168,30 +187,26 @@ fn game_words(fault: rr_game::Fault) -> &'static str
     }
 }
 
-/// What follows the words of a refusal by the kit or the rules: a line, a word, a rule or a bid.
-fn write_game_data(fault: rr_game::Fault, reply: &mut Reply)
+/// What follows the words of a refusal of a kit: a line, a word or a rule.
+fn write_kit_data(fault: rr_kit::Fault, reply: &mut Reply)
     requires { length reply.old ≤ 50 }
-    ensures text { reply.new ≡ reply.old ++ game_data fault }
+    ensures text { reply.new ≡ reply.old ++ kit_data fault }
     ensures bounded { length reply.new ≤ length reply.old + 42 }
 {
     match fault {
-        rr_game::Fault::BadChart { line, word } => {
+        rr_kit::Fault::BadChart { line, word } => {
             reply.text(b" ");
             reply.number(line as u64);
             reply.text(b" ");
             reply.number(word as u64);
         }
-        rr_game::Fault::BadManifest(line) | rr_game::Fault::BadBoard(line) => {
+        rr_kit::Fault::BadManifest(line) | rr_kit::Fault::BadBoard(line) => {
             reply.text(b" ");
             reply.number(line as u64);
         }
-        rr_game::Fault::RosterRule(number) => {
+        rr_kit::Fault::RosterRule(number) => {
             reply.text(b" ");
             reply.number(u64::from(number));
-        }
-        rr_game::Fault::BidTooLow(least) => {
-            reply.text(b" ");
-            reply.number(least);
         }
         _ => {}
     }
@@ -219,18 +234,24 @@ impl From<rr_code::Fault> for Fault {
     }
 }
 
-impl From<rr_keeper::Fault> for Fault {
-    ghost from_gives = { λ fault wrapped. wrapped ≡ of_keeper fault };
+impl From<rr_store::Fault> for Fault {
+    ghost from_gives = { λ fault wrapped. wrapped ≡ of_store fault };
 
-    fn from(fault: rr_keeper::Fault) -> Fault {
+    fn from(fault: rr_store::Fault) -> Fault {
         match fault {
-            rr_keeper::Fault::DeviceFailed => Fault::DeviceFailed,
-            rr_keeper::Fault::HalfFull => Fault::HalfFull,
-            rr_keeper::Fault::Damaged(clause) => Fault::Damaged(clause),
-            rr_keeper::Fault::NotAStore => Fault::NotAStore,
-            rr_keeper::Fault::NotEmpty => Fault::NotEmpty,
-            rr_keeper::Fault::OpenAgain => Fault::OpenAgain,
-            rr_keeper::Fault::OutOfMemory => Fault::OutOfMemory,
+            rr_store::Fault::Kit(fault) => Fault::Kit(fault),
+            rr_store::Fault::Game(fault) => Fault::Game(fault),
+            rr_store::Fault::StaleStamp(stamp) => Fault::StaleStamp(stamp),
+            rr_store::Fault::TooManyCommands => Fault::TooManyCommands,
+            rr_store::Fault::DeviceFailed => Fault::DeviceFailed,
+            rr_store::Fault::HalfFull => Fault::HalfFull,
+            rr_store::Fault::Damaged(clause) => Fault::Damaged(clause),
+            rr_store::Fault::NotAStore => Fault::NotAStore,
+            rr_store::Fault::NotEmpty => Fault::NotEmpty,
+            rr_store::Fault::OpenAgain => Fault::OpenAgain,
+            rr_store::Fault::TooManyTables => Fault::TooManyTables,
+            rr_store::Fault::NoSuchTable => Fault::NoSuchTable,
+            rr_store::Fault::OutOfMemory => Fault::OutOfMemory,
         }
     }
 }

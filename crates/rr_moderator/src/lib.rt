@@ -1,16 +1,13 @@
-//! The moderator: many tables in one file, and the reply to each line.
+//! The moderator: the reply to each line, over the store of the tables.
 #![tactic(auto)]
 
 mod answering;
 mod fault;
 pub mod laws;
 mod moderator;
-mod opening;
 mod reply;
-mod tables;
 
 pub use fault::Fault;
-pub use moderator::{Moderator, Refused};
-pub use opening::format;
+pub use moderator::Moderator;
 pub use reply::Reply;
-pub use rr_keeper::Texts;
+pub use rr_store::{Refused, Texts, format};

@@ -1,43 +1,44 @@
-ghost use Rattle.std.specs.Prelude.{◌≡◌, ◌<◌, ◌≤◌, ℕ, List, Result, false, length, ◌∷◌, OnOk, OnErr, IfOk, IfErr, IsErrOf, Some};
+ghost use Rattle.std.specs.Prelude.{◌≡◌, ◌⊎◌, ℕ, List, [], Result, Ok, Err, false, OnOk, OnErr, IfOk, IfErr};
 ghost use Rattle.std.specs.Borrow.{sem};
 ghost use Rattle.std.specs.Io.BufRead.{Rests};
 ghost use Rattle.std.specs.Io.KnownBytes.{Appends};
-ghost use Rattle.rr_disk.specs.Disk.{after_sync};
+ghost use Rattle.rr_code.specs.Command.{IsCommand};
 ghost use Rattle.rr_disk.specs.Moments.{LeavesOnly};
-ghost use Rattle.rr_keeper.specs.File.{Kit as Texts};
-ghost use Rattle.rr_keeper.specs.Keeper.{disk_of, is_broken, part_of};
-ghost use Rattle.rr_keeper.specs.Opening.{SyncsOnce, kit_of};
-ghost use Rattle.rr_keeper.specs.Parts.{HasPlace};
+ghost use Rattle.rr_kit.specs.Kits.{KitTexts, SpellsKit};
+ghost use Rattle.rr_words.specs.Name.{IsTableName};
 ghost use Rattle.rr_serve.specs.declared.faults.Fault as serve;
 ghost use Rattle.rr_serve.specs.Answering.{AppendsFront};
 ghost use Rattle.rr_serve.specs.Lines.{taken};
 ghost use Rattle.rr_serve.specs.Serving.{AnswersAll, Session};
-ghost use Rattle.rr_moderator.specs.Durability.{Keeping, Lasts, OpensAlong, Passed, SpeaksAndLasts, Stands, told};
-ghost use Rattle.rr_moderator.specs.Holding.{disk_under, held_by, held_of, keeper_of, last_reply, spoken_of, told_of, world_of};
-ghost use Rattle.rr_moderator.specs.Replaying.{CountsFailure, Opens, RefusesOpening, RefusesReplay, Replayed, records_of};
-ghost use Rattle.rr_moderator.specs.Serving.{Answers, EndsAs, MayAppend, Responds, Speaks, Takes, outcome_of, reply_to, said};
-ghost use Rattle.rr_game.specs.Names.{amount_in};
-ghost use Rattle.rr_moderator.specs.World.{verdict_in};
+ghost use Rattle.rr_store.specs.declared.fault.Fault as stored;
+ghost use Rattle.rr_store.specs.declared.fault.Fault.TheVariants as Stored;
+ghost use Rattle.rr_store.specs.Allowing.{Between, OpenAllows};
+ghost use Rattle.rr_store.specs.Committing.{Commits};
+ghost use Rattle.rr_store.specs.Fault.{CountsFailure};
+ghost use Rattle.rr_store.specs.Files.{RefusesOpening};
+ghost use Rattle.rr_store.specs.Holding.{Carries, IsUnchanged};
+ghost use Rattle.rr_store.specs.Holding as held_in;
+ghost use Rattle.rr_store.specs.World.{Follows, TableCommand};
+ghost use Rattle.rr_moderator.specs.Durability.{Lasts, Opens, SpeaksAndLasts, StandsAlong, told};
+ghost use Rattle.rr_moderator.specs.Holding.{disk_under, held_of, last_reply, spoken_of, store_of, told_of};
+ghost use Rattle.rr_moderator.specs.Serving.{Answers, EndsAs, MayAppend, Responds, Speaks, outcome_of, reply_to, said, text_of};
 ghost use Rattle.rr_moderator.specs.contracts.moderator.Moderator.{the_row};
 
+use crate::answering::answer;
 use crate::fault::Fault;
-use crate::opening::replay;
 use crate::reply::Reply;
-use crate::tables::Tables;
-use rr_code::{Command, Line, unstamped};
+use rr_code::{Command, Line};
 use rr_disk::Disk;
-use rr_keeper::{Keeper, Opened};
 use rr_serve::{LONGEST_LINE, LineBuffer, Machine};
+use rr_store::{Refused, Store};
 use rr_words::Name;
 use std::alloc::Global;
 use std::io::{Read, Write};
 
-/// What answers lines: the tables in memory, the file that keeps them, and the reply to the line taken last.
+/// What answers lines: the store of the tables, and the reply to the line taken last.
 #[derive(Drop)]
 struct State<D: Drop> {
-    alloc: Global,
-    keeper: Keeper<D>,
-    tables: Tables,
+    store: Store<D>,
     reply: Reply,
 }
 
@@ -48,40 +49,32 @@ pub struct Moderator<D: Drop> {
     buffer: LineBuffer,
 }
 
-/// Why a file couldn't be opened, and the disk, whose bytes are as they were.
-#[derive(Drop)]
-pub struct Refused<D: Drop> {
-    pub fault: Fault,
-    pub disk: D,
-}
-
 impl<D: Disk + Drop> Moderator<D> {
-    /// Opens a file that `format` made, and plays its records again. It makes no write.
+    /// Opens a file that `format` made, and plays what was accepted into it again. It makes a sync, and no write.
     ///
     /// # Errors
-    /// `DeviceFailed`; `NotAStore` where the file isn't of the form that `format` gives it; `Damaged` where a record
-    /// isn't a command that its table could take; `OutOfMemory`.
+    /// `DeviceFailed`; `NotAStore` where the file isn't of the form that `format` gives it, or a text of its kit is
+    /// refused; `Damaged` where a record isn't a command that its table could take; `OutOfMemory`.
     pub fn open(alloc: Global, disk: D) -> Result<Moderator<D>, Refused<D>>
-        // What the moderator holds is what the kit and the records of the file make.
+        // The moderator holds what the file stands for, and its store goes on with it; else the file stands for nothing, or
+        // the device failed or memory was wanted.
         ensures opened { IfOk result (λ moderator. D.Honest (disk_under moderator)
             → Opens (D.state disk).content (held_of moderator)) }
+        ensures stands { IfOk result (λ moderator. D.Honest (disk_under moderator) → (texts : KitTexts)
+            × Between (D.past disk) (D.state disk) (D.past (disk_under moderator)) (D.state (disk_under moderator))
+            (λ moments. OpenAllows (D.state disk) moments (D.state (disk_under moderator)) (Ok (texts, (held_of moderator).tables)))
+            × SpellsKit texts (held_of moderator).kit × Carries D.state (store_of moderator) texts) }
+        ensures left { IfErr result (λ refused. D.Honest refused.disk
+            → Between (D.past disk) (D.state disk) (D.past refused.disk) (D.state refused.disk)
+            (λ moments. OpenAllows (D.state disk) moments (D.state refused.disk) (Err refused.fault))) }
+
+        // Of every disk: what it holds came of commands that the rules of a right kit allow, and its device hasn't failed.
+        ensures lawful { IfOk result (λ moderator. (texts : KitTexts) × SpellsKit texts (held_of moderator).kit
+            × (commands : List TableCommand) × Follows (held_of moderator).kit [] commands (held_of moderator).tables) }
+        ensures whole { IfOk result (λ moderator. (held_of moderator).broken ≡ false) }
         ensures refused { IfErr result (λ refused.
             RefusesOpening (D.Honest refused.disk) (D.state disk).content refused.fault) }
 
-        ensures stands { IfOk result (λ moderator. D.Honest (disk_under moderator)
-            → (texts : Texts) × Stands (keeper_of moderator) (D.state (disk_under moderator)) texts (held_of moderator)) }
-
-        // Of every disk: what it holds are plays that the rules of a right kit allow, and its device hasn't failed.
-        ensures lawful { IfOk result (λ moderator. (texts : Texts) × (records : List (List ℕ))
-            × Replayed texts records (held_of moderator).kit (held_of moderator).tables) }
-        ensures whole { IfOk result (λ moderator. (held_of moderator).broken ≡ false) }
-
-        // It syncs, and writes nothing.
-        ensures synced { IfOk result (λ moderator. D.Honest (disk_under moderator)
-            → (D.state (disk_under moderator) ≡ after_sync (D.state disk))
-            × (D.past (disk_under moderator) ≡ D.state disk ∷ D.past disk)) }
-        ensures left { IfErr result (λ refused. D.Honest refused.disk
-            → SyncsOnce (D.past disk) (D.state disk) (D.past refused.disk) (D.state refused.disk)) }
         ensures honest { IfOk result (λ moderator. D.Honest (disk_under moderator) → D.Honest disk) }
         ensures honest_left { IfErr result (λ refused. D.Honest refused.disk → D.Honest disk) }
         ensures writes { IfOk result (λ moderator.
@@ -96,51 +89,12 @@ impl<D: Disk + Drop> Moderator<D> {
             Ok(buffers) => buffers,
             Err(fault) => return Err(Refused { fault, disk }),
         };
-        match rr_keeper::open(alloc, disk) {
-            Ok(opened) => Moderator::begin(alloc, opened, reply, buffer),
-            Err(refused) => {
-                let rr_keeper::Refused { fault, disk } = refused;
-                Err(Refused {
-                    fault: Fault::from(fault),
-                    disk,
-                })
-            }
-        }
-    }
-
-    fn begin(
-        alloc: Global,
-        opened: Opened<D>,
-        reply: Reply,
-        buffer: LineBuffer,
-    ) -> Result<Moderator<D>, Refused<D>>
-        ensures ok { IfOk result (λ moderator. (disk_under moderator ≡ disk_of opened.keeper)
-            × ((held_of moderator).broken ≡ is_broken opened.keeper)
-            × Replayed (kit_of opened.texts) (records_of opened.lines.items)
-            (held_of moderator).kit (held_of moderator).tables) }
-        ensures keeper { IfOk result (λ moderator. keeper_of moderator ≡ opened.keeper) }
-        ensures err { IfErr result (λ refused. (refused.disk ≡ disk_of opened.keeper)
-            × RefusesReplay (kit_of opened.texts) (records_of opened.lines.items) refused.fault) }
-    {
-        let Opened {
-            keeper,
-            texts,
-            lines,
-        } = opened;
-        match replay(alloc, &texts, lines.as_slice()) {
-            Ok(tables) => Ok(Moderator {
-                state: State {
-                    alloc,
-                    keeper,
-                    tables,
-                    reply,
-                },
+        match rr_store::open(alloc, disk) {
+            Ok(store) => Ok(Moderator {
+                state: State { store, reply },
                 buffer,
             }),
-            Err(fault) => Err(Refused {
-                fault,
-                disk: keeper.into_disk(),
-            }),
+            Err(refused) => Err(refused),
         }
     }
 
@@ -149,21 +103,15 @@ impl<D: Disk + Drop> Moderator<D> {
         ensures { result ≡ disk_under self }
     {
         let Moderator { state, buffer: _ } = self;
-        let State {
-            alloc: _,
-            keeper,
-            tables: _,
-            reply: _,
-        } = state;
-        keeper.into_disk()
+        let State { store, reply: _ } = state;
+        store.into_disk()
     }
 
     /// Answers a line, given without its line feed, by the bytes of its reply.
     pub fn answer(&mut self, line: &[u8]) -> &[u8]
         ensures* { sem 𝓛 (Rests (the_row D.row) self.entry (λ new.
             Answers (held_of self.old) line.now (held_of new) result.now
-            × (¬ MayAppend (held_of self.old) line.now → disk_under new ≡ disk_under self.old)
-            × Lasts D.Honest D.state D.past D.fault_count (keeper_of self.old) (held_of self.old) line.now (keeper_of new) (held_of new) result.now)) }
+            × Lasts D.Honest D.state D.past D.fault_count D.write_count D.sync_count (store_of self.old) line.now (store_of new) result.now)) }
     {
         self.state.say(line);
         self.state.reply()
@@ -175,7 +123,7 @@ impl<D: Disk + Drop> Moderator<D> {
     /// `StreamFailed` where the writer fails. A command that was accepted stays accepted.
     pub fn line<W: Write>(&mut self, line: &[u8], writer: &mut W) -> Result<(), Fault>
         ensures answers { Answers (held_of self.old) (taken line.now) (held_of self.new) (last_reply self.new) }
-        ensures lasts { Lasts D.Honest D.state D.past D.fault_count (keeper_of self.old) (held_of self.old) (taken line.now) (keeper_of self.new) (held_of self.new) (last_reply self.new) }
+        ensures lasts { Lasts D.Honest D.state D.past D.fault_count D.write_count D.sync_count (store_of self.old) (taken line.now) (store_of self.new) (last_reply self.new) }
         ensures ok { OnOk result (Appends (W.contents writer.old) (W.contents writer.new) (last_reply self.new)) }
         ensures err { OnErr result (AppendsFront (W.contents writer.old) (W.contents writer.new) (last_reply self.new)) }
         ensures fault { IfErr result (λ fault. fault ≡ Fault.StreamFailed) }
@@ -195,23 +143,24 @@ impl<D: Disk + Drop> Moderator<D> {
             (R.remaining reader.old) (W.contents writer.old) (W.contents writer.new)) }
 
         // However it ends, the lines that were read are answered, each so that what it comes to lasts, and what is written
-        // is their replies as far as it got. So whatever a stop leaves at any moment of it opens as some of the lines make
-        // it, with the command of the next one or without.
+        // is their replies as far as it got. So whatever a stop leaves at any moment of it stands for the world that the
+        // moderator held then, after the lines that it had answered by then, or for that with the command pending then.
         ensures session { (cause : Result (Unit {0}) serve.Fault) × EndsAs result cause
-            × (session : Session (SpeaksAndLasts D.Honest D.state D.past D.fault_count) told (told_of self.old) (told_of self.new)
+            × (session : Session (SpeaksAndLasts D.Honest D.state D.past D.fault_count D.write_count D.sync_count) told (told_of self.old) (told_of self.new)
             (R.remaining reader.old) (R.remaining reader.new) (W.contents writer.old) (W.contents writer.new) cause)
             × (D.Honest (disk_under self.new)
-            → (texts : Texts) → Stands (keeper_of self.old) (D.state (disk_under self.old)) texts (held_of self.old)
+            → (texts : KitTexts) → Carries D.state (store_of self.old) texts
             → LeavesOnly (D.past (disk_under self.old)) (D.state (disk_under self.old)) (D.past (disk_under self.new)) (D.state (disk_under self.new))
-            (OpensAlong (spoken_of self.old) session.lines)) }
+            (StandsAlong D.Honest D.state D.past D.fault_count D.write_count D.sync_count texts
+            (told_of self.old) session.lines session.replies (told_of self.new) session.served)) }
     {
         rr_serve::serve(&mut self.state, reader, writer, &mut self.buffer)?;
         Ok(())
     }
 }
 
-fn make_buffers(alloc: Global) -> Result<(Reply, LineBuffer), Fault>
-    ensures { IfErr result (λ fault. fault ≡ Fault.OutOfMemory) }
+fn make_buffers(alloc: Global) -> Result<(Reply, LineBuffer), rr_store::Fault>
+    ensures { IfErr result (λ fault. fault ≡ Stored.OutOfMemory) }
 {
     let reply = Reply::new(alloc)?;
     let buffer = LineBuffer::new(alloc)?;
@@ -219,12 +168,11 @@ fn make_buffers(alloc: Global) -> Result<(Reply, LineBuffer), Fault>
 }
 
 impl<D: Disk + Drop> Machine for State<D> {
-    ghost use Rattle.rr_moderator.specs.Holding.{held_by};
     ghost use Rattle.rr_moderator.specs.Serving.{Answers};
     ghost use Rattle.rr_moderator.specs.Durability.{Lasts};
 
-    ghost Answers = { λ old line new. Answers (held_by old.keeper old.tables) line (held_by new.keeper new.tables) new.reply
-        × Lasts D.Honest D.state D.past D.fault_count old.keeper (held_by old.keeper old.tables) line new.keeper (held_by new.keeper new.tables) new.reply };
+    ghost Answers = { λ old line new. Answers (held_in.held_of old.store) line (held_in.held_of new.store) new.reply
+        × Lasts D.Honest D.state D.past D.fault_count D.write_count D.sync_count old.store line new.store new.reply };
 
     ghost reply_of = { λ state. state.reply };
 
@@ -240,10 +188,8 @@ impl<D: Disk + Drop> Machine for State<D> {
 impl<D: Disk + Drop> State<D> {
     /// Makes the reply to a line.
     fn say(&mut self, line: &[u8])
-        ensures answers { Answers (held_by self.old.keeper self.old.tables) line.now (held_by self.new.keeper self.new.tables) self.new.reply }
-        ensures untouched { ¬ MayAppend (held_by self.old.keeper self.old.tables) line.now → self.new.keeper ≡ self.old.keeper }
-        ensures lasts { Lasts D.Honest D.state D.past D.fault_count self.old.keeper (held_by self.old.keeper self.old.tables) line.now
-            self.new.keeper (held_by self.new.keeper self.new.tables) self.new.reply }
+        ensures answers { Answers (held_in.held_of self.old.store) line.now (held_in.held_of self.new.store) self.new.reply }
+        ensures lasts { Lasts D.Honest D.state D.past D.fault_count D.write_count D.sync_count self.old.store line.now self.new.store self.new.reply }
     {
         if let Err(fault) = self.respond(line) {
             fault.write(&mut self.reply);
@@ -252,16 +198,15 @@ impl<D: Disk + Drop> State<D> {
 
     /// Makes the reply to a line, unless it is refused.
     fn respond(&mut self, line: &[u8]) -> Result<(), Fault>
-        ensures responds { Responds (held_by self.old.keeper self.old.tables) line.now (held_by self.new.keeper self.new.tables) (outcome_of result self.new.reply) }
-        ensures untouched { ¬ MayAppend (held_by self.old.keeper self.old.tables) line.now → self.new.keeper ≡ self.old.keeper }
-        ensures lasts { Lasts D.Honest D.state D.past D.fault_count self.old.keeper (held_by self.old.keeper self.old.tables) line.now
-            self.new.keeper (held_by self.new.keeper self.new.tables) (reply_to (outcome_of result self.new.reply)) }
+        ensures responds { Responds (held_in.held_of self.old.store) line.now (held_in.held_of self.new.store) (outcome_of result self.new.reply) }
+        ensures lasts { Lasts D.Honest D.state D.past D.fault_count D.write_count D.sync_count self.old.store line.now
+            self.new.store (reply_to (outcome_of result self.new.reply)) }
     {
         if line.len() > LONGEST_LINE {
             return Err(Fault::LineTooLong);
         }
         let read = Line::read(line)?;
-        if self.keeper.is_broken() {
+        if self.store.is_broken() {
             return Err(Fault::OpenAgain);
         }
         match read {
@@ -269,31 +214,20 @@ impl<D: Disk + Drop> State<D> {
                 stamp,
                 table,
                 command,
-            } => self.commit(stamp, &table, &command, unstamped(line)),
-            Line::Query(query) => self.tables.answer(&query, &mut self.reply),
+            } => self.commit(stamp, &table, &command),
+            Line::Query(query) => answer(&self.store, &query, &mut self.reply),
         }
     }
 
-    /// Takes a command, whose record is given. All memory is taken before the record is appended.
-    fn commit(
-        &mut self,
-        stamp: u64,
-        table: &Name,
-        command: &Command,
-        bytes: &[u8],
-    ) -> Result<(), Fault>
-        requires some { 0 < length bytes.now }
-        requires small { amount_in command.now ≤ 10000000000 }
-        requires whole { is_broken self.old.keeper ≡ false }
-        ensures takes { Takes (held_by self.old.keeper self.old.tables) stamp table.now command.now (held_by self.new.keeper self.new.tables) (outcome_of result self.new.reply) }
-        ensures untouched { (fault : Fault) → verdict_in self.old.tables.kit (world_of self.old.tables.map.entries) stamp table.now command.now ≡ Some fault
-            → self.new.keeper ≡ self.old.keeper }
-        ensures full { IsErrOf result Fault.HalfFull → HasPlace (part_of self.old.keeper) (length bytes.now) → ⊥ }
-        ensures kept { Passed (λ old bytes result new. Keeping D.Honest D.state D.past D.fault_count old bytes result new) self.old.keeper bytes.now self.new.keeper result }
+    /// Lets the store take a command.
+    fn commit(&mut self, stamp: u64, table: &Name, command: &Command) -> Result<(), Fault>
+        requires name { IsTableName table.now }
+        requires command { IsCommand command.now }
+        ensures { (taking : Result ℕ stored.Fault)
+            × Commits D.Honest D.state D.past D.fault_count D.write_count D.sync_count self.old.store table.now stamp command.now self.new.store taking
+            × (outcome_of result self.new.reply ≡ text_of table.now taking) }
     {
-        let stamp = self
-            .tables
-            .take(self.alloc, stamp, table, command, bytes, &mut self.keeper)?;
+        let stamp = self.store.commit(table, stamp, command)?;
         self.reply.accept(table, stamp);
         Ok(())
     }

@@ -8,7 +8,7 @@ use Rattle.std.proofs.lemmas.List.Folds.{Any-from_list_any}
 use Rattle.std.proofs.lemmas.List.Sums.{passes_at_first}
 use Rattle.std.proofs.lemmas.Option.{slice_get_read, slice_get_within}
 use Rattle.rr_roster.specs.declared.company.Corp.{Corp}
-use Rattle.rr_network.specs.declared.layout.Station.{Station}
+use Rattle.rr_layout.specs.declared.layout.Station.{Station}
 use Rattle.rr_network.specs.declared.network.Stop.{Stop}
 use Rattle.rr_network.specs.declared.node.CentreAt.{CentreAt}
 use Rattle.rr_network.specs.declared.node.Hexside.{Hexside}

@@ -6,7 +6,7 @@ use Rattle.std.proofs.lemmas.List.Sums.{sum_by-cons}
 use Rattle.rr_roster.specs.Company.{corp_index}
 use Rattle.rr_roster.specs.declared.company.Corp.{Corp}
 use Rattle.rr_tiles.specs.declared.part.Kind.{Kind}
-use Rattle.rr_network.specs.declared.layout.Station.{Station}
+use Rattle.rr_layout.specs.declared.layout.Station.{Station}
 use Rattle.rr_network.specs.declared.node.CentreAt.{CentreAt}
 use Rattle.rr_network.specs.declared.node.Node.TheVariants.{Centre}
 use Rattle.rr_network.specs.Walk.{has_token, is_other_at, kind_stops}

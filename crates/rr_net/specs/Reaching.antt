@@ -9,7 +9,7 @@ use Rattle.rr_network.specs.declared.node.CentreAt.{CentreAt}
 use Rattle.rr_network.specs.declared.node.Link.{Link}
 use Rattle.rr_network.specs.declared.node.Node.{Node}
 use Rattle.rr_network.specs.declared.node.Node.TheVariants.{Hexside, Centre}
-use Rattle.rr_network.specs.Layout.{Placed}
+use Rattle.rr_layout.specs.Layout.{Placed}
 use Rattle.rr_network.specs.Network.{Net as Network, net_of as network_of}
 use Rattle.rr_network.specs.Walk.{ReachesLink, ReachesNode, has_token, is_terminal}
 use Rattle.rr_routes.specs.Certificates.{MayUse, all_open}

@@ -5,7 +5,8 @@ ghost use Rattle.rr_network.specs.Stops.{IsStop};
 ghost use Rattle.rr_network.specs.Walk.{has_token, is_filled, is_other_at, token_at};
 ghost use Rattle.rr_network.specs.declared.node.Node.TheVariants as N;
 
-use rr_network::{CentreAt, Station, Stop};
+use rr_layout::Station;
+use rr_network::{CentreAt, Stop};
 use rr_roster::{Corp, Kind as TrainKind};
 use rr_tiles::Kind;
 use std::alloc::{AllocError, Global};

@@ -1,7 +1,7 @@
 //! The net over which a corporation runs.
 ghost use Rattle.std.specs.Prelude.{◌≡◌, ℕ, ◌≤◌, length, IfOk};
 ghost use Rattle.rr_books.specs.Book.{Book};
-ghost use Rattle.rr_network.specs.Layout.{IsStateOf};
+ghost use Rattle.rr_layout.specs.Layout.{IsLayoutOf};
 ghost use Rattle.rr_network.specs.Network.{net_of as network_of, network as network_of_book};
 ghost use Rattle.rr_network.specs.Stops.{HexesKeepTheirCentres};
 ghost use Rattle.rr_routes.specs.Net.{value as worth};
@@ -12,7 +12,8 @@ use crate::joining::placed_links;
 use crate::trains::centre_limits;
 use rr_board::Board;
 use rr_checker::Net;
-use rr_network::{Layout, Network};
+use rr_layout::Layout;
+use rr_network::Network;
 use rr_roster::{Corp, Kind};
 use rr_tiles::Manifest;
 use std::alloc::{AllocError, Global};
@@ -58,7 +59,7 @@ pub fn net_on_board(
     phase: Kind,
 ) -> Result<Net, AllocError>
     ensures value { IfOk result (λ net. net ≡ net_of board.now.hexes (network_of board.now tiles.now layout.now) corp trains.now phase) }
-    ensures book { IfOk result (λ net. (book : Book) → IsStateOf book layout.now → net ≡ net_of board.now.hexes (network_of_book board.now tiles.now book) corp trains.now phase) }
+    ensures book { IfOk result (λ net. (book : Book) → IsLayoutOf book layout.now → net ≡ net_of board.now.hexes (network_of_book board.now tiles.now book) corp trains.now phase) }
     ensures modest { IfOk result (λ net. (centre : ℕ) → worth net centre ≤ 990) }
     ensures few { IfOk result (λ net. HexesKeepTheirCentres board.now tiles.now layout.now.lays → length net.values ≤ 65536) }
 {

@@ -6,7 +6,7 @@ use Rattle.rr_board.specs.declared.hex.Hex.{Hex}
 use Rattle.rr_board.specs.declared.hex.Place.{Place}
 use Rattle.rr_tiles.specs.declared.part.Part.{Part}
 use Rattle.rr_tiles.specs.declared.part.Part.TheVariants.{Track as OfTrack, Centre as OfCentre}
-use Rattle.rr_network.specs.declared.layout.Station.{Station}
+use Rattle.rr_layout.specs.declared.layout.Station.{Station}
 use Rattle.rr_network.specs.declared.node.Link.{Link}
 use Rattle.rr_network.specs.declared.network.Stop.{Stop}
 use Rattle.rr_network.specs.Network.{Net, AddsHex, links_in, links_of, stops_in, stops_of, seen_after}

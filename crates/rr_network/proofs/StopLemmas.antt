@@ -20,9 +20,9 @@ use Rattle.rr_tiles.specs.declared.part.Part.{Part}
 use Rattle.rr_tiles.specs.declared.part.Part.TheVariants.{Track as OfTrack, Centre as OfCentre}
 use Rattle.rr_tiles.specs.declared.supply.Supply.{Supply}
 use Rattle.rr_tiles.proofs.TileLemmas.{IsTile-turned}
-use Rattle.rr_network.specs.declared.layout.Lay.{Lay}
+use Rattle.rr_layout.specs.declared.layout.Lay.{Lay}
 use Rattle.rr_network.specs.declared.network.Stop.{Stop}
-use Rattle.rr_network.specs.Layout.{Placed, last_lay}
+use Rattle.rr_layout.specs.Layout.{Placed, last_lay}
 use Rattle.rr_network.specs.Network.{face_on, hex_stops, laid, net_of, seen_after, stops_in, stops_of}
 use Rattle.rr_network.specs.Stops.{HexesKeepTheirCentres, IsStop, KeepsWhatLies, NothingLaidKeepsCentres, UpgradesKeepCentres, centre_count}
 

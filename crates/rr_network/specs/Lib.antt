@@ -1,6 +1,5 @@
 pub mod Node
 pub mod Facing
-pub mod Layout
 pub mod Network
 pub mod Stops
 pub mod Walk

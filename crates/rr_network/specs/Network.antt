@@ -11,14 +11,14 @@ use Rattle.rr_tiles.specs.declared.supply.Supply.{Supply}
 use Rattle.rr_tiles.specs.declared.part.Track.{Track}
 use Rattle.rr_tiles.specs.declared.part.Part.{Part}
 use Rattle.rr_tiles.specs.declared.part.Part.TheVariants.{Track as OfTrack, Centre as OfCentre}
-use Rattle.rr_network.specs.declared.layout.Lay.{Lay}
-use Rattle.rr_network.specs.declared.layout.Station.{Station}
+use Rattle.rr_layout.specs.declared.layout.Lay.{Lay}
+use Rattle.rr_layout.specs.declared.layout.Station.{Station}
 use Rattle.rr_network.specs.declared.node.Link.{Link}
 use Rattle.rr_network.specs.declared.node.Node.{Node}
 use Rattle.rr_network.specs.declared.node.Node.TheVariants.{Hexside, Centre}
 use Rattle.rr_network.specs.declared.network.Stop.{Stop}
 use Rattle.rr_network.specs.Node.{hexside_at}
-use Rattle.rr_network.specs.Layout.{Placed, IsStateOf, lays, stations, last_lay}
+use Rattle.rr_layout.specs.Layout.{Placed, IsLayoutOf, lays, stations, last_lay}
 
 -- the links, the centres and the tokens on a board
 pub record Net : Type 0 where
@@ -89,7 +89,7 @@ pub record AddsHex (old new : Net) (links : List Link) (stops : List Stop) : Typ
   pub same_stations : new.stations ≡ old.stations
 
 -- what was put on a board by a book makes the network of the book
-pub network_of_book : (plan : Plan) (tiles : List Supply) (book : Book) (placed : Placed) → IsStateOf book placed → net_of plan tiles placed ≡ network plan tiles book
+pub network_of_book : (plan : Plan) (tiles : List Supply) (book : Book) (placed : Placed) → IsLayoutOf book placed → net_of plan tiles placed ≡ network plan tiles book
 network_of_book plan tiles book placed h =
     let put : List Lay → List Station → Placed = λ ls ss. record { lays = ls; stations = ss } in
     ap (λ (ls : List Lay). net_of plan tiles (put ls placed.stations)) (sym h.tiles)

@@ -7,7 +7,7 @@ use Rattle.rr_tiles.specs.Sound.{IsKind, IsValue}
 use Rattle.rr_tiles.specs.Supply.{supply_at}
 use Rattle.rr_tiles.specs.Tile.{Face, centres_of, turned}
 use Rattle.rr_tiles.specs.declared.supply.Supply.{Supply}
-use Rattle.rr_network.specs.declared.layout.Lay.{Lay}
+use Rattle.rr_layout.specs.declared.layout.Lay.{Lay}
 use Rattle.rr_network.specs.declared.network.Stop.{Stop}
 use Rattle.rr_network.specs.Network.{face_on}
 

@@ -2,14 +2,12 @@
 #![tactic(auto)]
 
 pub mod laws;
-mod layout;
 mod network;
 mod node;
 mod reach;
 mod step;
 mod survey;
 
-pub use layout::{Lay, Layout, Station};
 pub use network::{Network, Stop, last_lay};
 pub use node::{Axial, CentreAt, Hexside, Link, Node, across, hexside_at, same_node};
 pub use reach::Reach;

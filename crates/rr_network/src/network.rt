@@ -1,10 +1,10 @@
 //! The network that lies on a board: its links, its centres and the tokens there.
 ghost use Rattle.std.specs.Prelude.{◌≡◌, ◌≤◌, All, length, IfOk};
 ghost use Rattle.std.specs.Option.{option_copied};
-ghost use Rattle.rr_network.specs.Layout.{last_lay};
+ghost use Rattle.rr_layout.specs.Layout.{last_lay};
 ghost use Rattle.rr_network.specs.Network.{net_of};
 
-use crate::layout::{Lay, Layout, Station};
+use rr_layout::{Lay, Layout, Station};
 use crate::node::{CentreAt, Link};
 use crate::survey::Survey;
 use rr_board::Board;
@@ -44,7 +44,7 @@ impl Model for Network {
 
 impl Network {
     ghost use Rattle.rr_books.specs.Book.{Book};
-    ghost use Rattle.rr_network.specs.Layout.{IsStateOf};
+    ghost use Rattle.rr_layout.specs.Layout.{IsLayoutOf};
     ghost use Rattle.rr_network.specs.Network.{network};
     ghost use Rattle.rr_network.specs.Stops.{HexesKeepTheirCentres, IsStop};
 
@@ -61,7 +61,7 @@ impl Network {
         layout: &Layout,
     ) -> Result<Network, AllocError>
         ensures value { IfOk result (λ net. net ≡ net_of board.now tiles.now layout.now) }
-        ensures book { IfOk result (λ net. (book : Book) → IsStateOf book layout.now → net ≡ network board.now tiles.now book) }
+        ensures book { IfOk result (λ net. (book : Book) → IsLayoutOf book layout.now → net ≡ network board.now tiles.now book) }
         ensures few { IfOk result (λ net. HexesKeepTheirCentres board.now tiles.now layout.now.lays → length net.stops ≤ 65536) }
     {
         let survey = survey_of(alloc, board, tiles, layout)?;

@@ -2,7 +2,7 @@
 ghost use Rattle.std.specs.Prelude.{◌≡◌, ◌+◌, ◌<◌, ◌^◌, [], ◌∷◌, flat_map, map, IfOk, OnOk};
 ghost use Rattle.rr_network.specs.declared.node.Node.TheVariants as N;
 
-use crate::layout::{Lay, Station};
+use rr_layout::{Lay, Station};
 use crate::network::{Stop, last_lay};
 use crate::node::{CentreAt, Link, Node, add_edges, hexside_at};
 use rr_board::Hex;

@@ -45,6 +45,6 @@ pub(crate) fn formatted(alloc: Global) -> Result<MemoryDisk, Fail> {
 pub(crate) fn opened<D: Disk + Drop>(alloc: Global, disk: D) -> Result<Moderator<D>, Fault> {
     match Moderator::open(alloc, disk) {
         Ok(moderator) => Ok(moderator),
-        Err(refused) => Err(refused.fault),
+        Err(refused) => Err(Fault::from(refused.fault)),
     }
 }

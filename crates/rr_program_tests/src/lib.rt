@@ -1,4 +1,4 @@
-//! Tests of the moderator and of the program's command line, over what both make public.
+//! Tests of the store, the moderator and of the program's command line, over what both make public.
 #![tactic(auto)]
 
 #[cfg(test)]
@@ -13,3 +13,5 @@ mod opening;
 mod refused_requests;
 #[cfg(test)]
 mod serving;
+#[cfg(test)]
+mod storing;

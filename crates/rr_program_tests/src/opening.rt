@@ -17,7 +17,7 @@ fn refusal(alloc: Global, texts: Texts<'_>) -> Result<Reply, Fail> {
     let mut disk = MemoryDisk::new(alloc, ROOM)?;
     let mut reply = Reply::new(alloc)?;
     if let Err(fault) = format(alloc, &mut disk, texts) {
-        fault.write(&mut reply);
+        Fault::from(fault).write(&mut reply);
     }
     Ok(reply)
 }
@@ -73,9 +73,18 @@ fn other_files_are_refused(rt: HostRuntime) -> Result<(), Fail> {
         board: HEX_TWICE,
     };
     let mut disk = formatted(alloc)?;
-    assert_eq!(rt; format(alloc, &mut disk, texts), Err(Fault::NotEmpty));
+    assert_eq!(rt;
+        format(alloc, &mut disk, texts),
+        Err(rr_store::Fault::NotEmpty)
+    );
     let mut disk = MemoryDisk::new(alloc, ROOM)?;
-    rr_keeper::format(alloc, &mut disk, texts)?;
+    let wrong = rr_keeper::Texts {
+        chart: CHART,
+        roster: ROSTER,
+        tiles: b"",
+        board: HEX_TWICE,
+    };
+    rr_keeper::format(alloc, &mut disk, wrong)?;
     assert_eq!(rt; opened(alloc, disk).err(), Some(Fault::NotAStore));
     let empty = MemoryDisk::new(alloc, ROOM)?;
     assert_eq!(rt; opened(alloc, empty).err(), Some(Fault::NotAStore));

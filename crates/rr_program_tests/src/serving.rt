@@ -112,6 +112,10 @@ impl<D: Disk + Drop> Disk for Noted<'_, D> {
 
     ghost sync_count = { λ noted. D.sync_count noted.disk };
 
+    ghost file_len = { λ noted. D.file_len noted.disk };
+
+    ghost Works = { λ noted. D.Works noted.disk };
+
     ghost Honest = { λ noted. D.Honest noted.disk };
 
     fn len(&self) -> u64 {

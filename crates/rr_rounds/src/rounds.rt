@@ -8,8 +8,7 @@ ghost use Rattle.rr_rounds.specs.Round.{IsRoundOf, after, after_act, after_done,
 
 use crate::purchases::Purchases;
 use crate::sales::{Marks, NO_MARKS, Sales, has_sold, is_marked, no_sales, with_mark, with_sale};
-use rr_books::{Act, Cert, Corp, Entry, Marker, Party, Place, Seat, ShareSource};
-use rr_desk::left_of;
+use rr_books::{Act, Cert, Corp, Entry, Marker, Party, Place, Seat, ShareSource, left_of};
 use std::marker::Model;
 
 /// How far the stock rounds of a table have come, which stands for its book. It takes no memory, and `Copy` copies it.

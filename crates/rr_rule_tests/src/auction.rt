@@ -1,6 +1,6 @@
 //! Two auctions, act by act.
-ghost use Rattle.std.specs.Prelude.{◌≡◌, ◌≤◌, true};
-ghost use Rattle.rr_auction.specs.Fit.{IsFit, amount_of};
+ghost use Rattle.std.specs.Prelude.{◌≡◌, true};
+ghost use Rattle.rr_auction.specs.Small.{IsSmall};
 
 use crate::fixtures::{A, B, ROSTER, chart, roster};
 use rr_auction::laws::{
@@ -9,11 +9,11 @@ use rr_auction::laws::{
     raisers_sit_left_of_the_highest, raising_goes_left, seat_in_turn_buys,
     turn_is_left_of_the_last, turns_are_counted, worked_auction, worked_tellings,
 };
-use rr_auction::{Auction, Due, Fault, open_table};
+use rr_auction::{Due, Fault, asked, is_over, judge, open_table, play, turns};
 use rr_books::{Act, Cell, Cert, Corp, Entry, Marker, Money, Party, Place, Private, Seat};
 use rr_chart::Chart;
-use rr_desk::Desk;
 use rr_market::Market;
+use rr_desk::Desk;
 use rr_roster::Roster;
 use std::alloc::Global;
 use std::process::Abort;
@@ -22,25 +22,18 @@ const CHART: &str = "76 82 100p
 70 76 90p
 ";
 
-/// A table at which so many acts were tried.
+/// A table, and all entries since it opened.
 #[derive(Drop)]
 struct Table {
-    auction: Auction,
     desk: Desk,
-    tried: u32,
-    ghost fit: { IsFit desk.books auction },
-    ghost commands: { auction.commands ≤ tried },
 }
 
 impl Table {
     fn open(rt: &impl Abort, alloc: Global, players: u8, roster: &Roster) -> Table {
         assert!(rt; players >= 2);
         assert!(rt; players <= 6);
-        let (books, auction) = open_table(players, roster);
         Table {
-            auction,
-            desk: Desk::new(alloc, books),
-            tried: 0,
+            desk: Desk::new(alloc, open_table(players, roster)),
         }
     }
 
@@ -52,34 +45,30 @@ impl Table {
         roster: &Roster,
         chart: &Chart,
     ) -> (Table, Option<Fault>) {
-        let Table {
-            mut auction,
-            mut desk,
-            tried,
-        } = self;
-        assert!(rt; tried < 100);
-        assert!(rt; desk.books().payments() < 1000);
+        let Table { mut desk } = self;
+        if let Err(fault) = judge(roster, chart, desk.position(), act) {
+            return (Table { desk }, Some(fault));
+        }
         assert!(rt; is_small(act));
-        let fault = auction.step(act, &mut desk, roster, chart).err();
-        assert!(rt; fault != Some(Fault::OutOfMemory));
-        let table = Table {
-            auction,
-            desk,
-            tried: tried + 1,
-        };
-        (table, fault)
+        let played = play(roster, chart, &mut desk, act);
+        assert!(rt; played.is_ok());
+        (Table { desk }, None)
     }
 
     fn due(&self) -> Due {
-        self.auction.due(self.desk.books())
+        Due::of(self.desk.position())
+    }
+
+    fn is_over(&self) -> bool {
+        is_over(self.desk.position())
     }
 
     fn asked(&self, roster: &Roster) -> Option<(Private, Money)> {
-        self.auction.asked(self.desk.books(), roster)
+        asked(self.desk.position(), roster)
     }
 
     fn turns(&self) -> u32 {
-        self.auction.turns()
+        turns(self.desk.position())
     }
 
     fn cash(&self, party: Party) -> i64 {
@@ -92,9 +81,10 @@ impl Table {
 }
 
 fn is_small(act: &Act) -> bool
-    ensures { result ≡ true → amount_of act.now ≤ 10000000000 }
+    ensures { result ≡ true → IsSmall act.now }
 {
     match act {
+        Act::BuyPrivate { seat } => seat.0 < 6,
         Act::Bid { amount, .. } => *amount <= 10_000_000_000,
         _ => true,
     }
@@ -191,6 +181,7 @@ fn a_par_puts_the_token_on_the_chart(rt: HostRuntime) {
         assert_eq!(rt; fault, refusal);
         table = next;
     }
+    assert!(rt; table.is_over());
     assert!(rt; end_with_the_par(table.entries()));
     assert_eq!(rt; price_after(table.entries(), &chart, Corp::Bo), Some(90));
 }
@@ -198,7 +189,6 @@ fn a_par_puts_the_token_on_the_chart(rt: HostRuntime) {
 #[test]
 fn refusals_have_their_numbers(rt: HostRuntime) {
     for (fault, number) in [
-        (Fault::from(rr_books::Fault::NoSuchName), 1),
         (Fault::TooLittleCash, 2),
         (Fault::NotYourTurn, 20),
         (Fault::BidTooLow(75), 21),
@@ -206,7 +196,6 @@ fn refusals_have_their_numbers(rt: HostRuntime) {
         (Fault::CashTiedUp, 23),
         (Fault::NotAPar, 31),
         (Fault::WrongStep, 42),
-        (Fault::OutOfMemory, 70),
     ] {
         assert_eq!(rt; fault.number(), number);
     }

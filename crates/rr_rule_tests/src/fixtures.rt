@@ -1,6 +1,7 @@
 //! What several of the tests share. The helpers have no contract, so that their callers' proofs stay small.
-use rr_books::{Books, Seat};
+use rr_books::Seat;
 use rr_chart::Chart;
+use rr_position::Position;
 use rr_roster::Roster;
 use std::alloc::Global;
 use std::process::Abort;
@@ -32,9 +33,9 @@ pub(crate) fn chart(rt: &impl Abort, alloc: Global, text: &str) -> Chart {
     Chart::read(alloc, text).expect(rt, "a chart")
 }
 
-/// The books of a table of two to six players that opens with the usual numbers.
-pub(crate) fn books(rt: &impl Abort, alloc: Global, players: u8) -> Books {
+/// The position of a table of two to six players that opens with the usual numbers.
+pub(crate) fn position(rt: &impl Abort, alloc: Global, players: u8) -> Position {
     assert!(rt; players >= 2);
     assert!(rt; players <= 6);
-    Books::open(players, &roster(rt, alloc, ROSTER))
+    Position::open(players, &roster(rt, alloc, ROSTER))
 }

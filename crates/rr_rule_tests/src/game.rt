@@ -1,4 +1,4 @@
-//! A game of two from a small kit, and kits that are refused.
+//! A game of two from a small kit.
 ghost use Rattle.std.specs.Prelude.{◌≡◌, ◌≤◌, true};
 ghost use Rattle.rr_game.specs.Names.{amount_in};
 
@@ -6,7 +6,7 @@ use crate::fixtures::{A, B, ROSTER};
 use rr_auction::Due;
 use rr_books::{Cell, Corp, Money, Place, Private};
 use rr_code::{Account, Command, Owner};
-use rr_game::{Fault, Game, Kit};
+use rr_game::{Game, Kit};
 use rr_words::Name;
 use std::alloc::Global;
 use std::process::Abort;
@@ -25,17 +25,6 @@ fn command(rt: &impl Abort, words: &[u8]) -> Command {
 
 fn kit(rt: &impl Abort, alloc: Global, chart: &[u8], roster: &[u8], board: &[u8]) -> Kit {
     Kit::read(alloc, chart, roster, b"", board).expect(rt, "a kit")
-}
-
-/// Why the texts of a kit are refused.
-fn refusal(
-    alloc: Global,
-    chart: &[u8],
-    roster: &[u8],
-    tiles: &[u8],
-    board: &[u8],
-) -> Option<Fault> {
-    Kit::read(alloc, chart, roster, tiles, board).err()
 }
 
 fn is_small(command: &Command) -> bool
@@ -86,13 +75,6 @@ fn place(rt: &impl Abort, game: &Game, player: Name) -> Place {
 }
 
 #[test]
-fn a_kit_has_a_roster_and_a_chart(rt: HostRuntime) {
-    let kit = kit(&rt, rt.alloc(), CHART, ROSTER.as_bytes(), BOARD);
-    assert_eq!(rt; kit.roster().face(Private::Sv), 20);
-    assert_eq!(rt; kit.chart().par_cells().len(), 1);
-}
-
-#[test]
 fn a_game_begins_with_the_auction(rt: HostRuntime) {
     let kit = kit(&rt, rt.alloc(), CHART, ROSTER.as_bytes(), BOARD);
     let game = played(&rt, rt.alloc(), &kit, &[]);
@@ -137,30 +119,7 @@ fn an_auction_and_the_stock_round_behind_it(rt: HostRuntime) {
 }
 
 #[test]
-fn the_first_wrong_text_is_told(rt: HostRuntime) {
-    let roster = ROSTER.as_bytes();
-    let wrong: [(&[u8], &[u8], &[u8], &[u8], Fault); 4] = [
-        (
-            b"100\n",
-            b"x",
-            b"x",
-            b"x",
-            Fault::BadChart { line: 0, word: 0 },
-        ),
-        (CHART, b"x", b"x", b"x", Fault::BadRoster),
-        (CHART, roster, b"x\n", b"x", Fault::BadManifest(1)),
-        (CHART, roster, b"", b"\nx\n", Fault::BadBoard(2)),
-    ];
-    for (chart, roster, tiles, board, fault) in wrong {
-        let told = refusal(rt.alloc(), chart, roster, tiles, board);
-        assert_eq!(rt; told, Some(fault));
-    }
-    assert_eq!(rt; Fault::BadBoard(2).number(), 7);
-}
-
-#[test]
 fn laws_are_called(_rt: HostRuntime) {
-    rr_game::laws::kits_are_told_apart();
     rr_laws::sound();
     rr_laws::kits_name_corporations();
     rr_laws::plays_go_on();

@@ -1,6 +1,6 @@
 //! Rows on a small chart that has each zone.
-use crate::fixtures::{A, B, books, chart};
-use rr_books::{Books, Cert, Corp, Place, Private, Seat, ShareNumber};
+use crate::fixtures::{A, B, chart, position};
+use rr_books::{Cell, Cert, Corp, Entry, Marker, Place, Private, Seat, ShareNumber};
 use rr_chart::Chart;
 use rr_holdings::laws::one_share_suffices;
 use rr_holdings::{
@@ -8,7 +8,8 @@ use rr_holdings::{
     is_over_sixty, judge_sale, judge_sell, must_sell_first, would_be_over_certificates,
     would_be_over_sixty,
 };
-use rr_market::Market;
+use rr_market::par_cell;
+use rr_position::Position;
 use std::alloc::Global;
 use std::process::Abort;
 
@@ -37,8 +38,7 @@ type Lot = (Corp, bool, usize, usize, Place);
 
 #[derive(Drop)]
 struct Table {
-    books: Books,
-    market: Market,
+    position: Position,
     chart: Chart,
 }
 
@@ -53,8 +53,7 @@ impl Table {
         tokens: &[(Corp, At)],
     ) -> Table {
         let mut table = Table {
-            books: books(rt, alloc, players),
-            market: Market::new(),
+            position: position(rt, alloc, players),
             chart: chart(rt, alloc, CHART),
         };
         for (private, to) in privates {
@@ -70,7 +69,8 @@ impl Table {
     }
 
     fn give(&mut self, rt: &impl Abort, cert: Cert, to: Place) {
-        self.books.give(cert, to).expect(rt, "a place of the table");
+        let entry = Entry::Move { cert, to };
+        self.position.follow(&entry).expect(rt, "room");
     }
 
     fn give_lot(&mut self, rt: &impl Abort, lot: Lot) {
@@ -94,69 +94,78 @@ impl Table {
     }
 
     fn begin(&mut self, rt: &impl Abort, corp: Corp) {
-        let _cell = self.market.set(&self.chart, corp, 67).expect(rt, "a par");
+        let cell = par_cell(&self.chart, 67).expect(rt, "a par");
+        self.mark(rt, corp, cell);
+    }
+
+    fn mark(&mut self, rt: &impl Abort, corp: Corp, cell: Cell) {
+        let entry = Entry::Mark { corp, cell };
+        self.position.follow(&entry).expect(rt, "room");
     }
 
     fn fall(&mut self, rt: &impl Abort, corp: Corp, rows: u8) {
         self.begin(rt, corp);
-        self.step_left(corp);
-        self.step_down(corp, rows);
+        self.step_left(rt, corp);
+        self.step_down(rt, corp, rows);
     }
 
-    fn step_left(&mut self, corp: Corp) {
-        let _cell = self.market.withheld(&self.chart, corp);
+    fn step_left(&mut self, rt: &impl Abort, corp: Corp) {
+        let market = self.position.market();
+        if let Some(cell) = market.cell_after_withholding(&self.chart, corp) {
+            self.mark(rt, corp, cell);
+        }
     }
 
-    fn step_down(&mut self, corp: Corp, rows: u8) {
-        let _cell = self.market.sold(&self.chart, corp, rows);
+    fn step_down(&mut self, rt: &impl Abort, corp: Corp, rows: u8) {
+        let market = self.position.market();
+        if let Some(cell) = market.cell_after_sale(&self.chart, corp, rows) {
+            self.mark(rt, corp, cell);
+        }
+    }
+
+    fn begin_round(&mut self, rt: &impl Abort) {
+        let entry = Entry::Step(Marker::Stock);
+        self.position.follow(&entry).expect(rt, "room");
     }
 
     fn counted(&self, seat: Seat) -> u8 {
-        certificates_counted(&self.books, &self.market, &self.chart, seat)
+        certificates_counted(&self.position, &self.chart, seat)
     }
 
     fn is_over_certificates(&self, seat: Seat) -> bool {
-        is_over_certificates(&self.books, &self.market, &self.chart, seat)
+        is_over_certificates(&self.position, &self.chart, seat)
     }
 
     fn takes_too_many(&self, seat: Seat, corp: Corp) -> bool {
-        would_be_over_certificates(&self.books, &self.market, &self.chart, seat, corp)
+        would_be_over_certificates(&self.position, &self.chart, seat, corp)
     }
 
     fn is_over_sixty(&self, seat: Seat, corp: Corp) -> bool {
-        is_over_sixty(&self.books, &self.market, &self.chart, seat, corp)
+        is_over_sixty(&self.position, &self.chart, seat, corp)
     }
 
     fn takes_too_much(&self, seat: Seat, corp: Corp, added: u8) -> bool {
-        would_be_over_sixty(&self.books, &self.market, &self.chart, seat, corp, added)
+        would_be_over_sixty(&self.position, &self.chart, seat, corp, added)
     }
 
     fn is_over(&self, seat: Seat) -> bool {
-        is_over_limit(&self.books, &self.market, &self.chart, seat)
+        is_over_limit(&self.position, &self.chart, seat)
     }
 
     fn sale(&self, seat: Seat, corp: Corp, count: u64) -> Result<(), Fault> {
-        judge_sale(&self.books, &self.market, &self.chart, seat, corp, count)
+        judge_sale(&self.position, &self.chart, seat, corp, count)
     }
 
-    fn sell(&self, is_first: bool, seat: Seat, corp: Corp) -> Result<(), Fault> {
-        judge_sell(
-            &self.books,
-            &self.market,
-            &self.chart,
-            is_first,
-            seat,
-            corp,
-            1,
-        )
+    fn sell(&self, seat: Seat, corp: Corp) -> Result<(), Fault> {
+        judge_sell(&self.position, &self.chart, seat, corp, 1)
     }
 
-    fn can_sell(&self, is_first: bool, seat: Seat) -> bool {
-        has_lawful_sale(&self.books, &self.market, &self.chart, is_first, seat)
+    fn can_sell(&self, seat: Seat) -> bool {
+        has_lawful_sale(&self.position, &self.chart, seat)
     }
 
-    fn must_sell(&self, is_first: bool, seat: Seat) -> bool {
-        must_sell_first(&self.books, &self.market, &self.chart, is_first, seat)
+    fn must_sell(&self, seat: Seat) -> bool {
+        must_sell_first(&self.position, &self.chart, seat)
     }
 }
 
@@ -260,15 +269,19 @@ fn a_president_leaves_a_successor(rt: HostRuntime) {
 fn nothing_is_sold_in_the_first_stock_round(rt: HostRuntime) {
     let lots = [(NYC, true, 0, 5, AT_A)];
     let mut table = Table::dealt(&rt, rt.alloc(), 3, &[], &lots, &[(NYC, At::White)]);
-    assert_eq!(rt; table.sell(true, A, PRR), Err(Fault::FirstStockRound));
-    assert_eq!(rt; table.sell(false, A, PRR), Err(Fault::NotForSale));
-    for (is_first, seat, may_and_must) in [(true, A, false), (false, A, true), (false, B, false)] {
-        assert_eq!(rt; table.can_sell(is_first, seat), may_and_must);
-        assert_eq!(rt; table.must_sell(is_first, seat), may_and_must);
+    table.begin_round(&rt);
+    assert_eq!(rt; table.sell(A, PRR), Err(Fault::FirstStockRound));
+    assert_eq!(rt; table.can_sell(A), false);
+    assert_eq!(rt; table.must_sell(A), false);
+    table.begin_round(&rt);
+    assert_eq!(rt; table.sell(A, PRR), Err(Fault::NotForSale));
+    for (seat, may_and_must) in [(A, true), (B, false)] {
+        assert_eq!(rt; table.can_sell(seat), may_and_must);
+        assert_eq!(rt; table.must_sell(seat), may_and_must);
     }
     table.give_lot(&rt, (NYC, false, 0, 1, Place::Pool));
-    assert_eq!(rt; table.can_sell(false, A), true);
-    assert_eq!(rt; table.must_sell(false, A), false);
+    assert_eq!(rt; table.can_sell(A), true);
+    assert_eq!(rt; table.must_sell(A), false);
 }
 
 #[test]

@@ -1,12 +1,11 @@
 //! Tiles and tokens on the small board, with PRR's first token in A.
-use crate::fixtures::{B, ROSTER, books, roster};
-use rr_board::Board;
-use rr_books::{Books, Cert, Corp, Entry, Kind, Marker, Money, Party, Place, Private, Train};
-use rr_desk::{Desk, Entries};
+use crate::fixtures::{B, ROSTER, position};
+use rr_books::{Cert, Corp, Entry, Kind, Marker, Money, Party, Place, Private, Train};
+use rr_desk::{Desk, Position};
+use rr_kit::Kit;
 use rr_lay::Fault;
 use rr_lay::laws::{one_verdict_on_a_tile, one_verdict_on_a_token};
-use rr_network::{Lay, Layout, Station};
-use rr_tiles::Manifest;
+use rr_layout::{Lay, Station};
 use rr_words::HexName;
 use std::alloc::Global;
 use std::process::Abort;
@@ -31,7 +30,7 @@ home PRR A 1
 home NYC D 1
 ";
 
-const TILES: &str = "yellow 7 x4 0-1
+const TILES: &[u8] = b"yellow 7 x4 0-1
 green 23 x3 0-3 0-4
 green 24 x3 0-3 0-2
 ";
@@ -46,39 +45,32 @@ struct Outcome {
 }
 
 /// Two players, and PRR with 100 dollars. This place has SV, and this one the first 3.
-fn funded(rt: &impl Abort, alloc: Global, sv: Place, three: Place) -> Books {
-    let mut books = books(rt, alloc, 2);
-    pay(rt, &mut books, Corp::Prr, 100);
-    give(rt, &mut books, Private::Sv, sv);
-    give_first(rt, &mut books, Kind::Three, three);
-    books
+fn funded(rt: &impl Abort, alloc: Global, sv: Place, three: Place) -> Position {
+    let mut funded = position(rt, alloc, 2);
+    let pay = Entry::Pay {
+        from: Party::Bank,
+        to: Party::Corp(Corp::Prr),
+        amount: Money(100),
+    };
+    funded.follow(&pay).expect(rt, "room");
+    let private = Entry::Move {
+        cert: Cert::Private(Private::Sv),
+        to: sv,
+    };
+    funded.follow(&private).expect(rt, "room");
+    let train = Train {
+        kind: Kind::Three,
+        number: 1,
+    };
+    assert!(rt; funded.books().has_train(train));
+    let first = Entry::Train { train, to: three };
+    funded.follow(&first).expect(rt, "room");
+    funded
 }
 
-fn pay(rt: &impl Abort, books: &mut Books, corp: Corp, amount: u16) {
-    assert!(rt; books.payments() < 1000);
-    books
-        .pay(Party::Bank, Party::Corp(corp), Money(i64::from(amount)))
-        .expect(rt, "a payment of the bank");
-}
-
-fn give(rt: &impl Abort, books: &mut Books, private: Private, to: Place) {
-    books
-        .give(Cert::Private(private), to)
-        .expect(rt, "a place of the table");
-}
-
-fn give_first(rt: &impl Abort, books: &mut Books, kind: Kind, to: Place) {
-    books
-        .give_train(Train { kind, number: 1 }, to)
-        .expect(rt, "a place of the table");
-}
-
-fn board(rt: &impl Abort, alloc: Global, text: &str) -> Board {
-    Board::read(alloc, text).expect(rt, "a board")
-}
-
-fn tiles(rt: &impl Abort, alloc: Global, text: &str) -> Manifest {
-    Manifest::read(alloc, text).expect(rt, "a manifest")
+/// The kit with this board.
+fn kit(rt: &impl Abort, alloc: Global, board: &str) -> Kit {
+    Kit::read(alloc, b"100p\n", ROSTER.as_bytes(), TILES, board.as_bytes()).expect(rt, "a kit")
 }
 
 fn name(rt: &impl Abort, word: &[u8]) -> HexName {
@@ -89,96 +81,98 @@ fn begins_with_words(entries: &[Entry]) -> bool {
     matches!(entries, [Entry::Step(Marker::Act(_)), ..])
 }
 
-fn outcome_of(done: Result<(Books, Entries), Fault>) -> Outcome {
-    match done {
-        Ok((books, entries)) => Outcome {
-            fault: 0,
-            entries: entries.as_slice().len(),
-            says: begins_with_words(entries.as_slice()),
-            cash: books.balance(Party::Corp(Corp::Prr)).0,
-        },
-        Err(fault) => Outcome {
-            fault: fault.number(),
-            entries: 0,
-            says: false,
-            cash: 0,
-        },
+fn refused(fault: Fault) -> Outcome {
+    Outcome {
+        fault: fault.number(),
+        entries: 0,
+        says: false,
+        cash: 0,
     }
+}
+
+/// What was taken.
+fn taken(desk: Desk) -> (Outcome, Position) {
+    let (position, entries) = desk.into_parts();
+    let outcome = Outcome {
+        fault: 0,
+        entries: entries.as_slice().len(),
+        says: begins_with_words(entries.as_slice()),
+        cash: position.books().balance(Party::Corp(Corp::Prr)).0,
+    };
+    (outcome, position)
 }
 
 /// Lays a tile on the small board for PRR.
 fn lay(
     rt: &impl Abort,
     alloc: Global,
-    layout: &mut Layout,
-    books: Books,
+    position: Position,
     hex: &[u8],
     tile: u16,
     turn: u8,
-) -> Outcome {
-    let board = board(rt, alloc, SMALL);
-    let tiles = tiles(rt, alloc, TILES);
+) -> (Outcome, Position) {
+    let kit = kit(rt, alloc, SMALL);
     let hex = name(rt, hex);
-    assert!(rt; books.payments() < 1000);
-    let desk = Desk::new(alloc, books);
     let lay = Lay { hex, tile, turn };
-    outcome_of(rr_lay::tile(alloc, &board, &tiles, desk, layout, Corp::Prr, &lay))
+    if let Err(fault) = rr_lay::judge_lay(alloc, &kit, &position, Corp::Prr, &lay) {
+        return (refused(fault), position);
+    }
+    let mut desk = Desk::new(alloc, position);
+    rr_lay::play_lay(&kit, &mut desk, Corp::Prr, &lay).expect(rt, "memory");
+    taken(desk)
 }
 
 /// Places PRR's token on a board.
 fn place(
     rt: &impl Abort,
     alloc: Global,
-    layout: &mut Layout,
+    position: Position,
     text: &str,
     hex: &[u8],
     centre: u64,
-) -> Outcome {
-    let board = board(rt, alloc, text);
-    let tiles = tiles(rt, alloc, TILES);
-    let roster = roster(rt, alloc, ROSTER);
-    let books = funded(rt, alloc, Place::Offer, Place::Offer);
-    let hex = name(rt, hex);
-    assert!(rt; books.payments() < 1000);
-    let desk = Desk::new(alloc, books);
+) -> (Outcome, Position) {
+    let kit = kit(rt, alloc, text);
     let station = Station {
         corp: Corp::Prr,
-        hex,
+        hex: name(rt, hex),
         centre,
     };
-    outcome_of(rr_lay::token(alloc, &board, &tiles, &roster, desk, layout, &station))
+    if let Err(fault) = rr_lay::judge_station(alloc, &kit, &position, &station) {
+        return (refused(fault), position);
+    }
+    let mut desk = Desk::new(alloc, position);
+    rr_lay::play_station(&mut desk, &station).expect(rt, "memory");
+    taken(desk)
 }
 
-fn put_token(rt: &impl Abort, layout: &mut Layout, corp: Corp, hex: &[u8]) {
-    layout
-        .station(corp, name(rt, hex), 1)
-        .expect(rt, "enough memory");
+/// The position with a token on the first centre of a hex.
+fn with_token(rt: &impl Abort, position: Position, corp: Corp, hex: &[u8]) -> Position {
+    let mut more = position;
+    let token = Entry::Station {
+        corp,
+        hex: name(rt, hex),
+        centre: 1,
+    };
+    more.follow(&token).expect(rt, "room");
+    more
 }
 
-fn put_tile(rt: &impl Abort, layout: &mut Layout, hex: &[u8], tile: u16, turn: u8) {
-    layout
-        .lay(name(rt, hex), tile, turn)
-        .expect(rt, "enough memory");
-}
-
-fn first_token(rt: &impl Abort, alloc: Global) -> Layout {
-    let mut layout = Layout::new(alloc);
-    put_token(rt, &mut layout, Corp::Prr, b"A");
-    layout
+/// PRR at home, with what `funded` says.
+fn at_home(rt: &impl Abort, alloc: Global, sv: Place, three: Place) -> Position {
+    with_token(rt, funded(rt, alloc, sv, three), Corp::Prr, b"A")
 }
 
 #[test]
 fn green_from_the_first_3(rt: HostRuntime) {
     let alloc = rt.alloc();
-    let mut layout = first_token(&rt, alloc);
     for (three, tile, fault) in [(Place::Offer, 23, 32), (Place::Gone, 24, 34)] {
-        let books = funded(&rt, alloc, Place::Offer, three);
-        let refused = lay(&rt, alloc, &mut layout, books, b"B", tile, 2).fault;
-        assert_eq!(rt; refused, fault);
+        let start = at_home(&rt, alloc, Place::Offer, three);
+        let (refused, after) = lay(&rt, alloc, start, b"B", tile, 2);
+        assert_eq!(rt; refused.fault, fault);
+        assert_eq!(rt; after.layout().lays().len(), 0);
     }
-    assert_eq!(rt; layout.lays().len(), 0);
-    let books = funded(&rt, alloc, Place::Offer, Place::Gone);
-    let laid = lay(&rt, alloc, &mut layout, books, b"B", 23, 2);
+    let start = at_home(&rt, alloc, Place::Offer, Place::Gone);
+    let (laid, after) = lay(&rt, alloc, start, b"B", 23, 2);
     let want = Outcome {
         fault: 0,
         entries: 3,
@@ -186,53 +180,45 @@ fn green_from_the_first_3(rt: HostRuntime) {
         cash: 100,
     };
     assert_eq!(rt; laid, want);
-    assert_eq!(rt; layout.lays().len(), 1);
+    assert_eq!(rt; after.layout().lays().len(), 1);
 }
 
 #[test]
 fn a_private_blocks_while_a_player_holds_it(rt: HostRuntime) {
     let alloc = rt.alloc();
-    let mut layout = first_token(&rt, alloc);
-    put_tile(&rt, &mut layout, b"B", 23, 2);
-    let held = funded(&rt, alloc, Place::Seat(B), Place::Gone);
-    let blocked = lay(&rt, alloc, &mut layout, held, b"F", 7, 3).fault;
-    assert_eq!(rt; blocked, 36);
-    let sold = funded(&rt, alloc, Place::Corp(Corp::Prr), Place::Gone);
-    let laid = lay(&rt, alloc, &mut layout, sold, b"F", 7, 3);
-    let want = Outcome {
-        fault: 0,
-        entries: 3,
-        says: true,
-        cash: 70,
-    };
-    assert_eq!(rt; laid, want);
+    for (sv, fault, cash) in [(Place::Seat(B), 36, 0), (Place::Corp(Corp::Prr), 0, 70)] {
+        let start = at_home(&rt, alloc, sv, Place::Gone);
+        let (_, track) = lay(&rt, alloc, start, b"B", 23, 2);
+        let (outcome, _) = lay(&rt, alloc, track, b"F", 7, 3);
+        assert_eq!(rt; outcome.fault, fault);
+        assert_eq!(rt; outcome.cash, cash);
+    }
 }
 
 #[test]
 fn what_there_is_not_cannot_be_laid(rt: HostRuntime) {
     let alloc = rt.alloc();
-    let mut layout = first_token(&rt, alloc);
     for (hex, tile, fault) in [(b"Z", 7, 1), (b"F", 8, 1), (b"A", 23, 32), (b"F", 7, 34)] {
-        let books = funded(&rt, alloc, Place::Offer, Place::Gone);
-        let refused = lay(&rt, alloc, &mut layout, books, hex.as_slice(), tile, 0).fault;
-        assert_eq!(rt; refused, fault);
+        let start = at_home(&rt, alloc, Place::Offer, Place::Gone);
+        let (refused, _) = lay(&rt, alloc, start, hex.as_slice(), tile, 0);
+        assert_eq!(rt; refused.fault, fault);
     }
 }
 
 #[test]
 fn the_second_token(rt: HostRuntime) {
     let alloc = rt.alloc();
-    let mut layout = first_token(&rt, alloc);
+    let start = at_home(&rt, alloc, Place::Offer, Place::Offer);
     for (text, hex, centre, fault) in [
         (SMALL, b"Z", 1, 1),
         (SMALL, b"C", 1, 37),
         (SMALL, b"D", 1, 37),
         (WIDER, b"D", 257, 37),
     ] {
-        let refused = place(&rt, alloc, &mut layout, text, hex.as_slice(), centre).fault;
-        assert_eq!(rt; refused, fault);
+        let (refused, _) = place(&rt, alloc, start, text, hex.as_slice(), centre);
+        assert_eq!(rt; refused.fault, fault);
     }
-    let placed = place(&rt, alloc, &mut layout, WIDER, b"D", 1);
+    let (placed, after) = place(&rt, alloc, start, WIDER, b"D", 1);
     let want = Outcome {
         fault: 0,
         entries: 3,
@@ -240,18 +226,18 @@ fn the_second_token(rt: HostRuntime) {
         cash: 60,
     };
     assert_eq!(rt; placed, want);
-    let again = place(&rt, alloc, &mut layout, WIDER, b"D", 1).fault;
-    assert_eq!(rt; again, 37);
+    let (again, _) = place(&rt, alloc, after, WIDER, b"D", 1);
+    assert_eq!(rt; again.fault, 37);
 }
 
 #[test]
 fn a_filled_city_takes_no_token(rt: HostRuntime) {
     let alloc = rt.alloc();
-    let mut layout = first_token(&rt, alloc);
-    put_token(&rt, &mut layout, Corp::Nyc, b"D");
-    let refused = place(&rt, alloc, &mut layout, SMALL, b"D", 1).fault;
-    assert_eq!(rt; refused, 37);
-    assert_eq!(rt; layout.stations().len(), 2);
+    let start = at_home(&rt, alloc, Place::Offer, Place::Offer);
+    let filled = with_token(&rt, start, Corp::Nyc, b"D");
+    let (refused, after) = place(&rt, alloc, filled, SMALL, b"D", 1);
+    assert_eq!(rt; refused.fault, 37);
+    assert_eq!(rt; after.layout().stations().len(), 2);
 }
 
 #[test]

@@ -1,6 +1,6 @@
 //! The small board as it is read: a city, a track, a town, a city and an off-board area in a row, and a hex without tracks.
 use rr_board::Board;
-use rr_network::Layout;
+use rr_layout::{Lay, Layout, MOST_LAYS, MOST_STATIONS, Station};
 use rr_roster::Corp;
 use rr_tiles::Manifest;
 use rr_words::HexName;
@@ -31,19 +31,29 @@ pub(crate) fn tiles(rt: &impl Abort, alloc: Global) -> Manifest {
 }
 
 // PRR's token in A
-pub(crate) fn prr_at_home(rt: &impl Abort, alloc: Global) -> Layout {
-    let mut layout = Layout::new(alloc);
+pub(crate) fn prr_at_home(rt: &impl Abort) -> Layout {
+    let mut layout = Layout::new();
     station(rt, &mut layout, Corp::Prr, b"A");
     layout
 }
 
 pub(crate) fn station(rt: &impl Abort, layout: &mut Layout, corp: Corp, hex: &[u8]) {
     let hex = name(rt, hex);
-    layout.station(corp, hex, 1).expect(rt, "memory");
+    assert!(rt; layout.stations().len() < MOST_STATIONS);
+    layout.station(Station {
+        corp,
+        hex,
+        centre: 1,
+    });
 }
 
 // tile 23 on B
 pub(crate) fn lay(rt: &impl Abort, layout: &mut Layout, turn: u8) {
     let hex = name(rt, b"B");
-    layout.lay(hex, 23, turn).expect(rt, "memory");
+    assert!(rt; layout.lays().len() < MOST_LAYS);
+    layout.lay(Lay {
+        hex,
+        tile: 23,
+        turn,
+    });
 }

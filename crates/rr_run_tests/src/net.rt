@@ -4,7 +4,8 @@ use crate::small::links;
 use rr_board::Board;
 use rr_checker::{CentreLimit, Net};
 use rr_net::{laws, net_of, net_on_board};
-use rr_network::{Layout, Network};
+use rr_layout::Layout;
+use rr_network::Network;
 use rr_roster::{Corp, Kind};
 use std::alloc::Global;
 use std::process::Abort;
@@ -19,7 +20,7 @@ fn net(rt: &impl Abort, alloc: Global, layout: &Layout, corp: Corp) -> Net {
 
 #[test]
 fn joins_the_links(rt: HostRuntime) {
-    let net = net(&rt, rt.alloc(), &prr_at_home(&rt, rt.alloc()), Corp::Prr);
+    let net = net(&rt, rt.alloc(), &prr_at_home(&rt), Corp::Prr);
     let wanted = links(&rt, rt.alloc(), "00c0 10s2 22c1 24c1 34c2 36c2 46c3");
     assert_eq!(rt; net.links(), wanted.as_slice());
     laws::hexsides_are_told_apart();
@@ -28,7 +29,7 @@ fn joins_the_links(rt: HostRuntime) {
 
 #[test]
 fn knows_the_centres(rt: HostRuntime) {
-    let net = net(&rt, rt.alloc(), &prr_at_home(&rt, rt.alloc()), Corp::Prr);
+    let net = net(&rt, rt.alloc(), &prr_at_home(&rt), Corp::Prr);
     assert_eq!(rt; net.tokens(), [0].as_slice());
     assert_eq!(rt; net.terminals(), [3].as_slice());
     assert_eq!(rt; net.values(), [20, 10, 30, 40].as_slice());
@@ -37,7 +38,7 @@ fn knows_the_centres(rt: HostRuntime) {
 
 #[test]
 fn ends_where_others_fill_a_city(rt: HostRuntime) {
-    let mut layout = prr_at_home(&rt, rt.alloc());
+    let mut layout = prr_at_home(&rt);
     station(&rt, &mut layout, Corp::Nyc, b"D");
     for (corp, token, terminals) in [(Corp::Prr, 0, [2, 3]), (Corp::Nyc, 2, [0, 3])] {
         let net = net(&rt, rt.alloc(), &layout, corp);
@@ -50,7 +51,7 @@ fn ends_where_others_fill_a_city(rt: HostRuntime) {
 
 #[test]
 fn joins_the_links_of_a_tile(rt: HostRuntime) {
-    let mut layout = prr_at_home(&rt, rt.alloc());
+    let mut layout = prr_at_home(&rt);
     lay(&rt, &mut layout, 2);
     let net = net(&rt, rt.alloc(), &layout, Corp::Prr);
     let wanted = links(&rt, rt.alloc(), "10s2 10s4 22c1");
@@ -62,7 +63,7 @@ fn joins_the_links_of_a_tile(rt: HostRuntime) {
 fn has_the_values_of_the_phase(rt: HostRuntime) {
     let port = Board::read(rt.alloc(), "hex P 0,0 red o30/60:2").expect(&rt, "a board");
     let tiles = tiles(&rt, rt.alloc());
-    let layout = Layout::new(rt.alloc());
+    let layout = Layout::new();
     let network = Network::of(rt.alloc(), &port, &tiles, &layout).expect(&rt, "memory");
     let trains = [Kind::Diesel, Kind::Three];
     let limits = [CentreLimit::Unlimited, CentreLimit::AtMost(3)];

@@ -1,8 +1,9 @@
 //! What is laid on the small board, the links and centres there, and what two corporations reach.
 use crate::board::{lay, name, prr_at_home, small_board, station, tiles};
 use rr_board::Place;
+use rr_layout::Layout;
 use rr_network::{
-    Axial, CentreAt, Layout, Link, Network, Node, Reach, Stop, across, hexside_at, last_lay, laws,
+    Axial, CentreAt, Link, Network, Node, Reach, Stop, across, hexside_at, last_lay, laws,
     node_of, same_node,
 };
 use rr_roster::Corp;
@@ -12,7 +13,7 @@ use std::process::Abort;
 
 // PRR's token in A, and tile 23 turned by 2 on B
 fn layout(rt: &impl Abort, alloc: Global) -> Layout {
-    let mut layout = prr_at_home(rt, alloc);
+    let mut layout = prr_at_home(rt);
     lay(rt, &mut layout, 2);
     layout
 }
@@ -135,7 +136,7 @@ fn numbers_the_centres(rt: HostRuntime) {
 
 #[test]
 fn lays_the_last_tile(rt: HostRuntime) {
-    let printed = network(&rt, rt.alloc(), &Layout::new(rt.alloc()));
+    let printed = network(&rt, rt.alloc(), &Layout::new());
     assert_eq!(rt; printed.links().len(), 7);
     let mut layout = layout(&rt, rt.alloc());
     lay(&rt, &mut layout, 0);

@@ -2,10 +2,10 @@
 use Rattle.std.proofs.Common.{ℕ, ◌+◌, [], ◌∷◌, suc, sym, subst, add-one}
 use Rattle.rr_roster.specs.declared.company.Corp.{Corp}
 use Rattle.rr_books.specs.declared.parties.Place.{Place}
-use Rattle.rr_desk.specs.Desk.{OnDesk}
-use Rattle.rr_desk.specs.Effects.{Effect, Takes, in_turn, moves_lowest_share}
-use Rattle.rr_desk.specs.EffectLaws.{takes_nothing, takes_then}
+use Rattle.rr_desk.specs.Effects.{Effect, in_turn, moves_lowest_share}
 use Rattle.rr_shares.specs.Effects.{moves_lowest_shares}
+use Rattle.rr_desk.specs.Desk.{OnDesk, Takes}
+use Rattle.rr_desk.proofs.Taking.{takes_nothing, takes_then}
 
 -- two effects
 pub takes_two : (f g : Effect) (a b c : OnDesk) → Takes f a b → Takes g b c → Takes (in_turn (f ∷ g ∷ [])) a c

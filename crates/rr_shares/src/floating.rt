@@ -1,7 +1,7 @@
-ghost use Rattle.std.specs.Prelude.{◌≡◌, ◌+◌, ◌*◌, ◌<◌, ◌≤◌, pos, OnOk, IfErr};
-ghost use Rattle.rr_books.specs.Book.{Book, balance_after, holder};
-ghost use Rattle.rr_books.specs.State.{IsStateOf, cash_of, holder_in};
-ghost use Rattle.rr_desk.specs.Effects.{Takes};
+ghost use Rattle.std.specs.Prelude.{◌≡◌, ◌*◌, ◌≤◌, pos, OnOk, IfErr};
+ghost use Rattle.rr_books.specs.Book.{Book, holder};
+ghost use Rattle.rr_books.specs.State.{IsStateOf, holder_in};
+ghost use Rattle.rr_desk.specs.Desk.{Takes};
 ghost use Rattle.rr_shares.specs.Effects.{float, float_if_due, floats_now};
 
 use rr_books::{Books, Corp, Entry, Fault, Marker, Money, Party, Place};
@@ -25,19 +25,16 @@ pub fn floats_now(books: &Books, corp: Corp, par: Option<u16>, floated: bool) ->
 /// `OutOfMemory`; the corporation may have been paid then.
 #[tactic(auto, unfolding(crate::specs::Effects::float))]
 pub fn float(desk: &mut Desk, corp: Corp, par: u16) -> Result<(), Fault>
-    requires { desk.old.books.payments < 400000000 }
     ensures fault { IfErr result (λ fault. fault ≡ Fault.OutOfMemory) }
     ensures takes { OnOk result (Takes (float corp par) desk.old desk.new) }
-    ensures cash { OnOk result ((p : Party) → cash_of desk.new.books p ≡ balance_after p (cash_of desk.old.books p) (Entry.Pay Party.Bank (Party.Corp corp) (record { 0 = pos (10 * par) }))) }
-    ensures payments { desk.new.books.payments ≤ desk.old.books.payments + 1 }
-    ensures players { desk.new.books.players ≡ desk.old.books.players }
-    ensures places { desk.new.books.places ≡ desk.old.books.places }
-    ensures trains { desk.new.books.trains ≡ desk.old.books.trains }
-    ensures counts { desk.new.books.counts ≡ desk.old.books.counts }
 {
     let capital = capital(par);
-    desk.pay(Party::Bank, Party::Corp(corp), capital)?;
-    desk.step(Marker::Float(corp))?;
+    desk.push(Entry::Pay {
+        from: Party::Bank,
+        to: Party::Corp(corp),
+        amount: capital,
+    })?;
+    desk.push(Entry::Step(Marker::Float(corp)))?;
     Ok(())
 }
 
@@ -61,14 +58,8 @@ pub fn float_if_due(
     par: Option<u16>,
     floated: bool,
 ) -> Result<(), Fault>
-    requires { desk.old.books.payments < 400000000 }
     ensures fault { IfErr result (λ fault. fault ≡ Fault.OutOfMemory) }
     ensures takes { OnOk result (Takes (float_if_due corp par floated) desk.old desk.new) }
-    ensures payments { desk.new.books.payments ≤ desk.old.books.payments + 1 }
-    ensures players { desk.new.books.players ≡ desk.old.books.players }
-    ensures places { desk.new.books.places ≡ desk.old.books.places }
-    ensures trains { desk.new.books.trains ≡ desk.old.books.trains }
-    ensures counts { desk.new.books.counts ≡ desk.old.books.counts }
 {
     if !floats_now(desk.books(), corp, par, floated) {
         return Ok(());

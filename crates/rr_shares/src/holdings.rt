@@ -41,8 +41,7 @@ pub(crate) fn percents_after_sale(books: &Books, corp: Corp, seller: Seat, count
 pub fn heir(percents: &[u16; 6], players: u8, president: Seat) -> Option<Seat>
     requires greatest { players ≤ 6 }
     requires seated { president.0 < players }
-    ensures value { result ≡ heir percents.now players president }
-    ensures seated { IfSome result (λ seat. seat.0 < players) }
+    ensures { result ≡ heir percents.now players president }
 {
     (1..players)
         .map(move |steps| Seat((president.0 + steps) % players))

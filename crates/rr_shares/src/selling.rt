@@ -1,5 +1,5 @@
 ghost use Rattle.std.specs.Prelude.{◌≡◌, OnOk, IfErr};
-ghost use Rattle.rr_desk.specs.Effects.{Takes};
+ghost use Rattle.rr_desk.specs.Desk.{Takes};
 ghost use Rattle.rr_shares.specs.Effects.{presidency_after_sale, sale_shares};
 
 use crate::giving::give_lowest_shares;
@@ -17,11 +17,6 @@ use rr_desk::Desk;
 pub fn sell_shares(desk: &mut Desk, corp: Corp, seller: Seat, count: u8) -> Result<(), Fault>
     ensures fault { IfErr result (λ fault. fault ≡ Fault.OutOfMemory) }
     ensures takes { OnOk result (Takes (sale_shares corp seller count) desk.old desk.new) }
-    ensures cash { desk.new.books.cash ≡ desk.old.books.cash }
-    ensures payments { desk.new.books.payments ≡ desk.old.books.payments }
-    ensures players { desk.new.books.players ≡ desk.old.books.players }
-    ensures trains { desk.new.books.trains ≡ desk.old.books.trains }
-    ensures counts { desk.new.books.counts ≡ desk.old.books.counts }
 {
     settle_presidency_after_sale(desk, corp, seller, count)?;
     give_lowest_shares(desk, corp, count, Place::Seat(seller), Place::Pool)?;
@@ -38,11 +33,6 @@ fn settle_presidency_after_sale(
 ) -> Result<(), Fault>
     ensures fault { IfErr result (λ fault. fault ≡ Fault.OutOfMemory) }
     ensures takes { OnOk result (Takes (presidency_after_sale corp seller count) desk.old desk.new) }
-    ensures cash { desk.new.books.cash ≡ desk.old.books.cash }
-    ensures payments { desk.new.books.payments ≡ desk.old.books.payments }
-    ensures players { desk.new.books.players ≡ desk.old.books.players }
-    ensures trains { desk.new.books.trains ≡ desk.old.books.trains }
-    ensures counts { desk.new.books.counts ≡ desk.old.books.counts }
 {
     let due = handover_after_sale(desk.books(), corp, seller, count);
     hand_over_if(desk, corp, due)?;

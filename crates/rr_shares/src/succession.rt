@@ -2,13 +2,13 @@ ghost use Rattle.std.specs.Prelude.{◌≡◌, ◌<◌, OnOk, IfErr, IfSome};
 ghost use Rattle.rr_books.specs.Book.{Book, holder, players};
 ghost use Rattle.rr_books.specs.Shares.{president};
 ghost use Rattle.rr_books.specs.State.{IsStateOf, holder_in};
-ghost use Rattle.rr_desk.specs.Effects.{Takes};
+ghost use Rattle.rr_desk.specs.Desk.{Takes};
 ghost use Rattle.rr_shares.specs.Effects.{hands_over, hands_over_if, presidency};
 ghost use Rattle.rr_shares.specs.Succession.{at_table, handover_after_sale, handover_by, handover_due};
 
 use crate::giving::give_lowest_shares;
 use crate::holdings::{heir, percents, percents_after_sale};
-use rr_books::{Books, Cert, Corp, Fault, Place, Seat};
+use rr_books::{Books, Cert, Corp, Entry, Fault, Place, Seat};
 use rr_desk::Desk;
 
 /// A presidency changes hands.
@@ -26,8 +26,6 @@ pub struct Handover {
 pub fn handover_due(books: &Books, corp: Corp) -> Option<Handover>
     ensures shown { result ≡ handover_due (holder_in books.now) books.now.players corp }
     ensures book { (book : Book) → IsStateOf book books.now → result ≡ handover_due (holder book) (players book) corp }
-    ensures from { IfSome result (λ h. h.from.0 < books.now.players) }
-    ensures to { IfSome result (λ h. h.to.0 < books.now.players) }
 {
     handover_by(&percents(books, corp), books, corp)
 }
@@ -37,8 +35,6 @@ pub fn handover_due(books: &Books, corp: Corp) -> Option<Handover>
 pub fn handover_after_sale(books: &Books, corp: Corp, seller: Seat, count: u8) -> Option<Handover>
     ensures shown { result ≡ handover_after_sale (holder_in books.now) books.now.players corp seller count }
     ensures book { (book : Book) → IsStateOf book books.now → result ≡ handover_after_sale (holder book) (players book) corp seller count }
-    ensures from { IfSome result (λ h. h.from.0 < books.now.players) }
-    ensures to { IfSome result (λ h. h.to.0 < books.now.players) }
 {
     handover_by(
         &percents_after_sale(books, corp, seller, count),
@@ -49,9 +45,7 @@ pub fn handover_after_sale(books: &Books, corp: Corp, seller: Seat, count: u8) -
 
 // Whether the presidency is to change hands by these holdings.
 fn handover_by(percents: &[u16; 6], books: &Books, corp: Corp) -> Option<Handover>
-    ensures value { result ≡ handover_by percents.now books.now.players (at_table books.now.players (president (holder_in books.now) corp)) }
-    ensures from { IfSome result (λ h. h.from.0 < books.now.players) }
-    ensures to { IfSome result (λ h. h.to.0 < books.now.players) }
+    ensures { result ≡ handover_by percents.now books.now.players (at_table books.now.players (president (holder_in books.now) corp)) }
 {
     let players = books.players();
     match president_at_table(books, corp) {
@@ -90,15 +84,8 @@ fn president_at_table(books: &Books, corp: Corp) -> Option<Seat>
 /// `OutOfMemory`; some certificates may have moved then.
 #[tactic(auto, unfolding(crate::specs::Effects::hands_over))]
 pub fn hand_over(desk: &mut Desk, corp: Corp, handover: &Handover) -> Result<(), Fault>
-    requires from { handover.now.from.0 < desk.old.books.players }
-    requires to { handover.now.to.0 < desk.old.books.players }
     ensures fault { IfErr result (λ fault. fault ≡ Fault.OutOfMemory) }
     ensures takes { OnOk result (Takes (hands_over corp handover.now) desk.old desk.new) }
-    ensures cash { desk.new.books.cash ≡ desk.old.books.cash }
-    ensures payments { desk.new.books.payments ≡ desk.old.books.payments }
-    ensures players { desk.new.books.players ≡ desk.old.books.players }
-    ensures trains { desk.new.books.trains ≡ desk.old.books.trains }
-    ensures counts { desk.new.books.counts ≡ desk.old.books.counts }
 {
     give_lowest_shares(
         desk,
@@ -107,7 +94,10 @@ pub fn hand_over(desk: &mut Desk, corp: Corp, handover: &Handover) -> Result<(),
         Place::Seat(handover.to),
         Place::Seat(handover.from),
     )?;
-    desk.give(Cert::President(corp), Place::Seat(handover.to))?;
+    desk.push(Entry::Move {
+        cert: Cert::President(corp),
+        to: Place::Seat(handover.to),
+    })?;
     Ok(())
 }
 
@@ -117,15 +107,8 @@ pub(crate) fn hand_over_if(
     corp: Corp,
     handover: Option<Handover>,
 ) -> Result<(), Fault>
-    requires from { IfSome handover (λ h. h.from.0 < desk.old.books.players) }
-    requires to { IfSome handover (λ h. h.to.0 < desk.old.books.players) }
     ensures fault { IfErr result (λ fault. fault ≡ Fault.OutOfMemory) }
     ensures takes { OnOk result (Takes (hands_over_if corp handover) desk.old desk.new) }
-    ensures cash { desk.new.books.cash ≡ desk.old.books.cash }
-    ensures payments { desk.new.books.payments ≡ desk.old.books.payments }
-    ensures players { desk.new.books.players ≡ desk.old.books.players }
-    ensures trains { desk.new.books.trains ≡ desk.old.books.trains }
-    ensures counts { desk.new.books.counts ≡ desk.old.books.counts }
 {
     match handover {
         Some(due) => {
@@ -146,11 +129,6 @@ pub(crate) fn hand_over_if(
 pub fn settle_presidency(desk: &mut Desk, corp: Corp) -> Result<(), Fault>
     ensures fault { IfErr result (λ fault. fault ≡ Fault.OutOfMemory) }
     ensures takes { OnOk result (Takes (presidency corp) desk.old desk.new) }
-    ensures cash { desk.new.books.cash ≡ desk.old.books.cash }
-    ensures payments { desk.new.books.payments ≡ desk.old.books.payments }
-    ensures players { desk.new.books.players ≡ desk.old.books.players }
-    ensures trains { desk.new.books.trains ≡ desk.old.books.trains }
-    ensures counts { desk.new.books.counts ≡ desk.old.books.counts }
 {
     let due = handover_due(desk.books(), corp);
     hand_over_if(desk, corp, due)?;

@@ -31,16 +31,16 @@ use Rattle.rr_books.specs.Totals.{pays_among}
 use Rattle.rr_desk.specs.Effects.{Effect, adds, in_turn, moves_lowest_share}
 use Rattle.rr_desk.specs.Incomes.{dollars}
 use Rattle.rr_market.specs.Moves.{mark_at, par_marks}
-use Rattle.rr_auction.specs.Bids.{bids_on, sole_bidder}
+use Rattle.rr_bids.specs.Bids.{bids_on, sole_bidder}
 use Rattle.rr_auction.specs.declared.fault.Fault.TheVariants as F
 use Rattle.rr_auction.specs.Effects.{brings_incomes, entries_of, gift, incomes_if, is_over, may_end, pass_of, purchase_of, said, sale, sale_at_bid, sets_par, settle, settle_each, settled, settles, stock_begins}
-use Rattle.rr_auction.specs.Progress.{Progress, after_act, after_bid, after_last_pass, after_par, after_pass, after_turn_pass, all_pass, follow, owing_after, progress, raise_due}
+use Rattle.rr_bids.specs.Progress.{Progress, after_act, after_bid, after_last_pass, after_par, after_pass, after_turn_pass, all_pass, follow, owing_after, progress, raise_due}
 use Rattle.rr_auction.specs.Rules.{due, is_bo, par_verdict, price, verdict}
 use Rattle.rr_auction.specs.SoundMoney.{with_act}
-use Rattle.rr_auction.specs.Unsold.{cheapest, is_private, is_unsold, same_private}
+use Rattle.rr_bids.specs.Unsold.{cheapest, is_private, is_unsold, same_private}
 use Rattle.rr_auction.proofs.Bidders.{cheapest_unsold}
 use Rattle.rr_auction.proofs.Covers.{IsCoveredBook, GoesOn}
-use Rattle.rr_auction.proofs.Following.{progress-append}
+use Rattle.rr_bids.specs.ProgressLaws.{progress-append}
 use Rattle.rr_auction.proofs.LawfulActs.{goes_by_acts}
 use Rattle.rr_auction.proofs.Quiet.{gift_still, incomes_still}
 use Rattle.rr_stock.proofs.SaleVerdicts.{passed}

@@ -24,11 +24,11 @@ use Rattle.rr_books.specs.Shares.{privates}
 use Rattle.rr_desk.specs.Effects.{Effect, adds, in_turn, lowest_share, moves_if}
 use Rattle.rr_desk.specs.Incomes.{dollars, owner, pay_incomes_of, pays_if, pays_income}
 use Rattle.rr_market.specs.Moves.{mark_at, par_marks}
-use Rattle.rr_auction.specs.Bids.{Row, sole_bidder, bids_on}
+use Rattle.rr_bids.specs.Bids.{Row, sole_bidder, bids_on}
 use Rattle.rr_auction.specs.Effects.{brings_incomes, entries_of, gift, incomes_if, is_over, may_end, purchase_of, sale, sale_at_bid, settle, settle_each, settled, settles, stock_begins}
-use Rattle.rr_auction.specs.Progress.{progress}
+use Rattle.rr_bids.specs.Progress.{progress}
 use Rattle.rr_auction.specs.Rules.{due, price}
-use Rattle.rr_auction.specs.Unsold.{cheapest, is_private}
+use Rattle.rr_bids.specs.Unsold.{cheapest, is_private}
 use Rattle.rr_stock.specs.PoolLimits.{HasHalfAtMost}
 use Rattle.rr_stock.proofs.PoolLemmas.{moves_to_pool, no_more_by, pool}
 

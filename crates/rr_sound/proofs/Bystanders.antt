@@ -22,7 +22,8 @@ use Rattle.rr_market.specs.Moves.{cell_above, cell_after_sale, cell_of, par_mark
 use Rattle.rr_market.specs.Order.{operating_order}
 use Rattle.rr_rounds.specs.Round.{ends_round, has_floated}
 use Rattle.rr_stock.specs.Rules.{place_of_source, share_price}
-use Rattle.rr_stock.specs.Effects.{buys_share, ends_if, ends_stock_round, ends_turn, gets_share, gives_up_private, is_sold_out, passes_operating_round, pays_bank, pays_seller, proceeds, rises, rises_among, rises_if_sold_out, says, sells, sets_par, settles_corporation, settles_in, swaps, takes_presidency}
+use Rattle.rr_stock.specs.Effects.{buys_share, gets_share, gives_up_private, is_sold_out, pays_bank, pays_seller, proceeds, rises, rises_among, rises_if_sold_out, says, sells, sets_par, settles_corporation, settles_in, swaps, takes_presidency}
+use Rattle.rr_sequence.specs.Whole.{ends_if, ends_stock_round, ends_turn, passes_operating_round}
 use Rattle.rr_stock.specs.Situation.{Situation}
 use Rattle.rr_sound.proofs.Untouched.{IsUntouched, Spares, held_after, moved_private, promised_by, spares_float, spares_incomes, spares_lowest, spares_mark, spares_none, spares_pay, spares_president, spares_presidency, spares_sale, spares_step, spares_then, spares_three, spares_token, spares_two}
 

@@ -17,7 +17,8 @@ use Rattle.rr_books.specs.Opening.{kinds, opening_entries, opening_moves, openin
 use Rattle.rr_books.specs.Shares.{certificates, share}
 use Rattle.rr_auction.specs.Opening.{opened}
 use Rattle.rr_auction.specs.SoundMoney as auctions
-use Rattle.rr_stock.specs.PoolLimits.{HasHalfAtMost, PoolStaysWithinHalf}
+use Rattle.rr_stock.specs.PoolLimits.{HasHalfAtMost}
+use Rattle.rr_sequence.specs.PoolLimits.{PoolStaysWithinHalf}
 use Rattle.rr_stock.proofs.PoolLemmas.{moves_to_pool, no_more_by, pool}
 use Rattle.rr_sound.specs.Sound.{AreLawful, with_acts}
 use Rattle.rr_sound.proofs.Auctioned.{half_after_act}

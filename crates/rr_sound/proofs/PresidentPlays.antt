@@ -26,11 +26,11 @@ use Rattle.rr_books.proofs.OpeningPlaces.{certificate_among, moves-holder, train
 use Rattle.rr_market.specs.Marks.{cell_after, mark_of}
 use Rattle.rr_market.specs.MarkLaws.{mark_of-push}
 use Rattle.rr_auction.specs.Opening.{opened}
-use Rattle.rr_auction.specs.Progress.{Progress, beginning, progress}
+use Rattle.rr_bids.specs.Progress.{Progress, beginning, progress}
 use Rattle.rr_auction.specs.SoundMoney as auctions
 use Rattle.rr_auction.proofs.Covers.{IsCoveredBook}
 use Rattle.rr_auction.proofs.Openings.{begins}
-use Rattle.rr_stock.specs.SoldShares.{LawfulSalesMoveShares}
+use Rattle.rr_sequence.specs.SoldShares.{LawfulSalesMoveShares}
 use Rattle.rr_sound.specs.Presidencies.{AwaitsPar, HasGreatestPresidents, IsGoverned, IsGovernedInAuction, IsLed, IsOffered, promised}
 use Rattle.rr_sound.specs.Sound.{AreLawful, IsSolvent, with_acts}
 use Rattle.rr_sound.proofs.AuctionPresidents.{covered_by_act, governed_by_act}

@@ -13,9 +13,10 @@ use Rattle.rr_books.specs.declared.entries.Marker.TheVariants as M
 use Rattle.rr_books.specs.declared.acts.Act.{Act}
 use Rattle.rr_books.specs.declared.acts.Act.TheVariants as A
 use Rattle.rr_books.specs.Book.{Book, players}
-use Rattle.rr_desk.specs.Seating.{left_of}
+use Rattle.rr_books.specs.Seating.{left_of}
 use Rattle.rr_auction.specs.AuctionLaws.{left_of_buyer}
-use Rattle.rr_auction.specs.Progress as auctions
+use Rattle.rr_bids.specs.Progress as auctions
+use Rattle.rr_bids.specs.ProgressLaws as bidding
 use Rattle.rr_auction.proofs.Entries as entries
 use Rattle.rr_rounds.specs.Counts.{players-shown}
 use Rattle.rr_rounds.specs.Round as rounds
@@ -53,7 +54,7 @@ one_more book e same quiet =
     ap (λ (r : Round). r.priority) (progress-push book e)
     ∙ moved book (rounds.progress book) e (players-shown book (rounds.progress book) refl) quiet
     ∙ ap (λ (s : Seat). unwrap_or (left_of_buyer book e) s) same
-    ∙ sym (ap (λ (a : auctions.Progress). a.priority) (entries.progress-push book e) ∙ entries.priority_once book e)
+    ∙ sym (ap (λ (a : auctions.Progress). a.priority) (bidding.progress-push book e) ∙ entries.priority_once book e)
 
 act_idle : (under_way : Bool) (act : Act) (r : Round) → under_way ≡ false → r.under_way ≡ false → (if under_way then after_act act r else r).under_way ≡ false
 act_idle true act r h k = absurd (false≢true (sym h))

@@ -13,7 +13,7 @@ use Rattle.rr_auction.proofs.Covers.{IsCoveredBook}
 use Rattle.rr_auction.proofs.Dealing.{dealt_after, dealt_opened}
 use Rattle.rr_auction.proofs.LawfulActs as auction
 use Rattle.rr_auction.proofs.OpenedTable.{covered_opened}
-use Rattle.rr_stock.specs.PoolLimits.{PoolStaysWithinHalf}
+use Rattle.rr_sequence.specs.PoolLimits.{PoolStaysWithinHalf}
 use Rattle.rr_sound.specs.Play.{auctioned}
 use Rattle.rr_sound.specs.Sound.{AreLawful, IsDealt, IsSolvent, IsSound, with_acts}
 use Rattle.rr_sound.proofs.PoolPlays.{half_after_bids}

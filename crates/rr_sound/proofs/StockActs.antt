@@ -1,7 +1,7 @@
 -- Lawful commands of a stock round leave a table solvent.
 use Rattle.std.specs.Prelude.{◌≡◌, ℕ, ◌*◌, ◌<◌, ℤ, pos, ◌≤ℤ◌, int_lt, Bool, true, false, not, List, [], ◌∷◌, Option, None, Some, map, option_and_then, option_map, refl, if◌then◌else◌}
 use Rattle.std.specs.Option.{option_or}
-use Rattle.std.proofs.Common.{sym, arith}
+use Rattle.std.proofs.Common.{sym, subst, arith}
 use Rattle.std.proofs.lemmas.Bool.{eqb-true, false≢true, lt-ltb}
 use Rattle.std.proofs.lemmas.Int.{ints}
 use Rattle.rr_roster.specs.declared.company.Private.{Private}
@@ -30,7 +30,10 @@ use Rattle.rr_rounds.specs.Round.{ends_round, has_floated, progress}
 use Rattle.rr_stock.specs.declared.fault.Fault.TheVariants as F
 use Rattle.rr_stock.specs.Rules as rules
 use Rattle.rr_stock.specs.Rules.{is_short, place_of_source, share_price, turn_verdict, verdict}
-use Rattle.rr_stock.specs.Effects.{buys_share, ends_if, ends_stock_round, ends_turn, entries_of, gets_share, gives_up_private, is_sold_out, passes_operating_round, pays_bank, pays_seller, proceeds, rises, rises_among, rises_if_sold_out, says, sells, sets_par, settles_corporation, settles_in, swaps, takes_presidency}
+use Rattle.rr_stock.specs.Effects.{buys_share, gets_share, gives_up_private, is_sold_out, pays_bank, pays_seller, proceeds, rises, rises_among, rises_if_sold_out, says, sells, sets_par, settles_corporation, settles_in, swaps, takes_presidency}
+use Rattle.rr_sequence.specs.Sequence as sequence
+use Rattle.rr_sequence.proofs.Whole.{entries_are_whole}
+use Rattle.rr_sequence.specs.Whole.{ends_if, ends_stock_round, ends_turn, entries_of, passes_operating_round}
 use Rattle.rr_stock.specs.Situation.{Situation, situation_of}
 use Rattle.rr_sound.specs.Sound.{IsSolvent}
 use Rattle.rr_sound.proofs.Turns.{seated}
@@ -186,24 +189,29 @@ purchase_covered t s c source lawful =
     not_below (t.money (P.Seat s)) (pos (share_price t c source)) last.0
 
 -- whatever command the rules of a stock round don't refuse
-pub goes_by_lawful : (n : ℕ) (roster : Terms) (rows : List Row) (book : Book) (act : Act) → 0 < n → verdict rows book act ≡ None → IsSolvent n book → GoesOn n no_debt book (entries_of roster rows book act)
-goes_by_lawful n roster rows book (A.Par s c m) some lawful h =
+goes_by_whole : (n : ℕ) (roster : Terms) (rows : List Row) (book : Book) (act : Act) → 0 < n → verdict rows book act ≡ None → IsSolvent n book → GoesOn n no_debt book (entries_of roster rows book act)
+goes_by_whole n roster rows book (A.Par s c m) some lawful h =
     let t = situation_of rows book in
     let parts = neither (turn_verdict t.progress s) (rules.par_verdict rows t s c m) lawful in
     let at = actor_there n some book s h.seated parts.0 in
     par_paid n rows t s c m at book (can_pay_debt n s (2 * m) book h (par_covered rows t s c m parts.1))
-goes_by_lawful n roster rows book (A.BuyShare s c source) some lawful h =
+goes_by_whole n roster rows book (A.BuyShare s c source) some lawful h =
     let t = situation_of rows book in
     let parts = neither (turn_verdict t.progress s) (rules.purchase_verdict t s c source) lawful in
     let at = actor_there n some book s h.seated parts.0 in
     purchase_paid n some t s c source at book (can_pay_debt n s (share_price t c source) book h (purchase_covered t s c source parts.1))
-goes_by_lawful n roster rows book (A.Sell s c k) some lawful h =
+goes_by_whole n roster rows book (A.Sell s c k) some lawful h =
     let t = situation_of rows book in
     let parts = neither (turn_verdict t.progress s) (rules.sale_verdict t s c k) lawful in
     sale_kept n some rows t s c k (actor_there n some book s h.seated parts.0) no_debt book (without_debt n book h)
-goes_by_lawful n roster rows book (A.Swap s source) some lawful h =
+goes_by_whole n roster rows book (A.Swap s source) some lawful h =
     let t = situation_of rows book in
     let parts = neither (turn_verdict t.progress s) (rules.swap_verdict t s source) lawful in
     swap_kept n some t s source (actor_there n some book s h.seated parts.0) no_debt book (without_debt n book h)
-goes_by_lawful n roster rows book (A.Done s) some lawful h = done_kept n roster rows (situation_of rows book) s no_debt book (without_debt n book h)
-goes_by_lawful n roster rows book _ some lawful h = absurd (cc)
+goes_by_whole n roster rows book (A.Done s) some lawful h = done_kept n roster rows (situation_of rows book) s no_debt book (without_debt n book h)
+goes_by_whole n roster rows book _ some lawful h = absurd (cc)
+
+-- with what follows on it
+pub goes_by_lawful : (n : ℕ) (roster : Terms) (rows : List Row) (book : Book) (act : Act) → 0 < n → verdict rows book act ≡ None → IsSolvent n book → GoesOn n no_debt book (sequence.entries_of roster rows book act)
+goes_by_lawful n roster rows book act some lawful h =
+    subst (GoesOn n no_debt book) (sym (entries_are_whole roster rows book act lawful)) (goes_by_whole n roster rows book act some lawful h)

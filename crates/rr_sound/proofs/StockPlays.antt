@@ -6,8 +6,8 @@ use Rattle.rr_chart.specs.Chart.{Row}
 use Rattle.rr_books.specs.declared.acts.Act.{Act}
 use Rattle.rr_books.specs.Book.{Book}
 use Rattle.rr_auction.proofs.Dealing.{dealt_by}
-use Rattle.rr_stock.specs.Effects.{entries_of}
-use Rattle.rr_stock.specs.PoolLimits.{PoolStaysWithinHalf}
+use Rattle.rr_sequence.specs.Sequence.{entries_of}
+use Rattle.rr_sequence.specs.PoolLimits.{PoolStaysWithinHalf}
 use Rattle.rr_sound.specs.Sound.{AreLawful, IsSolvent, IsSound, with_acts}
 use Rattle.rr_sound.proofs.Going.{GoesOn, goes_further, goes_nowhere, no_debt, solvent_without_debt, without_debt}
 use Rattle.rr_sound.proofs.StockActs.{goes_by_lawful}

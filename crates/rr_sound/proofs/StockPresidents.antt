@@ -25,8 +25,12 @@ use Rattle.rr_books.specs.State.{has_place}
 use Rattle.rr_shares.specs.Sales.{PresidentLeads}
 use Rattle.rr_market.specs.Marks.{par_of, price_of}
 use Rattle.rr_stock.specs.Rules.{verdict}
-use Rattle.rr_stock.specs.Effects.{buys_share, ends_turn, entries_of, sells, sets_par, swaps}
-use Rattle.rr_stock.specs.SoldShares.{LawfulSalesMoveShares}
+use Rattle.rr_stock.specs.Effects.{buys_share, sells, sets_par, swaps}
+use Rattle.rr_sequence.specs.Whole as whole
+use Rattle.rr_sequence.specs.Whole.{ends_turn}
+use Rattle.rr_sequence.specs.Sequence.{entries_of}
+use Rattle.rr_sequence.proofs.Whole.{entries_are_whole}
+use Rattle.rr_sequence.specs.SoldShares.{LawfulSalesMoveShares}
 use Rattle.rr_stock.specs.Situation.{Situation, situation_of}
 use Rattle.rr_sound.specs.Presidencies.{AwaitsPar, IsGoverned, IsLed}
 use Rattle.rr_sound.specs.Sound.{IsSolvent, is_placed, with_act}
@@ -65,18 +69,23 @@ led_with n book c b is none (inr led) = led
 headed : (n : ℕ) (book : Book) (c : Corp) → players book ≡ n → IsLed n book c → HasPresident n book c
 headed n book c same led = record { seat = led.seat; at_table = led.at_table; presides = led.presides; players = same }
 
-sale_leads : LawfulSalesMoveShares → (n : ℕ) (roster : Terms) (rows : List Row) (book : Book) (s : Seat) (c : Corp) (k : ℕ) → n ≤ 6 → verdict rows book (A.Sell s c k) ≡ None → players book ≡ n → IsLed n book c → PresidentLeads (with_act roster rows book (A.Sell s c k)) c n
+-- the book once a command is taken down, told as one effect
+abbrev whole_act : Terms → List Row → Book → Act → Book
+whole_act roster rows book act = book ++ whole.entries_of roster rows book act
+
+sale_leads : LawfulSalesMoveShares → (n : ℕ) (roster : Terms) (rows : List Row) (book : Book) (s : Seat) (c : Corp) (k : ℕ) → n ≤ 6 → verdict rows book (A.Sell s c k) ≡ None → players book ≡ n → IsLed n book c → PresidentLeads (whole_act roster rows book (A.Sell s c k)) c n
 sale_leads sales n roster rows book s c k few lawful same led =
-    let Led : ℕ → Type 0 = λ m. PresidentLeads (with_act roster rows book (A.Sell s c k)) c m in
+    let Led : ℕ → Type 0 = λ m. PresidentLeads (whole_act roster rows book (A.Sell s c k)) c m in
+    let Told : Book → Type 0 = λ es. PresidentLeads (book ++ es) c (players book) in
     let at = led.at_table in
     let sold = sales roster rows book led.seat s c k lawful led.presides (omega arith) (omega arith) in
-    subst Led same sold.1
+    subst Led same (subst Told (entries_are_whole roster rows book (A.Sell s c k) lawful) sold.1)
 
 swap_left : (n : ℕ) (t : Situation) (s : Seat) (source : ShareSource) (book : Book) → n ≤ 6 → players book ≡ n → is_at (holder book (C.Private Private.Mh)) (L.Seat s) ≡ true → AwaitsPar book Corp.Nyc ⊎ IsLed n book Corp.Nyc → LedOrAwaits n (book ++ swaps t s source book) Corp.Nyc
 swap_left n t s source book few same has (inl awaits) = inl (swap_awaits t s source book has awaits)
 swap_left n t s source book few same has (inr led) = inr (swap_leads n t s source book few (headed n book Corp.Nyc same led))
 
-act_leaves : LawfulSalesMoveShares → (n : ℕ) (roster : Terms) (rows : List Row) (book : Book) (act : Act) → n ≤ 6 → verdict rows book act ≡ None → players book ≡ n → IsGoverned n book → (c : Corp) → LedOrAwaits n (with_act roster rows book act) c
+act_leaves : LawfulSalesMoveShares → (n : ℕ) (roster : Terms) (rows : List Row) (book : Book) (act : Act) → n ≤ 6 → verdict rows book act ≡ None → players book ≡ n → IsGoverned n book → (c : Corp) → LedOrAwaits n (whole_act roster rows book act) c
 act_leaves sales n roster rows book (A.Par s d m) few lawful same h c =
     let t = situation_of rows book in
     let awaits = awaiting n book d (h d) (par_offered rows book s d m lawful) in
@@ -138,4 +147,6 @@ governed_by_command sales n roster rows book act some few lawful solvent h c =
     let es = entries_of roster rows book act in
     let on = goes_by_lawful n roster rows book act some lawful solvent in
     let placed = placed_after n (C.President c) es book on.within (placed_before n book c (h c)) in
-    seated_after n (book ++ es) c placed (act_leaves sales n roster rows book act few lawful solvent.seated h c)
+    let Left : Book → Type 0 = λ added. LedOrAwaits n (book ++ added) c in
+    let left = subst Left (sym (entries_are_whole roster rows book act lawful)) (act_leaves sales n roster rows book act few lawful solvent.seated h c) in
+    seated_after n (book ++ es) c placed left

@@ -12,7 +12,7 @@ use Rattle.rr_books.specs.declared.entries.Marker.TheVariants as M
 use Rattle.rr_books.specs.declared.acts.Act.{Act}
 use Rattle.rr_books.specs.declared.acts.Act.TheVariants as A
 use Rattle.rr_books.specs.Book.{Book, players}
-use Rattle.rr_desk.specs.Seating.{left_of}
+use Rattle.rr_books.specs.Seating.{left_of}
 use Rattle.rr_rounds.specs.Round.{Round, after, after_act, after_step, beginning, progress}
 use Rattle.rr_rounds.specs.Counts.{players-shown}
 

@@ -34,7 +34,7 @@ use Rattle.rr_market.specs.Marks.{cell_after, mark_of}
 use Rattle.rr_market.specs.MarkLaws.{mark_of-push}
 use Rattle.rr_market.specs.Moves.{mark_at, moves_token}
 use Rattle.rr_shares.specs.Presidents.{NobodyHasMore}
-use Rattle.rr_auction.specs.Unsold.{is_unsold}
+use Rattle.rr_bids.specs.Unsold.{is_unsold}
 use Rattle.rr_sound.specs.Presidencies.{AwaitsPar, IsLed, IsOffered, promised}
 
 -- as entries follow on a book, a corporation's 20% certificate stays, its token isn't put on the chart, no private

@@ -13,9 +13,9 @@ use Rattle.rr_books.specs.Shares.{Holders, is_at, share}
 use Rattle.rr_market.specs.Marks.{mark_of}
 use Rattle.rr_shares.specs.Presidents.{IsPresident, NobodyHasMore}
 use Rattle.rr_auction.specs.Opening.{opened}
-use Rattle.rr_auction.specs.Progress.{progress}
+use Rattle.rr_bids.specs.Progress.{progress}
 use Rattle.rr_auction.specs.SoundMoney as auctions
-use Rattle.rr_auction.specs.Unsold.{is_unsold}
+use Rattle.rr_bids.specs.Unsold.{is_unsold}
 use Rattle.rr_stock.specs.Rules.{verdict}
 use Rattle.rr_sound.specs.Play.{auctioned}
 use Rattle.rr_sound.specs.Sound.{AreLawful, IsSolvent, with_act, with_acts}

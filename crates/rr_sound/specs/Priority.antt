@@ -4,7 +4,7 @@ use Rattle.std.specs.List.{list_any}
 use Rattle.rr_books.specs.declared.entries.Entry.TheVariants as E
 use Rattle.rr_books.specs.declared.entries.Marker.TheVariants as M
 use Rattle.rr_books.specs.Book.{Book}
-use Rattle.rr_auction.specs.Progress as auctions
+use Rattle.rr_bids.specs.Progress as auctions
 use Rattle.rr_rounds.specs.Round as rounds
 use Rattle.rr_rounds.specs.Round.{begins_stock_round}
 use Rattle.rr_rounds.specs.Trades.{is_trade}

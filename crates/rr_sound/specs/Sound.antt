@@ -8,7 +8,7 @@ use Rattle.rr_books.specs.declared.parties.Seat.{Seat}
 use Rattle.rr_books.specs.declared.parties.Party.TheVariants as P
 use Rattle.rr_books.specs.Book.{Book, balance, players}
 pub use Rattle.rr_auction.specs.Dealt.{IsDealt, is_placed}
-use Rattle.rr_stock.specs.Effects.{entries_of}
+use Rattle.rr_sequence.specs.Sequence.{entries_of}
 use Rattle.rr_stock.specs.PoolLimits.{HasHalfAtMost}
 use Rattle.rr_stock.specs.Rules.{verdict}
 
@@ -24,7 +24,7 @@ pub record IsSound (n : ℕ) (book : Book) : Type 0 where
   pub dealt : IsDealt n book
   pub pool : HasHalfAtMost book
 
--- a book once a command of a stock round is taken down
+-- a book once a command of a stock round is taken down, with what follows on it
 abbrev pub with_act : Terms → List Row → Book → Act → Book
 with_act roster rows book act = book ++ entries_of roster rows book act
 

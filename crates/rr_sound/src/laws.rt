@@ -25,7 +25,7 @@ pub fn stock_stays_dealt()
 pub fn stock_rounds_stay_sound()
     ensures { StockRoundsStaySound }
 {
-    rr_stock::laws::pool_stays_within_half();
+    rr_sequence::laws::pool_stays_within_half();
 }
 
 /// Where the pool has at most half of each corporation, it has at most half of each after whatever act of the auction.
@@ -47,7 +47,7 @@ pub fn money_stays_along_plays()
 pub fn pool_stays_within_half_along_plays()
     ensures { PoolStaysWithinHalfAlongPlays }
 {
-    rr_stock::laws::pool_stays_within_half();
+    rr_sequence::laws::pool_stays_within_half();
 }
 
 /// At a table of two players or more, whose roster names each corporation, the book is sound from the opening on, whatever
@@ -56,7 +56,7 @@ pub fn pool_stays_within_half_along_plays()
 pub fn sound_along_plays()
     ensures { SoundAlongPlays }
 {
-    rr_stock::laws::pool_stays_within_half();
+    rr_sequence::laws::pool_stays_within_half();
 }
 
 /// From the opening of a table on, whatever lawful acts the auction takes, each corporation awaits its par, with no more
@@ -70,7 +70,7 @@ pub fn auction_stays_governed()
 pub fn stock_stays_governed()
     ensures { StockStaysGoverned }
 {
-    rr_stock::laws::lawful_sales_move_shares();
+    rr_sequence::laws::lawful_sales_move_shares();
 }
 
 /// Where each corporation awaits its par or is led by its president, each 20% certificate is in the offering, or with a
@@ -85,7 +85,7 @@ pub fn governed_has_greatest_presidents()
 pub fn presidents_stay_greatest()
     ensures { PresidentsStayGreatest }
 {
-    rr_stock::laws::lawful_sales_move_shares();
+    rr_sequence::laws::lawful_sales_move_shares();
 }
 
 /// The auction and the stock rounds name one and the same seat for priority until the first stock round begins, and in it

@@ -1,7 +1,6 @@
-pub mod Markless
-pub mod Following
-pub mod RowLemmas
 pub mod Standing
+pub mod Trades
+pub mod Rises
 pub mod TurnLemmas
 pub mod PoolLemmas
 pub mod SaleVerdicts

@@ -4,7 +4,6 @@ use Rattle.std.proofs.Common.{ap, arith}
 use Rattle.std.proofs.lemmas.List.Sums.{sum_by-append, sum_by-cons}
 use Rattle.rr_roster.specs.declared.company.Private.{Private}
 use Rattle.rr_roster.specs.declared.company.Corp.{Corp}
-use Rattle.rr_roster.specs.Terms.{Terms, income_of}
 use Rattle.rr_chart.specs.Chart.{Row, par_place}
 use Rattle.rr_books.specs.declared.parties.Money.{Money}
 use Rattle.rr_books.specs.declared.parties.Party.{Party}
@@ -23,7 +22,6 @@ use Rattle.rr_books.specs.declared.acts.Act.TheVariants as A
 use Rattle.rr_books.specs.declared.acts.ShareSource.{ShareSource}
 use Rattle.rr_books.specs.Book.{Book, holder, players}
 use Rattle.rr_books.specs.Same.{same_place}
-use Rattle.rr_books.specs.Shares.{privates}
 use Rattle.rr_desk.specs.Effects.{Effect, adds, in_turn, lowest_share, moves_if, moves_lowest_share}
 use Rattle.rr_shares.specs.declared.succession.Handover.{Handover}
 use Rattle.rr_shares.specs.Succession.{handover_after_sale, handover_due}
@@ -32,10 +30,10 @@ use Rattle.rr_market.specs.Marks.{mark_of}
 use Rattle.rr_market.specs.Moves.{cell_above, cell_after_sale, cell_of, mark_at, par_marks, sale_marks, sold_out_marks}
 use Rattle.rr_market.specs.Order.{operating_order}
 use Rattle.rr_rounds.specs.Round.{ends_round, has_floated}
-use Rattle.rr_desk.specs.Incomes.{dollars, owner, pay_incomes, pay_incomes_of, pays_if, pays_income}
+use Rattle.rr_desk.specs.Incomes.{dollars}
 use Rattle.rr_stock.specs.Situation.{Situation}
 use Rattle.rr_stock.specs.Rules.{place_of_source, share_price}
-use Rattle.rr_stock.specs.Effects.{buys_share, ends_if, ends_stock_round, ends_turn, gets_share, gives_up_private, is_sold_out, passes_operating_round, pays_bank, pays_seller, proceeds, rises, rises_among, rises_if_sold_out, row, says, sells, sets_par, settles_corporation, settles_in, swaps, takes_presidency}
+use Rattle.rr_stock.specs.Effects.{buys_share, ends_if, ends_stock_round, ends_turn, gets_share, gives_up_private, is_sold_out, pays_bank, pays_seller, proceeds, rises, rises_among, rises_if_sold_out, row, says, sells, sets_par, settles_corporation, settles_in, swaps, takes_presidency}
 
 -- a kind of entry that is none of these: of moves, none but to the pool
 pub record Spares (p : Entry → Bool) : Type 0 where
@@ -43,29 +41,28 @@ pub record Spares (p : Entry → Bool) : Type 0 where
   pub move : (cert : Cert) (to : Place) → same_place to L.Pool ≡ false → p (E.Move cert to) ≡ false
   pub mark : (c : Corp) (cell : Cell) → p (E.Mark c cell) ≡ false
   pub floats : (c : Corp) → p (E.Step (M.Float c)) ≡ false
-  pub operating : p (E.Step M.Operating) ≡ false
 
 -- whatever the book, the effect adds none of the kind
 abbrev pub IsFree : (Entry → Bool) → Effect → Type 0
 IsFree p f = (book : Book) → count_by p (f book) ≡ 0
 
-one_free : (p : Entry → Bool) (e : Entry) → p e ≡ false → count_by p (e ∷ []) ≡ 0
+pub one_free : (p : Entry → Bool) (e : Entry) → p e ≡ false → count_by p (e ∷ []) ≡ 0
 one_free p e h =
     let both = sum_by-cons (λ (x : Entry). cond (p x) 1 0) e [] in
     let none : cond {A = ℕ} (p e) 1 0 ≡ 0 = ap (λ (b : Bool). cond {A = ℕ} b 1 0) h in
     omega arith
 
-free_none : (p : Entry → Bool) → IsFree p (in_turn [])
+pub free_none : (p : Entry → Bool) → IsFree p (in_turn [])
 free_none p book = refl
 
-free_then : (p : Entry → Bool) (f : Effect) (fs : List Effect) → IsFree p f → IsFree p (in_turn fs) → IsFree p (in_turn (f ∷ fs))
+pub free_then : (p : Entry → Bool) (f : Effect) (fs : List Effect) → IsFree p f → IsFree p (in_turn fs) → IsFree p (in_turn (f ∷ fs))
 free_then p f fs h k book =
     let both = sum_by-append (λ (x : Entry). cond (p x) 1 0) (f book) (in_turn fs (book ++ f book)) in
     let first = h book in
     let others = k (book ++ f book) in
     omega arith
 
-free_two : (p : Entry → Bool) (f g : Effect) → IsFree p f → IsFree p g → IsFree p (in_turn (f ∷ g ∷ []))
+pub free_two : (p : Entry → Bool) (f g : Effect) → IsFree p f → IsFree p g → IsFree p (in_turn (f ∷ g ∷ []))
 free_two p f g h k = free_then p f (g ∷ []) h (free_then p g [] k (free_none p))
 
 free_three : (p : Entry → Bool) (f g i : Effect) → IsFree p f → IsFree p g → IsFree p i → IsFree p (in_turn (f ∷ g ∷ i ∷ []))
@@ -106,7 +103,7 @@ unfolding sale_shares
 sale_free p s c seller n h =
     free_two p (presidency_after_sale c seller n) (moves_lowest_shares c n (L.Seat seller) L.Pool) (after_sale_free p s c seller n) (several_free p c n (L.Seat seller) L.Pool h)
 
-pay_free : (p : Entry → Bool) (s : Spares p) (from to : Party) (amount : Money) → IsFree p (adds (E.Pay from to amount))
+pub pay_free : (p : Entry → Bool) (s : Spares p) (from to : Party) (amount : Money) → IsFree p (adds (E.Pay from to amount))
 pay_free p s from to amount book = one_free p (E.Pay from to amount) (s.pay from to amount)
 
 float_of_free : (p : Entry → Bool) (s : Spares p) (c : Corp) (par : Option ℕ) → IsFree p (float_of c par)
@@ -122,19 +119,6 @@ float_free p s c par floated book = by_test (floats_now (holder book) c par floa
     by_test : (b : Bool) → count_by p ((if b then float_of c par else in_turn []) book) ≡ 0
     by_test true = float_of_free p s c par book
     by_test false = refl
-
-pays_if_free : (p : Entry → Bool) (s : Spares p) (party : Option Party) (n : ℕ) → IsFree p (pays_if party n)
-pays_if_free p s None n = free_none p
-pays_if_free p s (Some party) n = pay_free p s P.Bank party (dollars n)
-
-income_free : (p : Entry → Bool) (s : Spares p) (roster : Terms) (company : Private) → IsFree p (pays_income roster company)
-unfolding pays_income
-income_free p s roster company book = pays_if_free p s (owner (players book) (holder book (C.Private company))) (income_of roster company) book
-
-incomes_free : (p : Entry → Bool) (s : Spares p) (roster : Terms) (ps : List Private) → IsFree p (pay_incomes_of roster ps)
-unfolding pay_incomes_of
-incomes_free p s roster [] = free_none p
-incomes_free p s roster (x ∷ xs) = free_then p (pays_income roster x) (map (pays_income roster) xs) (income_free p s roster x) (incomes_free p s roster xs)
 
 mark_free : (p : Entry → Bool) (s : Spares p) (c : Corp) (cell : Option Cell) → count_by p (mark_at c cell) ≡ 0
 mark_free p s c None = refl
@@ -194,64 +178,53 @@ one_then p e fs book h =
     let others : count_by p rest ≡ 0 = h (book ++ e ∷ []) in
     omega arith
 
--- none of the kind, and then an effect
-then_one : (p : Entry → Bool) (f g : Effect) (n : ℕ) (book : Book) → IsFree p f → ((later : Book) → count_by p (g later) ≤ n) → count_by p (in_turn (f ∷ g ∷ []) book) ≤ n
-then_one p f g n book h k =
-    let later = book ++ f book in
-    let both = sum_by-append (λ (x : Entry). cond (p x) 1 0) (f book) (in_turn (g ∷ []) later) in
-    let last = sum_by-append (λ (x : Entry). cond (p x) 1 0) (g later) [] in
+-- none of the kind, and then one entry
+then_last : (p : Entry → Bool) (f : Effect) (e : Entry) (book : Book) → IsFree p f → count_by p (in_turn (f ∷ adds e ∷ []) book) ≤ cond (p e) 1 0
+then_last p f e book h =
+    let both = sum_by-append (λ (x : Entry). cond (p x) 1 0) (f book) (e ∷ []) in
+    let last = sum_by-cons (λ (x : Entry). cond (p x) 1 0) e [] in
     let first = h book in
-    let second = k later in
     omega arith
 
-operating_counted : (p : Entry → Bool) (s : Spares p) (roster : Terms) (book : Book) → count_by p (passes_operating_round roster book) ≤ cond (p (E.Step M.Stock)) 1 0
-unfolding passes_operating_round
-operating_counted p s roster book =
-    let operating = E.Step M.Operating in
-    let paid = pay_incomes roster (book ++ operating ∷ []) in
-    let first = sum_by-cons (λ (x : Entry). cond (p x) 1 0) operating (paid ++ E.Step M.Stock ∷ []) in
-    let second = sum_by-append (λ (x : Entry). cond (p x) 1 0) paid (E.Step M.Stock ∷ []) in
-    let third = sum_by-cons (λ (x : Entry). cond (p x) 1 0) (E.Step M.Stock) [] in
-    let none : count_by p paid ≡ 0 = incomes_free p s roster privates (book ++ operating ∷ []) in
-    let no_more : cond {A = ℕ} (p operating) 1 0 ≡ 0 = ap (λ (b : Bool). cond {A = ℕ} b 1 0) s.operating in
-    omega arith
-
-ending_counted : (p : Entry → Bool) (s : Spares p) (roster : Terms) (rows : List Row) (ends : Bool) (book : Book) → count_by p (ends_if roster rows ends book) ≤ cond (p (E.Step M.Stock)) 1 0
+-- a stock round that ends adds the step at most
+pub ending_counted : (p : Entry → Bool) (s : Spares p) (rows : List Row) (ends : Bool) (book : Book) → count_by p (ends_if rows ends book) ≤ cond (p (E.Step M.Operating)) 1 0
 unfolding ends_stock_round
-ending_counted p s roster rows true book =
-    then_one p (rises rows) (passes_operating_round roster) (cond (p (E.Step M.Stock)) 1 0) book (rises_free p s rows) (λ later. operating_counted p s roster later)
-ending_counted p s roster rows false book = omega arith
+ending_counted p s rows true book = then_last p (rises rows) (E.Step M.Operating) book (rises_free p s rows)
+ending_counted p s rows false book = omega arith
 
 within : (a b c : ℕ) → a ≡ b → a ≤ b + c
 within a b c e = omega arith
 
--- of the kind are at most the command and the step that begins a stock round, where a sale moves none of the kind
-pub row_counted : (p : Entry → Bool) (s : Spares p) (roster : Terms) (rows : List Row) (t : Situation) (act : Act) (book : Book) → ((seat : Seat) (c : Corp) (n : ℕ) → act ≡ A.Sell seat c n → IsFree p (sale_shares c seat n)) → count_by p (row roster rows t act book) ≤ cond (p (E.Step (M.Act act))) 1 0 + cond (p (E.Step M.Stock)) 1 0
+-- of the kind are at most the command and what the end of a stock round adds, where a sale moves none of the kind
+pub row_counted : (p : Entry → Bool) (s : Spares p) (rows : List Row) (t : Situation) (act : Act) (book : Book) (most : ℕ)
+    → ((seat : Seat) (c : Corp) (n : ℕ) → act ≡ A.Sell seat c n → IsFree p (sale_shares c seat n))
+    → ((seat : Seat) → act ≡ A.Done seat → (later : Book) → count_by p (ends_if rows (ends_round t.progress) later) ≤ most)
+    → count_by p (row rows t act book) ≤ cond (p (E.Step (M.Act act))) 1 0 + most
 unfolding sets_par buys_share sells swaps ends_turn
-row_counted p s roster rows t (A.Par seat c n) book sold =
+row_counted p s rows t (A.Par seat c n) book most sold ended =
     let rest = takes_presidency rows seat c n ∷ float_if_due c (Some n) (has_floated t.progress c) ∷ [] in
     let free = free_two p (takes_presidency rows seat c n) (float_if_due c (Some n) (has_floated t.progress c)) (presidency_taken_free p s rows seat c n) (float_free p s c (Some n) (has_floated t.progress c)) in
-    within (count_by p (in_turn (says (A.Par seat c n) ∷ rest) book)) (cond (p (E.Step (M.Act (A.Par seat c n)))) 1 0) (cond (p (E.Step M.Stock)) 1 0) (one_then p (E.Step (M.Act (A.Par seat c n))) rest book free)
-row_counted p s roster rows t (A.BuyShare seat c source) book sold =
+    within (count_by p (in_turn (says (A.Par seat c n) ∷ rest) book)) (cond (p (E.Step (M.Act (A.Par seat c n)))) 1 0) most (one_then p (E.Step (M.Act (A.Par seat c n))) rest book free)
+row_counted p s rows t (A.BuyShare seat c source) book most sold ended =
     let buy = gets_share seat c source (share_price t c source) in
     let rest = buy ∷ settles_in t c ∷ [] in
     let free = free_two p buy (settles_in t c) (share_free p s seat c source (share_price t c source)) (settled_free p s c (t.pars c) (has_floated t.progress c)) in
-    within (count_by p (in_turn (says (A.BuyShare seat c source) ∷ rest) book)) (cond (p (E.Step (M.Act (A.BuyShare seat c source)))) 1 0) (cond (p (E.Step M.Stock)) 1 0) (one_then p (E.Step (M.Act (A.BuyShare seat c source))) rest book free)
-row_counted p s roster rows t (A.Sell seat c n) book sold =
+    within (count_by p (in_turn (says (A.BuyShare seat c source) ∷ rest) book)) (cond (p (E.Step (M.Act (A.BuyShare seat c source)))) 1 0) most (one_then p (E.Step (M.Act (A.BuyShare seat c source))) rest book free)
+row_counted p s rows t (A.Sell seat c n) book most sold ended =
     let gets = pays_seller rows seat c n (proceeds t c n) in
     let rest = sale_shares c seat n ∷ gets ∷ [] in
     let free = free_two p (sale_shares c seat n) gets (sold seat c n refl) (seller_free p s rows seat c n (proceeds t c n)) in
-    within (count_by p (in_turn (says (A.Sell seat c n) ∷ rest) book)) (cond (p (E.Step (M.Act (A.Sell seat c n)))) 1 0) (cond (p (E.Step M.Stock)) 1 0) (one_then p (E.Step (M.Act (A.Sell seat c n))) rest book free)
-row_counted p s roster rows t (A.Swap seat source) book sold =
+    within (count_by p (in_turn (says (A.Sell seat c n) ∷ rest) book)) (cond (p (E.Step (M.Act (A.Sell seat c n)))) 1 0) most (one_then p (E.Step (M.Act (A.Sell seat c n))) rest book free)
+row_counted p s rows t (A.Swap seat source) book most sold ended =
     let rest = gives_up_private seat source ∷ settles_in t Corp.Nyc ∷ [] in
     let free = free_two p (gives_up_private seat source) (settles_in t Corp.Nyc) (private_free p s seat source) (settled_free p s Corp.Nyc (t.pars Corp.Nyc) (has_floated t.progress Corp.Nyc)) in
-    within (count_by p (in_turn (says (A.Swap seat source) ∷ rest) book)) (cond (p (E.Step (M.Act (A.Swap seat source)))) 1 0) (cond (p (E.Step M.Stock)) 1 0) (one_then p (E.Step (M.Act (A.Swap seat source))) rest book free)
-row_counted p s roster rows t (A.Done seat) book sold =
+    within (count_by p (in_turn (says (A.Swap seat source) ∷ rest) book)) (cond (p (E.Step (M.Act (A.Swap seat source)))) 1 0) most (one_then p (E.Step (M.Act (A.Swap seat source))) rest book free)
+row_counted p s rows t (A.Done seat) book most sold ended =
     let e = E.Step (M.Act (A.Done seat)) in
-    let end = ends_if roster rows (ends_round t.progress) in
+    let end = ends_if rows (ends_round t.progress) in
     let more = end (book ++ e ∷ []) in
     let first = sum_by-cons (λ (x : Entry). cond (p x) 1 0) e (more ++ []) in
     let second = sum_by-append (λ (x : Entry). cond (p x) 1 0) more [] in
-    let ended : count_by p more ≤ cond (p (E.Step M.Stock)) 1 0 = ending_counted p s roster rows (ends_round t.progress) (book ++ e ∷ []) in
+    let few : count_by p more ≤ most = ended seat refl (book ++ e ∷ []) in
     omega arith
-row_counted p s roster rows t _ book sold = omega arith
+row_counted p s rows t _ book most sold ended = omega arith

@@ -2,7 +2,6 @@
 use Rattle.std.specs.Prelude.{ℕ, ◌*◌, ◌==◌, Bool, List, [], ◌∷◌, Option, Some, unwrap_or, map, if◌then◌else◌, ◌&&◌}
 use Rattle.rr_roster.specs.declared.company.Private.{Private}
 use Rattle.rr_roster.specs.declared.company.Corp.{Corp}
-use Rattle.rr_roster.specs.Terms.{Terms}
 use Rattle.rr_chart.specs.Chart.{Row}
 use Rattle.rr_books.specs.declared.parties.Seat.{Seat}
 use Rattle.rr_books.specs.declared.parties.Party.TheVariants as P
@@ -21,7 +20,7 @@ use Rattle.rr_market.specs.Moves.{mark_at, par_marks, sale_marks, sold_out_marks
 use Rattle.rr_market.specs.Order.{operating_order}
 use Rattle.rr_shares.specs.Effects.{float_if_due, presidency, sale_shares}
 use Rattle.rr_rounds.specs.Round.{ends_round, has_floated}
-use Rattle.rr_desk.specs.Incomes.{dollars, pay_incomes}
+use Rattle.rr_desk.specs.Incomes.{dollars}
 use Rattle.rr_stock.specs.Rules.{place_of_source, share_price}
 use Rattle.rr_stock.specs.Situation.{Situation, situation_of}
 
@@ -95,29 +94,25 @@ rises_among rows cs = in_turn (map (rises_if_sold_out rows) cs)
 unfoldable pub rises : List Row → Effect
 rises rows book = rises_among rows (operating_order rows book) book
 
--- an operating round in which no corporation has a turn: the privates pay, and the next stock round begins
-unfoldable pub passes_operating_round : Terms → Effect
-passes_operating_round roster = in_turn (adds (E.Step M.Operating) ∷ pay_incomes roster ∷ adds (E.Step M.Stock) ∷ [])
+-- the stock round ends, and an operating round begins
+unfoldable pub ends_stock_round : List Row → Effect
+ends_stock_round rows = in_turn (rises rows ∷ adds (E.Step M.Operating) ∷ [])
 
--- the stock round ends
-unfoldable pub ends_stock_round : Terms → List Row → Effect
-ends_stock_round roster rows = in_turn (rises rows ∷ passes_operating_round roster ∷ [])
-
-abbrev pub ends_if : Terms → List Row → Bool → Effect
-ends_if roster rows ends = if ends then ends_stock_round roster rows else in_turn []
+abbrev pub ends_if : List Row → Bool → Effect
+ends_if rows ends = if ends then ends_stock_round rows else in_turn []
 
 -- a seat ends its turn, and the round where all seats have passed in a row with it
-unfoldable pub ends_turn : Terms → List Row → Situation → Seat → Effect
-ends_turn roster rows t s = in_turn (says (A.Done s) ∷ ends_if roster rows (ends_round t.progress) ∷ [])
+unfoldable pub ends_turn : List Row → Situation → Seat → Effect
+ends_turn rows t s = in_turn (says (A.Done s) ∷ ends_if rows (ends_round t.progress) ∷ [])
 
 -- what a command that isn't refused adds
-abbrev pub row : Terms → List Row → Situation → Act → Effect
-row roster rows t (A.Par s c n) = sets_par rows t s c n
-row roster rows t (A.BuyShare s c source) = buys_share t s c source
-row roster rows t (A.Sell s c n) = sells rows t s c n
-row roster rows t (A.Swap s source) = swaps t s source
-row roster rows t (A.Done s) = ends_turn roster rows t s
-row roster rows t _ = in_turn []
+abbrev pub row : List Row → Situation → Act → Effect
+row rows t (A.Par s c n) = sets_par rows t s c n
+row rows t (A.BuyShare s c source) = buys_share t s c source
+row rows t (A.Sell s c n) = sells rows t s c n
+row rows t (A.Swap s source) = swaps t s source
+row rows t (A.Done s) = ends_turn rows t s
+row rows t _ = in_turn []
 
-abbrev pub entries_of : Terms → List Row → Book → Act → Book
-entries_of roster rows book act = row roster rows (situation_of rows book) act book
+abbrev pub entries_of : List Row → Book → Act → Book
+entries_of rows book act = row rows (situation_of rows book) act book

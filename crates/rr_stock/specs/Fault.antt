@@ -1,7 +1,5 @@
--- The refusals of the stock rounds, and those of the books and of the rules on holdings as refusals of the stock rounds.
+-- The refusals of the stock rounds, and those of the rules on holdings as refusals of the stock rounds.
 use Rattle.std.specs.Prelude.{ℕ}
-use Rattle.rr_books.specs.declared.faults.Fault as books
-use Rattle.rr_books.specs.declared.faults.Fault.TheVariants as B
 use Rattle.rr_holdings.specs.declared.fault.Fault as holdings
 use Rattle.rr_holdings.specs.declared.fault.Fault.TheVariants as H
 use Rattle.rr_stock.specs.declared.fault.Fault.{Fault}
@@ -9,7 +7,6 @@ use Rattle.rr_stock.specs.declared.fault.Fault.TheVariants as F
 
 -- the number that a reply gives
 abbrev pub number_of : Fault → ℕ
-number_of F.NoSuchName = 1
 number_of F.TooLittleCash = 2
 number_of F.NotYourTurn = 20
 number_of F.NotForSale = 22
@@ -22,12 +19,6 @@ number_of F.SecondPurchase = 29
 number_of F.MustSellFirst = 30
 number_of F.NotAPar = 31
 number_of F.WrongStep = 42
-number_of F.OutOfMemory = 70
-
-abbrev pub of_books : books.Fault → Fault
-of_books B.NoSuchName = F.NoSuchName
-of_books B.TooLittleCash = F.TooLittleCash
-of_books B.OutOfMemory = F.OutOfMemory
 
 abbrev pub of_holdings : holdings.Fault → Fault
 of_holdings H.NotForSale = F.NotForSale

@@ -3,7 +3,7 @@ pub mod Situation
 pub mod SituationLaws
 pub mod Rules
 pub mod Effects
-pub mod Plays
+pub mod Small
 pub mod Due
 pub mod TurnCounts
 pub mod WorkedRounds

@@ -1,7 +1,6 @@
 -- How much of each corporation the pool has.
 use Rattle.std.specs.Prelude.{◌≡◌, ◌≤◌, ◌++◌, List, None}
 use Rattle.rr_roster.specs.declared.company.Corp.{Corp}
-use Rattle.rr_roster.specs.Terms.{Terms}
 use Rattle.rr_chart.specs.Chart.{Row}
 use Rattle.rr_books.specs.declared.parties.Place.TheVariants as L
 use Rattle.rr_books.specs.declared.acts.Act.{Act}
@@ -17,5 +16,5 @@ HasHalfAtMost book = (c : Corp) → share (holder book) L.Pool c ≤ 50
 -- so it is after each lawful command of a stock round, where it was so before
 abbrev pub PoolStaysWithinHalf : Type 0
 PoolStaysWithinHalf =
-    (roster : Terms) (rows : List Row) (book : Book) (act : Act) → verdict rows book act ≡ None
-    → HasHalfAtMost book → HasHalfAtMost (book ++ entries_of roster rows book act)
+    (rows : List Row) (book : Book) (act : Act) → verdict rows book act ≡ None
+    → HasHalfAtMost book → HasHalfAtMost (book ++ entries_of rows book act)

@@ -4,10 +4,11 @@ use Rattle.rr_roster.specs.declared.company.Corp.{Corp}
 use Rattle.rr_chart.specs.Chart.{Row}
 use Rattle.rr_books.specs.declared.parties.Party.{Party}
 use Rattle.rr_books.specs.Book.{Book, balance}
-use Rattle.rr_books.specs.State.{State as Tables, cash_of}
+use Rattle.rr_books.specs.State.{cash_of}
 use Rattle.rr_market.specs.Marks.{par_of, price_at}
-use Rattle.rr_market.specs.State.{State as Tokens, first_in}
+use Rattle.rr_market.specs.State.{first_in}
 use Rattle.rr_rounds.specs.Round.{Round, progress}
+use Rattle.rr_position.specs.Position.{OnTable}
 use Rattle.rr_holdings.specs.Holdings.{Holdings, holdings_of, holdings_in}
 
 -- the money of each party
@@ -26,11 +27,11 @@ pub record Situation : Type 0 where
 abbrev pub situation_of : List Row → Book → Situation
 situation_of rows book = record { money = balance book; holdings = holdings_of rows book; pars = par_of rows book; progress = progress book }
 
--- the situation by the running tables of the books, the market and the stock rounds
-abbrev pub situation_in : List Row → Tables → Tokens → Round → Situation
-situation_in rows tables tokens r = record {
-  money = cash_of tables;
-  holdings = holdings_in rows tables tokens;
-  pars = λ c. price_at rows (first_in tokens c);
-  progress = r;
+-- the situation by what runs along with the book
+abbrev pub situation_in : List Row → OnTable → Situation
+situation_in rows p = record {
+  money = cash_of p.books;
+  holdings = holdings_in rows p;
+  pars = λ c. price_at rows (first_in p.market c);
+  progress = p.rounds;
 }

@@ -22,7 +22,7 @@ use Rattle.rr_stock.specs.declared.fault.Fault.{Fault}
 use Rattle.rr_stock.specs.declared.fault.Fault.TheVariants as F
 use Rattle.rr_stock.specs.Rules.{verdict}
 use Rattle.rr_stock.specs.Effects.{entries_of}
-use Rattle.rr_stock.specs.WorkedRounds.{a, b, cell_in_row, corner, opening, par, president_with, shares_to, usual_terms}
+use Rattle.rr_stock.specs.WorkedRounds.{a, b, cell_in_row, corner, opening, par, president_with, shares_to}
 
 -- cells in the column of these pars alone
 abbrev pub column_of : List (Option chart.Cell) → List Row
@@ -89,7 +89,7 @@ abbrev pub pool_of_three : Book
 pool_of_three = opening ++ president_with (N.Four ∷ []) ++ shares_to L.Pool (N.One ∷ N.Two ∷ N.Three ∷ []) ++ below_par ++ first_round
 
 abbrev pub bought_from_pool : Zone → Book
-bought_from_pool zone = pool_of_three ++ entries_of usual_terms (above zone) pool_of_three from_pool
+bought_from_pool zone = pool_of_three ++ entries_of (above zone) pool_of_three from_pool
 
 -- several shares in a turn are bought in brown alone, and all from the pool
 pub record WorkedSecondPurchase : Type 0 where
@@ -108,7 +108,7 @@ sale_of_two = A.Sell a Corp.Prr 2
 pub record WorkedSuccession : Type 0 where
   pub nobody : verdict corner (beside (N.Two ∷ [])) sale_of_two ≡ Some F.NotForSale
   pub lawful : verdict corner (beside (N.Two ∷ N.Three ∷ [])) sale_of_two ≡ None
-  pub entries : entries_of usual_terms corner (beside (N.Two ∷ N.Three ∷ [])) sale_of_two ≡ E.Step (M.Act sale_of_two)
+  pub entries : entries_of corner (beside (N.Two ∷ N.Three ∷ [])) sale_of_two ≡ E.Step (M.Act sale_of_two)
       ∷ E.Move (C.Share Corp.Prr N.Two) (L.Seat a)
       ∷ E.Move (C.Share Corp.Prr N.Three) (L.Seat a)
       ∷ E.Move (C.President Corp.Prr) (L.Seat b)

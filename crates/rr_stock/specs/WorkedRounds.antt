@@ -2,7 +2,6 @@
 use Rattle.std.specs.Prelude.{◌≡◌, ℕ, ℤ, pos, true, false, List, [], ◌∷◌, ◌++◌, Option, None, Some, fold, map, take}
 use Rattle.rr_roster.specs.declared.company.Private.{Private}
 use Rattle.rr_roster.specs.declared.company.Corp.{Corp}
-use Rattle.rr_roster.specs.Terms.{Terms}
 use Rattle.rr_chart.specs.Chart.{Row}
 use Rattle.rr_chart.specs.declared.cell.Cell as chart
 use Rattle.rr_chart.specs.declared.cell.Zone.TheVariants as Z
@@ -26,18 +25,6 @@ use Rattle.rr_stock.specs.declared.fault.Fault.{Fault}
 use Rattle.rr_desk.specs.Incomes.{dollars}
 use Rattle.rr_stock.specs.Rules.{verdict}
 use Rattle.rr_stock.specs.Effects.{entries_of}
-
--- the usual numbers of the game
-abbrev pub usual_terms : Terms
-usual_terms = record {
-  faces = 20 ∷ 40 ∷ 70 ∷ 110 ∷ 160 ∷ 220 ∷ [];
-  incomes = 5 ∷ 10 ∷ 15 ∷ 20 ∷ 25 ∷ 30 ∷ [];
-  order = Corp.Prr ∷ Corp.Nyc ∷ Corp.Cpr ∷ Corp.Bo ∷ Corp.Co ∷ Corp.Erie ∷ Corp.Nynh ∷ Corp.Bm ∷ [];
-  tokens = 4 ∷ 4 ∷ 4 ∷ 3 ∷ 3 ∷ 3 ∷ 2 ∷ 2 ∷ [];
-  prices = 80 ∷ 180 ∷ 300 ∷ 450 ∷ 630 ∷ 1100 ∷ [];
-  counts = 6 ∷ 5 ∷ 4 ∷ 3 ∷ 2 ∷ 6 ∷ [];
-  trade_price = 800;
-}
 
 abbrev pub white : ℕ → Option chart.Cell
 white n = Some (record { price = n; zone = Z.White; is_par = false })
@@ -84,7 +71,7 @@ president_with numbers = E.Move (C.President Corp.Prr) (L.Seat a) ∷ shares_to 
 
 -- the book after a command, and after several
 abbrev pub after_act : Book → Act → Book
-after_act book act = book ++ entries_of usual_terms corner book act
+after_act book act = book ++ entries_of corner book act
 
 abbrev pub after_acts : Book → List Act → Book
 after_acts book acts = fold after_act book acts
@@ -112,7 +99,7 @@ sale_of_two = A.Sell a Corp.Prr 2
 -- a sells two PRR: it gets 200, and the price falls to 82
 pub record WorkedSale : Type 0 where
   pub lawful : verdict corner before_sale sale_of_two ≡ None
-  pub entries : entries_of usual_terms corner before_sale sale_of_two ≡ E.Step (M.Act sale_of_two)
+  pub entries : entries_of corner before_sale sale_of_two ≡ E.Step (M.Act sale_of_two)
       ∷ E.Move (C.Share Corp.Prr N.One) L.Pool
       ∷ E.Move (C.Share Corp.Prr N.Two) L.Pool
       ∷ E.Pay P.Bank (P.Seat a) (dollars 200)
@@ -138,7 +125,7 @@ fifth_share = A.BuyShare b Corp.Prr S.Offer
 -- b buys a fifth share and gets the presidency for two of its shares: a keeps 40%, and b has 50%
 pub record WorkedPresidency : Type 0 where
   pub lawful : verdict corner before_presidency fifth_share ≡ None
-  pub entries : entries_of usual_terms corner before_presidency fifth_share ≡ E.Step (M.Act fifth_share)
+  pub entries : entries_of corner before_presidency fifth_share ≡ E.Step (M.Act fifth_share)
       ∷ E.Move (C.Share Corp.Prr N.Seven) (L.Seat b)
       ∷ E.Pay (P.Seat b) P.Bank (dollars 100)
       ∷ E.Move (C.Share Corp.Prr N.Three) (L.Seat a)
@@ -157,7 +144,7 @@ par_of_100 = A.Par a Corp.Prr 100
 -- a sets the PRR's par at 100, which leaves it 380
 pub record WorkedPar : Type 0 where
   pub lawful : verdict corner before_par par_of_100 ≡ None
-  pub entries : entries_of usual_terms corner before_par par_of_100 ≡ E.Step (M.Act par_of_100)
+  pub entries : entries_of corner before_par par_of_100 ≡ E.Step (M.Act par_of_100)
       ∷ E.Mark Corp.Prr (cell_in_row 0)
       ∷ E.Move (C.President Corp.Prr) (L.Seat a)
       ∷ E.Pay (P.Seat a) P.Bank (dollars 200)
@@ -199,13 +186,11 @@ before_end =
     ∷ E.Step (M.Act (A.Done a))
     ∷ []
 
--- b passes too: the round ends, the PRR goes up to 100, the private pays, and the next stock round begins
+-- b passes too: the round ends, the PRR goes up to 100, and an operating round begins
 pub record WorkedEnd : Type 0 where
   pub lawful : verdict corner before_end (A.Done b) ≡ None
-  pub entries : entries_of usual_terms corner before_end (A.Done b) ≡ E.Step (M.Act (A.Done b))
+  pub entries : entries_of corner before_end (A.Done b) ≡ E.Step (M.Act (A.Done b))
       ∷ E.Mark Corp.Prr (cell_in_row 0)
       ∷ E.Step M.Operating
-      ∷ E.Pay P.Bank (P.Seat b) (dollars 5)
-      ∷ E.Step M.Stock
       ∷ []
   pub price : price_of corner (after_act before_end (A.Done b)) Corp.Prr ≡ Some 100

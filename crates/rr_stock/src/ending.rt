@@ -1,128 +1,66 @@
-ghost use Rattle.std.specs.Prelude.{◌≡◌, ◌+◌, ◌≤◌, OnOk, IfErr};
-ghost use Rattle.rr_books.specs.State.{holder_in};
-ghost use Rattle.rr_desk.specs.Effects.{Takes};
-ghost use Rattle.rr_stock.specs.Effects.{ends_if, ends_stock_round, is_sold_out, passes_operating_round, rises, rises_among, rises_if_sold_out};
-ghost use Rattle.rr_stock.specs.Plays.{Plays};
+ghost use Rattle.std.specs.Prelude.{◌≡◌, OnOk, IfErr};
+ghost use Rattle.rr_desk.specs.Desk.{Takes};
+ghost use Rattle.rr_stock.specs.Effects.{ends_if, ends_stock_round, rises, rises_among, rises_if_sold_out};
 
-use crate::fault::Fault;
+use crate::reading::{cell_after_rise, is_sold_out, order};
 use crate::trading::mark_if;
-use rr_books::{Books, Corp, Marker, Place};
+use rr_books::{Corp, Entry, Fault, Marker};
 use rr_chart::Chart;
-use rr_desk::{Desk, pay_incomes};
-use rr_market::Market;
-use rr_roster::Roster;
+use rr_desk::Desk;
 
-/// The stock round ends, if it is to: the tokens of what is sold out go up, the privates pay, and the next stock round
-/// begins.
-pub(crate) fn end_if(
-    ends: bool,
-    desk: &mut Desk,
-    market: &mut Market,
-    chart: &Chart,
-    roster: &Roster,
-) -> Result<(), Fault>
-    requires { desk.old.books.payments + 6 ≤ 400000000 }
+/// The stock round ends, if it is to: the tokens of what is sold out go up, and an operating round begins.
+pub(crate) fn end_if(desk: &mut Desk, chart: &Chart, ends: bool) -> Result<(), Fault>
     ensures fault { IfErr result (λ fault. fault ≡ Fault.OutOfMemory) }
-    ensures plays { OnOk result (Plays (ends_if roster.now chart.now ends) desk.old market.old desk.new market.new) }
-    ensures payments { desk.new.books.payments ≤ desk.old.books.payments + 6 }
-    ensures players { desk.new.books.players ≡ desk.old.books.players }
-    ensures trains { desk.new.books.trains ≡ desk.old.books.trains }
-    ensures counts { desk.new.books.counts ≡ desk.old.books.counts }
+    ensures takes { OnOk result (Takes (ends_if chart.now ends) desk.old desk.new) }
 {
     if !ends {
         return Ok(());
     }
-    end_stock_round(desk, market, chart, roster)?;
+    end_stock_round(desk, chart)?;
     Ok(())
 }
 
-// The stock round ends.
-fn end_stock_round(
-    desk: &mut Desk,
-    market: &mut Market,
-    chart: &Chart,
-    roster: &Roster,
-) -> Result<(), Fault>
-    requires { desk.old.books.payments + 6 ≤ 400000000 }
+// The stock round ends, and an operating round begins.
+#[tactic(auto, unfolding(crate::specs::Effects::ends_stock_round))]
+fn end_stock_round(desk: &mut Desk, chart: &Chart) -> Result<(), Fault>
     ensures fault { IfErr result (λ fault. fault ≡ Fault.OutOfMemory) }
-    ensures plays { OnOk result (Plays (ends_stock_round roster.now chart.now) desk.old market.old desk.new market.new) }
-    ensures payments { desk.new.books.payments ≤ desk.old.books.payments + 6 }
-    ensures players { desk.new.books.players ≡ desk.old.books.players }
-    ensures trains { desk.new.books.trains ≡ desk.old.books.trains }
-    ensures counts { desk.new.books.counts ≡ desk.old.books.counts }
+    ensures takes { OnOk result (Takes (ends_stock_round chart.now) desk.old desk.new) }
 {
-    raise_sold_out(desk, market, chart)?;
-    pass_operating_round(desk, roster)?;
-    Ok(())
-}
-
-// An operating round without a corporation's turn: the privates pay, and the next stock round begins.
-#[tactic(auto, unfolding(crate::specs::Effects::passes_operating_round))]
-fn pass_operating_round(desk: &mut Desk, roster: &Roster) -> Result<(), Fault>
-    requires { desk.old.books.payments + 6 ≤ 400000000 }
-    ensures fault { IfErr result (λ fault. fault ≡ Fault.OutOfMemory) }
-    ensures takes { OnOk result (Takes (passes_operating_round roster.now) desk.old desk.new) }
-    ensures payments { desk.new.books.payments ≤ desk.old.books.payments + 6 }
-    ensures players { desk.new.books.players ≡ desk.old.books.players }
-    ensures trains { desk.new.books.trains ≡ desk.old.books.trains }
-    ensures counts { desk.new.books.counts ≡ desk.old.books.counts }
-{
-    desk.step(Marker::Operating)?;
-    pay_incomes(desk, roster)?;
-    desk.step(Marker::Stock)?;
+    raise_sold_out(desk, chart)?;
+    desk.push(Entry::Step(Marker::Operating))?;
     Ok(())
 }
 
 // The tokens of what is sold out go up a row, in the operating order before any of them does.
-fn raise_sold_out(desk: &mut Desk, market: &mut Market, chart: &Chart) -> Result<(), Fault>
+fn raise_sold_out(desk: &mut Desk, chart: &Chart) -> Result<(), Fault>
     ensures fault { IfErr result (λ fault. fault ≡ Fault.OutOfMemory) }
-    ensures plays { OnOk result (Plays (rises chart.now) desk.old market.old desk.new market.new) }
-    ensures books { desk.new.books ≡ desk.old.books }
+    ensures takes { OnOk result (Takes (rises chart.now) desk.old desk.new) }
 {
-    let order = market.order(chart);
-    raise_among(desk, market, chart, order.as_slice())?;
+    let order = order(desk.position(), chart);
+    raise_among(desk, chart, order.as_slice())?;
     Ok(())
 }
 
 // The tokens of those of the corporations that are sold out go up a row, one after another.
-fn raise_among(
-    desk: &mut Desk,
-    market: &mut Market,
-    chart: &Chart,
-    corps: &[Corp],
-) -> Result<(), Fault>
+fn raise_among(desk: &mut Desk, chart: &Chart, corps: &[Corp]) -> Result<(), Fault>
     ensures fault { IfErr result (λ fault. fault ≡ Fault.OutOfMemory) }
-    ensures plays { OnOk result (Plays (rises_among chart.now corps.now) desk.old market.old desk.new market.new) }
-    ensures books { desk.new.books ≡ desk.old.books }
+    ensures takes { OnOk result (Takes (rises_among chart.now corps.now) desk.old desk.new) }
 {
     for corp in corps {
-        raise_if_sold_out(desk, market, chart, *corp)?;
+        raise_if_sold_out(desk, chart, *corp)?;
     }
     Ok(())
 }
 
 // The corporation's token goes up a row, if it is sold out.
-fn raise_if_sold_out(
-    desk: &mut Desk,
-    market: &mut Market,
-    chart: &Chart,
-    corp: Corp,
-) -> Result<(), Fault>
+fn raise_if_sold_out(desk: &mut Desk, chart: &Chart, corp: Corp) -> Result<(), Fault>
     ensures fault { IfErr result (λ fault. fault ≡ Fault.OutOfMemory) }
-    ensures plays { OnOk result (Plays (rises_if_sold_out chart.now corp) desk.old market.old desk.new market.new) }
-    ensures books { desk.new.books ≡ desk.old.books }
+    ensures takes { OnOk result (Takes (rises_if_sold_out chart.now corp) desk.old desk.new) }
 {
-    if !is_sold_out(desk.books(), corp) {
+    if !is_sold_out(desk.position(), corp) {
         return Ok(());
     }
-    let cell = market.soldout(chart, corp);
+    let cell = cell_after_rise(desk.position(), chart, corp);
     mark_if(desk, corp, cell)?;
     Ok(())
-}
-
-// Whether neither the offer nor the pool has a share of the corporation.
-fn is_sold_out(books: &Books, corp: Corp) -> bool
-    ensures { result ≡ is_sold_out (holder_in books.now) corp }
-{
-    books.share(Place::Offer, corp) == 0 && books.share(Place::Pool, corp) == 0
 }

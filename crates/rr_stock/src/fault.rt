@@ -1,16 +1,11 @@
 ghost use Rattle.std.specs.Prelude.{◌≡◌};
-ghost use Rattle.rr_stock.specs.Fault.{number_of, of_books, of_holdings};
-ghost use Rattle.rr_stock.specs.declared.fault.Fault.TheVariants.{OutOfMemory};
+ghost use Rattle.rr_stock.specs.Fault.{number_of, of_holdings};
 
-use std::alloc::{AllocError, AllocFailed};
 use thiserror::Error;
 
 /// Why a stock round refuses a command.
 #[derive(Clone, Copy, Debug, Drop, PartialEq, Eq, Error)]
 pub enum Fault {
-    /// A seat that the table doesn't have.
-    #[error("no such name")]
-    NoSuchName,
     /// The seat has less than the price.
     #[error("too little cash")]
     TooLittleCash,
@@ -47,9 +42,6 @@ pub enum Fault {
     /// No stock round is under way, or it takes no such command.
     #[error("wrong step")]
     WrongStep,
-    /// A request for memory was refused.
-    #[error("out of memory")]
-    OutOfMemory,
 }
 
 impl Fault {
@@ -58,7 +50,6 @@ impl Fault {
         ensures { result ≡ number_of self.now }
     {
         match self {
-            Fault::NoSuchName => 1,
             Fault::TooLittleCash => 2,
             Fault::NotYourTurn => 20,
             Fault::NotForSale => 22,
@@ -71,19 +62,6 @@ impl Fault {
             Fault::MustSellFirst => 30,
             Fault::NotAPar => 31,
             Fault::WrongStep => 42,
-            Fault::OutOfMemory => 70,
-        }
-    }
-}
-
-impl From<rr_books::Fault> for Fault {
-    ghost from_gives = { λ fault wrapped. wrapped ≡ of_books fault };
-
-    fn from(fault: rr_books::Fault) -> Fault {
-        match fault {
-            rr_books::Fault::NoSuchName => Fault::NoSuchName,
-            rr_books::Fault::TooLittleCash => Fault::TooLittleCash,
-            rr_books::Fault::OutOfMemory => Fault::OutOfMemory,
         }
     }
 }
@@ -97,21 +75,5 @@ impl From<rr_holdings::Fault> for Fault {
             rr_holdings::Fault::FirstStockRound => Fault::FirstStockRound,
             rr_holdings::Fault::PoolOverHalf => Fault::PoolOverHalf,
         }
-    }
-}
-
-impl From<AllocError> for Fault {
-    ghost from_gives = { λ _ fault. fault ≡ OutOfMemory };
-
-    fn from(_error: AllocError) -> Fault {
-        Fault::OutOfMemory
-    }
-}
-
-impl<T: Drop> From<AllocFailed<T>> for Fault {
-    ghost from_gives = { λ _ fault. fault ≡ OutOfMemory };
-
-    fn from(_error: AllocFailed<T>) -> Fault {
-        Fault::OutOfMemory
     }
 }

@@ -1,20 +1,22 @@
-ghost use Rattle.std.specs.Prelude.{◌≡◌, ◌*◌, ◌==◌, ◌&&◌, ◌≤◌, ◌≤ℤ◌, int_lt, is_some, pos, None, Some, OnOk, IfOk, IfSome, MatchResult, true, unwrap_or};
+ghost use Rattle.std.specs.Prelude.{◌≡◌, ◌<◌, ◌≤◌, ◌&&◌, int_lt, is_some, pos, None, Some, OnOk, IfSome, OnSome, MatchResult};
 ghost use Rattle.rr_books.specs.Book.{Book};
-ghost use Rattle.rr_books.specs.Shares.{is_at};
-ghost use Rattle.rr_books.specs.State.{IsStateOf, cash_of, holder_in};
-ghost use Rattle.rr_desk.specs.Effects.{lowest_share};
-ghost use Rattle.rr_market.specs.Marks.{zone_at, price_at};
+ghost use Rattle.rr_books.specs.State.{cash_of, holder_in};
+ghost use Rattle.rr_market.specs.Marks.{price_at, zone_at};
 ghost use Rattle.rr_market.specs.Moves.{is_par};
-ghost use Rattle.rr_market.specs.State.{IsMarketOf, cell_in, first_in};
-ghost use Rattle.rr_rounds.specs.Round.{IsRoundOf};
+ghost use Rattle.rr_market.specs.State.{cell_in, first_in};
+ghost use Rattle.rr_position.specs.Position.{IsPositionOf};
+ghost use Rattle.rr_rounds.specs.Round.{may_buy_again};
+ghost use Rattle.rr_stock.specs.Rules.{done_verdict, has_share, is_brown, is_purchase, must_sell, par_verdict, purchase_verdict, sale_verdict, swap_verdict, turn_verdict, verdict, verdict_in};
 ghost use Rattle.rr_stock.specs.Situation.{situation_in};
-ghost use Rattle.rr_stock.specs.Rules.{done_verdict, has_share, is_brown, is_purchase, must_sell, par_verdict, place_of_source, price_by_source, purchase_verdict, sale_verdict, swap_verdict, turn_verdict, verdict, verdict_in};
+ghost use Rattle.rr_stock.specs.Small.{HasSeat, HasSmallNumbers};
 
 use crate::fault::Fault;
-use rr_books::{Act, Books, Cert, Corp, Party, Place, Private, Seat, ShareNumber, ShareSource};
+use crate::reading::{place_of_source, share_price};
+use rr_books::{Act, Books, Cert, Corp, Party, Place, Private, Seat, ShareSource};
 use rr_chart::{Chart, Zone};
 use rr_holdings::{judge_sell, must_sell_first, would_be_over_certificates, would_be_over_sixty};
 use rr_market::{Market, par_cell};
+use rr_desk::{Position, lowest_share};
 use rr_rounds::{Purchases, Rounds};
 
 /// Whether a stock round takes the command now.
@@ -34,163 +36,131 @@ use rr_rounds::{Purchases, Rounds};
 /// - `sell`: `FirstStockRound`, `NotForSale`, `PoolOverHalf`.
 /// - `swap`: `NotForSale` where the seat doesn't hold the M&H or no 10% certificate of the NYC is there; `OverSixty`.
 /// - `done`: `MustSellFirst`.
-pub fn judge(
-    books: &Books,
-    market: &Market,
-    rounds: &Rounds,
-    chart: &Chart,
-    act: &Act,
-) -> Result<(), Fault>
-    ensures shown { MatchResult result
-        (λ _. verdict_in chart.now (situation_in chart.now books.now market.now rounds.now) act.now ≡ None)
-        (λ fault. verdict_in chart.now (situation_in chart.now books.now market.now rounds.now) act.now ≡ Some fault) }
-    ensures book { (book : Book) → IsStateOf book books.now → IsMarketOf book market.now → IsRoundOf book rounds.now → MatchResult result
+pub fn judge(chart: &Chart, position: &Position, act: &Act) -> Result<(), Fault>
+    ensures verdict { (book : Book) → IsPositionOf book position.now → MatchResult result
         (λ _. verdict chart.now book act.now ≡ None)
         (λ fault. verdict chart.now book act.now ≡ Some fault) }
+    ensures seated { (book : Book) → IsPositionOf book position.now → OnOk result (HasSeat act.now) }
+    ensures small { OnOk result (HasSmallNumbers act.now) }
 {
-    judge_act(books, market, rounds, chart, act)
+    judge_act(position, chart, act)
 }
 
-// Whether a stock round takes the command, by the running tables.
-fn judge_act(
-    books: &Books,
-    market: &Market,
-    rounds: &Rounds,
-    chart: &Chart,
-    act: &Act,
-) -> Result<(), Fault>
-    ensures { MatchResult result
-        (λ _. verdict_in chart.now (situation_in chart.now books.now market.now rounds.now) act.now ≡ None)
-        (λ fault. verdict_in chart.now (situation_in chart.now books.now market.now rounds.now) act.now ≡ Some fault) }
+// Whether a stock round takes the command, by what runs along with the book.
+fn judge_act(position: &Position, chart: &Chart, act: &Act) -> Result<(), Fault>
+    ensures verdict { MatchResult result
+        (λ _. verdict_in chart.now (situation_in chart.now position.now) act.now ≡ None)
+        (λ fault. verdict_in chart.now (situation_in chart.now position.now) act.now ≡ Some fault) }
+    ensures seated { (book : Book) → IsPositionOf book position.now → OnOk result (HasSeat act.now) }
+    ensures small { OnOk result (HasSmallNumbers act.now) }
 {
     match act {
-        Act::Par { seat, corp, price } => {
-            judge_par(books, market, rounds, chart, *seat, *corp, *price)?;
-            Ok(())
-        }
+        Act::Par { seat, corp, price } => judge_par(position, chart, *seat, *corp, *price),
         Act::BuyShare { seat, corp, source } => {
-            judge_purchase(books, market, rounds, chart, *seat, *corp, *source)
+            judge_purchase(position, chart, *seat, *corp, *source)
         }
-        Act::Sell { seat, corp, count } => {
-            judge_sale(books, market, rounds, chart, *seat, *corp, *count)
-        }
-        Act::Swap { seat, source } => judge_swap(books, market, rounds, chart, *seat, *source),
-        Act::Done { seat } => judge_done(books, market, rounds, chart, *seat),
+        Act::Sell { seat, corp, count } => judge_sale(position, chart, *seat, *corp, *count),
+        Act::Swap { seat, source } => judge_swap(position, chart, *seat, *source),
+        Act::Done { seat } => judge_done(position, chart, *seat),
         _ => Err(Fault::WrongStep),
     }
 }
 
-// The par that the seat may set now, from 1 to 999.
-pub(crate) fn judge_par(
-    books: &Books,
-    market: &Market,
-    rounds: &Rounds,
+// Whether the seat may set the par now.
+fn judge_par(
+    position: &Position,
     chart: &Chart,
     seat: Seat,
     corp: Corp,
     price: u64,
-) -> Result<u16, Fault>
+) -> Result<(), Fault>
     ensures verdict { MatchResult result
-        (λ _. verdict_in chart.now (situation_in chart.now books.now market.now rounds.now) (Act.Par seat corp price) ≡ None)
-        (λ fault. verdict_in chart.now (situation_in chart.now books.now market.now rounds.now) (Act.Par seat corp price) ≡ Some fault) }
-    ensures turn { OnOk result (seat ≡ rounds.now.turn) }
-    ensures same { IfOk result (λ par. par ≡ price) }
-    ensures par { OnOk result (is_par chart.now price ≡ true) }
-    ensures enough { OnOk result (pos (2 * price) ≤ℤ cash_of books.now (Party.Seat seat)) }
+        (λ _. verdict_in chart.now (situation_in chart.now position.now) (Act.Par seat corp price) ≡ None)
+        (λ fault. verdict_in chart.now (situation_in chart.now position.now) (Act.Par seat corp price) ≡ Some fault) }
+    ensures seated { (book : Book) → IsPositionOf book position.now → OnOk result (seat.0 < 6) }
+    ensures small { OnOk result (price ≤ 999) }
 {
-    judge_turn(rounds, seat)?;
-    let par = judge_par_rules(books, market, rounds, chart, seat, corp, price)?;
-    Ok(par)
+    judge_turn(position, seat)?;
+    judge_par_rules(position, chart, seat, corp, price)?;
+    Ok(())
 }
 
 // Whether the seat may buy a 10% certificate of the corporation now.
-pub(crate) fn judge_purchase(
-    books: &Books,
-    market: &Market,
-    rounds: &Rounds,
+fn judge_purchase(
+    position: &Position,
     chart: &Chart,
     seat: Seat,
     corp: Corp,
     source: ShareSource,
 ) -> Result<(), Fault>
     ensures verdict { MatchResult result
-        (λ _. verdict_in chart.now (situation_in chart.now books.now market.now rounds.now) (Act.BuyShare seat corp source) ≡ None)
-        (λ fault. verdict_in chart.now (situation_in chart.now books.now market.now rounds.now) (Act.BuyShare seat corp source) ≡ Some fault) }
-    ensures turn { OnOk result (seat ≡ rounds.now.turn) }
-    ensures enough { OnOk result (pos (price_by_source (price_at chart.now (first_in market.now corp)) (price_at chart.now (cell_in market.now corp)) source) ≤ℤ cash_of books.now (Party.Seat seat)) }
+        (λ _. verdict_in chart.now (situation_in chart.now position.now) (Act.BuyShare seat corp source) ≡ None)
+        (λ fault. verdict_in chart.now (situation_in chart.now position.now) (Act.BuyShare seat corp source) ≡ Some fault) }
+    ensures seated { (book : Book) → IsPositionOf book position.now → OnOk result (seat.0 < 6) }
 {
-    judge_turn(rounds, seat)?;
-    judge_purchase_rules(books, market, rounds, chart, seat, corp, source)?;
+    judge_turn(position, seat)?;
+    judge_purchase_rules(position, chart, seat, corp, source)?;
     Ok(())
 }
 
 // Whether the seat may sell so many 10% shares of the corporation now.
-pub(crate) fn judge_sale(
-    books: &Books,
-    market: &Market,
-    rounds: &Rounds,
+fn judge_sale(
+    position: &Position,
     chart: &Chart,
     seat: Seat,
     corp: Corp,
     count: u64,
 ) -> Result<(), Fault>
     ensures verdict { MatchResult result
-        (λ _. verdict_in chart.now (situation_in chart.now books.now market.now rounds.now) (Act.Sell seat corp count) ≡ None)
-        (λ fault. verdict_in chart.now (situation_in chart.now books.now market.now rounds.now) (Act.Sell seat corp count) ≡ Some fault) }
-    ensures turn { OnOk result (seat ≡ rounds.now.turn) }
-    ensures bounds { OnOk result ((1 ≤ count) × (count ≤ 5)) }
+        (λ _. verdict_in chart.now (situation_in chart.now position.now) (Act.Sell seat corp count) ≡ None)
+        (λ fault. verdict_in chart.now (situation_in chart.now position.now) (Act.Sell seat corp count) ≡ Some fault) }
+    ensures seated { (book : Book) → IsPositionOf book position.now → OnOk result (seat.0 < 6) }
+    ensures small { OnOk result (count ≤ 10) }
 {
-    judge_turn(rounds, seat)?;
-    judge_sale_rules(books, market, rounds, chart, seat, corp, count)?;
+    judge_turn(position, seat)?;
+    judge_sale_rules(position, chart, seat, corp, count)?;
     Ok(())
 }
 
 // Whether the seat may change the M&H for a 10% certificate of the NYC now.
-pub(crate) fn judge_swap(
-    books: &Books,
-    market: &Market,
-    rounds: &Rounds,
+fn judge_swap(
+    position: &Position,
     chart: &Chart,
     seat: Seat,
     source: ShareSource,
 ) -> Result<(), Fault>
     ensures verdict { MatchResult result
-        (λ _. verdict_in chart.now (situation_in chart.now books.now market.now rounds.now) (Act.Swap seat source) ≡ None)
-        (λ fault. verdict_in chart.now (situation_in chart.now books.now market.now rounds.now) (Act.Swap seat source) ≡ Some fault) }
-    ensures turn { OnOk result (seat ≡ rounds.now.turn) }
+        (λ _. verdict_in chart.now (situation_in chart.now position.now) (Act.Swap seat source) ≡ None)
+        (λ fault. verdict_in chart.now (situation_in chart.now position.now) (Act.Swap seat source) ≡ Some fault) }
+    ensures seated { (book : Book) → IsPositionOf book position.now → OnOk result (seat.0 < 6) }
 {
-    judge_turn(rounds, seat)?;
-    judge_swap_rules(books, market, rounds, chart, seat, source)?;
+    judge_turn(position, seat)?;
+    judge_swap_rules(position, chart, seat, source)?;
     Ok(())
 }
 
 // Whether the seat may end its turn now.
-pub(crate) fn judge_done(
-    books: &Books,
-    market: &Market,
-    rounds: &Rounds,
-    chart: &Chart,
-    seat: Seat,
-) -> Result<(), Fault>
+fn judge_done(position: &Position, chart: &Chart, seat: Seat) -> Result<(), Fault>
     ensures verdict { MatchResult result
-        (λ _. verdict_in chart.now (situation_in chart.now books.now market.now rounds.now) (Act.Done seat) ≡ None)
-        (λ fault. verdict_in chart.now (situation_in chart.now books.now market.now rounds.now) (Act.Done seat) ≡ Some fault) }
-    ensures turn { OnOk result (seat ≡ rounds.now.turn) }
+        (λ _. verdict_in chart.now (situation_in chart.now position.now) (Act.Done seat) ≡ None)
+        (λ fault. verdict_in chart.now (situation_in chart.now position.now) (Act.Done seat) ≡ Some fault) }
+    ensures seated { (book : Book) → IsPositionOf book position.now → OnOk result (seat.0 < 6) }
 {
-    judge_turn(rounds, seat)?;
-    judge_done_rules(books, market, rounds, chart, seat)?;
+    judge_turn(position, seat)?;
+    judge_done_rules(position, chart, seat)?;
     Ok(())
 }
 
 // Whether the seat may act in a stock round now.
 #[tactic(auto, unfolding(crate::specs::Rules::turn_verdict))]
-fn judge_turn(rounds: &Rounds, seat: Seat) -> Result<(), Fault>
+fn judge_turn(position: &Position, seat: Seat) -> Result<(), Fault>
     ensures verdict { MatchResult result
-        (λ _. turn_verdict rounds.now seat ≡ None)
-        (λ fault. turn_verdict rounds.now seat ≡ Some fault) }
-    ensures way { OnOk result (rounds.now.under_way ≡ true) }
-    ensures turn { OnOk result (seat ≡ rounds.now.turn) }
+        (λ _. turn_verdict position.now.rounds seat ≡ None)
+        (λ fault. turn_verdict position.now.rounds seat ≡ Some fault) }
+    ensures seated { (book : Book) → IsPositionOf book position.now → OnOk result (seat.0 < 6) }
 {
+    let rounds = position.rounds();
+    let _players = position.books().players();
     if !rounds.is_under_way() {
         return Err(Fault::WrongStep);
     }
@@ -200,133 +170,123 @@ fn judge_turn(rounds: &Rounds, seat: Seat) -> Result<(), Fault>
     Ok(())
 }
 
-// The par that the seat may set, in its turn.
+// Whether the seat may set the par, in its turn.
 #[tactic(auto, unfolding(crate::specs::Rules::par_verdict))]
 fn judge_par_rules(
-    books: &Books,
-    market: &Market,
-    rounds: &Rounds,
+    position: &Position,
     chart: &Chart,
     seat: Seat,
     corp: Corp,
     price: u64,
-) -> Result<u16, Fault>
+) -> Result<(), Fault>
     ensures verdict { MatchResult result
-        (λ _. par_verdict chart.now (situation_in chart.now books.now market.now rounds.now) seat corp price ≡ None)
-        (λ fault. par_verdict chart.now (situation_in chart.now books.now market.now rounds.now) seat corp price ≡ Some fault) }
-    ensures same { IfOk result (λ par. par ≡ price) }
-    ensures par { OnOk result (is_par chart.now price ≡ true) }
-    ensures enough { OnOk result (pos (2 * price) ≤ℤ cash_of books.now (Party.Seat seat)) }
+        (λ _. par_verdict chart.now (situation_in chart.now position.now) seat corp price ≡ None)
+        (λ fault. par_verdict chart.now (situation_in chart.now position.now) seat corp price ≡ Some fault) }
+    ensures small { OnOk result (price ≤ 999) }
 {
-    if must_sell(books, market, rounds, chart, seat) {
+    if must_sell(position, chart, seat) {
         return Err(Fault::MustSellFirst);
     }
-    if books.holder(Cert::President(corp)) != Place::Offer {
+    if position.books().holder(Cert::President(corp)) != Place::Offer {
         return Err(Fault::NotForSale);
     }
     let Some(par) = par_on_chart(chart, price) else {
         return Err(Fault::NotAPar);
     };
-    if has_bought(rounds) {
+    if has_bought(position.rounds()) {
         return Err(Fault::SecondPurchase);
     }
-    if would_be_over_certificates(books, market, chart, seat, corp) {
+    if would_be_over_certificates(position, chart, seat, corp) {
         return Err(Fault::CertificateLimit);
     }
-    if would_be_over_sixty(books, market, chart, seat, corp, 20) {
+    if would_be_over_sixty(position, chart, seat, corp, 20) {
         return Err(Fault::OverSixty);
     }
-    if is_short(books, seat, 2 * u32::from(par)) {
+    if is_short(position.books(), seat, 2 * u32::from(par)) {
         return Err(Fault::TooLittleCash);
     }
-    Ok(par)
+    Ok(())
 }
 
-// Whether the seat may buy a 10% certificate of the corporation.
+// Whether the seat may buy a 10% certificate of the corporation, in its turn.
 #[tactic(auto, unfolding(crate::specs::Rules::purchase_verdict))]
 fn judge_purchase_rules(
-    books: &Books,
-    market: &Market,
-    rounds: &Rounds,
+    position: &Position,
     chart: &Chart,
     seat: Seat,
     corp: Corp,
     source: ShareSource,
 ) -> Result<(), Fault>
-    ensures verdict { MatchResult result
-        (λ _. purchase_verdict (situation_in chart.now books.now market.now rounds.now) seat corp source ≡ None)
-        (λ fault. purchase_verdict (situation_in chart.now books.now market.now rounds.now) seat corp source ≡ Some fault) }
-    ensures enough { OnOk result (pos (price_by_source (price_at chart.now (first_in market.now corp)) (price_at chart.now (cell_in market.now corp)) source) ≤ℤ cash_of books.now (Party.Seat seat)) }
+    ensures { MatchResult result
+        (λ _. purchase_verdict (situation_in chart.now position.now) seat corp source ≡ None)
+        (λ fault. purchase_verdict (situation_in chart.now position.now) seat corp source ≡ Some fault) }
 {
-    if must_sell(books, market, rounds, chart, seat) {
+    if must_sell(position, chart, seat) {
         return Err(Fault::MustSellFirst);
     }
-    if !is_for_sale(books, market, chart, corp, source) {
+    if !is_for_sale(position, chart, corp, source) {
         return Err(Fault::NotForSale);
     }
-    if !rounds.may_buy_again(corp, source, is_brown(market, chart, corp)) {
+    if !may_buy_again(position, chart, corp, source) {
         return Err(Fault::SecondPurchase);
     }
-    if rounds.has_sold(seat, corp) {
+    if position.rounds().has_sold(seat, corp) {
         return Err(Fault::SoldThisRound);
     }
-    if would_be_over_certificates(books, market, chart, seat, corp) {
+    if would_be_over_certificates(position, chart, seat, corp) {
         return Err(Fault::CertificateLimit);
     }
-    if would_be_over_sixty(books, market, chart, seat, corp, 10) {
+    if would_be_over_sixty(position, chart, seat, corp, 10) {
         return Err(Fault::OverSixty);
     }
     if is_short(
-        books,
+        position.books(),
         seat,
-        u32::from(share_price(market, chart, corp, source)),
+        share_price(position, chart, corp, source),
     ) {
         return Err(Fault::TooLittleCash);
     }
     Ok(())
 }
 
-// Whether the seat may sell so many 10% shares of the corporation.
+// Whether the seat may sell so many 10% shares of the corporation, in its turn.
 #[tactic(auto, unfolding(crate::specs::Rules::sale_verdict))]
 fn judge_sale_rules(
-    books: &Books,
-    market: &Market,
-    rounds: &Rounds,
+    position: &Position,
     chart: &Chart,
     seat: Seat,
     corp: Corp,
     count: u64,
 ) -> Result<(), Fault>
     ensures verdict { MatchResult result
-        (λ _. sale_verdict (situation_in chart.now books.now market.now rounds.now) seat corp count ≡ None)
-        (λ fault. sale_verdict (situation_in chart.now books.now market.now rounds.now) seat corp count ≡ Some fault) }
-    ensures bounds { OnOk result ((1 ≤ count) × (count ≤ 5)) }
+        (λ _. sale_verdict (situation_in chart.now position.now) seat corp count ≡ None)
+        (λ fault. sale_verdict (situation_in chart.now position.now) seat corp count ≡ Some fault) }
+    ensures small { OnOk result (count ≤ 10) }
 {
-    judge_sell(books, market, chart, rounds.is_first(), seat, corp, count)?;
+    judge_sell(position, chart, seat, corp, count)?;
     Ok(())
 }
 
-// Whether the seat may change the M&H for a 10% certificate of the NYC.
+// Whether the seat may change the M&H for a 10% certificate of the NYC, in its turn.
 #[tactic(auto, unfolding(crate::specs::Rules::swap_verdict))]
 fn judge_swap_rules(
-    books: &Books,
-    market: &Market,
-    rounds: &Rounds,
+    position: &Position,
     chart: &Chart,
     seat: Seat,
     source: ShareSource,
 ) -> Result<(), Fault>
     ensures { MatchResult result
-        (λ _. swap_verdict (situation_in chart.now books.now market.now rounds.now) seat source ≡ None)
-        (λ fault. swap_verdict (situation_in chart.now books.now market.now rounds.now) seat source ≡ Some fault) }
+        (λ _. swap_verdict (situation_in chart.now position.now) seat source ≡ None)
+        (λ fault. swap_verdict (situation_in chart.now position.now) seat source ≡ Some fault) }
 {
+    let books = position.books();
     if books.holder(Cert::Private(Private::Mh)) != Place::Seat(seat) {
         return Err(Fault::NotForSale);
     }
     if !has_share(books, Corp::Nyc, source) {
         return Err(Fault::NotForSale);
     }
-    if would_be_over_sixty(books, market, chart, seat, Corp::Nyc, 10) {
+    if would_be_over_sixty(position, chart, seat, Corp::Nyc, 10) {
         return Err(Fault::OverSixty);
     }
     Ok(())
@@ -334,28 +294,22 @@ fn judge_swap_rules(
 
 // Whether the seat may end its turn.
 #[tactic(auto, unfolding(crate::specs::Rules::done_verdict))]
-fn judge_done_rules(
-    books: &Books,
-    market: &Market,
-    rounds: &Rounds,
-    chart: &Chart,
-    seat: Seat,
-) -> Result<(), Fault>
+fn judge_done_rules(position: &Position, chart: &Chart, seat: Seat) -> Result<(), Fault>
     ensures { MatchResult result
-        (λ _. done_verdict (situation_in chart.now books.now market.now rounds.now) seat ≡ None)
-        (λ fault. done_verdict (situation_in chart.now books.now market.now rounds.now) seat ≡ Some fault) }
+        (λ _. done_verdict (situation_in chart.now position.now) seat ≡ None)
+        (λ fault. done_verdict (situation_in chart.now position.now) seat ≡ Some fault) }
 {
-    if must_sell(books, market, rounds, chart, seat) {
+    if must_sell(position, chart, seat) {
         return Err(Fault::MustSellFirst);
     }
     Ok(())
 }
 
 // Whether the seat holds too much and may only sell or swap.
-fn must_sell(books: &Books, market: &Market, rounds: &Rounds, chart: &Chart, seat: Seat) -> bool
-    ensures { result ≡ must_sell (situation_in chart.now books.now market.now rounds.now) seat }
+fn must_sell(position: &Position, chart: &Chart, seat: Seat) -> bool
+    ensures { result ≡ must_sell (situation_in chart.now position.now) seat }
 {
-    must_sell_first(books, market, chart, rounds.is_first(), seat)
+    must_sell_first(position, chart, seat)
 }
 
 // Whether something was bought in the turn under way.
@@ -366,6 +320,14 @@ fn has_bought(rounds: &Rounds) -> bool
         Purchases::Nothing => false,
         _ => true,
     }
+}
+
+// Whether one purchase a turn leaves room for this one.
+fn may_buy_again(position: &Position, chart: &Chart, corp: Corp, source: ShareSource) -> bool
+    ensures { result ≡ may_buy_again (is_brown (zone_at chart.now (cell_in position.now.market corp))) source corp position.now.rounds }
+{
+    let in_brown = is_brown(position.market(), chart, corp);
+    position.rounds().may_buy_again(corp, source, in_brown)
 }
 
 // Whether the seat has less than the amount.
@@ -379,22 +341,17 @@ fn is_short(books: &Books, seat: Seat, amount: u32) -> bool
 fn par_on_chart(chart: &Chart, price: u64) -> Option<u16>
     ensures there { is_some result ≡ is_par chart.now price }
     ensures same { IfSome result (λ par. par ≡ price) }
+    ensures small { OnSome result (price ≤ 999) }
 {
     let _cell = par_cell(chart, price)?;
     Some(price as u16)
 }
 
 // Whether a 10% certificate of the corporation is there, and the corporation has a par.
-fn is_for_sale(
-    books: &Books,
-    market: &Market,
-    chart: &Chart,
-    corp: Corp,
-    source: ShareSource,
-) -> bool
-    ensures { result ≡ has_share (holder_in books.now) corp source && is_some (price_at chart.now (first_in market.now corp)) }
+fn is_for_sale(position: &Position, chart: &Chart, corp: Corp, source: ShareSource) -> bool
+    ensures { result ≡ has_share (holder_in position.now.books) corp source && is_some (price_at chart.now (first_in position.now.market corp)) }
 {
-    has_share(books, corp, source) && market.par(chart, corp).is_some()
+    has_share(position.books(), corp, source) && position.market().par(chart, corp).is_some()
 }
 
 // Whether a 10% certificate of the corporation is there.
@@ -404,59 +361,9 @@ fn has_share(books: &Books, corp: Corp, source: ShareSource) -> bool
     lowest_share(books, corp, place_of_source(source)).is_some()
 }
 
-// The lowest of the corporation's 10% certificates that are at the place.
-fn lowest_share(books: &Books, corp: Corp, place: Place) -> Option<Cert>
-    ensures { result ≡ lowest_share (holder_in books.now) corp place }
-{
-    ShareNumber::ALL
-        .iter()
-        .map(|number| Cert::Share(corp, *number))
-        .find(|cert| is_at(books, *cert, place))
-}
-
-// Whether the certificate is at the place.
-fn is_at(books: &Books, cert: Cert, place: Place) -> bool
-    ensures { result ≡ is_at (holder_in books.now cert) place }
-{
-    books.holder(cert) == place
-}
-
-/// Where the shares of a source are.
-pub(crate) fn place_of_source(source: ShareSource) -> Place
-    ensures { result ≡ place_of_source source }
-{
-    match source {
-        ShareSource::Offer => Place::Offer,
-        ShareSource::Pool => Place::Pool,
-    }
-}
-
 // Whether the corporation stands in brown.
 fn is_brown(market: &Market, chart: &Chart, corp: Corp) -> bool
     ensures { result ≡ is_brown (zone_at chart.now (cell_in market.now corp)) }
 {
     matches!(market.zone(chart, corp), Some(Zone::Brown))
-}
-
-/// What a share costs, at most 999: the par from the offer, the market price from the pool.
-pub(crate) fn share_price(market: &Market, chart: &Chart, corp: Corp, source: ShareSource) -> u16
-    ensures value { result ≡ price_by_source (price_at chart.now (first_in market.now corp)) (price_at chart.now (cell_in market.now corp)) source }
-    ensures bound { result ≤ 999 }
-{
-    match source {
-        ShareSource::Offer => price_or_nothing(market.par(chart, corp)),
-        ShareSource::Pool => price_or_nothing(market.price(chart, corp)),
-    }
-}
-
-/// A price, or 0 where there is none.
-pub(crate) fn price_or_nothing(price: Option<u16>) -> u16
-    requires { IfSome price (λ n. n ≤ 999) }
-    ensures value { result ≡ unwrap_or price 0 }
-    ensures bound { result ≤ 999 }
-{
-    match price {
-        Some(dollars) => dollars,
-        None => 0,
-    }
 }

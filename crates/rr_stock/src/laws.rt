@@ -5,7 +5,7 @@ ghost use Rattle.rr_stock.specs.TurnCounts.{OneTurnAtMost};
 ghost use Rattle.rr_stock.specs.WorkedLimits.{WorkedMustSell, WorkedSecondPurchase, WorkedSixty, WorkedSuccession};
 ghost use Rattle.rr_stock.specs.WorkedRounds.{WorkedEnd, WorkedFloat, WorkedPar, WorkedPresidency, WorkedSale};
 
-/// Whatever the book and the command, its entries end at most one turn and begin at most one stock round.
+/// Whatever the book and the command, its entries end at most one turn and begin no stock round.
 pub fn one_turn_at_most()
     ensures { OneTurnAtMost }
 {}
@@ -43,7 +43,7 @@ pub fn worked_float()
     ensures { WorkedFloat }
 {}
 
-/// As all seats have passed in a row, what is sold out goes up, the privates pay, and the next stock round begins.
+/// As all seats have passed in a row, what is sold out goes up, and an operating round begins.
 pub fn worked_end()
     ensures { WorkedEnd }
 {}

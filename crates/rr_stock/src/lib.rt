@@ -5,11 +5,13 @@ mod ending;
 mod fault;
 mod judging;
 pub mod laws;
+mod playing;
+mod reading;
 mod rows;
 mod trading;
 mod waiting;
 
 pub use fault::Fault;
 pub use judging::judge;
-pub use rows::step;
+pub use playing::play;
 pub use waiting::due;

@@ -1,44 +1,57 @@
-ghost use Rattle.std.specs.Prelude.{◌≡◌, ◌+◌, ◌*◌, ◌<◌, ◌≤◌, ◌≤ℤ◌, pos, true, OnOk, IfErr, MatchOption};
-ghost use Rattle.rr_books.specs.State.{cash_of};
-ghost use Rattle.rr_desk.specs.Effects.{Takes, adds};
-ghost use Rattle.rr_market.specs.Moves.{is_par, par_marks, sale_marks};
-ghost use Rattle.rr_stock.specs.Effects.{gets_share, gives_up_private, marks, pays_bank, pays_seller, settles_corporation, takes_presidency};
+ghost use Rattle.std.specs.Prelude.{◌≡◌, ◌*◌, ◌<◌, ◌≤ℤ◌, pos, OnOk, IfErr};
+ghost use Rattle.rr_desk.specs.Effects.{adds};
 ghost use Rattle.rr_desk.specs.Incomes.{dollars};
-ghost use Rattle.rr_stock.specs.Plays.{Plays};
+ghost use Rattle.rr_market.specs.Moves.{par_marks, sale_marks};
+ghost use Rattle.rr_desk.specs.Desk.{Takes};
+ghost use Rattle.rr_stock.specs.Effects.{gets_share, gives_up_private, marks, pays_bank, settles_corporation, takes_presidency};
 
-use crate::fault::Fault;
-use crate::judging::place_of_source;
-use rr_books::{Cell, Cert, Corp, Entry, Money, Party, Place, Private, Seat, ShareSource};
+use crate::reading::{cell_after_sale, place_of_source};
+use rr_books::{Cell, Cert, Corp, Entry, Fault, Money, Party, Place, Private, Seat, ShareSource};
 use rr_chart::Chart;
-use rr_desk::Desk;
-use rr_market::Market;
+use rr_market::par_cell;
+use rr_desk::{Desk, give_lowest_share};
 use rr_shares::{float_if_due, settle_presidency};
 
 /// The seat gets the corporation's 20% certificate for twice the par, at which the token is put on the chart.
+#[tactic(auto, unfolding(crate::specs::Effects::takes_presidency))]
 pub(crate) fn take_presidency(
     desk: &mut Desk,
-    market: &mut Market,
     chart: &Chart,
     seat: Seat,
     corp: Corp,
     par: u16,
 ) -> Result<(), Fault>
-    requires room { desk.old.books.payments < 400000000 }
-    requires seated { seat.0 < desk.old.books.players }
-    requires par { is_par chart.now par ≡ true }
-    requires enough { pos (2 * par) ≤ℤ cash_of desk.old.books (Party.Seat seat) }
+    requires { seat.0 < 6 }
     ensures fault { IfErr result (λ fault. fault ≡ Fault.OutOfMemory) }
-    ensures plays { OnOk result (Plays (takes_presidency chart.now seat corp par) desk.old market.old desk.new market.new) }
-    ensures payments { desk.new.books.payments ≤ desk.old.books.payments + 1 }
-    ensures players { desk.new.books.players ≡ desk.old.books.players }
-    ensures trains { desk.new.books.trains ≡ desk.old.books.trains }
-    ensures counts { desk.new.books.counts ≡ desk.old.books.counts }
+    ensures takes { OnOk result (Takes (takes_presidency chart.now seat corp par) desk.old desk.new) }
 {
-    put_at_par(desk, market, chart, corp, par)?;
-    desk.give(Cert::President(corp), Place::Seat(seat))?;
-    let price = twice(par);
-    pay_bank(desk, seat, price)?;
+    put_at_par(desk, chart, corp, par)?;
+    desk.push(Entry::Move {
+        cert: Cert::President(corp),
+        to: Place::Seat(seat),
+    })?;
+    pay_presidency(desk, seat, par)?;
     Ok(())
+}
+
+// The corporation's token is put on the par cell of a price, if the chart has one.
+fn put_at_par(desk: &mut Desk, chart: &Chart, corp: Corp, par: u16) -> Result<(), Fault>
+    ensures fault { IfErr result (λ fault. fault ≡ Fault.OutOfMemory) }
+    ensures takes { OnOk result (Takes (par_marks chart.now corp par) desk.old desk.new) }
+{
+    let cell = par_cell(chart, u64::from(par));
+    mark_if(desk, corp, cell)?;
+    Ok(())
+}
+
+// The seat pays for a 20% certificate.
+fn pay_presidency(desk: &mut Desk, seat: Seat, par: u16) -> Result<(), Fault>
+    requires { seat.0 < 6 }
+    ensures fault { IfErr result (λ fault. fault ≡ Fault.OutOfMemory) }
+    ensures takes { OnOk result (Takes (pays_bank seat (2 * par)) desk.old desk.new) }
+{
+    let price = twice(par);
+    pay_bank(desk, seat, price)
 }
 
 // What a 20% certificate costs at a par.
@@ -48,43 +61,18 @@ fn twice(par: u16) -> u32
     2 * u32::from(par)
 }
 
-// The corporation's token is put on the par cell of a price.
-fn put_at_par(
-    desk: &mut Desk,
-    market: &mut Market,
-    chart: &Chart,
-    corp: Corp,
-    par: u16,
-) -> Result<(), Fault>
-    requires { is_par chart.now par ≡ true }
-    ensures fault { IfErr result (λ fault. fault ≡ Fault.OutOfMemory) }
-    ensures plays { OnOk result (Plays (par_marks chart.now corp par) desk.old market.old desk.new market.new) }
-    ensures books { desk.new.books ≡ desk.old.books }
-{
-    match market.set(chart, corp, par) {
-        Ok(cell) => {
-            desk.mark(corp, cell)?;
-            Ok(())
-        }
-        Err(_) => Err(Fault::NotAPar),
-    }
-}
-
 // The seat pays the bank.
 fn pay_bank(desk: &mut Desk, seat: Seat, amount: u32) -> Result<(), Fault>
-    requires room { desk.old.books.payments < 400000000 }
-    requires seated { seat.0 < desk.old.books.players }
-    requires enough { pos amount ≤ℤ cash_of desk.old.books (Party.Seat seat) }
+    requires { seat.0 < 6 }
     ensures fault { IfErr result (λ fault. fault ≡ Fault.OutOfMemory) }
     ensures takes { OnOk result (Takes (pays_bank seat amount) desk.old desk.new) }
-    ensures payments { desk.new.books.payments ≤ desk.old.books.payments + 1 }
-    ensures players { desk.new.books.players ≡ desk.old.books.players }
-    ensures places { desk.new.books.places ≡ desk.old.books.places }
-    ensures trains { desk.new.books.trains ≡ desk.old.books.trains }
-    ensures counts { desk.new.books.counts ≡ desk.old.books.counts }
 {
-    let price = dollars(amount);
-    desk.pay(Party::Seat(seat), Party::Bank, price)?;
+    let amount = dollars(amount);
+    desk.push(Entry::Pay {
+        from: Party::Seat(seat),
+        to: Party::Bank,
+        amount,
+    })?;
     Ok(())
 }
 
@@ -98,26 +86,19 @@ fn dollars(amount: u32) -> Money
 }
 
 /// The seat gets the lowest of the corporation's 10% certificates that are there, for a price.
-#[tactic(auto, unfolding(crate::specs::Effects::gets_share))]
 pub(crate) fn get_share(
     desk: &mut Desk,
     seat: Seat,
     corp: Corp,
     source: ShareSource,
-    price: u16,
+    price: u32,
 ) -> Result<(), Fault>
-    requires room { desk.old.books.payments < 400000000 }
-    requires seated { seat.0 < desk.old.books.players }
-    requires enough { pos price ≤ℤ cash_of desk.old.books (Party.Seat seat) }
+    requires { seat.0 < 6 }
     ensures fault { IfErr result (λ fault. fault ≡ Fault.OutOfMemory) }
     ensures takes { OnOk result (Takes (gets_share seat corp source price) desk.old desk.new) }
-    ensures payments { desk.new.books.payments ≤ desk.old.books.payments + 1 }
-    ensures players { desk.new.books.players ≡ desk.old.books.players }
-    ensures trains { desk.new.books.trains ≡ desk.old.books.trains }
-    ensures counts { desk.new.books.counts ≡ desk.old.books.counts }
 {
-    desk.give_lowest_share(corp, place_of_source(source), Place::Seat(seat))?;
-    pay_bank(desk, seat, u32::from(price))?;
+    give_lowest_share(desk, corp, place_of_source(source), Place::Seat(seat))?;
+    pay_bank(desk, seat, price)?;
     Ok(())
 }
 
@@ -129,72 +110,35 @@ pub(crate) fn settle_corporation(
     par: Option<u16>,
     floated: bool,
 ) -> Result<(), Fault>
-    requires { desk.old.books.payments < 400000000 }
     ensures fault { IfErr result (λ fault. fault ≡ Fault.OutOfMemory) }
     ensures takes { OnOk result (Takes (settles_corporation corp par floated) desk.old desk.new) }
-    ensures payments { desk.new.books.payments ≤ desk.old.books.payments + 1 }
-    ensures players { desk.new.books.players ≡ desk.old.books.players }
-    ensures trains { desk.new.books.trains ≡ desk.old.books.trains }
-    ensures counts { desk.new.books.counts ≡ desk.old.books.counts }
 {
     settle_presidency(desk, corp)?;
     float_if_due(desk, corp, par, floated)?;
     Ok(())
 }
 
-/// The seller gets an amount, and the token falls a row for each of so many 10% shares.
-pub(crate) fn pay_seller(
-    desk: &mut Desk,
-    market: &mut Market,
-    chart: &Chart,
-    seat: Seat,
-    corp: Corp,
-    count: u8,
-    amount: u32,
-) -> Result<(), Fault>
-    requires room { desk.old.books.payments < 400000000 }
-    requires seated { seat.0 < desk.old.books.players }
-    ensures fault { IfErr result (λ fault. fault ≡ Fault.OutOfMemory) }
-    ensures plays { OnOk result (Plays (pays_seller chart.now seat corp count amount) desk.old market.old desk.new market.new) }
-    ensures payments { desk.new.books.payments ≤ desk.old.books.payments + 1 }
-    ensures players { desk.new.books.players ≡ desk.old.books.players }
-    ensures trains { desk.new.books.trains ≡ desk.old.books.trains }
-    ensures counts { desk.new.books.counts ≡ desk.old.books.counts }
-{
-    pay_seat(desk, seat, amount)?;
-    fall(desk, market, chart, corp, count)?;
-    Ok(())
-}
-
-// The bank pays the seat.
-fn pay_seat(desk: &mut Desk, seat: Seat, amount: u32) -> Result<(), Fault>
-    requires room { desk.old.books.payments < 400000000 }
-    requires seated { seat.0 < desk.old.books.players }
+/// The bank pays the seat.
+pub(crate) fn pay_seat(desk: &mut Desk, seat: Seat, amount: u32) -> Result<(), Fault>
+    requires { seat.0 < 6 }
     ensures fault { IfErr result (λ fault. fault ≡ Fault.OutOfMemory) }
     ensures takes { OnOk result (Takes (adds (Entry.Pay Party.Bank (Party.Seat seat) (dollars amount))) desk.old desk.new) }
-    ensures payments { desk.new.books.payments ≤ desk.old.books.payments + 1 }
-    ensures players { desk.new.books.players ≡ desk.old.books.players }
-    ensures trains { desk.new.books.trains ≡ desk.old.books.trains }
-    ensures counts { desk.new.books.counts ≡ desk.old.books.counts }
 {
-    let price = dollars(amount);
-    desk.pay(Party::Bank, Party::Seat(seat), price)?;
+    let amount = dollars(amount);
+    desk.push(Entry::Pay {
+        from: Party::Bank,
+        to: Party::Seat(seat),
+        amount,
+    })?;
     Ok(())
 }
 
-// The token falls a row for each of so many 10% shares.
-fn fall(
-    desk: &mut Desk,
-    market: &mut Market,
-    chart: &Chart,
-    corp: Corp,
-    count: u8,
-) -> Result<(), Fault>
+/// The token falls a row for each of so many 10% shares.
+pub(crate) fn fall(desk: &mut Desk, chart: &Chart, corp: Corp, count: u8) -> Result<(), Fault>
     ensures fault { IfErr result (λ fault. fault ≡ Fault.OutOfMemory) }
-    ensures plays { OnOk result (Plays (sale_marks chart.now count corp) desk.old market.old desk.new market.new) }
-    ensures books { desk.new.books ≡ desk.old.books }
+    ensures takes { OnOk result (Takes (sale_marks chart.now count corp) desk.old desk.new) }
 {
-    let cell = market.sold(chart, corp, count);
+    let cell = cell_after_sale(desk.position(), chart, corp, count);
     mark_if(desk, corp, cell)?;
     Ok(())
 }
@@ -203,13 +147,9 @@ fn fall(
 pub(crate) fn mark_if(desk: &mut Desk, corp: Corp, cell: Option<Cell>) -> Result<(), Fault>
     ensures fault { IfErr result (λ fault. fault ≡ Fault.OutOfMemory) }
     ensures takes { OnOk result (Takes (marks corp cell) desk.old desk.new) }
-    ensures books { desk.new.books ≡ desk.old.books }
 {
     match cell {
-        Some(place) => {
-            desk.mark(corp, place)?;
-            Ok(())
-        }
+        Some(cell) => desk.push(Entry::Mark { corp, cell }),
         None => Ok(()),
     }
 }
@@ -217,16 +157,13 @@ pub(crate) fn mark_if(desk: &mut Desk, corp: Corp, cell: Option<Cell>) -> Result
 /// The M&H leaves the game for the lowest 10% certificate of the NYC that is there.
 #[tactic(auto, unfolding(crate::specs::Effects::gives_up_private))]
 pub(crate) fn give_up_private(desk: &mut Desk, seat: Seat, source: ShareSource) -> Result<(), Fault>
-    requires { seat.0 < desk.old.books.players }
     ensures fault { IfErr result (λ fault. fault ≡ Fault.OutOfMemory) }
     ensures takes { OnOk result (Takes (gives_up_private seat source) desk.old desk.new) }
-    ensures cash { desk.new.books.cash ≡ desk.old.books.cash }
-    ensures payments { desk.new.books.payments ≡ desk.old.books.payments }
-    ensures players { desk.new.books.players ≡ desk.old.books.players }
-    ensures trains { desk.new.books.trains ≡ desk.old.books.trains }
-    ensures counts { desk.new.books.counts ≡ desk.old.books.counts }
 {
-    desk.give(Cert::Private(Private::Mh), Place::Gone)?;
-    desk.give_lowest_share(Corp::Nyc, place_of_source(source), Place::Seat(seat))?;
+    desk.push(Entry::Move {
+        cert: Cert::Private(Private::Mh),
+        to: Place::Gone,
+    })?;
+    give_lowest_share(desk, Corp::Nyc, place_of_source(source), Place::Seat(seat))?;
     Ok(())
 }

@@ -1,23 +1,24 @@
 ghost use Rattle.std.specs.Prelude.{◌≡◌};
 ghost use Rattle.rr_books.specs.Book.{Book};
-ghost use Rattle.rr_rounds.specs.Round.{IsRoundOf};
+ghost use Rattle.rr_position.specs.Position.{IsPositionOf};
 ghost use Rattle.rr_stock.specs.Due.{due, due_in};
 
 use rr_books::Seat;
-use rr_rounds::Rounds;
+use rr_desk::Position;
 
 /// The seat whose turn it is, while a stock round is under way.
-pub fn due(rounds: &Rounds) -> Option<Seat>
-    ensures shown { result ≡ due_in rounds.now }
-    ensures book { (book : Book) → IsRoundOf book rounds.now → result ≡ due book }
+pub fn due(position: &Position) -> Option<Seat>
+    ensures shown { result ≡ due_in position.now.rounds }
+    ensures book { (book : Book) → IsPositionOf book position.now → result ≡ due book }
 {
-    seat_due(rounds)
+    seat_due(position)
 }
 
-// The seat in turn, by the running state.
-fn seat_due(rounds: &Rounds) -> Option<Seat>
-    ensures { result ≡ due_in rounds.now }
+// The seat in turn, by what runs along with the book.
+fn seat_due(position: &Position) -> Option<Seat>
+    ensures { result ≡ due_in position.now.rounds }
 {
+    let rounds = position.rounds();
     if !rounds.is_under_way() {
         return None;
     }

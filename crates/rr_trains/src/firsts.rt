@@ -1,32 +1,22 @@
-ghost use Rattle.std.specs.Prelude.{◌≡◌, ◌⊎◌, [], None, OnOk, IfErr, MatchResult, map, true, false};
-ghost use Rattle.rr_roster.specs.Company.{privates};
-ghost use Rattle.rr_books.specs.State.{has_place, train_place_of};
-ghost use Rattle.rr_desk.specs.Effects.{Takes, in_turn};
-ghost use Rattle.rr_trains.specs.Places.{lowest_train, train_numbers};
+ghost use Rattle.std.specs.Prelude.{◌≡◌, OnOk, IfErr};
+ghost use Rattle.rr_desk.specs.Desk.{Takes};
 ghost use Rattle.rr_trains.specs.Effects.{all_close, all_rust, closes, closes_own_private, first_if, first_of_kind, first_train, is_in_game, moves_lowest_train, rusts};
 
 use crate::places::{NUMBERS, lowest_train};
-use rr_books::{Cert, Corp, Fault, Kind, Place, Private, Train};
+use rr_books::{Cert, Corp, Entry, Fault, Kind, Place, Private, Train};
 use rr_desk::Desk;
 
 /// Moves the train of the kind with the lowest number at one place to another, if there is one.
 ///
 /// # Errors
 ///
-/// `NoSuchName` where the other place is a seat that isn't at the table, and `OutOfMemory`; the desk is as before then.
+/// `OutOfMemory`; the desk is as before then.
 pub fn give_lowest_train(desk: &mut Desk, kind: Kind, from: Place, to: Place) -> Result<(), Fault>
-    ensures verdict { MatchResult result
-        (λ _. (has_place desk.old.books.players to ≡ true) ⊎ (lowest_train (train_place_of desk.old.books) from kind ≡ None))
-        (λ fault. ((has_place desk.old.books.players to ≡ true) × (fault ≡ Fault.OutOfMemory)) ⊎ ((has_place desk.old.books.players to ≡ false) × (fault ≡ Fault.NoSuchName))) }
+    ensures fault { IfErr result (λ fault. fault ≡ Fault.OutOfMemory) }
     ensures takes { OnOk result (Takes (moves_lowest_train kind from to) desk.old desk.new) }
-    ensures cash { desk.new.books.cash ≡ desk.old.books.cash }
-    ensures payments { desk.new.books.payments ≡ desk.old.books.payments }
-    ensures players { desk.new.books.players ≡ desk.old.books.players }
-    ensures places { desk.new.books.places ≡ desk.old.books.places }
-    ensures counts { desk.new.books.counts ≡ desk.old.books.counts }
 {
     match lowest_train(desk.books(), from, kind) {
-        Some(train) => desk.give_train(train, to),
+        Some(train) => desk.push(Entry::Train { train, to }),
         None => Ok(()),
     }
 }
@@ -44,10 +34,6 @@ pub fn give_lowest_train(desk: &mut Desk, kind: Kind, from: Place, to: Place) ->
 pub fn first_train(desk: &mut Desk, is_first: bool, kind: Kind, corp: Corp) -> Result<(), Fault>
     ensures fault { IfErr result (λ fault. fault ≡ Fault.OutOfMemory) }
     ensures takes { OnOk result (Takes (first_train is_first kind corp) desk.old desk.new) }
-    ensures cash { desk.new.books.cash ≡ desk.old.books.cash }
-    ensures payments { desk.new.books.payments ≡ desk.old.books.payments }
-    ensures players { desk.new.books.players ≡ desk.old.books.players }
-    ensures counts { desk.new.books.counts ≡ desk.old.books.counts }
 {
     first_if(desk, is_first, kind)?;
     close_own_private(desk, corp)?;
@@ -57,10 +43,6 @@ pub fn first_train(desk: &mut Desk, is_first: bool, kind: Kind, corp: Corp) -> R
 fn first_if(desk: &mut Desk, is_first: bool, kind: Kind) -> Result<(), Fault>
     ensures fault { IfErr result (λ fault. fault ≡ Fault.OutOfMemory) }
     ensures takes { OnOk result (Takes (first_if is_first kind) desk.old desk.new) }
-    ensures cash { desk.new.books.cash ≡ desk.old.books.cash }
-    ensures payments { desk.new.books.payments ≡ desk.old.books.payments }
-    ensures players { desk.new.books.players ≡ desk.old.books.players }
-    ensures counts { desk.new.books.counts ≡ desk.old.books.counts }
 {
     if !is_first {
         return Ok(());
@@ -72,10 +54,6 @@ fn first_if(desk: &mut Desk, is_first: bool, kind: Kind) -> Result<(), Fault>
 fn first_of_kind(desk: &mut Desk, kind: Kind) -> Result<(), Fault>
     ensures fault { IfErr result (λ fault. fault ≡ Fault.OutOfMemory) }
     ensures takes { OnOk result (Takes (first_of_kind kind) desk.old desk.new) }
-    ensures cash { desk.new.books.cash ≡ desk.old.books.cash }
-    ensures payments { desk.new.books.payments ≡ desk.old.books.payments }
-    ensures players { desk.new.books.players ≡ desk.old.books.players }
-    ensures counts { desk.new.books.counts ≡ desk.old.books.counts }
 {
     match kind {
         Kind::Two | Kind::Three => Ok(()),
@@ -91,11 +69,6 @@ fn first_of_kind(desk: &mut Desk, kind: Kind) -> Result<(), Fault>
 fn rust_all(desk: &mut Desk, kind: Kind) -> Result<(), Fault>
     ensures fault { IfErr result (λ fault. fault ≡ Fault.OutOfMemory) }
     ensures takes { OnOk result (Takes (all_rust kind) desk.old desk.new) }
-    ensures cash { desk.new.books.cash ≡ desk.old.books.cash }
-    ensures payments { desk.new.books.payments ≡ desk.old.books.payments }
-    ensures players { desk.new.books.players ≡ desk.old.books.players }
-    ensures places { desk.new.books.places ≡ desk.old.books.places }
-    ensures counts { desk.new.books.counts ≡ desk.old.books.counts }
 {
     for number in NUMBERS {
         rust(desk, kind, number)?;
@@ -108,17 +81,15 @@ fn rust_all(desk: &mut Desk, kind: Kind) -> Result<(), Fault>
 fn rust(desk: &mut Desk, kind: Kind, number: u8) -> Result<(), Fault>
     ensures fault { IfErr result (λ fault. fault ≡ Fault.OutOfMemory) }
     ensures takes { OnOk result (Takes (rusts kind number) desk.old desk.new) }
-    ensures cash { desk.new.books.cash ≡ desk.old.books.cash }
-    ensures payments { desk.new.books.payments ≡ desk.old.books.payments }
-    ensures players { desk.new.books.players ≡ desk.old.books.players }
-    ensures places { desk.new.books.places ≡ desk.old.books.places }
-    ensures counts { desk.new.books.counts ≡ desk.old.books.counts }
 {
     let train = Train { kind, number };
     if !is_in_game(desk.books().train_holder(train)) {
         return Ok(());
     }
-    desk.give_train(train, Place::Gone)?;
+    desk.push(Entry::Train {
+        train,
+        to: Place::Gone,
+    })?;
     Ok(())
 }
 
@@ -127,11 +98,6 @@ fn rust(desk: &mut Desk, kind: Kind, number: u8) -> Result<(), Fault>
 fn close_all(desk: &mut Desk) -> Result<(), Fault>
     ensures fault { IfErr result (λ fault. fault ≡ Fault.OutOfMemory) }
     ensures takes { OnOk result (Takes all_close desk.old desk.new) }
-    ensures cash { desk.new.books.cash ≡ desk.old.books.cash }
-    ensures payments { desk.new.books.payments ≡ desk.old.books.payments }
-    ensures players { desk.new.books.players ≡ desk.old.books.players }
-    ensures trains { desk.new.books.trains ≡ desk.old.books.trains }
-    ensures counts { desk.new.books.counts ≡ desk.old.books.counts }
 {
     for private in Private::ALL {
         close(desk, private)?;
@@ -142,11 +108,6 @@ fn close_all(desk: &mut Desk) -> Result<(), Fault>
 fn close_own_private(desk: &mut Desk, corp: Corp) -> Result<(), Fault>
     ensures fault { IfErr result (λ fault. fault ≡ Fault.OutOfMemory) }
     ensures takes { OnOk result (Takes (closes_own_private corp) desk.old desk.new) }
-    ensures cash { desk.new.books.cash ≡ desk.old.books.cash }
-    ensures payments { desk.new.books.payments ≡ desk.old.books.payments }
-    ensures players { desk.new.books.players ≡ desk.old.books.players }
-    ensures trains { desk.new.books.trains ≡ desk.old.books.trains }
-    ensures counts { desk.new.books.counts ≡ desk.old.books.counts }
 {
     match corp {
         Corp::Bo => close(desk, Private::Bo),
@@ -159,16 +120,14 @@ fn close_own_private(desk: &mut Desk, corp: Corp) -> Result<(), Fault>
 fn close(desk: &mut Desk, private: Private) -> Result<(), Fault>
     ensures fault { IfErr result (λ fault. fault ≡ Fault.OutOfMemory) }
     ensures takes { OnOk result (Takes (closes private) desk.old desk.new) }
-    ensures cash { desk.new.books.cash ≡ desk.old.books.cash }
-    ensures payments { desk.new.books.payments ≡ desk.old.books.payments }
-    ensures players { desk.new.books.players ≡ desk.old.books.players }
-    ensures trains { desk.new.books.trains ≡ desk.old.books.trains }
-    ensures counts { desk.new.books.counts ≡ desk.old.books.counts }
 {
     if desk.books().holder(Cert::Private(private)) == Place::Gone {
         return Ok(());
     }
-    desk.give(Cert::Private(private), Place::Gone)?;
+    desk.push(Entry::Move {
+        cert: Cert::Private(private),
+        to: Place::Gone,
+    })?;
     Ok(())
 }
 

@@ -1,8 +1,9 @@
 use Rattle.std.proofs.Common.{◌∙◌, ap}
 use Rattle.rr_auction.specs.AuctionLaws.{bid, bid_told}
-use Rattle.rr_auction.specs.Bids.{bid_of}
-use Rattle.rr_auction.specs.Progress.{Progress}
-use Rattle.rr_auction.proofs.Entries.{bids_once, no_bid_at_first, progress-none, progress-push}
+use Rattle.rr_bids.specs.Bids.{bid_of}
+use Rattle.rr_bids.specs.Progress.{Progress}
+use Rattle.rr_bids.specs.ProgressLaws.{progress-none, progress-push}
+use Rattle.rr_auction.proofs.Entries.{bids_once, no_bid_at_first}
 use Rattle.rr_auction.proofs.Histories.{by_last}
 use Rattle.rr_auction.proofs.laws.bids_are_the_last.Goals as goal
 

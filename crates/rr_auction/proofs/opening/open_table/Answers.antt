@@ -1,12 +1,11 @@
-use Rattle.std.proofs.Common.{arith}
-use Rattle.rr_auction.proofs.Openings.{begins, fits_opened, stands_opened}
+use Rattle.std.proofs.Common.{ℕ, [], ◌∷◌, ◌++◌, sym, subst}
+use Rattle.rr_books.specs.declared.entries.Entry.TheVariants as E
+use Rattle.rr_books.specs.declared.entries.Marker.TheVariants as M
+use Rattle.rr_books.specs.Opening.{opening_entries}
+use Rattle.rr_position.specs.Position.{IsPositionOf}
 use Rattle.rr_auction.proofs.opening.open_table.Goals as goal
 
-pub returns-clause-books : goal.returns-clause-books
-returns-clause-books c names e = stands_opened names c.args.players c.args.roster.now c.open.result e c.open.ensures.book
-
-pub returns-clause-auction : goal.returns-clause-auction
-returns-clause-auction c names e = begins names c.args.roster.now c.open-2.result c.open-2.ensures
-
-pub returns-clause-fit : goal.returns-clause-fit
-returns-clause-fit c = fits_opened c.open.result c.open-2.result (omega arith) c.open-2.ensures
+pub returns : goal.returns
+returns c names e =
+    let So : ℕ → Type 0 = λ n. IsPositionOf (opening_entries n c.args.roster.now ++ E.Step (M.Auction names) ∷ []) c.open.result in
+    subst So (sym e) (c.open.ensures.auction names)

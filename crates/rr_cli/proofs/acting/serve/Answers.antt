@@ -1,4 +1,4 @@
-use Rattle.std.proofs.Common.{refl}
+use Rattle.std.proofs.Common.{refl, sym}
 use Rattle.rr_cli.specs.Acting.{Not_served, Served}
 use Rattle.rr_cli.proofs.acting.serve.Goals as goal
 
@@ -9,13 +9,14 @@ returns-in-Ok g c =
     (record {
       honest = c.in-Ok.ensures.honest;
       opens = c.in-Ok.ensures.opened;
-      synced = c.in-Ok.ensures.synced;
       stands = c.in-Ok.ensures.stands;
       lawful = c.in-Ok.ensures.lawful;
       whole = c.in-Ok.ensures.whole;
+      no_fault = c.in-Ok.ensures.no_fault;
+      no_write = c.in-Ok.ensures.writes;
     })
-    c.serve.ensures.session.1 c.serve.ensures.session.2 refl)
+    c.serve.ensures.session.1 c.serve.ensures.session.2 c.serve.ensures.session.3 refl)
 
 pub returns-in-Err : goal.returns-in-Err
 returns-in-Err g c =
-    rw (c.status-in-Err.ensures) (Not_served c.in-Err.refused.fault c.refuse-ending.result c.in-Err.ensures.refused c.in-Err.ensures.honest_left c.in-Err.ensures.left c.in-Err.ensures.fault refl c.refuse-ending.ensures)
+    rw (c.status-in-Err.ensures) (Not_served c.in-Err.refused.fault c.refuse-ending.result c.in-Err.ensures.refused c.in-Err.ensures.honest_left c.in-Err.ensures.left c.in-Err.ensures.fault c.in-Err.ensures.writes_left refl (rw (sym c.from.ensures) c.refuse-ending.ensures))

@@ -1,5 +1,5 @@
 use Rattle.std.proofs.Common.{◌∙◌, ◌+◌, ℕ, ap}
-use Rattle.rr_books.specs.State.{holder_in}
+use Rattle.rr_books.specs.State.{State, holder_in}
 use Rattle.rr_holdings.specs.Holdings.{Holdings}
 use Rattle.rr_holdings.specs.HoldingLaws.{holdings-of_book}
 use Rattle.rr_holdings.specs.Limits.{certificates_counted, privates_held}
@@ -8,10 +8,10 @@ use Rattle.rr_holdings.proofs.limits.certificates_counted.Goals as goal
 pub returns-clause-shown : goal.returns-clause-shown
 unfolding certificates_counted
 returns-clause-shown c =
-    ap (λ (n : ℕ). n + c.shares_counted.result) c.privates_held.ensures.value
-    ∙ ap (λ (n : ℕ). privates_held (holder_in c.args.books.now) c.args.seat + n) c.shares_counted.ensures.value
+    ap (λ (n : ℕ). n + c.shares_counted.result) (c.privates_held.ensures.value ∙ ap (λ (s : State). privates_held (holder_in s) c.args.seat) c.books.ensures)
+    ∙ ap (λ (n : ℕ). privates_held (holder_in c.args.position.now.books) c.args.seat + n) c.shares_counted.ensures.value
 
 pub returns-clause-book : goal.returns-clause-book
-returns-clause-book c book books market =
+returns-clause-book c book h =
     returns-clause-shown c
-    ∙ ap (λ (h : Holdings). certificates_counted h c.args.seat) (holdings-of_book c.args.chart.now book c.args.books.now c.args.market.now books market)
+    ∙ ap (λ (x : Holdings). certificates_counted x c.args.seat) (holdings-of_book c.args.chart.now book c.args.position.now h)

@@ -8,14 +8,14 @@ pub returns-then-is_over_certificates-clause-shown : goal.returns-then-is_over_c
 returns-then-is_over_certificates-clause-shown c = search rules
 
 pub returns-then-is_over_certificates-clause-book : goal.returns-then-is_over_certificates-clause-book
-returns-then-is_over_certificates-clause-book c book books market =
+returns-then-is_over_certificates-clause-book c book h =
     returns-then-is_over_certificates-clause-shown c
-    ∙ ap (λ (h : Holdings). is_over_limit h c.args.seat) (holdings-of_book c.args.chart.now book c.args.books.now c.args.market.now books market)
+    ∙ ap (λ (x : Holdings). is_over_limit x c.args.seat) (holdings-of_book c.args.chart.now book c.args.position.now h)
 
 pub returns-clause-shown : goal.returns-clause-shown
 returns-clause-shown c = search rules
 
 pub returns-clause-book : goal.returns-clause-book
-returns-clause-book c book books market =
+returns-clause-book c book h =
     returns-clause-shown c
-    ∙ ap (λ (h : Holdings). is_over_limit h c.args.seat) (holdings-of_book c.args.chart.now book c.args.books.now c.args.market.now books market)
+    ∙ ap (λ (x : Holdings). is_over_limit x c.args.seat) (holdings-of_book c.args.chart.now book c.args.position.now h)

@@ -9,7 +9,7 @@ use Rattle.rr_holdings.proofs.limits.shares_counted.Goals as goal
 
 pub loop-corp-preserved : goal.loop-corp-preserved
 loop-corp-preserved c =
-    let counts = counted_of (holdings_in c.args.chart.now c.args.books.now c.args.market.now) c.args.seat in
+    let counts = counted_of (holdings_in c.args.chart.now c.args.position.now) c.args.seat in
     record {
       total = ap (λ (n : ℕ). n + c.counted_of-total.result) c.loop-corp.invariant.total ∙ ap (λ (n : ℕ). sum_by counts (take c.loop-corp.corp-index corps) + n) c.counted_of-total.ensures.value
           ∙ sym (sum_by_more counts corps c.loop-corp.corp-index C.Prr c.loop-corp-test.true);
@@ -19,5 +19,5 @@ loop-corp-preserved c =
 pub returns-clause-value : goal.returns-clause-value
 returns-clause-value c =
     let all : c.loop-corp.corp-index ≡ 8 = omega arith in
-    let counts = counted_of (holdings_in c.args.chart.now c.args.books.now c.args.market.now) c.args.seat in
+    let counts = counted_of (holdings_in c.args.chart.now c.args.position.now) c.args.seat in
     c.loop-corp.invariant.total ∙ ap (λ (n : ℕ). sum_by counts (take n corps)) all

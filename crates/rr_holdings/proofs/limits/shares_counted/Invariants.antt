@@ -7,6 +7,6 @@ use Rattle.rr_holdings.proofs.limits.shares_counted.Given as goal
 
 abbrev pub invariant-loop-corp : goal.invariant-loop-corp
 invariant-loop-corp l = record {
-  total : l.total ≡ sum_by (counted_of (holdings_in l.chart l.books l.market) l.seat) (take l.corp-index corps);
+  total : l.total ≡ sum_by (counted_of (holdings_in l.chart l.position) l.seat) (take l.corp-index corps);
   bound : l.total ≤ 9 * l.corp-index;
 }

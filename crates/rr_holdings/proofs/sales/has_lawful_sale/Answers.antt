@@ -1,4 +1,5 @@
-use Rattle.std.proofs.Common.{◌∙◌, ap}
+use Rattle.std.proofs.Common.{sym, ◌∙◌, ap}
+use Rattle.rr_rounds.specs.Round.{Round, is_first, progress}
 use Rattle.rr_holdings.specs.Holdings.{Holdings, holdings_of}
 use Rattle.rr_holdings.specs.HoldingLaws.{holdings-of_book}
 use Rattle.rr_holdings.specs.Sales.{has_lawful_sale}
@@ -6,11 +7,12 @@ use Rattle.rr_holdings.specs.SaleLaws.{one_share_suffices}
 use Rattle.rr_holdings.proofs.sales.has_lawful_sale.Goals as goal
 
 pub returns-clause-book : goal.returns-clause-book
-returns-clause-book c book books market =
+returns-clause-book c book h =
     c.sells_one_of_any.ensures
-    ∙ ap (λ (h : Holdings). has_lawful_sale h c.args.is_first c.args.seat) (holdings-of_book c.args.chart.now book c.args.books.now c.args.market.now books market)
+    ∙ ap (λ (x : Holdings). has_lawful_sale x (is_first c.args.position.now.rounds) c.args.seat) (holdings-of_book c.args.chart.now book c.args.position.now h)
+    ∙ ap (λ (r : Round). has_lawful_sale (holdings_of c.args.chart.now book) (is_first r) c.args.seat) (sym h.rounds)
 
 pub returns-clause-sale : goal.returns-clause-sale
-returns-clause-sale c book books market =
-    let law = one_share_suffices (holdings_of c.args.chart.now book) c.args.is_first c.args.seat in
-    rw (returns-clause-book c book books market) law
+returns-clause-sale c book h =
+    let law = one_share_suffices (holdings_of c.args.chart.now book) (is_first (progress book)) c.args.seat in
+    rw (returns-clause-book c book h) law

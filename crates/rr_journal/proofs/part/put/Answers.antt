@@ -1,5 +1,5 @@
-use Rattle.std.proofs.Common.{◌∙◌, arith}
-use Rattle.rr_disk.specs.Disk.{Some_out}
+use Rattle.std.proofs.Common.{length, ◌∙◌, arith}
+use Rattle.rr_disk.proofs.FailureLemmas.{whole_failed}
 use Rattle.rr_journal.proofs.Lists.{on_err}
 use Rattle.rr_journal.proofs.part.put.Goals as goal
 
@@ -11,4 +11,4 @@ pub returns-in_err-sync-clause-failed : goal.returns-in_err-sync-clause-failed
 returns-in_err-sync-clause-failed g c =
     on_err c.from_residual-in_err-sync.result
     (λ honest. let before = c.in_err-sync.ensures.honest honest in
-    Some_out c.args.bytes.now (omega arith) (c.in_err-sync.ensures.failed_past honest ∙ c.in_ok-write_at.ensures.passed before) (c.in_err-sync.ensures.failed_state honest ∙ c.in_ok-write_at.ensures.written before))
+    whole_failed c.args.at (length c.args.bytes.now) c.args.bytes.now _ _ _ _ (omega arith) (c.in_err-sync.ensures.failed_past honest ∙ c.in_ok-write_at.ensures.passed before) (c.in_err-sync.ensures.failed_state honest ∙ c.in_ok-write_at.ensures.written before))

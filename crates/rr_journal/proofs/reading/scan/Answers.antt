@@ -37,6 +37,8 @@ loop-part-preserved g c =
       faults = search rules;
       writes = search rules;
       syncs = search rules;
+      works = search rules;
+      same_len = search rules;
     }
 
 pub returns-in-End-clause-found : goal.returns-in-End-clause-found

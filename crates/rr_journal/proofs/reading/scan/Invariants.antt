@@ -20,6 +20,8 @@ invariant-loop-part g l =
       faults : g.D.Disk.fault_count l.disk ≡ g.D.Disk.fault_count l.fn.disk;
       writes : g.D.Disk.write_count l.disk ≡ g.D.Disk.write_count l.fn.disk;
       syncs : g.D.Disk.sync_count l.disk ≡ g.D.Disk.sync_count l.fn.disk;
+      works : g.D.Disk.Works l.disk → g.D.Disk.Works l.fn.disk;
+      same_len : g.D.Disk.file_len l.disk ≡ g.D.Disk.file_len l.fn.disk;
     }
 
 abbrev pub decreases-loop-part : goal.decreases-loop-part

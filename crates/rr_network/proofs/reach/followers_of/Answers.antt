@@ -1,5 +1,5 @@
 use Rattle.std.proofs.Common.{◌≡◌, List, false, length, sym, ◌∙◌, ap, arith}
-use Rattle.rr_network.specs.declared.layout.Station.{Station}
+use Rattle.rr_layout.specs.declared.layout.Station.{Station}
 use Rattle.rr_network.specs.declared.network.Stop.{Stop}
 use Rattle.rr_network.specs.Walk.{goes_on, is_terminal}
 use Rattle.rr_reach.proofs.PlaceLemmas.{places_next_yes, places_next_no, places_done}

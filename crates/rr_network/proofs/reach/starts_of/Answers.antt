@@ -1,5 +1,5 @@
 use Rattle.std.proofs.Common.{◌≡◌, List, length, sym, ◌∙◌, ap, arith}
-use Rattle.rr_network.specs.declared.layout.Station.{Station}
+use Rattle.rr_layout.specs.declared.layout.Station.{Station}
 use Rattle.rr_network.specs.Walk.{has_token}
 use Rattle.rr_reach.proofs.PlaceLemmas.{places_next_yes, places_next_no, places_done}
 use Rattle.rr_network.proofs.reach.starts_of.Goals as goal

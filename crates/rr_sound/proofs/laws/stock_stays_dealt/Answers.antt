@@ -1,5 +1,5 @@
 use Rattle.rr_auction.proofs.Dealing.{dealt_by}
-use Rattle.rr_stock.specs.Effects.{entries_of}
+use Rattle.rr_sequence.specs.Sequence.{entries_of}
 use Rattle.rr_sound.proofs.StockActs.{goes_by_lawful}
 use Rattle.rr_sound.proofs.laws.stock_stays_dealt.Goals as goal
 

@@ -94,7 +94,7 @@ leads_between later new c m n behind same h =
 
 pub returns : goal.returns
 unfolding sells
-returns c roster rows book p s corp n lawful e seated few =
+returns c rows book p s corp n lawful e seated few =
     let t = situation_of rows book in
     let step = E.Step (M.Act (A.Sell s corp n)) in
     let told = book ++ step ∷ [] in

@@ -5,7 +5,6 @@ use Rattle.std.proofs.lemmas.Bool.Decides.{nat_tests}
 use Rattle.rr_roster.specs.declared.company.Corp.{Corp}
 use Rattle.rr_roster.specs.declared.company.Corp.TheVariants as C
 use Rattle.rr_roster.specs.Company.{corp_index, corps}
-use Rattle.rr_roster.specs.Terms.{Terms}
 use Rattle.rr_chart.specs.Chart.{Row}
 use Rattle.rr_books.specs.declared.parties.Seat.{Seat}
 use Rattle.rr_books.specs.declared.parties.Place.TheVariants as L
@@ -18,14 +17,14 @@ use Rattle.rr_shares.specs.Effects.{moves_lowest_shares, presidency_after_sale, 
 use Rattle.rr_holdings.specs.declared.fault.Fault.TheVariants as H
 use Rattle.rr_holdings.specs.Holdings.{Holdings, percent_of}
 use Rattle.rr_holdings.specs.Sales.{leaves_no_president, sale_verdict, sell_verdict}
-use Rattle.rr_rounds.specs.Round.{is_first}
+use Rattle.rr_rounds.specs.Round.{ends_round, is_first, progress}
 use Rattle.rr_stock.specs.Effects.{entries_of, pays_seller, proceeds, says, sells}
 use Rattle.rr_stock.specs.Fault.{of_holdings}
 use Rattle.rr_stock.specs.Rules as rules
 use Rattle.rr_stock.specs.Situation.{Situation, situation_of}
 use Rattle.rr_stock.proofs.PoolLemmas.{Raises, moves_to_pool, no_more_by, pool, raises_by_shares, raises_no_more, raises_one, raises_then}
 use Rattle.rr_stock.proofs.SaleVerdicts.{neither, none_before, passed}
-use Rattle.rr_stock.proofs.TurnLemmas.{IsFree, Spares, after_sale_free, row_counted, seller_free}
+use Rattle.rr_stock.proofs.TurnLemmas.{IsFree, Spares, after_sale_free, ending_counted, row_counted, seller_free}
 use Rattle.rr_stock.proofs.laws.pool_stays_within_half.Goals as goal
 
 pool_spare : Spares moves_to_pool
@@ -34,14 +33,13 @@ pool_spare = record {
   move = λ cert to h. h;
   mark = λ c cell. refl;
   floats = λ c. refl;
-  operating = refl;
 }
 
 -- a command that is no sale moves nothing to the pool
-no_sale : (roster : Terms) (rows : List Row) (book : Book) (act : Act) (d : Corp) → ((s : Seat) (c : Corp) (n : ℕ) → act ≡ A.Sell s c n → IsFree moves_to_pool (sale_shares c s n)) → pool (book ++ entries_of roster rows book act) d ≤ pool book d
-no_sale roster rows book act d none =
-    let few = row_counted moves_to_pool pool_spare roster rows (situation_of rows book) act book none in
-    no_more_by book (entries_of roster rows book act) d (omega arith)
+no_sale : (rows : List Row) (book : Book) (act : Act) (d : Corp) → ((s : Seat) (c : Corp) (n : ℕ) → act ≡ A.Sell s c n → IsFree moves_to_pool (sale_shares c s n)) → pool (book ++ entries_of rows book act) d ≤ pool book d
+no_sale rows book act d none =
+    let few = row_counted moves_to_pool pool_spare rows (situation_of rows book) act book 0 none (λ s e later. ending_counted moves_to_pool pool_spare rows (ends_round (progress book)) later) in
+    no_more_by book (entries_of rows book act) d (omega arith)
 
 -- a sale of n shares moves n 10% certificates to the pool
 sale_raises : (rows : List Row) (t : Situation) (s : Seat) (c d : Corp) (n : ℕ) → Raises (sells rows t s c n) d (n * cond (same_corp d c) 10 0)
@@ -92,13 +90,13 @@ same_is c d h = sym (corp_told c) ∙ ap (λ (n : ℕ). slice_index_or corps n C
 
 pub returns : goal.returns
 unfolding pool rules.sale_verdict
-returns c roster rows book (A.Sell s corp n) lawful half d =
+returns c rows book (A.Sell s corp n) lawful half d =
     let t = situation_of rows book in
     let judged = none_before of_holdings (sell_verdict t.holdings (is_first t.progress) s corp n) (neither (rules.turn_verdict t.progress s) _ lawful) in
     let fits = room t.holdings (is_first t.progress) s corp n judged in
     half_by (same_corp d corp) n (pool book d) (pool (book ++ sells rows t s corp n book) d) (sale_raises rows t s corp d n book) (half d)
     (λ same. let of : share (holder book) L.Pool d ≡ share (holder book) L.Pool corp = ap (λ (e : Corp). share (holder book) L.Pool e) (same_is d corp same) in omega arith)
-returns c roster rows book act lawful half d =
-    let low = no_sale roster rows book act d (λ s corp n e. absurd (cc)) in
+returns c rows book act lawful half d =
+    let low = no_sale rows book act d (λ s corp n e. absurd (cc)) in
     let had = half d in
     omega arith

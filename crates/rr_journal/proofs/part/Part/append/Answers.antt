@@ -1,4 +1,4 @@
-use Rattle.std.proofs.Common.{◌≡◌, ◌⊎◌, ℕ, ◌+◌, List, [], ◌∷◌, ◌++◌, length, take, sym, ◌∙◌, ap, subst}
+use Rattle.std.proofs.Common.{◌≡◌, ◌⊎◌, ℕ, ◌+◌, List, [], ◌∷◌, ◌++◌, length, take, sym, ◌∙◌, ap, subst, arith}
 use Rattle.rr_disk.specs.Disk.{DiskState, FailedWrite, after_write, after_sync}
 use Rattle.rr_disk.proofs.MomentLemmas.{weaker}
 use Rattle.rr_journal.specs.declared.reading.RunEnd.TheVariants.{Closed}
@@ -6,8 +6,10 @@ use Rattle.rr_journal.specs.Layout.{spelling_behind_gate}
 use Rattle.rr_journal.specs.Run.{Run}
 use Rattle.rr_journal.specs.Stops.{next_gate}
 use Rattle.rr_journal.proofs.Appends.{whole_written}
+use Rattle.rr_journal.proofs.DeviceLemmas.{on_device}
 use Rattle.rr_journal.proofs.Lists.{behind_first, first_alone}
 use Rattle.rr_journal.proofs.Moments.{first_fails, second_fails, second_done, before_or_after, keeps_ready, kept_after}
+use Rattle.rr_journal.proofs.Spelling.{length_behind}
 use Rattle.rr_journal.proofs.part.Part.append.Goals as goal
 
 pub returns-in_err-put-clause-any_moment : goal.returns-in_err-put-clause-any_moment
@@ -105,3 +107,11 @@ returns-clause-acknowledged g c = λ honest first lines keeps numbered.
     let room = c.has_room.ensures.0 c.if-not-has_room.false in
     let stays = g.met.D.Disk.content_may_stay c.args.disk.now (c.in_ok-put.ensures.honest (c.in_ok-put-2.ensures.honest honest)) in
     kept_after part c.args.number first lines c.args.bytes.now numbered keeps.next before (g.D.Disk.state c.put-2.new.disk) c.slots_for.result keeps room c.ranges.number.fits stays c.slots_for.ensures (returns-clause-written g c honest)
+
+-- the record ends before page 1,092
+pub returns-in_err-put-clause-device : goal.returns-in_err-put-clause-device
+returns-in_err-put-clause-device g c =
+    let room = c.has_room.ensures.0 c.if-not-has_room.false in
+    let sent = behind_first c.spelled-whole.result.now (spelling_behind_gate c.args.number c.args.bytes.now) 165 c.spelled-whole.ensures in
+    on_device c.from_residual.result
+    (λ works. absurd (omega (arith, c.in_err-put.ensures.refused works, ap length sent, length_behind c.args.number c.args.bytes.now, room.not_long, c.next_gate-gate.ensures.small)))

@@ -1,5 +1,6 @@
-use Rattle.rr_moderator.proofs.ReplayLemmas.{refused_file}
 use Rattle.rr_moderator.proofs.moderator.Moderator.open.Goals as goal
 
-pub returns-in-Err-open-clause-refused : goal.returns-in-Err-open-clause-refused
-returns-in-Err-open-clause-refused g c = rw (c.from.ensures) (refused_file _ _ c.in-Err-open.refused.fault c.in-Err-open.ensures.refused)
+pub returns-in-Ok-open-clause-opened : goal.returns-in-Ok-open-clause-opened
+returns-in-Ok-open-clause-opened g c = λ honest.
+    let found = c.in-Ok-open.ensures.opened honest in
+    record { texts = found.0; right = found.2; stands = found.1.allowed.0; whole = c.in-Ok-open.ensures.whole }

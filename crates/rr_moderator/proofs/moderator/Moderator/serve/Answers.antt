@@ -10,11 +10,11 @@ use Rattle.rr_moderator.proofs.moderator.Moderator.serve.Goals as goal
 pub returns-in_err-serve-clause-session : goal.returns-in_err-serve-clause-session
 returns-in_err-serve-clause-session g c =
     let p = err_from_is_err_and c.from_residual.result c.from_residual.ensures.1 in
-    let both = c.in_err-serve.ensures.session in (
+    let seen = Session-seen _ _ (SpeaksAndLasts g.D.Disk.Honest g.D.Disk.state g.D.Disk.past g.D.Disk.fault_count g.D.Disk.write_count g.D.Disk.sync_count) told (λ s. (s.store, s.reply)) (λ s line t a. a) (λ s. refl) _ _ _ _ _ _ _ c.in_err-serve.ensures.session in (
       Err c.in_err-serve.field-0.0,
       rw (p.1) p.2,
-      Session-seen _ _ (SpeaksAndLasts g.D.Disk.Honest g.D.Disk.state g.D.Disk.past g.D.Disk.fault_count) told (λ s. (s.keeper, spoken_by s)) (λ s line t a. a) (λ s. refl) _ _ _ _ _ _ _ both,
-      λ honest texts stands. along g.D.Disk.Honest g.D.Disk.state g.D.Disk.past g.D.Disk.fault_count _ both.lines both.replies _ both.served honest texts stands,
+      seen,
+      λ honest texts carried. along g.D.Disk.Honest g.D.Disk.state g.D.Disk.past g.D.Disk.fault_count g.D.Disk.write_count g.D.Disk.sync_count texts _ seen.lines seen.replies _ seen.served honest carried,
     )
 
 pub returns-clause-whole : goal.returns-clause-whole
@@ -22,9 +22,9 @@ returns-clause-whole g c = AnswersAll-seen _ _ Speaks said spoken_by (λ s line 
 
 pub returns-clause-session : goal.returns-clause-session
 returns-clause-session g c =
-    let both = c.in_ok-serve.ensures.session in (
+    let seen = Session-seen _ _ (SpeaksAndLasts g.D.Disk.Honest g.D.Disk.state g.D.Disk.past g.D.Disk.fault_count g.D.Disk.write_count g.D.Disk.sync_count) told (λ s. (s.store, s.reply)) (λ s line t a. a) (λ s. refl) _ _ _ _ _ _ _ c.in_ok-serve.ensures.session in (
       Ok tt,
       tt,
-      Session-seen _ _ (SpeaksAndLasts g.D.Disk.Honest g.D.Disk.state g.D.Disk.past g.D.Disk.fault_count) told (λ s. (s.keeper, spoken_by s)) (λ s line t a. a) (λ s. refl) _ _ _ _ _ _ _ both,
-      λ honest texts stands. along g.D.Disk.Honest g.D.Disk.state g.D.Disk.past g.D.Disk.fault_count _ both.lines both.replies _ both.served honest texts stands,
+      seen,
+      λ honest texts carried. along g.D.Disk.Honest g.D.Disk.state g.D.Disk.past g.D.Disk.fault_count g.D.Disk.write_count g.D.Disk.sync_count texts _ seen.lines seen.replies _ seen.served honest carried,
     )

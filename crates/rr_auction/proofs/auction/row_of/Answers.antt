@@ -1,6 +1,0 @@
-use Rattle.std.proofs.Common.{arith}
-use Rattle.rr_auction.proofs.Tables.{row_in}
-use Rattle.rr_auction.proofs.auction.row_of.Goals as goal
-
-pub returns-clause-bound : goal.returns-clause-bound
-returns-clause-bound c = omega (arith, c.index.ensures, row_in c.args.private)

@@ -1,0 +1,4 @@
+pub mod Unsold
+pub mod Bids
+pub mod Progress
+pub mod ProgressLaws

@@ -1,0 +1,15 @@
+use Rattle.rr_disk.proofs.MomentLemmas.{stays}
+use Rattle.rr_disk.proofs.WriteLemmas.{put_done}
+use Rattle.rr_disk.proofs.device.put.Goals as goal
+
+pub returns-in_err-sync-clause-any_moment : goal.returns-in_err-sync-clause-any_moment
+returns-in_err-sync-clause-any_moment g c = λ honest.
+    let then = c.in_err-sync.ensures.honest honest in
+    stays (c.in_ok-write.ensures.any_moment then) (c.in_err-sync.ensures.failed_past honest) (c.in_err-sync.ensures.failed_state honest)
+
+pub returns-clause-any_moment : goal.returns-clause-any_moment
+returns-clause-any_moment g c = λ honest.
+    let then = c.in_ok-sync.ensures.honest honest in
+    let may = g.met.D.Disk.content_may_stay c.args.disk.now (c.in_ok-write.ensures.honest then) in
+    put_done (g.D.Disk.past c.args.disk.now) (g.D.Disk.state c.args.disk.now) c.args.at c.args.bytes.now
+    (c.in_ok-write.ensures.any_moment then) (c.in_ok-write.ensures.done then) may (c.in_ok-sync.ensures.passed honest) (c.in_ok-sync.ensures.settled honest)

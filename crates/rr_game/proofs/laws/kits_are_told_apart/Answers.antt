@@ -1,5 +1,0 @@
-use Rattle.rr_game.proofs.OneKit.{one_kit}
-use Rattle.rr_game.proofs.laws.kits_are_told_apart.Goals as goal
-
-pub returns : goal.returns
-returns c = one_kit

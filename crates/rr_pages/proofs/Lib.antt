@@ -1,0 +1,9 @@
+pub mod Bytes
+pub mod Moments
+pub mod Spelling
+pub mod RootSpelling
+pub mod SetLemmas
+pub mod ChoosingLemmas
+pub mod Walks
+pub mod Lists
+pub mod Slices

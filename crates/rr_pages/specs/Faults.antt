@@ -1,0 +1,34 @@
+-- What the faults of pages mean.
+use Rattle.std.specs.Prelude.{◌≡◌, ℕ, Result, Ok, Err}
+use Rattle.rr_disk.specs.Disk as disk
+use Rattle.rr_disk.specs.Disk.{counted}
+use Rattle.rr_disk.specs.declared.fault.Fault.TheVariants.{DeviceFailed}
+use Rattle.rr_pages.specs.declared.fault.Damage.{Damage}
+use Rattle.rr_pages.specs.declared.fault.Damage.TheVariants.{RootField, PageOutside, PageTwice, UsedBytes, ChainLength}
+use Rattle.rr_pages.specs.declared.fault.Fault.{Fault}
+use Rattle.rr_pages.specs.declared.fault.Fault.TheVariants.{FileFull, Damaged, NotAStore, Disk, OutOfMemory}
+
+-- the number of a fault
+abbrev pub number_of : Fault → ℕ
+number_of FileFull = 62
+number_of (Damaged damage) = 63
+number_of NotAStore = 64
+number_of (Disk fault) = disk.number_of fault
+number_of OutOfMemory = 70
+
+-- the number of the clause that a damaged file breaks
+abbrev pub clause_of : Damage → ℕ
+clause_of RootField = 1
+clause_of PageOutside = 2
+clause_of PageTwice = 3
+clause_of UsedBytes = 4
+clause_of ChainLength = 5
+
+-- a fault of the disk is told exactly where the disk counted one more
+abbrev pub CountsFault : {T : Type 0} → ℕ → ℕ → Result T Fault → Type 0
+CountsFault old new (Ok value) = new ≡ old
+CountsFault old new (Err FileFull) = new ≡ old
+CountsFault old new (Err (Damaged damage)) = new ≡ old
+CountsFault old new (Err NotAStore) = new ≡ old
+CountsFault old new (Err (Disk fault)) = (fault ≡ DeviceFailed) × (new ≡ counted old)
+CountsFault old new (Err OutOfMemory) = new ≡ old

@@ -1,0 +1,15 @@
+pub mod Chains
+pub mod Choosing
+pub mod Device
+pub mod Faults
+pub mod Laws
+pub mod Laying
+pub mod FreePages
+pub mod Links
+pub mod PageSet
+pub mod Pages
+pub mod Reading
+pub mod Roots
+pub mod Sets
+pub mod Walk
+pub mod Writing

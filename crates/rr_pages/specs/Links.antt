@@ -1,0 +1,47 @@
+-- What following a chain gathers.
+use Rattle.std.specs.Prelude.{◌≡◌, ℕ, ◌+◌, ◌*◌, nat_lt, if◌then◌else◌, List, [], ◌∷◌, ◌++◌, length, map, sum_by, Option, None, Some, Result, Ok, Err}
+use Rattle.std.specs.List.{list_any}
+use Rattle.rr_pages.specs.declared.fault.Damage.{Damage}
+use Rattle.rr_pages.specs.declared.fault.Damage.TheVariants.{UsedBytes}
+use Rattle.rr_pages.specs.declared.fault.Fault.{Fault}
+use Rattle.rr_pages.specs.declared.fault.Fault.TheVariants.{FileFull, Damaged, NotAStore, Disk, OutOfMemory}
+use Rattle.rr_pages.specs.declared.reading.Link.{Link}
+use Rattle.rr_pages.specs.Chains.{used_of}
+use Rattle.rr_pages.specs.Pages.{StandsAt}
+use Rattle.rr_pages.specs.Walk.{length_damage}
+
+abbrev pub pages_of : List Link → List ℕ
+pages_of links = map (λ link. link.page) links
+
+-- each says how many bytes of its page are used
+abbrev pub AreLinks : List ℕ → List Link → Type 0
+AreLinks file [] = Unit {0}
+AreLinks file (link ∷ links) = (link.used ≡ used_of file link.page) × AreLinks file links
+
+-- the bytes of these pages, one after another
+abbrev pub Gathers : List ℕ → List Link → List ℕ → Type 0
+Gathers file [] bytes = bytes ≡ []
+Gathers file (link ∷ links) bytes =
+    (own : List ℕ) × (rest : List ℕ) × (bytes ≡ own ++ rest) × (length own ≡ link.used) × StandsAt file (4096 * link.page + 10) own × Gathers file links rest
+
+-- a page's used bytes come behind others
+abbrev pub AddsPiece : List ℕ → ℕ → ℕ → List ℕ → List ℕ → Type 0
+AddsPiece file page used old new = (own : List ℕ) × (new ≡ old ++ own) × (length own ≡ used) × StandsAt file (4096 * page + 10) own
+
+abbrev pub links_damage : List Link → Option ℕ → Option Damage
+links_damage links stated =
+    if list_any (λ link. nat_lt 4086 link.used) links then Some UsedBytes else length_damage (sum_by (λ link. link.used) links) stated
+
+-- the same of a chain that was followed to this end
+abbrev pub judged : List Link → Option Damage → Option ℕ → Option Damage
+judged links (Some damage) stated = Some damage
+judged links None stated = links_damage links stated
+
+-- a fault of the device or for want of memory alone
+abbrev pub NoVerdict : {T : Type 0} → Result T Fault → Type 0
+NoVerdict (Ok value) = Unit {0}
+NoVerdict (Err FileFull) = ⊥
+NoVerdict (Err (Damaged damage)) = ⊥
+NoVerdict (Err NotAStore) = ⊥
+NoVerdict (Err (Disk fault)) = Unit {0}
+NoVerdict (Err OutOfMemory) = Unit {0}

@@ -1,0 +1,6 @@
+-- What a set of pages has.
+use Rattle.std.specs.Prelude.{Bool, List}
+use Rattle.rr_pages.specs.declared.page_set.PageSet.{PageSet}
+
+abbrev pub marks_of : PageSet → List Bool
+marks_of set = set.marks.items

@@ -1,0 +1,32 @@
+-- What reading a chain answers.
+use Rattle.std.specs.Prelude.{◌≡◌, ℕ, Bool, List, Option, None, Some, Result, Ok, Err}
+use Rattle.rr_pages.specs.declared.fault.Fault.{Fault}
+use Rattle.rr_pages.specs.declared.fault.Damage.{Damage}
+use Rattle.rr_pages.specs.declared.fault.Fault.TheVariants.{FileFull, Damaged, NotAStore, Disk, OutOfMemory}
+use Rattle.rr_pages.specs.declared.reading.ReadChain.{ReadChain}
+use Rattle.rr_pages.specs.Chains.{Chain}
+use Rattle.rr_pages.specs.Sets.{all_marked}
+use Rattle.rr_pages.specs.Walk.{Walk, damage_of}
+
+-- A chain that was followed over these pages breaks no clause; it has these bytes, and all its pages are reached now.
+pub record IsWhole (file : List ℕ) (count : ℕ) (reached : List Bool) (head : ℕ) (stated : Option ℕ) (after : List Bool) (pages bytes : List ℕ) : Type 0 where
+  pub walk : Walk file count reached head pages None
+  pub unbroken : damage_of file pages None stated ≡ None
+  pub chain : Chain file head pages bytes
+  pub marks : after ≡ all_marked reached pages
+
+-- it was followed as far as it goes, and this is the first clause that it breaks
+pub record IsBroken (file : List ℕ) (count : ℕ) (reached : List Bool) (head : ℕ) (stated : Option ℕ) (after : List Bool) (damage : Damage) : Type 0 where
+  pub pages : List ℕ
+  pub end : Option Damage
+  pub walk : Walk file count reached head pages end
+  pub broken : damage_of file pages end stated ≡ Some damage
+  pub marks : after ≡ all_marked reached pages
+
+abbrev pub Reads : List ℕ → ℕ → List Bool → ℕ → Option ℕ → List Bool → Result ReadChain Fault → Type 0
+Reads file count reached head stated after (Ok chain) = IsWhole file count reached head stated after chain.pages.items chain.bytes.items
+Reads file count reached head stated after (Err FileFull) = ⊥
+Reads file count reached head stated after (Err (Damaged damage)) = IsBroken file count reached head stated after damage
+Reads file count reached head stated after (Err NotAStore) = ⊥
+Reads file count reached head stated after (Err (Disk fault)) = Unit {0}
+Reads file count reached head stated after (Err OutOfMemory) = Unit {0}

@@ -1,0 +1,187 @@
+ghost use Rattle.std.specs.Prelude.{◌≡◌, ◌*◌, ◌≤◌, ◌↔◌, true, false, not, ℕ, List, length, IfOk, IsTrue};
+ghost use Rattle.rr_pages.specs.Choosing.{Chooses, StandsBehind, AreFieldsIn, IsInBounds, IsRootOf};
+ghost use Rattle.rr_pages.specs.Choosing.{OnlyDevice, IsJudged};
+ghost use Rattle.rr_pages.specs.Faults.{CountsFault};
+
+use crate::page::OPEN;
+use crate::root::gate_of;
+use crate::{Damage, Fault, Root};
+use byteorder::{BigEndian, ByteOrder};
+use rr_disk::Disk;
+
+/// The root that an opening takes.
+#[derive(Clone, Copy, Debug)]
+pub struct Taken {
+    /// `false` the root on page 0, `true` the one on page 1.
+    pub side: bool,
+    pub root: Root,
+}
+
+// The fields of a root as they stand in a file.
+#[derive(Clone, Copy, Debug)]
+struct Fields {
+    number: u64,
+    directory: u64,
+    half: u8,
+    first: u64,
+    pages: u64,
+    version: u16,
+}
+
+/// Takes the open root of greater number. It writes nothing.
+///
+/// `NotAStore` where the file has fewer than 515 pages, no open root, or an open root of another version than 1; else
+/// `Damaged` where a field of an open root is out of bounds, or both are open with one number.
+pub fn take_root<D: Disk>(disk: &mut D) -> Result<Taken, Fault>
+    ensures chosen { D.Honest disk.new → Chooses (D.state disk.old).content result }
+    ensures fault { CountsFault (D.fault_count disk.old) (D.fault_count disk.new) result }
+    ensures honest { D.Honest disk.new → D.Honest disk.old }
+    ensures same_state { D.Honest disk.new → D.state disk.new ≡ D.state disk.old }
+    ensures same_past { D.Honest disk.new → D.past disk.new ≡ D.past disk.old }
+    ensures writes { D.write_count disk.new ≡ D.write_count disk.old }
+    ensures syncs { D.sync_count disk.new ≡ D.sync_count disk.old }
+    ensures works { D.Works disk.new → D.Works disk.old }
+    ensures same_len { D.file_len disk.new ≡ D.file_len disk.old }
+{
+    let len = disk.len();
+    if len < 4096 * 515 {
+        return Err(Fault::NotAStore);
+    }
+    let first = read_fields(disk, false)?;
+    let second = read_fields(disk, true)?;
+    let taken = choose(len, first, second)?;
+    Ok(taken)
+}
+
+// Reads what stands behind a gate, if it is open.
+fn read_fields<D: Disk>(disk: &mut D, side: bool) -> Result<Option<Fields>, Fault>
+    ensures fields { IfOk result (λ fields. D.Honest disk.new → StandsBehind (D.state disk.old).content side fields) }
+    ensures only { OnlyDevice result }
+    ensures fault { CountsFault (D.fault_count disk.old) (D.fault_count disk.new) result }
+    ensures honest { D.Honest disk.new → D.Honest disk.old }
+    ensures same_state { D.Honest disk.new → D.state disk.new ≡ D.state disk.old }
+    ensures same_past { D.Honest disk.new → D.past disk.new ≡ D.past disk.old }
+    ensures writes { D.write_count disk.new ≡ D.write_count disk.old }
+    ensures syncs { D.sync_count disk.new ≡ D.sync_count disk.old }
+    ensures works { D.Works disk.new → D.Works disk.old }
+    ensures same_len { D.file_len disk.new ≡ D.file_len disk.old }
+{
+    let mut bytes = [0u8; 36];
+    disk.read_at(gate_of(side), &mut bytes)?;
+    if bytes[0] != OPEN {
+        return Ok(None);
+    }
+    Ok(Some(fields_in(&bytes)))
+}
+
+fn fields_in(bytes: &[u8]) -> Fields
+    requires { length bytes.now ≡ 36 }
+    ensures { AreFieldsIn bytes.now result }
+{
+    Fields {
+        number: BigEndian::read_u64(&bytes[1..]),
+        directory: BigEndian::read_u64(&bytes[9..]),
+        half: bytes[17],
+        first: BigEndian::read_u64(&bytes[18..]),
+        pages: BigEndian::read_u64(&bytes[26..]),
+        version: BigEndian::read_u16(&bytes[34..]),
+    }
+}
+
+// Chooses between two roots, of which each is there where its gate is open.
+fn choose(len: u64, first: Option<Fields>, second: Option<Fields>) -> Result<Taken, Fault>
+    requires { 4096 * 515 ≤ len }
+    ensures judged { IsJudged result }
+    ensures chosen { (file : List ℕ) → length file ≡ len
+        → StandsBehind file false first → StandsBehind file true second → Chooses file result }
+{
+    match first {
+        None => match second {
+            None => Err(Fault::NotAStore),
+            Some(root) => choose_alone(len, true, root),
+        },
+        Some(root) => match second {
+            None => choose_alone(len, false, root),
+            Some(other) => choose_greater(len, root, other),
+        },
+    }
+}
+
+// Takes the only open root.
+fn choose_alone(len: u64, side: bool, fields: Fields) -> Result<Taken, Fault>
+    requires { 4096 * 515 ≤ len }
+    ensures judged { IsJudged result }
+    ensures chosen { (file : List ℕ) → length file ≡ len
+        → StandsBehind file side (Some fields) → StandsBehind file (not side) None → Chooses file result }
+{
+    if fields.version != 1 {
+        return Err(Fault::NotAStore);
+    }
+    if !are_in_bounds(len, &fields) {
+        return Err(Fault::Damaged(Damage::RootField));
+    }
+    Ok(Taken {
+        side,
+        root: root_of(&fields),
+    })
+}
+
+// Takes the one of greater number.
+fn choose_greater(len: u64, first: Fields, second: Fields) -> Result<Taken, Fault>
+    requires { 4096 * 515 ≤ len }
+    ensures judged { IsJudged result }
+    ensures chosen { (file : List ℕ) → length file ≡ len
+        → StandsBehind file false (Some first) → StandsBehind file true (Some second) → Chooses file result }
+{
+    if first.version != 1 {
+        return Err(Fault::NotAStore);
+    }
+    if second.version != 1 {
+        return Err(Fault::NotAStore);
+    }
+    if !are_in_bounds(len, &first) {
+        return Err(Fault::Damaged(Damage::RootField));
+    }
+    if !are_in_bounds(len, &second) {
+        return Err(Fault::Damaged(Damage::RootField));
+    }
+    if first.number == second.number {
+        return Err(Fault::Damaged(Damage::RootField));
+    }
+    if first.number < second.number {
+        return Ok(Taken {
+            side: true,
+            root: root_of(&second),
+        });
+    }
+    Ok(Taken {
+        side: false,
+        root: root_of(&first),
+    })
+}
+
+// Whether a root of a file of this length may have these fields.
+fn are_in_bounds(len: u64, fields: &Fields) -> bool
+    ensures { IsTrue result ↔ IsInBounds len fields.now }
+{
+    fields.number < 1 << 63
+        && fields.half <= 1
+        && fields.first > 0
+        && fields.first < 1 << 63
+        && fields.pages >= 515
+        && fields.pages <= 65536
+        && 4096 * fields.pages <= len
+}
+
+fn root_of(fields: &Fields) -> Root
+    ensures { IsRootOf fields.now result }
+{
+    Root {
+        number: fields.number,
+        directory: fields.directory,
+        half: fields.half == 1,
+        first: fields.first,
+        pages: fields.pages,
+        version: fields.version,
+    }
+}

@@ -1,0 +1,23 @@
+//! The parts of the file below the store: pages of 4,096 bytes, chains of them, which of them are free, and two roots
+//! with gates, of which one is taken. Numbers in the file are big-endian.
+#![tactic(auto)]
+
+mod chain;
+mod choosing;
+mod device;
+mod fault;
+mod free_pages;
+pub mod laws;
+mod page;
+mod page_set;
+mod reading;
+mod root;
+
+pub use chain::{FreshPage, chain_write};
+pub use choosing::{Taken, take_root};
+pub use device::shut;
+pub use fault::{Damage, Fault};
+pub use free_pages::FreePages;
+pub use page_set::PageSet;
+pub use reading::{ReadChain, chain_read};
+pub use root::{Root, Roots};

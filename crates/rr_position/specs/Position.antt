@@ -1,0 +1,35 @@
+-- The views of a table, and what it is for them to stand for its book.
+use Rattle.std.specs.Prelude.{ℕ, ◌≤◌, ◌++◌}
+use Rattle.rr_books.specs.Book.{Book}
+use Rattle.rr_books.specs.declared.entries.Entry.{Entry}
+use Rattle.rr_books.specs.State.{State as Tables, IsStateOf, Fits as FitsTables}
+use Rattle.rr_bids.specs.Progress.{Progress, IsBiddingOf, amount_bid}
+use Rattle.rr_market.specs.State.{State as Tokens, IsMarketOf}
+use Rattle.rr_rounds.specs.Round.{Round, IsRoundOf}
+use Rattle.rr_layout.specs.Layout.{Placed, IsLayoutOf}
+
+-- the money and the places, how far the auction has come, the tokens on the chart, how far the stock rounds have come,
+-- the tiles and tokens on the board, and how many entries were followed
+pub record OnTable : Type 0 where
+  pub books : Tables
+  pub bidding : Progress
+  pub market : Tokens
+  pub rounds : Round
+  pub layout : Placed
+  pub entries : ℕ
+
+-- each view stands for the book
+pub record IsPositionOf (book : Book) (p : OnTable) : Type 0 where
+  pub books : IsStateOf book p.books
+  pub bidding : IsBiddingOf book p.bidding
+  pub market : IsMarketOf book p.market
+  pub rounds : IsRoundOf book p.rounds
+  pub layout : IsLayoutOf book p.layout
+
+-- an entry that the views have room for
+abbrev pub Fits : OnTable → Entry → Type 0
+Fits p e = FitsTables p.books e × (amount_bid e ≤ 10000000000)
+
+-- the new views stand for every book that the old ones stood for, with these entries more
+abbrev pub Follows : OnTable → OnTable → Book → Type 0
+Follows old new entries = (book : Book) → IsPositionOf book old → IsPositionOf (book ++ entries) new

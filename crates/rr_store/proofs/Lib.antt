@@ -1,0 +1,10 @@
+pub mod Records
+pub mod Outcomes
+pub mod WorldLemmas
+pub mod ReplayLemmas
+pub mod Verdicts
+pub mod Keepings
+pub mod Standing
+pub mod Commits
+pub mod Openings
+pub mod Worlds

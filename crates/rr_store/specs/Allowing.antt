@@ -1,0 +1,81 @@
+-- What the calls of a store may do to its disk, as relations on the disk's states, the kit's texts and worlds alone.
+-- The moments of a call are the disk's states since its start, newest first: none where the disk is as it was.
+use Rattle.std.specs.Prelude.{◌≡◌, ◌⊎◌, ℕ, List, [], ◌∷◌, ◌++◌, Option, Some, None, Result, Ok, Err}
+use Rattle.rr_disk.specs.Disk.{DiskState, after_sync}
+use Rattle.rr_disk.specs.Moments.{EachImage, EachImageOf}
+use Rattle.rr_kit.specs.declared.kit.Kit.{Kit}
+use Rattle.rr_kit.specs.Kits.{IsRightKit, KitTexts, SpellsKit}
+use Rattle.rr_store.specs.declared.fault.Fault.{Fault}
+use Rattle.rr_store.specs.declared.fault.Fault.TheVariants as F
+use Rattle.rr_store.specs.Files.{IsDamagedFile, IsNewFile, IsNoFile, StandsFor}
+use Rattle.rr_store.specs.World.{IsOfForm, TableCommand, World, verdict_in, with_pending, world_after}
+
+-- a stop in this state leaves only files that stand for this world
+abbrev pub Keeps : DiskState → KitTexts → World → Type 0
+Keeps state texts tables = EachImage state (λ image. StandsFor image texts tables)
+
+-- some moments, of which P holds, lie between an earlier state of a disk and a later one
+pub record Between (past_old : List DiskState) (old : DiskState) (past_new : List DiskState) (new : DiskState) (P : List DiskState → Type 0) : Type 0 where
+  pub moments : List DiskState
+  pub passed : new ∷ past_new ≡ moments ++ old ∷ past_old
+  pub allowed : P moments
+
+-- the file stands for the world, or for the world with the command that is pending
+abbrev pub BeforeOrAfter : KitTexts → World → Option TableCommand → List ℕ → Type 0
+BeforeOrAfter texts tables pending image = StandsFor image texts tables ⊎ StandsFor image texts (with_pending tables pending)
+
+-- no rule refuses the command with this stamp
+pub record IsLawful (texts : KitTexts) (tables : World) (stamp : ℕ) (c : TableCommand) : Type 0 where
+  pub kit : Kit
+  pub right : SpellsKit texts kit
+  pub of_form : IsOfForm c
+  pub lawful : verdict_in kit tables stamp c.name c.command ≡ None
+
+-- a command is pending only where it is lawful
+abbrev pub MayPend : KitTexts → World → ℕ → TableCommand → Option TableCommand → Type 0
+MayPend texts tables stamp c None = Unit {0}
+MayPend texts tables stamp c (Some given) = (given ≡ c) × IsLawful texts tables stamp c
+
+-- how the disk is left where a commit ends so: with the command; after a device fault nothing more is known; any other
+-- refusal has left it alone
+abbrev pub CommitEnds : KitTexts → World → ℕ → TableCommand → List DiskState → DiskState → Result ℕ Fault → Type 0
+CommitEnds texts tables stamp c moments new (Ok _) = IsLawful texts tables stamp c × Keeps new texts (world_after tables c.name c.command)
+CommitEnds texts tables stamp c moments new (Err F.DeviceFailed) = IsLawful texts tables stamp c
+CommitEnds texts tables stamp c moments new (Err fault) = moments ≡ []
+
+-- What a commit may do to a disk that keeps a world: at each moment every image stands for the world, or for the world with
+-- the command, if it is lawful.
+pub record CommitAllows (texts : KitTexts) (tables : World) (stamp : ℕ) (c : TableCommand) (old : DiskState) (moments : List DiskState) (new : DiskState) (result : Result ℕ Fault) : Type 0 where
+  pub pending : Option TableCommand
+  pub pends : MayPend texts tables stamp c pending
+  pub before : Keeps old texts tables
+  pub each : EachImageOf moments (BeforeOrAfter texts tables pending)
+  pub ends : CommitEnds texts tables stamp c moments new result
+
+-- a sync at most, and no write
+abbrev pub SyncsAtMost : DiskState → List DiskState → Type 0
+SyncsAtMost old moments = (moments ≡ []) ⊎ (moments ≡ after_sync old ∷ [])
+
+-- why a file isn't opened
+abbrev pub Refuses : List ℕ → Fault → Type 0
+Refuses file F.DeviceFailed = Unit {0}
+Refuses file F.OutOfMemory = Unit {0}
+Refuses file F.NotAStore = IsNoFile file
+Refuses file (F.Damaged clause) = (clause ≡ 8) × IsDamagedFile file
+Refuses file _ = ⊥
+
+-- What an opening may do, and what it may answer: the texts and the world for which the file stands, behind a sync; or why
+-- it stands for none, or that the device failed or memory was wanted.
+abbrev pub OpenAllows : DiskState → List DiskState → DiskState → Result (KitTexts × World) Fault → Type 0
+OpenAllows old moments new (Ok found) =
+    StandsFor old.content found.0 found.1 × (moments ≡ after_sync old ∷ []) × Keeps new found.0 found.1
+OpenAllows old moments new (Err fault) = SyncsAtMost old moments × Refuses old.content fault
+
+-- What a formatting may do: where it is done, the texts are a right kit, and what a read gives and whatever a stop leaves
+-- from then on is a new file of them, which stands for no table. A device fault may leave anything; any other refusal
+-- leaves the disk alone.
+abbrev pub FormatAllows : KitTexts → DiskState → DiskState → Result (Unit {0}) Fault → Type 0
+FormatAllows texts old new (Ok _) =
+    IsRightKit texts × IsNewFile new.content texts × EachImage new (λ image. IsNewFile image texts) × Keeps new texts []
+FormatAllows texts old new (Err F.DeviceFailed) = Unit {0}
+FormatAllows texts old new (Err fault) = new ≡ old

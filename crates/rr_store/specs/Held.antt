@@ -1,0 +1,48 @@
+-- What a store holds, and what comes of a command.
+use Rattle.std.specs.Prelude.{◌≡◌, ℕ, ◌⊎◌, Bool, true, false, List, None, Some, Result, Ok, Err}
+use Rattle.rr_kit.specs.declared.kit.Kit.{Kit}
+use Rattle.rr_code.specs.declared.command.Command.{Command}
+use Rattle.rr_store.specs.declared.fault.Fault.{Fault}
+use Rattle.rr_store.specs.declared.fault.Fault.TheVariants as F
+use Rattle.rr_store.specs.World.{World, state_after, table_named, verdict_in, world_after}
+
+-- what a store holds: the kit, the tables, and whether the device failed since the file was opened
+pub record Held : Type 0 where
+  pub kit : Kit
+  pub tables : World
+  pub broken : Bool
+
+abbrev pub with_tables : Held → World → Held
+with_tables held tables = record { kit = held.kit; tables = tables; broken = held.broken }
+
+abbrev pub with_failure : Held → Held
+with_failure held = record { kit = held.kit; tables = held.tables; broken = true }
+
+-- the new stamp of a table that has taken a command
+abbrev pub stamp_after : World → List ℕ → Command → ℕ
+stamp_after tables name command = (state_after (table_named tables name) command).stamp
+
+-- what comes of a command with this stamp: its table's new stamp, or why it is refused
+pub data Takes (old : Held) (stamp : ℕ) (name : List ℕ) (command : Command) (new : Held) : Result ℕ Fault → Type 0 where
+  -- no rule refuses it, and the table has taken it
+  Accepted : old.broken ≡ false → verdict_in old.kit old.tables stamp name command ≡ None
+      → new ≡ with_tables old (world_after old.tables name command)
+      → Takes old stamp name command new (Ok (stamp_after old.tables name command))
+  -- the first rule that it breaks refuses it
+  Refused : (fault : Fault) → old.broken ≡ false → verdict_in old.kit old.tables stamp name command ≡ Some fault
+      → new ≡ old → Takes old stamp name command new (Err fault)
+  -- no rule refuses it, but there is no room for it in the file or in memory
+  NoRoom : (fault : Fault) → old.broken ≡ false → verdict_in old.kit old.tables stamp name command ≡ None
+      → (fault ≡ F.HalfFull) ⊎ (fault ≡ F.OutOfMemory)
+      → new ≡ old → Takes old stamp name command new (Err fault)
+  -- no rule refuses it, but the device failed
+  Fails : old.broken ≡ false → verdict_in old.kit old.tables stamp name command ≡ None
+      → new ≡ with_failure old → Takes old stamp name command new (Err F.DeviceFailed)
+  -- the device failed before
+  Again : old.broken ≡ true → new ≡ old → Takes old stamp name command new (Err F.OpenAgain)
+
+-- why a store gives no table of this name
+abbrev pub LacksTable : Held → List ℕ → Fault → Type 0
+LacksTable held name F.OpenAgain = held.broken ≡ true
+LacksTable held name F.NoSuchTable = (held.broken ≡ false) × (table_named held.tables name ≡ None)
+LacksTable held name _ = ⊥

@@ -1,0 +1,12 @@
+pub mod Fault
+pub mod World
+pub mod Held
+pub mod Lent
+pub mod Replaying
+pub mod Files
+pub mod Allowing
+pub mod Formatting
+pub mod Logging
+pub mod Holding
+pub mod Committing
+pub mod Laws

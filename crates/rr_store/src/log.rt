@@ -1,0 +1,47 @@
+//! The file, as what keeps the records of commands.
+ghost use Rattle.std.specs.Prelude.{◌≡◌, ◌<◌, OnOk, IsOkUnless, length};
+ghost use Rattle.rr_code.specs.Command.{record_text};
+
+use crate::fault::Fault;
+use crate::tables::Journal;
+use rr_code::Command;
+use rr_disk::Disk;
+use rr_keeper::Keeper;
+use rr_words::Name;
+
+/// What keeps the file, and the room in which a record is spelled.
+#[derive(Drop)]
+pub(crate) struct Log<D: Drop> {
+    pub(crate) keeper: Keeper<D>,
+    pub(crate) buffer: Vec<u8>,
+}
+
+impl<D: Disk + Drop> Journal for Log<D> {
+    ghost use Rattle.rr_keeper.specs.Keeper.{is_broken};
+    ghost use Rattle.rr_store.specs.Logging.{HasNoRoom, Keeping};
+
+    ghost IsFull = { λ log bytes. HasNoRoom log.keeper bytes };
+
+    ghost broken = { λ log. is_broken log.keeper };
+
+    ghost Kept = { λ old bytes result new. Keeping D.Honest D.state D.past D.fault_count D.write_count D.sync_count old.keeper bytes result new.keeper };
+
+    fn keep(&mut self, name: &Name, command: &Command) -> Result<(), Fault> {
+        spell(name, command, &mut self.buffer)?;
+        self.keeper.append(self.buffer.as_slice())?;
+        Ok(())
+    }
+}
+
+/// Spells the record of a table's command.
+fn spell(name: &Name, command: &Command, buffer: &mut Vec<u8>) -> Result<(), Fault>
+    ensures ok { OnOk result (buffer.new.items ≡ record_text name.now command.now) }
+    ensures some { OnOk result (0 < length buffer.new.items) }
+    ensures err { IsOkUnless result Fault.OutOfMemory }
+{
+    buffer.clear();
+    buffer.extend_from_slice(name.as_bytes())?;
+    buffer.extend_from_slice(b" ")?;
+    command.write(buffer)?;
+    Ok(())
+}

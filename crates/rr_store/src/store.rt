@@ -1,0 +1,145 @@
+ghost use Rattle.std.specs.Prelude.{◌≡◌, ◌≢◌, ◌+◌, ◌≤◌, true, false, IfOk, IfErr, MatchResult, Some, None, slice_get, length};
+ghost use Rattle.std.specs.Option.{option_copied};
+ghost use Rattle.rr_code.specs.Command.{IsCommand, record_text};
+ghost use Rattle.rr_game.specs.Keeping.{IsGameOf};
+ghost use Rattle.rr_words.specs.Name.{IsTableName};
+ghost use Rattle.rr_store.specs.Held.{LacksTable};
+ghost use Rattle.rr_store.specs.World.{commands_in, names, table_named, verdict_in};
+
+use crate::fault::Fault;
+use crate::log::Log;
+use crate::tables::{Table, Tables};
+use rr_code::Command;
+use rr_disk::Disk;
+use rr_kit::Kit;
+use rr_words::Name;
+use std::alloc::Global;
+
+/// An open file, and the tables that it keeps.
+#[derive(Drop)]
+pub struct Store<D: Drop> {
+    alloc: Global,
+    log: Log<D>,
+    tables: Tables,
+}
+
+impl<D: Disk + Drop> Store<D> {
+    ghost use Rattle.rr_store.specs.Committing.{Commits};
+    ghost use Rattle.rr_store.specs.Holding.{disk_of, game_of, held_of, state_of};
+
+    pub(crate) fn new(alloc: Global, log: Log<D>, tables: Tables) -> Store<D>
+        ensures log { result.log ≡ log }
+        ensures tables { result.tables ≡ tables }
+    {
+        Store { alloc, log, tables }
+    }
+
+    /// The disk on which the file stands, with all that it went through.
+    pub fn into_disk(self) -> D
+        ensures { result ≡ disk_of self }
+    {
+        let Store {
+            alloc: _,
+            log,
+            tables: _,
+        } = self;
+        let Log { keeper, buffer: _ } = log;
+        keeper.into_disk()
+    }
+
+    /// Lets a table take a command with this stamp, and keeps it in the file; gives the table's new stamp. All memory is
+    /// taken before the first write. From `Ok` on the command is safe.
+    ///
+    /// # Errors
+    /// `OpenAgain` first, where the device failed before. Then what refuses the command: for an opening `StaleStamp` and
+    /// `TooManyTables`; for another command `NoSuchTable`, `StaleStamp`, `TooManyCommands`, and what the game refuses.
+    /// Then `OutOfMemory`, and `HalfFull` where the journal has no room. After `DeviceFailed` the command may be in the
+    /// file or not, and the store is broken.
+    pub fn commit(&mut self, name: &Name, stamp: u64, command: &Command) -> Result<u64, Fault>
+        requires name { IsTableName name.now }
+        requires command { IsCommand command.now }
+        ensures { Commits D.Honest D.state D.past D.fault_count D.write_count D.sync_count self.old name.now stamp command.now self.new result }
+    {
+        if self.log.keeper.is_broken() {
+            return Err(Fault::OpenAgain);
+        }
+        self.tables
+            .take(self.alloc, stamp, name, command, &mut self.log)
+    }
+
+    /// A device call failed: each call but `into_disk` is refused until the file is opened again.
+    pub fn is_broken(&self) -> bool
+        ensures { result ≡ (held_of self.now).broken }
+    {
+        self.log.keeper.is_broken()
+    }
+
+    /// What the tables are played with.
+    pub fn kit(&self) -> &Kit
+        ensures { result.now ≡ (held_of self.now).kit }
+    {
+        self.tables.kit()
+    }
+
+    /// How many tables there are.
+    ///
+    /// # Errors
+    /// `OpenAgain`.
+    pub fn count(&self) -> Result<usize, Fault>
+        ensures count { MatchResult result
+            (λ count. ((held_of self.now).broken ≡ false) × (count ≡ length (held_of self.now).tables))
+            (λ fault. ((held_of self.now).broken ≡ true) × (fault ≡ Fault.OpenAgain)) }
+        ensures few { IfOk result (λ count. count ≤ 64) }
+    {
+        if self.log.keeper.is_broken() {
+            return Err(Fault::OpenAgain);
+        }
+        Ok(self.tables.count())
+    }
+
+    /// The name of the table at a place in the order of opening, from 0, if there is one.
+    ///
+    /// # Errors
+    /// `OpenAgain`.
+    pub fn name(&self, place: usize) -> Result<Option<&Name>, Fault>
+        ensures { MatchResult result
+            (λ found. ((held_of self.now).broken ≡ false) × (option_copied found ≡ slice_get (names (held_of self.now).tables) place))
+            (λ fault. ((held_of self.now).broken ≡ true) × (fault ≡ Fault.OpenAgain)) }
+    {
+        if self.log.keeper.is_broken() {
+            return Err(Fault::OpenAgain);
+        }
+        Ok(self.tables.name(place))
+    }
+
+    /// The table of this name.
+    ///
+    /// # Errors
+    /// `OpenAgain` first, then `NoSuchTable`.
+    pub fn table(&self, name: &Name) -> Result<&Table, Fault>
+        ensures found { MatchResult result
+            (λ table. ((held_of self.now).broken ≡ false) × (table_named (held_of self.now).tables name.now ≡ Some (state_of table.now)))
+            (λ fault. LacksTable (held_of self.now) name.now fault) }
+        ensures game { IfOk result (λ table. IsGameOf (held_of self.now).kit (state_of table.now).accepted (game_of table.now)) }
+    {
+        if self.log.keeper.is_broken() {
+            return Err(Fault::OpenAgain);
+        }
+        self.tables.table(name)
+    }
+
+    /// The number of the last command that was accepted, counted over all tables from 1; 0 where there is none.
+    ///
+    /// # Errors
+    /// `OpenAgain`.
+    pub fn last(&self) -> Result<u64, Fault>
+        ensures { MatchResult result
+            (λ last. ((held_of self.now).broken ≡ false) × (last ≡ commands_in (held_of self.now).tables))
+            (λ fault. ((held_of self.now).broken ≡ true) × (fault ≡ Fault.OpenAgain)) }
+    {
+        if self.log.keeper.is_broken() {
+            return Err(Fault::OpenAgain);
+        }
+        Ok(self.tables.commands())
+    }
+}

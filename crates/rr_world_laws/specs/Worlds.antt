@@ -1,0 +1,42 @@
+-- What is true of each file that stands for a world, and of each world that commands lead to.
+use Rattle.std.specs.Prelude.{◌≡◌, ◌⊎◌, ℕ, List, [], ◌∷◌, ◌++◌, length}
+use Rattle.std.specs.List.{AllByRecursion}
+use Rattle.rr_kit.specs.declared.kit.Kit.{Kit}
+use Rattle.rr_kit.specs.Kits.{IsWrongKit, KitTexts, SpellsKit}
+use Rattle.rr_game.specs.Play.{play, players_of}
+use Rattle.rr_laws.specs.Sound.{IsSoundTable, NamesCorporations}
+use Rattle.rr_store.specs.declared.fault.Fault.{Fault}
+use Rattle.rr_store.specs.declared.fault.Fault.TheVariants.{DeviceFailed, OutOfMemory}
+use Rattle.rr_store.specs.Allowing.{Refuses}
+use Rattle.rr_store.specs.Files.{StandsFor}
+use Rattle.rr_store.specs.World.{Follows, TableCommand, World}
+
+-- each table's book is in order
+abbrev pub IsSoundWorld : Kit → World → Type 0
+IsSoundWorld kit tables = AllByRecursion (λ t. IsSoundTable (length (players_of t.1.accepted)) (play kit t.1.accepted)) tables
+
+-- so it is whatever lawful commands led to the world
+abbrev pub WorldsAreSound : Type 0
+WorldsAreSound =
+    (kit : Kit) (commands : List TableCommand) (tables : World) → NamesCorporations kit → Follows kit [] commands tables → IsSoundWorld kit tables
+
+-- and so is each world for which a file stands, with the kit that its texts spell
+abbrev pub FilesAreSound : Type 0
+FilesAreSound =
+    (file : List ℕ) (texts : KitTexts) (tables : World) → StandsFor file texts tables → (kit : Kit) × SpellsKit texts kit × IsSoundWorld kit tables
+
+-- a kit that texts spell is no wrong one
+abbrev pub RightKitsAreNotWrong : Type 0
+RightKitsAreNotWrong = (texts : KitTexts) (kit : Kit) → SpellsKit texts kit → ¬ IsWrongKit texts
+
+-- a file that stands for a world is refused only where the device fails or memory is wanted
+abbrev pub StandingFilesOpen : Type 0
+StandingFilesOpen =
+    (file : List ℕ) (texts : KitTexts) (tables : World) (fault : Fault) → StandsFor file texts tables → Refuses file fault
+    → (fault ≡ DeviceFailed) ⊎ (fault ≡ OutOfMemory)
+
+-- commands that lead on lead to another world
+abbrev pub WorldsDiffer : Type 0
+WorldsDiffer =
+    (kit : Kit) (first before after : World) (commands more : List TableCommand) → Follows kit first commands before → Follows kit first (commands ++ more) after
+    → after ≡ before → more ≡ []
