@@ -1,7 +1,7 @@
 ghost use Rattle.std.specs.Prelude.{◌≡◌, ◌≤◌, ℕ, List, [], ◌∷◌, ◌++◌, OnOk, OnErr, IfErr};
 ghost use Rattle.rr_books.specs.declared.entries.Marker.TheVariants as M;
 ghost use Rattle.rr_books.specs.Opening.{opening_entries};
-ghost use Rattle.rr_position.specs.Position.{Fits, Follows, IsPositionOf};
+ghost use Rattle.rr_position.specs.Position.{Fits, Follows, HasRoom, IsPositionOf};
 
 use rr_bids::Bidding;
 use rr_books::{Books, Entry, Fault};
@@ -140,6 +140,7 @@ impl Position {
         ensures fault { IfErr result (λ fault. fault ≡ Fault.OutOfMemory) }
         ensures book { OnOk result (Follows self.old self.new (entry.now ∷ [])) }
         ensures err { OnErr result (self.new ≡ self.old) }
+        ensures room { OnErr result (HasRoom self.old entry.now → ⊥) }
     {
         if MOST_ENTRIES <= self.entries {
             return Err(Fault::OutOfMemory);
