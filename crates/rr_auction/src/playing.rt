@@ -13,8 +13,8 @@ use crate::pricing::{cost, for_sale};
 use crate::settling::{sell, settle};
 use rr_books::{Act, Corp, Entry, Fault, Marker, Money, Private, Seat};
 use rr_chart::Chart;
-use rr_market::par_cell;
 use rr_desk::{Desk, pay_incomes};
+use rr_market::par_cell;
 use rr_roster::Roster;
 
 /// Adds what a command of the auction adds to a table's book: its own step first, and then what it settles. A command

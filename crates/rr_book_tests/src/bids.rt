@@ -74,7 +74,12 @@ fn three_passes_lower_the_price(rt: HostRuntime) {
     let mut bidding = Bidding::open();
     for seat in [A, B, C] {
         assert_eq!(rt; bidding.falls(), 0);
-        bidding = after(&rt, bidding, &Entry::Step(Marker::Act(Act::Pass { seat })), &books);
+        bidding = after(
+            &rt,
+            bidding,
+            &Entry::Step(Marker::Act(Act::Pass { seat })),
+            &books,
+        );
     }
     assert_eq!(rt; bidding.falls(), 1);
     assert!(rt; !bidding.all_pass(3));

@@ -4,11 +4,9 @@ use rr_books::{
     Cell, Cert, Corp, Entry, Fault, Kind, Marker, Money, Party, Place, Private, Seat, ShareNumber,
     Train,
 };
+use rr_desk::{Desk, Entries, Position, give_lowest_share, left_of, lowest_share, pay_incomes};
 use rr_layout::Layout;
 use rr_market::Market;
-use rr_desk::{
-    Desk, Entries, Position, give_lowest_share, left_of, lowest_share, pay_incomes,
-};
 use rr_rounds::Rounds;
 use std::process::Abort;
 
@@ -189,12 +187,7 @@ fn the_market_and_the_rounds_follow(rt: HostRuntime) {
     check(&rt, "step", step(&mut desk, Marker::Stock), Ok(()));
     let position = desk.position();
     check(&rt, "cell", position.market().cell(Corp::Prr), Some(cell));
-    check(
-        &rt,
-        "stock round",
-        position.rounds().is_under_way(),
-        true,
-    );
+    check(&rt, "stock round", position.rounds().is_under_way(), true);
 }
 
 #[test]
@@ -202,7 +195,14 @@ fn a_position_is_made_of_its_views(rt: HostRuntime) {
     let opened = opening::position(&rt, 3);
     let books = *opened.books();
     assert!(rt; books.payments() <= 3);
-    let position = Position::of_views(books, Bidding::open(), Market::new(), Rounds::new(), Layout::new(), 3);
+    let position = Position::of_views(
+        books,
+        Bidding::open(),
+        Market::new(),
+        Rounds::new(),
+        Layout::new(),
+        3,
+    );
     check(&rt, "players", position.books().players(), 3);
 }
 

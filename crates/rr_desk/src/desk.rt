@@ -4,8 +4,8 @@ ghost use Rattle.rr_desk.specs.Effects.{adds};
 ghost use Rattle.rr_position.specs.Position.{Fits, IsPositionOf};
 ghost use Rattle.rr_desk.specs.Desk.{Holds, Takes};
 
-use rr_books::{Books, Entry, Fault};
 use crate::entries::Entries;
+use rr_books::{Books, Entry, Fault};
 use rr_position::Position;
 use std::alloc::Global;
 use std::marker::Model;

@@ -8,8 +8,8 @@ mod incomes;
 mod shares;
 
 pub use desk::Desk;
-pub use incomes::pay_incomes;
 pub use entries::Entries;
+pub use incomes::pay_incomes;
 pub use rr_books::left_of;
 pub use rr_position::Position;
 pub use shares::{give_lowest_share, lowest_share};

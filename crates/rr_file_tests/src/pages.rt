@@ -154,6 +154,9 @@ fn the_root_that_was_written_last_is_taken(rt: HostRuntime) -> Result<(), Fail> 
         assert_eq!(rt; taken.root.half, side);
     }
     write(&mut disk, 4096 + 26, &517u64.to_be_bytes())?;
-    assert_eq!(rt; take(&mut disk).err(), Some(Fault::Damaged(Damage::RootField)));
+    assert_eq!(rt;
+        take(&mut disk).err(),
+        Some(Fault::Damaged(Damage::RootField))
+    );
     Ok(())
 }

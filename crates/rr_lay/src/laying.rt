@@ -8,20 +8,19 @@ ghost use Rattle.rr_desk.specs.Desk.{Takes};
 ghost use Rattle.rr_lay.specs.Rows.{puts};
 ghost use Rattle.rr_lay.specs.Position.{position_in, position_of};
 ghost use Rattle.rr_lay.specs.Laying.{IsLayVerdict, IsVerdictOn, cost_at, first_lay_verdict, lay_cost, lay_row, supply_verdict};
-
-use crate::colours::is_open;
 ghost use Rattle.rr_books.specs.declared.faults.Fault.TheVariants as B;
 
+use crate::colours::is_open;
 use crate::fault::Fault;
 use crate::hexes::{hexes_with, is_blocked, is_next_colour, laid_colour};
 use crate::rows::{judge_cost, pay_cost};
 use crate::upgrades::{is_upgrade, reaches_new_link};
 use rr_board::Hex;
 use rr_books::{Act, Corp, Entry, Marker};
+use rr_desk::{Desk, Position};
 use rr_kit::Kit;
 use rr_layout::Lay;
 use rr_network::last_lay;
-use rr_desk::{Desk, Position};
 use rr_tiles::Supply;
 use rr_trains::phase;
 use std::alloc::Global;
@@ -93,13 +92,7 @@ fn put(desk: &mut Desk, corp: Corp, lay: &Lay, cost: Option<u16>) -> Result<(), 
     Ok(())
 }
 
-fn judge(
-    alloc: Global,
-    kit: &Kit,
-    position: &Position,
-    corp: Corp,
-    lay: &Lay,
-) -> Result<(), Fault>
+fn judge(alloc: Global, kit: &Kit, position: &Position, corp: Corp, lay: &Lay) -> Result<(), Fault>
     ensures { MatchResult result
         (λ _. IsLayVerdict kit.now.board kit.now.tiles (position_in position.now.books position.now.layout) corp lay.now None)
         (λ fault. ((fault ≡ Fault.OutOfMemory) × (first_lay_verdict kit.now.board kit.now.tiles (position_in position.now.books position.now.layout) lay.now ≡ None)) ⊎ IsLayVerdict kit.now.board kit.now.tiles (position_in position.now.books position.now.layout) corp lay.now (Some fault)) }
@@ -156,7 +149,12 @@ fn judge_supply(kit: &Kit, position: &Position, hex: &Hex, supply: &Supply) -> R
     if supply.count as usize <= hexes_with(lays, supply.number, kit.board().hexes()) {
         return Err(Fault::TileGone);
     }
-    if is_blocked(position.books(), kit.board().blocks(), &hex.name, supply.colour) {
+    if is_blocked(
+        position.books(),
+        kit.board().blocks(),
+        &hex.name,
+        supply.colour,
+    ) {
         return Err(Fault::BlockedHex);
     }
     Ok(())

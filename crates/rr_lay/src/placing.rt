@@ -17,10 +17,10 @@ use crate::rows::{judge_cost, pay_cost};
 use crate::slots::{city_slots, has_own_at, is_full, placed_by, token_cost};
 use rr_board::Hex;
 use rr_books::{Act, Entry, Marker};
+use rr_desk::{Desk, Position};
 use rr_kit::Kit;
 use rr_layout::{Layout, Station};
 use rr_network::{Network, Reach, node_of};
-use rr_desk::{Desk, Position};
 use rr_roster::Corp;
 use std::alloc::{AllocError, Global};
 
@@ -89,12 +89,7 @@ fn put(desk: &mut Desk, station: &Station, cost: u16) -> Result<(), rr_books::Fa
     Ok(())
 }
 
-fn judge(
-    alloc: Global,
-    kit: &Kit,
-    position: &Position,
-    station: &Station,
-) -> Result<(), Fault>
+fn judge(alloc: Global, kit: &Kit, position: &Position, station: &Station) -> Result<(), Fault>
     ensures { MatchResult result
         (λ _. IsStationVerdict kit.now.board kit.now.tiles (tokens_of kit.now.roster station.now.corp) (position_in position.now.books position.now.layout) station.now None)
         (λ fault. ((fault ≡ Fault.OutOfMemory) × (first_station_verdict kit.now.board (tokens_of kit.now.roster station.now.corp) (position_in position.now.books position.now.layout) station.now ≡ None)) ⊎ IsStationVerdict kit.now.board kit.now.tiles (tokens_of kit.now.roster station.now.corp) (position_in position.now.books position.now.layout) station.now (Some fault)) }
@@ -148,12 +143,7 @@ fn judge_slot(
     Ok(())
 }
 
-fn judge_city(
-    kit: &Kit,
-    layout: &Layout,
-    station: &Station,
-    slots: Option<u8>,
-) -> Result<(), Fault>
+fn judge_city(kit: &Kit, layout: &Layout, station: &Station, slots: Option<u8>) -> Result<(), Fault>
     ensures { MatchResult result
         (λ _. city_verdict kit.now.board.homes layout.now.stations station.now slots ≡ None)
         (λ fault. city_verdict kit.now.board.homes layout.now.stations station.now slots ≡ Some fault) }

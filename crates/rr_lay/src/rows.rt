@@ -25,7 +25,11 @@ pub(crate) fn judge_cost(books: &Books, corp: Corp, cost: Option<u16>) -> Result
 }
 
 // Pays the cost to the bank, if there is one.
-pub(crate) fn pay_cost(desk: &mut Desk, corp: Corp, cost: Option<u16>) -> Result<(), rr_books::Fault>
+pub(crate) fn pay_cost(
+    desk: &mut Desk,
+    corp: Corp,
+    cost: Option<u16>,
+) -> Result<(), rr_books::Fault>
     ensures fault { IfErr result (λ fault. fault ≡ B.OutOfMemory) }
     ensures takes { OnOk result (Takes (pays_cost corp cost) desk.old desk.new) }
 {

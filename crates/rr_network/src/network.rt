@@ -4,10 +4,10 @@ ghost use Rattle.std.specs.Option.{option_copied};
 ghost use Rattle.rr_layout.specs.Layout.{last_lay};
 ghost use Rattle.rr_network.specs.Network.{net_of};
 
-use rr_layout::{Lay, Layout, Station};
 use crate::node::{CentreAt, Link};
 use crate::survey::Survey;
 use rr_board::Board;
+use rr_layout::{Lay, Layout, Station};
 use rr_tiles::{Kind, Manifest};
 use rr_words::HexName;
 use std::alloc::{AllocError, Global};

@@ -7,10 +7,10 @@ ghost use Rattle.rr_network.specs.declared.step.Step.{Step};
 ghost use Rattle.rr_reach.specs.Places.{ArePlaces, IsGraphOf};
 ghost use Rattle.rr_network.specs.Walk.{EndsWalk, ReachesLink, ReachesNode, goes_on, has_token, reaches_link, reaches_node};
 
-use rr_layout::Station;
 use crate::network::Network;
 use crate::node::{Node, same_node};
 use crate::step::{Step, has_token, is_terminal, may_follow, steps_of};
+use rr_layout::Station;
 use rr_reach::{Followers, marked_items, reached};
 use rr_roster::Corp;
 use std::alloc::{AllocError, Global};

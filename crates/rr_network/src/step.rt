@@ -2,9 +2,9 @@
 ghost use Rattle.std.specs.Prelude.{◌≡◌, IfOk};
 ghost use Rattle.rr_network.specs.Walk.{backward, forward, has_token, is_filled, is_other_at, is_terminal, kind_at, kind_stops, may_follow, node_of, passes, steps_of, token_at};
 
-use rr_layout::Station;
 use crate::network::Stop;
 use crate::node::{CentreAt, Link, Node, same_centre, same_node};
+use rr_layout::Station;
 use rr_roster::Corp;
 use rr_tiles::Kind;
 use rr_words::HexName;

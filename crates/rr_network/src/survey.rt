@@ -2,10 +2,10 @@
 ghost use Rattle.std.specs.Prelude.{◌≡◌, ◌+◌, ◌<◌, ◌^◌, [], ◌∷◌, flat_map, map, IfOk, OnOk};
 ghost use Rattle.rr_network.specs.declared.node.Node.TheVariants as N;
 
-use rr_layout::{Lay, Station};
 use crate::network::{Stop, last_lay};
 use crate::node::{CentreAt, Link, Node, add_edges, hexside_at};
 use rr_board::Hex;
+use rr_layout::{Lay, Station};
 use rr_tiles::{Centre, Manifest, Part, Track};
 use std::alloc::{AllocError, Global};
 use std::marker::Model;

@@ -12,8 +12,8 @@ use rr_auction::laws::{
 use rr_auction::{Due, Fault, asked, is_over, judge, open_table, play, turns};
 use rr_books::{Act, Cell, Cert, Corp, Entry, Marker, Money, Party, Place, Private, Seat};
 use rr_chart::Chart;
-use rr_market::Market;
 use rr_desk::Desk;
+use rr_market::Market;
 use rr_roster::Roster;
 use std::alloc::Global;
 use std::process::Abort;

@@ -46,7 +46,10 @@ fn a_par_of_100_costs_200(rt: HostRuntime) {
     let price = desk.position().market().price(&chart, Corp::Prr);
     assert_eq!(rt; price, Some(100));
     let done = Act::Done { seat: A };
-    assert_eq!(rt; judge(&chart, desk.position(), &done).err(), Some(Fault::NotYourTurn));
+    assert_eq!(rt;
+        judge(&chart, desk.position(), &done).err(),
+        Some(Fault::NotYourTurn)
+    );
 }
 
 #[test]

@@ -3,8 +3,8 @@ use crate::board::{lay, name, prr_at_home, small_board, station, tiles};
 use rr_board::Place;
 use rr_layout::Layout;
 use rr_network::{
-    Axial, CentreAt, Link, Network, Node, Reach, Stop, across, hexside_at, last_lay, laws,
-    node_of, same_node,
+    Axial, CentreAt, Link, Network, Node, Reach, Stop, across, hexside_at, last_lay, laws, node_of,
+    same_node,
 };
 use rr_roster::Corp;
 use rr_tiles::Kind;

@@ -14,9 +14,9 @@ use crate::fault::Fault;
 use crate::reading::{place_of_source, share_price};
 use rr_books::{Act, Books, Cert, Corp, Party, Place, Private, Seat, ShareSource};
 use rr_chart::{Chart, Zone};
+use rr_desk::{Position, lowest_share};
 use rr_holdings::{judge_sell, must_sell_first, would_be_over_certificates, would_be_over_sixty};
 use rr_market::{Market, par_cell};
-use rr_desk::{Position, lowest_share};
 use rr_rounds::{Purchases, Rounds};
 
 /// Whether a stock round takes the command now.

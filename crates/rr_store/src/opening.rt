@@ -19,8 +19,8 @@ use crate::store::Store;
 use crate::tables::{Standing, Tables};
 use rr_code::read_record;
 use rr_disk::Disk;
-use rr_kit::Kit;
 use rr_keeper::{KitTexts, Opened};
+use rr_kit::Kit;
 use std::alloc::{AllocError, Global};
 
 /// The clause of a damaged file that speaks of records.

@@ -66,8 +66,8 @@ roster_refused text terms fault known h (inr (inr why)) = roster_cause text term
 refused_kit : (texts : KitTexts) (kit : Kit) (fault : Fault) → fault ≢ F.OutOfMemory → SpellsKit texts kit → ¬ RefusesKit texts fault
 refused_kit texts kit fault known right (inl why) = chart_cause texts.chart fault why.0 known (kit.chart, right.chart) why.1 why.2
 refused_kit texts kit fault known right (inr (inl why)) = roster_refused texts.roster kit.roster fault known right.roster why.1
-refused_kit texts kit fault known right (inr (inr (inl why))) = manifest_cause texts.tiles fault why.1.0 known right.tiles why.1.1 why.1.2
-refused_kit texts kit fault known right (inr (inr (inr why))) = board_cause texts.board fault why.2.0 known right.board why.2.1 why.2.2
+refused_kit texts kit fault known right (inr (inr (inl why))) = manifest_cause texts.tiles fault why.1.0 known (kit.tiles, right.tiles) why.1.1 why.1.2
+refused_kit texts kit fault known right (inr (inr (inr why))) = board_cause texts.board fault why.2.0 known (kit.board, right.board) why.2.1 why.2.2
 
 pub right_kits_are_not_wrong : RightKitsAreNotWrong
 right_kits_are_not_wrong texts kit right wrong = refused_kit texts kit wrong.0 wrong.1 right wrong.2
@@ -120,6 +120,7 @@ standing_files_open file texts tables S.DeviceFailed stands refused = inl refl
 standing_files_open file texts tables S.OutOfMemory stands refused = inr refl
 standing_files_open file texts tables S.NotAStore stands refused = absurd (no_file file texts tables stands refused)
 standing_files_open file texts tables (S.Damaged clause) stands refused = absurd (no_damage file texts tables stands refused.1)
+standing_files_open file texts tables (S.Kit fault) stands refused = absurd refused
 standing_files_open file texts tables (S.Game fault) stands refused = absurd refused
 standing_files_open file texts tables (S.StaleStamp stamp) stands refused = absurd refused
 standing_files_open file texts tables S.TooManyCommands stands refused = absurd refused

@@ -11,6 +11,6 @@ returns c book h =
     let board = c.args.kit.now.board in
     let tiles = c.args.kit.now.tiles in
     let P : Position → Type 0 = λ now. MatchResult c.judge.result
-        (λ _. IsLayVerdict board tiles now c.args.corp c.args.lay.now None)
-        (λ fault. ((fault ≡ OutOfMemory) × (first_lay_verdict board tiles now c.args.lay.now ≡ None)) ⊎ IsLayVerdict board tiles now c.args.corp c.args.lay.now (Some fault)) in
+    (λ _. IsLayVerdict board tiles now c.args.corp c.args.lay.now None)
+    (λ fault. ((fault ≡ OutOfMemory) × (first_lay_verdict board tiles now c.args.lay.now ≡ None)) ⊎ IsLayVerdict board tiles now c.args.corp c.args.lay.now (Some fault)) in
     subst P (seen book c.args.position.now h) c.judge.ensures

@@ -14,6 +14,6 @@ returns c book h =
     let station = c.args.station.now in
     let tokens = tokens_of c.args.kit.now.roster station.corp in
     let P : Position → Type 0 = λ now. MatchResult c.judge.result
-        (λ _. IsStationVerdict board tiles tokens now station None)
-        (λ fault. ((fault ≡ OutOfMemory) × (first_station_verdict board tokens now station ≡ None)) ⊎ IsStationVerdict board tiles tokens now station (Some fault)) in
+    (λ _. IsStationVerdict board tiles tokens now station None)
+    (λ fault. ((fault ≡ OutOfMemory) × (first_station_verdict board tokens now station ≡ None)) ⊎ IsStationVerdict board tiles tokens now station (Some fault)) in
     subst P (seen book c.args.position.now h) c.judge.ensures
