@@ -40,8 +40,8 @@ fn give_train(rt: &impl Abort, desk: &mut Desk, train: Train, to: Place) -> Resu
     desk.push(Entry::Train { train, to })
 }
 
-fn step(desk: &mut Desk, marker: Marker) -> Result<(), Fault> {
-    desk.push(Entry::Step(marker))
+fn begin_stock_round(desk: &mut Desk) -> Result<(), Fault> {
+    desk.push(Entry::Step(Marker::Stock))
 }
 
 fn mark(desk: &mut Desk, corp: Corp, cell: Cell) -> Result<(), Fault> {
@@ -56,7 +56,7 @@ fn pay_all_incomes(rt: &(impl Abort + AllocGlobal), desk: &mut Desk) -> Result<(
 fn pays_and_steps(rt: HostRuntime) {
     let mut desk = opening::desk(&rt);
     check(&rt, "payment", pay(&rt, &mut desk, 200), Ok(()));
-    check(&rt, "step", step(&mut desk, Marker::Stock), Ok(()));
+    check(&rt, "step", begin_stock_round(&mut desk), Ok(()));
     check(&rt, "cash", cash(&desk, Party::Seat(A)), 1000);
     check_entries(
         &rt,
@@ -184,7 +184,7 @@ fn the_market_and_the_rounds_follow(rt: HostRuntime) {
     let mut desk = opening::desk(&rt);
     let cell = Cell { row: 2, column: 6 };
     check(&rt, "mark", mark(&mut desk, Corp::Prr, cell), Ok(()));
-    check(&rt, "step", step(&mut desk, Marker::Stock), Ok(()));
+    check(&rt, "step", begin_stock_round(&mut desk), Ok(()));
     let position = desk.position();
     check(&rt, "cell", position.market().cell(Corp::Prr), Some(cell));
     check(&rt, "stock round", position.rounds().is_under_way(), true);
