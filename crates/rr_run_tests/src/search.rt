@@ -4,6 +4,7 @@ ghost use Rattle.rr_search.specs.Found.{IsModest};
 
 use crate::small::{links, net_of, small_net};
 use rr_checker::{CentreLimit, Link, Net, Node, check};
+use rr_guesses::guess;
 use rr_roster::Kind;
 use rr_runs::legal;
 use rr_search::{Fault, best};
@@ -23,6 +24,17 @@ fn finds(rt: &impl Abort, alloc: Global, net: &Net, kind: Kind, links: &[u64], r
     assert!(rt; check(alloc, net, revenue, &tree).expect(rt, "memory"));
     let less = revenue.saturating_sub(1);
     assert!(rt; !check(alloc, net, less, &tree).expect(rt, "memory"));
+}
+
+#[test]
+fn guesses_a_run_and_its_certificate(rt: HostRuntime) {
+    let net = small_net(&rt, rt.alloc(), CentreLimit::AtMost(2));
+    let guessed = guess(rt.alloc(), &net, &[Kind::Two], 1024).expect(&rt, "memory");
+    let (sheet, tree) = guessed.expect(&rt, "a guess");
+    let words = sheet.as_slice();
+    assert_eq!(rt; words.len(), 1);
+    assert_eq!(rt; words[0].links.as_slice(), [1, 2, 3]);
+    assert!(rt; check(rt.alloc(), &net, 30, &tree).expect(&rt, "memory"));
 }
 
 #[test]

@@ -1,25 +1,18 @@
--- Runs that were found, and the certificate that none earns more.
-use Rattle.std.specs.Prelude.{◌≡◌, ℕ, suc, ◌<◌, ◌≤◌, ◌⊎◌, Option, None, Some, List, [], length, map, slice_get, slice_index_or, ⊤}
+-- Runs that were found.
+use Rattle.std.specs.Prelude.{◌≡◌, ℕ, suc, ◌<◌, ◌≤◌, Option, None, Some, List, length, map, slice_get, ⊤}
 use Rattle.rr_roster.specs.declared.company.Kind.{Kind}
-use Rattle.rr_routes.specs.declared.certificate.CertTree.{CertTree}
 use Rattle.rr_routes.specs.declared.certificate.Fate.{Fate}
-use Rattle.rr_routes.specs.Net.{Net, limit_of, value}
+use Rattle.rr_routes.specs.Net.{Net, limit_of}
 use Rattle.rr_routes.specs.Routes.{Trip, Run, earned, trip_of}
-use Rattle.rr_routes.specs.Certificates.{Keeps, Accepts, node_count}
+use Rattle.rr_routes.specs.Certificates.{Keeps}
 use Rattle.rr_checker.specs.declared.trips.Journey.{Journey}
 use Rattle.rr_checker.specs.Runs.{IsOwnTrip}
 use Rattle.rr_checker.specs.Trips.{trip_over}
 use Rattle.rr_sheets.specs.declared.sheet.TrainWord.{TrainWord}
 use Rattle.rr_runs.specs.Sheets.{IsLegal, limit_of_kind}
+pub use Rattle.rr_guesses.specs.Certified.{IsCertified, IsModest}
 use Rattle.rr_search.specs.declared.found.Found.{Found}
 use Rattle.rr_search.specs.Orientation.{ascending}
-
--- the sheet is legal, and the tree, within the limit, is accepted for its revenue: no legal sheet earns more
-pub record IsCertified (net : Net) (limit : ℕ) (sheet : List TrainWord) (tree : CertTree) : Type 0 where
-  pub revenue : ℕ
-  pub legal : IsLegal net sheet revenue
-  pub accepted : Accepts net revenue tree
-  pub within : node_count tree ≤ limit
 
 -- no sheet of the net is legal
 abbrev pub HasNoSheet : Net → Type 0
@@ -29,12 +22,6 @@ HasNoSheet net = (sheet : List TrainWord) (revenue : ℕ) → IsLegal net sheet 
 pub record AreKinds (net : Net) (kinds : List Kind) : Type 0 where
   pub complete : length kinds ≡ length net.trains
   pub each : (train : ℕ) (kind : Kind) → slice_get kinds train ≡ Some kind → limit_of_kind kind ≡ limit_of net train
-
--- what revenues need to fit: centres of at most 65,535 each, and not too many of them or of trains
-pub record IsModest (net : Net) : Type 0 where
-  pub values : (centre : ℕ) → value net centre ≤ 65535
-  pub centres : length net.values ≤ 65536
-  pub trains : length net.trains ≤ 1000
 
 -- where the journey goes
 abbrev pub trip_along : Journey → Trip

@@ -5,11 +5,11 @@ ghost use Rattle.rr_search.specs.Found.{AreKinds, HasNoSheet, IsCertified, IsMod
 ghost use Rattle.rr_search.specs.Whole.{whole_size};
 ghost use Rattle.rr_search.specs.declared.fault.Fault.TheVariants.{NoCertificate, OutOfMemory};
 
-use crate::candidate::candidate;
 use crate::fault::Fault;
 use crate::kinds::kinds_of;
 use crate::whole::{explore, whole_fits, whole_tree};
 use rr_checker::{CertTree, Fate, Net};
+use rr_guesses::guess;
 use rr_roster::Kind;
 use rr_sheets::Sheet;
 use std::alloc::Global;
@@ -46,7 +46,7 @@ fn certified(
     ensures { MatchResult result (λ found. IsCertified net.now limit found.0 found.1) (λ fault. (fault ≡ OutOfMemory)
         ⊎ ((fault ≡ NoCertificate) × (limit < whole_size (length net.now.trains) (length net.now.links)))) }
 {
-    if let Some(found) = candidate(alloc, net, kinds, limit)? {
+    if let Some(found) = guess(alloc, net, kinds, limit)? {
         return Ok(found);
     }
     if !whole_fits(net.trains().len(), net.links().len(), limit) {

@@ -1,0 +1,62 @@
+//! A run and a certificate from a search that may fail: given only where the judges of both accept them.
+ghost use Rattle.std.specs.Prelude.{◌≡◌, IfOk, IfSome, true};
+ghost use Rattle.rr_guesses.specs.Certified.{IsCertified, IsModest};
+
+use crate::certificate::tree_for;
+use crate::runs::good_sheet;
+use crate::tracks::reached_tracks;
+use rr_checker::{CertTree, Net, check};
+use rr_roster::Kind;
+use rr_runs::{Fault, legal};
+use rr_sheets::Sheet;
+use std::alloc::{AllocError, Global};
+
+// how the searches for a tree, one after the other, guess at the size of trees: what doubles it, and what a track
+// beside decided ones weighs in hundredths
+const WEIGHTS: [(u64, u64); 2] = [(10, 90), (5, 60)];
+
+/// A legal sheet of the net's trains, whose kinds these are in order, and a certificate of at most `limit` nodes that
+/// no legal sheet earns more, if a guess finds both. That none is found says nothing of the net.
+///
+/// A guess tries so many routes and looks so often at what the trains reach, and no more. Only memory can fail.
+pub fn guess(
+    alloc: Global,
+    net: &Net,
+    kinds: &[Kind],
+    limit: usize,
+) -> Result<Option<(Sheet, CertTree)>, AllocError>
+    requires { IsModest net.now }
+    ensures { IfOk result (λ found. IfSome found (λ both. IsCertified net.now limit both.0 both.1)) }
+{
+    let tracks = reached_tracks(alloc, net)?;
+    let (sheet, worth) = good_sheet(&tracks, kinds)?;
+    for weights in WEIGHTS {
+        if let Some(tree) = tree_for(&tracks, worth, weights, limit)? {
+            if stands(alloc, net, &sheet, &tree, limit)? {
+                return Ok(Some((sheet, tree)));
+            }
+        }
+    }
+    Ok(None)
+}
+
+// whether the sheet is legal, and the tree within the limit and accepted for its revenue
+fn stands(
+    alloc: Global,
+    net: &Net,
+    sheet: &Sheet,
+    tree: &CertTree,
+    limit: usize,
+) -> Result<bool, AllocError>
+    requires { IsModest net.now }
+    ensures { IfOk result (λ stands. stands ≡ true → IsCertified net.now limit sheet.now tree.now) }
+{
+    if tree.nodes_left(limit).is_none() {
+        return Ok(false);
+    }
+    match legal(alloc, net, sheet) {
+        Ok(revenue) => check(alloc, net, revenue, tree),
+        Err(Fault::OutOfMemory) => Err(AllocError),
+        Err(Fault::IllegalSheet(_)) => Ok(false),
+    }
+}

@@ -1,0 +1,15 @@
+//! Guesses at the run that earns most, with a certificate that none earns more, given only where the judges of both
+//! accept them.
+#![tactic(auto)]
+
+mod candidate;
+mod certificate;
+mod choice;
+mod growth;
+mod lost;
+mod routes;
+mod runs;
+mod sights;
+mod tracks;
+
+pub use candidate::guess;

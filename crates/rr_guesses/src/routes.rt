@@ -1,0 +1,209 @@
+//! The routes over the tracks: a path from a token to a centre, or two that have nothing but the token in common.
+use crate::tracks::{Result, Tracks, has_counted, has_mark, set_mark};
+use rr_checker::CentreLimit;
+
+// how many paths from one token are followed at most
+const ARMS: usize = 4000;
+
+// how many of them, those that earn most, are joined in pairs
+const JOINED: usize = 400;
+
+// how many routes of a train are kept, those that earn most
+const LINES: usize = 5000;
+
+// a path from a token to a centre: its ways, the centres on it but for the token, and what these are worth
+#[derive(Drop)]
+struct Arm {
+    ways: Vec<usize>,
+    centres: usize,
+    worth: u64,
+}
+
+// the path that is followed, the nodes on it or not to be on it, and the paths found
+#[derive(Drop)]
+struct Walker {
+    limit: CentreLimit,
+    ways: Vec<usize>,
+    centres: usize,
+    worth: u64,
+    shut: Vec<bool>,
+    arms: Vec<Arm>,
+}
+
+// a route: its tracks in order, the hexsides on it, and what it earns
+#[derive(Drop)]
+pub(crate) struct Line {
+    pub(crate) tracks: Vec<usize>,
+    pub(crate) sides: Vec<usize>,
+    pub(crate) worth: u64,
+}
+
+// routes of a train of the limit, the best first
+pub(crate) fn lines_of(tracks: &Tracks, limit: &CentreLimit) -> Result<Vec<Line>> {
+    let mut lines = Vec::new(tracks.alloc);
+    let mut earlier = vec![in tracks.alloc; false; tracks.ways.len()]?;
+    for start in &tracks.starts {
+        let token = tracks.beginning(*start);
+        if set_mark(&mut earlier, token, true) {
+            add_lines(tracks, limit, token, &earlier, &mut lines)?;
+        }
+    }
+    lines.sort_by_key(|line| u64::MAX.saturating_sub(line.worth))?;
+    lines.truncate(LINES);
+    Ok(lines)
+}
+
+// adds the routes over the token that pass none of the earlier ones
+fn add_lines(
+    tracks: &Tracks,
+    limit: &CentreLimit,
+    token: usize,
+    earlier: &[bool],
+    lines: &mut Vec<Line>,
+) -> Result<()> {
+    let mut arms = arms_of(tracks, limit, token, earlier)?;
+    let Some(stop) = tracks.stop_at(token) else {
+        return Ok(());
+    };
+    for arm in &arms {
+        let worth = stop.worth.saturating_add(arm.worth);
+        let line = line_of(tracks, &[], &arm.ways, worth)?;
+        lines.push(line)?;
+    }
+    if stop.is_terminal {
+        return Ok(());
+    }
+    arms.truncate(JOINED);
+    add_pairs(tracks, limit, stop.worth, &arms, lines)
+}
+
+// adds the routes of two paths each
+fn add_pairs(
+    tracks: &Tracks,
+    limit: &CentreLimit,
+    own: u64,
+    arms: &[Arm],
+    lines: &mut Vec<Line>,
+) -> Result<()> {
+    for (place, arm) in arms.iter().enumerate() {
+        let nodes = nodes_of(tracks, arm)?;
+        let worth = own.saturating_add(arm.worth);
+        for other in arms.iter().take(place) {
+            let centres = arm.centres.saturating_add(other.centres);
+            if !has_counted(limit, centres) && !meets(tracks, &nodes, other) {
+                let worth = worth.saturating_add(other.worth);
+                let line = line_of(tracks, &arm.ways, &other.ways, worth)?;
+                lines.push(line)?;
+            }
+        }
+    }
+    Ok(())
+}
+
+// marks of the nodes on the path
+fn nodes_of(tracks: &Tracks, arm: &Arm) -> Result<Vec<bool>> {
+    let mut nodes = vec![in tracks.alloc; false; tracks.ways.len()]?;
+    for way in &arm.ways {
+        set_mark(&mut nodes, tracks.ending(*way), true);
+    }
+    Ok(nodes)
+}
+
+fn meets(tracks: &Tracks, nodes: &[bool], arm: &Arm) -> bool {
+    for way in &arm.ways {
+        if has_mark(nodes, tracks.ending(*way)) {
+            return true;
+        }
+    }
+    false
+}
+
+// the paths from the token, within the limit, that pass none of the earlier tokens, the best first
+fn arms_of(
+    tracks: &Tracks,
+    limit: &CentreLimit,
+    token: usize,
+    earlier: &[bool],
+) -> Result<Vec<Arm>> {
+    let mut walker = Walker {
+        limit: *limit,
+        ways: Vec::new(tracks.alloc),
+        centres: 0,
+        worth: 0,
+        shut: Vec::from_slice(tracks.alloc, earlier)?,
+        arms: Vec::new(tracks.alloc),
+    };
+    for start in &tracks.starts {
+        if tracks.beginning(*start) == token {
+            follow(tracks, *start, &mut walker, tracks.ways.len())?;
+        }
+    }
+    let mut arms = walker.arms;
+    arms.sort_by_key(|arm| u64::MAX.saturating_sub(arm.worth))?;
+    Ok(arms)
+}
+
+// Goes on over the way from the path that is followed, and notes each centre that it comes to.
+fn follow(tracks: &Tracks, way: usize, walker: &mut Walker, depth: usize) -> Result<()> {
+    let node = tracks.ending(way);
+    if depth == 0 || walker.arms.len() >= ARMS || !set_mark(&mut walker.shut, node, true) {
+        return Ok(());
+    }
+    let (centres, worth) = (walker.centres, walker.worth);
+    walker.ways.push(way)?;
+    if let Some(stop) = tracks.stop_at(way) {
+        walker.centres = centres.saturating_add(1);
+        walker.worth = worth.saturating_add(stop.worth);
+        note(tracks, walker)?;
+    }
+    // the token counts too
+    if !has_counted(&walker.limit, walker.centres.saturating_add(1)) {
+        if let Some(followers) = tracks.graph.get(way) {
+            for next in followers.as_slice() {
+                follow(tracks, *next, walker, depth - 1)?;
+            }
+        }
+    }
+    walker.ways.pop();
+    walker.centres = centres;
+    walker.worth = worth;
+    set_mark(&mut walker.shut, node, false);
+    Ok(())
+}
+
+// notes the path that is followed
+fn note(tracks: &Tracks, walker: &mut Walker) -> Result<()> {
+    let ways = Vec::from_slice(tracks.alloc, &walker.ways)?;
+    walker.arms.push(Arm {
+        ways,
+        centres: walker.centres,
+        worth: walker.worth,
+    })?;
+    Ok(())
+}
+
+// the route back over the one path and on over the other, in the direction that begins with the lower track
+fn line_of(tracks: &Tracks, back: &[usize], on: &[usize], worth: u64) -> Result<Line> {
+    let mut line = Line {
+        tracks: Vec::new(tracks.alloc),
+        sides: Vec::new(tracks.alloc),
+        worth,
+    };
+    add_ways(tracks, back, &mut line)?;
+    line.tracks.reverse();
+    add_ways(tracks, on, &mut line)?;
+    if line.tracks.last() < line.tracks.first() {
+        line.tracks.reverse();
+    }
+    Ok(line)
+}
+
+fn add_ways(tracks: &Tracks, ways: &[usize], line: &mut Line) -> Result<()> {
+    for way in ways {
+        line.tracks.push(*way / 2)?;
+        if tracks.stop_at(*way).is_none() {
+            line.sides.push(tracks.ending(*way))?;
+        }
+    }
+    Ok(())
+}

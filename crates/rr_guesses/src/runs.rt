@@ -1,0 +1,153 @@
+//! The best run of all trains over their routes.
+use crate::routes::{Line, lines_of};
+use crate::tracks::{Result, Tracks, has_mark, set_mark};
+use rr_roster::Kind;
+use rr_sheets::{LinkNumbers, Sheet, TrainWord};
+use std::alloc::Global;
+
+// how many routes are tried beside others
+const TRIES: usize = 200_000;
+
+// The best run so far and the present one, in `picks`: for the trains from the last to the first the place of its route,
+// if it has one. The hexsides of the present one, and how many routes may still be tried.
+#[derive(Drop)]
+struct Trial {
+    alloc: Global,
+    best: Vec<Option<usize>>,
+    // what the best run earns; none where no run is found yet
+    worth: Option<u64>,
+    picks: Vec<Option<usize>>,
+    taken: Vec<bool>,
+    tries: usize,
+}
+
+impl Trial {
+    fn new(alloc: Global, nodes: usize, tries: usize) -> Result<Trial> {
+        Ok(Trial {
+            alloc,
+            best: Vec::new(alloc),
+            worth: None,
+            picks: Vec::new(alloc),
+            taken: vec![in alloc; false; nodes]?,
+            tries,
+        })
+    }
+
+    // the place of the train's route in the best run
+    fn pick_of(&self, train: usize) -> Option<usize> {
+        let place = self.best.len().checked_sub(train)?.checked_sub(1)?;
+        *self.best.get(place)?
+    }
+
+    // keeps the present run, if it earns more than the best so far
+    fn keep(&mut self, worth: u64) -> Result<()> {
+        if self.worth < Some(worth) {
+            self.best = Vec::from_slice(self.alloc, &self.picks)?;
+            self.worth = Some(worth);
+        }
+        Ok(())
+    }
+
+    fn has_room_for(&self, line: &Line) -> bool {
+        for side in &line.sides {
+            if has_mark(&self.taken, *side) {
+                return false;
+            }
+        }
+        true
+    }
+}
+
+// the sheet of a run that earns much, and what it earns
+pub(crate) fn good_sheet(tracks: &Tracks, kinds: &[Kind]) -> Result<(Sheet, u64)> {
+    let mut trains = Vec::new(tracks.alloc);
+    for limit in &tracks.limits {
+        let lines = lines_of(tracks, limit)?;
+        trains.push(lines)?;
+    }
+    let mut trial = Trial::new(tracks.alloc, tracks.ways.len(), TRIES)?;
+    improve(&trains, trains.len(), 0, &mut trial)?;
+    let sheet = written(tracks, &trains, kinds, &trial)?;
+    Ok((sheet, trial.worth.unwrap_or(0)))
+}
+
+// the best run as a sheet
+fn written(tracks: &Tracks, trains: &[Vec<Line>], kinds: &[Kind], trial: &Trial) -> Result<Sheet> {
+    let mut sheet = Sheet::new(tracks.alloc);
+    for (train, kind) in kinds.iter().enumerate() {
+        let links = match picked(trains, train, trial.pick_of(train)) {
+            Some(line) => numbers_of(tracks, line)?,
+            None => LinkNumbers::new(tracks.alloc),
+        };
+        sheet.push(TrainWord { kind: *kind, links })?;
+    }
+    Ok(sheet)
+}
+
+fn picked(trains: &[Vec<Line>], train: usize, pick: Option<usize>) -> Option<&Line> {
+    trains.get(train)?.get(pick?)
+}
+
+fn numbers_of(tracks: &Tracks, line: &Line) -> Result<LinkNumbers> {
+    let mut numbers = LinkNumbers::new(tracks.alloc);
+    for track in &line.tracks {
+        let place = tracks.place_of(*track) as u64;
+        numbers.push(place.saturating_add(1))?;
+    }
+    Ok(numbers)
+}
+
+// Tries the routes of the first so many trains beside what is taken, and keeps the best run. `trains` has the routes of
+// each, the best first.
+fn improve(trains: &[Vec<Line>], left: usize, worth: u64, trial: &mut Trial) -> Result<()> {
+    if left == 0 {
+        return trial.keep(worth);
+    }
+    let rest = most_of(trains, left - 1);
+    if let Some(lines) = trains.get(left - 1) {
+        for (place, line) in lines.iter().enumerate() {
+            let most = worth.saturating_add(line.worth);
+            if trial.tries == 0 || Some(most.saturating_add(rest)) <= trial.worth {
+                break;
+            }
+            trial.tries = trial.tries.saturating_sub(1);
+            if trial.has_room_for(line) {
+                take(trial, line, place)?;
+                improve(trains, left - 1, most, trial)?;
+                give_back(trial, line);
+            }
+        }
+    }
+    trial.picks.push(None)?;
+    improve(trains, left - 1, worth, trial)?;
+    trial.picks.pop();
+    Ok(())
+}
+
+fn take(trial: &mut Trial, line: &Line, place: usize) -> Result<()> {
+    trial.picks.push(Some(place))?;
+    for side in &line.sides {
+        set_mark(&mut trial.taken, *side, true);
+    }
+    Ok(())
+}
+
+fn give_back(trial: &mut Trial, line: &Line) {
+    trial.picks.pop();
+    for side in &line.sides {
+        set_mark(&mut trial.taken, *side, false);
+    }
+}
+
+// what the first so many trains earn at most
+fn most_of(trains: &[Vec<Line>], count: usize) -> u64 {
+    let mut most = 0u64;
+    for train in 0..count {
+        if let Some(lines) = trains.get(train) {
+            if let Some(line) = lines.first() {
+                most = most.saturating_add(line.worth);
+            }
+        }
+    }
+    most
+}
