@@ -4,6 +4,7 @@
 use rr_cli::{Ending, Plan, act, plan, refuse, status};
 use rr_disk::{FileDisk, Unknown};
 use rr_moderator::{Fault, Texts};
+use rr_serve::{CountingReader, CountingWriter};
 use std::alloc::{AllocError, Global};
 use std::io::{BufReader, ErrorKind, writer};
 use std::process::ExitCode;
@@ -122,12 +123,13 @@ fn fault_of(error: io::Error) -> Fault {
 /// Opens the store's file and does what the plan asks with it.
 fn open_file(rt: &HostRuntime, plan: &Plan, path: &str, make: bool, texts: Texts<'_>) -> u8 {
     let mut reader = match BufReader::new(rt.alloc(), rt.reader()) {
-        Ok(reader) => reader,
+        Ok(reader) => CountingReader::new(reader),
         Err(_) => return end(rt, Fault::OutOfMemory),
     };
     match FileDisk::open(rt, path, make, Unknown) {
         Ok(disk) => {
-            let (status, _) = act(rt.alloc(), plan, texts, disk, &mut reader, &mut writer(rt));
+            let mut output = CountingWriter::new(writer(rt));
+            let (status, _) = act(rt.alloc(), plan, texts, disk, &mut reader, &mut output);
             status
         }
         Err(_) => end(rt, Fault::DeviceFailed),
@@ -136,7 +138,8 @@ fn open_file(rt: &HostRuntime, plan: &Plan, path: &str, make: bool, texts: Texts
 
 /// Ends with a refusal on standard output.
 fn end(rt: &HostRuntime, fault: Fault) -> u8 {
-    status(refuse(rt.alloc(), fault, &mut writer(rt)))
+    let mut output = CountingWriter::new(writer(rt));
+    status(refuse(rt.alloc(), fault, &mut output))
 }
 
 /// Ends with refused words, told on standard error.

@@ -1,12 +1,11 @@
 -- What the program writes, and how it ends.
-use Rattle.std.specs.Prelude.{◌≡◌, ◌⊎◌, ◌<◌, false, ℕ, List, [], ◌∷◌, length, Option, Result, Ok, Err, codes}
-use Rattle.std.specs.Io.KnownBytes.{Appends}
+use Rattle.std.specs.Prelude.{◌≡◌, ◌⊎◌, ◌<◌, false, ℕ, List, [], ◌∷◌, length, Result, Ok, Err, codes}
 use Rattle.rr_disk.specs.Disk.{DiskState}
 use Rattle.rr_disk.specs.Moments.{LeavesOnly}
 use Rattle.rr_kit.specs.Kits.{IsRightKit, KitTexts, SpellsKit}
 use Rattle.rr_serve.specs.declared.faults.Fault as serve
-use Rattle.rr_serve.specs.Answering.{AppendsFront}
 use Rattle.rr_serve.specs.Serving.{Session}
+use Rattle.rr_serve.specs.Streams.{InputState, OutputState, CountsFailures, IsCutShort, IsSent}
 use Rattle.rr_store.specs.declared.fault.Fault as store
 use Rattle.rr_store.specs.declared.fault.Fault.TheVariants as T
 use Rattle.rr_store.specs.Allowing.{Between, FormatAllows, OpenAllows}
@@ -28,31 +27,31 @@ use Rattle.rr_cli.specs.declared.ending.Ending.TheVariants.{Done, Faulted}
 use Rattle.rr_cli.specs.declared.plans.Plan.{Plan}
 use Rattle.rr_cli.specs.declared.plans.Plan.TheVariants.{Format, Serve}
 
--- `ok` was written and all is done, or a front of it, and the writer failed
-abbrev pub IsAcknowledged : Option (List ℕ) → Option (List ℕ) → Ending → Type 0
-IsAcknowledged contents held ending =
-    ((ending ≡ Done) × Appends contents held (codes "ok\n")) ⊎ ((ending ≡ Faulted 69) × AppendsFront contents held (codes "ok\n"))
+-- `ok` was sent and all is done, or it was cut short, as a write or the flush failed
+abbrev pub IsAcknowledged : OutputState → OutputState → Ending → Type 0
+IsAcknowledged before after ending =
+    ((ending ≡ Done) × IsSent before (codes "ok\n") after) ⊎ ((ending ≡ Faulted 69) × IsCutShort before (codes "ok\n") after)
 
--- the refusal was written and the program ends with its number, or a front of it, and the writer failed
-abbrev pub IsRefused : Fault → Option (List ℕ) → Option (List ℕ) → Ending → Type 0
-IsRefused fault contents held ending =
-    ((ending ≡ Faulted (number_of fault)) × Appends contents held (refusal_of fault)) ⊎ ((ending ≡ Faulted 69) × AppendsFront contents held (refusal_of fault))
+-- the refusal was sent and the program ends with its number, or it was cut short, as a write or the flush failed
+abbrev pub IsRefused : Fault → OutputState → OutputState → Ending → Type 0
+IsRefused fault before after ending =
+    ((ending ≡ Faulted (number_of fault)) × IsSent before (refusal_of fault) after) ⊎ ((ending ≡ Faulted 69) × IsCutShort before (refusal_of fault) after)
 
--- the refusal was written, or that of want of memory where there was no room for it, or the writer failed
-abbrev pub IsRefusedOr70 : Fault → Option (List ℕ) → Option (List ℕ) → Ending → Type 0
-IsRefusedOr70 fault contents held ending = IsRefused fault contents held ending ⊎ IsRefused OutOfMemory contents held ending
+-- the refusal was sent, or that of want of memory where there was no room for it, or it was cut short
+abbrev pub IsRefusedOr70 : Fault → OutputState → OutputState → Ending → Type 0
+IsRefusedOr70 fault before after ending = IsRefused fault before after ending ⊎ IsRefused OutOfMemory before after ending
 
 -- What a `format` over these texts does to a disk and a writer, and the status with which it ends.
 pub data Formats {D : Type 0} (Honest : D → Type 0) (state : D → DiskState) (faults : D → ℕ) (texts : KitTexts) (old new : D)
-    (contents held : Option (List ℕ)) : ℕ → Type 0 where
+    (writer_old writer_new : OutputState) : ℕ → Type 0 where
   Made : (ending : Ending) → IsRightKit texts → (Honest new → 0 < length (state old).content → ⊥)
       → (Honest new → FormatAllows texts (state old) (state new) (Ok tt))
       → (Honest new → Honest old) → faults new ≡ faults old
-      → IsAcknowledged contents held ending → Formats Honest state faults texts old new contents held (status_of ending)
+      → IsAcknowledged writer_old writer_new ending → Formats Honest state faults texts old new writer_old writer_new (status_of ending)
   Not_made : (fault : store.Fault) (ending : Ending) → RefusesFormat (Honest new) (state old).content texts fault
       → (Honest new → 0 < length (state old).content → fault ≡ T.NotEmpty) → (fault ≡ T.DeviceFailed) ⊎ (new ≡ old)
       → (Honest new → Honest old) → CountsFailure (faults old) (faults new) fault
-      → IsRefusedOr70 (of_store fault) contents held ending → Formats Honest state faults texts old new contents held (status_of ending)
+      → IsRefusedOr70 (of_store fault) writer_old writer_new ending → Formats Honest state faults texts old new writer_old writer_new (status_of ending)
 
 -- how a run ends whose serving ended so
 abbrev pub ending_of : Result (Unit {0}) Fault → Ending
@@ -77,30 +76,32 @@ pub record Begins {D : Type 0} (Honest : D → Type 0) (state : D → DiskState)
 
 -- What `serve` does with a disk, a reader and a writer, and the status with which it ends: the file is opened, each line is
 -- answered so that what it comes to lasts, what is written are the replies to what is read, and whatever a stop leaves
--- stands for what was held then, or for that with the command pending then; or the file is refused, the reader isn't read
+-- stands for what was held then, or for that with the command pending then; it ends with 69 exactly where a read or a write
+-- failed; or the file is refused, the reader isn't read
 -- and the disk is synced at most.
 pub data Serves {D : Type 0} (Honest : D → Type 0) (state : D → DiskState) (past : D → List DiskState) (faults writes syncs : D → ℕ) (old new : D)
-    (remaining left contents held : Option (List ℕ)) : ℕ → Type 0 where
+    (reader_old reader_new : InputState) (writer_old writer_new : OutputState) : ℕ → Type 0 where
   Served : (begun ended : Moderator D) (result : Result (Unit {0}) Fault) (cause : Result (Unit {0}) serve.Fault)
       → Begins Honest state past faults writes old begun
       → EndsAs result cause
-      → (session : Session (SpeaksAndLasts Honest state past faults writes syncs) told (told_of begun) (told_of ended) remaining left contents held cause)
+      → (session : Session (SpeaksAndLasts Honest state past faults writes syncs) told (told_of begun) (told_of ended) reader_old reader_new writer_old writer_new cause)
       → (Honest (disk_under ended) → (texts : KitTexts) → Carries state (store_of begun) texts
       → LeavesOnly (past (disk_under begun)) (state (disk_under begun)) (past (disk_under ended)) (state (disk_under ended))
       (StandsAlong Honest state past faults writes syncs texts (told_of begun) session.lines session.replies (told_of ended) session.served))
+      → CountsFailures cause reader_old.failures reader_new.failures writer_old.failures writer_new.failures
       → new ≡ disk_under ended
-      → Serves Honest state past faults writes syncs old new remaining left contents held (status_of (ending_of result))
+      → Serves Honest state past faults writes syncs old new reader_old reader_new writer_old writer_new (status_of (ending_of result))
   Not_served : (fault : store.Fault) (ending : Ending) → RefusesOpening (Honest new) (state old).content fault
       → (Honest new → Honest old)
       → (Honest new → Between (past old) (state old) (past new) (state new) (λ moments. OpenAllows (state old) moments (state new) (Err fault)))
       → CountsFailure (faults old) (faults new) fault → writes new ≡ writes old
-      → left ≡ remaining → IsRefusedOr70 (of_store fault) contents held ending
-      → Serves Honest state past faults writes syncs old new remaining left contents held (status_of ending)
+      → reader_new ≡ reader_old → IsRefusedOr70 (of_store fault) writer_old writer_new ending
+      → Serves Honest state past faults writes syncs old new reader_old reader_new writer_old writer_new (status_of ending)
 
 -- what a plan does
 abbrev pub Acts : {D : Type 0} → (D → Type 0) → (D → DiskState) → (D → List DiskState) → (D → ℕ) → (D → ℕ) → (D → ℕ) → Plan → KitTexts → D → D
-    → Option (List ℕ) → Option (List ℕ) → Option (List ℕ) → Option (List ℕ) → ℕ → Type 0
-Acts Honest state past faults writes syncs (Format file chart roster tiles board) texts old new remaining left contents held status =
-    (left ≡ remaining) × Formats Honest state faults texts old new contents held status
-Acts Honest state past faults writes syncs (Serve file) texts old new remaining left contents held status =
-    Serves Honest state past faults writes syncs old new remaining left contents held status
+    → InputState → InputState → OutputState → OutputState → ℕ → Type 0
+Acts Honest state past faults writes syncs (Format file chart roster tiles board) texts old new reader_old reader_new writer_old writer_new status =
+    (reader_new ≡ reader_old) × Formats Honest state faults texts old new writer_old writer_new status
+Acts Honest state past faults writes syncs (Serve file) texts old new reader_old reader_new writer_old writer_new status =
+    Serves Honest state past faults writes syncs old new reader_old reader_new writer_old writer_new status

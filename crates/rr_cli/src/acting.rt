@@ -1,16 +1,14 @@
 //! What the program does with a plan, over a disk, a reader and a writer.
-ghost use Rattle.std.specs.Prelude.{◌≡◌, ◌⊎◌, IsTrue, false};
-ghost use Rattle.std.specs.Io.KnownBytes.{Appends};
+ghost use Rattle.std.specs.Prelude.{◌≡◌};
 ghost use Rattle.rr_store.specs.Lent.{lent_texts};
-ghost use Rattle.rr_serve.specs.Answering.{AppendsFront};
 ghost use Rattle.rr_moderator.specs.Fault.{refusal_of};
 ghost use Rattle.rr_cli.specs.Acting.{Acts, Formats, IsAcknowledged, IsRefused, IsRefusedOr70, Serves, ending_of};
 
 use crate::{Ending, Plan, status};
 use rr_disk::Disk;
 use rr_moderator::{Fault, Moderator, Refused, Reply, Texts};
+use rr_serve::{Input, Output, send};
 use std::alloc::Global;
-use std::io::{Read, Write};
 
 /// The refusal for which no room is needed.
 const OUT_OF_MEMORY: &[u8] = b"no 70 out of memory\n";
@@ -19,16 +17,16 @@ const OUT_OF_MEMORY: &[u8] = b"no 70 out of memory\n";
 ///
 /// `format` writes `ok` or its refusal. `serve` writes a refusal where the file can't be opened; once it has begun it
 /// writes replies alone. The texts are used by `format` alone.
-pub fn act<D: Disk + Drop, R: Read, W: Write>(
+pub fn act<D: Disk + Drop, I: Input, O: Output>(
     alloc: Global,
     plan: &Plan,
     texts: Texts<'_>,
     disk: D,
-    reader: &mut R,
-    writer: &mut W,
+    reader: &mut I,
+    writer: &mut O,
 ) -> (u8, D)
-    ensures { Acts D.Honest D.state D.past D.fault_count D.write_count D.sync_count plan.now (lent_texts texts.entry) disk result.1 (R.remaining reader.old) (R.remaining reader.new)
-        (W.contents writer.old) (W.contents writer.new) result.0 }
+    ensures { Acts D.Honest D.state D.past D.fault_count D.write_count D.sync_count plan.now (lent_texts texts.entry) disk result.1 (I.state reader.old) (I.state reader.new)
+        (O.state writer.old) (O.state writer.new) result.0 }
 {
     match plan {
         Plan::Format { .. } => format(alloc, texts, disk, writer),
@@ -36,14 +34,14 @@ pub fn act<D: Disk + Drop, R: Read, W: Write>(
     }
 }
 
-fn format<D: Disk + Drop, W: Write>(
+fn format<D: Disk + Drop, O: Output>(
     alloc: Global,
     texts: Texts<'_>,
     mut disk: D,
-    writer: &mut W,
+    writer: &mut O,
 ) -> (u8, D)
     ensures { Formats D.Honest D.state D.fault_count (lent_texts texts.entry) disk result.1
-        (W.contents writer.old) (W.contents writer.new) result.0 }
+        (O.state writer.old) (O.state writer.new) result.0 }
 {
     match rr_moderator::format(alloc, &mut disk, texts) {
         Ok(()) => {
@@ -57,14 +55,14 @@ fn format<D: Disk + Drop, W: Write>(
     }
 }
 
-fn serve<D: Disk + Drop, R: Read, W: Write>(
+fn serve<D: Disk + Drop, I: Input, O: Output>(
     alloc: Global,
     disk: D,
-    reader: &mut R,
-    writer: &mut W,
+    reader: &mut I,
+    writer: &mut O,
 ) -> (u8, D)
-    ensures { Serves D.Honest D.state D.past D.fault_count D.write_count D.sync_count disk result.1 (R.remaining reader.old) (R.remaining reader.new)
-        (W.contents writer.old) (W.contents writer.new) result.0 }
+    ensures { Serves D.Honest D.state D.past D.fault_count D.write_count D.sync_count disk result.1 (I.state reader.old) (I.state reader.new)
+        (O.state writer.old) (O.state writer.new) result.0 }
 {
     match Moderator::open(alloc, disk) {
         Ok(mut moderator) => {
@@ -89,21 +87,20 @@ fn ending_of(served: Result<(), Fault>) -> Ending
     }
 }
 
-/// Writes `ok`.
-fn acknowledge<W: Write>(writer: &mut W) -> Ending
-    ensures { IsAcknowledged (W.contents writer.old) (W.contents writer.new) result }
+/// Writes `ok` and flushes it.
+fn acknowledge<O: Output>(writer: &mut O) -> Ending
+    ensures { IsAcknowledged (O.state writer.old) (O.state writer.new) result }
 {
-    if write_line(b"ok\n", writer) {
-        Ending::Done
-    } else {
-        Ending::Faulted(69)
+    match send(writer, b"ok\n") {
+        Ok(()) => Ending::Done,
+        Err(_) => Ending::Faulted(69),
     }
 }
 
 /// Writes the refusal as one line, and tells how the program ends. Where no memory is left to make the line,
 /// it is that of `OutOfMemory`.
-pub fn refuse<W: Write>(alloc: Global, fault: Fault, writer: &mut W) -> Ending
-    ensures { IsRefusedOr70 fault (W.contents writer.old) (W.contents writer.new) result }
+pub fn refuse<O: Output>(alloc: Global, fault: Fault, writer: &mut O) -> Ending
+    ensures { IsRefusedOr70 fault (O.state writer.old) (O.state writer.new) result }
 {
     match Reply::new(alloc) {
         Ok(mut reply) => {
@@ -114,28 +111,12 @@ pub fn refuse<W: Write>(alloc: Global, fault: Fault, writer: &mut W) -> Ending
     }
 }
 
-fn write_refusal<W: Write>(fault: Fault, line: &[u8], writer: &mut W) -> Ending
+fn write_refusal<O: Output>(fault: Fault, line: &[u8], writer: &mut O) -> Ending
     requires { line.now ≡ refusal_of fault }
-    ensures { IsRefused fault (W.contents writer.old) (W.contents writer.new) result }
+    ensures { IsRefused fault (O.state writer.old) (O.state writer.new) result }
 {
-    if write_line(line, writer) {
-        Ending::Faulted(fault.number())
-    } else {
-        Ending::Faulted(69)
+    match send(writer, line) {
+        Ok(()) => Ending::Faulted(fault.number()),
+        Err(_) => Ending::Faulted(69),
     }
-}
-
-/// Writes the whole line and lets the writer hold nothing back; or a front of it, where the writer fails.
-fn write_line<W: Write>(line: &[u8], writer: &mut W) -> bool
-    ensures written { IsTrue result → Appends (W.contents writer.old) (W.contents writer.new) line.now }
-    ensures failed { result ≡ false → AppendsFront (W.contents writer.old) (W.contents writer.new) line.now }
-{
-    let mut written = 0;
-    while written < line.len() {
-        match writer.write(&line[written..]) {
-            Ok(count) if 0 < count => written += count,
-            _ => return false,
-        }
-    }
-    writer.flush().is_ok()
 }

@@ -1,4 +1,7 @@
-use rr_serve::{Fault, LONGEST_LINE, LineBuffer, Machine, laws, line, serve};
+use rr_serve::{
+    CountingReader, CountingWriter, Fault, Input, LONGEST_LINE, LineBuffer, Machine, Output, laws,
+    line, send, serve,
+};
 use std::alloc::{AllocError, Global};
 use std::cell::Cell;
 use std::io;
@@ -111,11 +114,13 @@ fn make_buffer(alloc: Global) -> Result<LineBuffer, AllocError> {
     LineBuffer::new(alloc)
 }
 
-// How the serving ended, and how many lines the machine took.
+// How the serving ended, how many lines the machine took, and how many reads failed and how many writes.
 #[derive(Clone, Copy)]
 struct Served {
     result: Result<(), Fault>,
     lines: usize,
+    failed_reads: u64,
+    failed_writes: u64,
 }
 
 // The calls have no contracts, so that what a test does costs its proof little.
@@ -126,10 +131,14 @@ fn serve_lines<R: Read, W: Write>(
     writer: &mut W,
 ) -> Result<Served, AllocError> {
     let mut machine = make_echo(alloc)?;
-    let result = serve(&mut machine, reader, writer, buffer);
+    let mut input = CountingReader::new(reader);
+    let mut output = CountingWriter::new(writer);
+    let result = serve(&mut machine, &mut input, &mut output, buffer);
     Ok(Served {
         result,
         lines: machine.lines,
+        failed_reads: input.failures(),
+        failed_writes: output.failures(),
     })
 }
 
@@ -145,6 +154,7 @@ fn check_served(
     let mut written = Vec::new(alloc);
     let served = serve_lines(alloc, buffer, &mut reader, &mut written)?;
     assert_eq!(rt; served.result, Ok(()));
+    assert_eq!(rt; (served.failed_reads, served.failed_writes), (0, 0));
     assert!(rt; written.as_slice() == output);
     Ok(served.lines)
 }
@@ -200,6 +210,7 @@ fn ends_where_the_device_fails(rt: HostRuntime) -> Result<(), Fail> {
     let mut written = Vec::new(rt.alloc());
     let served = serve_lines(rt.alloc(), &mut buffer, &mut reader, &mut written)?;
     assert_eq!(rt; served.result, Err(Fault::DeviceFailed));
+    assert_eq!(rt; (served.failed_reads, served.failed_writes), (0, 0));
     assert_eq!(rt; served.lines, 2);
     assert!(rt; written.as_slice() == b"no 6\nno 60 device failed\n".as_slice());
     assert!(rt; reader == b"more\n".as_slice());
@@ -223,6 +234,7 @@ fn answers_before_it_reads_on(rt: HostRuntime) -> Result<(), Fail> {
     };
     let served = serve_lines(rt.alloc(), &mut buffer, &mut reader, &mut writer)?;
     assert_eq!(rt; served.result, Err(Fault::StreamFailed));
+    assert_eq!(rt; (served.failed_reads, served.failed_writes), (1, 0));
     assert!(rt; writer.bytes.as_slice() == b"one\n\nthree\n".as_slice());
     assert!(rt; reader.seen.as_slice() == [0, 4, 5, 11].as_slice());
     Ok(())
@@ -244,6 +256,7 @@ fn ends_where_the_writer_fails(rt: HostRuntime) -> Result<(), Fail> {
         };
         let served = serve_lines(rt.alloc(), &mut buffer, &mut reader, &mut writer)?;
         assert_eq!(rt; served.result, Err(Fault::StreamFailed));
+        assert_eq!(rt; (served.failed_reads, served.failed_writes), (0, 1));
         assert!(rt; writer.bytes.as_slice() == output.as_bytes());
         assert_eq!(rt; flushed.get(), 4);
     }
@@ -251,7 +264,7 @@ fn ends_where_the_writer_fails(rt: HostRuntime) -> Result<(), Fail> {
 }
 
 fn answered<W: Write>(machine: &mut Echo, bytes: &[u8], writer: &mut W) -> Result<(), Fault> {
-    line(machine, bytes, writer)
+    line(machine, bytes, &mut CountingWriter::new(writer))
 }
 
 #[test]
@@ -268,6 +281,47 @@ fn a_line_is_taken_whatever_the_writer_does(rt: HostRuntime) -> Result<(), Fail>
     Ok(())
 }
 
+/// A reader that tells its end once, and then goes on.
+#[derive(Drop)]
+struct Typed {
+    reads: u64,
+}
+
+impl Read for Typed {
+    fn read(&mut self, buf: &mut [u8]) -> io::Result<usize> {
+        self.reads = self.reads.saturating_add(1);
+        if self.reads == 2 || buf.is_empty() {
+            return Ok(0);
+        }
+        buf[0] = b'x';
+        Ok(1)
+    }
+}
+
+#[test]
+fn an_ended_reader_is_not_read_again(rt: HostRuntime) {
+    let mut input = CountingReader::new(Typed { reads: 0 });
+    assert_eq!(rt; input.next_byte(), Ok(Some(b'x')));
+    assert_eq!(rt; input.next_byte(), Ok(None));
+    assert_eq!(rt; input.next_byte(), Ok(None));
+    assert_eq!(rt; input.failures(), 0);
+    assert_eq!(rt; input.into_inner().reads, 2);
+}
+
+#[test]
+fn each_failure_is_counted(rt: HostRuntime) -> Result<(), Fail> {
+    let mut output = CountingWriter::new(Stuck { takes: true });
+    assert_eq!(rt; send(&mut output, b"ok\n"), Err(Fault::StreamFailed));
+    assert_eq!(rt; output.write_all(b"ok\n"), Ok(()));
+    assert_eq!(rt; output.flush(), Err(Fault::StreamFailed));
+    assert_eq!(rt; output.failures(), 2);
+    let mut output = CountingWriter::new(Vec::new(rt.alloc()));
+    assert_eq!(rt; send(&mut output, b"ok\n"), Ok(()));
+    assert_eq!(rt; output.failures(), 0);
+    assert!(rt; output.into_inner().as_slice() == b"ok\n".as_slice());
+    Ok(())
+}
+
 #[test]
 fn faults_have_numbers_and_texts(rt: HostRuntime) -> Result<(), Fail> {
     for (fault, number, text) in [
@@ -279,5 +333,6 @@ fn faults_have_numbers_and_texts(rt: HostRuntime) -> Result<(), Fail> {
     }
     laws::splitting();
     laws::taking();
+    laws::sending();
     Ok(())
 }

@@ -1,6 +1,7 @@
 -- Serving by one machine, seen as serving by another.
 use Rattle.std.proofs.Common.{◌≡◌, ℕ, List, [], ◌∷◌, Option, None, Some, Result, refl, ap, ◌∙◌}
 use Rattle.rr_serve.specs.Serving.{Served, Session, AnswersAll}
+use Rattle.rr_serve.specs.Streams.{InputState, OutputState}
 use Rattle.rr_serve.specs.declared.faults.Fault.{Fault}
 
 module _ {S T : Type 0} (A : S → List ℕ → S → Type 0) (r : S → List ℕ) (B : T → List ℕ → T → Type 0) (q : T → List ℕ) (f : S → T)
@@ -12,17 +13,16 @@ module _ {S T : Type 0} (A : S → List ℕ → S → Type 0) (r : S → List �
   Served-seen old [] (reply ∷ replies) new served = absurd served
   Served-seen old (line ∷ lines) [] new served = absurd served
 
-  abbrev pub Session-seen : (old new : S) (remaining left contents written : Option (List ℕ)) (result : Result (Unit {0}) Fault)
-      → Session A r old new remaining left contents written result → Session B q (f old) (f new) remaining left contents written result
-  Session-seen old new remaining left contents written result session =
+  abbrev pub Session-seen : (old new : S) (reader_old reader_new : InputState) (writer_old writer_new : OutputState) (result : Result (Unit {0}) Fault)
+      → Session A r old new reader_old reader_new writer_old writer_new result → Session B q (f old) (f new) reader_old reader_new writer_old writer_new result
+  Session-seen old new reader_old reader_new writer_old writer_new result session =
       record {
         read = session.read;
-        written = session.written;
         lines = session.lines;
         rest = session.rest;
         replies = session.replies;
-        consumed = session.consumed;
-        appended = session.appended;
+        behind = session.behind;
+        gives = session.gives;
         split = session.split;
         served = Served-seen old session.lines session.replies new session.served;
         ends = session.ends;

@@ -1,15 +1,14 @@
 ghost use Rattle.std.specs.Prelude.{◌≡◌, ◌⊎◌, ℕ, List, [], Result, Ok, Err, false, OnOk, OnErr, IfOk, IfErr};
 ghost use Rattle.std.specs.Borrow.{sem};
 ghost use Rattle.std.specs.Io.BufRead.{Rests};
-ghost use Rattle.std.specs.Io.KnownBytes.{Appends};
 ghost use Rattle.rr_code.specs.Command.{IsCommand};
 ghost use Rattle.rr_disk.specs.Moments.{LeavesOnly};
 ghost use Rattle.rr_kit.specs.Kits.{KitTexts, SpellsKit};
 ghost use Rattle.rr_words.specs.Name.{IsTableName};
 ghost use Rattle.rr_serve.specs.declared.faults.Fault as serve;
-ghost use Rattle.rr_serve.specs.Answering.{AppendsFront};
 ghost use Rattle.rr_serve.specs.Lines.{taken};
 ghost use Rattle.rr_serve.specs.Serving.{AnswersAll, Session};
+ghost use Rattle.rr_serve.specs.Streams.{CountsFailures, IsCutShort, IsSent};
 ghost use Rattle.rr_store.specs.declared.fault.Fault as stored;
 ghost use Rattle.rr_store.specs.declared.fault.Fault.TheVariants as Stored;
 ghost use Rattle.rr_store.specs.Allowing.{Between, OpenAllows};
@@ -29,11 +28,10 @@ use crate::fault::Fault;
 use crate::reply::Reply;
 use rr_code::{Command, Line};
 use rr_disk::Disk;
-use rr_serve::{LONGEST_LINE, LineBuffer, Machine};
+use rr_serve::{Input, LONGEST_LINE, LineBuffer, Machine, Output};
 use rr_store::{Refused, Store};
 use rr_words::Name;
 use std::alloc::Global;
-use std::io::{Read, Write};
 
 /// What answers lines: the store of the tables, and the reply to the line taken last.
 #[derive(Drop)]
@@ -117,37 +115,43 @@ impl<D: Disk + Drop> Moderator<D> {
         self.state.reply()
     }
 
-    /// Answers a line, and writes the reply.
+    /// Answers a line, and writes and flushes the reply.
     ///
     /// # Errors
-    /// `StreamFailed` where the writer fails. A command that was accepted stays accepted.
-    pub fn line<W: Write>(&mut self, line: &[u8], writer: &mut W) -> Result<(), Fault>
+    /// `StreamFailed` where a write or the flush failed. A command that was accepted stays accepted.
+    pub fn line<O: Output>(&mut self, line: &[u8], writer: &mut O) -> Result<(), Fault>
         ensures answers { Answers (held_of self.old) (taken line.now) (held_of self.new) (last_reply self.new) }
         ensures lasts { Lasts D.Honest D.state D.past D.fault_count D.write_count D.sync_count (store_of self.old) (taken line.now) (store_of self.new) (last_reply self.new) }
-        ensures ok { OnOk result (Appends (W.contents writer.old) (W.contents writer.new) (last_reply self.new)) }
-        ensures err { OnErr result (AppendsFront (W.contents writer.old) (W.contents writer.new) (last_reply self.new)) }
+        ensures ok { OnOk result (IsSent (O.state writer.old) (last_reply self.new) (O.state writer.new)) }
+        ensures err { OnErr result (IsCutShort (O.state writer.old) (last_reply self.new) (O.state writer.new)) }
         ensures fault { IfErr result (λ fault. fault ≡ Fault.StreamFailed) }
     {
         rr_serve::line(&mut self.state, line, writer)?;
         Ok(())
     }
 
-    /// Answers each line that the reader gives until its end. The reader is read a byte at a time: let a reader of
-    /// the system be a buffered one.
+    /// Answers each line that the reader gives until its end.
     ///
     /// # Errors
-    /// `DeviceFailed` behind a reply `no 60 device failed`, `StreamFailed` where the reader or the writer fails.
-    pub fn serve<R: Read, W: Write>(&mut self, reader: &mut R, writer: &mut W) -> Result<(), Fault>
+    /// `DeviceFailed` behind a reply `no 60 device failed`, `StreamFailed` where a read, a write or a flush failed.
+    pub fn serve<I: Input, O: Output>(
+        &mut self,
+        reader: &mut I,
+        writer: &mut O,
+    ) -> Result<(), Fault>
         // At `Ok` all is read, and what is written is the replies to all lines and to a rest.
         ensures whole { OnOk result (AnswersAll Speaks said (spoken_of self.old) (spoken_of self.new)
-            (R.remaining reader.old) (W.contents writer.old) (W.contents writer.new)) }
+            (I.state reader.old).remaining (O.state writer.old).contents (O.state writer.new).contents) }
 
-        // However it ends, the lines that were read are answered, each so that what it comes to lasts, and what is written
+        // However it ends, it tells of a failed stream exactly where a read, a write or a flush failed; and the lines that were
+        // read are answered, each so that what it comes to lasts, and what is written
         // is their replies as far as it got. So whatever a stop leaves at any moment of it stands for the world that the
         // moderator held then, after the lines that it had answered by then, or for that with the command pending then.
         ensures session { (cause : Result (Unit {0}) serve.Fault) × EndsAs result cause
+            × CountsFailures cause (I.state reader.old).failures (I.state reader.new).failures
+            (O.state writer.old).failures (O.state writer.new).failures
             × (session : Session (SpeaksAndLasts D.Honest D.state D.past D.fault_count D.write_count D.sync_count) told (told_of self.old) (told_of self.new)
-            (R.remaining reader.old) (R.remaining reader.new) (W.contents writer.old) (W.contents writer.new) cause)
+            (I.state reader.old) (I.state reader.new) (O.state writer.old) (O.state writer.new) cause)
             × (D.Honest (disk_under self.new)
             → (texts : KitTexts) → Carries D.state (store_of self.old) texts
             → LeavesOnly (D.past (disk_under self.old)) (D.state (disk_under self.old)) (D.past (disk_under self.new)) (D.state (disk_under self.new))

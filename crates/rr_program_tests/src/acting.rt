@@ -3,6 +3,7 @@ use crate::kits::{ROOM, ROSTER, texts};
 use rr_cli::{Ending, Plan, act, refuse, status};
 use rr_disk::{Disk, FaultyDisk, MemoryDisk};
 use rr_moderator::Fault;
+use rr_serve::{CountingReader, CountingWriter};
 use std::alloc::{AllocError, Global};
 use std::process::Abort;
 use std::test::Fail;
@@ -32,11 +33,11 @@ fn expect_formatted(
     expected: (u8, &[u8]),
 ) -> Result<MemoryDisk, Fail> {
     let plan = format_plan(alloc)?;
-    let mut reader = b"".as_slice();
-    let mut output = Vec::new(alloc);
+    let mut reader = CountingReader::new(b"".as_slice());
+    let mut output = CountingWriter::new(Vec::new(alloc));
     let (status, disk) = act(alloc, &plan, texts(roster), disk, &mut reader, &mut output);
     assert_eq!(rt; status, expected.0);
-    assert_eq!(rt; output.as_slice(), expected.1);
+    assert_eq!(rt; output.into_inner().as_slice(), expected.1);
     Ok(disk)
 }
 
@@ -55,11 +56,11 @@ fn expect_served<D: Disk + Drop>(
     expected: (u8, &[u8]),
 ) -> Result<D, Fail> {
     let plan = serve_plan(alloc)?;
-    let mut reader = input;
-    let mut output = Vec::new(alloc);
+    let mut reader = CountingReader::new(input);
+    let mut output = CountingWriter::new(Vec::new(alloc));
     let (status, disk) = act(alloc, &plan, texts(b""), disk, &mut reader, &mut output);
     assert_eq!(rt; status, expected.0);
-    assert_eq!(rt; output.as_slice(), expected.1);
+    assert_eq!(rt; output.into_inner().as_slice(), expected.1);
     Ok(disk)
 }
 
@@ -168,10 +169,13 @@ fn a_failing_device_ends_serving(rt: HostRuntime) -> Result<(), Fail> {
 
 #[test]
 fn a_refusal_of_its_own(rt: HostRuntime) {
-    let mut output = Vec::new(rt.alloc());
+    let mut output = CountingWriter::new(Vec::new(rt.alloc()));
     let ending = refuse(rt.alloc(), Fault::StreamFailed, &mut output);
     assert_eq!(rt; ending, Ending::Faulted(69));
-    assert_eq!(rt; output.as_slice(), b"no 69 stream failed\n".as_slice());
+    assert_eq!(rt;
+        output.into_inner().as_slice(),
+        b"no 69 stream failed\n".as_slice()
+    );
 }
 
 #[test]

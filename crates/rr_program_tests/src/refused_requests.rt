@@ -4,6 +4,7 @@ use crate::acting::{format_plan, serve_plan};
 use crate::kits::{ROOM, ROSTER, texts};
 use rr_cli::{Plan, act};
 use rr_disk::MemoryDisk;
+use rr_serve::{CountingReader, CountingWriter};
 use std::alloc::Global;
 use std::process::Abort;
 use std::test::Fail;
@@ -31,15 +32,9 @@ fn run_once(
     runs.output.clear();
     runs.before.clear();
     runs.before.extend_from_slice(disk.content())?;
-    let mut reader = input;
-    Ok(act(
-        alloc,
-        plan,
-        texts(ROSTER),
-        disk,
-        &mut reader,
-        &mut runs.output,
-    ))
+    let mut reader = CountingReader::new(input);
+    let mut writer = CountingWriter::new(&mut runs.output);
+    Ok(act(alloc, plan, texts(ROSTER), disk, &mut reader, &mut writer))
 }
 
 /// Runs it again where it was refused memory before anything was done, which must leave the disk as it was.

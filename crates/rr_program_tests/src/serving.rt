@@ -3,6 +3,7 @@
 use crate::kits::{ROOM, formatted, opened};
 use rr_disk::{Disk, FaultyDisk, MemoryDisk};
 use rr_moderator::{Fault, Moderator};
+use rr_serve::{CountingReader, CountingWriter};
 use std::alloc::Global;
 use std::cell::Cell;
 use std::io;
@@ -16,10 +17,10 @@ fn served<D: Disk + Drop>(
     moderator: &mut Moderator<D>,
     input: &[u8],
 ) -> (Result<(), Fault>, Vec<u8>) {
-    let mut written = Vec::new(alloc);
-    let mut reader = input;
-    let result = moderator.serve(&mut reader, &mut written);
-    (result, written)
+    let mut reader = CountingReader::new(input);
+    let mut writer = CountingWriter::new(Vec::new(alloc));
+    let result = moderator.serve(&mut reader, &mut writer);
+    (result, writer.into_inner())
 }
 
 /// The reply to a line.
@@ -69,10 +70,10 @@ fn expect_line<D: Disk + Drop>(
     line: &[u8],
     reply: &[u8],
 ) {
-    let mut written = Vec::new(alloc);
-    let result = moderator.line(line, &mut written);
+    let mut writer = CountingWriter::new(Vec::new(alloc));
+    let result = moderator.line(line, &mut writer);
     assert_eq!(rt; result, Ok(()));
-    assert_eq!(rt; written.as_slice(), reply);
+    assert_eq!(rt; writer.into_inner().as_slice(), reply);
 }
 
 /// A disk whose file has two commands.
@@ -180,14 +181,18 @@ fn says_ok_once_the_record_is_safe(rt: HostRuntime) -> Result<(), Fail> {
         syncs: &syncs,
     };
     let mut moderator = opened(alloc, disk)?;
-    let mut writer = Watch {
+    let mut writer = CountingWriter::new(Watch {
         writes: &writes,
         syncs: &syncs,
         seen: Vec::new(alloc),
-    };
-    let mut reader = b"0 t1 open ann bob\n0 t1 open ann bob\n1 t1 buy ann\n".as_slice();
+    });
+    let input = b"0 t1 open ann bob\n0 t1 open ann bob\n1 t1 buy ann\n".as_slice();
+    let mut reader = CountingReader::new(input);
     assert_eq!(rt; moderator.serve(&mut reader, &mut writer), Ok(()));
-    assert_eq!(rt; writer.seen.as_slice(), [(2, 3), (2, 3), (4, 5)].as_slice());
+    assert_eq!(rt;
+        writer.into_inner().seen.as_slice(),
+        [(2, 3), (2, 3), (4, 5)].as_slice()
+    );
     Ok(())
 }
 
@@ -218,14 +223,14 @@ impl Write for Drip {
 /// table has then.
 fn served_to_drip(alloc: Global, room: usize) -> Result<(Vec<u8>, bool, Vec<u8>), Fail> {
     let mut moderator = opened(alloc, formatted(alloc)?)?;
-    let mut writer = Drip {
+    let mut writer = CountingWriter::new(Drip {
         bytes: Vec::new(alloc),
         room,
-    };
-    let mut reader = b"0 t1 open ann bob\n1 t1 buy ann\n".as_slice();
+    });
+    let mut reader = CountingReader::new(b"0 t1 open ann bob\n1 t1 buy ann\n".as_slice());
     let whole = moderator.serve(&mut reader, &mut writer).is_ok();
     let stamp = answered(alloc, &mut moderator, b"stamp t1")?;
-    Ok((writer.bytes, whole, stamp))
+    Ok((writer.into_inner().bytes, whole, stamp))
 }
 
 #[test]
@@ -266,13 +271,16 @@ impl Read for Torn<'_> {
 fn ends_where_the_reader_fails(rt: HostRuntime) -> Result<(), Fail> {
     let alloc = rt.alloc();
     let mut moderator = opened(alloc, formatted(alloc)?)?;
-    let mut reader = Torn {
+    let mut reader = CountingReader::new(Torn {
         rest: b"0 t1 open ann bob\ntables\n1 t1 buy",
-    };
-    let mut written = Vec::new(alloc);
-    let result = moderator.serve(&mut reader, &mut written);
+    });
+    let mut writer = CountingWriter::new(Vec::new(alloc));
+    let result = moderator.serve(&mut reader, &mut writer);
     assert_eq!(rt; result, Err(Fault::StreamFailed));
-    assert_eq!(rt; written.as_slice(), b"ok t1 1\n= t1\n".as_slice());
+    assert_eq!(rt;
+        writer.into_inner().as_slice(),
+        b"ok t1 1\n= t1\n".as_slice()
+    );
     Ok(())
 }
 

@@ -33,7 +33,7 @@ fn guesses_a_run_and_its_certificate(rt: HostRuntime) {
     let (sheet, tree) = guessed.expect(&rt, "a guess");
     let words = sheet.as_slice();
     assert_eq!(rt; words.len(), 1);
-    assert_eq!(rt; words[0].links.as_slice(), [1, 2, 3]);
+    assert_eq!(rt; words[0].links.as_slice(), [1, 2, 3].as_slice());
     assert!(rt; check(rt.alloc(), &net, 30, &tree).expect(&rt, "memory"));
 }
 

@@ -10,6 +10,12 @@ use Rattle.rr_serve.specs.Lines.{taken}
 pub take-part : (w c : ℕ) (xs : List ℕ) → take w xs ++ take c (take (length xs - w) (drop w xs)) ≡ take (w + c) xs
 take-part w c xs = ap (λ ys. take w xs ++ take c ys) (take_rest xs w) ∙ sym (take-add w c xs)
 
+-- the first w, and the next c
+pub take-next : (w c : ℕ) (xs : List ℕ) → take w xs ++ take ((w + c) - w) (drop w xs) ≡ take (w + c) xs
+take-next w c xs =
+    let part : (w + c) - w ≡ c = omega arith in
+    ap (λ n. take w xs ++ take n (drop w xs)) part ∙ sym (take-add w c xs)
+
 -- a write that took nothing added nothing
 pub take-none : (w c : ℕ) (xs : List ℕ) → c ≤ 0 → take w xs ++ take c (take (length xs - w) (drop w xs)) ≡ take w xs
 take-none w c xs none =

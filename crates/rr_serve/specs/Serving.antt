@@ -1,9 +1,10 @@
 -- What serving does: which lines the machine takes, and which bytes are written.
 use Rattle.std.specs.Prelude.{◌≡◌, ℕ, Bool, false, true, List, [], ◌∷◌, ◌++◌, ◌⊎◌, Option, Result, Ok, Err, IfSome, codes, nat_eq}
 use Rattle.std.specs.List.{AllByRecursion, concat, starts_with}
-use Rattle.std.specs.Io.KnownBytes.{Appends, Consumes, IsAtEnd}
+use Rattle.std.specs.Io.KnownBytes.{Appends}
 use Rattle.std.proofs.Common.{subst, sym}
 use Rattle.rr_serve.specs.Lines.{Splits, taken, line_feed}
+use Rattle.rr_serve.specs.Streams.{InputState, OutputState, HasEnded, Gives, FailsToGive, IsCutShort, AreSent}
 use Rattle.rr_serve.specs.declared.faults.Fault.{Fault}
 use Rattle.rr_serve.specs.declared.faults.Fault.TheVariants.{DeviceFailed, StreamFailed}
 
@@ -40,44 +41,41 @@ abbrev pub replies_to_rest : List ℕ → List (List ℕ)
 replies_to_rest [] = []
 replies_to_rest (byte ∷ bytes) = malformed_line ∷ []
 
--- the replies but the last are written, and a front of the last
-pub record Stops (replies : List (List ℕ)) (written : List ℕ) : Type 0 where
+-- the replies but the last are sent, and the last is cut short
+pub record Stops (replies : List (List ℕ)) (writer_old writer_new : OutputState) : Type 0 where
   pub before : List (List ℕ)
   pub last : List ℕ
-  pub front : List ℕ
-  pub more : List ℕ
+  pub mid : OutputState
   pub replies_are : replies ≡ before ++ last ∷ []
   pub none_before : NoneFails before
-  pub last_is : last ≡ front ++ more
-  pub written_is : written ≡ concat before ++ front
+  pub sent : AreSent writer_old before mid
+  pub cut_short : IsCutShort mid last writer_new
 
--- what is written when serving ends so; left is what the reader has left
-abbrev pub Ends : Result (Unit {0}) Fault → List (List ℕ) → List ℕ → List ℕ → Option (List ℕ) → Type 0
--- at the end of the input: the replies to the lines and to a rest
-Ends (Ok _) replies rest written left =
-    NoneFails replies × (written ≡ concat (replies ++ replies_to_rest rest)) × IsAtEnd left
--- where the device fails: the replies up to and with the one that says so
-Ends (Err DeviceFailed) replies rest written left =
-    LastFails replies × (rest ≡ []) × (written ≡ concat replies)
--- where the reader fails: the replies to the lines so far; where the writer fails: a reply less, and a front of that one
-Ends (Err StreamFailed) replies rest written left =
-    (NoneFails replies × (written ≡ concat replies)) ⊎ (Stops (replies ++ replies_to_rest rest) written × ((rest ≡ []) ⊎ IsAtEnd left))
+-- How serving ends, whose input was so behind the last byte that it gave, and then is so.
+abbrev pub Ends : Result (Unit {0}) Fault → List (List ℕ) → List ℕ → InputState → InputState → OutputState → OutputState → Type 0
+-- at the end of the input: the replies to the lines and to a rest are sent, and nothing failed
+Ends (Ok _) replies rest behind reader_new writer_old writer_new =
+    NoneFails replies × AreSent writer_old (replies ++ replies_to_rest rest) writer_new × HasEnded reader_new × (reader_new ≡ behind)
+-- where the device fails: the replies up to and with the one that says so are sent
+Ends (Err DeviceFailed) replies rest behind reader_new writer_old writer_new =
+    LastFails replies × (rest ≡ []) × AreSent writer_old replies writer_new × (reader_new ≡ behind)
+-- where a read fails: the replies to the lines so far are sent; where a write or a flush fails: those but the last, which is cut short
+Ends (Err StreamFailed) replies rest behind reader_new writer_old writer_new =
+    (NoneFails replies × AreSent writer_old replies writer_new × FailsToGive behind reader_new)
+    ⊎ (Stops (replies ++ replies_to_rest rest) writer_old writer_new × ((rest ≡ []) ⊎ HasEnded reader_new) × (reader_new ≡ behind))
 
--- Serving reads some bytes, the machine takes just their lines, and the replies are written as far as it gets.
--- The bytes that are read and written are those that the reader loses and the writer gains, where these are known:
--- remaining and left are what the reader has before and after, contents and held what the writer has.
+-- Serving reads some bytes, the machine takes just their lines, and the replies are sent as far as it gets.
 pub record Session {S : Type 0} (Answers : S → List ℕ → S → Type 0) (reply_of : S → List ℕ) (old new : S)
-    (remaining left contents held : Option (List ℕ)) (result : Result (Unit {0}) Fault) : Type 0 where
+    (reader_old reader_new : InputState) (writer_old writer_new : OutputState) (result : Result (Unit {0}) Fault) : Type 0 where
   pub read : List ℕ
-  pub written : List ℕ
   pub lines : List (List ℕ)
   pub rest : List ℕ
   pub replies : List (List ℕ)
-  pub consumed : Consumes remaining left read
-  pub appended : Appends contents held written
+  pub behind : InputState
+  pub gives : Gives reader_old read behind
   pub split : Splits read lines rest
   pub served : Served Answers reply_of old lines replies new
-  pub ends : Ends result replies rest written left
+  pub ends : Ends result replies rest behind reader_new writer_old writer_new
 
 -- the whole input is answered: the bytes are the replies to its lines and to a rest, and none says that the device failed
 pub record Answered {S : Type 0} (Answers : S → List ℕ → S → Type 0) (reply_of : S → List ℕ) (old new : S) (input bytes : List ℕ) : Type 0 where

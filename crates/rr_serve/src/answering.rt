@@ -1,11 +1,10 @@
 ghost use Rattle.std.specs.Prelude.{◌≡◌, ℕ, List, IfErr, OnOk, OnErr};
-ghost use Rattle.std.specs.Io.KnownBytes.{Appends};
 ghost use Rattle.rr_serve.specs.Lines.{taken};
-ghost use Rattle.rr_serve.specs.Answering.{AppendsFront};
+ghost use Rattle.rr_serve.specs.Streams.{IsSent, IsCutShort};
 
 use crate::faults::Fault;
 use crate::line_buffer::LONGEST_LINE;
-use std::io::Write;
+use crate::output::{Output, send};
 
 /// What answers lines: it takes one, and then has the reply to it.
 pub trait Machine {
@@ -25,34 +24,19 @@ pub trait Machine {
         ensures { result.now ≡ reply_of self.now };
 }
 
-/// Hands the line to the machine, and writes the reply. The machine has taken the line either way.
-/// An error, `StreamFailed`, comes where the writer fails or takes nothing.
-pub fn line<M: Machine, W: Write>(machine: &mut M, line: &[u8], writer: &mut W) -> Result<(), Fault>
+/// Hands the line to the machine, and writes and flushes the reply. The machine has taken the line either way.
+/// An error, `StreamFailed`, comes where the writer failed.
+pub fn line<M: Machine, O: Output>(
+    machine: &mut M,
+    line: &[u8],
+    writer: &mut O,
+) -> Result<(), Fault>
     ensures answers { M.Answers machine.old (taken line.now) machine.new }
-    ensures ok { OnOk result (Appends (W.contents writer.old) (W.contents writer.new) (M.reply_of machine.new)) }
-    ensures err { OnErr result (AppendsFront (W.contents writer.old) (W.contents writer.new) (M.reply_of machine.new)) }
+    ensures ok { OnOk result (IsSent (O.state writer.old) (M.reply_of machine.new) (O.state writer.new)) }
+    ensures err { OnErr result (IsCutShort (O.state writer.old) (M.reply_of machine.new) (O.state writer.new)) }
     ensures fault { IfErr result (λ fault. fault ≡ Fault.StreamFailed) }
 {
     let known = line.len().min(LONGEST_LINE + 1);
     machine.take(&line[..known]);
-    write_reply(writer, machine.reply())
-}
-
-/// Writes the reply by as many writes as it takes, and has the writer hold none of it back.
-pub(crate) fn write_reply<W: Write>(writer: &mut W, reply: &[u8]) -> Result<(), Fault>
-    ensures ok { OnOk result (Appends (W.contents writer.old) (W.contents writer.new) reply.now) }
-    ensures err { OnErr result (AppendsFront (W.contents writer.old) (W.contents writer.new) reply.now) }
-    ensures fault { IfErr result (λ fault. fault ≡ Fault.StreamFailed) }
-{
-    let mut written = 0;
-    while written < reply.len() {
-        match writer.write(&reply[written..]) {
-            Ok(count) if 0 < count => written += count,
-            _ => return Err(Fault::StreamFailed),
-        }
-    }
-    match writer.flush() {
-        Ok(()) => Ok(()),
-        Err(_) => Err(Fault::StreamFailed),
-    }
+    send(writer, machine.reply())
 }

@@ -1,6 +1,8 @@
-//! What the definitions of lines say. The calls do nothing: their contracts hold of all lists of bytes.
+//! What the definitions of lines and of replies say. The calls do nothing: their contracts hold of all lists of bytes.
 ghost use Rattle.std.specs.Prelude.{◌≡◌, ℕ, ◌+◌, ◌<◌, ◌≤◌, List, ◌++◌, length};
+ghost use Rattle.std.specs.List.{concat};
 ghost use Rattle.rr_serve.specs.Lines.{Splits, taken};
+ghost use Rattle.rr_serve.specs.Streams.{OutputState, AreSent};
 
 use crate::line_buffer::LONGEST_LINE;
 
@@ -18,4 +20,16 @@ pub fn splitting()
 pub fn taking()
     ensures whole { (line : List ℕ) → length line ≤ LONGEST_LINE → taken line ≡ line }
     ensures too_long { (line : List ℕ) → LONGEST_LINE < length line → length (taken line) ≡ LONGEST_LINE + 1 }
+{}
+
+/// What replies that were sent come to: just they are written, each has its flush, nothing is held back, and nothing failed.
+pub fn sending()
+    ensures written { (before : OutputState) (replies : List (List ℕ)) (after : OutputState) → AreSent before replies after →
+        after.written ≡ before.written ++ concat replies }
+    ensures flushes { (before : OutputState) (replies : List (List ℕ)) (after : OutputState) → AreSent before replies after →
+        after.flushes ≡ before.flushes + length replies }
+    ensures flushed { (before : OutputState) (replies : List (List ℕ)) (after : OutputState) → AreSent before replies after →
+        before.flushed ≡ before.written → after.flushed ≡ after.written }
+    ensures none_failed { (before : OutputState) (replies : List (List ℕ)) (after : OutputState) → AreSent before replies after →
+        after.failures ≡ before.failures }
 {}

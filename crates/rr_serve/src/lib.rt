@@ -1,15 +1,21 @@
 //! Reads lines, hands each to a machine that answers, and writes the replies.
 //! A reply is written and flushed before the next line is read, so that a program can send a line and wait.
+//! What it reads and writes counts the reads and writes that fail, so that a failure is told exactly where one came.
 #![tactic(auto)]
 
 mod answering;
 mod faults;
+mod input;
 pub mod laws;
 mod line_buffer;
+mod output;
 mod reading;
+mod record;
 mod serving;
 
 pub use answering::{Machine, line};
 pub use faults::Fault;
+pub use input::{CountingReader, Input};
 pub use line_buffer::{LONGEST_LINE, LineBuffer};
+pub use output::{CountingWriter, Output, send};
 pub use serving::serve;

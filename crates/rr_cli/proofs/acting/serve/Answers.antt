@@ -15,7 +15,7 @@ returns-in-Ok g c =
       no_fault = c.in-Ok.ensures.no_fault;
       no_write = c.in-Ok.ensures.writes;
     })
-    c.serve.ensures.session.1 c.serve.ensures.session.2 c.serve.ensures.session.3 refl)
+    c.serve.ensures.session.1 c.serve.ensures.session.3 c.serve.ensures.session.4 c.serve.ensures.session.2 refl)
 
 pub returns-in-Err : goal.returns-in-Err
 returns-in-Err g c =

@@ -13,6 +13,7 @@ returns-in_err-serve-clause-session g c =
     let seen = Session-seen _ _ (SpeaksAndLasts g.D.Disk.Honest g.D.Disk.state g.D.Disk.past g.D.Disk.fault_count g.D.Disk.write_count g.D.Disk.sync_count) told (λ s. (s.store, s.reply)) (λ s line t a. a) (λ s. refl) _ _ _ _ _ _ _ c.in_err-serve.ensures.session in (
       Err c.in_err-serve.field-0.0,
       rw (p.1) p.2,
+      c.in_err-serve.ensures.failures,
       seen,
       λ honest texts carried. along g.D.Disk.Honest g.D.Disk.state g.D.Disk.past g.D.Disk.fault_count g.D.Disk.write_count g.D.Disk.sync_count texts _ seen.lines seen.replies _ seen.served honest carried,
     )
@@ -25,6 +26,7 @@ returns-clause-session g c =
     let seen = Session-seen _ _ (SpeaksAndLasts g.D.Disk.Honest g.D.Disk.state g.D.Disk.past g.D.Disk.fault_count g.D.Disk.write_count g.D.Disk.sync_count) told (λ s. (s.store, s.reply)) (λ s line t a. a) (λ s. refl) _ _ _ _ _ _ _ c.in_ok-serve.ensures.session in (
       Ok tt,
       tt,
+      c.in_ok-serve.ensures.failures,
       seen,
       λ honest texts carried. along g.D.Disk.Honest g.D.Disk.state g.D.Disk.past g.D.Disk.fault_count g.D.Disk.write_count g.D.Disk.sync_count texts _ seen.lines seen.replies _ seen.served honest carried,
     )

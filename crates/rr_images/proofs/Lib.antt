@@ -1,0 +1,14 @@
+pub mod Places
+pub mod Framing
+pub mod Steps
+pub mod OneWorld
+pub mod GoesOn
+pub mod Commits
+pub mod Ticks
+pub mod Between
+pub mod Plans
+pub mod Calls
+pub mod Laid
+pub mod Following
+pub mod Refusing
+pub mod Example

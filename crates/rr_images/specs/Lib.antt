@@ -1,0 +1,13 @@
+pub mod Codec
+pub mod Halves
+pub mod Holding
+pub mod Layout
+pub mod Framing
+pub mod Steps
+pub mod Progress
+pub mod Plans
+pub mod Following
+pub mod Refusing
+pub mod Calls
+pub mod Laws
+pub mod Example

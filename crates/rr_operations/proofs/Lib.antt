@@ -1,0 +1,9 @@
+pub mod ProgressLemmas
+pub mod DueLemmas
+pub mod Opened
+pub mod StepLemmas
+pub mod StayLemmas
+pub mod TurnLemmas
+pub mod SetLemmas
+pub mod DebtLemmas
+pub mod WorkedRows

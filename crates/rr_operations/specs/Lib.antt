@@ -1,0 +1,6 @@
+pub mod Phases
+pub mod Turn
+pub mod Progress
+pub mod Due
+pub mod OperatingLaws
+pub mod WorkedRound

@@ -1,0 +1,12 @@
+//! How far the operating rounds of a table have come: which round of which set it is, which corporation is due, and at
+//! which step of its turn.
+#![tactic(auto)]
+
+pub mod laws;
+mod operations;
+mod phases;
+mod turn;
+
+pub use operations::Operations;
+pub use phases::{is_sold, phase, rounds_in_set};
+pub use turn::{Stage, TurnStep};

@@ -1,0 +1,4 @@
+pub mod Worlds
+pub mod Schedule
+pub mod Laws
+pub mod Example
