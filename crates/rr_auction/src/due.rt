@@ -28,7 +28,8 @@ pub enum Due {
 impl Due {
     /// What the auction waits for, at a table of this position.
     pub fn of(position: &Position) -> Due
-        ensures { (book : Book) → IsPositionOf book position.now → result ≡ due book }
+        ensures shown { result ≡ due_in (holder_in position.now.books) position.now.bidding }
+        ensures book { (book : Book) → IsPositionOf book position.now → result ≡ due book }
     {
         due_by(position.books(), position.bidding())
     }
@@ -36,7 +37,8 @@ impl Due {
 
 /// How many turns have ended. Each purchase, bid and pass ends one; where it brings the B&O's par, the par ends it.
 pub fn turns(position: &Position) -> u32
-    ensures { (book : Book) → IsPositionOf book position.now → result ≡ turns book }
+    ensures shown { result ≡ turns_in position.now.bidding }
+    ensures book { (book : Book) → IsPositionOf book position.now → result ≡ turns book }
 {
     turns_by(position.bidding())
 }

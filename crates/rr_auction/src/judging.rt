@@ -25,7 +25,10 @@ use rr_roster::Roster;
 /// `CashTiedUp` where the seat has the money but has bid it on other privates; for a par `NotForSale` where the
 /// corporation isn't the B&O, and `NotAPar` where the chart has no par cell of the price.
 pub fn judge(roster: &Roster, chart: &Chart, position: &Position, act: &Act) -> Result<(), Fault>
-    ensures { (book : Book) → IsPositionOf book position.now → MatchResult result
+    ensures shown { MatchResult result
+        (λ _. verdict_in roster.now chart.now (cash_of position.now.books) (holder_in position.now.books) position.now.bidding act.now ≡ None)
+        (λ fault. verdict_in roster.now chart.now (cash_of position.now.books) (holder_in position.now.books) position.now.bidding act.now ≡ Some fault) }
+    ensures book { (book : Book) → IsPositionOf book position.now → MatchResult result
         (λ _. verdict roster.now chart.now book act.now ≡ None)
         (λ fault. verdict roster.now chart.now book act.now ≡ Some fault) }
 {

@@ -15,7 +15,8 @@ use rr_roster::Roster;
 
 /// The cheapest private that isn't sold, and what it costs now, also while several raise for it.
 pub fn asked(position: &Position, roster: &Roster) -> Option<(Private, Money)>
-    ensures { (book : Book) → IsPositionOf book position.now → result ≡ asked roster.now book }
+    ensures shown { result ≡ asked_in roster.now (holder_in position.now.books) position.now.bidding }
+    ensures book { (book : Book) → IsPositionOf book position.now → result ≡ asked roster.now book }
 {
     asked_by(position.books(), position.bidding(), roster)
 }

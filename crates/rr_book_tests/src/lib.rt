@@ -3,17 +3,11 @@
 #![tactic(auto)]
 
 #[cfg(test)]
-mod bids;
-#[cfg(test)]
 mod books;
 #[cfg(test)]
 mod desk;
 #[cfg(test)]
-mod market;
-#[cfg(test)]
 mod opening;
-#[cfg(test)]
-mod rounds;
 #[cfg(test)]
 mod shares;
 #[cfg(test)]

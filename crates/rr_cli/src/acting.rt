@@ -25,7 +25,7 @@ pub fn act<D: Disk + Drop, I: Input, O: Output>(
     reader: &mut I,
     writer: &mut O,
 ) -> (u8, D)
-    ensures { Acts D.Honest D.state D.past D.fault_count D.write_count D.sync_count plan.now (lent_texts texts.entry) disk result.1 (I.state reader.old) (I.state reader.new)
+    ensures { Acts D.Honest D.Works D.state D.past D.fault_count D.write_count D.sync_count plan.now (lent_texts texts.entry) disk result.1 (I.state reader.old) (I.state reader.new)
         (O.state writer.old) (O.state writer.new) result.0 }
 {
     match plan {
@@ -40,7 +40,7 @@ fn format<D: Disk + Drop, O: Output>(
     mut disk: D,
     writer: &mut O,
 ) -> (u8, D)
-    ensures { Formats D.Honest D.state D.fault_count (lent_texts texts.entry) disk result.1
+    ensures { Formats D.Honest D.Works D.state D.fault_count D.write_count D.sync_count (lent_texts texts.entry) disk result.1
         (O.state writer.old) (O.state writer.new) result.0 }
 {
     match rr_moderator::format(alloc, &mut disk, texts) {
@@ -61,7 +61,7 @@ fn serve<D: Disk + Drop, I: Input, O: Output>(
     reader: &mut I,
     writer: &mut O,
 ) -> (u8, D)
-    ensures { Serves D.Honest D.state D.past D.fault_count D.write_count D.sync_count disk result.1 (I.state reader.old) (I.state reader.new)
+    ensures { Serves D.Honest D.Works D.state D.past D.fault_count D.write_count D.sync_count disk result.1 (I.state reader.old) (I.state reader.new)
         (O.state writer.old) (O.state writer.new) result.0 }
 {
     match Moderator::open(alloc, disk) {

@@ -4,3 +4,4 @@ pub mod Parts
 pub mod Keeper
 pub mod Lent
 pub mod Opening
+pub mod Laws

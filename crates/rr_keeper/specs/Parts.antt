@@ -55,6 +55,11 @@ gone_on part = start_of (next_part part.index) part
 abbrev pub place_for : Part → ℕ → Part
 place_for part count = if nat_le (part.next_slot + slots_for count) 255 then part else gone_on part
 
+-- the place behind a record of so many bytes
+abbrev pub part_after : Part → ℕ → Part
+part_after part count =
+    record { index = (place_for part count).index; next_slot = (place_for part count).next_slot + slots_for count }
+
 -- a record of so many bytes has room in the part under way or, where one is left, in the next from its start on
 abbrev pub HasPlace : Part → ℕ → Type 0
 HasPlace part count = HasRoom part.next_slot count ⊎ (IsSome (next_part part.index) × HasRoom 0 count)

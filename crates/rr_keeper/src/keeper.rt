@@ -1,11 +1,11 @@
 ghost use Rattle.std.specs.Prelude.{◌≡◌, ◌⊎◌, ◌↔◌, ◌+◌, ◌^◌, ◌<◌, ◌≤◌, [], ◌∷◌, ◌++◌, List, ℕ, Bool, true, false, length, OnOk, IfErr, IsErrOf, IsTrue};
 ghost use Rattle.rr_disk.specs.Disk.{DiskState, after_sync, after_write};
 ghost use Rattle.rr_disk.specs.Moments.{LeavesOnly};
-ghost use Rattle.rr_journal.specs.Layout.{HasRoom, start_page, slots_for, spelling};
+ghost use Rattle.rr_journal.specs.Layout.{HasRoom, start_page, spelling};
 ghost use Rattle.rr_journal.specs.Stops.{next_gate};
 ghost use Rattle.rr_keeper.specs.Fault.{CountsFault, OnDeviceFault};
 ghost use Rattle.rr_keeper.specs.File.{Kit, IsStore};
-ghost use Rattle.rr_keeper.specs.Parts.{gone_on, place_for, HasPlace};
+ghost use Rattle.rr_keeper.specs.Parts.{gone_on, part_after, place_for, HasPlace};
 
 use crate::fault::Fault;
 use rr_disk::Disk;
@@ -72,10 +72,7 @@ impl<D: Disk + Drop> Keeper<D> {
             → D.state (disk_of self.new) ≡ after_sync (after_write (D.state (disk_of self.old))
             (next_gate (place_for (part_of self.old) (length line.now)))
             (spelling (number_of_next self.old) line.now))) }
-        ensures part { OnOk result (part_of self.new ≡ record {
-          index = (place_for (part_of self.old) (length line.now)).index;
-          next_slot = (place_for (part_of self.old) (length line.now)).next_slot + slots_for (length line.now);
-        }) }
+        ensures part { OnOk result (part_of self.new ≡ part_after (part_of self.old) (length line.now)) }
         ensures number { OnOk result (number_of_next self.new ≡ number_of_next self.old + 1) }
 
         // When each refusal comes, and what it leaves.

@@ -8,6 +8,7 @@ mod device;
 mod fault;
 mod formatting;
 mod keeper;
+pub mod laws;
 mod numbers;
 mod opening;
 mod root;

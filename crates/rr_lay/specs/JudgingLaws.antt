@@ -14,7 +14,7 @@ use Rattle.rr_lay.specs.Judging.{After, Needs}
 use Rattle.rr_lay.specs.Laying.{IsLayVerdict, IsUpgrade, IsVerdictAt, ReachesNewLink, lay_cost, net_now, net_with, supply_verdict}
 use Rattle.rr_lay.specs.Placing as placing
 use Rattle.rr_lay.specs.Position.{Position}
-use Rattle.rr_lay.specs.Rows.{cost_verdict}
+use Rattle.rr_lay.specs.Costs.{cost_verdict}
 use Rattle.rr_network.specs.Walk.{ReachesNode, node_of}
 
 both_are : (e v w : Option Fault) → v ≡ e → w ≡ e → v ≡ w

@@ -23,7 +23,7 @@ use Rattle.rr_lay.specs.declared.fault.Fault.TheVariants as F
 use Rattle.rr_lay.specs.Judging.{After, Needs}
 use Rattle.rr_lay.specs.Phase.{is_open}
 use Rattle.rr_lay.specs.Position.{Position}
-use Rattle.rr_lay.specs.Rows.{cost_verdict, puts}
+use Rattle.rr_lay.specs.Costs.{cost_verdict, puts}
 use Rattle.rr_desk.specs.Effects.{Effect}
 use Rattle.rr_trains.specs.Phases.{phase}
 use Rattle.rr_lay.specs.Tiles.{faces_hexes, hexes_with, is_blocked, is_next_colour, laid_colour}
@@ -120,5 +120,5 @@ cost_at all None = None
 cost_at all (Some hex) = lay_cost all hex
 
 -- what laying the tile adds: the command's words, the payment of the cost where it is the first tile there, and the tile
-abbrev pub lay_row : Plan → Corp → Lay → Effect
-lay_row plan corp lay book = puts (A.Lay corp lay.hex lay.tile lay.turn) corp (cost_at (lays book) (hex_named plan.hexes lay.hex)) (E.Lay lay.hex lay.tile lay.turn) book
+abbrev pub lays_tile : Plan → Corp → Lay → Effect
+lays_tile plan corp lay book = puts (A.Lay corp lay.hex lay.tile lay.turn) corp (cost_at (lays book) (hex_named plan.hexes lay.hex)) (E.Lay lay.hex lay.tile lay.turn) book

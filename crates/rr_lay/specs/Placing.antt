@@ -19,7 +19,7 @@ use Rattle.rr_lay.specs.declared.fault.Fault.TheVariants as F
 use Rattle.rr_lay.specs.Judging.{After, Needs}
 use Rattle.rr_lay.specs.Laying.{net_now}
 use Rattle.rr_lay.specs.Position.{Position}
-use Rattle.rr_lay.specs.Rows.{cost_verdict, puts}
+use Rattle.rr_lay.specs.Costs.{cost_verdict, puts}
 
 abbrev pub is_token_of : Corp → Station → Bool
 is_token_of corp station = corp_index station.corp == corp_index corp
@@ -89,5 +89,5 @@ abbrev pub IsStationVerdict : Plan → List Supply → ℕ → Position → Stat
 IsStationVerdict plan tiles tokens now station verdict = IsVerdictAt plan tiles tokens now station (hex_named plan.hexes station.hex) verdict
 
 -- what placing the token adds: the command's words, the payment of its cost, be it 0, and the token
-abbrev pub station_row : Station → Effect
-station_row station book = puts (A.Station station.corp station.hex station.centre) station.corp (Some (token_cost (placed_by (stations book) station.corp))) (E.Station station.corp station.hex station.centre) book
+abbrev pub places_token : Station → Effect
+places_token station book = puts (A.Station station.corp station.hex station.centre) station.corp (Some (token_cost (placed_by (stations book) station.corp))) (E.Station station.corp station.hex station.centre) book

@@ -1,20 +1,21 @@
 //! Laying a tile.
-ghost use Rattle.std.specs.Prelude.{◌≡◌, None, Some, MatchResult, IfErr, IfOk, OnOk, ◌⊎◌};
+ghost use Rattle.std.specs.Prelude.{◌≡◌, ◌<◌, length, None, Some, MatchResult, IfErr, OnOk, ◌⊎◌};
 ghost use Rattle.rr_books.specs.Book.{Book};
 ghost use Rattle.rr_board.specs.Plan.{hex_named};
 ghost use Rattle.rr_layout.specs.Layout.{lays};
+ghost use Rattle.rr_layout.specs.declared.layout.TheConstants.{MOST_LAYS};
 ghost use Rattle.rr_position.specs.Position.{IsPositionOf};
 ghost use Rattle.rr_desk.specs.Desk.{Takes};
-ghost use Rattle.rr_lay.specs.Rows.{puts};
+ghost use Rattle.rr_lay.specs.Costs.{puts};
 ghost use Rattle.rr_lay.specs.Position.{position_in, position_of};
-ghost use Rattle.rr_lay.specs.Laying.{IsLayVerdict, IsVerdictOn, cost_at, first_lay_verdict, lay_cost, lay_row, supply_verdict};
+ghost use Rattle.rr_lay.specs.Laying.{IsLayVerdict, IsVerdictOn, cost_at, first_lay_verdict, lay_cost, lays_tile, supply_verdict};
 ghost use Rattle.rr_books.specs.declared.faults.Fault.TheVariants as B;
 
 use crate::colours::is_open;
+use crate::costs::{judge_cost, pay_cost};
 use crate::fault::Fault;
 use crate::hexes::{hexes_with, is_blocked, is_next_colour, laid_colour};
-use crate::rows::{judge_cost, pay_cost};
-use crate::upgrades::{is_upgrade, reaches_new_link};
+use crate::upgrades::{NamedLay, is_upgrade, reaches_new_link};
 use rr_board::Hex;
 use rr_books::{Act, Corp, Entry, Marker};
 use rr_desk::{Desk, Position};
@@ -34,7 +35,9 @@ use std::alloc::Global;
 /// `TileGone` where as many hexes have this tile as there are of it; `BlockedHex` for a yellow tile on a hex
 /// that a private blocks which a player holds; `NotAnUpgrade` where the turned tile doesn't keep what lies
 /// there, or uses an edge that faces no hex; `NotReached` where the corporation reaches no link that the tile
-/// adds; `TooLittleCash` for the cost. `OutOfMemory` where none of those up to `BlockedHex` comes.
+/// adds; `TooLittleCash` for the cost. `OutOfMemory` where none of those up to `BlockedHex` comes and a request for
+/// memory was refused, and where `NotAnUpgrade` doesn't come either and `rr_layout::MOST_LAYS` tiles were laid
+/// already: which links the tile adds is told from a board with one tile more.
 pub fn judge_lay(
     alloc: Global,
     kit: &Kit,
@@ -42,9 +45,10 @@ pub fn judge_lay(
     corp: Corp,
     lay: &Lay,
 ) -> Result<(), Fault>
-    ensures { (book : Book) → IsPositionOf book position.now → MatchResult result
+    ensures verdict { (book : Book) → IsPositionOf book position.now → MatchResult result
         (λ _. IsLayVerdict kit.now.board kit.now.tiles (position_of book) corp lay.now None)
         (λ fault. ((fault ≡ Fault.OutOfMemory) × (first_lay_verdict kit.now.board kit.now.tiles (position_of book) lay.now ≡ None)) ⊎ IsLayVerdict kit.now.board kit.now.tiles (position_of book) corp lay.now (Some fault)) }
+    ensures room { OnOk result (length position.now.layout.lays < MOST_LAYS) }
 {
     judge(alloc, kit, position, corp, lay)
 }
@@ -54,10 +58,11 @@ pub fn judge_lay(
 ///
 /// # Errors
 ///
-/// `OutOfMemory`; the desk may have some of the entries then.
+/// `OutOfMemory`, also where `rr_layout::MOST_LAYS` tiles were laid already; the desk may have some of the entries
+/// then.
 pub fn play_lay(kit: &Kit, desk: &mut Desk, corp: Corp, lay: &Lay) -> Result<(), rr_books::Fault>
     ensures fault { IfErr result (λ fault. fault ≡ B.OutOfMemory) }
-    ensures takes { OnOk result (Takes (lay_row kit.now.board corp lay.now) desk.old desk.new) }
+    ensures takes { OnOk result (Takes (lays_tile kit.now.board corp lay.now) desk.old desk.new) }
 {
     let cost = cost_of(kit, desk.position(), lay);
     put(desk, corp, lay, cost)
@@ -72,7 +77,7 @@ fn cost_of(kit: &Kit, position: &Position, lay: &Lay) -> Option<u16>
 }
 
 // Adds the words, the payment and the tile.
-#[tactic(auto, unfolding(crate::specs::Rows::puts))]
+#[tactic(auto, unfolding(crate::specs::Costs::puts))]
 fn put(desk: &mut Desk, corp: Corp, lay: &Lay, cost: Option<u16>) -> Result<(), rr_books::Fault>
     ensures fault { IfErr result (λ fault. fault ≡ B.OutOfMemory) }
     ensures takes { OnOk result (Takes (puts (Act.Lay corp lay.now.hex lay.now.tile lay.now.turn) corp cost (Entry.Lay lay.now.hex lay.now.tile lay.now.turn)) desk.old desk.new) }
@@ -93,9 +98,10 @@ fn put(desk: &mut Desk, corp: Corp, lay: &Lay, cost: Option<u16>) -> Result<(), 
 }
 
 fn judge(alloc: Global, kit: &Kit, position: &Position, corp: Corp, lay: &Lay) -> Result<(), Fault>
-    ensures { MatchResult result
+    ensures verdict { MatchResult result
         (λ _. IsLayVerdict kit.now.board kit.now.tiles (position_in position.now.books position.now.layout) corp lay.now None)
         (λ fault. ((fault ≡ Fault.OutOfMemory) × (first_lay_verdict kit.now.board kit.now.tiles (position_in position.now.books position.now.layout) lay.now ≡ None)) ⊎ IsLayVerdict kit.now.board kit.now.tiles (position_in position.now.books position.now.layout) corp lay.now (Some fault)) }
+    ensures room { OnOk result (length position.now.layout.lays < MOST_LAYS) }
 {
     let Some(hex) = kit.board().hex(lay.hex.as_bytes()) else {
         return Err(Fault::NoSuchName);
@@ -103,7 +109,7 @@ fn judge(alloc: Global, kit: &Kit, position: &Position, corp: Corp, lay: &Lay) -
     let Some(supply) = kit.tiles().supply(lay.tile) else {
         return Err(Fault::NoSuchName);
     };
-    judge_on(alloc, kit, position, corp, lay, hex, supply)?;
+    judge_on(alloc, kit, position, corp, &NamedLay { lay, hex, supply })?;
     Ok(())
 }
 
@@ -112,23 +118,22 @@ fn judge_on(
     kit: &Kit,
     position: &Position,
     corp: Corp,
-    lay: &Lay,
-    hex: &Hex,
-    supply: &Supply,
+    named: &NamedLay,
 ) -> Result<(), Fault>
-    ensures { MatchResult result
-        (λ _. IsVerdictOn kit.now.board kit.now.tiles (position_in position.now.books position.now.layout) corp lay.now hex.now supply.now None)
-        (λ fault. ((fault ≡ Fault.OutOfMemory) × (supply_verdict kit.now.board kit.now.tiles (position_in position.now.books position.now.layout) hex.now supply.now ≡ None)) ⊎ IsVerdictOn kit.now.board kit.now.tiles (position_in position.now.books position.now.layout) corp lay.now hex.now supply.now (Some fault)) }
+    ensures verdict { MatchResult result
+        (λ _. IsVerdictOn kit.now.board kit.now.tiles (position_in position.now.books position.now.layout) corp named.now.lay.now named.now.hex.now named.now.supply.now None)
+        (λ fault. ((fault ≡ Fault.OutOfMemory) × (supply_verdict kit.now.board kit.now.tiles (position_in position.now.books position.now.layout) named.now.hex.now named.now.supply.now ≡ None)) ⊎ IsVerdictOn kit.now.board kit.now.tiles (position_in position.now.books position.now.layout) corp named.now.lay.now named.now.hex.now named.now.supply.now (Some fault)) }
+    ensures room { OnOk result (length position.now.layout.lays < MOST_LAYS) }
 {
-    judge_supply(kit, position, hex, supply)?;
+    judge_supply(kit, position, named.hex, named.supply)?;
     let layout = position.layout();
-    if !is_upgrade(alloc, kit, layout, hex, supply, lay.turn)? {
+    if !is_upgrade(alloc, kit, layout, named)? {
         return Err(Fault::NotAnUpgrade);
     }
-    if !reaches_new_link(alloc, kit, position, corp, lay)? {
+    if !reaches_new_link(alloc, kit, position, corp, named.lay)? {
         return Err(Fault::NotReached);
     }
-    let cost = lay_cost(layout.lays(), hex);
+    let cost = lay_cost(layout.lays(), named.hex);
     judge_cost(position.books(), corp, cost)?;
     Ok(())
 }

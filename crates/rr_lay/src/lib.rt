@@ -2,12 +2,12 @@
 #![tactic(auto)]
 
 mod colours;
+mod costs;
 mod fault;
 mod hexes;
 pub mod laws;
 mod laying;
 mod placing;
-mod rows;
 mod slots;
 mod upgrades;
 

@@ -7,13 +7,13 @@ ghost use Rattle.rr_network.specs.Network.{net_of};
 ghost use Rattle.rr_network.specs.Walk.{ReachesNode, node_of};
 ghost use Rattle.rr_position.specs.Position.{IsPositionOf};
 ghost use Rattle.rr_desk.specs.Desk.{Takes};
-ghost use Rattle.rr_lay.specs.Rows.{puts};
+ghost use Rattle.rr_lay.specs.Costs.{puts};
 ghost use Rattle.rr_lay.specs.Position.{position_in, position_of};
-ghost use Rattle.rr_lay.specs.Placing.{IsStationVerdict, IsVerdictOn, city_verdict, first_station_verdict, placed_by, slot_verdict, station_row, token_cost, token_verdict};
+ghost use Rattle.rr_lay.specs.Placing.{IsStationVerdict, IsVerdictOn, city_verdict, first_station_verdict, placed_by, slot_verdict, places_token, token_cost, token_verdict};
 ghost use Rattle.rr_books.specs.declared.faults.Fault.TheVariants as B;
 
+use crate::costs::{judge_cost, pay_cost};
 use crate::fault::Fault;
-use crate::rows::{judge_cost, pay_cost};
 use crate::slots::{city_slots, has_own_at, is_full, placed_by, token_cost};
 use rr_board::Hex;
 use rr_books::{Act, Entry, Marker};
@@ -51,10 +51,11 @@ pub fn judge_station(
 ///
 /// # Errors
 ///
-/// `OutOfMemory`; the desk may have some of the entries then.
+/// `OutOfMemory`, also where `rr_layout::MOST_STATIONS` tokens were placed already; the desk may have some of the
+/// entries then.
 pub fn play_station(desk: &mut Desk, station: &Station) -> Result<(), rr_books::Fault>
     ensures fault { IfErr result (λ fault. fault ≡ B.OutOfMemory) }
-    ensures takes { OnOk result (Takes (station_row station.now) desk.old desk.new) }
+    ensures takes { OnOk result (Takes (places_token station.now) desk.old desk.new) }
 {
     let cost = cost_of(desk.position(), station.corp);
     put(desk, station, cost)
@@ -70,7 +71,7 @@ fn cost_of(position: &Position, corp: Corp) -> u16
 }
 
 // Adds the words, the payment and the token.
-#[tactic(auto, unfolding(crate::specs::Rows::puts))]
+#[tactic(auto, unfolding(crate::specs::Costs::puts))]
 fn put(desk: &mut Desk, station: &Station, cost: u16) -> Result<(), rr_books::Fault>
     ensures fault { IfErr result (λ fault. fault ≡ B.OutOfMemory) }
     ensures takes { OnOk result (Takes (puts (Act.Station station.now.corp station.now.hex station.now.centre) station.now.corp (Some cost) (Entry.Station station.now.corp station.now.hex station.now.centre)) desk.old desk.new) }

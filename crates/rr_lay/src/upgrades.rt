@@ -1,5 +1,5 @@
 //! Whether a tile may lie on a hex in place of what lies there.
-ghost use Rattle.std.specs.Prelude.{◌≡◌, ◌∷◌, ◌++◌, ◌+◌, ◌<◌, ◌^◌, [], ◌↔◌, IsTrue, IfOk, IfSome};
+ghost use Rattle.std.specs.Prelude.{◌≡◌, ◌∷◌, ◌++◌, ◌+◌, ◌<◌, ◌^◌, [], ◌≤◌, ◌↔◌, length, IsTrue, IfOk, IfSome, IfNone, OnOk, OnSome};
 ghost use Rattle.rr_tiles.specs.Tile.{turned};
 ghost use Rattle.rr_tiles.specs.Keeping.{Keeps};
 ghost use Rattle.rr_network.specs.Network.{face_on, net_of};
@@ -12,23 +12,29 @@ use rr_kit::Kit;
 use rr_layout::{Lay, Layout, MOST_LAYS};
 use rr_network::{Link, Network, Node, Reach, last_lay, same_node};
 use rr_roster::Corp;
-use rr_tiles::{Manifest, Supply, Tile, keeps};
+use rr_tiles::{Manifest, Supply, keeps};
 use std::alloc::{AllocError, Global};
+
+// A tile to be laid, with the hex and the supply that it names.
+#[derive(Drop)]
+pub(crate) struct NamedLay<'a> {
+    pub(crate) lay: &'a Lay,
+    pub(crate) hex: &'a Hex,
+    pub(crate) supply: &'a Supply,
+}
 
 // Whether the turned tile keeps what lies on the hex, and each edge that it uses faces a hex.
 pub(crate) fn is_upgrade(
     alloc: Global,
     kit: &Kit,
     layout: &Layout,
-    hex: &Hex,
-    supply: &Supply,
-    turn: u8,
+    named: &NamedLay,
 ) -> Result<bool, AllocError>
-    ensures { IfOk result (λ answer. IsTrue answer ↔ IsUpgrade kit.now.board kit.now.tiles layout.now.lays hex.now supply.now turn) }
+    ensures { IfOk result (λ answer. IsTrue answer ↔ IsUpgrade kit.now.board kit.now.tiles layout.now.lays named.now.hex.now named.now.supply.now named.now.lay.now.turn) }
 {
-    let kept = keeps_face(alloc, kit.tiles(), layout, hex, &supply.tile, turn)?;
-    let tile = supply.tile.turned(alloc, turn)?;
-    let faces = faces_hexes(kit.board().hexes(), &hex.place, tile.parts());
+    let kept = keeps_face(alloc, kit.tiles(), layout, named)?;
+    let tile = named.supply.tile.turned(alloc, named.lay.turn)?;
+    let faces = faces_hexes(kit.board().hexes(), &named.hex.place, tile.parts());
     Ok(kept && faces)
 }
 
@@ -36,25 +42,28 @@ fn keeps_face(
     alloc: Global,
     tiles: &Manifest,
     layout: &Layout,
-    hex: &Hex,
-    tile: &Tile,
-    turn: u8,
+    named: &NamedLay,
 ) -> Result<bool, AllocError>
-    ensures { IfOk result (λ answer. IsTrue answer ↔ Keeps (face_on tiles.now layout.now.lays hex.now) (turned turn tile.now)) }
+    ensures { IfOk result (λ answer. IsTrue answer ↔ Keeps (face_on tiles.now layout.now.lays named.now.hex.now) (turned named.now.lay.now.turn named.now.supply.now.tile)) }
 {
-    let Some(lay) = last_lay(layout.lays(), &hex.name) else {
-        return Ok(keeps(&hex.tile, tile, turn));
+    let printed = &named.hex.tile;
+    let tile = &named.supply.tile;
+    let turn = named.lay.turn;
+    let Some(last) = last_lay(layout.lays(), &named.hex.name) else {
+        return Ok(keeps(printed, tile, turn));
     };
-    let Some(old) = tiles.tile(lay.tile) else {
-        return Ok(keeps(&hex.tile, tile, turn));
+    let Some(old) = tiles.tile(last.tile) else {
+        return Ok(keeps(printed, tile, turn));
     };
-    let old = old.turned(alloc, lay.turn)?;
+    let old = old.turned(alloc, last.turn)?;
     Ok(keeps(&old, tile, turn))
 }
 
 // What lies on the board with one tile more, if there is room for it.
 fn layout_with(layout: &Layout, lay: &Lay) -> Option<Layout>
-    ensures { IfSome result (λ more. more ≡ record { lays = layout.now.lays ++ lay.now ∷ []; stations = layout.now.stations }) }
+    ensures none { IfNone result (MOST_LAYS ≤ length layout.now.lays) }
+    ensures room { OnSome result (length layout.now.lays < MOST_LAYS) }
+    ensures value { IfSome result (λ more. more ≡ record { lays = layout.now.lays ++ lay.now ∷ []; stations = layout.now.stations }) }
 {
     if MOST_LAYS <= layout.lays().len() {
         return None;
@@ -72,7 +81,8 @@ pub(crate) fn reaches_new_link(
     corp: Corp,
     lay: &Lay,
 ) -> Result<bool, AllocError>
-    ensures { IfOk result (λ answer. IsTrue answer ↔ ReachesNewLink (net_of kit.now.board kit.now.tiles position.now.layout) (net_of kit.now.board kit.now.tiles (record { lays = position.now.layout.lays ++ lay.now ∷ []; stations = position.now.layout.stations })) corp) }
+    ensures room { OnOk result (length position.now.layout.lays < MOST_LAYS) }
+    ensures answer { IfOk result (λ answer. IsTrue answer ↔ ReachesNewLink (net_of kit.now.board kit.now.tiles position.now.layout) (net_of kit.now.board kit.now.tiles (record { lays = position.now.layout.lays ++ lay.now ∷ []; stations = position.now.layout.stations })) corp) }
 {
     let layout = position.layout();
     let Some(more) = layout_with(layout, lay) else {

@@ -8,13 +8,17 @@ use Rattle.rr_store.specs.Held.{Held}
 use Rattle.rr_store.specs.Holding.{Carries, disk_of, held_of}
 use Rattle.rr_store.proofs.Standing.{carried_keeps}
 use Rattle.rr_serve.specs.Lines.{taken}
-use Rattle.rr_serve.specs.Serving.{Served}
+use Rattle.rr_serve.specs.Serving.{NoneFails, Served, tells_failure}
 use Rattle.rr_moderator.specs.Serving.{MayAppend}
 use Rattle.rr_moderator.specs.Durability.{SpeaksAndLasts, StandsAlong, Told, told}
 
-module _ {D : Type 0} (Honest : D → Type 0) (state : D → DiskState) (past : D → List DiskState) (faults writes syncs : D → ℕ) where
+not_true : (b : Bool) → (b ≡ true → ⊥) → b ≡ false
+not_true true other = absurd (other refl)
+not_true false other = refl
+
+module _ {D : Type 0} (Honest Works : D → Type 0) (state : D → DiskState) (past : D → List DiskState) (faults writes syncs : D → ℕ) where
   abbrev Both : Told D → List ℕ → Told D → Type 0
-  Both = SpeaksAndLasts Honest state past faults writes syncs
+  Both = SpeaksAndLasts Honest Works state past faults writes syncs
 
   abbrev disk : Told D → D
   disk s = disk_of s.0
@@ -29,6 +33,21 @@ module _ {D : Type 0} (Honest : D → Type 0) (state : D → DiskState) (past : 
       served.1.1.honest (honest_before served.0 lines replies t served.3 h)
   honest_before s [] (reply ∷ replies) t served h = absurd served
   honest_before s (line ∷ lines) [] t served h = absurd served
+
+  works_before : (s : Told D) (lines replies : List (List ℕ)) (t : Told D) → Served Both told s lines replies t → Works (disk t) → Works (disk s)
+  works_before s [] [] t served w = subst (λ (x : Told D). Works (disk x)) served w
+  works_before s (line ∷ lines) (reply ∷ replies) t served w =
+      served.1.1.works (works_before served.0 lines replies t served.3 w)
+  works_before s [] (reply ∷ replies) t served w = absurd served
+  works_before s (line ∷ lines) [] t served w = absurd served
+
+  pub none_fails : (s : Told D) (lines replies : List (List ℕ)) (t : Told D) → Served Both told s lines replies t → Works (disk t) → NoneFails replies
+  none_fails s [] [] t served w = tt
+  none_fails s (line ∷ lines) (reply ∷ replies) t served w =
+      let calm : tells_failure reply ≡ false = not_true (tells_failure reply) (λ failed. served.1.1.device (sym (ap tells_failure served.2) ∙ failed) (works_before served.0 lines replies t served.3 w)) in
+      (calm, none_fails served.0 lines replies t served.3 w)
+  none_fails s [] (reply ∷ replies) t served w = absurd served
+  none_fails s (line ∷ lines) [] t served w = absurd served
 
   not_while_broken : (s : Told D) (line : List ℕ) → (held_of s.0).broken ≡ true → ¬ MayAppend (held_of s.0) line
   not_while_broken s line broken may = let both : true ≡ false = sym broken ∙ may.1.whole in absurd cc
@@ -45,20 +64,20 @@ module _ {D : Type 0} (Honest : D → Type 0) (state : D → DiskState) (past : 
   -- a first line, and then the others, of which nothing is written where the device failed in the first
   onwards : (texts : KitTexts) (s : Told D) (line reply : List ℕ) (lines replies : List (List ℕ)) (t : Told D) (way : Served Both told s (line ∷ lines) (reply ∷ replies) t)
       → Honest (disk way.0) → Carries state s.0 texts
-      → (Carries state way.0.0 texts → Leaves way.0 t (StandsAlong Honest state past faults writes syncs texts way.0 lines replies t way.3))
-      → (broken : Bool) → (held_of way.0.0).broken ≡ broken → Leaves s t (StandsAlong Honest state past faults writes syncs texts s (line ∷ lines) (reply ∷ replies) t way)
+      → (Carries state way.0.0 texts → Leaves way.0 t (StandsAlong Honest Works state past faults writes syncs texts way.0 lines replies t way.3))
+      → (broken : Bool) → (held_of way.0.0).broken ≡ broken → Leaves s t (StandsAlong Honest Works state past faults writes syncs texts s (line ∷ lines) (reply ∷ replies) t way)
   onwards texts s line reply lines replies t way honest carried others false unbroken =
-      joins (weaker (way.1.1.stops honest texts carried) (StandsAlong Honest state past faults writes syncs texts s (line ∷ lines) (reply ∷ replies) t way) (λ image opens. inl opens))
-      (weaker (others (way.1.1.carries honest unbroken texts carried)) (StandsAlong Honest state past faults writes syncs texts s (line ∷ lines) (reply ∷ replies) t way) (λ image o. inr o))
+      joins (weaker (way.1.1.stops honest texts carried) (StandsAlong Honest Works state past faults writes syncs texts s (line ∷ lines) (reply ∷ replies) t way) (λ image opens. inl opens))
+      (weaker (others (way.1.1.carries honest unbroken texts carried)) (StandsAlong Honest Works state past faults writes syncs texts s (line ∷ lines) (reply ∷ replies) t way) (λ image o. inr o))
   onwards texts s line reply lines replies t way honest carried others true broken =
       let same : disk t ≡ disk way.0 = still way.0 lines replies t way.3 broken in
-      stays (weaker (way.1.1.stops honest texts carried) (StandsAlong Honest state past faults writes syncs texts s (line ∷ lines) (reply ∷ replies) t way) (λ image opens. inl opens))
+      stays (weaker (way.1.1.stops honest texts carried) (StandsAlong Honest Works state past faults writes syncs texts s (line ∷ lines) (reply ∷ replies) t way) (λ image opens. inl opens))
       (ap past same) (ap state same)
 
   pub along : (texts : KitTexts) (s : Told D) (lines replies : List (List ℕ)) (t : Told D) (way : Served Both told s lines replies t) → Honest (disk t) → Carries state s.0 texts
-      → Leaves s t (StandsAlong Honest state past faults writes syncs texts s lines replies t way)
+      → Leaves s t (StandsAlong Honest Works state past faults writes syncs texts s lines replies t way)
   along texts s [] [] t way h carried =
-      let P = StandsAlong Honest state past faults writes syncs texts s [] [] t way in
+      let P = StandsAlong Honest Works state past faults writes syncs texts s [] [] t way in
       subst (λ (x : Told D). Leaves s x P) (sym way)
       (started (past (disk s)) (state (disk s)) P (λ image is. carried_keeps state s.0 texts carried image is))
   along texts s (line ∷ lines) (reply ∷ replies) t way h carried =

@@ -50,9 +50,9 @@ same_given line stamp name c held other g spells =
     let same = same_some (g.stamp, for_table other.name other.command) (stamp, for_table name c) (ap named lines) in
     (ap (λ (x : ℕ × TableCommand). x.0) same, ap (λ (x : ℕ × TableCommand). x.1) same)
 
-module _ {D : Type 0} (Honest : D → Type 0) (state : D → DiskState) (past : D → List DiskState) (faults writes syncs : D → ℕ) (old new : Store D) (line reply : List ℕ) where
+module _ {D : Type 0} (Honest Works : D → Type 0) (state : D → DiskState) (past : D → List DiskState) (faults writes syncs : D → ℕ) (old new : Store D) (line reply : List ℕ) where
   abbrev pub Lasting : Type 0
-  Lasting = Lasts Honest state past faults writes syncs old line new reply
+  Lasting = Lasts Honest Works state past faults writes syncs old line new reply
 
   abbrev GoesOn : Type 0
   GoesOn = Honest (disk_of new) → (held_of new).broken ≡ false → (texts : KitTexts) → Carries state old texts → Carries state new texts
@@ -78,7 +78,10 @@ module _ {D : Type 0} (Honest : D → Type 0) (state : D → DiskState) (past : 
         carries = goes_on;
         spares = λ _ _. same;
         untouched = λ _. same;
+        place = λ told. both_ways (tells_acceptance reply) told refused;
         counts = counts_none calm (ap faults same.disk);
+        device = λ told. both_ways (tells_failure reply) told calm;
+        works = λ w. subst Works same.disk w;
         few_writes = at_most writes same.disk;
         few_syncs = at_most syncs same.disk;
         full = full;
@@ -112,7 +115,7 @@ module _ {D : Type 0} (Honest : D → Type 0) (state : D → DiskState) (past : 
     full_of none = subst (λ (x : TableCommand). IsFull old x.name x.command) (same_given line stamp name c (held_of old) none.command none.lawful spells).1 none.full
 
     abbrev Committed : Result ℕ store.Fault → Type 0
-    Committed taking = Commits Honest state past faults writes syncs old name stamp c new taking
+    Committed taking = Commits Honest Works state past faults writes syncs old name stamp c new taking
 
     no_room : {A : Type 0} (taking : Result ℕ store.Fault) → (taking ≡ Err T.HalfFull → ⊥) → (taking ≡ Err T.OutOfMemory → ⊥) → (taking ≡ Err T.HalfFull) ⊎ (taking ≡ Err T.OutOfMemory) → A
     no_room taking not_full not_memory (inl is) = absurd (not_full is)
@@ -130,7 +133,10 @@ module _ {D : Type 0} (Honest : D → Type 0) (state : D → DiskState) (past : 
           carries = k.carries;
           spares = λ refused _. both_ways (tells_acceptance reply) acceptance refused;
           untouched = λ unlawful. absurd (unlawful (asked, gives lawful));
+          place = λ _. k.place;
           counts = counts_none (ap tells_failure told ∙ (accepted_calm name n).0) k.counts;
+          device = λ is. both_ways (tells_failure reply) is (ap tells_failure told ∙ (accepted_calm name n).0);
+          works = k.works;
           few_writes = k.few_writes;
           few_syncs = k.few_syncs;
           full = λ is. both_ways (tells_full reply) is (ap tells_full told ∙ (accepted_calm name n).1);
@@ -151,8 +157,11 @@ module _ {D : Type 0} (Honest : D → Type 0) (state : D → DiskState) (past : 
           carries = k.carries;
           spares = λ _ calm. both_ways (tells_failure reply) (ap tells_failure told ∙ failure_told) calm;
           untouched = λ unlawful. absurd (unlawful (asked, gives lawful));
+          place = λ is. both_ways (tells_acceptance reply) is (ap tells_acceptance told ∙ refusal_calm F.DeviceFailed);
           counts = subst (λ (r : List ℕ). CountsTold (faults (disk_of old)) (faults (disk_of new)) (tells_failure r)) (sym told)
               (counts_told (faults (disk_of old)) (faults (disk_of new)) T.DeviceFailed k.counts);
+          device = λ _. k.device;
+          works = k.works;
           few_writes = k.few_writes;
           few_syncs = k.few_syncs;
           full = λ is. both_ways (tells_full reply) is (ap tells_full told ∙ failure_calm);

@@ -8,16 +8,14 @@ use Rattle.rr_store.specs.declared.store.Store.{Store}
 use Rattle.rr_store.specs.Allowing.{BeforeOrAfter}
 use Rattle.rr_store.specs.Files.{StandsFor}
 use Rattle.rr_store.specs.Held.{Held, stamp_after, with_tables}
-use Rattle.rr_store.specs.Holding.{Carries, IsFull, IsUnchanged, disk_of, held_of}
-use Rattle.rr_store.specs.World.{TableCommand, with_pending, world_after}
-use Rattle.rr_moderator.specs.declared.fault.Fault.{Fault}
+use Rattle.rr_store.specs.Holding.{Carries, GoesBehind, IsFull, IsUnchanged, disk_of, held_of}
+use Rattle.rr_store.specs.World.{TableCommand, world_after}
 use Rattle.rr_moderator.specs.declared.fault.Fault.TheVariants as F
 use Rattle.rr_moderator.specs.Answer.{accepted_text}
 use Rattle.rr_moderator.specs.Fault.{refusal_of}
 use Rattle.rr_moderator.specs.Serving.{Answers, Gives}
 use Rattle.rr_moderator.specs.Serving.{MayAppend}
-use Rattle.rr_serve.specs.Lines.{taken}
-use Rattle.rr_serve.specs.Serving.{Served, tells_failure}
+use Rattle.rr_serve.specs.Serving.{NoneFails, Served, tells_failure}
 
 -- the file stands for what is held: its kit's texts spell the kit, and what was accepted into it makes the tables
 pub record Opens (file : List ℕ) (held : Held) : Type 0 where
@@ -60,11 +58,11 @@ pub record HasNoPlace {D : Type 0} (store : Store D) (line : List ℕ) : Type 0 
 -- What answering a line does. There is one command, or none, that is pending while it is answered, and a reply `ok` tells of
 -- just that one. On an honest disk that carries what is held: a stop at any moment leaves a file that stands for the world
 -- before the line, or for that with the pending command; and the disk carries what is held then, unless the device failed. Of
--- every disk: at most two writes and two syncs, and where the reply neither takes a command nor says that the device failed
--- all is as it was, as it is for a line that gives no lawful command; the reply says that the device failed exactly where
--- the disk counts a fault; that the file is full, only where it has no room for a lawful command, and there it says so or that
--- memory was wanted.
-pub record Lasts {D : Type 0} (Honest : D → Type 0) (state : D → DiskState) (past : D → List DiskState) (faults writes syncs : D → ℕ)
+-- every disk: the next record goes right behind that of a command that was taken; at most two writes and two syncs, and where
+-- the reply neither takes a command nor says that the device failed all is as it was, as it is for a line that gives no lawful
+-- command; the reply says that the device failed exactly where the disk counts a fault, and never on a disk that works; that
+-- the file is full, only where it has no room for a lawful command, and there it says so or that memory was wanted.
+pub record Lasts {D : Type 0} (Honest Works : D → Type 0) (state : D → DiskState) (past : D → List DiskState) (faults writes syncs : D → ℕ)
     (old : Store D) (line : List ℕ) (new : Store D) (reply : List ℕ) : Type 0 where
   pub pending : Option TableCommand
   pub pends : MayPend (held_of old) line pending
@@ -75,7 +73,10 @@ pub record Lasts {D : Type 0} (Honest : D → Type 0) (state : D → DiskState) 
   pub carries : Honest (disk_of new) → (held_of new).broken ≡ false → (texts : KitTexts) → Carries state old texts → Carries state new texts
   pub spares : tells_acceptance reply ≡ false → tells_failure reply ≡ false → IsUnchanged old new
   pub untouched : ¬ MayAppend (held_of old) line → IsUnchanged old new
+  pub place : (told : tells_acceptance reply ≡ true) → GoesBehind old (accepted told).command.name (accepted told).command.command new
   pub counts : CountsTold (faults (disk_of old)) (faults (disk_of new)) (tells_failure reply)
+  pub device : tells_failure reply ≡ true → Works (disk_of new) → ⊥
+  pub works : Works (disk_of new) → Works (disk_of old)
   pub few_writes : writes (disk_of new) ≤ writes (disk_of old) + 2
   pub few_syncs : syncs (disk_of new) ≤ syncs (disk_of old) + 2
   pub full : tells_full reply ≡ true → HasNoPlace old line
@@ -89,17 +90,24 @@ abbrev pub told : {D : Type 0} → Told D → List ℕ
 told state = state.1
 
 -- a line is answered, and what it comes to lasts
-abbrev pub SpeaksAndLasts : {D : Type 0} → (D → Type 0) → (D → DiskState) → (D → List DiskState) → (D → ℕ) → (D → ℕ) → (D → ℕ) → Told D → List ℕ → Told D → Type 0
-SpeaksAndLasts Honest state past faults writes syncs old line new =
-    Answers (held_of old.0) line (held_of new.0) new.1 × Lasts Honest state past faults writes syncs old.0 line new.0 new.1
+abbrev pub SpeaksAndLasts : {D : Type 0} → (D → Type 0) → (D → Type 0) → (D → DiskState) → (D → List DiskState) → (D → ℕ) → (D → ℕ) → (D → ℕ) → Told D → List ℕ → Told D → Type 0
+SpeaksAndLasts Honest Works state past faults writes syncs old line new =
+    Answers (held_of old.0) line (held_of new.0) new.1 × Lasts Honest Works state past faults writes syncs old.0 line new.0 new.1
 
 -- While these lines are answered in just this way, the file stands for a world that was held before one of them or at the
 -- end, or for such a world with the command that was pending then.
-abbrev pub StandsAlong : {D : Type 0} (Honest : D → Type 0) (state : D → DiskState) (past : D → List DiskState) (faults writes syncs : D → ℕ) (texts : KitTexts)
-    (begun : Told D) (lines replies : List (List ℕ)) (ended : Told D) → Served (SpeaksAndLasts Honest state past faults writes syncs) told begun lines replies ended → List ℕ → Type 0
-StandsAlong Honest state past faults writes syncs texts begun [] [] ended way image = StandsFor image texts (held_of begun.0).tables
-StandsAlong Honest state past faults writes syncs texts begun (line ∷ lines) (reply ∷ replies) ended way image =
+abbrev pub StandsAlong : {D : Type 0} (Honest Works : D → Type 0) (state : D → DiskState) (past : D → List DiskState) (faults writes syncs : D → ℕ) (texts : KitTexts)
+    (begun : Told D) (lines replies : List (List ℕ)) (ended : Told D) → Served (SpeaksAndLasts Honest Works state past faults writes syncs) told begun lines replies ended → List ℕ → Type 0
+StandsAlong Honest Works state past faults writes syncs texts begun [] [] ended way image = StandsFor image texts (held_of begun.0).tables
+StandsAlong Honest Works state past faults writes syncs texts begun (line ∷ lines) (reply ∷ replies) ended way image =
     BeforeOrAfter texts (held_of begun.0).tables way.1.1.pending image
-    ⊎ StandsAlong Honest state past faults writes syncs texts way.0 lines replies ended way.3 image
-StandsAlong Honest state past faults writes syncs texts begun [] (reply ∷ replies) ended way image = ⊥
-StandsAlong Honest state past faults writes syncs texts begun (line ∷ lines) [] ended way image = ⊥
+    ⊎ StandsAlong Honest Works state past faults writes syncs texts way.0 lines replies ended way.3 image
+StandsAlong Honest Works state past faults writes syncs texts begun [] (reply ∷ replies) ended way image = ⊥
+StandsAlong Honest Works state past faults writes syncs texts begun (line ∷ lines) [] ended way image = ⊥
+
+-- However many lines are answered, no reply says that the device failed while the device works.
+abbrev pub NoneFailsWhileWorking : {D : Type 0} → (D → Type 0) → (D → Type 0) → (D → DiskState) → (D → List DiskState) → (D → ℕ) → (D → ℕ) → (D → ℕ) → Type 0
+NoneFailsWhileWorking {D} Honest Works state past faults writes syncs =
+    (begun : Told D) (lines replies : List (List ℕ)) (ended : Told D)
+    → Served (SpeaksAndLasts Honest Works state past faults writes syncs) told begun lines replies ended
+    → Works (disk_of ended.0) → NoneFails replies

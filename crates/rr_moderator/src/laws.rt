@@ -1,9 +1,18 @@
-//! What the definitions of replies say. The call does nothing: its contract holds of all runs.
+//! What the definitions of replies say. The calls do nothing: their contracts hold of all runs.
 ghost use Rattle.rr_moderator.specs.Alone.{Alone};
+ghost use Rattle.rr_moderator.specs.Durability.{NoneFailsWhileWorking};
+
+use rr_disk::Disk;
 
 /// Tables don't know of each other. Of two moderators that agree in a table, take a run each without a refusal that
 /// comes of the device, the file's room, memory or the number of tables: where the lines that name the table are the
 /// same, so are the replies to them, whatever lines for other tables come between.
 pub fn alone()
     ensures { Alone }
+{}
+
+/// However many lines are answered, no reply says that the device failed while the device works: such a failure is never
+/// of the moderator's own making.
+pub fn none_fails_while_working<D: Disk + Drop>()
+    ensures { NoneFailsWhileWorking D.Honest D.Works D.state D.past D.fault_count D.write_count D.sync_count }
 {}

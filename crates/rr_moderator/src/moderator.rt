@@ -1,7 +1,8 @@
-ghost use Rattle.std.specs.Prelude.{◌≡◌, ◌⊎◌, ℕ, List, [], Result, Ok, Err, false, OnOk, OnErr, IfOk, IfErr};
+ghost use Rattle.std.specs.Prelude.{◌≡◌, ◌⊎◌, ◌+◌, ◌≤◌, ℕ, List, [], Result, Ok, Err, false, OnOk, OnErr, IfOk, IfErr};
 ghost use Rattle.std.specs.Borrow.{sem};
 ghost use Rattle.std.specs.Io.BufRead.{Rests};
 ghost use Rattle.rr_code.specs.Command.{IsCommand};
+ghost use Rattle.rr_disk.specs.Disk.{counted};
 ghost use Rattle.rr_disk.specs.Moments.{LeavesOnly};
 ghost use Rattle.rr_kit.specs.Kits.{KitTexts, SpellsKit};
 ghost use Rattle.rr_words.specs.Name.{IsTableName};
@@ -13,7 +14,7 @@ ghost use Rattle.rr_store.specs.declared.fault.Fault as stored;
 ghost use Rattle.rr_store.specs.declared.fault.Fault.TheVariants as Stored;
 ghost use Rattle.rr_store.specs.Allowing.{Between, OpenAllows};
 ghost use Rattle.rr_store.specs.Committing.{Commits};
-ghost use Rattle.rr_store.specs.Fault.{CountsFailure};
+ghost use Rattle.rr_store.specs.Fault.{CountsFailure, OnDevice};
 ghost use Rattle.rr_store.specs.Files.{RefusesOpening};
 ghost use Rattle.rr_store.specs.Holding.{Carries, IsUnchanged};
 ghost use Rattle.rr_store.specs.Holding as held_in;
@@ -82,6 +83,14 @@ impl<D: Disk + Drop> Moderator<D> {
             D.fault_count (disk_under moderator) ≡ D.fault_count disk) }
         ensures fault { IfErr result (λ refused.
             CountsFailure (D.fault_count disk) (D.fault_count refused.disk) refused.fault) }
+        ensures syncs { IfOk result (λ moderator.
+            D.sync_count (disk_under moderator) ≡ counted (D.sync_count disk)) }
+        ensures syncs_left { IfErr result (λ refused. D.sync_count refused.disk ≤ D.sync_count disk + 1) }
+
+        // Whatever the file holds, a disk that works doesn't fail here.
+        ensures device { IfErr result (λ refused. OnDevice refused.fault (D.Works refused.disk → ⊥)) }
+        ensures works { IfOk result (λ moderator. D.Works (disk_under moderator) → D.Works disk) }
+        ensures works_left { IfErr result (λ refused. D.Works refused.disk → D.Works disk) }
     {
         let (reply, buffer) = match make_buffers(alloc) {
             Ok(buffers) => buffers,
@@ -109,7 +118,7 @@ impl<D: Disk + Drop> Moderator<D> {
     pub fn answer(&mut self, line: &[u8]) -> &[u8]
         ensures* { sem 𝓛 (Rests (the_row D.row) self.entry (λ new.
             Answers (held_of self.old) line.now (held_of new) result.now
-            × Lasts D.Honest D.state D.past D.fault_count D.write_count D.sync_count (store_of self.old) line.now (store_of new) result.now)) }
+            × Lasts D.Honest D.Works D.state D.past D.fault_count D.write_count D.sync_count (store_of self.old) line.now (store_of new) result.now)) }
     {
         self.state.say(line);
         self.state.reply()
@@ -121,7 +130,7 @@ impl<D: Disk + Drop> Moderator<D> {
     /// `StreamFailed` where a write or the flush failed. A command that was accepted stays accepted.
     pub fn line<O: Output>(&mut self, line: &[u8], writer: &mut O) -> Result<(), Fault>
         ensures answers { Answers (held_of self.old) (taken line.now) (held_of self.new) (last_reply self.new) }
-        ensures lasts { Lasts D.Honest D.state D.past D.fault_count D.write_count D.sync_count (store_of self.old) (taken line.now) (store_of self.new) (last_reply self.new) }
+        ensures lasts { Lasts D.Honest D.Works D.state D.past D.fault_count D.write_count D.sync_count (store_of self.old) (taken line.now) (store_of self.new) (last_reply self.new) }
         ensures ok { OnOk result (IsSent (O.state writer.old) (last_reply self.new) (O.state writer.new)) }
         ensures err { OnErr result (IsCutShort (O.state writer.old) (last_reply self.new) (O.state writer.new)) }
         ensures fault { IfErr result (λ fault. fault ≡ Fault.StreamFailed) }
@@ -150,12 +159,12 @@ impl<D: Disk + Drop> Moderator<D> {
         ensures session { (cause : Result (Unit {0}) serve.Fault) × EndsAs result cause
             × CountsFailures cause (I.state reader.old).failures (I.state reader.new).failures
             (O.state writer.old).failures (O.state writer.new).failures
-            × (session : Session (SpeaksAndLasts D.Honest D.state D.past D.fault_count D.write_count D.sync_count) told (told_of self.old) (told_of self.new)
+            × (session : Session (SpeaksAndLasts D.Honest D.Works D.state D.past D.fault_count D.write_count D.sync_count) told (told_of self.old) (told_of self.new)
             (I.state reader.old) (I.state reader.new) (O.state writer.old) (O.state writer.new) cause)
             × (D.Honest (disk_under self.new)
             → (texts : KitTexts) → Carries D.state (store_of self.old) texts
             → LeavesOnly (D.past (disk_under self.old)) (D.state (disk_under self.old)) (D.past (disk_under self.new)) (D.state (disk_under self.new))
-            (StandsAlong D.Honest D.state D.past D.fault_count D.write_count D.sync_count texts
+            (StandsAlong D.Honest D.Works D.state D.past D.fault_count D.write_count D.sync_count texts
             (told_of self.old) session.lines session.replies (told_of self.new) session.served)) }
     {
         rr_serve::serve(&mut self.state, reader, writer, &mut self.buffer)?;
@@ -176,7 +185,7 @@ impl<D: Disk + Drop> Machine for State<D> {
     ghost use Rattle.rr_moderator.specs.Durability.{Lasts};
 
     ghost Answers = { λ old line new. Answers (held_in.held_of old.store) line (held_in.held_of new.store) new.reply
-        × Lasts D.Honest D.state D.past D.fault_count D.write_count D.sync_count old.store line new.store new.reply };
+        × Lasts D.Honest D.Works D.state D.past D.fault_count D.write_count D.sync_count old.store line new.store new.reply };
 
     ghost reply_of = { λ state. state.reply };
 
@@ -193,7 +202,7 @@ impl<D: Disk + Drop> State<D> {
     /// Makes the reply to a line.
     fn say(&mut self, line: &[u8])
         ensures answers { Answers (held_in.held_of self.old.store) line.now (held_in.held_of self.new.store) self.new.reply }
-        ensures lasts { Lasts D.Honest D.state D.past D.fault_count D.write_count D.sync_count self.old.store line.now self.new.store self.new.reply }
+        ensures lasts { Lasts D.Honest D.Works D.state D.past D.fault_count D.write_count D.sync_count self.old.store line.now self.new.store self.new.reply }
     {
         if let Err(fault) = self.respond(line) {
             fault.write(&mut self.reply);
@@ -203,7 +212,7 @@ impl<D: Disk + Drop> State<D> {
     /// Makes the reply to a line, unless it is refused.
     fn respond(&mut self, line: &[u8]) -> Result<(), Fault>
         ensures responds { Responds (held_in.held_of self.old.store) line.now (held_in.held_of self.new.store) (outcome_of result self.new.reply) }
-        ensures lasts { Lasts D.Honest D.state D.past D.fault_count D.write_count D.sync_count self.old.store line.now
+        ensures lasts { Lasts D.Honest D.Works D.state D.past D.fault_count D.write_count D.sync_count self.old.store line.now
             self.new.store (reply_to (outcome_of result self.new.reply)) }
     {
         if line.len() > LONGEST_LINE {
@@ -228,7 +237,7 @@ impl<D: Disk + Drop> State<D> {
         requires name { IsTableName table.now }
         requires command { IsCommand command.now }
         ensures { (taking : Result ℕ stored.Fault)
-            × Commits D.Honest D.state D.past D.fault_count D.write_count D.sync_count self.old.store table.now stamp command.now self.new.store taking
+            × Commits D.Honest D.Works D.state D.past D.fault_count D.write_count D.sync_count self.old.store table.now stamp command.now self.new.store taking
             × (outcome_of result self.new.reply ≡ text_of table.now taking) }
     {
         let stamp = self.store.commit(table, stamp, command)?;

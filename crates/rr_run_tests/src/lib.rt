@@ -22,3 +22,5 @@ mod search;
 mod sheets;
 #[cfg(test)]
 mod small;
+#[cfg(test)]
+mod trips;

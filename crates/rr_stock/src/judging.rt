@@ -37,6 +37,9 @@ use rr_rounds::{Purchases, Rounds};
 /// - `swap`: `NotForSale` where the seat doesn't hold the M&H or no 10% certificate of the NYC is there; `OverSixty`.
 /// - `done`: `MustSellFirst`.
 pub fn judge(chart: &Chart, position: &Position, act: &Act) -> Result<(), Fault>
+    ensures shown { MatchResult result
+        (λ _. verdict_in chart.now (situation_in chart.now position.now) act.now ≡ None)
+        (λ fault. verdict_in chart.now (situation_in chart.now position.now) act.now ≡ Some fault) }
     ensures verdict { (book : Book) → IsPositionOf book position.now → MatchResult result
         (λ _. verdict chart.now book act.now ≡ None)
         (λ fault. verdict chart.now book act.now ≡ Some fault) }
@@ -160,6 +163,7 @@ fn judge_turn(position: &Position, seat: Seat) -> Result<(), Fault>
     ensures seated { (book : Book) → IsPositionOf book position.now → OnOk result (seat.0 < 6) }
 {
     let rounds = position.rounds();
+    // There are at most six players, so the seat in turn is one of six.
     let _players = position.books().players();
     if !rounds.is_under_way() {
         return Err(Fault::WrongStep);

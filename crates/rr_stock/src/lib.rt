@@ -1,13 +1,13 @@
 //! The stock rounds: pars, purchases and sales of shares, and the end of a round.
 #![tactic(auto)]
 
+mod commands;
 mod ending;
 mod fault;
 mod judging;
 pub mod laws;
 mod playing;
 mod reading;
-mod rows;
 mod trading;
 mod waiting;
 

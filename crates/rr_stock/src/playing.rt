@@ -3,7 +3,7 @@ ghost use Rattle.rr_desk.specs.Desk.{Takes};
 ghost use Rattle.rr_stock.specs.Effects.{entries_of};
 ghost use Rattle.rr_stock.specs.Small.{HasSeat, HasSmallNumbers};
 
-use crate::rows::{play_done, play_par, play_purchase, play_sale, play_swap};
+use crate::commands::{play_done, play_par, play_purchase, play_sale, play_swap};
 use rr_books::{Act, Fault};
 use rr_chart::Chart;
 use rr_desk::Desk;

@@ -16,7 +16,7 @@ use Rattle.rr_store.specs.declared.log.Log.{Log}
 use Rattle.rr_store.specs.declared.store.Store.{Store}
 use Rattle.rr_store.specs.Allowing.{BeforeOrAfter, Between, CommitAllows, CommitEnds, IsLawful, Keeps}
 use Rattle.rr_store.specs.Committing.{Commits, Spares}
-use Rattle.rr_store.specs.Fault.{CountsEnd}
+use Rattle.rr_store.specs.Fault.{CountsEnd, OnDevice}
 use Rattle.rr_store.specs.Held.{Accepted, Again, Fails, Held, NoRoom, Refused, Takes, stamp_after, with_failure, with_tables}
 use Rattle.rr_store.specs.Holding.{Carries, IsFull, IsUnchanged, disk_of, held_of, keeper_of, world_of}
 use Rattle.rr_store.specs.Lent.{in_file}
@@ -74,6 +74,10 @@ counts_calm : (n m : ℕ) (fault : Fault) → (fault ≡ F.DeviceFailed → ⊥)
 counts_calm n m F.DeviceFailed other same = absurd (other refl)
 counts_calm n m _ other same = same
 
+device_calm : (P : Type 0) (fault : Fault) → (fault ≡ F.DeviceFailed → ⊥) → OnDevice fault P
+device_calm P F.DeviceFailed other = absurd (other refl)
+device_calm P _ other = tt
+
 spares_by : {D : Type 0} (old new : Store D) (fault : Fault) → (fault ≡ F.DeviceFailed → ⊥) → IsUnchanged old new → Spares old (Err fault) new
 spares_by old new F.DeviceFailed other same = absurd (other refl)
 spares_by old new _ other same = same
@@ -87,16 +91,16 @@ stays_same : {D : Type 0} (old new : Keeper D) (fault : Fault) → (fault ≡ F.
 stays_same old new F.DeviceFailed other h = absurd (other refl)
 stays_same old new _ other h = h
 
-module _ {D : Type 0} (Honest : D → Type 0) (state : D → DiskState) (past : D → List DiskState) (faults writes syncs : D → ℕ)
+module _ {D : Type 0} (Honest Works : D → Type 0) (state : D → DiskState) (past : D → List DiskState) (faults writes syncs : D → ℕ)
     (old new : Store D) (stamp : ℕ) (name : List ℕ) (c : Command) where
   abbrev pub bytes_of : List ℕ
   bytes_of = record_text name c
 
   abbrev pub Keeps_record : Log D → List ℕ → Kept → Log D → Type 0
-  Keeps_record = λ before bytes result after. Keeping Honest state past faults writes syncs before.keeper bytes result after.keeper
+  Keeps_record = λ before bytes result after. Keeping Honest Works state past faults writes syncs before.keeper bytes result after.keeper
 
   abbrev pub Done : Result ℕ Fault → Type 0
-  Done result = Commits Honest state past faults writes syncs old name stamp c new result
+  Done result = Commits Honest Works state past faults writes syncs old name stamp c new result
 
   abbrev kit_now : Kit
   kit_now = (held_of old).kit
@@ -142,8 +146,11 @@ module _ {D : Type 0} (Honest : D → Type 0) (state : D → DiskState) (past : 
           keeps = goes_on h whole texts s.records s.keeps;
           replayed = subst (λ (x : Held). Replayed texts s.records x.kit x.tables) (sym held_is) s.replayed;
         };
+        place = tt;
         spares = spares_by old new fault other (record { disk = same.disk; held = held_is; part = same.part; number = same.number });
         counts = counts_calm (faults (disk_of old)) (faults (disk_of new)) fault other (ap faults same.disk);
+        device = device_calm (Works (disk_of new) → ⊥) fault other;
+        works = λ w. subst Works same.disk w;
         few_writes = at_most writes same.disk;
         few_syncs = at_most syncs same.disk;
         full = λ is. full (one_fault fault F.HalfFull is);
@@ -173,7 +180,7 @@ module _ {D : Type 0} (Honest : D → Type 0) (state : D → DiskState) (past : 
     lawful_in texts s lawful = record { kit = kit_now; right = s.replayed.right; of_form = (spelled.name, spelled.command); lawful = lawful }
 
     -- the moments of a keeping
-    passed_by : (kept : Kept) (result : Result ℕ Fault) → Lawful → Keeping Honest state past faults writes syncs (keeper_of old) bytes_of kept (keeper_of new)
+    passed_by : (kept : Kept) (result : Result ℕ Fault) → Lawful → Keeping Honest Works state past faults writes syncs (keeper_of old) bytes_of kept (keeper_of new)
         → (h : Honest (disk_of new)) (texts : KitTexts) → Carries state old texts
         → ((moments : List DiskState) → CommitEnds texts tables_now stamp (for_table name c) moments (state (disk_of new)) result)
         → Between (past (disk_of old)) (state (disk_of old)) (past (disk_of new)) (state (disk_of new))
@@ -195,7 +202,7 @@ module _ {D : Type 0} (Honest : D → Type 0) (state : D → DiskState) (past : 
 
     -- the command was taken
     taken : (n : ℕ) → Takes (held_of old) stamp name c (held_of new) (Ok n) → Lawful → held_of new ≡ with_tables (held_of old) (world_after tables_now name c)
-        → Keeping Honest state past faults writes syncs (keeper_of old) bytes_of (Ok tt) (keeper_of new) → Done (Ok n)
+        → Keeping Honest Works state past faults writes syncs (keeper_of old) bytes_of (Ok tt) (keeper_of new) → Done (Ok n)
     taken n takes lawful held_is k =
         record {
           takes = takes;
@@ -203,8 +210,11 @@ module _ {D : Type 0} (Honest : D → Type 0) (state : D → DiskState) (past : 
           allowed = λ h texts s. passed_by (Ok tt) (Ok n) lawful k h texts s
               (λ moments. (lawful_in texts s lawful, subst (λ (w : World). Keeps (state (disk_of new)) texts w) (ap (λ (x : Held). x.tables) held_is) (carried_keeps state new texts (on h texts s))));
           carries = λ h unbroken texts s. on h texts s;
+          place = k.goes_on;
           spares = tt;
           counts = k.counts;
+          device = tt;
+          works = k.works;
           few_writes = k.few_writes;
           few_syncs = k.few_syncs;
           full = λ is. no_ok n F.HalfFull is;
@@ -228,15 +238,18 @@ module _ {D : Type 0} (Honest : D → Type 0) (state : D → DiskState) (past : 
 
     -- the device failed
     failed : Takes (held_of old) stamp name c (held_of new) (Err F.DeviceFailed) → Lawful → held_of new ≡ with_failure (held_of old)
-        → Keeping Honest state past faults writes syncs (keeper_of old) bytes_of (Err F.DeviceFailed) (keeper_of new) → Done (Err F.DeviceFailed)
+        → Keeping Honest Works state past faults writes syncs (keeper_of old) bytes_of (Err F.DeviceFailed) (keeper_of new) → Done (Err F.DeviceFailed)
     failed takes lawful held_is k =
         record {
           takes = takes;
           honest = k.honest;
           allowed = λ h texts s. passed_by (Err F.DeviceFailed) (Err F.DeviceFailed) lawful k h texts s (λ moments. lawful_in texts s lawful);
           carries = λ h unbroken texts s. let both : true ≡ false = sym (ap (λ (x : Held). x.broken) held_is) ∙ unbroken in absurd (cc both);
+          place = tt;
           spares = tt;
           counts = k.counts;
+          device = k.device;
+          works = k.works;
           few_writes = k.few_writes;
           few_syncs = k.few_syncs;
           full = λ is. let e = one_fault F.DeviceFailed F.HalfFull is in absurd (cc e);

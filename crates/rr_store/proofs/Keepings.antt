@@ -6,18 +6,29 @@ use Rattle.rr_keeper.specs.declared.keeper.Keeper.{Keeper}
 use Rattle.rr_keeper.specs.declared.fault.Fault as keeper
 use Rattle.rr_keeper.specs.declared.fault.Fault.TheVariants as K
 use Rattle.rr_keeper.specs.Fault.{Counts}
+use Rattle.rr_keeper.specs.Fault.{OnDevice as OnKeeper}
 use Rattle.rr_keeper.specs.File.{Kit as FileKit}
 use Rattle.rr_keeper.specs.Keeper.{IsUnchanged as IsSame, disk_of, part_of}
 use Rattle.rr_keeper.proofs.Parts.{is_store}
 use Rattle.rr_store.specs.declared.fault.Fault.{Fault}
 use Rattle.rr_store.specs.declared.fault.Fault.TheVariants as F
-use Rattle.rr_store.specs.Fault.{CountsFailure, of_keeper}
+use Rattle.rr_store.specs.Fault.{CountsFailure, OnDevice, of_keeper}
 use Rattle.rr_store.specs.Logging.{IsStoreWith, Keeping, Stays}
 
 -- the count that follows a fault of the keeper
 pub counts_kept : (old new : ℕ) (fault : keeper.Fault) → Counts old new fault → CountsFailure old new (of_keeper fault)
 counts_kept old new K.DeviceFailed h = h
 counts_kept old new _ h = h
+
+-- what a device fault of the keeper tells
+pub device_kept : (P : Type 0) (fault : keeper.Fault) → OnKeeper fault P → OnDevice (of_keeper fault) P
+device_kept P K.DeviceFailed h = h
+device_kept P K.HalfFull h = tt
+device_kept P (K.Damaged clause) h = tt
+device_kept P K.NotAStore h = tt
+device_kept P K.NotEmpty h = tt
+device_kept P K.OpenAgain h = tt
+device_kept P K.OutOfMemory h = tt
 
 abbrev Refusal : Type 0
 Refusal = Result (Unit {0}) keeper.Fault
@@ -43,14 +54,17 @@ stays_kept old new K.OutOfMemory (inr (inl is)) same = same (inr (ap (λ (f : ke
 stays_kept old new K.OutOfMemory (inr (inr is)) same = absurd (cc is)
 
 -- nothing was kept, for want of memory
-pub keeps_nothing : {D : Type 0} (Honest : D → Type 0) (state : D → DiskState) (past : D → List DiskState) (faults writes syncs : D → ℕ) (old : Keeper D) (bytes : List ℕ)
-    → Keeping Honest state past faults writes syncs old bytes (Err F.OutOfMemory) old
-keeps_nothing Honest state past faults writes syncs old bytes = record {
+pub keeps_nothing : {D : Type 0} (Honest Works : D → Type 0) (state : D → DiskState) (past : D → List DiskState) (faults writes syncs : D → ℕ) (old : Keeper D) (bytes : List ℕ)
+    → Keeping Honest Works state past faults writes syncs old bytes (Err F.OutOfMemory) old
+keeps_nothing Honest Works state past faults writes syncs old bytes = record {
   honest = λ h. h;
   stops = λ h texts records kept. started (past (disk_of old)) (state (disk_of old)) (IsStoreWith texts records bytes)
       (λ image is. inl (is_store image texts (part_of old).index records kept.front kept.own kept.joined (kept.each image is)));
   keeps = λ h whole texts records kept. kept;
+  goes_on = tt;
   counts = refl;
+  device = tt;
+  works = λ h. h;
   few_writes = omega arith;
   few_syncs = omega arith;
   stays = record { disk = refl; part = refl; number = refl; broken = refl };

@@ -2,6 +2,8 @@
 use Rattle.std.proofs.Common.{◌≡◌, ◌⊎◌, ℕ, List, [], ◌∷◌, ◌++◌, Result, Ok, Err, IfOk, IfErr, inl, inr, refl, sym, ap, subst, ◌∙◌}
 use Rattle.rr_disk.specs.Disk.{DiskState, after_sync}
 use Rattle.rr_kit.specs.declared.kit.Kit.{Kit}
+use Rattle.rr_kit.specs.declared.fault.Fault as reading
+use Rattle.rr_kit.specs.declared.fault.Fault.TheVariants as I
 use Rattle.rr_kit.specs.Kits.{KitTexts, SpellsKit}
 use Rattle.rr_keeper.specs.declared.fault.Fault as keeper
 use Rattle.rr_keeper.specs.declared.fault.Fault.TheVariants as K
@@ -13,8 +15,9 @@ use Rattle.rr_keeper.specs.Opening.{SyncsOnce, Not_synced, Synced}
 use Rattle.rr_store.specs.declared.fault.Fault.{Fault}
 use Rattle.rr_store.specs.declared.fault.Fault.TheVariants as F
 use Rattle.rr_store.specs.Allowing.{Between, FormatAllows, OpenAllows, Refuses, SyncsAtMost}
-use Rattle.rr_store.specs.Fault.{of_keeper}
+use Rattle.rr_store.specs.Fault.{OnDevice, of_keeper, of_kit}
 use Rattle.rr_store.specs.Files.{IsDamagedFile, IsNewFile, IsNoFile, RefusesOpening, StandsFor}
+use Rattle.rr_store.specs.Formatting.{RefusesTexts}
 use Rattle.rr_store.specs.declared.opening.Refused.{Refused}
 use Rattle.rr_store.specs.declared.store.Store.{Store}
 use Rattle.rr_store.specs.Holding.{Carries, disk_of, held_of, keeper_of}
@@ -55,6 +58,26 @@ refuses_replayed Honest file texts records (F.Damaged clause) store (inr (inr br
 refuses_replayed Honest file texts records fault store (inl e) = absurd (cc e)
 refuses_replayed Honest file texts records fault store (inr (inl wrong)) = absurd (cc wrong.0)
 refuses_replayed Honest file texts records fault store (inr (inr broken)) = absurd (cc broken.0)
+
+-- it tells of no device, and neither does one that a kit's texts are refused by
+pub calm_replayed : (P : Type 0) (texts : KitTexts) (records : List (List ℕ)) (fault : Fault) → RefusesReplay texts records fault → OnDevice fault P
+calm_replayed P texts records F.DeviceFailed (inl e) = absurd (cc e)
+calm_replayed P texts records F.DeviceFailed (inr (inl wrong)) = absurd (cc wrong.0)
+calm_replayed P texts records F.DeviceFailed (inr (inr broken)) = absurd (cc broken.0)
+calm_replayed P texts records _ why = tt
+
+calm_kit : (P : Type 0) (cause : reading.Fault) → OnDevice (of_kit cause) P
+calm_kit P I.OutOfMemory = tt
+calm_kit P _ = tt
+
+pub calm_texts : (P : Type 0) (texts : KitTexts) (fault : Fault) → RefusesTexts texts fault → OnDevice fault P
+calm_texts P texts fault why = subst (λ (f : Fault). OnDevice f P) (sym why.1) (calm_kit P why.0)
+
+pub calm_by : {D : Type 0} (Works : D → Type 0) (kept : Keeper D) (texts : KitTexts) (records : List (List ℕ)) (r : Result (Store D) (Refused D))
+    → IfErr r (λ refused. (refused.disk ≡ file.disk_of kept) × RefusesReplay texts records refused.fault)
+    → IfErr r (λ refused. OnDevice refused.fault (Works refused.disk → ⊥))
+calm_by Works kept texts records (Ok store) made = tt
+calm_by Works kept texts records (Err refused) made = calm_replayed (Works refused.disk → ⊥) texts records refused.fault made.1
 
 -- a sync at most
 pub synced_at_most : (past_old : List DiskState) (old : DiskState) (past_new : List DiskState) (new : DiskState) (fault : Fault)

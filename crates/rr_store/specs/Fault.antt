@@ -61,3 +61,13 @@ CountsFailure old new _ = new ≡ old
 abbrev pub CountsEnd : {T : Type 0} → ℕ → ℕ → Result T Fault → Type 0
 CountsEnd old new (Ok value) = new ≡ old
 CountsEnd old new (Err fault) = CountsFailure old new fault
+
+-- where the device failed, so
+abbrev pub OnDevice : Fault → Type 0 → Type 0
+OnDevice F.DeviceFailed P = P
+OnDevice _ P = Unit {0}
+
+-- where a call ends so that the device failed, so
+abbrev pub OnDeviceFault : {T : Type 0} → Result T Fault → Type 0 → Type 0
+OnDeviceFault (Ok value) P = Unit {0}
+OnDeviceFault (Err fault) P = OnDevice fault P

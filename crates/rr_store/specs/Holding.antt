@@ -1,5 +1,5 @@
 -- The tables in memory, as the tables that they stand for, and what a store holds.
-use Rattle.std.specs.Prelude.{◌≡◌, ℕ, List}
+use Rattle.std.specs.Prelude.{◌≡◌, ℕ, List, length}
 use Rattle.rr_disk.specs.Disk.{DiskState}
 use Rattle.rr_code.specs.declared.command.Command.{Command}
 use Rattle.rr_code.specs.Command.{record_text}
@@ -8,7 +8,7 @@ use Rattle.rr_kit.specs.Kits.{KitTexts}
 use Rattle.rr_keeper.specs.declared.keeper.Keeper.{Keeper}
 use Rattle.rr_keeper.specs.Keeper.{Keeps as KeepsLines, is_broken, number_of_next, part_of}
 use Rattle.rr_keeper.specs.Keeper as file
-use Rattle.rr_store.specs.declared.log.Log.{Log}
+use Rattle.rr_keeper.specs.Parts.{part_after}
 use Rattle.rr_store.specs.declared.store.Store.{Store}
 use Rattle.rr_store.specs.declared.tables.Table.{Table}
 use Rattle.rr_store.specs.declared.tables.Tables.{Tables}
@@ -48,6 +48,11 @@ held_of store = held_by store.log.keeper store.tables
 -- the file has no room for the record of this command: the one refusal that tells of the journal, until it begins anew
 abbrev pub IsFull : {D : Type 0} → Store D → List ℕ → Command → Type 0
 IsFull store name command = HasNoRoom store.log.keeper (record_text name command)
+
+-- the next record goes right behind that of this command: into the next part only where the one before had no room for it
+abbrev pub GoesBehind : {D : Type 0} → Store D → List ℕ → Command → Store D → Type 0
+GoesBehind old name command new =
+    part_of (keeper_of new) ≡ part_after (part_of (keeper_of old)) (length (record_text name command))
 
 -- Whatever a stop leaves now, the file stands for these texts and for what the store holds, and the next command goes
 -- behind what was accepted: on this a call rests, and this it carries on.

@@ -1,10 +1,8 @@
 -- What the definitions of files and worlds say.
-use Rattle.std.specs.Prelude.{◌≡◌, ℕ, ◌<◌, ◌+◌, List, [], ◌++◌, length}
-use Rattle.rr_disk.specs.Disk.{DiskState}
-use Rattle.rr_kit.specs.declared.kit.Kit.{Kit}
+use Rattle.std.specs.Prelude.{◌≡◌, ℕ, List, []}
 use Rattle.rr_kit.specs.Kits.{IsRightKit, KitTexts}
-use Rattle.rr_store.specs.Files.{IsDamagedFile, IsNewFile, IsNoFile, StandsFor}
-use Rattle.rr_store.specs.World.{Follows, TableCommand, World, commands_in}
+use Rattle.rr_store.specs.Files.{IsNewFile, StandsFor}
+use Rattle.rr_store.specs.World.{World}
 
 -- a file stands for one kit and one world
 abbrev pub OneWorld : Type 0

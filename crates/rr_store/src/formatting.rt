@@ -1,7 +1,8 @@
-ghost use Rattle.std.specs.Prelude.{◌≡◌, ◌⊎◌, ◌<◌, length, MatchResult, OnOk, IfErr};
+ghost use Rattle.std.specs.Prelude.{◌≡◌, ◌⊎◌, ◌+◌, ◌<◌, ◌≤◌, length, MatchResult, OnOk, IfErr};
+ghost use Rattle.rr_disk.specs.Disk.{counted};
 ghost use Rattle.rr_kit.specs.Kits.{IsRightKit};
 ghost use Rattle.rr_store.specs.Allowing.{FormatAllows};
-ghost use Rattle.rr_store.specs.Fault.{CountsFailure};
+ghost use Rattle.rr_store.specs.Fault.{CountsFailure, OnDeviceFault};
 ghost use Rattle.rr_store.specs.Formatting.{RefusesFormat, RefusesTexts};
 ghost use Rattle.rr_store.specs.Lent.{lent_texts};
 
@@ -31,6 +32,14 @@ pub fn format<D: Disk>(alloc: Global, disk: &mut D, texts: Texts<'_>) -> Result<
     ensures honest { D.Honest disk.new → D.Honest disk.old }
     ensures fault { IfErr result (CountsFailure (D.fault_count disk.old) (D.fault_count disk.new)) }
     ensures no_fault { OnOk result (D.fault_count disk.new ≡ D.fault_count disk.old) }
+    ensures writes { OnOk result (D.write_count disk.new ≡ counted (counted (D.write_count disk.old))) }
+    ensures syncs { OnOk result (D.sync_count disk.new ≡ counted (counted (D.sync_count disk.old))) }
+    ensures few_writes { D.write_count disk.new ≤ D.write_count disk.old + 2 }
+    ensures few_syncs { D.sync_count disk.new ≤ D.sync_count disk.old + 2 }
+
+    // A disk that works doesn't fail here.
+    ensures device { OnDeviceFault result (D.Works disk.new → ⊥) }
+    ensures works { D.Works disk.new → D.Works disk.old }
 {
     if disk.len() != 0 {
         return Err(Fault::NotEmpty);

@@ -24,7 +24,7 @@ impl<D: Disk + Drop> Journal for Log<D> {
 
     ghost broken = { λ log. is_broken log.keeper };
 
-    ghost Kept = { λ old bytes result new. Keeping D.Honest D.state D.past D.fault_count D.write_count D.sync_count old.keeper bytes result new.keeper };
+    ghost Kept = { λ old bytes result new. Keeping D.Honest D.Works D.state D.past D.fault_count D.write_count D.sync_count old.keeper bytes result new.keeper };
 
     fn keep(&mut self, name: &Name, command: &Command) -> Result<(), Fault> {
         spell(name, command, &mut self.buffer)?;

@@ -1,12 +1,13 @@
 //! Opening a file: its records are played again from the first.
-ghost use Rattle.std.specs.Prelude.{◌≡◌, ◌≢◌, ◌⊎◌, [], List, ℕ, MatchResult, OnOk, IfErr, IfOk, Ok, Err, false};
+ghost use Rattle.std.specs.Prelude.{◌≡◌, ◌≢◌, ◌⊎◌, ◌+◌, ◌≤◌, [], List, ℕ, MatchResult, OnOk, IfErr, IfOk, Ok, Err, false};
+ghost use Rattle.rr_disk.specs.Disk.{counted};
 ghost use Rattle.rr_kit.specs.declared.fault.Fault.TheVariants as Reading;
 ghost use Rattle.rr_kit.specs.Kits.{IsWrongKit, KitTexts as TextsOfKit, SpellsKit};
 ghost use Rattle.rr_keeper.specs.Keeper.{is_broken};
 ghost use Rattle.rr_keeper.specs.Keeper as file;
 ghost use Rattle.rr_keeper.specs.Opening.{kit_of};
 ghost use Rattle.rr_store.specs.Allowing.{Between, OpenAllows};
-ghost use Rattle.rr_store.specs.Fault.{CountsFailure};
+ghost use Rattle.rr_store.specs.Fault.{CountsFailure, OnDevice};
 ghost use Rattle.rr_store.specs.Files.{RefusesOpening};
 ghost use Rattle.rr_store.specs.Holding.{Carries, disk_of, held_by, held_of, keeper_of, world_of};
 ghost use Rattle.rr_store.specs.Lent.{from_file};
@@ -66,6 +67,13 @@ pub fn open<D: Disk + Drop>(alloc: Global, disk: D) -> Result<Store<D>, Refused<
     ensures no_fault { IfOk result (λ store. D.fault_count (disk_of store) ≡ D.fault_count disk) }
     ensures fault { IfErr result (λ refused.
         CountsFailure (D.fault_count disk) (D.fault_count refused.disk) refused.fault) }
+    ensures syncs { IfOk result (λ store. D.sync_count (disk_of store) ≡ counted (D.sync_count disk)) }
+    ensures syncs_left { IfErr result (λ refused. D.sync_count refused.disk ≤ D.sync_count disk + 1) }
+
+    // Whatever the file holds, a disk that works doesn't fail here.
+    ensures device { IfErr result (λ refused. OnDevice refused.fault (D.Works refused.disk → ⊥)) }
+    ensures works { IfOk result (λ store. D.Works (disk_of store) → D.Works disk) }
+    ensures works_left { IfErr result (λ refused. D.Works refused.disk → D.Works disk) }
 {
     let buffer = match make_buffer(alloc) {
         Ok(buffer) => buffer,

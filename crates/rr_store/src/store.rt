@@ -58,7 +58,7 @@ impl<D: Disk + Drop> Store<D> {
     pub fn commit(&mut self, name: &Name, stamp: u64, command: &Command) -> Result<u64, Fault>
         requires name { IsTableName name.now }
         requires command { IsCommand command.now }
-        ensures { Commits D.Honest D.state D.past D.fault_count D.write_count D.sync_count self.old name.now stamp command.now self.new result }
+        ensures { Commits D.Honest D.Works D.state D.past D.fault_count D.write_count D.sync_count self.old name.now stamp command.now self.new result }
     {
         if self.log.keeper.is_broken() {
             return Err(Fault::OpenAgain);

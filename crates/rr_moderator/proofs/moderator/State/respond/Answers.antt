@@ -37,17 +37,17 @@ returns-in-Query-clause-responds g c =
     (refl, queried (query_answer held.kit held.tables c.in-Query.query) c.answer.result c.answer.new.reply c.answer.ensures)
 
 pub returns-then-line-gt-LONGEST_LINE-clause-lasts : goal.returns-then-line-gt-LONGEST_LINE-clause-lasts
-returns-then-line-gt-LONGEST_LINE-clause-lasts g c = lasts_unlawful _ _ _ _ _ _ _ _ _ _ refl too_long_calm
+returns-then-line-gt-LONGEST_LINE-clause-lasts g c = lasts_unlawful _ _ _ _ _ _ _ _ _ _ _ refl too_long_calm
     (λ may. absurd (omega (arith, may.1.short, c.if-line-gt-LONGEST_LINE.true)))
 
 pub returns-in_err-read-clause-lasts : goal.returns-in_err-read-clause-lasts
 returns-in_err-read-clause-lasts g c =
     let p = err_from_is_err_and c.from_residual.result c.from_residual.ensures.1 in
-    rw (p.1, p.2, c.in_err-read.ensures.found) (lasts_unlawful _ _ _ _ _ _ _ _ _ _ refl malformed_calm
+    rw (p.1, p.2, c.in_err-read.ensures.found) (lasts_unlawful _ _ _ _ _ _ _ _ _ _ _ refl malformed_calm
     (λ may. let other = c.in_err-read.ensures.only _ may.1.spelled in cc))
 
 pub returns-then-is_broken-clause-lasts : goal.returns-then-is_broken-clause-lasts
-returns-then-is_broken-clause-lasts g c = lasts_unlawful _ _ _ _ _ _ _ _ _ _ refl open_again_calm
+returns-then-is_broken-clause-lasts g c = lasts_unlawful _ _ _ _ _ _ _ _ _ _ _ refl open_again_calm
     (λ may. let both : true ≡ false = sym (sym c.is_broken.ensures ∙ c.if-is_broken.true) ∙ may.1.whole in absurd (cc both))
 
 pub returns-in-Query-clause-lasts : goal.returns-in-Query-clause-lasts
@@ -55,7 +55,7 @@ returns-in-Query-clause-lasts g c =
     let held = held_of c.args.self.now.store in
     let told = queried (query_answer held.kit held.tables c.in-Query.query) c.answer.result c.answer.new.reply c.answer.ensures in
     let spells = subst (SpellsLine c.args.line.now) c.in-Query.is c.in_ok-read.ensures.found in
-    lasts_unlawful _ _ _ _ _ _ _ _ _ _ refl
+    lasts_unlawful _ _ _ _ _ _ _ _ _ _ _ refl
     (subst SaysNeither (sym told) (query_calm held.kit held.tables c.in-Query.query))
     (λ may. absurd (no_query c.args.line.now c.in-Query.query _ _ _ spells may.1.spelled))
 
@@ -63,4 +63,4 @@ pub returns-in-Command-clause-lasts : goal.returns-in-Command-clause-lasts
 returns-in-Command-clause-lasts g c =
     let short : length c.args.line.now ≤ 8000 = omega arith in
     let spells = subst (SpellsLine c.args.line.now) c.in-Command.is c.in_ok-read.ensures.found in
-    command_lasts _ _ _ _ _ _ _ _ _ _ _ _ _ short spells (sym c.is_broken.ensures ∙ c.if-is_broken.false) c.commit.ensures.0 (ap reply_to c.commit.ensures.2) c.commit.ensures.1
+    command_lasts _ _ _ _ _ _ _ _ _ _ _ _ _ _ short spells (sym c.is_broken.ensures ∙ c.if-is_broken.false) c.commit.ensures.0 (ap reply_to c.commit.ensures.2) c.commit.ensures.1

@@ -1,5 +1,5 @@
--- What a corporation pays for tiles and tokens, and what a row of the rules adds.
-use Rattle.std.specs.Prelude.{ℕ, ℤ, pos, int_lt, [], ◌∷◌, ◌++◌, Option, None, Some, if◌then◌else◌}
+-- What a corporation pays for tiles and tokens, and what laying one or placing one adds.
+use Rattle.std.specs.Prelude.{ℕ, ℤ, pos, int_lt, [], ◌∷◌, Option, None, Some, if◌then◌else◌}
 use Rattle.rr_roster.specs.declared.company.Corp.{Corp}
 use Rattle.rr_books.specs.declared.parties.Party.{Party}
 use Rattle.rr_books.specs.declared.parties.Party.TheVariants as P
@@ -7,7 +7,6 @@ use Rattle.rr_books.specs.declared.acts.Act.{Act}
 use Rattle.rr_books.specs.declared.entries.Entry.{Entry}
 use Rattle.rr_books.specs.declared.entries.Entry.TheVariants as E
 use Rattle.rr_books.specs.declared.entries.Marker.TheVariants as M
-use Rattle.rr_books.specs.Book.{Book}
 use Rattle.rr_desk.specs.Effects.{Effect, adds, in_turn}
 use Rattle.rr_lay.specs.declared.fault.Fault.{Fault}
 use Rattle.rr_lay.specs.declared.fault.Fault.TheVariants as F
@@ -22,6 +21,6 @@ abbrev pub pays_cost : Corp → Option ℕ → Effect
 pays_cost corp None = in_turn []
 pays_cost corp (Some cost) = adds (E.Pay (P.Corp corp) P.Bank (record { 0 = pos cost }))
 
--- what a row adds: the words of its command, the payment where one is owed, and what is put on the board
+-- what a command adds: its words, the payment where one is owed, and what is put on the board
 unfoldable pub puts : Act → Corp → Option ℕ → Entry → Effect
 puts act corp cost entry = in_turn (adds (E.Step (M.Act act)) ∷ pays_cost corp cost ∷ adds entry ∷ [])

@@ -277,6 +277,49 @@ fn follows_the_marks_of_a_book(rt: HostRuntime) {
 }
 
 #[test]
+fn the_next_cell_is_told_before_a_move(rt: HostRuntime) {
+    let chart = shipped(&rt);
+    let market = moved(&rt, &chart, 82, Move::Paid, 0);
+    for (found, wanted) in [
+        (market.cell(PRR), at(2, 6)),
+        (market.cell_after_paying(&chart, PRR), at(2, 7)),
+        (market.cell_after_withholding(&chart, PRR), at(2, 5)),
+        (market.cell_after_sale(&chart, PRR, 2), at(4, 6)),
+        (market.cell_after_rise(&chart, PRR), at(1, 6)),
+    ] {
+        check(&rt, "cell", found, Some(wanted));
+    }
+}
+
+#[test]
+fn a_token_that_stays_has_no_next_cell(rt: HostRuntime) {
+    let chart = shipped(&rt);
+    let right = moved(&rt, &chart, 100, Move::Paid, 12);
+    check(&rt, "paying", right.cell_after_paying(&chart, PRR), None);
+    check(&rt, "rise", right.cell_after_rise(&chart, PRR), None);
+    check(&rt, "other", right.cell_after_paying(&chart, NYC), None);
+    check(&rt, "other rise", right.cell_after_rise(&chart, NYC), None);
+}
+
+#[test]
+fn one_entry_is_read_at_a_time(rt: HostRuntime) {
+    let chart = shipped(&rt);
+    let mut market = Market::new();
+    market.read(&Entry::Step(Marker::Stock));
+    check(&rt, "cell", market.cell(PRR), None);
+    market.read(&Entry::Mark {
+        corp: PRR,
+        cell: at(2, 6),
+    });
+    check(
+        &rt,
+        "standing",
+        standing(&market, &chart),
+        (Some(82), Some(82), Some(Zone::White)),
+    );
+}
+
+#[test]
 fn the_fault_has_words_and_a_number(rt: HostRuntime) {
     let words = format!(in rt.alloc(); "{}", Fault::NotAPar).expect(&rt, "memory");
     check(&rt, "text", words.as_str(), "not a par");

@@ -2,7 +2,7 @@
 ghost use Rattle.std.specs.Prelude.{◌≡◌, None, Some, MatchResult, OnOk, IfErr};
 ghost use Rattle.rr_books.specs.State.{cash_of};
 ghost use Rattle.rr_desk.specs.Desk.{Takes};
-ghost use Rattle.rr_lay.specs.Rows.{cost_verdict, pays_cost};
+ghost use Rattle.rr_lay.specs.Costs.{cost_verdict, pays_cost};
 ghost use Rattle.rr_books.specs.declared.faults.Fault.TheVariants as B;
 
 use crate::fault::Fault;

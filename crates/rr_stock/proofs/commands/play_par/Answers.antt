@@ -1,6 +1,6 @@
 use Rattle.rr_desk.proofs.Taking.{shown}
 use Rattle.rr_stock.proofs.Trades.{takes_par}
-use Rattle.rr_stock.proofs.rows.play_par.Goals as goal
+use Rattle.rr_stock.proofs.commands.play_par.Goals as goal
 
 pub returns-clause-takes : goal.returns-clause-takes
 returns-clause-takes c =

@@ -1,0 +1,47 @@
+//! The views of a position, which follow its entries together.
+use crate::layout::hex;
+use crate::opening::{check, position};
+use rr_books::{Act, Cell, Corp, Entry, Fault, Marker, Seat};
+use rr_layout::MOST_LAYS;
+
+#[test]
+fn each_view_follows_the_entries(rt: HostRuntime) {
+    let mut table = position(&rt, 3);
+    check(&rt, "turn", table.bidding().turn(), Seat(0));
+    let pass = Entry::Step(Marker::Act(Act::Pass { seat: Seat(0) }));
+    table.follow(&pass).expect(&rt, "room");
+    check(&rt, "next turn", table.bidding().turn(), Seat(1));
+    check(&rt, "commands", table.bidding().commands(), 1);
+    let cell = Cell { row: 2, column: 6 };
+    let mark = Entry::Mark {
+        corp: Corp::Prr,
+        cell,
+    };
+    table.follow(&mark).expect(&rt, "room");
+    check(&rt, "cell", table.market().cell(Corp::Prr), Some(cell));
+    table
+        .follow(&Entry::Step(Marker::Stock))
+        .expect(&rt, "room");
+    check(&rt, "round", table.rounds().is_under_way(), true);
+    check(&rt, "players", table.books().players(), 3);
+}
+
+#[test]
+fn a_full_board_takes_no_tile(rt: HostRuntime) {
+    let mut table = position(&rt, 2);
+    let tile = Entry::Lay {
+        hex: hex(&rt),
+        tile: 57,
+        turn: 0,
+    };
+    for _tile in 0..MOST_LAYS {
+        table.follow(&tile).expect(&rt, "room");
+    }
+    check(
+        &rt,
+        "one tile more",
+        table.follow(&tile),
+        Err(Fault::OutOfMemory),
+    );
+    check(&rt, "tiles", table.layout().lays().len(), 64);
+}
