@@ -9,6 +9,8 @@ mod fixtures;
 #[cfg(test)]
 mod game;
 #[cfg(test)]
+mod history;
+#[cfg(test)]
 mod holdings;
 #[cfg(test)]
 mod lay;

@@ -1,0 +1,45 @@
+-- What each request makes of a table.
+use Rattle.std.proofs.Common.{◌≡◌, ℕ, ◌+◌, ◌<◌, List, [], ◌∷◌, ◌++◌, length, take, Bool, if◌then◌else◌, None, Some, refl, sym, ap, subst, ◌∙◌, arith, length-append}
+use Rattle.rr_kit.specs.declared.kit.Kit.{Kit}
+use Rattle.rr_code.specs.declared.command.Command.{Command}
+use Rattle.rr_game.specs.declared.game.Game.{Game}
+use Rattle.rr_turns.specs.declared.request.Request.TheVariants.{Play}
+use Rattle.rr_turns.specs.Kept.{Kept}
+use Rattle.rr_game.specs.Keeping.{IsGameOf}
+use Rattle.rr_hist.proofs.Plays.{goes_on}
+use Rattle.rr_hist.specs.Changing.{IsChangeBy}
+use Rattle.rr_hist.specs.Playing.{IsPlayOf, ends_turn, refusal}
+
+take_all : {X : Type 0} (xs : List X) → take (length xs) xs ≡ xs
+take_all [] = refl
+take_all (x ∷ xs) = ap (λ l. x ∷ l) (take_all xs)
+
+all_of : {X : Type 0} (n : ℕ) (xs : List X) → n ≡ length xs → take n xs ≡ xs
+all_of n xs e = ap (λ m. take m xs) e ∙ take_all xs
+
+pub played_by : (kit : Kit) (old : Kept Command) (c : Command) (game : Game) (turns n : ℕ) → n ≡ length old.commands → n < 4096 → old.stamp < 4000000000
+    → IsPlayOf kit (old.commands ++ c ∷ []) game turns
+    → IsChangeBy kit old (Play c) (record { stay = n; added = Some c; game = game; turns = turns; floor = old.floor })
+played_by kit old c game turns n all room stamp play =
+    let same : take n old.commands ++ c ∷ [] ≡ old.commands ++ c ∷ [] = ap (λ l. l ++ c ∷ []) (all_of n old.commands all) in
+    let P : List Command → Type 0 = λ l. IsPlayOf kit l game turns in
+    let count : length (take n old.commands ++ c ∷ []) ≡ length (old.commands ++ c ∷ []) = ap length same in
+    let one = length-append old.commands (c ∷ []) in
+    let K : List Command → Kept Command = λ l. record { commands = l; floor = old.floor; stamp = old.stamp + 1 } in
+    record {
+      kept = ap K same;
+      played = subst P (sym same) play;
+      fits = record { room = omega (arith, all, room, count, one); stamp = stamp };
+    }
+
+-- a command that was judged, spelled and played
+pub command_change : (kit : Kit) (old : Kept Command) (c added : Command) (before after : Game) (turns later n : ℕ) (ended : Bool)
+    → IsPlayOf kit old.commands before turns → added ≡ c → n ≡ length old.commands → n < 4096 → old.stamp < 4000000000
+    → refusal kit old.commands c ≡ None → IsGameOf kit (old.commands ++ c ∷ []) after → ended ≡ ends_turn kit old.commands c
+    → later ≡ turns + (if ended then 1 else 0)
+    → IsChangeBy kit old (Play c) (record { stay = n; added = Some added; game = after; turns = later; floor = old.floor })
+command_change kit old c added before after turns later n ended play same all room stamp lawful next turn sum =
+    let played = goes_on kit old.commands c before after turns ended play lawful next turn in
+    let P : ℕ → Type 0 = λ m. IsPlayOf kit (old.commands ++ c ∷ []) after m in
+    let Q : Command → Type 0 = λ d. IsChangeBy kit old (Play c) (record { stay = n; added = Some d; game = after; turns = later; floor = old.floor }) in
+    subst Q (sym same) (played_by kit old c after later n all room stamp (subst P (sym sum) played))

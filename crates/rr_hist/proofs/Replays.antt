@@ -1,0 +1,71 @@
+-- A table's first commands, played again.
+use Rattle.std.proofs.Common.{◌≡◌, ℕ, zero, suc, ◌+◌, ◌<◌, Bool, true, List, [], ◌∷◌, ◌++◌, length, get_or, take, drop, None, if◌then◌else◌, sym, ap, subst, ◌∙◌, add-one, arith, take-append-drop, drop-cons}
+use Rattle.std.proofs.lemmas.Bool.{and_from, and_parts}
+use Rattle.rr_kit.specs.declared.kit.Kit.{Kit}
+use Rattle.rr_code.specs.declared.command.Command.{Command}
+use Rattle.rr_game.specs.declared.game.Game.{Game}
+use Rattle.rr_game.specs.Keeping.{IsGameOf}
+use Rattle.rr_game.specs.Play.{begins_with_opening}
+use Rattle.rr_turns.specs.Turns.{are_lawful, first_turns}
+use Rattle.rr_turns.proofs.LawfulLemmas.{lawful-at, lawful-front}
+use Rattle.rr_turns.proofs.ReplayLemmas.{PlaysAgain, goes_on as go_on, reached}
+use Rattle.rr_hist.specs.Playing.{IsPlayOf, are_played, ends_turn, refusal}
+
+-- of the commands behind the opening, the first n were played again, in which this number of turns ended
+pub record IsReplayed (kit : Kit) (k : ℕ) (opening : Command) (others : List Command) (n : ℕ) (game : Game) (turns : ℕ) : Type 0 where
+  pub played : IsGameOf kit (opening ∷ take n others) game
+  pub again : PlaysAgain (ends_turn kit) k opening others (take n others) (drop n others) turns
+
+drop_one : {X : Type 0} (xs : List X) (n : ℕ) (x : X) → n < length xs → x ≡ get_or xs n x → drop n xs ≡ x ∷ drop (n + 1) xs
+drop_one xs n x h is = drop-cons xs n x h ∙ ap (λ y. y ∷ drop (suc n) xs) (sym is) ∙ ap (λ m. x ∷ drop m xs) (sym (add-one n))
+
+take_next : {X : Type 0} (xs : List X) (n : ℕ) (x : X) → n < length xs → x ≡ get_or xs n x → take (suc n) xs ≡ take n xs ++ x ∷ []
+take_next [] n x h is = absurd (omega (arith, h))
+take_next (y ∷ ys) zero x h is = ap (λ z. z ∷ []) (sym is)
+take_next (y ∷ ys) (suc n) x h is = ap (λ zs. y ∷ zs) (take_next ys n x (omega (arith, h)) is)
+
+take_one : {X : Type 0} (xs : List X) (n : ℕ) (x : X) → n < length xs → x ≡ get_or xs n x → take (n + 1) xs ≡ take n xs ++ x ∷ []
+take_one xs n x h is = ap (λ m. take m xs) (add-one n) ∙ take_next xs n x h is
+
+-- the next command, which is lawful there
+pub next_lawful : (kit : Kit) (opening : Command) (others : List Command) (n : ℕ) (c : Command) → are_played kit (opening ∷ others) ≡ true
+    → n < length others → c ≡ get_or others n c → refusal kit (opening ∷ take n others) c ≡ None
+next_lawful kit opening others n c lawful less is =
+    let split : others ≡ take n others ++ c ∷ drop (n + 1) others =
+    sym (take-append-drop n others) ∙ ap (λ l. take n others ++ l) (drop_one others n c less is) in
+    let P : List Command → Type 0 = λ l. are_lawful (refusal kit) (opening ∷ []) l ≡ true in
+    lawful-at (refusal kit) (opening ∷ []) (take n others) c (drop (n + 1) others) (subst P split (and_parts (begins_with_opening (opening ∷ [])) (are_lawful (refusal kit) (opening ∷ []) others) lawful).1)
+
+pub next : (kit : Kit) (k : ℕ) (opening : Command) (others : List Command) (n : ℕ) (c : Command) (old new : Game) (turns : ℕ) (ended : Bool)
+    → n < length others → c ≡ get_or others n c → turns < k → IsReplayed kit k opening others n old turns
+    → IsGameOf kit (opening ∷ take n others ++ c ∷ []) new → ended ≡ ends_turn kit (opening ∷ take n others) c
+    → IsReplayed kit k opening others (n + 1) new (turns + (if ended then 1 else 0))
+next kit k opening others n c old new turns ended less is left so_far played turn =
+    let more : take (n + 1) others ≡ take n others ++ c ∷ [] = take_one others n c less is in
+    let P : List Command → Type 0 = λ rest. PlaysAgain (ends_turn kit) k opening others (take n others) rest turns in
+    let one = go_on (ends_turn kit) k opening others (take n others) c (drop (n + 1) others) turns left (subst P (drop_one others n c less is) so_far.again) in
+    let Q : Bool → Type 0 = λ b. PlaysAgain (ends_turn kit) k opening others (take n others ++ c ∷ []) (drop (n + 1) others) (turns + (if b then 1 else 0)) in
+    let R : List Command → Type 0 = λ front. PlaysAgain (ends_turn kit) k opening others front (drop (n + 1) others) (turns + (if ended then 1 else 0)) in
+    let S : List Command → Type 0 = λ front. IsGameOf kit (opening ∷ front) new in
+    record { played = subst S (sym more) played; again = subst R (sym more) (subst Q (sym turn) one) }
+
+-- as many turns have ended as were asked for
+abbrev pub IsFront : Kit → ℕ → Command → List Command → ℕ → Game → Type 0
+IsFront kit k opening others n game =
+    (take (n + 1) (opening ∷ others) ≡ first_turns (ends_turn kit) k (opening ∷ others))
+    × IsPlayOf kit (take (n + 1) (opening ∷ others)) game k
+
+pub stopped : (kit : Kit) (k : ℕ) (opening : Command) (others : List Command) (n : ℕ) (game : Game) (turns : ℕ) → are_played kit (opening ∷ others) ≡ true
+    → turns ≡ k → IsReplayed kit k opening others n game turns → IsFront kit k opening others n game
+stopped kit k opening others n game turns lawful same so_far =
+    let front : take (n + 1) (opening ∷ others) ≡ opening ∷ take n others = ap (λ m. take m (opening ∷ others)) (add-one n) in
+    let P : List Command → Type 0 = λ l. are_lawful (refusal kit) (opening ∷ []) l ≡ true in
+    let both = and_parts (begins_with_opening (opening ∷ [])) (are_lawful (refusal kit) (opening ∷ []) others) lawful in
+    let whole : are_lawful (refusal kit) (opening ∷ []) (take n others ++ drop n others) ≡ true = subst P (sym (take-append-drop n others)) both.1 in
+    let play : IsPlayOf kit (opening ∷ take n others) game k = record {
+      lawful = and_from _ _ both.0 (lawful-front (refusal kit) (opening ∷ []) (take n others) (drop n others) whole);
+      played = so_far.played;
+      counted = sym same ∙ so_far.again.counted;
+    } in
+    let Q : List Command → Type 0 = λ l. IsPlayOf kit l game k in
+    (front ∙ sym (reached (ends_turn kit) k opening others (take n others) (drop n others) turns same so_far.again), subst Q (sym front) play)

@@ -1,0 +1,17 @@
+//! A game's table that can be taken back to the end of an earlier turn.
+#![tactic(auto)]
+
+mod change;
+mod fault;
+pub mod laws;
+mod playing;
+mod replaying;
+mod spelled;
+mod standing;
+mod table;
+
+pub use change::Change;
+pub use fault::Fault;
+pub use rr_turns::Request;
+pub use spelled::Spelled;
+pub use table::Table;

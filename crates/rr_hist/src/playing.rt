@@ -1,0 +1,92 @@
+//! One command more, with the turn that it may end.
+ghost use Rattle.std.specs.Prelude.{◌≡◌, ◌+◌, ◌<◌, ◌++◌, List, [], ◌∷◌, None, IfOk, MatchResult, option_map, if◌then◌else◌};
+ghost use Rattle.rr_code.specs.Command.{IsCommand};
+ghost use Rattle.rr_code.specs.declared.command.Command.{Command as Line};
+ghost use Rattle.rr_game.specs.Keeping.{IsGameOf};
+ghost use Rattle.rr_hist.specs.Fault.{MayFind, of_game};
+ghost use Rattle.rr_hist.specs.Playing.{ends_turn, is_par, owes_par, refusal};
+ghost use Rattle.rr_kit.specs.declared.kit.Kit.{Kit as AnyKit};
+
+use crate::fault::Fault;
+use rr_auction::Due;
+use rr_code::Command;
+use rr_game::Game;
+use rr_kit::Kit;
+use std::alloc::Global;
+
+/// A game after one command more.
+#[derive(Clone, Copy, Debug)]
+pub(crate) struct Next {
+    pub(crate) game: Game,
+    /// Whether the command ended a turn.
+    pub(crate) ended: bool,
+}
+
+impl Next {
+    /// The game after a command.
+    pub(crate) fn of(
+        alloc: Global,
+        game: &Game,
+        command: &Command,
+        kit: &Kit,
+    ) -> Result<Next, Fault>
+        requires played { game.now.played < 4096 }
+        requires command { IsCommand command.now }
+        ensures verdict { (before : List Line) → IsGameOf kit.now before game.now → MatchResult result
+            (λ _. refusal kit.now before command.now ≡ None)
+            (λ fault. MayFind (option_map of_game (refusal kit.now before command.now)) fault) }
+        ensures game { IfOk result (λ next. (before : List Line) → IsGameOf kit.now before game.now →
+            IsGameOf kit.now (before ++ command.now ∷ []) next.game) }
+        ensures turn { IfOk result (λ next. (before : List Line) → IsGameOf kit.now before game.now →
+            next.ended ≡ ends_turn kit.now before command.now) }
+    {
+        let after = game.step(alloc, command, kit)?;
+        Ok(Next {
+            game: after,
+            ended: ends_turn(command, game, &after),
+        })
+    }
+}
+
+/// Whether the command that led from one game to the other ended a turn.
+fn ends_turn(command: &Command, before: &Game, after: &Game) -> bool
+    ensures { (kit : AnyKit) (commands : List Line) → IsGameOf kit commands before.now →
+        IsGameOf kit (commands ++ command.now ∷ []) after.now → result ≡ ends_turn kit commands command.now }
+{
+    match command {
+        Command::BuyPrivate { .. } | Command::Bid { .. } | Command::Pass { .. } => !owes_par(after),
+        Command::Par { .. } => owes_par(before),
+        Command::Done { .. } => true,
+        Command::Open { .. }
+        | Command::BuyShare { .. }
+        | Command::Sell { .. }
+        | Command::Swap { .. } => false,
+    }
+}
+
+/// Whether the B&O's par is due.
+fn owes_par(game: &Game) -> bool
+    ensures { (kit : AnyKit) (commands : List Line) → IsGameOf kit commands game.now → result ≡ owes_par kit commands }
+{
+    is_par(game.due())
+}
+
+fn is_par(due: Due) -> bool
+    ensures { result ≡ is_par due }
+{
+    match due {
+        Due::Par(_) => true,
+        Due::Turn(_) | Due::Raise(_) | Due::Stock(_) => false,
+    }
+}
+
+/// The turns that have ended after one command more.
+pub(crate) fn turns_after(turns: u64, ended: bool) -> u64
+    requires { turns < 4096 }
+    ensures { result ≡ turns + (if ended then 1 else 0) }
+{
+    if ended {
+        return turns + 1;
+    }
+    turns
+}

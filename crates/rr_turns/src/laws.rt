@@ -1,0 +1,32 @@
+//! What always holds of tables that are taken back. The calls do nothing: their contracts hold of all tables.
+ghost use Rattle.rr_turns.specs.Laws.{BackEndsWithItsTurn, BackToThePresentTurn, EndedTurnsStay, FloorsNeverFall, OneFrontEndsWithATurn, StampsNeverFall};
+
+/// Each accepted request raises the stamp by one, a take-back too.
+pub fn stamps_never_fall<C>()
+    ensures { StampsNeverFall C }
+{}
+
+/// The floor never falls, and the turn at the floor stays one that has ended.
+pub fn floors_never_fall<C>()
+    ensures { FloorsNeverFall C }
+{}
+
+/// A table that is taken back to a turn has ended just as many turns, and keeps the commands up to that turn's end.
+pub fn back_ends_with_its_turn<C>()
+    ensures { BackEndsWithItsTurn C }
+{}
+
+/// One front of a table's commands ends with a turn, and no other.
+pub fn one_front_ends_with_a_turn<C>()
+    ensures { OneFrontEndsWithATurn C }
+{}
+
+/// Where a turn has just ended, to be taken back to it changes nothing. A turn that is under way is dropped.
+pub fn back_to_the_present_turn<C>()
+    ensures { BackToThePresentTurn C }
+{}
+
+/// What is played later changes no turn that has ended.
+pub fn ended_turns_stay<C>()
+    ensures { EndedTurnsStay C }
+{}
