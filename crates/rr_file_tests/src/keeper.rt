@@ -297,3 +297,8 @@ fn displays(rt: HostRuntime) -> Result<(), Fail> {
     }
     Ok(())
 }
+
+#[test]
+fn files_have_one_kit_and_one_list_of_records(_rt: HostRuntime) {
+    rr_keeper::laws::one_store();
+}

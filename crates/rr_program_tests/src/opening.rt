@@ -125,3 +125,8 @@ fn records_are_judged(rt: HostRuntime) -> Result<(), Fail> {
     }
     Ok(())
 }
+
+#[test]
+fn no_reply_blames_a_device_that_works(_rt: HostRuntime) {
+    rr_moderator::laws::none_fails_while_working::<MemoryDisk>();
+}
