@@ -6,6 +6,7 @@ use rr_cli::{Plan, act};
 use rr_disk::MemoryDisk;
 use rr_serve::{CountingReader, CountingWriter};
 use std::alloc::Global;
+use std::mem;
 use std::process::Abort;
 use std::test::Fail;
 
@@ -33,8 +34,10 @@ fn run_once(
     runs.before.clear();
     runs.before.extend_from_slice(disk.content())?;
     let mut reader = CountingReader::new(input);
-    let mut writer = CountingWriter::new(&mut runs.output);
-    Ok(act(alloc, plan, texts(ROSTER), disk, &mut reader, &mut writer))
+    let mut writer = CountingWriter::new(mem::replace(&mut runs.output, Vec::new(alloc)));
+    let ended = act(alloc, plan, texts(ROSTER), disk, &mut reader, &mut writer);
+    runs.output = writer.into_inner();
+    Ok(ended)
 }
 
 /// Runs it again where it was refused memory before anything was done, which must leave the disk as it was.
