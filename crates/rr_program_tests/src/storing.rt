@@ -1,7 +1,7 @@
 //! The store by itself: what it accepts and keeps, and what it tells of its tables.
 use crate::kits::formatted;
 use rr_code::read_record;
-use rr_disk::{Disk, FaultyDisk};
+use rr_disk::Disk;
 use rr_store::{Fault, Store, open};
 use std::alloc::Global;
 use std::process::Abort;
@@ -61,25 +61,5 @@ fn keeps_what_it_accepted(rt: HostRuntime) -> Result<(), Fail> {
     expect_tables(&rt, &store);
     let again = opened(alloc, store.into_disk())?;
     expect_tables(&rt, &again);
-    Ok(())
-}
-
-#[test]
-fn refuses_all_once_the_device_failed(rt: HostRuntime) -> Result<(), Fail> {
-    let alloc = rt.alloc();
-    // An opening makes a sync and eleven reads: the root, a length and a text each, and a slot of each part's.
-    let mut store = opened(alloc, FaultyDisk::after(formatted(alloc)?, 12))?;
-    assert_eq!(rt;
-        commit(&mut store, 0, b"t1 open ann bob"),
-        Err(Fault::DeviceFailed)
-    );
-    assert!(rt; store.is_broken());
-    assert_eq!(rt;
-        commit(&mut store, 0, b"t1 open ann bob"),
-        Err(Fault::OpenAgain)
-    );
-    assert_eq!(rt; store.count(), Err(Fault::OpenAgain));
-    assert_eq!(rt; store.last(), Err(Fault::OpenAgain));
-    assert_eq!(rt; stamp(&store, b"t1 pass ann"), Err(Fault::OpenAgain));
     Ok(())
 }
