@@ -1,18 +1,15 @@
 /*
  * Refuses one request for memory of a program, by LD_PRELOAD.
  *
- * The requests are counted from the program's first request of exactly START bytes, by which a test says that it
- * begins, or from its start where COUNT_FROM_START is set; the one of the number in REFUSED_REQUEST is refused, and no
- * other. At the program's end the file named in REFUSAL_REPORT gets a line: "refused", or "unreached" where the program
- * made fewer requests.
+ * The requests are counted from the program's start; the one of the number in REFUSED_REQUEST is refused, and no other. At
+ * the program's end the file named in REFUSAL_REPORT gets a line: "refused", or "unreached" where the program made fewer
+ * requests.
  */
 #define _GNU_SOURCE
 #include <dlfcn.h>
 #include <errno.h>
 #include <stdio.h>
 #include <stdlib.h>
-
-enum { START = 1000003 };
 
 static void *(*real_malloc)(size_t);
 static void *(*real_calloc)(size_t, size_t);
@@ -32,7 +29,7 @@ __attribute__((constructor)) static void begin(void) {
     real_aligned_alloc = dlsym(RTLD_NEXT, "aligned_alloc");
     const char *number = getenv("REFUSED_REQUEST");
     if (number != NULL) wanted = atol(number);
-    if (getenv("COUNT_FROM_START") != NULL) counted = 0;
+    counted = 0;
 }
 
 __attribute__((destructor)) static void end(void) {
@@ -44,12 +41,9 @@ __attribute__((destructor)) static void end(void) {
     fclose(report);
 }
 
-/* Whether this request, of so many bytes, is the one to refuse. */
-static int refuses(size_t size) {
-    if (counted < 0) {
-        if (size == START) counted = 0;
-        return 0;
-    }
+/* Whether this request is the one to refuse. */
+static int refuses(void) {
+    if (counted < 0) return 0;
     counted += 1;
     if (counted != wanted) return 0;
     refused = 1;
@@ -59,7 +53,7 @@ static int refuses(size_t size) {
 
 void *malloc(size_t size) {
     if (real_malloc == NULL) real_malloc = dlsym(RTLD_NEXT, "malloc");
-    return refuses(size) ? NULL : real_malloc(size);
+    return refuses() ? NULL : real_malloc(size);
 }
 
 void *calloc(size_t items, size_t size) {
@@ -71,20 +65,20 @@ void *calloc(size_t items, size_t size) {
         real_calloc = dlsym(RTLD_NEXT, "calloc");
         searching = 0;
     }
-    return refuses(items * size) ? NULL : real_calloc(items, size);
+    return refuses() ? NULL : real_calloc(items, size);
 }
 
 void *realloc(void *old, size_t size) {
     if (real_realloc == NULL) real_realloc = dlsym(RTLD_NEXT, "realloc");
-    return refuses(size) ? NULL : real_realloc(old, size);
+    return refuses() ? NULL : real_realloc(old, size);
 }
 
 int posix_memalign(void **place, size_t alignment, size_t size) {
     if (real_posix_memalign == NULL) real_posix_memalign = dlsym(RTLD_NEXT, "posix_memalign");
-    return refuses(size) ? ENOMEM : real_posix_memalign(place, alignment, size);
+    return refuses() ? ENOMEM : real_posix_memalign(place, alignment, size);
 }
 
 void *aligned_alloc(size_t alignment, size_t size) {
     if (real_aligned_alloc == NULL) real_aligned_alloc = dlsym(RTLD_NEXT, "aligned_alloc");
-    return refuses(size) ? NULL : real_aligned_alloc(alignment, size);
+    return refuses() ? NULL : real_aligned_alloc(alignment, size);
 }

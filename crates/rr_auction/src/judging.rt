@@ -16,6 +16,14 @@ use rr_market::par_cell;
 use rr_position::Position;
 use rr_roster::Roster;
 
+// A seat's bid on a private.
+#[derive(Clone, Copy)]
+struct Bid {
+    seat: Seat,
+    private: Private,
+    amount: u64,
+}
+
 /// Whether the auction takes the command, at a table of this position.
 ///
 /// # Errors
@@ -53,7 +61,14 @@ fn judge_by(
             seat,
             private,
             amount,
-        } => judge_bid(roster, books, bidding, *seat, *private, *amount),
+        } => {
+            let bid = Bid {
+                seat: *seat,
+                private: *private,
+                amount: *amount,
+            };
+            judge_bid(roster, books, bidding, bid)
+        }
         Act::Pass { seat } => judge_pass(roster, books, bidding, *seat),
         Act::Par { seat, corp, price } => judge_par(chart, bidding, *seat, *corp, *price),
         _ => Err(Fault::WrongStep),
@@ -88,28 +103,21 @@ fn judge_purchase(
     Ok(())
 }
 
-// Whether the seat may bid the amount on the private.
-fn judge_bid(
-    roster: &Roster,
-    books: &Books,
-    bidding: &Bidding,
-    seat: Seat,
-    private: Private,
-    amount: u64,
-) -> Result<(), Fault>
+// Whether the bid is taken.
+fn judge_bid(roster: &Roster, books: &Books, bidding: &Bidding, bid: Bid) -> Result<(), Fault>
     ensures { MatchResult result
-        (λ _. bid_verdict roster.now (cash_of books.now) (holder_in books.now) bidding.now seat private amount ≡ None)
-        (λ fault. bid_verdict roster.now (cash_of books.now) (holder_in books.now) bidding.now seat private amount ≡ Some fault) }
+        (λ _. bid_verdict roster.now (cash_of books.now) (holder_in books.now) bidding.now bid.seat bid.private bid.amount ≡ None)
+        (λ fault. bid_verdict roster.now (cash_of books.now) (holder_in books.now) bidding.now bid.seat bid.private bid.amount ≡ Some fault) }
 {
-    judge_pass(roster, books, bidding, seat)?;
-    if !is_open(books, bidding, private) {
+    judge_pass(roster, books, bidding, bid.seat)?;
+    if !is_open(books, bidding, bid.private) {
         return Err(Fault::NotForSale);
     }
-    let least = least_bid(bidding, private, roster);
-    if amount < least {
+    let least = least_bid(bidding, bid.private, roster);
+    if bid.amount < least {
         return Err(Fault::BidTooLow(least));
     }
-    judge_spending(books, bidding, seat, private, amount)?;
+    judge_spending(books, bidding, bid.seat, bid.private, bid.amount)?;
     Ok(())
 }
 

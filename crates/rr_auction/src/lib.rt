@@ -1,4 +1,6 @@
 //! The auction of the privates, with which a game begins.
+//!
+//! Stands on `rr_desk`. Its promise: `judge` is exactly the verdict over the book, `play` exactly the entries.
 #![tactic(auto)]
 
 mod due;

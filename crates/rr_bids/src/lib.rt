@@ -1,4 +1,6 @@
 //! How far the auction of a table has come, which stands for its book: the bids, the turns, and who owes a par.
+//!
+//! Stands on `rr_books`. Its promise: `IsBiddingOf`, kept by `follow` for any entry.
 #![tactic(auto)]
 
 mod bidding;

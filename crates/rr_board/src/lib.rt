@@ -1,4 +1,7 @@
 //! The board of a kit: its hexes, the homes of corporations and the blocked hexes, read from a text.
+//!
+//! Stands on `rr_tiles` and `rr_roster`. Its promise: `Board::read` gives what the text `Spells`, or the first wrong
+//! line.
 #![tactic(auto)]
 
 mod board;

@@ -1,13 +1,9 @@
 use crate::opening::{self, check, check_entries};
-use rr_bids::Bidding;
 use rr_books::{
     Cell, Cert, Corp, Entry, Fault, Kind, Marker, Money, Party, Place, Private, Seat, ShareNumber,
     Train,
 };
-use rr_desk::{Desk, Entries, Position, give_lowest_share, left_of, lowest_share, pay_incomes};
-use rr_layout::Layout;
-use rr_market::Market;
-use rr_rounds::Rounds;
+use rr_desk::{Desk, Entries, give_lowest_share, left_of, lowest_share, pay_incomes};
 use std::process::Abort;
 
 const A: Seat = Seat(0);
@@ -188,22 +184,6 @@ fn the_market_and_the_rounds_follow(rt: HostRuntime) {
     let position = desk.position();
     check(&rt, "cell", position.market().cell(Corp::Prr), Some(cell));
     check(&rt, "stock round", position.rounds().is_under_way(), true);
-}
-
-#[test]
-fn a_position_is_made_of_its_views(rt: HostRuntime) {
-    let opened = opening::position(&rt, 3);
-    let books = *opened.books();
-    assert!(rt; books.payments() <= 3);
-    let position = Position::of_views(
-        books,
-        Bidding::open(),
-        Market::new(),
-        Rounds::new(),
-        Layout::new(),
-        3,
-    );
-    check(&rt, "players", position.books().players(), 3);
 }
 
 #[test]

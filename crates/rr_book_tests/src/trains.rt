@@ -1,18 +1,14 @@
 use crate::opening::{self, check, check_entries};
-use rr_bids::Bidding;
-use rr_books::{Books, Cert, Corp, Kind, Money, Place, Private, Seat, Train, TrainSource};
-use rr_desk::{Desk, Position};
-use rr_layout::Layout;
-use rr_market::Market;
-use rr_rounds::Rounds;
+use rr_books::{Books, Cert, Corp, Entry, Kind, Money, Place, Private, Seat, Train, TrainSource};
+use rr_desk::Desk;
 use rr_trains::laws::{
     cheapest_leads, phase_is_the_greatest_sold, worked_diesel, worked_first_five,
     worked_first_four, worked_tie,
 };
 use rr_trains::{
     TrainOnSale, cheapest, first_train, give_lowest_train, has_train_at, is_on_sale,
-    is_over_train_limit, is_sold, is_traded_in, lowest_train, phase, price, rounds_in_set,
-    sells_privates, trade_price, train_limit, trains_at, trains_held,
+    is_over_train_limit, is_traded_in, lowest_train, price, sells_privates, trade_price,
+    train_limit, trains_at, trains_held,
 };
 use std::process::Abort;
 
@@ -24,10 +20,17 @@ fn give(rt: &impl Abort, books: &mut Books, kind: Kind, number: u8, to: Place) {
         .expect(rt, "a train of the roster");
 }
 
-fn give_private(rt: &impl Abort, books: &mut Books, private: Private, to: Place) {
-    books
-        .give(Cert::Private(private), to)
-        .expect(rt, "a place of the table");
+fn move_train(rt: &impl Abort, desk: &mut Desk, train: Train, to: Place) {
+    assert!(rt; desk.books().has_train(train));
+    desk.push(Entry::Train { train, to }).expect(rt, "memory");
+}
+
+fn move_private(rt: &impl Abort, desk: &mut Desk, private: Private, to: Place) {
+    desk.push(Entry::Move {
+        cert: Cert::Private(private),
+        to,
+    })
+    .expect(rt, "memory");
 }
 
 /// The books of a table of two whose trains of these kinds have all been sold to the PRR.
@@ -41,30 +44,17 @@ fn table(rt: &(impl Abort + AllocGlobal), sold: &[Kind]) -> Books {
     books
 }
 
-/// Checks the entries of a corporation's first train of a kind, bought before from the offer where it is.
+/// Checks the entries of a corporation's first train of a kind, behind so many earlier ones.
 fn check_first(
     rt: &(impl Abort + AllocGlobal),
-    books: Books,
+    desk: &mut Desk,
     kind: Kind,
     corp: Corp,
-    bought: bool,
     wanted: &str,
 ) {
-    assert!(rt; books.payments() <= 1000);
-    let position = Position::of_views(
-        books,
-        Bidding::open(),
-        Market::new(),
-        Rounds::new(),
-        Layout::new(),
-        1000,
-    );
-    let mut desk = Desk::new(rt.alloc(), position);
-    if bought {
-        buy(rt, &mut desk, kind, corp);
-    }
-    bring_about(rt, &mut desk, kind, corp);
-    check_entries(rt, desk.entries().as_slice(), 0, wanted);
+    let earlier = desk.entries().as_slice().len();
+    bring_about(rt, desk, kind, corp);
+    check_entries(rt, desk.entries().as_slice(), earlier, wanted);
 }
 
 fn bring_about(rt: &impl Abort, desk: &mut Desk, kind: Kind, corp: Corp) {
@@ -76,19 +66,15 @@ fn buy(rt: &impl Abort, desk: &mut Desk, kind: Kind, corp: Corp) {
 }
 
 #[test]
-fn the_phase_is_the_greatest_kind_sold(rt: HostRuntime) {
-    let mut books = table(&rt, &[Kind::Two]);
-    check(&rt, "phase of the 2", phase(&books), Kind::Two);
-    assert!(rt; !is_sold(&books, Kind::Three));
-    give(&rt, &mut books, Kind::Four, 1, Place::Gone);
-    check(&rt, "phase of the 4", phase(&books), Kind::Four);
+fn six_trains_are_too_many(rt: HostRuntime) {
+    let books = table(&rt, &[Kind::Two]);
     assert!(rt; is_over_train_limit(&books, Corp::Prr));
+    assert!(rt; !is_over_train_limit(&books, Corp::Nyc));
 }
 
 #[test]
 fn what_the_phase_says(rt: HostRuntime) {
     check(&rt, "limit", train_limit(Kind::Four), 3);
-    check(&rt, "rounds", rounds_in_set(Kind::Four), 2);
     assert!(rt; sells_privates(Kind::Four));
 }
 
@@ -148,30 +134,44 @@ fn what_trains_cost(rt: HostRuntime) {
 
 #[test]
 fn the_first_four(rt: HostRuntime) {
-    let mut books = table(&rt, &[Kind::Two, Kind::Three]);
-    give(&rt, &mut books, Kind::Two, 1, Place::Gone);
-    give(&rt, &mut books, Kind::Two, 2, Place::Pool);
+    let mut desk = opening::desk(&rt);
+    for (number, place) in [
+        (1, Place::Gone),
+        (2, Place::Pool),
+        (3, Place::Corp(Corp::Prr)),
+    ] {
+        let train = Train {
+            kind: Kind::Two,
+            number,
+        };
+        move_train(&rt, &mut desk, train, place);
+    }
+    buy(&rt, &mut desk, Kind::Four, Corp::Erie);
+    check_entries(
+        &rt,
+        desk.entries().as_slice(),
+        3,
+        "[Train { train: Train { kind: Four, number: 1 }, to: Corp(Erie) }]",
+    );
     check_first(
         &rt,
-        books,
+        &mut desk,
         Kind::Four,
         Corp::Erie,
-        true,
-        "[Train { train: Train { kind: Four, number: 1 }, to: Corp(Erie) }, Train { train: Train { kind: Two, number: 2 }, to: Gone }, Train { train: Train { kind: Two, number: 3 }, to: Gone }, Train { train: Train { kind: Two, number: 4 }, to: Gone }, Train { train: Train { kind: Two, number: 5 }, to: Gone }, Train { train: Train { kind: Two, number: 6 }, to: Gone }]",
+        "[Train { train: Train { kind: Two, number: 2 }, to: Gone }, Train { train: Train { kind: Two, number: 3 }, to: Gone }, Train { train: Train { kind: Two, number: 4 }, to: Gone }, Train { train: Train { kind: Two, number: 5 }, to: Gone }, Train { train: Train { kind: Two, number: 6 }, to: Gone }]",
     );
 }
 
 #[test]
 fn the_first_five_is_the_first_train_of_the_bo(rt: HostRuntime) {
-    let mut books = table(&rt, &[]);
-    give_private(&rt, &mut books, Private::Mh, Place::Gone);
-    give_private(&rt, &mut books, Private::Bo, Place::Seat(Seat(1)));
+    let mut desk = opening::desk(&rt);
+    move_private(&rt, &mut desk, Private::Mh, Place::Gone);
+    move_private(&rt, &mut desk, Private::Bo, Place::Seat(Seat(1)));
     check_first(
         &rt,
-        books,
+        &mut desk,
         Kind::Five,
         Corp::Bo,
-        false,
         "[Move { cert: Private(Sv), to: Gone }, Move { cert: Private(Csl), to: Gone }, Move { cert: Private(Dh), to: Gone }, Move { cert: Private(Ca), to: Gone }, Move { cert: Private(Bo), to: Gone }]",
     );
 }

@@ -1,4 +1,6 @@
 //! The stock chart of a kit: its cells with their prices and zones, read from a text.
+//!
+//! Stands on `rr_words`. Its promise: `Chart::read` gives what the text `Spells`, or its `IsRefusal` by line and word.
 #![tactic(auto)]
 
 mod cell;

@@ -13,7 +13,7 @@ use Rattle.rr_store.specs.Fault.{CountsFailure, OnDevice}
 use Rattle.rr_store.specs.Files.{RefusesOpening}
 use Rattle.rr_store.specs.Formatting.{RefusesFormat}
 use Rattle.rr_store.specs.Holding.{Carries}
-use Rattle.rr_store.specs.World.{Follows, TableCommand}
+use Rattle.rr_store.specs.World.{Follows, TableRequest}
 use Rattle.rr_moderator.specs.declared.fault.Fault.{Fault}
 use Rattle.rr_moderator.specs.declared.fault.Fault.TheVariants.{OutOfMemory}
 use Rattle.rr_moderator.specs.declared.moderator.Moderator.{Moderator}
@@ -62,7 +62,7 @@ ending_of (Ok _) = Done
 ending_of (Err fault) = Faulted (number_of fault)
 
 -- Why the tables that are served are those of the file: it stands for them, on an honest disk that was synced and not
--- written, and that carries them; and of every disk they came of lawful commands, it was synced once and not written, and the
+-- written, and that carries them; and of every disk they came of lawful requests, it was synced once and not written, and the
 -- device hasn't failed.
 pub record Begins {D : Type 0} (Honest Works : D → Type 0) (state : D → DiskState) (past : D → List DiskState) (faults writes syncs : D → ℕ) (old : D) (begun : Moderator D) : Type 0 where
   pub honest : Honest (disk_under begun) → Honest old
@@ -73,7 +73,7 @@ pub record Begins {D : Type 0} (Honest Works : D → Type 0) (state : D → Disk
       (λ moments. OpenAllows (state old) moments (state (disk_under begun)) (Ok (texts, (held_of begun).tables)))
       × SpellsKit texts (held_of begun).kit × Carries state (store_of begun) texts
   pub lawful : (texts : KitTexts) × SpellsKit texts (held_of begun).kit
-      × (commands : List TableCommand) × Follows (held_of begun).kit [] commands (held_of begun).tables
+      × (requests : List TableRequest) × Follows (held_of begun).kit [] requests (held_of begun).tables
   pub whole : (held_of begun).broken ≡ false
   pub no_fault : faults (disk_under begun) ≡ faults old
   pub no_write : writes (disk_under begun) ≡ writes old
@@ -81,7 +81,7 @@ pub record Begins {D : Type 0} (Honest Works : D → Type 0) (state : D → Disk
 
 -- What `serve` does with a disk, a reader and a writer, and the status with which it ends: the file is opened, each line is
 -- answered so that what it comes to lasts, what is written are the replies to what is read, and whatever a stop leaves
--- stands for what was held then, or for that with the command pending then; it ends with 69 exactly where a read or a write
+-- stands for what was held then, or for that with the request pending then; it ends with 69 exactly where a read or a write
 -- failed; or the file is refused, the reader isn't read and the disk is synced once at most. A disk that works doesn't fail.
 pub data Serves {D : Type 0} (Honest Works : D → Type 0) (state : D → DiskState) (past : D → List DiskState) (faults writes syncs : D → ℕ) (old new : D)
     (reader_old reader_new : InputState) (writer_old writer_new : OutputState) : ℕ → Type 0 where

@@ -1,5 +1,5 @@
 -- Words are read as what they spell.
-use Rattle.std.proofs.Common.{◌≡◌, ℕ, ◌^◌, ◌<◌, List, ◌∷◌, Some, refl}
+use Rattle.std.proofs.Common.{◌≡◌, ℕ, ◌^◌, ◌<◌, List, ◌∷◌, Some, option_map, ap, refl}
 use Rattle.std.specs.Fmt.{decimal}
 use Rattle.rr_words.specs.Name.{IsTableName}
 use Rattle.rr_words.specs.Numeral.{number_of}
@@ -11,7 +11,10 @@ use Rattle.rr_roster.specs.declared.company.Private.TheVariants as P
 use Rattle.rr_roster.specs.Company.{corp_name, private_name}
 use Rattle.rr_code.specs.Company.{corp_of, private_of}
 use Rattle.rr_code.specs.Command.{IsCommand, source_word, spelling}
-use Rattle.rr_code.specs.Reading.{source_of, read_words, read_record_words}
+use Rattle.rr_turns.specs.declared.request.Request.{Request}
+use Rattle.rr_turns.specs.declared.request.Request.TheVariants.{Play, Back, Forget}
+use Rattle.rr_code.specs.Request.{IsRequest, request_words}
+use Rattle.rr_code.specs.Reading.{source_of, read_words, read_request_words, read_record_words}
 use Rattle.rr_code.specs.Query.{IsQuery, IsAccount, IsOwner, account_word, account_of, owner_word, owner_of, query_words, read_query_words}
 use Rattle.rr_code.specs.Line.{IsLine, line_words, read_line_words}
 use Rattle.rr_code.specs.declared.command.Command.{Command}
@@ -63,8 +66,21 @@ read-command (Sell player corp count) h = rw (h.0, corp_of-name corp, read-numbe
 read-command (Swap player source) h = rw (h, source_of-word source) refl
 read-command (Done player) h = rw h refl
 
-pub read-record : (table : List ℕ) (c : Command) → IsTableName table → IsCommand c → read_record_words (table ∷ spelling c) ≡ Some (table, c)
-read-record table c name command = rw (name, read-command c command) refl
+pub read-request : (r : Request Command) → IsRequest r → read_request_words (request_words r) ≡ Some r
+read-request (Play (Open players)) h = ap (option_map Play) (read-command (Open players) h)
+read-request (Play (BuyPrivate player)) h = ap (option_map Play) (read-command (BuyPrivate player) h)
+read-request (Play (Bid player private amount)) h = ap (option_map Play) (read-command (Bid player private amount) h)
+read-request (Play (Pass player)) h = ap (option_map Play) (read-command (Pass player) h)
+read-request (Play (Par player corp price)) h = ap (option_map Play) (read-command (Par player corp price) h)
+read-request (Play (BuyShare player corp source)) h = ap (option_map Play) (read-command (BuyShare player corp source) h)
+read-request (Play (Sell player corp count)) h = ap (option_map Play) (read-command (Sell player corp count) h)
+read-request (Play (Swap player source)) h = ap (option_map Play) (read-command (Swap player source) h)
+read-request (Play (Done player)) h = ap (option_map Play) (read-command (Done player) h)
+read-request (Back turn) h = ap (option_map Back) (read-number turn h)
+read-request (Forget turn) h = ap (option_map Forget) (read-number turn h)
+
+pub read-record : (table : List ℕ) (r : Request Command) → IsTableName table → IsRequest r → read_record_words (table ∷ request_words r) ≡ Some (table, r)
+read-record table r name request = rw (name, read-request r request) refl
 
 read-account : (account : Account) → IsAccount account → account_of (account_word account) ≡ Some account
 read-account A.Bank h = refl
@@ -117,6 +133,6 @@ read-line-query (Price table corp) h = rw (h, corp_of-name corp) refl
 read-line-query (Order table) h = rw h refl
 
 pub read-line : (line : Line) → IsLine line → read_line_words (line_words line) ≡ Some line
-read-line (L.Command stamp table command) h =
-    rw (read-number stamp h.0, read-record table command h.1 h.2) refl
+read-line (L.Request stamp table request) h =
+    rw (read-number stamp h.0, read-record table request h.1 h.2) refl
 read-line (L.Query query) h = read-line-query query h

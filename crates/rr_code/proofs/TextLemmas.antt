@@ -3,8 +3,10 @@ use Rattle.std.proofs.Common.{◌≡◌, ℕ, List, [], ◌∷◌, Option, Some,
 use Rattle.std.specs.Fmt.{decimal}
 use Rattle.rr_words.specs.Line.{words_of}
 use Rattle.rr_words.specs.Name.{IsTableName}
-use Rattle.rr_code.specs.Command.{IsCommand, IsReadAs, SpellsCommand, SpellsRecord, spelling, text}
-use Rattle.rr_code.specs.Reading.{read_words, read_record_words}
+use Rattle.rr_turns.specs.declared.request.Request.{Request}
+use Rattle.rr_code.specs.Command.{IsCommand, IsReadAs, SpellsCommand, spelling, text}
+use Rattle.rr_code.specs.Request.{IsRequest, SpellsRecord, request_text, request_words}
+use Rattle.rr_code.specs.Reading.{read_words, read_request_words, read_record_words}
 use Rattle.rr_code.specs.Line.{IsLine, SpellsLine, line_words, line_text, read_line_words}
 use Rattle.rr_code.specs.declared.fault.Fault.{Fault}
 use Rattle.rr_code.specs.declared.fault.Fault.TheVariants.{Malformed}
@@ -12,16 +14,16 @@ use Rattle.rr_code.specs.declared.command.Command.{Command}
 use Rattle.rr_code.specs.declared.line.Line.{Line}
 use Rattle.rr_code.specs.declared.line.Line.TheVariants as L
 use Rattle.rr_code.proofs.WordsLemmas.{words_of-line, line_of-words}
-use Rattle.rr_code.proofs.UnspacedLemmas.{table-unspaced, spelling-unspaced, spelling-some, line-unspaced, line-some}
-use Rattle.rr_code.proofs.ReadingLemmas.{read-command, read-record, read-line}
+use Rattle.rr_code.proofs.UnspacedLemmas.{table-unspaced, spelling-unspaced, spelling-some, request-unspaced, request-some, line-unspaced, line-some}
+use Rattle.rr_code.proofs.ReadingLemmas.{read-command, read-request, read-record, read-line}
 
 -- the words of a text are those that it was made of
 pub words_of-command : (bytes : List ℕ) (c : Command) → SpellsCommand bytes c → words_of bytes ≡ spelling c
 words_of-command bytes c h = rw h.spelled (words_of-line (spelling c) (spelling-some c) (spelling-unspaced c h.command))
 
-pub words_of-record : (bytes table : List ℕ) (c : Command) → SpellsRecord bytes table c → words_of bytes ≡ table ∷ spelling c
-words_of-record bytes table c h =
-    rw h.spelled (words_of-line (table ∷ spelling c) (omega arith) (rw (table-unspaced table h.name, spelling-unspaced c h.command) refl))
+pub words_of-record : (bytes table : List ℕ) (r : Request Command) → SpellsRecord bytes table r → words_of bytes ≡ table ∷ request_words r
+words_of-record bytes table r h =
+    rw h.spelled (words_of-line (table ∷ request_words r) (omega arith) (rw (table-unspaced table h.name, request-unspaced r h.request) refl))
 
 pub words_of-text : (bytes : List ℕ) (line : Line) → SpellsLine bytes line → words_of bytes ≡ line_words line
 words_of-text bytes line h = rw h.spelled (words_of-line (line_words line) (line-some line) (line-unspaced line h.is_line))
@@ -30,8 +32,12 @@ words_of-text bytes line h = rw h.spelled (words_of-line (line_words line) (line
 pub read_words-text : (bytes : List ℕ) (c : Command) → SpellsCommand bytes c → read_words (words_of bytes) ≡ Some c
 read_words-text bytes c h = rw (words_of-command bytes c h) (read-command c h.command)
 
-pub read_record_words-text : (bytes table : List ℕ) (c : Command) → SpellsRecord bytes table c → read_record_words (words_of bytes) ≡ Some (table, c)
-read_record_words-text bytes table c h = rw (words_of-record bytes table c h) (read-record table c h.name h.command)
+pub read_request_words-text : (bytes : List ℕ) (r : Request Command) → IsRequest r → bytes ≡ request_text r → read_request_words (words_of bytes) ≡ Some r
+read_request_words-text bytes r form same =
+    rw (same, words_of-line (request_words r) (request-some r) (request-unspaced r form)) (read-request r form)
+
+pub read_record_words-text : (bytes table : List ℕ) (r : Request Command) → SpellsRecord bytes table r → read_record_words (words_of bytes) ≡ Some (table, r)
+read_record_words-text bytes table r h = rw (words_of-record bytes table r h) (read-record table r h.name h.request)
 
 pub read_line_words-text : (bytes : List ℕ) (line : Line) → SpellsLine bytes line → read_line_words (words_of bytes) ≡ Some line
 read_line_words-text bytes line h = rw (words_of-text bytes line h) (read-line line h.is_line)
@@ -50,27 +56,27 @@ command-read bytes words read of exact found = record {
   only = command-only bytes words read of exact;
 }
 
-pub record-found : (bytes : List ℕ) (words : List (List ℕ)) (read : Option (List ℕ × Command)) → words ≡ words_of bytes → IfSome read (λ r. IsTableName r.0 × IsCommand r.1 × (words ≡ r.0 ∷ spelling r.1)) → MatchResult (ok_or read Malformed) (λ r. SpellsRecord bytes r.0 r.1) (λ fault. fault ≡ Malformed)
+pub record-found : (bytes : List ℕ) (words : List (List ℕ)) (read : Option (List ℕ × Request Command)) → words ≡ words_of bytes → IfSome read (λ r. IsTableName r.0 × IsRequest r.1 × (words ≡ r.0 ∷ request_words r.1)) → MatchResult (ok_or read Malformed) (λ r. SpellsRecord bytes r.0 r.1) (λ fault. fault ≡ Malformed)
 record-found bytes words None of found = refl
 record-found bytes words (Some r) of found =
-    record { name = found.0; command = found.1; spelled = line_of-words bytes (r.0 ∷ spelling r.1) (sym of ∙ found.2) }
+    record { name = found.0; request = found.1; spelled = line_of-words bytes (r.0 ∷ request_words r.1) (sym of ∙ found.2) }
 
-pub record-only : (bytes : List ℕ) (words : List (List ℕ)) (read : Option (List ℕ × Command)) → words ≡ words_of bytes → read ≡ read_record_words words → (table : List ℕ) (c : Command) → SpellsRecord bytes table c → ok_or read Malformed ≡ Ok (table, c)
-record-only bytes words read of exact table c h = rw (exact, of, read_record_words-text bytes table c h) refl
+pub record-only : (bytes : List ℕ) (words : List (List ℕ)) (read : Option (List ℕ × Request Command)) → words ≡ words_of bytes → read ≡ read_record_words words → (table : List ℕ) (r : Request Command) → SpellsRecord bytes table r → ok_or read Malformed ≡ Ok (table, r)
+record-only bytes words read of exact table r h = rw (exact, of, read_record_words-text bytes table r h) refl
 
 pub line-found : (bytes : List ℕ) (line : Line) → IsLine line → words_of bytes ≡ line_words line → SpellsLine bytes line
 line-found bytes line is_line words = record { is_line = is_line; spelled = line_of-words bytes (line_words line) words }
 
 -- what stands behind the stamp
-pub unstamped-some : (bytes first rest : List ℕ) (stamp : ℕ) (table : List ℕ) (c : Command) → SpellsLine bytes (L.Command stamp table c) → words_of bytes ≡ first ∷ words_of rest → SpellsRecord rest table c
-unstamped-some bytes first rest stamp table c h cut =
-    let words : words_of bytes ≡ decimal stamp ∷ table ∷ spelling c = words_of-text bytes (L.Command stamp table c) h in
-    let behind : words_of rest ≡ table ∷ spelling c = cc in
-    record { name = h.is_line.1; command = h.is_line.2; spelled = line_of-words rest (table ∷ spelling c) behind }
+pub unstamped-some : (bytes first rest : List ℕ) (stamp : ℕ) (table : List ℕ) (r : Request Command) → SpellsLine bytes (L.Request stamp table r) → words_of bytes ≡ first ∷ words_of rest → SpellsRecord rest table r
+unstamped-some bytes first rest stamp table r h cut =
+    let words : words_of bytes ≡ decimal stamp ∷ table ∷ request_words r = words_of-text bytes (L.Request stamp table r) h in
+    let behind : words_of rest ≡ table ∷ request_words r = cc in
+    record { name = h.is_line.1; request = h.is_line.2; spelled = line_of-words rest (table ∷ request_words r) behind }
 
-pub unstamped-none : (bytes first : List ℕ) (stamp : ℕ) (table : List ℕ) (c : Command) → SpellsLine bytes (L.Command stamp table c) → words_of bytes ≡ first ∷ [] → ⊥
-unstamped-none bytes first stamp table c h cut =
-    let words : words_of bytes ≡ decimal stamp ∷ table ∷ spelling c = words_of-text bytes (L.Command stamp table c) h in
+pub unstamped-none : (bytes first : List ℕ) (stamp : ℕ) (table : List ℕ) (r : Request Command) → SpellsLine bytes (L.Request stamp table r) → words_of bytes ≡ first ∷ [] → ⊥
+unstamped-none bytes first stamp table r h cut =
+    let words : words_of bytes ≡ decimal stamp ∷ table ∷ request_words r = words_of-text bytes (L.Request stamp table r) h in
     cc
 
 -- a text has one meaning
@@ -80,13 +86,19 @@ command-unique c d first second same =
     let again : read_words (words_of (text c)) ≡ Some d = read_words-text (text c) d (record { command = second; spelled = same }) in
     cc
 
-pub record-unique : (table other : List ℕ) (c d : Command) (bytes : List ℕ) → SpellsRecord bytes table c → SpellsRecord bytes other d → (table ≡ other) × (c ≡ d)
-record-unique table other c d bytes first second =
-    let read : read_record_words (words_of bytes) ≡ Some (table, c) = read_record_words-text bytes table c first in
-    let again : read_record_words (words_of bytes) ≡ Some (other, d) = read_record_words-text bytes other d second in
-    let same : Some (table, c) ≡ Some (other, d) = sym read ∙ again in
-    let record_of : Option (List ℕ × Command) → List ℕ × Command = λ r. unwrap_or r (table, c) in
-    (ap (λ r. (record_of r).0) same, ap (λ r. (record_of r).1) same)
+pub request-unique : (q r : Request Command) → IsRequest q → IsRequest r → request_text q ≡ request_text r → q ≡ r
+request-unique q r first second same =
+    let read : read_request_words (words_of (request_text q)) ≡ Some q = read_request_words-text (request_text q) q first refl in
+    let again : read_request_words (words_of (request_text q)) ≡ Some r = read_request_words-text (request_text q) r second same in
+    cc
+
+pub record-unique : (table other : List ℕ) (q r : Request Command) (bytes : List ℕ) → SpellsRecord bytes table q → SpellsRecord bytes other r → (table ≡ other) × (q ≡ r)
+record-unique table other q r bytes first second =
+    let read : read_record_words (words_of bytes) ≡ Some (table, q) = read_record_words-text bytes table q first in
+    let again : read_record_words (words_of bytes) ≡ Some (other, r) = read_record_words-text bytes other r second in
+    let same : Some (table, q) ≡ Some (other, r) = sym read ∙ again in
+    let record_of : Option (List ℕ × Request Command) → List ℕ × Request Command = λ o. unwrap_or o (table, q) in
+    (ap (λ o. (record_of o).0) same, ap (λ o. (record_of o).1) same)
 
 pub line-unique : (l m : Line) → IsLine l → IsLine m → line_text l ≡ line_text m → l ≡ m
 line-unique l m first second same =

@@ -15,6 +15,9 @@ use Rattle.rr_roster.specs.declared.company.Private.TheVariants as P
 use Rattle.rr_roster.specs.Company.{corp_name, private_name}
 use Rattle.rr_code.specs.Players.{ArePlayers}
 use Rattle.rr_code.specs.Command.{IsCommand, source_word, spelling}
+use Rattle.rr_turns.specs.declared.request.Request.{Request}
+use Rattle.rr_turns.specs.declared.request.Request.TheVariants.{Play, Back, Forget}
+use Rattle.rr_code.specs.Request.{IsRequest, request_words}
 use Rattle.rr_code.specs.Query.{IsQuery, IsAccount, IsOwner, account_word, owner_word, query_words}
 use Rattle.rr_code.specs.Line.{IsLine, line_words}
 use Rattle.rr_code.specs.declared.command.Command.{Command}
@@ -110,6 +113,16 @@ spelling-some (Sell player corp count) = lit≤ tt
 spelling-some (Swap player source) = lit≤ tt
 spelling-some (Done player) = lit≤ tt
 
+pub request-unspaced : (r : Request Command) → IsRequest r → are_unspaced (request_words r) ≡ true
+request-unspaced (Play c) h = spelling-unspaced c h
+request-unspaced (Back turn) h = rw (decimal-unspaced turn h) refl
+request-unspaced (Forget turn) h = rw (decimal-unspaced turn h) refl
+
+pub request-some : (r : Request Command) → 1 ≤ length (request_words r)
+request-some (Play c) = spelling-some c
+request-some (Back turn) = lit≤ tt
+request-some (Forget turn) = lit≤ tt
+
 account-unspaced : (account : Account) → IsAccount account → is_unspaced (account_word account) ≡ true
 account-unspaced A.Bank h = refl
 account-unspaced (A.Corp corp) h = corp-unspaced corp
@@ -133,8 +146,8 @@ query-unspaced (Price table corp) h = rw (table-unspaced table h, corp-unspaced 
 query-unspaced (Order table) h = rw (table-unspaced table h) refl
 
 pub line-unspaced : (line : Line) → IsLine line → are_unspaced (line_words line) ≡ true
-line-unspaced (L.Command stamp table command) h =
-    rw (decimal-unspaced stamp h.0, table-unspaced table h.1, spelling-unspaced command h.2) refl
+line-unspaced (L.Request stamp table request) h =
+    rw (decimal-unspaced stamp h.0, table-unspaced table h.1, request-unspaced request h.2) refl
 line-unspaced (L.Query query) h = query-unspaced query h
 
 query-some : (query : Query) → 1 ≤ length (query_words query)
@@ -151,5 +164,5 @@ query-some (Price table corp) = lit≤ tt
 query-some (Order table) = lit≤ tt
 
 pub line-some : (line : Line) → 1 ≤ length (line_words line)
-line-some (L.Command stamp table command) = omega arith
+line-some (L.Request stamp table request) = omega arith
 line-some (L.Query query) = query-some query

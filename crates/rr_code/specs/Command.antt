@@ -1,6 +1,6 @@
 -- The commands of a table, and the one text of each.
 use Rattle.std.specs.Prelude.{◌≡◌, ℕ, List, ◌^◌, ◌<◌, decimal, [], ◌∷◌, length, take, codes, Result, Ok, MatchResult}
-use Rattle.rr_words.specs.Name.{IsTableName, IsPlayerName}
+use Rattle.rr_words.specs.Name.{IsPlayerName}
 use Rattle.rr_words.specs.Line.{line_of}
 use Rattle.rr_roster.specs.Company.{corp_name, private_name}
 use Rattle.rr_code.specs.Players.{ArePlayers}
@@ -44,10 +44,6 @@ IsCommand (Done player) = IsPlayerName player
 abbrev pub text : Command → List ℕ
 text c = line_of (spelling c)
 
--- the text of a record: the table's name, one space, and the command's text
-abbrev pub record_text : List ℕ → Command → List ℕ
-record_text table c = line_of (table ∷ spelling c)
-
 -- the bytes are the command's text
 pub record SpellsCommand (bytes : List ℕ) (c : Command) : Type 0 where
   pub command : IsCommand c
@@ -57,12 +53,6 @@ pub record SpellsCommand (bytes : List ℕ) (c : Command) : Type 0 where
 pub record IsReadAs (bytes : List ℕ) (answer : Result Command Fault) : Type 0 where
   pub found : MatchResult answer (λ c. SpellsCommand bytes c) (λ fault. fault ≡ Malformed)
   pub only : (c : Command) → SpellsCommand bytes c → answer ≡ Ok c
-
--- the bytes are the text of a record of a table's command
-pub record SpellsRecord (bytes table : List ℕ) (c : Command) : Type 0 where
-  pub name : IsTableName table
-  pub command : IsCommand c
-  pub spelled : bytes ≡ record_text table c
 
 -- what was written stays, and more may follow
 abbrev pub Continues : List ℕ → List ℕ → Type 0

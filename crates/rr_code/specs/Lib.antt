@@ -3,6 +3,7 @@ pub mod Words
 pub mod Players
 pub mod Company
 pub mod Command
+pub mod Request
 pub mod Reading
 pub mod Query
 pub mod Line

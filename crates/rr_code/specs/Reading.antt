@@ -1,7 +1,9 @@
--- What the words of a command are read as, form by form.
+-- What the words of a request are read as, form by form.
 use Rattle.std.specs.Prelude.{ℕ, List, [], ◌∷◌, Option, Some, None, option_map, option_and_then, bytes_eq, codes, if◌then◌else◌}
 use Rattle.rr_words.specs.Name.{player_name_of, table_name_of}
 use Rattle.rr_words.specs.Numeral.{number_of}
+use Rattle.rr_turns.specs.declared.request.Request.{Request}
+use Rattle.rr_turns.specs.declared.request.Request.TheVariants.{Play, Back, Forget}
 use Rattle.rr_code.specs.Company.{corp_of, private_of}
 use Rattle.rr_code.specs.Players.{are_players}
 use Rattle.rr_code.specs.declared.stock.ShareSource.{ShareSource}
@@ -74,8 +76,25 @@ read_words (head ∷ rest) =
     if bytes_eq head (codes "done") then read_done rest else
     None
 
+-- behind `back` and `forget`: a number
+abbrev pub read_back : List (List ℕ) → Option (Request Command)
+read_back (turn ∷ []) = option_map Back (number_of turn)
+read_back _ = None
+
+abbrev pub read_forget : List (List ℕ) → Option (Request Command)
+read_forget (turn ∷ []) = option_map Forget (number_of turn)
+read_forget _ = None
+
+-- a request's words
+abbrev pub read_request_words : List (List ℕ) → Option (Request Command)
+read_request_words [] = None
+read_request_words (head ∷ rest) =
+    if bytes_eq head (codes "back") then read_back rest else
+    if bytes_eq head (codes "forget") then read_forget rest else
+    option_map Play (read_words (head ∷ rest))
+
 -- a record's words
-abbrev pub read_record_words : List (List ℕ) → Option (List ℕ × Command)
+abbrev pub read_record_words : List (List ℕ) → Option (List ℕ × Request Command)
 read_record_words [] = None
 read_record_words (table ∷ rest) =
-    option_and_then (λ name. option_map (λ c. (name, c)) (read_words rest)) (table_name_of table)
+    option_and_then (λ name. option_map (λ r. (name, r)) (read_request_words rest)) (table_name_of table)

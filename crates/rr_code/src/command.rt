@@ -1,11 +1,9 @@
-ghost use Rattle.std.specs.Prelude.{◌≡◌, ℕ, List, ◌∷◌, ◌++◌, codes, IfSome, MatchResult, OnOk, OnErr, IsOkUnless};
-ghost use Rattle.rr_code.specs.Command.{Continues, IsCommand, IsReadAs, SpellsCommand, SpellsRecord, spelling, text};
-ghost use Rattle.rr_code.specs.Reading.{read_words, read_open, read_record_words};
-ghost use Rattle.rr_words.specs.Name.{IsTableName};
+ghost use Rattle.std.specs.Prelude.{◌≡◌, ◌∷◌, ◌++◌, codes, IfSome, MatchResult, OnOk, OnErr, IsOkUnless};
+ghost use Rattle.rr_code.specs.Command.{Continues, IsCommand, IsReadAs, SpellsCommand, spelling, text};
+ghost use Rattle.rr_code.specs.Reading.{read_words, read_open};
 
 use crate::auction;
 use crate::fault::Fault;
-use crate::names::next_table;
 use crate::players::Players;
 use crate::stock::{self, ShareSource};
 use crate::words::Words;
@@ -13,7 +11,7 @@ use crate::writing::write_word;
 use rr_roster::{Corp, Private};
 use rr_words::Name;
 
-/// What a player or the keeper asks of a table. A number that a command's words spell has one to ten
+/// What a table is played with. A number that a command's words spell has one to ten
 /// digits, so it is below 10^10, and the first of several digits is not 0.
 #[derive(Clone, Copy, Debug, PartialEq, Eq)]
 pub enum Command {
@@ -85,6 +83,14 @@ impl Command {
         ensures found { IfSome result (λ c. IsCommand c × (words.old ≡ spelling c)) }
     {
         let head = words.next()?;
+        Command::named(head, words)
+    }
+
+    /// The command with this first word, and these behind it.
+    pub(crate) fn named(head: &[u8], words: &mut Words) -> Option<Command>
+        ensures exact { result ≡ read_words (head.now ∷ words.old) }
+        ensures found { IfSome result (λ c. IsCommand c × (head.now ∷ words.old ≡ spelling c)) }
+    {
         if head == b"open".as_slice() {
             return read_open(words);
         }
@@ -182,25 +188,4 @@ fn write_open(players: &Players, out: &mut Vec<u8>) -> Result<(), Fault>
         write_word(player.as_bytes(), out)?;
     }
     Ok(())
-}
-
-/// Reads a journal's record: the name of a table, and the words of a command.
-///
-/// # Errors
-/// `Malformed` where the bytes are no record's text.
-pub fn read_record(bytes: &[u8]) -> Result<(Name, Command), Fault>
-    ensures found { MatchResult result (λ r. SpellsRecord bytes.now r.0 r.1) (λ fault. fault ≡ Fault.Malformed) }
-    ensures only { (table : List ℕ) (c : Command) → SpellsRecord bytes.now table c → result ≡ Ok (table, c) }
-{
-    let mut words = Words::of(bytes);
-    record_from_words(&mut words).ok_or(Fault::Malformed)
-}
-
-pub(crate) fn record_from_words(words: &mut Words) -> Option<(Name, Command)>
-    ensures exact { result ≡ read_record_words words.old }
-    ensures found { IfSome result (λ r. IsTableName r.0 × IsCommand r.1 × (words.old ≡ r.0 ∷ spelling r.1)) }
-{
-    let table = next_table(words)?;
-    let command = Command::from_words(words)?;
-    Some((table, command))
 }

@@ -1,17 +1,20 @@
-//! What always holds of the texts of commands and lines. The functions do nothing: a caller's proof
+//! What always holds of the texts of commands, requests and lines. The functions do nothing: a caller's proof
 //! cites what they ensure.
 ghost use Rattle.std.specs.Prelude.{◌≡◌, List, ℕ, Result};
-ghost use Rattle.rr_code.specs.Command.{IsCommand, IsReadAs, SpellsCommand, SpellsRecord, text};
+ghost use Rattle.rr_code.specs.Command.{IsCommand, IsReadAs, SpellsCommand, text};
+ghost use Rattle.rr_code.specs.Request.{IsRequest, SpellsRecord, request_text};
+ghost use Rattle.rr_turns.specs.declared.request.Request.{Request};
 ghost use Rattle.rr_code.specs.Line.{IsLine, SpellsLine, line_text};
 ghost use Rattle.rr_code.specs.declared.command.Command.{Command};
 ghost use Rattle.rr_code.specs.declared.line.Line.{Line};
 ghost use Rattle.rr_code.specs.declared.fault.Fault.{Fault};
 
-/// A text spells at most one command, one record and one line.
+/// A text spells at most one command, one request, one record and one line.
 pub fn one_meaning()
     ensures command { (c d : Command) → IsCommand c → IsCommand d → text c ≡ text d → c ≡ d }
-    ensures record_table { (table other : List ℕ) (c d : Command) (bytes : List ℕ) → SpellsRecord bytes table c → SpellsRecord bytes other d → table ≡ other }
-    ensures record_command { (table other : List ℕ) (c d : Command) (bytes : List ℕ) → SpellsRecord bytes table c → SpellsRecord bytes other d → c ≡ d }
+    ensures request { (q r : Request Command) → IsRequest q → IsRequest r → request_text q ≡ request_text r → q ≡ r }
+    ensures record_table { (table other : List ℕ) (q r : Request Command) (bytes : List ℕ) → SpellsRecord bytes table q → SpellsRecord bytes other r → table ≡ other }
+    ensures record_request { (table other : List ℕ) (q r : Request Command) (bytes : List ℕ) → SpellsRecord bytes table q → SpellsRecord bytes other r → q ≡ r }
     ensures line { (l m : Line) → IsLine l → IsLine m → line_text l ≡ line_text m → l ≡ m }
 {}
 

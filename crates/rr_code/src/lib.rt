@@ -1,4 +1,7 @@
-//! The lines that a keeper of tables reads: one spelling for each command and each query.
+//! The lines that a keeper of tables reads: one spelling for each request and each query.
+//!
+//! Stands on `rr_words`, `rr_roster` and `rr_turns`. Its promise: `Line::read` and `read_record` read exactly what is
+//! spelled, one text a line (`laws::one_spelling`).
 #![tactic(auto)]
 
 mod auction;
@@ -10,13 +13,16 @@ mod line;
 mod names;
 mod players;
 mod query;
+mod request;
 mod stock;
 mod words;
 mod writing;
 
-pub use command::{Command, read_record};
+pub use command::Command;
 pub use fault::Fault;
 pub use line::{Line, unstamped};
 pub use players::Players;
 pub use query::{Account, Owner, Query};
+pub use request::{read_record, write_request};
+pub use rr_turns::Request;
 pub use stock::ShareSource;

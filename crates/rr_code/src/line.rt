@@ -1,23 +1,27 @@
 ghost use Rattle.std.specs.Prelude.{◌≡◌, ◌≤◌, ℕ, List, ◌∷◌, length, IfSome, MatchResult};
 ghost use Rattle.rr_code.specs.Line.{IsLine, SpellsLine, line_words, read_line_words};
-ghost use Rattle.rr_code.specs.Command.{SpellsRecord};
+ghost use Rattle.rr_code.specs.Request.{SpellsRecord};
+ghost use Rattle.rr_code.specs.declared.command.Command.{Command as Played};
+ghost use Rattle.rr_turns.specs.declared.request.Request.{Request as Asked};
 ghost use Rattle.rr_words.specs.Line.{is_space, words_of};
 ghost use Rattle.std.specs.List.{after_first};
 
-use crate::command::{Command, record_from_words};
+use crate::command::Command;
 use crate::fault::Fault;
 use crate::query::Query;
+use crate::request::record_from_words;
 use crate::words::Words;
+use rr_turns::Request;
 use rr_words::{Name, number, split_word};
 
 /// A line that a user sends.
 #[derive(Clone, Copy, Debug, PartialEq, Eq)]
 pub enum Line {
-    /// A command to a table, with the stamp by which it is told from the one before it.
-    Command {
+    /// What is asked of a table, with the stamp by which it is told from the request before it.
+    Request {
         stamp: u64,
         table: Name,
-        command: Command,
+        request: Request<Command>,
     },
     /// A question.
     Query(Query),
@@ -45,11 +49,11 @@ impl Line {
         let mut words = Words::of(line);
         match number(words.next()?) {
             Some(stamp) => {
-                let (table, command) = record_from_words(&mut words)?;
-                Some(Line::Command {
+                let (table, request) = record_from_words(&mut words)?;
+                Some(Line::Request {
                     stamp,
                     table,
-                    command,
+                    request,
                 })
             }
             None => {
@@ -60,9 +64,9 @@ impl Line {
     }
 }
 
-/// What stands behind a command's stamp, as it is journaled. A line of one word has nothing there.
+/// What stands behind a request's stamp, as it is journaled. A line of one word has nothing there.
 pub fn unstamped(line: &[u8]) -> &[u8]
-    ensures record { (stamp : ℕ) (table : List ℕ) (c : Command) → SpellsLine line.now (Line.Command stamp table c) → SpellsRecord result.now table c }
+    ensures record { (stamp : ℕ) (table : List ℕ) (r : Asked Played) → SpellsLine line.now (Line.Request stamp table r) → SpellsRecord result.now table r }
     ensures behind { result.now ≡ after_first is_space line.now }
     ensures shorter { length result.now ≤ length line.now }
 {

@@ -1,5 +1,8 @@
 //! The desk on which one command of a table is worked out: a working copy of the position, and the entries so far. With
 //! it the lowest share of a place, what the privates pay their owners, and who sits on whose left.
+//!
+//! Stands on `rr_position`. Its promise: `push` adds the entry and nothing else; `Takes` says what was done to every
+//! book.
 #![tactic(auto)]
 
 mod desk;

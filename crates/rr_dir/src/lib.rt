@@ -1,5 +1,7 @@
 //! The bytes of a store's directory, which says where its kit and its tables stand, and of the commands that a table
 //! keeps. Each value has one spelling.
+//!
+//! Stands on `rr_words`. Its promise: `Dir::read` and `Dir::write`, inverse of one another.
 #![tactic(auto)]
 
 mod cursor;

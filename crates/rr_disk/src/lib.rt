@@ -1,5 +1,8 @@
 //! The disk as a store sees it, with what a stop may leave of it, and three disks: one in memory, one that
 //! fails where it is told to, and a file.
+//!
+//! Stands on std alone. Its promise: the trait `Disk`, whose clauses say what each call does to the state, and so what
+//! a stop may leave.
 #![tactic(auto)]
 
 mod bytes;

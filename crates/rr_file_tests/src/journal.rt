@@ -184,6 +184,7 @@ fn parts_follow_one_another(rt: HostRuntime) -> Result<(), Fail> {
             next_slot: 0,
         };
         assert_eq!(&rt; part.next_gate(), gate);
+        assert_eq!(&rt; index.first_gate(), gate);
     }
     Ok(())
 }
@@ -234,6 +235,39 @@ fn scan_says_why_it_ended(rt: HostRuntime) -> Result<(), Fail> {
     check_scan(&rt, alloc, &mut disk, 6, RunEnd::Damaged, 1, 1)?;
     write(&mut disk, 12288 + 9, &[0, 0, 0x1f, 0xf4])?;
     check_scan(&rt, alloc, &mut disk, 6, RunEnd::Damaged, 1, 1)
+}
+
+// A part that has older records is written over once its slot 0 is shut.
+#[test]
+fn older_records_are_written_over(rt: HostRuntime) -> Result<(), Fail> {
+    let alloc = rt.alloc();
+    let mut disk = blank(alloc, 5, 1 << 16)?;
+    let mut buffer = make_buffer(alloc)?;
+    let mut part = first_part();
+    append(&mut disk, &mut part, &mut buffer, 1, b"one")?;
+    append(&mut disk, &mut part, &mut buffer, 2, b"two")?;
+    check_scan(&rt, alloc, &mut disk, 7, RunEnd::OtherNumber, 0, 0)?;
+    write(&mut disk, PartIndex::First.first_gate(), &[0])?;
+    check_scan(&rt, alloc, &mut disk, 7, RunEnd::Closed, 0, 0)?;
+    let mut part = first_part();
+    append(&mut disk, &mut part, &mut buffer, 7, b"seven")?;
+    check_scan(&rt, alloc, &mut disk, 7, RunEnd::Closed, 1, 1)
+}
+
+// Numbers go on up to the last that 64 bits have.
+#[test]
+fn great_numbers_are_counted(rt: HostRuntime) -> Result<(), Fail> {
+    let alloc = rt.alloc();
+    let mut disk = blank(alloc, 5, 1 << 16)?;
+    let mut buffer = make_buffer(alloc)?;
+    let mut part = first_part();
+    let first = u64::MAX - 255;
+    append(&mut disk, &mut part, &mut buffer, first, b"one")?;
+    append(&mut disk, &mut part, &mut buffer, first + 1, b"two")?;
+    let scanned = scan(alloc, &mut disk, PartIndex::First, first)?;
+    assert_eq!(rt; scanned.records.len(), 2);
+    assert_eq!(rt; scanned.end, RunEnd::Closed);
+    Ok(())
 }
 
 // Stops the append of this record after so many device calls, or within the next one.

@@ -1,4 +1,4 @@
-//! Tests of the disks, of the journal and of the keeper of a store's file.
+//! Tests of the disks, of the journal, of the keeper and of the parts of a store's file.
 #![tactic(auto)]
 
 #[cfg(test)]

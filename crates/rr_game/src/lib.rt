@@ -1,4 +1,7 @@
 //! The game of one table: the rules joined.
+//!
+//! Stands on the rules and the kit. Its promise: `Game::step` is refused exactly by `command_verdict`, and keeps
+//! `IsGameOf`.
 #![tactic(auto)]
 
 mod fault;

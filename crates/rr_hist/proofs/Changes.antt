@@ -3,12 +3,16 @@ use Rattle.std.proofs.Common.{◌≡◌, ℕ, ◌+◌, ◌<◌, List, [], ◌∷
 use Rattle.rr_kit.specs.declared.kit.Kit.{Kit}
 use Rattle.rr_code.specs.declared.command.Command.{Command}
 use Rattle.rr_game.specs.declared.game.Game.{Game}
+use Rattle.rr_turns.specs.declared.request.Request.{Request}
 use Rattle.rr_turns.specs.declared.request.Request.TheVariants.{Play}
-use Rattle.rr_turns.specs.Kept.{Kept}
+use Rattle.rr_turns.specs.Kept.{Kept, kept_after}
 use Rattle.rr_game.specs.Keeping.{IsGameOf}
 use Rattle.rr_hist.proofs.Plays.{goes_on}
-use Rattle.rr_hist.specs.Changing.{IsChangeBy}
+use Rattle.rr_hist.specs.declared.change.Change.{Change}
+use Rattle.rr_hist.specs.declared.table.Table.{Table}
+use Rattle.rr_hist.specs.Changing.{IsChangeBy, kept_with}
 use Rattle.rr_hist.specs.Playing.{IsPlayOf, ends_turn, refusal}
+use Rattle.rr_hist.specs.Tables.{IsPlayed, kept_in}
 
 take_all : {X : Type 0} (xs : List X) → take (length xs) xs ≡ xs
 take_all [] = refl
@@ -43,3 +47,13 @@ command_change kit old c added before after turns later n ended play same all ro
     let P : ℕ → Type 0 = λ m. IsPlayOf kit (old.commands ++ c ∷ []) after m in
     let Q : Command → Type 0 = λ d. IsChangeBy kit old (Play c) (record { stay = n; added = Some d; game = after; turns = later; floor = old.floor }) in
     subst Q (sym same) (played_by kit old c after later n all room stamp (subst P (sym sum) played))
+
+-- a table that has taken the change that a request makes of it
+pub made : (kit : Kit) (old new : Table) (request : Request Command) (change : Change) → IsChangeBy kit (kept_in old) request change
+    → kept_in new ≡ kept_with (kept_in old) change → new.game ≡ change.game → new.turns ≡ change.turns
+    → (kept_in new ≡ kept_after (ends_turn kit) (kept_in old) request) × IsPlayed kit new
+made kit old new request change by kept game turns =
+    let keeps : List Command = (kept_with (kept_in old) change).commands in
+    let counted : IsPlayOf kit keeps change.game new.turns = subst (λ (n : ℕ). IsPlayOf kit keeps change.game n) (sym turns) by.played in
+    let played : IsPlayOf kit keeps new.game new.turns = subst (λ (g : Game). IsPlayOf kit keeps g new.turns) (sym game) counted in
+    (kept ∙ by.kept, subst (λ (cs : List Command). IsPlayOf kit cs new.game new.turns) (sym (ap (λ (k : Kept Command). k.commands) kept)) played)

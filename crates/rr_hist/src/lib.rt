@@ -1,4 +1,7 @@
 //! A game's table that can be taken back to the end of an earlier turn.
+//!
+//! Stands on `rr_turns` and `rr_game`. Its promise: each request is refused exactly by `request_verdict`, and keeps
+//! `IsTableOf`.
 #![tactic(auto)]
 
 mod change;

@@ -1,5 +1,5 @@
 //! How a table stands.
-ghost use Rattle.std.specs.Prelude.{◌≡◌};
+ghost use Rattle.std.specs.Prelude.{◌≡◌, ◌≤◌};
 ghost use Rattle.rr_game.specs.Keeping.{IsGameOf};
 ghost use Rattle.rr_hist.specs.Playing.{ends_turn};
 ghost use Rattle.rr_hist.specs.Tables.{IsPlayed, kept_in};
@@ -29,7 +29,8 @@ impl Table {
 
     /// The stamp that the next request has to have.
     pub fn stamp(&self) -> u64
-        ensures { result ≡ (kept_in self.now).stamp }
+        ensures value { result ≡ (kept_in self.now).stamp }
+        ensures last { result ≤ 4000000000 }
     {
         self.stamp
     }

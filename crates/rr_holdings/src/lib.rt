@@ -1,4 +1,6 @@
 //! What a seat may hold and what it may sell, by what runs along with the book of a table, and the chart.
+//!
+//! Stands on `rr_position`. Its promise: `judge_sell` and `must_sell_first`, exactly the rules over the book.
 #![tactic(auto)]
 
 mod fault;

@@ -31,7 +31,7 @@ pub enum PartIndex {
 }
 
 impl PartIndex {
-    ghost use Rattle.std.specs.Prelude.{◌≡◌, ◌+◌, ◌≤◌, IfSome};
+    ghost use Rattle.std.specs.Prelude.{◌≡◌, ◌+◌, ◌*◌, ◌<◌, ◌≤◌, IfSome};
     ghost use Rattle.rr_journal.specs.Layout as layout;
 
     /// The part in which records go on where this one is used up.
@@ -45,6 +45,14 @@ impl PartIndex {
             PartIndex::Third => Some(PartIndex::Fourth),
             PartIndex::Fourth => None,
         }
+    }
+
+    /// The byte of the file at which the part's slot 0 begins: its gate. While that is shut the part has no records.
+    pub fn first_gate(self) -> u64
+        ensures place { result ≡ layout.gate_place self 0 }
+        ensures small { result < 4096 * 837 }
+    {
+        gate_place(self, 0)
     }
 }
 

@@ -27,6 +27,9 @@ impl Part {
     /// `HalfFull` where the part's slots don't suffice, or the bytes are more than two slots hold; then no device call
     /// was made. `Disk` where a device call failed: the record may be on the disk or not, and the part must be read
     /// again before anything is appended.
+    ///
+    /// The bytes are written before the gate. So where the next slot is open, as with an older record in it, a stop could
+    /// join them to that record: what is said of stops holds where the slot is shut, whatever a stop leaves.
     pub fn append<D: Disk>(
         &mut self,
         disk: &mut D,

@@ -17,7 +17,8 @@ use std::alloc::Global;
 pub enum RunEnd {
     /// The slot behind the last record is shut, or the part's slots are used up.
     Closed,
-    /// The slot behind the last record is open, and its number isn't the one expected.
+    /// The slot behind the last record is open, and its number isn't the one expected: an older record was left there.
+    /// The run ends as at a shut slot, but nothing may be appended there before that slot's gate is shut.
     OtherNumber,
     /// The slot behind the last record is open with the expected number, and its length is none that a record there may have.
     Damaged,
@@ -41,7 +42,8 @@ enum Found {
 }
 
 /// Reads the records of a part from its slot 0 on: those of the first number and one more each, up to the first slot
-/// where no such record begins. Slot 255 is never looked at. It writes nothing.
+/// where no such record begins. Slot 255 is never looked at. It writes nothing. A part has at most 255 records, so that
+/// their numbers are counted up to 2^64 - 1.
 ///
 /// `Disk` where a device call failed, as where the file ends within the part; `OutOfMemory` where the records don't fit.
 pub fn scan<D: Disk>(
@@ -50,7 +52,7 @@ pub fn scan<D: Disk>(
     index: PartIndex,
     first_number: u64,
 ) -> Result<Scanned, Fault>
-    requires { first_number < 2 ^ 63 }
+    requires { first_number + 255 < 2 ^ 64 }
 
     ensures found { IfOk result (λ scanned. D.Honest disk.new
         → Run (D.state disk.old).content index 0 first_number (lines scanned.records.items) scanned.end) }
@@ -60,6 +62,7 @@ pub fn scan<D: Disk>(
         → (others ≡ lines scanned.records.items) × (end ≡ scanned.end)) }
     ensures index { IfOk result (λ scanned. scanned.part.index ≡ index) }
     ensures next { IfOk result (λ scanned. scanned.part.next_slot ≡ slots_of (lines scanned.records.items)) }
+    ensures few { IfOk result (λ scanned. length scanned.records.items ≤ 255) }
 
     // On a disk at rest the part then keeps these records, and is ready for the next.
     ensures keeps { IfOk result (λ scanned. D.Honest disk.new → IsAtRest (D.state disk.new)

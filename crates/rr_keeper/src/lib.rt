@@ -2,6 +2,9 @@
 //!
 //! Pages have 4,096 bytes and numbers are big-endian. Page 0 is the root. The journal has four parts, used one after
 //! another: pages 2 to 257, 258 to 513, 580 to 835, and 836 to 1091, where the file ends. The texts begin with page 514.
+//!
+//! Stands on `rr_journal`. Its promise: `open` gives exactly what the file has (`IsStore`), or what it `Refuses`;
+//! `append` keeps it.
 #![tactic(auto)]
 
 mod device;

@@ -1,4 +1,6 @@
 //! The law that every table is sound, whatever commands it accepted.
+//!
+//! Stands on `rr_sound` and `rr_game`; nothing stands on it. Its promise: `sound`.
 #![tactic(auto)]
 
 ghost use Rattle.rr_laws.specs.Sound.{KitsNameCorporations, PlaysGoOn, TablesStaySound};

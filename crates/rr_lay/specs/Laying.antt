@@ -18,6 +18,7 @@ use Rattle.rr_layout.specs.Layout.{last_lay, lays}
 use Rattle.rr_network.specs.Network.{Net, face_on, net_of}
 use Rattle.rr_network.specs.Node.{same_node}
 use Rattle.rr_network.specs.Walk.{ReachesLink, Reached, reaches_link}
+use Rattle.rr_operations.specs.Phases.{phase}
 use Rattle.rr_lay.specs.declared.fault.Fault.{Fault}
 use Rattle.rr_lay.specs.declared.fault.Fault.TheVariants as F
 use Rattle.rr_lay.specs.Judging.{After, Needs}
@@ -25,7 +26,6 @@ use Rattle.rr_lay.specs.Phase.{is_open}
 use Rattle.rr_lay.specs.Position.{Position}
 use Rattle.rr_lay.specs.Costs.{cost_verdict, puts}
 use Rattle.rr_desk.specs.Effects.{Effect}
-use Rattle.rr_trains.specs.Phases.{phase}
 use Rattle.rr_lay.specs.Tiles.{faces_hexes, hexes_with, is_blocked, is_next_colour, laid_colour}
 
 -- the colour is open and the next one on the hex, a tile is left, and nothing blocks the hex

@@ -1,4 +1,7 @@
 //! The rules of laying tiles and of placing tokens: which ones a table's book takes, and what they add to it.
+//!
+//! Stands on `rr_network`, `rr_trains` and `rr_desk`. Its promise: `judge_lay` and `judge_station` answer exactly
+//! `IsLayVerdict` and `IsStationVerdict`, and playing `Takes` exactly the entries.
 #![tactic(auto)]
 
 mod colours;

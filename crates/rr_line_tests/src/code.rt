@@ -1,7 +1,7 @@
 mod lines;
 mod texts;
 
-use rr_code::{Command, Fault, Line};
+use rr_code::{Command, Fault, Line, Request, read_record, write_request};
 use rr_words::Name;
 use std::alloc::Global;
 use std::process::Abort;
@@ -24,6 +24,29 @@ fn check_line(rt: &impl Abort, text: &str, want: Line) {
 fn check_no_line(rt: &impl Abort, text: &str) {
     let refused = matches!(Line::read(text.as_bytes()), Err(Fault::Malformed));
     assert!(rt; refused, "{text}");
+}
+
+fn check_record(rt: &impl Abort, text: &str, want: Request<Command>) {
+    assert_eq!(rt;
+        read_record(text.as_bytes()),
+        Ok((table(rt), want)),
+        "{text}"
+    );
+}
+
+// The request is written so, behind what is written already.
+fn check_request_written(
+    rt: &impl Abort,
+    alloc: Global,
+    request: &Request<Command>,
+    text: &str,
+) -> Result<(), Fail> {
+    let mut written = Vec::new(alloc);
+    written.push(b'>')?;
+    write_request(request, &mut written)?;
+    let want = format!(in alloc; ">{text}")?;
+    assert!(rt; written.as_slice() == want.as_bytes(), "{text}");
+    Ok(())
 }
 
 fn check_no_command(rt: &impl Abort, text: &str) {

@@ -1,4 +1,7 @@
 //! The corporations' tokens on the stock chart: their prices and zones, how they move, and the operating order.
+//!
+//! Stands on `rr_chart` and `rr_books`. Its promise: `IsMarketOf`, kept by `read` for any entry, and the moves of a
+//! token by the book.
 #![tactic(auto)]
 
 mod arrivals;

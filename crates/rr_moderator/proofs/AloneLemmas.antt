@@ -5,6 +5,8 @@ use Rattle.indexmap.specs.IndexMap.{insert_entry}
 use Rattle.rr_kit.specs.declared.kit.Kit.{Kit}
 use Rattle.rr_code.specs.declared.command.Command.{Command}
 use Rattle.rr_code.specs.declared.command.Command.TheVariants.{Open}
+use Rattle.rr_turns.specs.declared.request.Request.{Request}
+use Rattle.rr_turns.specs.declared.request.Request.TheVariants.{Play}
 use Rattle.rr_code.specs.declared.query.Query.{Query}
 use Rattle.rr_code.specs.declared.query.Query.TheVariants as Q
 use Rattle.rr_code.specs.declared.line.Line.{Line}
@@ -58,10 +60,10 @@ opening_step true room few = refl
 opening_step false true few = absurd (few refl)
 opening_step false false few = refl
 
-uncounted : (kit : Kit) (t : Option TableState) (n stamp : ℕ) (c : Command) → (world_verdict kit t n stamp c ≡ Some T.TooManyTables → ⊥)
+uncounted : (kit : Kit) (t : Option TableState) (n stamp : ℕ) (c : Request Command) → (world_verdict kit t n stamp c ≡ Some T.TooManyTables → ⊥)
     → world_verdict kit t n stamp c ≡ world_verdict kit t 0 stamp c
-uncounted kit (Some t) n stamp (Open players) few = refl
-uncounted kit None n stamp (Open players) few = opening_step _ _ few
+uncounted kit (Some t) n stamp (Play (Open players)) few = refl
+uncounted kit None n stamp (Play (Open players)) few = opening_step _ _ few
 uncounted kit t n stamp c few = refl
 
 -- what a line that names a table comes to, from the table alone
@@ -77,12 +79,12 @@ named_alone name (Some t) = let empty : Option TableState = None in ap (λ c. co
 abbrev Outcome : Type 0
 Outcome = List ℕ × Option TableState
 
-abbrev command_alone : List ℕ → Option TableState → Command → Option store.Fault → Outcome
-command_alone name t c None = (accepted_text name (state_after t c).stamp, Some (state_after t c))
-command_alone name t c (Some fault) = (refusal_of (of_store fault), t)
+abbrev request_alone : Kit → List ℕ → Option TableState → Request Command → Option store.Fault → Outcome
+request_alone kit name t c None = (accepted_text name (state_after kit t c).stamp, Some (state_after kit t c))
+request_alone kit name t c (Some fault) = (refusal_of (of_store fault), t)
 
 abbrev line_alone : Kit → List ℕ → Option TableState → Line → Outcome
-line_alone kit name t (L.Command stamp table c) = command_alone name t c (world_verdict kit t 0 stamp c)
+line_alone kit name t (L.Request stamp table c) = request_alone kit name t c (world_verdict kit t 0 stamp c)
 line_alone kit name t (L.Query query) = (query_text kit (alone_with name t) query, t)
 
 abbrev ReplyAlone : Kit → List ℕ → Option TableState → List ℕ → Line → List ℕ → Option TableState → Type 0
@@ -125,16 +127,16 @@ query_alone kit tables name (Q.Privates table of) about = ap reply_of (ask_alone
 abbrev Same : Held → Held → List ℕ → Outcome → List ℕ → Type 0
 Same old new name alone reply = (reply ≡ alone.0) × (table_named new.tables name ≡ alone.1) × (new.kit ≡ old.kit)
 
--- a command that names the table
-takes_alone : (old new : Held) (stamp : ℕ) (name : List ℕ) (c : Command) {result : Result ℕ store.Fault} → Takes old stamp name c new result
+-- a request that names the table
+takes_alone : (old new : Held) (stamp : ℕ) (name : List ℕ) (c : Request Command) {result : Result ℕ store.Fault} → Takes old stamp name c new result
     → ¬ IsDisturbed (reply_to (text_of name result))
-    → Same old new name (command_alone name (table_named old.tables name) c (world_verdict old.kit (table_named old.tables name) 0 stamp c)) (reply_to (text_of name result))
+    → Same old new name (request_alone old.kit name (table_named old.tables name) c (world_verdict old.kit (table_named old.tables name) 0 stamp c)) (reply_to (text_of name result))
 takes_alone old new stamp name c (Accepted whole lawful after) calm =
     let t = table_named old.tables name in
     let few : world_verdict old.kit t (length old.tables) stamp c ≡ Some T.TooManyTables → ⊥ = λ e. let none = lawful in cc in
     let v = sym (uncounted old.kit t (length old.tables) stamp c few) ∙ lawful in (
-      ap (λ o. (command_alone name t c o).0) (sym v),
-      ap (λ h. table_named h.tables name) after ∙ named_after old.tables name (state_after t c) ∙ ap (λ o. (command_alone name t c o).1) (sym v),
+      ap (λ o. (request_alone old.kit name t c o).0) (sym v),
+      ap (λ h. table_named h.tables name) after ∙ named_after old.tables name (state_after old.kit t c) ∙ ap (λ o. (request_alone old.kit name t c o).1) (sym v),
       ap (λ h. h.kit) after,
     )
 takes_alone old new stamp name c (Refused fault whole refused same) calm =
@@ -142,8 +144,8 @@ takes_alone old new stamp name c (Refused fault whole refused same) calm =
     let few : world_verdict old.kit t (length old.tables) stamp c ≡ Some T.TooManyTables → ⊥ =
     λ e. calm (F.TooManyTables, refl, ap (λ (f : store.Fault). refusal_of (of_store f)) (some_same fault T.TooManyTables (sym refused ∙ e))) in
     let v = sym (uncounted old.kit t (length old.tables) stamp c few) ∙ refused in (
-      ap (λ o. (command_alone name t c o).0) (sym v),
-      ap (λ h. table_named h.tables name) same ∙ ap (λ o. (command_alone name t c o).1) (sym v),
+      ap (λ o. (request_alone old.kit name t c o).0) (sym v),
+      ap (λ h. table_named h.tables name) same ∙ ap (λ o. (request_alone old.kit name t c o).1) (sym v),
       ap (λ h. h.kit) same,
     )
 takes_alone old new stamp name c (NoRoom fault whole lawful (inl full) same) calm = absurd (calm (of_store fault, ap (λ (f : store.Fault). disturbs (of_store f)) full, refl))
@@ -153,11 +155,11 @@ takes_alone old new stamp name c (Again broken same) calm = absurd (calm (F.Open
 
 meets_alone : (old new : Held) (name : List ℕ) (l : Line) (outcome : Result (List ℕ) Fault) → line_table l ≡ Some name → Meets old l new outcome
     → ¬ IsDisturbed (reply_to outcome) → Same old new name (line_alone old.kit name (table_named old.tables name) l) (reply_to outcome)
-meets_alone old new name (L.Command stamp table c) outcome about meets calm =
+meets_alone old new name (L.Request stamp table c) outcome about meets calm =
     let named = some_same table name about in
     let takes = subst (λ k. Takes old stamp k c new meets.0) named meets.1 in
     let told : outcome ≡ text_of name meets.0 = subst (λ k. outcome ≡ text_of k meets.0) named meets.2 in
-    subst (λ (o : Result (List ℕ) Fault). Same old new name (command_alone name (table_named old.tables name) c (world_verdict old.kit (table_named old.tables name) 0 stamp c)) (reply_to o)) (sym told)
+    subst (λ (o : Result (List ℕ) Fault). Same old new name (request_alone old.kit name (table_named old.tables name) c (world_verdict old.kit (table_named old.tables name) 0 stamp c)) (reply_to o)) (sym told)
     (takes_alone old new stamp name c takes (subst (λ (o : Result (List ℕ) Fault). ¬ IsDisturbed (reply_to o)) told calm))
 meets_alone old new name (L.Query query) outcome about meets calm =
     (meets.1 ∙ query_alone old.kit old.tables name query about, ap (λ h. table_named h.tables name) meets.0, ap (λ h. h.kit) meets.0)
@@ -182,10 +184,10 @@ Unmoved old new name = (table_named new.tables name ≡ table_named old.tables n
 unmoved : (old new : Held) (name : List ℕ) → new ≡ old → Unmoved old new name
 unmoved old new name same = (ap (λ h. table_named h.tables name) same, ap (λ h. h.kit) same)
 
-takes_other : (old new : Held) (stamp : ℕ) (name table : List ℕ) (c : Command) {result : Result ℕ store.Fault} → bytes_eq name table ≡ false
+takes_other : (old new : Held) (stamp : ℕ) (name table : List ℕ) (c : Request Command) {result : Result ℕ store.Fault} → bytes_eq name table ≡ false
     → Takes old stamp table c new result → Unmoved old new name
 takes_other old new stamp name table c apart (Accepted whole lawful after) =
-    (ap (λ h. table_named h.tables name) after ∙ named_other old.tables table name (state_after (table_named old.tables table) c) apart, ap (λ h. h.kit) after)
+    (ap (λ h. table_named h.tables name) after ∙ named_other old.tables table name (state_after old.kit (table_named old.tables table) c) apart, ap (λ h. h.kit) after)
 takes_other old new stamp name table c apart (Refused fault whole refused same) = unmoved old new name same
 takes_other old new stamp name table c apart (NoRoom fault whole lawful why same) = unmoved old new name same
 takes_other old new stamp name table c apart (Again broken same) = unmoved old new name same
@@ -197,8 +199,8 @@ apart_from false name table is apart = is
 
 meets_other : (old new : Held) (line name : List ℕ) (l : Line) (outcome : Result (List ℕ) Fault) → SpellsLine line l → ¬ Names name line
     → Meets old l new outcome → Unmoved old new name
-meets_other old new line name (L.Command stamp table c) outcome spells none meets =
-    takes_other old new stamp name table c (apart_from (bytes_eq name table) name table refl (λ e. none (L.Command stamp table c, spells, ap Some (sym e)))) meets.1
+meets_other old new line name (L.Request stamp table c) outcome spells none meets =
+    takes_other old new stamp name table c (apart_from (bytes_eq name table) name table refl (λ e. none (L.Request stamp table c, spells, ap Some (sym e)))) meets.1
 meets_other old new line name (L.Query query) outcome spells none meets = unmoved old new name meets.0
 
 responds_other : (old new : Held) (line name : List ℕ) {outcome : Result (List ℕ) Fault} → ¬ Names name line → Responds old line new outcome → Unmoved old new name

@@ -5,6 +5,7 @@ use Rattle.rr_disk.specs.Moments.{LeavesOnly}
 use Rattle.rr_disk.proofs.MomentLemmas.{started}
 use Rattle.rr_kit.specs.Kits.{KitTexts}
 use Rattle.rr_code.specs.declared.command.Command.{Command}
+use Rattle.rr_turns.specs.declared.request.Request.{Request}
 use Rattle.rr_code.specs.declared.line.Line.{Line}
 use Rattle.rr_code.specs.declared.line.Line.TheVariants as L
 use Rattle.rr_code.specs.Line.{SpellsLine}
@@ -15,7 +16,7 @@ use Rattle.rr_store.specs.Allowing.{BeforeOrAfter}
 use Rattle.rr_store.specs.Committing.{Commits, Spares}
 use Rattle.rr_store.specs.Held.{Held, Takes, Accepted, Refused, NoRoom, Fails, Again, stamp_after, with_tables}
 use Rattle.rr_store.specs.Holding.{Carries, IsFull, IsUnchanged, disk_of, held_of}
-use Rattle.rr_store.specs.World.{TableCommand, for_table, table_named, verdict_in, world_after}
+use Rattle.rr_store.specs.World.{TableRequest, for_table, table_named, verdict_in, world_after}
 use Rattle.rr_store.proofs.Standing.{carried_keeps, commit_leaves, same_unchanged}
 use Rattle.rr_store.proofs.Verdicts.{no_failure}
 use Rattle.rr_moderator.specs.declared.fault.Fault.TheVariants as F
@@ -35,20 +36,20 @@ unchanged_by : {D : Type 0} (old new : Store D) (fault : store.Fault) → (fault
 unchanged_by old new T.DeviceFailed other h = absurd (other refl)
 unchanged_by old new _ other h = h
 
--- a command of a line, as one line gives it
-abbrev named : Line → Option (ℕ × TableCommand)
-named (L.Command stamp name c) = Some (stamp, for_table name c)
+-- a request of a line, as one line gives it
+abbrev named : Line → Option (ℕ × TableRequest)
+named (L.Request stamp name c) = Some (stamp, for_table name c)
 named (L.Query query) = None
 
-same_some : (a b : ℕ × TableCommand) → Some a ≡ Some b → a ≡ b
+same_some : (a b : ℕ × TableRequest) → Some a ≡ Some b → a ≡ b
 same_some a b e = cc
 
-same_given : (line : List ℕ) (stamp : ℕ) (name : List ℕ) (c : Command) (held : Held) (other : TableCommand) (g : Gives held line other) → SpellsLine line (L.Command stamp name c)
+same_given : (line : List ℕ) (stamp : ℕ) (name : List ℕ) (c : Request Command) (held : Held) (other : TableRequest) (g : Gives held line other) → SpellsLine line (L.Request stamp name c)
     → (g.stamp ≡ stamp) × (other ≡ for_table name c)
 same_given line stamp name c held other g spells =
-    let lines = one_line line (L.Command g.stamp other.name other.command) (L.Command stamp name c) g.spelled spells in
-    let same = same_some (g.stamp, for_table other.name other.command) (stamp, for_table name c) (ap named lines) in
-    (ap (λ (x : ℕ × TableCommand). x.0) same, ap (λ (x : ℕ × TableCommand). x.1) same)
+    let lines = one_line line (L.Request g.stamp other.name other.request) (L.Request stamp name c) g.spelled spells in
+    let same = same_some (g.stamp, for_table other.name other.request) (stamp, for_table name c) (ap named lines) in
+    (ap (λ (x : ℕ × TableRequest). x.0) same, ap (λ (x : ℕ × TableRequest). x.1) same)
 
 module _ {D : Type 0} (Honest Works : D → Type 0) (state : D → DiskState) (past : D → List DiskState) (faults writes syncs : D → ℕ) (old new : Store D) (line reply : List ℕ) where
   abbrev pub Lasting : Type 0
@@ -64,7 +65,7 @@ module _ {D : Type 0} (Honest Works : D → Type 0) (state : D → DiskState) (p
   counts_none : tells_failure reply ≡ false → faults (disk_of new) ≡ faults (disk_of old) → CountsTold (faults (disk_of old)) (faults (disk_of new)) (tells_failure reply)
   counts_none calm same = subst (λ (b : Bool). CountsTold (faults (disk_of old)) (faults (disk_of new)) b) (sym calm) same
 
-  -- all is as it was, and the reply neither takes a command nor tells of a fault
+  -- all is as it was, and the reply neither takes a request nor tells of a fault
   lasts_unchanged : IsUnchanged old new → GoesOn → tells_failure reply ≡ false → tells_acceptance reply ≡ false
       → (tells_full reply ≡ true → HasNoPlace old line) → (HasNoPlace old line → (reply ≡ refusal_of F.HalfFull) ⊎ (reply ≡ refusal_of F.OutOfMemory)) → Lasting
   lasts_unchanged same goes_on calm refused full in_time =
@@ -73,8 +74,8 @@ module _ {D : Type 0} (Honest Works : D → Type 0) (state : D → DiskState) (p
         pends = tt;
         accepted = λ told. both_ways (tells_acceptance reply) told refused;
         honest = λ h. subst Honest same.disk h;
-        stops = λ h texts s. subst (λ (d : D). LeavesOnly (past (disk_of old)) (state (disk_of old)) (past d) (state d) (BeforeOrAfter texts (held_of old).tables None)) (sym same.disk)
-            (started (past (disk_of old)) (state (disk_of old)) (BeforeOrAfter texts (held_of old).tables None) (λ image is. inl (carried_keeps state old texts s image is)));
+        stops = λ h texts s. subst (λ (d : D). LeavesOnly (past (disk_of old)) (state (disk_of old)) (past d) (state d) (BeforeOrAfter texts (held_of old).kit (held_of old).tables None)) (sym same.disk)
+            (started (past (disk_of old)) (state (disk_of old)) (BeforeOrAfter texts (held_of old).kit (held_of old).tables None) (λ image is. inl (carried_keeps state old texts s image is)));
         carries = goes_on;
         spares = λ _ _. same;
         untouched = λ _. same;
@@ -88,14 +89,14 @@ module _ {D : Type 0} (Honest Works : D → Type 0) (state : D → DiskState) (p
         in_time = in_time;
       }
 
-  -- a line that gives no lawful command, and whose reply says nothing of it
+  -- a line that gives no lawful request, and whose reply says nothing of it
   pub lasts_unlawful : new ≡ old → SaysNeither reply → ¬ MayAppend (held_of old) line → Lasting
   lasts_unlawful same calm unlawful =
       lasts_unchanged (same_unchanged old new same) (λ h whole texts s. subst (λ (x : Store D). Carries state x texts) (sym same) s) calm.0 calm.2
-      (λ told. both_ways (tells_full reply) told calm.1) (λ none. absurd (unlawful (none.command, none.lawful)))
+      (λ told. both_ways (tells_full reply) told calm.1) (λ none. absurd (unlawful (none.asked, none.lawful)))
 
-  module _ (stamp : ℕ) (name : List ℕ) (c : Command) (short : length line ≤ 8000) (spells : SpellsLine line (L.Command stamp name c)) (whole : (held_of old).broken ≡ false) where
-    abbrev asked : TableCommand
+  module _ (stamp : ℕ) (name : List ℕ) (c : Request Command) (short : length line ≤ 8000) (spells : SpellsLine line (L.Request stamp name c)) (whole : (held_of old).broken ≡ false) where
+    abbrev asked : TableRequest
     asked = for_table name c
 
     abbrev Lawful : Type 0
@@ -105,14 +106,14 @@ module _ {D : Type 0} (Honest Works : D → Type 0) (state : D → DiskState) (p
     gives lawful = record { stamp = stamp; short = short; spelled = spells; whole = whole; lawful = lawful }
 
     -- what else the line gives is that
-    lawful_of : (other : TableCommand) → Gives (held_of old) line other → Lawful
+    lawful_of : (other : TableRequest) → Gives (held_of old) line other → Lawful
     lawful_of other g =
         let same = same_given line stamp name c (held_of old) other g spells in
-        subst (λ (x : TableCommand). verdict_in (held_of old).kit (held_of old).tables stamp x.name x.command ≡ None) same.1
-        (subst (λ (n : ℕ). verdict_in (held_of old).kit (held_of old).tables n other.name other.command ≡ None) same.0 g.lawful)
+        subst (λ (x : TableRequest). verdict_in (held_of old).kit (held_of old).tables stamp x.name x.request ≡ None) same.1
+        (subst (λ (n : ℕ). verdict_in (held_of old).kit (held_of old).tables n other.name other.request ≡ None) same.0 g.lawful)
 
     full_of : (none : HasNoPlace old line) → IsFull old name c
-    full_of none = subst (λ (x : TableCommand). IsFull old x.name x.command) (same_given line stamp name c (held_of old) none.command none.lawful spells).1 none.full
+    full_of none = subst (λ (x : TableRequest). IsFull old x.name x.request) (same_given line stamp name c (held_of old) none.asked none.lawful spells).1 none.full
 
     abbrev Committed : Result ℕ store.Fault → Type 0
     Committed taking = Commits Honest Works state past faults writes syncs old name stamp c new taking
@@ -121,15 +122,15 @@ module _ {D : Type 0} (Honest Works : D → Type 0) (state : D → DiskState) (p
     no_room taking not_full not_memory (inl is) = absurd (not_full is)
     no_room taking not_full not_memory (inr is) = absurd (not_memory is)
 
-    taken : (n : ℕ) → reply ≡ accepted_text name n → n ≡ stamp_after (held_of old).tables name c → Lawful → held_of new ≡ with_tables (held_of old) (world_after (held_of old).tables name c)
+    taken : (n : ℕ) → reply ≡ accepted_text name n → n ≡ stamp_after (held_of old).kit (held_of old).tables name c → Lawful → held_of new ≡ with_tables (held_of old) (world_after (held_of old).kit (held_of old).tables name c)
         → Committed (Ok n) → Lasting
     taken n told counted lawful held_is k =
         record {
           pending = Some asked;
           pends = gives lawful;
-          accepted = λ _. record { command = asked; pends = refl; held = held_is; told = told ∙ ap (accepted_text name) counted };
+          accepted = λ _. record { asked = asked; pends = refl; held = held_is; told = told ∙ ap (accepted_text name) counted };
           honest = k.honest;
-          stops = λ h texts s. commit_leaves texts (held_of old).tables stamp asked (Ok n) _ _ _ _ (k.allowed h texts s);
+          stops = λ h texts s. commit_leaves texts (held_of old).kit (held_of old).tables stamp asked (Ok n) _ _ _ _ (k.allowed h texts s);
           carries = k.carries;
           spares = λ refused _. both_ways (tells_acceptance reply) acceptance refused;
           untouched = λ unlawful. absurd (unlawful (asked, gives lawful));
@@ -153,7 +154,7 @@ module _ {D : Type 0} (Honest Works : D → Type 0) (state : D → DiskState) (p
           pends = gives lawful;
           accepted = λ is. both_ways (tells_acceptance reply) is (ap tells_acceptance told ∙ refusal_calm F.DeviceFailed);
           honest = k.honest;
-          stops = λ h texts s. commit_leaves texts (held_of old).tables stamp asked (Err T.DeviceFailed) _ _ _ _ (k.allowed h texts s);
+          stops = λ h texts s. commit_leaves texts (held_of old).kit (held_of old).tables stamp asked (Err T.DeviceFailed) _ _ _ _ (k.allowed h texts s);
           carries = k.carries;
           spares = λ _ calm. both_ways (tells_failure reply) (ap tells_failure told ∙ failure_told) calm;
           untouched = λ unlawful. absurd (unlawful (asked, gives lawful));
@@ -169,7 +170,7 @@ module _ {D : Type 0} (Honest Works : D → Type 0) (state : D → DiskState) (p
         }
 
     no_place : Lawful → IsFull old name c → HasNoPlace old line
-    no_place lawful full = record { command = asked; lawful = gives lawful; full = full }
+    no_place lawful full = record { asked = asked; lawful = gives lawful; full = full }
 
     -- there was no room in the file or in memory
     kept_out : (fault : store.Fault) → reply ≡ refusal_of (of_store fault) → Lawful → (fault ≡ T.HalfFull) ⊎ (fault ≡ T.OutOfMemory) → Committed (Err fault) → Lasting
@@ -191,14 +192,14 @@ module _ {D : Type 0} (Honest Works : D → Type 0) (state : D → DiskState) (p
         lasts_unchanged (unchanged_by old new fault (no_failure (held_of old).kit (held_of old).tables stamp name c fault verdict) k.spares) k.carries
         (ap tells_failure told ∙ calm.0) (ap tells_acceptance told ∙ calm.2)
         (λ full. both_ways (tells_full reply) full (ap tells_full told ∙ calm.1))
-        (λ none. let both : None ≡ Some fault = sym (lawful_of none.command none.lawful) ∙ verdict in absurd (cc both))
+        (λ none. let both : None ≡ Some fault = sym (lawful_of none.asked none.lawful) ∙ verdict in absurd (cc both))
 
     lasts_by : (taking : Result ℕ store.Fault) → reply ≡ reply_to (text_of name taking) → Takes (held_of old) stamp name c (held_of new) taking → Committed taking → Lasting
-    lasts_by taking told (Accepted was lawful held_is) k = taken (stamp_after (held_of old).tables name c) told refl lawful held_is k
+    lasts_by taking told (Accepted was lawful held_is) k = taken (stamp_after (held_of old).kit (held_of old).tables name c) told refl lawful held_is k
     lasts_by taking told (Refused fault was verdict held_is) k = ruled_out fault told verdict k
     lasts_by taking told (NoRoom fault was lawful why held_is) k = kept_out fault told lawful why k
     lasts_by taking told (Fails was lawful held_is) k = failed told lawful k
     lasts_by taking told (Again broken held_is) k = both_ways (held_of old).broken broken whole
 
-    pub command_lasts : (taking : Result ℕ store.Fault) → reply ≡ reply_to (text_of name taking) → Committed taking → Lasting
-    command_lasts taking told k = lasts_by taking told k.takes k
+    pub request_lasts : (taking : Result ℕ store.Fault) → reply ≡ reply_to (text_of name taking) → Committed taking → Lasting
+    request_lasts taking told k = lasts_by taking told k.takes k

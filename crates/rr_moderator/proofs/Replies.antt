@@ -60,6 +60,7 @@ refuses_at held name answer T.OpenAgain whole h = let both : true ≡ false = sy
 refuses_at held name answer (T.Kit fault) whole h = absurd h
 refuses_at held name answer (T.Game fault) whole h = absurd h
 refuses_at held name answer (T.StaleStamp stamp) whole h = absurd h
+refuses_at held name answer T.TurnNotKept whole h = absurd h
 refuses_at held name answer T.TooManyCommands whole h = absurd h
 refuses_at held name answer T.DeviceFailed whole h = absurd h
 refuses_at held name answer T.HalfFull whole h = absurd h

@@ -1,6 +1,7 @@
 -- What a moderator answers, from what its parts did.
 use Rattle.std.proofs.Common.{◌≡◌, ℕ, List, Option, None, Some, Result, Ok, Err, MatchResult, sym, ap, ◌∙◌}
 use Rattle.rr_code.specs.declared.command.Command.{Command}
+use Rattle.rr_turns.specs.declared.request.Request.{Request}
 use Rattle.rr_code.specs.declared.line.Line.{Line}
 use Rattle.rr_code.specs.declared.line.Line.TheVariants as L
 use Rattle.rr_code.specs.declared.query.Query.{Query}
@@ -27,6 +28,6 @@ queried answer (Err fault) reply h = reply_refused answer fault h
 pub one_line : (line : List ℕ) (l m : Line) → SpellsLine line l → SpellsLine line m → l ≡ m
 one_line line l m first second = line-unique l m first.is_line second.is_line (sym first.spelled ∙ second.spelled)
 
--- a query is no command
-pub no_query : (line : List ℕ) (query : Query) (stamp : ℕ) (name : List ℕ) (c : Command) → SpellsLine line (L.Query query) → SpellsLine line (L.Command stamp name c) → ⊥
-no_query line query stamp name c first second = absurd (cc (one_line line (L.Query query) (L.Command stamp name c) first second))
+-- a query is no request
+pub no_query : (line : List ℕ) (query : Query) (stamp : ℕ) (name : List ℕ) (c : Request Command) → SpellsLine line (L.Query query) → SpellsLine line (L.Request stamp name c) → ⊥
+no_query line query stamp name c first second = absurd (cc (one_line line (L.Query query) (L.Request stamp name c) first second))

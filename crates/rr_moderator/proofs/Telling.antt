@@ -6,15 +6,19 @@ use Rattle.rr_kit.specs.declared.fault.Fault as kit
 use Rattle.rr_kit.specs.declared.fault.Fault.TheVariants as I
 use Rattle.rr_game.specs.declared.fault.Fault as game
 use Rattle.rr_game.specs.declared.fault.Fault.TheVariants as G
-use Rattle.rr_game.specs.Verdict.{command_verdict}
+use Rattle.rr_hist.specs.declared.fault.Fault as hist
+use Rattle.rr_hist.specs.declared.fault.Fault.TheVariants as H
+use Rattle.rr_hist.specs.Verdict.{request_verdict}
 use Rattle.rr_code.specs.declared.command.Command.{Command}
 use Rattle.rr_code.specs.declared.command.Command.TheVariants.{Open}
+use Rattle.rr_turns.specs.declared.request.Request.{Request}
+use Rattle.rr_turns.specs.declared.request.Request.TheVariants.{Play}
 use Rattle.rr_code.specs.declared.query.Query.{Query}
 use Rattle.rr_code.specs.declared.query.Query.TheVariants as Q
 use Rattle.rr_store.specs.declared.fault.Fault as store
 use Rattle.rr_store.specs.declared.fault.Fault.TheVariants as T
-use Rattle.rr_store.specs.Fault.{CountsFailure, of_game as stored_game}
-use Rattle.rr_store.specs.World.{TableState, World, is_full, opening_verdict, table_named, table_verdict, world_verdict}
+use Rattle.rr_store.specs.Fault.{CountsFailure, of_table}
+use Rattle.rr_store.specs.World.{TableState, World, opening_verdict, step_verdict, table_named, world_verdict}
 use Rattle.rr_serve.specs.Serving.{tells_failure}
 use Rattle.rr_moderator.specs.declared.fault.Fault.{Fault}
 use Rattle.rr_moderator.specs.declared.fault.Fault.TheVariants as F
@@ -41,7 +45,7 @@ counts_told old new (T.Kit fault) h = counts_kit old new fault h
 counts_told old new (T.Game fault) h = counts_game old new fault h
 counts_told old new _ h = h
 
--- that a reply says neither that the device failed, nor that the file is full, nor that a command was taken
+-- that a reply says neither that the device failed, nor that the file is full, nor that a request was taken
 abbrev pub SaysNeither : List ℕ → Type 0
 SaysNeither reply = (tells_failure reply ≡ false) × (tells_full reply ≡ false) × (tells_acceptance reply ≡ false)
 
@@ -52,7 +56,7 @@ accepted_told name stamp = refl
 pub accepted_calm : (name : List ℕ) (stamp : ℕ) → (tells_failure (accepted_text name stamp) ≡ false) × (tells_full (accepted_text name stamp) ≡ false)
 accepted_calm name stamp = (refl, refl)
 
--- no refusal says that a command was taken
+-- no refusal says that a request was taken
 pub refusal_calm : (fault : Fault) → tells_acceptance (refusal_of fault) ≡ false
 refusal_calm fault = refl
 
@@ -99,33 +103,37 @@ calm_if : (b : Bool) (o p : Option store.Fault) → IsCalm o → IsCalm p → Is
 calm_if true o p h k = h
 calm_if false o p h k = k
 
-game_calm : (fault : game.Fault) → SaysNeither (refusal_of (of_store (stored_game fault)))
+game_calm : (fault : game.Fault) → SaysNeither (refusal_of (F.Game fault))
 unfolding digits
 game_calm G.NoSuchName = (refl, refl, refl)
 game_calm _ = (refl, refl, refl)
 
-rules_calm : (o : Option game.Fault) → IsCalm (option_map stored_game o)
-rules_calm None = tt
-rules_calm (Some fault) = game_calm fault
-
-table_calm : (kit : Kit) (t : TableState) (stamp : ℕ) (c : Command) → IsCalm (table_verdict kit t stamp c)
+table_calm : (o : Option hist.Fault) → IsCalm (option_map of_table o)
 unfolding digits
-table_calm kit t stamp c =
-    calm_if (not (t.stamp == stamp)) _ _ (refl, refl, refl) (calm_if (is_full t) _ _ (refl, refl, refl) (rules_calm (command_verdict kit _ _ c)))
+table_calm None = tt
+table_calm (Some (H.Game fault)) = game_calm fault
+table_calm (Some (H.StaleStamp stamp)) = (refl, refl, refl)
+table_calm (Some H.TurnNotKept) = (refl, refl, refl)
+table_calm (Some H.TooManyCommands) = (refl, refl, refl)
+table_calm (Some H.OutOfMemory) = (refl, refl, refl)
+
+step_calm : (kit : Kit) (t : Option TableState) (stamp : ℕ) (c : Request Command) → IsCalm (step_verdict kit t stamp c)
+unfolding digits
+step_calm kit None stamp c = (refl, refl, refl)
+step_calm kit (Some t) stamp c = table_calm (request_verdict kit t stamp c)
 
 opening_calm : (t : Option TableState) (n stamp : ℕ) → IsCalm (opening_verdict t n stamp)
 unfolding digits
 opening_calm (Some t) n stamp = (refl, refl, refl)
 opening_calm None n stamp = calm_if (not (stamp == 0)) _ _ (refl, refl, refl) (calm_if (nat_le 64 n) _ _ (refl, refl, refl) tt)
 
-pub world_calm : (kit : Kit) (t : Option TableState) (n stamp : ℕ) (c : Command) → IsCalm (world_verdict kit t n stamp c)
+pub world_calm : (kit : Kit) (t : Option TableState) (n stamp : ℕ) (c : Request Command) → IsCalm (world_verdict kit t n stamp c)
 unfolding digits
-world_calm kit t n stamp (Open players) = opening_calm t n stamp
-world_calm kit None n stamp _ = (refl, refl, refl)
-world_calm kit (Some t) n stamp c = table_calm kit t stamp c
+world_calm kit t n stamp (Play (Open players)) = opening_calm t n stamp
+world_calm kit t n stamp c = step_calm kit t stamp c
 
 -- no fault of a verdict says one of them
-pub verdict_calm : (kit : Kit) (t : Option TableState) (n stamp : ℕ) (c : Command) (fault : store.Fault) → world_verdict kit t n stamp c ≡ Some fault
+pub verdict_calm : (kit : Kit) (t : Option TableState) (n stamp : ℕ) (c : Request Command) (fault : store.Fault) → world_verdict kit t n stamp c ≡ Some fault
     → SaysNeither (refusal_of (of_store fault))
 verdict_calm kit t n stamp c fault is = let P : Option store.Fault → Type 0 = IsCalm in subst P is (world_calm kit t n stamp c)
 

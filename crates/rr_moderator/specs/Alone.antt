@@ -29,7 +29,7 @@ query_table (Q.Order table) = Some table
 
 -- the table that a line names, if it names one
 abbrev pub line_table : Line → Option (List ℕ)
-line_table (L.Command stamp table command) = Some table
+line_table (L.Request stamp table request) = Some table
 line_table (L.Query query) = query_table query
 
 abbrev pub Names : List ℕ → List ℕ → Type 0

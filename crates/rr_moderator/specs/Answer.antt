@@ -10,7 +10,7 @@ use Rattle.rr_books.specs.declared.parties.Place.{Place}
 use Rattle.rr_books.specs.declared.certificates.Cert.TheVariants as C
 use Rattle.rr_books.specs.Shares.{Holders, is_at, privates}
 
--- the reply to an accepted command of a table, with the table's new stamp
+-- the reply to an accepted request to a table, with the table's new stamp
 abbrev pub accepted_text : List ℕ → ℕ → List ℕ
 accepted_text table stamp = codes "ok " ++ table ++ codes " " ++ decimal stamp ++ codes "\n"
 

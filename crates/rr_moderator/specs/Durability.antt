@@ -9,7 +9,7 @@ use Rattle.rr_store.specs.Allowing.{BeforeOrAfter}
 use Rattle.rr_store.specs.Files.{StandsFor}
 use Rattle.rr_store.specs.Held.{Held, stamp_after, with_tables}
 use Rattle.rr_store.specs.Holding.{Carries, GoesBehind, IsFull, IsUnchanged, disk_of, held_of}
-use Rattle.rr_store.specs.World.{TableCommand, world_after}
+use Rattle.rr_store.specs.World.{TableRequest, world_after}
 use Rattle.rr_moderator.specs.declared.fault.Fault.TheVariants as F
 use Rattle.rr_moderator.specs.Answer.{accepted_text}
 use Rattle.rr_moderator.specs.Fault.{refusal_of}
@@ -24,24 +24,24 @@ pub record Opens (file : List ℕ) (held : Held) : Type 0 where
   pub stands : StandsFor file texts held.tables
   pub whole : held.broken ≡ false
 
--- what may be pending of a line: nothing, or the one command that it lawfully gives
-abbrev pub MayPend : Held → List ℕ → Option TableCommand → Type 0
+-- what may be pending of a line: nothing, or the one request that it lawfully gives
+abbrev pub MayPend : Held → List ℕ → Option TableRequest → Type 0
 MayPend held line None = Unit {0}
 MayPend held line (Some c) = Gives held line c
 
--- the command that is pending was taken, and the reply tells its table and the new stamp
-pub record IsTaken (old : Held) (pending : Option TableCommand) (new : Held) (reply : List ℕ) : Type 0 where
-  pub command : TableCommand
-  pub pends : pending ≡ Some command
-  pub held : new ≡ with_tables old (world_after old.tables command.name command.command)
-  pub told : reply ≡ accepted_text command.name (stamp_after old.tables command.name command.command)
+-- the request that is pending was taken, and the reply tells its table and the new stamp
+pub record IsTaken (old : Held) (pending : Option TableRequest) (new : Held) (reply : List ℕ) : Type 0 where
+  pub asked : TableRequest
+  pub pends : pending ≡ Some asked
+  pub held : new ≡ with_tables old (world_after old.kit old.tables asked.name asked.request)
+  pub told : reply ≡ accepted_text asked.name (stamp_after old.kit old.tables asked.name asked.request)
 
 -- a device fault is counted exactly where the reply says that the device failed
 abbrev pub CountsTold : ℕ → ℕ → Bool → Type 0
 CountsTold old new true = new ≡ counted old
 CountsTold old new false = new ≡ old
 
--- the reply says that a command was taken
+-- the reply says that a request was taken
 abbrev pub tells_acceptance : List ℕ → Bool
 tells_acceptance reply = starts_with nat_eq reply (codes "ok ")
 
@@ -49,31 +49,31 @@ tells_acceptance reply = starts_with nat_eq reply (codes "ok ")
 abbrev pub tells_full : List ℕ → Bool
 tells_full reply = starts_with nat_eq reply (codes "no 61 ")
 
--- the line gives a lawful command for which the file has no room
+-- the line gives a lawful request for which the file has no room
 pub record HasNoPlace {D : Type 0} (store : Store D) (line : List ℕ) : Type 0 where
-  pub command : TableCommand
-  pub lawful : Gives (held_of store) line command
-  pub full : IsFull store command.name command.command
+  pub asked : TableRequest
+  pub lawful : Gives (held_of store) line asked
+  pub full : IsFull store asked.name asked.request
 
--- What answering a line does. There is one command, or none, that is pending while it is answered, and a reply `ok` tells of
+-- What answering a line does. There is one request, or none, that is pending while it is answered, and a reply `ok` tells of
 -- just that one. On an honest disk that carries what is held: a stop at any moment leaves a file that stands for the world
--- before the line, or for that with the pending command; and the disk carries what is held then, unless the device failed. Of
--- every disk: the next record goes right behind that of a command that was taken; at most two writes and two syncs, and where
--- the reply neither takes a command nor says that the device failed all is as it was, as it is for a line that gives no lawful
--- command; the reply says that the device failed exactly where the disk counts a fault, and never on a disk that works; that
--- the file is full, only where it has no room for a lawful command, and there it says so or that memory was wanted.
+-- before the line, or for that with the pending request; and the disk carries what is held then, unless the device failed. Of
+-- every disk: the next record goes right behind that of a request that was taken; at most two writes and two syncs, and where
+-- the reply neither takes a request nor says that the device failed all is as it was, as it is for a line that gives no lawful
+-- request; the reply says that the device failed exactly where the disk counts a fault, and never on a disk that works; that
+-- the file is full, only where it has no room for a lawful request, and there it says so or that memory was wanted.
 pub record Lasts {D : Type 0} (Honest Works : D → Type 0) (state : D → DiskState) (past : D → List DiskState) (faults writes syncs : D → ℕ)
     (old : Store D) (line : List ℕ) (new : Store D) (reply : List ℕ) : Type 0 where
-  pub pending : Option TableCommand
+  pub pending : Option TableRequest
   pub pends : MayPend (held_of old) line pending
   pub accepted : tells_acceptance reply ≡ true → IsTaken (held_of old) pending (held_of new) reply
   pub honest : Honest (disk_of new) → Honest (disk_of old)
   pub stops : Honest (disk_of new) → (texts : KitTexts) → Carries state old texts
-      → LeavesOnly (past (disk_of old)) (state (disk_of old)) (past (disk_of new)) (state (disk_of new)) (BeforeOrAfter texts (held_of old).tables pending)
+      → LeavesOnly (past (disk_of old)) (state (disk_of old)) (past (disk_of new)) (state (disk_of new)) (BeforeOrAfter texts (held_of old).kit (held_of old).tables pending)
   pub carries : Honest (disk_of new) → (held_of new).broken ≡ false → (texts : KitTexts) → Carries state old texts → Carries state new texts
   pub spares : tells_acceptance reply ≡ false → tells_failure reply ≡ false → IsUnchanged old new
   pub untouched : ¬ MayAppend (held_of old) line → IsUnchanged old new
-  pub place : (told : tells_acceptance reply ≡ true) → GoesBehind old (accepted told).command.name (accepted told).command.command new
+  pub place : (told : tells_acceptance reply ≡ true) → GoesBehind old (accepted told).asked.name (accepted told).asked.request new
   pub counts : CountsTold (faults (disk_of old)) (faults (disk_of new)) (tells_failure reply)
   pub device : tells_failure reply ≡ true → Works (disk_of new) → ⊥
   pub works : Works (disk_of new) → Works (disk_of old)
@@ -95,12 +95,12 @@ SpeaksAndLasts Honest Works state past faults writes syncs old line new =
     Answers (held_of old.0) line (held_of new.0) new.1 × Lasts Honest Works state past faults writes syncs old.0 line new.0 new.1
 
 -- While these lines are answered in just this way, the file stands for a world that was held before one of them or at the
--- end, or for such a world with the command that was pending then.
+-- end, or for such a world with the request that was pending then.
 abbrev pub StandsAlong : {D : Type 0} (Honest Works : D → Type 0) (state : D → DiskState) (past : D → List DiskState) (faults writes syncs : D → ℕ) (texts : KitTexts)
     (begun : Told D) (lines replies : List (List ℕ)) (ended : Told D) → Served (SpeaksAndLasts Honest Works state past faults writes syncs) told begun lines replies ended → List ℕ → Type 0
 StandsAlong Honest Works state past faults writes syncs texts begun [] [] ended way image = StandsFor image texts (held_of begun.0).tables
 StandsAlong Honest Works state past faults writes syncs texts begun (line ∷ lines) (reply ∷ replies) ended way image =
-    BeforeOrAfter texts (held_of begun.0).tables way.1.1.pending image
+    BeforeOrAfter texts (held_of begun.0).kit (held_of begun.0).tables way.1.1.pending image
     ⊎ StandsAlong Honest Works state past faults writes syncs texts way.0 lines replies ended way.3 image
 StandsAlong Honest Works state past faults writes syncs texts begun [] (reply ∷ replies) ended way image = ⊥
 StandsAlong Honest Works state past faults writes syncs texts begun (line ∷ lines) [] ended way image = ⊥

@@ -20,6 +20,7 @@ abbrev pub number_of : Fault → ℕ
 number_of (F.Kit fault) = kits.number_of fault
 number_of (F.Game fault) = numbers.number_of fault
 number_of (F.StaleStamp stamp) = 52
+number_of F.TurnNotKept = 53
 number_of F.TooManyCommands = 54
 number_of F.MalformedLine = 55
 number_of F.DeviceFailed = 60
@@ -65,6 +66,7 @@ abbrev pub words_of : Fault → List ℕ
 words_of (F.Kit fault) = kit_words fault
 words_of (F.Game fault) = game_words fault
 words_of (F.StaleStamp stamp) = codes "stale stamp"
+words_of F.TurnNotKept = codes "turn not kept"
 words_of F.TooManyCommands = codes "too many commands"
 words_of F.MalformedLine = codes "malformed line"
 words_of F.DeviceFailed = codes "device failed"
@@ -111,6 +113,7 @@ abbrev pub of_store : store.Fault → Fault
 of_store (T.Kit fault) = F.Kit fault
 of_store (T.Game fault) = F.Game fault
 of_store (T.StaleStamp stamp) = F.StaleStamp stamp
+of_store T.TurnNotKept = F.TurnNotKept
 of_store T.TooManyCommands = F.TooManyCommands
 of_store T.DeviceFailed = F.DeviceFailed
 of_store T.HalfFull = F.HalfFull

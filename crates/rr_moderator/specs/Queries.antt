@@ -1,4 +1,4 @@
--- The answers to queries, each from the commands that its table accepted.
+-- The answers to queries, each from what its table keeps.
 use Rattle.std.specs.Prelude.{◌≡◌, ℕ, List, [], ◌∷◌, ◌++◌, Option, None, Some, Result, Ok, Err, MatchResult, codes, decimal, map, option_map}
 use Rattle.std.specs.Fmt.{signed_decimal}
 use Rattle.rr_roster.specs.declared.company.Corp.{Corp}
@@ -24,7 +24,9 @@ use Rattle.rr_moderator.specs.Fault.{refusal_of}
 use Rattle.rr_game.specs.declared.fault.Fault.TheVariants as G
 use Rattle.rr_game.specs.Names.{owner_place, party_of, player_word, seat_of}
 use Rattle.rr_game.specs.Play.{play, players_of}
-use Rattle.rr_game.specs.Queries.{due, holding, quote, turns}
+use Rattle.rr_game.specs.Queries.{due, holding, quote}
+use Rattle.rr_turns.specs.Turns.{ended_turns}
+use Rattle.rr_hist.specs.Playing.{ends_turn}
 use Rattle.rr_store.specs.World.{TableState, World, names, table_named}
 
 -- the words of an answer, or why there are none
@@ -43,7 +45,7 @@ answer_of_table answer (Some t) = answer t
 
 -- the book of a table
 abbrev pub book_of : Kit → TableState → Book
-book_of kit t = play kit t.accepted
+book_of kit t = play kit t.commands
 
 -- the stamp of a table
 abbrev pub stamp_answer : TableState → Answer
@@ -54,7 +56,7 @@ abbrev pub cash_words : Book → Party → List (List ℕ)
 cash_words book party = signed_decimal (balance book party) ∷ []
 
 abbrev pub cash_answer : Kit → Account → TableState → Answer
-cash_answer kit of t = answer_of_named (option_map (cash_words (book_of kit t)) (party_of (players_of t.accepted) of))
+cash_answer kit of t = answer_of_named (option_map (cash_words (book_of kit t)) (party_of (players_of t.commands) of))
 
 -- how many certificates a player may hold
 abbrev pub limit_answer : Kit → TableState → Answer
@@ -72,25 +74,25 @@ due_words players (D.Par seat) = player_word players seat ∷ codes "par" ∷ []
 due_words players (D.Stock seat) = player_word players seat ∷ codes "stock" ∷ []
 
 abbrev pub due_answer : Kit → TableState → Answer
-due_answer kit t = Ok (due_words (players_of t.accepted) (due (book_of kit t)))
+due_answer kit t = Ok (due_words (players_of t.commands) (due (book_of kit t)))
 
--- the turns that have ended, and the one to which the table can go back, which is the first
+-- the turns that have ended, and the least one to which the table can be taken back
 abbrev pub turns_answer : Kit → TableState → Answer
-turns_answer kit t = Ok (decimal (turns (book_of kit t)) ∷ decimal 0 ∷ [])
+turns_answer kit t = Ok (decimal (ended_turns (ends_turn kit) t.commands) ∷ decimal t.floor ∷ [])
 
 -- the privates at a place
 abbrev pub privates_words : Book → Place → List (List ℕ)
 privates_words book place = map private_name (owned (holder book) place)
 
 abbrev pub privates_answer : Kit → Owner → TableState → Answer
-privates_answer kit of t = answer_of_named (option_map (privates_words (book_of kit t)) (owner_place (players_of t.accepted) of))
+privates_answer kit of t = answer_of_named (option_map (privates_words (book_of kit t)) (owner_place (players_of t.commands) of))
 
 -- how much of a corporation a player holds, in percent
 abbrev pub holds_words : Book → Corp → Seat → List (List ℕ)
 holds_words book corp seat = decimal (holding book corp seat) ∷ []
 
 abbrev pub holds_answer : Kit → List ℕ → Corp → TableState → Answer
-holds_answer kit player corp t = answer_of_named (option_map (holds_words (book_of kit t) corp) (seat_of (players_of t.accepted) player))
+holds_answer kit player corp t = answer_of_named (option_map (holds_words (book_of kit t) corp) (seat_of (players_of t.commands) player))
 
 -- the price of a corporation's shares
 abbrev pub price_answer : Kit → Corp → TableState → Answer

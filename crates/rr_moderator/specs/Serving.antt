@@ -5,7 +5,7 @@ use Rattle.rr_code.specs.declared.line.Line.TheVariants as L
 use Rattle.rr_code.specs.Line.{SpellsLine}
 use Rattle.rr_store.specs.declared.fault.Fault as store
 use Rattle.rr_store.specs.Held.{Held, Takes}
-use Rattle.rr_store.specs.World.{TableCommand, verdict_in}
+use Rattle.rr_store.specs.World.{TableRequest, verdict_in}
 use Rattle.rr_moderator.specs.declared.fault.Fault.{Fault}
 use Rattle.rr_moderator.specs.declared.fault.Fault.TheVariants as F
 use Rattle.rr_serve.specs.declared.faults.Fault as serve
@@ -13,7 +13,7 @@ use Rattle.rr_moderator.specs.Fault.{of_serve, of_store, refusal_of}
 use Rattle.rr_moderator.specs.Answer.{accepted_text}
 use Rattle.rr_moderator.specs.Queries.{query_text}
 
--- the text of the reply to a command: its table and the new stamp; or why it is refused
+-- the text of the reply to a request: its table and the new stamp; or why it is refused
 abbrev pub text_of : List ℕ → Result ℕ store.Fault → Result (List ℕ) Fault
 text_of name (Ok stamp) = Ok (accepted_text name stamp)
 text_of name (Err fault) = Err (of_store fault)
@@ -25,8 +25,8 @@ reply_to (Err fault) = refusal_of fault
 
 -- what comes of a line that was read. A query changes nothing, and asks for no memory
 abbrev pub Meets : Held → Line → Held → Result (List ℕ) Fault → Type 0
-Meets old (L.Command stamp name command) new outcome =
-    (result : Result ℕ store.Fault) × Takes old stamp name command new result × (outcome ≡ text_of name result)
+Meets old (L.Request stamp name request) new outcome =
+    (result : Result ℕ store.Fault) × Takes old stamp name request new result × (outcome ≡ text_of name result)
 Meets old (L.Query query) new outcome = (new ≡ old) × (reply_to outcome ≡ query_text old.kit old.tables query)
 
 -- what comes of a line
@@ -40,17 +40,17 @@ pub data Responds (old : Held) (line : List ℕ) (new : Held) : Result (List ℕ
   Read : (l : Line) (outcome : Result (List ℕ) Fault) → length line ≤ 8000 → SpellsLine line l → old.broken ≡ false
       → Meets old l new outcome → Responds old line new outcome
 
--- the line gives this command, which no rule refuses, of a form and at a device that let it be taken
-pub record Gives (held : Held) (line : List ℕ) (c : TableCommand) : Type 0 where
+-- the line gives this request, which no rule refuses, of a form and at a device that let it be taken
+pub record Gives (held : Held) (line : List ℕ) (r : TableRequest) : Type 0 where
   pub stamp : ℕ
   pub short : length line ≤ 8000
-  pub spelled : SpellsLine line (L.Command stamp c.name c.command)
+  pub spelled : SpellsLine line (L.Request stamp r.name r.request)
   pub whole : held.broken ≡ false
-  pub lawful : verdict_in held.kit held.tables stamp c.name c.command ≡ None
+  pub lawful : verdict_in held.kit held.tables stamp r.name r.request ≡ None
 
--- the line gives a lawful command
+-- the line gives a lawful request
 abbrev pub MayAppend : Held → List ℕ → Type 0
-MayAppend held line = (c : TableCommand) × Gives held line c
+MayAppend held line = (r : TableRequest) × Gives held line r
 
 -- a moderator that holds this may answer the line so, and holds that afterwards
 abbrev pub Answers : Held → List ℕ → Held → List ℕ → Type 0

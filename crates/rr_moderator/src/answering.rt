@@ -1,13 +1,13 @@
-// The answers to queries, and the reply to an accepted command.
+// The answers to queries, and the reply to an accepted request.
 ghost use Rattle.std.specs.Prelude.{◌≡◌, ◌≢◌, false, ◌+◌, ◌*◌, ◌≤◌, ◌++◌, List, ℕ, [], ◌∷◌, MatchResult, codes, filter, length, map, slice_get, take};
 ghost use Rattle.std.specs.Option.{option_copied};
 ghost use Rattle.rr_books.specs.Shares.{is_at};
 ghost use Rattle.rr_roster.specs.Company.{corp_name, private_name};
 ghost use Rattle.rr_books.specs.State.{holder_in};
 ghost use Rattle.rr_moderator.specs.Answer.{accepted_text, answer_of, asked_words, owned, price_words, spaced};
-ghost use Rattle.rr_store.specs.Holding.{game_of, held_of, state_of};
+ghost use Rattle.rr_hist.specs.Tables.{IsPlayed, kept_in};
+ghost use Rattle.rr_store.specs.Holding.{held_of};
 ghost use Rattle.rr_store.specs.World.{names};
-ghost use Rattle.rr_game.specs.Keeping.{IsGameOf};
 ghost use Rattle.rr_game.specs.Names.{player_word};
 ghost use Rattle.rr_moderator.specs.Queries.{Writes, asked_answer, cash_answer, due_answer, due_words, holds_answer, limit_answer, order_answer, price_answer, privates_answer, query_answer, query_text, query_verdict, reply_of, stamp_answer, turns_answer};
 
@@ -24,7 +24,7 @@ use rr_store::{Store, Table};
 use rr_words::Name;
 
 impl Reply {
-    /// The reply to an accepted command.
+    /// The reply to an accepted request.
     pub(crate) fn accept(&mut self, table: &Name, stamp: u64)
         ensures { self.new ≡ accepted_text table.now stamp }
     {
@@ -181,34 +181,34 @@ fn name_at<D: Disk + Drop>(store: &Store<D>, place: usize) -> Option<&Name>
     }
 }
 
-/// Writes the stamp of the last command.
+/// Writes the stamp that the next request has to have.
 fn write_stamp(table: &Table, reply: &mut Reply)
     requires { reply.old ≡ [] }
-    ensures text { reply_of (stamp_answer (state_of table.now)) ≡ reply.new ++ codes "\n" }
+    ensures text { reply_of (stamp_answer (kept_in table.now)) ≡ reply.new ++ codes "\n" }
     ensures bounded { length reply.new ≤ 40 }
 {
     reply.text(b"= ");
     reply.number(table.stamp());
 }
 
-/// Writes how many turns have ended, and to which the table can go back: to the first.
+/// Writes how many turns have ended, and the least one to which the table can be taken back.
 fn write_turns(table: &Table, reply: &mut Reply)
     requires { reply.old ≡ [] }
-    ensures text { (kit : Kit) → IsGameOf kit (state_of table.now).accepted (game_of table.now) →
-        reply_of (turns_answer kit (state_of table.now)) ≡ reply.new ++ codes "\n" }
+    ensures text { (kit : Kit) → IsPlayed kit table.now →
+        reply_of (turns_answer kit (kept_in table.now)) ≡ reply.new ++ codes "\n" }
     ensures bounded { length reply.new ≤ 50 }
 {
     reply.text(b"= ");
-    reply.number(table.game().turns());
+    reply.number(table.turns());
     reply.text(b" ");
-    reply.number(0);
+    reply.number(table.floor());
 }
 
 /// Writes who is due, and the step.
 fn write_table_due(table: &Table, reply: &mut Reply)
     requires { reply.old ≡ [] }
-    ensures text { (kit : Kit) → IsGameOf kit (state_of table.now).accepted (game_of table.now) →
-        reply_of (due_answer kit (state_of table.now)) ≡ reply.new ++ codes "\n" }
+    ensures text { (kit : Kit) → IsPlayed kit table.now →
+        reply_of (due_answer kit (kept_in table.now)) ≡ reply.new ++ codes "\n" }
     ensures bounded { length reply.new ≤ 40 }
 {
     write_due(table.game(), table.game().due(), reply);
@@ -217,8 +217,8 @@ fn write_table_due(table: &Table, reply: &mut Reply)
 /// Writes what an account has.
 fn write_cash(table: &Table, of: &Account, reply: &mut Reply) -> Result<(), Fault>
     requires { reply.old ≡ [] }
-    ensures answer { (kit : Kit) → IsGameOf kit (state_of table.now).accepted (game_of table.now) →
-        Writes (cash_answer kit of.now (state_of table.now)) result reply.new }
+    ensures answer { (kit : Kit) → IsPlayed kit table.now →
+        Writes (cash_answer kit of.now (kept_in table.now)) result reply.new }
     ensures bounded { length reply.new ≤ 40 }
 {
     let money = table.game().cash(of)?;
@@ -230,8 +230,8 @@ fn write_cash(table: &Table, of: &Account, reply: &mut Reply) -> Result<(), Faul
 /// Writes the certificate limit.
 fn write_limit(table: &Table, reply: &mut Reply)
     requires { reply.old ≡ [] }
-    ensures text { (kit : Kit) → IsGameOf kit (state_of table.now).accepted (game_of table.now) →
-        reply_of (limit_answer kit (state_of table.now)) ≡ reply.new ++ codes "\n" }
+    ensures text { (kit : Kit) → IsPlayed kit table.now →
+        reply_of (limit_answer kit (kept_in table.now)) ≡ reply.new ++ codes "\n" }
     ensures bounded { length reply.new ≤ 40 }
 {
     reply.text(b"= ");
@@ -241,8 +241,8 @@ fn write_limit(table: &Table, reply: &mut Reply)
 /// Writes what the cheapest private costs.
 fn write_cheapest(table: &Table, kit: &Kit, reply: &mut Reply)
     requires { reply.old ≡ [] }
-    ensures text { IsGameOf kit.now (state_of table.now).accepted (game_of table.now) →
-        reply_of (asked_answer kit.now (state_of table.now)) ≡ reply.new ++ codes "\n" }
+    ensures text { IsPlayed kit.now table.now →
+        reply_of (asked_answer kit.now (kept_in table.now)) ≡ reply.new ++ codes "\n" }
     ensures bounded { length reply.new ≤ 40 }
 {
     write_asked(table.game().asked(kit), reply);
@@ -251,8 +251,8 @@ fn write_cheapest(table: &Table, kit: &Kit, reply: &mut Reply)
 /// Writes the privates of an owner.
 fn write_owner(table: &Table, of: &Owner, reply: &mut Reply) -> Result<(), Fault>
     requires { reply.old ≡ [] }
-    ensures answer { (kit : Kit) → IsGameOf kit (state_of table.now).accepted (game_of table.now) →
-        Writes (privates_answer kit of.now (state_of table.now)) result reply.new }
+    ensures answer { (kit : Kit) → IsPlayed kit table.now →
+        Writes (privates_answer kit of.now (kept_in table.now)) result reply.new }
     ensures bounded { length reply.new ≤ 40 }
 {
     let place = table.game().place(of)?;
@@ -263,8 +263,8 @@ fn write_owner(table: &Table, of: &Owner, reply: &mut Reply) -> Result<(), Fault
 /// Writes how much of a corporation a player holds.
 fn write_holds(table: &Table, player: &Name, corp: Corp, reply: &mut Reply) -> Result<(), Fault>
     requires { reply.old ≡ [] }
-    ensures answer { (kit : Kit) → IsGameOf kit (state_of table.now).accepted (game_of table.now) →
-        Writes (holds_answer kit player.now corp (state_of table.now)) result reply.new }
+    ensures answer { (kit : Kit) → IsPlayed kit table.now →
+        Writes (holds_answer kit player.now corp (kept_in table.now)) result reply.new }
     ensures bounded { length reply.new ≤ 40 }
 {
     let percent = table.game().holds(player, corp)?;
@@ -276,8 +276,8 @@ fn write_holds(table: &Table, player: &Name, corp: Corp, reply: &mut Reply) -> R
 /// Writes the price of a corporation's shares.
 fn write_price(table: &Table, corp: Corp, kit: &Kit, reply: &mut Reply)
     requires { reply.old ≡ [] }
-    ensures text { IsGameOf kit.now (state_of table.now).accepted (game_of table.now) →
-        reply_of (price_answer kit.now corp (state_of table.now)) ≡ reply.new ++ codes "\n" }
+    ensures text { IsPlayed kit.now table.now →
+        reply_of (price_answer kit.now corp (kept_in table.now)) ≡ reply.new ++ codes "\n" }
     ensures bounded { length reply.new ≤ 70 }
 {
     write_quote(table.game().price(corp, kit), reply);
@@ -286,8 +286,8 @@ fn write_price(table: &Table, corp: Corp, kit: &Kit, reply: &mut Reply)
 /// Writes the corporations in operating order.
 fn write_order(table: &Table, kit: &Kit, reply: &mut Reply)
     requires { reply.old ≡ [] }
-    ensures text { IsGameOf kit.now (state_of table.now).accepted (game_of table.now) →
-        reply_of (order_answer kit.now (state_of table.now)) ≡ reply.new ++ codes "\n" }
+    ensures text { IsPlayed kit.now table.now →
+        reply_of (order_answer kit.now (kept_in table.now)) ≡ reply.new ++ codes "\n" }
     ensures bounded { length reply.new ≤ 50 }
 {
     write_corps(table.game().order(kit).as_slice(), reply);

@@ -18,16 +18,19 @@ pub enum Fault {
     /// The stamp isn't the table's, which is given.
     #[error("stale stamp {0}")]
     StaleStamp(u64),
+    /// The turn hasn't ended yet, or it is forgotten.
+    #[error("turn not kept")]
+    TurnNotKept,
     /// The table has all the commands that it can keep, or its last stamp.
     #[error("too many commands")]
     TooManyCommands,
     /// The line is of no form.
     #[error("malformed line")]
     MalformedLine,
-    /// The device failed. Whether the command under way was taken is known when the file is opened again.
+    /// The device failed. Whether the request under way was taken is known when the file is opened again.
     #[error("device failed")]
     DeviceFailed,
-    /// The journal has no room for the command.
+    /// The journal has no room for the request.
     #[error("half full")]
     HalfFull,
     /// The file holds what no store of ours holds; the first clause that it breaks.
@@ -68,6 +71,7 @@ impl Fault {
             Fault::Kit(fault) => fault.number(),
             Fault::Game(fault) => fault.number(),
             Fault::StaleStamp(_) => 52,
+            Fault::TurnNotKept => 53,
             Fault::TooManyCommands => 54,
             Fault::MalformedLine => 55,
             Fault::DeviceFailed => 60,
@@ -130,6 +134,7 @@ impl Fault {
             Fault::Kit(fault) => kit_words(*fault),
             Fault::Game(fault) => game_words(*fault),
             Fault::StaleStamp(_) => "stale stamp",
+            Fault::TurnNotKept => "turn not kept",
             Fault::TooManyCommands => "too many commands",
             Fault::MalformedLine => "malformed line",
             Fault::DeviceFailed => "device failed",
@@ -242,6 +247,7 @@ impl From<rr_store::Fault> for Fault {
             rr_store::Fault::Kit(fault) => Fault::Kit(fault),
             rr_store::Fault::Game(fault) => Fault::Game(fault),
             rr_store::Fault::StaleStamp(stamp) => Fault::StaleStamp(stamp),
+            rr_store::Fault::TurnNotKept => Fault::TurnNotKept,
             rr_store::Fault::TooManyCommands => Fault::TooManyCommands,
             rr_store::Fault::DeviceFailed => Fault::DeviceFailed,
             rr_store::Fault::HalfFull => Fault::HalfFull,

@@ -1,4 +1,7 @@
 //! The moderator: the reply to each line, over the store of the tables.
+//!
+//! Stands on `rr_store` and `rr_serve`. Its promise: `answer`, `line` and `serve` give exactly the replies that
+//! `Answers` says, and lose nothing that was acknowledged (`Lasts`).
 #![tactic(auto)]
 
 mod answering;

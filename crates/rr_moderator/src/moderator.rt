@@ -1,7 +1,7 @@
 ghost use Rattle.std.specs.Prelude.{◌≡◌, ◌⊎◌, ◌+◌, ◌≤◌, ℕ, List, [], Result, Ok, Err, false, OnOk, OnErr, IfOk, IfErr};
 ghost use Rattle.std.specs.Borrow.{sem};
 ghost use Rattle.std.specs.Io.BufRead.{Rests};
-ghost use Rattle.rr_code.specs.Command.{IsCommand};
+ghost use Rattle.rr_code.specs.Request.{IsRequest};
 ghost use Rattle.rr_disk.specs.Disk.{counted};
 ghost use Rattle.rr_disk.specs.Moments.{LeavesOnly};
 ghost use Rattle.rr_kit.specs.Kits.{KitTexts, SpellsKit};
@@ -18,7 +18,7 @@ ghost use Rattle.rr_store.specs.Fault.{CountsFailure, OnDevice};
 ghost use Rattle.rr_store.specs.Files.{RefusesOpening};
 ghost use Rattle.rr_store.specs.Holding.{Carries, IsUnchanged};
 ghost use Rattle.rr_store.specs.Holding as held_in;
-ghost use Rattle.rr_store.specs.World.{Follows, TableCommand};
+ghost use Rattle.rr_store.specs.World.{Follows, TableRequest};
 ghost use Rattle.rr_moderator.specs.Durability.{Lasts, Opens, SpeaksAndLasts, StandsAlong, told};
 ghost use Rattle.rr_moderator.specs.Holding.{disk_under, held_of, last_reply, spoken_of, store_of, told_of};
 ghost use Rattle.rr_moderator.specs.Serving.{Answers, EndsAs, MayAppend, Responds, Speaks, outcome_of, reply_to, said, text_of};
@@ -27,7 +27,7 @@ ghost use Rattle.rr_moderator.specs.contracts.moderator.Moderator.{the_row};
 use crate::answering::answer;
 use crate::fault::Fault;
 use crate::reply::Reply;
-use rr_code::{Command, Line};
+use rr_code::{Command, Line, Request};
 use rr_disk::Disk;
 use rr_serve::{Input, LONGEST_LINE, LineBuffer, Machine, Output};
 use rr_store::{Refused, Store};
@@ -53,7 +53,7 @@ impl<D: Disk + Drop> Moderator<D> {
     ///
     /// # Errors
     /// `DeviceFailed`; `NotAStore` where the file isn't of the form that `format` gives it, or a text of its kit is
-    /// refused; `Damaged` where a record isn't a command that its table could take; `OutOfMemory`.
+    /// refused; `Damaged` where a record isn't a request that its table could take; `OutOfMemory`.
     pub fn open(alloc: Global, disk: D) -> Result<Moderator<D>, Refused<D>>
         // The moderator holds what the file stands for, and its store goes on with it; else the file stands for nothing, or
         // the device failed or memory was wanted.
@@ -67,9 +67,9 @@ impl<D: Disk + Drop> Moderator<D> {
             → Between (D.past disk) (D.state disk) (D.past refused.disk) (D.state refused.disk)
             (λ moments. OpenAllows (D.state disk) moments (D.state refused.disk) (Err refused.fault))) }
 
-        // Of every disk: what it holds came of commands that the rules of a right kit allow, and its device hasn't failed.
+        // Of every disk: what it holds came of requests that the rules of a right kit allow, and its device hasn't failed.
         ensures lawful { IfOk result (λ moderator. (texts : KitTexts) × SpellsKit texts (held_of moderator).kit
-            × (commands : List TableCommand) × Follows (held_of moderator).kit [] commands (held_of moderator).tables) }
+            × (requests : List TableRequest) × Follows (held_of moderator).kit [] requests (held_of moderator).tables) }
         ensures whole { IfOk result (λ moderator. (held_of moderator).broken ≡ false) }
         ensures refused { IfErr result (λ refused.
             RefusesOpening (D.Honest refused.disk) (D.state disk).content refused.fault) }
@@ -127,7 +127,7 @@ impl<D: Disk + Drop> Moderator<D> {
     /// Answers a line, and writes and flushes the reply.
     ///
     /// # Errors
-    /// `StreamFailed` where a write or the flush failed. A command that was accepted stays accepted.
+    /// `StreamFailed` where a write or the flush failed. A request that was accepted stays accepted.
     pub fn line<O: Output>(&mut self, line: &[u8], writer: &mut O) -> Result<(), Fault>
         ensures answers { Answers (held_of self.old) (taken line.now) (held_of self.new) (last_reply self.new) }
         ensures lasts { Lasts D.Honest D.Works D.state D.past D.fault_count D.write_count D.sync_count (store_of self.old) (taken line.now) (store_of self.new) (last_reply self.new) }
@@ -153,9 +153,9 @@ impl<D: Disk + Drop> Moderator<D> {
             (I.state reader.old).remaining (O.state writer.old).contents (O.state writer.new).contents) }
 
         // However it ends, it tells of a failed stream exactly where a read, a write or a flush failed; and the lines that were
-        // read are answered, each so that what it comes to lasts, and what is written
-        // is their replies as far as it got. So whatever a stop leaves at any moment of it stands for the world that the
-        // moderator held then, after the lines that it had answered by then, or for that with the command pending then.
+        // read are answered, each so that what it comes to lasts, and what is written is their replies as far as it got. So
+        // whatever a stop leaves at any moment of it stands for a world that the moderator held before one of the lines, or
+        // for that with the request pending then.
         ensures session { (cause : Result (Unit {0}) serve.Fault) × EndsAs result cause
             × CountsFailures cause (I.state reader.old).failures (I.state reader.new).failures
             (O.state writer.old).failures (O.state writer.new).failures
@@ -223,24 +223,24 @@ impl<D: Disk + Drop> State<D> {
             return Err(Fault::OpenAgain);
         }
         match read {
-            Line::Command {
+            Line::Request {
                 stamp,
                 table,
-                command,
-            } => self.commit(stamp, &table, &command),
+                request,
+            } => self.commit(stamp, &table, &request),
             Line::Query(query) => answer(&self.store, &query, &mut self.reply),
         }
     }
 
-    /// Lets the store take a command.
-    fn commit(&mut self, stamp: u64, table: &Name, command: &Command) -> Result<(), Fault>
+    /// Lets the store take a request.
+    fn commit(&mut self, stamp: u64, table: &Name, request: &Request<Command>) -> Result<(), Fault>
         requires name { IsTableName table.now }
-        requires command { IsCommand command.now }
+        requires request { IsRequest request.now }
         ensures { (taking : Result ℕ stored.Fault)
-            × Commits D.Honest D.Works D.state D.past D.fault_count D.write_count D.sync_count self.old.store table.now stamp command.now self.new.store taking
+            × Commits D.Honest D.Works D.state D.past D.fault_count D.write_count D.sync_count self.old.store table.now stamp request.now self.new.store taking
             × (outcome_of result self.new.reply ≡ text_of table.now taking) }
     {
-        let stamp = self.store.commit(table, stamp, command)?;
+        let stamp = self.store.commit(table, stamp, request)?;
         self.reply.accept(table, stamp);
         Ok(())
     }

@@ -1,5 +1,8 @@
 //! The parts of the file below the store: pages of 4,096 bytes, chains of them, which of them are free, and two roots
 //! with gates, of which one is taken. Numbers in the file are big-endian.
+//!
+//! Stands on `rr_disk`. Its promise: `chain_read` and `take_root` tell exactly what the bytes have, or the first clause
+//! broken.
 #![tactic(auto)]
 
 mod chain;

@@ -21,6 +21,7 @@ use Rattle.rr_market.specs.MarkLaws.{has_no_mark, is_mark}
 use Rattle.rr_market.specs.State.{State as Tokens, IsMarketOf}
 use Rattle.rr_market.specs.StateLaws.{stays_through, stays as market_stays}
 use Rattle.rr_rounds.specs.Round.{Round, IsRoundOf}
+use Rattle.rr_operations.specs.Due.{IsOperationsOf}
 use Rattle.rr_layout.specs.Layout.{IsLayoutOf, puts_nothing}
 use Rattle.rr_layout.proofs.LayoutLemmas.{puts_nothing_through}
 use Rattle.rr_position.specs.Position.{OnTable, IsPositionOf}
@@ -48,21 +49,23 @@ opening_puts_nothing : (n : ℕ) (roster : Terms) → list_all puts_nothing (ope
 opening_puts_nothing n roster = each_of_opening puts_nothing (λ from to amount. refl) (λ c. refl) (λ t. refl) n roster
 
 -- the table opens
-pub stands_opened : (n : ℕ) (roster : Terms) (p : OnTable) → IsStateOf (opening_entries n roster) p.books → IsBiddingOf (opening_entries n roster) p.bidding → IsMarketOf [] p.market → IsRoundOf (opening_entries n roster) p.rounds → IsLayoutOf [] p.layout → IsPositionOf (opening_entries n roster) p
-stands_opened n roster p books bidding market rounds layout = record {
+pub stands_opened : (n : ℕ) (roster : Terms) (p : OnTable) → IsStateOf (opening_entries n roster) p.books → IsBiddingOf (opening_entries n roster) p.bidding → IsMarketOf [] p.market → IsRoundOf (opening_entries n roster) p.rounds → IsOperationsOf (opening_entries n roster) p.operations → IsLayoutOf [] p.layout → IsPositionOf (opening_entries n roster) p
+stands_opened n roster p books bidding market rounds operations layout = record {
   books = books;
   bidding = bidding;
   market = stays_through [] (opening_entries n roster) p.market (opening_unmarked n roster) market;
   rounds = rounds;
+  operations = operations;
   layout = puts_nothing_through [] (opening_entries n roster) p.layout (opening_puts_nothing n roster) layout;
 }
 
 -- and its auction begins
-pub stands_begun : (n : ℕ) (roster : Terms) (names : List (List ℕ)) (p : OnTable) → IsPositionOf (opening_entries n roster) p → IsBiddingOf (opening_entries n roster ++ E.Step (M.Auction names) ∷ []) p.bidding → IsRoundOf (opening_entries n roster ++ E.Step (M.Auction names) ∷ []) p.rounds → IsPositionOf (opening_entries n roster ++ E.Step (M.Auction names) ∷ []) p
-stands_begun n roster names p h bidding rounds = record {
+pub stands_begun : (n : ℕ) (roster : Terms) (names : List (List ℕ)) (p : OnTable) → IsPositionOf (opening_entries n roster) p → IsBiddingOf (opening_entries n roster ++ E.Step (M.Auction names) ∷ []) p.bidding → IsRoundOf (opening_entries n roster ++ E.Step (M.Auction names) ∷ []) p.rounds → IsOperationsOf (opening_entries n roster ++ E.Step (M.Auction names) ∷ []) p.operations → IsPositionOf (opening_entries n roster ++ E.Step (M.Auction names) ∷ []) p
+stands_begun n roster names p h bidding rounds operations = record {
   books = stays (opening_entries n roster) (E.Step (M.Auction names)) p.books refl h.books;
   bidding = bidding;
   market = market_stays (opening_entries n roster) (E.Step (M.Auction names)) p.market refl h.market;
   rounds = rounds;
+  operations = operations;
   layout = puts_nothing_through (opening_entries n roster) (E.Step (M.Auction names) ∷ []) p.layout refl h.layout;
 }

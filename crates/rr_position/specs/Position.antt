@@ -6,16 +6,18 @@ use Rattle.rr_books.specs.State.{State as Tables, IsStateOf, Fits as FitsTables}
 use Rattle.rr_bids.specs.Progress.{Progress, IsBiddingOf, amount_bid}
 use Rattle.rr_market.specs.State.{State as Tokens, IsMarketOf}
 use Rattle.rr_rounds.specs.Round.{Round, IsRoundOf}
+use Rattle.rr_operations.specs.Due.{OnRounds, IsOperationsOf}
 use Rattle.rr_layout.specs.Layout.{Placed, IsLayoutOf, has_room}
 use Rattle.rr_position.specs.declared.position.TheConstants.{MOST_ENTRIES}
 
--- the money and the places, how far the auction has come, the tokens on the chart, how far the stock rounds have come,
--- the tiles and tokens on the board, and how many entries were followed
+-- the money and the places, how far the auction has come, the tokens on the chart, how far the stock and the operating
+-- rounds have come, the tiles and tokens on the board, and how many entries were followed
 pub record OnTable : Type 0 where
   pub books : Tables
   pub bidding : Progress
   pub market : Tokens
   pub rounds : Round
+  pub operations : OnRounds
   pub layout : Placed
   pub entries : ℕ
 
@@ -25,6 +27,7 @@ pub record IsPositionOf (book : Book) (p : OnTable) : Type 0 where
   pub bidding : IsBiddingOf book p.bidding
   pub market : IsMarketOf book p.market
   pub rounds : IsRoundOf book p.rounds
+  pub operations : IsOperationsOf book p.operations
   pub layout : IsLayoutOf book p.layout
 
 -- an entry that the views have room for

@@ -7,6 +7,7 @@ use rr_bids::Bidding;
 use rr_books::{Books, Entry, Fault};
 use rr_layout::Layout;
 use rr_market::Market;
+use rr_operations::Operations;
 use rr_roster::Roster;
 use rr_rounds::Rounds;
 use std::marker::Model;
@@ -22,6 +23,7 @@ pub struct Position {
     bidding: Bidding,
     market: Market,
     rounds: Rounds,
+    operations: Operations,
     layout: Layout,
     // How many entries were followed, of those of the opening the payments alone.
     entries: u32,
@@ -34,11 +36,11 @@ impl Model for Position {
 
     ghost Value = { OnTable };
 
-    ghost view = { λ p. record { books = p.books; bidding = p.bidding; market = p.market; rounds = p.rounds; layout = p.layout; entries = p.entries } };
+    ghost view = { λ p. record { books = p.books; bidding = p.bidding; market = p.market; rounds = p.rounds; operations = p.operations; layout = p.layout; entries = p.entries } };
 
-    ghost invariant = { λ p. (p.books.payments ≤ p.entries) × (p.bidding.commands ≤ p.entries) × (p.rounds.turns ≤ p.entries) × (p.rounds.begun ≤ p.entries) × (p.entries ≤ MOST_ENTRIES) };
+    ghost invariant = { λ p. (p.books.payments ≤ p.entries) × (p.bidding.commands ≤ p.entries) × (p.rounds.turns ≤ p.entries) × (p.rounds.begun ≤ p.entries) × (p.operations.progress.sets ≤ p.entries) × (p.operations.progress.round ≤ p.entries) × (p.entries ≤ MOST_ENTRIES) };
 
-    ghost inverse = { λ p. record { books = p.books; bidding = p.bidding; market = p.market; rounds = p.rounds; layout = p.layout; entries = p.entries } };
+    ghost inverse = { λ p. record { books = p.books; bidding = p.bidding; market = p.market; rounds = p.rounds; operations = p.operations; layout = p.layout; entries = p.entries } };
 }
 
 impl Position {
@@ -50,46 +52,14 @@ impl Position {
         ensures auction { (names : List (List ℕ)) → IsPositionOf (opening_entries players roster.now ++ Entry.Step (M.Auction names) ∷ []) result }
         ensures players { result.books.players ≡ players }
     {
-        let books = Books::open(players, roster);
-        let rounds = Rounds::open(players);
-        Position::of_views(
-            books,
-            Bidding::open(),
-            Market::new(),
-            rounds,
-            Layout::new(),
-            u32::from(players),
-        )
-    }
-
-    /// The position of these views, which have followed so many entries.
-    pub fn of_views(
-        books: Books,
-        bidding: Bidding,
-        market: Market,
-        rounds: Rounds,
-        layout: Layout,
-        entries: u32,
-    ) -> Position
-        requires payments { books.payments ≤ entries }
-        requires commands { bidding.commands ≤ entries }
-        requires turns { rounds.turns ≤ entries }
-        requires begun { rounds.begun ≤ entries }
-        requires room { entries ≤ MOST_ENTRIES }
-        ensures books { result.books ≡ books }
-        ensures bidding { result.bidding ≡ bidding }
-        ensures market { result.market ≡ market }
-        ensures rounds { result.rounds ≡ rounds }
-        ensures layout { result.layout ≡ layout }
-        ensures entries { result.entries ≡ entries }
-    {
         Position {
-            books,
-            bidding,
-            market,
-            rounds,
-            layout,
-            entries,
+            books: Books::open(players, roster),
+            bidding: Bidding::open(),
+            market: Market::new(),
+            rounds: Rounds::open(players),
+            operations: Operations::new(),
+            layout: Layout::new(),
+            entries: u32::from(players),
         }
     }
 
@@ -122,6 +92,13 @@ impl Position {
         &self.rounds
     }
 
+    /// How far the operating rounds have come.
+    pub fn operations(&self) -> &Operations
+        ensures { result.now ≡ self.now.operations }
+    {
+        &self.operations
+    }
+
     /// The tiles and tokens on the board.
     pub fn layout(&self) -> &Layout
         ensures { result.now ≡ self.now.layout }
@@ -148,8 +125,10 @@ impl Position {
         if !self.layout.has_room(entry) {
             return Err(Fault::OutOfMemory);
         }
-        // The auction judges the entry by the books before it.
+        // The auction and the operating rounds judge the entry by the views before it.
         self.bidding.follow(entry, &self.books);
+        self.operations
+            .follow(entry, &self.books, &self.market, &self.rounds);
         self.books.follow(entry);
         self.market.read(entry);
         self.rounds.read(entry);

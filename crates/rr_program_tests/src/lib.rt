@@ -10,8 +10,6 @@ mod kits;
 #[cfg(test)]
 mod opening;
 #[cfg(test)]
-mod refused_requests;
-#[cfg(test)]
 mod serving;
 #[cfg(test)]
 mod storing;

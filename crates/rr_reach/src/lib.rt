@@ -1,4 +1,6 @@
 //! What is reached from some states of a graph by going on to the states that may follow.
+//!
+//! Stands on std alone. Its promise: what is marked is exactly what `IsReached`.
 #![tactic(auto)]
 
 mod graph;

@@ -1,4 +1,6 @@
 //! How far the stock rounds of a table have come: whose turn it is, who passed, who sold what, who has priority.
+//!
+//! Stands on `rr_books`. Its promise: `IsRoundOf`, kept by `read` for any entry.
 #![tactic(auto)]
 
 pub mod laws;

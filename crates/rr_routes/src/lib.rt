@@ -1,4 +1,6 @@
 //! Routes, runs and their revenue, the certificates that no run earns more, and the law that they tell the truth.
+//!
+//! Stands on std alone. Its promise: `laws::optimal`, a certificate that is accepted proves that no run earns more.
 #![tactic(auto)]
 
 mod certificate;

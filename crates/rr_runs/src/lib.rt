@@ -1,4 +1,7 @@
 //! Sheets of runs: whether a sheet is that of a lawful run, what the run earns, and the law of certificates for sheets.
+//!
+//! Stands on `rr_checker` and `rr_sheets`. Its promise: `legal` tells the revenue exactly where the sheet `IsLegal`,
+//! else the clause that it `Breaks`.
 #![tactic(auto)]
 
 mod apart;

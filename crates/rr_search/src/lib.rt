@@ -1,4 +1,6 @@
 //! The run that earns most, and the certificate that none earns more.
+//!
+//! Stands on `rr_guesses`. Its promise: what `best` answers is a legal sheet with an accepted certificate.
 #![tactic(auto)]
 
 mod fault;

@@ -1,4 +1,6 @@
 //! The sequence of play: what follows by itself on a command of a stock round.
+//!
+//! Stands on `rr_stock`. Its promise: `go_on` `Takes` exactly `goes_on`.
 #![tactic(auto)]
 
 mod going;

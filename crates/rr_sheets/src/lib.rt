@@ -1,4 +1,7 @@
 //! The words of sheets and certificates: which links each train runs over, and the tree that shows that no run earns more.
+//!
+//! Stands on `rr_routes` and `rr_words`. Its promise: sheets and certificates are read exactly where they are spelled,
+//! and written as that text.
 #![tactic(auto)]
 
 mod certificate;

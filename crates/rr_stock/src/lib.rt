@@ -1,4 +1,7 @@
 //! The stock rounds: pars, purchases and sales of shares, and the end of a round.
+//!
+//! Stands on `rr_shares` and `rr_holdings`. Its promise: `judge` is exactly `verdict` over the book, `play` exactly
+//! `entries_of`.
 #![tactic(auto)]
 
 mod commands;

@@ -6,7 +6,8 @@ use Rattle.rr_disk.proofs.MomentLemmas.{EachImageOf-weaker}
 use Rattle.rr_kit.specs.declared.kit.Kit.{Kit}
 use Rattle.rr_kit.specs.Kits.{KitTexts}
 use Rattle.rr_code.specs.declared.command.Command.{Command}
-use Rattle.rr_code.specs.Command.{SpellsRecord, record_text}
+use Rattle.rr_code.specs.Request.{SpellsRecord, record_text}
+use Rattle.rr_turns.specs.declared.request.Request.{Request}
 use Rattle.rr_keeper.specs.declared.keeper.Keeper.{Keeper}
 use Rattle.rr_keeper.specs.Keeper.{IsUnchanged as IsSame, Keeps as KeepsLines, is_broken, number_of_next, part_of}
 use Rattle.rr_keeper.specs.Keeper as file
@@ -32,14 +33,14 @@ held kit tables broken = record { kit = kit; tables = tables; broken = broken }
 held_same : (r r' : Kit) (t t' : World) (b b' : Bool) → r' ≡ r → t' ≡ t → b' ≡ b → held r' t' b' ≡ held r t b
 held_same r r' t t' b b' p q s = cc
 
-takes_accepted : (r r' : Kit) (t t' : World) (b b' : Bool) (stamp n : ℕ) (name : List ℕ) (c : Command)
-    → b ≡ false → b' ≡ false → r' ≡ r → t' ≡ world_after t name c → verdict_in r t stamp name c ≡ None → n ≡ stamp_after t name c
+takes_accepted : (r r' : Kit) (t t' : World) (b b' : Bool) (stamp n : ℕ) (name : List ℕ) (c : Request Command)
+    → b ≡ false → b' ≡ false → r' ≡ r → t' ≡ world_after r t name c → verdict_in r t stamp name c ≡ None → n ≡ stamp_after r t name c
     → Takes (held r t b) stamp name c (held r' t' b') (Ok n)
 takes_accepted r r' t t' b b' stamp n name c whole whole' p q lawful counted =
     subst (λ (x : ℕ). Takes (held r t b) stamp name c (held r' t' b') (Ok x)) (sym counted)
-    (Accepted whole lawful (held_same r r' (world_after t name c) t' b b' p q (whole' ∙ sym whole)))
+    (Accepted whole lawful (held_same r r' (world_after r t name c) t' b b' p q (whole' ∙ sym whole)))
 
-takes_refused : (Full : Type 0) (r r' : Kit) (t t' : World) (b b' : Bool) (stamp : ℕ) (name : List ℕ) (c : Command) (fault : Fault)
+takes_refused : (Full : Type 0) (r r' : Kit) (t t' : World) (b b' : Bool) (stamp : ℕ) (name : List ℕ) (c : Request Command) (fault : Fault)
     → b ≡ false → r' ≡ r → t' ≡ t → MayRefuse (verdict_in r t stamp name c) Full b fault b'
     → Takes (held r t b) stamp name c (held r' t' b') (Err fault)
 takes_refused Full r r' t t' b b' stamp name c fault whole p q (inl by_rule) =
@@ -82,17 +83,17 @@ spares_by : {D : Type 0} (old new : Store D) (fault : Fault) → (fault ≡ F.De
 spares_by old new F.DeviceFailed other same = absurd (other refl)
 spares_by old new _ other same = same
 
-ends_calm : (texts : KitTexts) (tables : World) (stamp : ℕ) (name : List ℕ) (c : Command) (moments : List DiskState) (new : DiskState) (fault : Fault) → (fault ≡ F.DeviceFailed → ⊥) → moments ≡ []
-    → CommitEnds texts tables stamp (for_table name c) moments new (Err fault)
-ends_calm texts tables stamp name c moments new F.DeviceFailed other none = absurd (other refl)
-ends_calm texts tables stamp name c moments new _ other none = none
+ends_calm : (texts : KitTexts) (kit : Kit) (tables : World) (stamp : ℕ) (name : List ℕ) (c : Request Command) (moments : List DiskState) (new : DiskState) (fault : Fault) → (fault ≡ F.DeviceFailed → ⊥) → moments ≡ []
+    → CommitEnds texts kit tables stamp (for_table name c) moments new (Err fault)
+ends_calm texts kit tables stamp name c moments new F.DeviceFailed other none = absurd (other refl)
+ends_calm texts kit tables stamp name c moments new _ other none = none
 
 stays_same : {D : Type 0} (old new : Keeper D) (fault : Fault) → (fault ≡ F.DeviceFailed → ⊥) → Stays old (Err fault) new → IsSame old new
 stays_same old new F.DeviceFailed other h = absurd (other refl)
 stays_same old new _ other h = h
 
 module _ {D : Type 0} (Honest Works : D → Type 0) (state : D → DiskState) (past : D → List DiskState) (faults writes syncs : D → ℕ)
-    (old new : Store D) (stamp : ℕ) (name : List ℕ) (c : Command) where
+    (old new : Store D) (stamp : ℕ) (name : List ℕ) (c : Request Command) where
   abbrev pub bytes_of : List ℕ
   bytes_of = record_text name c
 
@@ -138,7 +139,7 @@ module _ {D : Type 0} (Honest Works : D → Type 0) (state : D → DiskState) (p
             pends = tt;
             before = carried_keeps state old texts s;
             each = tt;
-            ends = ends_calm texts tables_now stamp name c [] (state (disk_of new)) fault other refl;
+            ends = ends_calm texts kit_now tables_now stamp name c [] (state (disk_of new)) fault other refl;
           };
         };
         carries = λ h whole texts s. record {
@@ -176,15 +177,15 @@ module _ {D : Type 0} (Honest Works : D → Type 0) (state : D → DiskState) (p
       held_is = ap held_of still
 
   module _ (spelled : SpellsRecord bytes_of name c) (was : is_broken (keeper_of old) ≡ false) where
-    lawful_in : (texts : KitTexts) → Carries state old texts → Lawful → IsLawful texts tables_now stamp (for_table name c)
-    lawful_in texts s lawful = record { kit = kit_now; right = s.replayed.right; of_form = (spelled.name, spelled.command); lawful = lawful }
+    lawful_in : (texts : KitTexts) → Carries state old texts → Lawful → IsLawful texts kit_now tables_now stamp (for_table name c)
+    lawful_in texts s lawful = record { right = s.replayed.right; of_form = (spelled.name, spelled.request); lawful = lawful }
 
     -- the moments of a keeping
     passed_by : (kept : Kept) (result : Result ℕ Fault) → Lawful → Keeping Honest Works state past faults writes syncs (keeper_of old) bytes_of kept (keeper_of new)
         → (h : Honest (disk_of new)) (texts : KitTexts) → Carries state old texts
-        → ((moments : List DiskState) → CommitEnds texts tables_now stamp (for_table name c) moments (state (disk_of new)) result)
+        → ((moments : List DiskState) → CommitEnds texts kit_now tables_now stamp (for_table name c) moments (state (disk_of new)) result)
         → Between (past (disk_of old)) (state (disk_of old)) (past (disk_of new)) (state (disk_of new))
-        (λ moments. CommitAllows texts tables_now stamp (for_table name c) (state (disk_of old)) moments (state (disk_of new)) result)
+        (λ moments. CommitAllows texts kit_now tables_now stamp (for_table name c) (state (disk_of old)) moments (state (disk_of new)) result)
     passed_by kept result lawful k h texts s ends =
         let stops = k.stops h (in_file texts) s.records s.keeps in
         record {
@@ -194,14 +195,14 @@ module _ {D : Type 0} (Honest Works : D → Type 0) (state : D → DiskState) (p
             pending = Some (for_table name c);
             pends = (refl, lawful_in texts s lawful);
             before = carried_keeps state old texts s;
-            each = EachImageOf-weaker stops.since _ (BeforeOrAfter texts tables_now (Some (for_table name c)))
+            each = EachImageOf-weaker stops.since _ (BeforeOrAfter texts kit_now tables_now (Some (for_table name c)))
                 (stands_either texts s.records kit_now tables_now stamp name bytes_of c spelled lawful s.replayed) stops.each;
             ends = ends stops.since;
           };
         }
 
     -- the command was taken
-    taken : (n : ℕ) → Takes (held_of old) stamp name c (held_of new) (Ok n) → Lawful → held_of new ≡ with_tables (held_of old) (world_after tables_now name c)
+    taken : (n : ℕ) → Takes (held_of old) stamp name c (held_of new) (Ok n) → Lawful → held_of new ≡ with_tables (held_of old) (world_after kit_now tables_now name c)
         → Keeping Honest Works state past faults writes syncs (keeper_of old) bytes_of (Ok tt) (keeper_of new) → Done (Ok n)
     taken n takes lawful held_is k =
         record {
@@ -290,8 +291,8 @@ module _ {D : Type 0} (Honest Works : D → Type 0) (state : D → DiskState) (p
     pub commits : (result : Result ℕ Fault)
         → MatchResult result (λ _. verdict_in kit_now tables_now stamp name c ≡ None)
         (λ fault. MayRefuse (verdict_in kit_now tables_now stamp name c) (HasNoRoom (keeper_of old) bytes_of) (is_broken (keeper_of old)) fault (is_broken (keeper_of new)))
-        → OnOk result (world_of new.tables.map.entries ≡ world_after tables_now name c)
-        → IfOk result (λ n. n ≡ stamp_after tables_now name c)
+        → OnOk result (world_of new.tables.map.entries ≡ world_after kit_now tables_now name c)
+        → IfOk result (λ n. n ≡ stamp_after kit_now tables_now name c)
         → OnOk result (is_broken (keeper_of new) ≡ false)
         → Passed Keeps_record old.log bytes_of new.log result
         → new.tables.kit ≡ old.tables.kit

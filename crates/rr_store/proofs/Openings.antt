@@ -23,7 +23,7 @@ use Rattle.rr_store.specs.declared.store.Store.{Store}
 use Rattle.rr_store.specs.Holding.{Carries, disk_of, held_of, keeper_of}
 use Rattle.rr_store.specs.Lent.{from_file, in_file}
 use Rattle.rr_store.specs.Replaying.{IsBroken, RefusesReplay, Replayed}
-use Rattle.rr_store.specs.World.{Follows, TableCommand, World}
+use Rattle.rr_store.specs.World.{Follows, TableRequest, World}
 use Rattle.rr_store.proofs.Standing.{carried_keeps, stands_by}
 use Rattle.rr_store.proofs.Worlds.{replays_follow}
 
@@ -36,6 +36,7 @@ refuses_honest Honest file (F.Damaged clause) h honest = (h.0, h.1 honest)
 refuses_honest Honest file (F.Kit fault) h honest = h
 refuses_honest Honest file (F.Game fault) h honest = h
 refuses_honest Honest file (F.StaleStamp stamp) h honest = h
+refuses_honest Honest file F.TurnNotKept h honest = h
 refuses_honest Honest file F.TooManyCommands h honest = h
 refuses_honest Honest file F.HalfFull h honest = h
 refuses_honest Honest file F.NotEmpty h honest = h
@@ -150,7 +151,7 @@ module _ {D : Type 0} (Honest : D → Type 0) (state : D → DiskState) (past : 
   opened_by (Err refused) made read goes_on synced = tt
 
   pub lawful_by : (r : Result (Store D) (Refused D)) → IfOk r Made
-      → IfOk r (λ store. (texts : KitTexts) × SpellsKit texts (held_of store).kit × (commands : List TableCommand) × Follows (held_of store).kit [] commands (held_of store).tables)
+      → IfOk r (λ store. (texts : KitTexts) × SpellsKit texts (held_of store).kit × (requests : List TableRequest) × Follows (held_of store).kit [] requests (held_of store).tables)
   lawful_by (Ok store) made =
       let follows = replays_follow (held_of store).kit [] (held_of store).tables records made.1.replayed in
       (from_file kit, made.1.right, follows.0, follows.1)

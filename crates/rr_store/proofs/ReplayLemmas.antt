@@ -5,7 +5,8 @@ use Rattle.std.proofs.Math.Seq.{drop-cons}
 use Rattle.rr_kit.specs.declared.kit.Kit.{Kit}
 use Rattle.rr_code.specs.declared.command.Command.{Command}
 use Rattle.rr_code.specs.declared.fault.Fault as code
-use Rattle.rr_code.specs.Command.{SpellsRecord}
+use Rattle.rr_code.specs.Request.{SpellsRecord}
+use Rattle.rr_turns.specs.declared.request.Request.{Request}
 use Rattle.rr_keeper.specs.declared.fault.Fault as keeper
 use Rattle.rr_keeper.specs.declared.fault.Fault.TheVariants as K
 use Rattle.rr_keeper.specs.Opening.{Refuses}
@@ -25,23 +26,23 @@ Replays-push kit old mid new (first ∷ records) bytes replays takes =
     (replays.0, replays.1, Replays-push kit replays.0 mid new records bytes replays.2 takes)
 
 abbrev pub Reads : Type 0
-Reads = List ℕ × Command
+Reads = List ℕ × Request Command
 
 same_read : (x y : Reads) (r s : Result Reads code.Fault) → r ≡ Ok x → s ≡ Ok y → r ≡ s → x ≡ y
 same_read x y r s p q e = cc
 
--- the one command that a record spells is refused
-unlawful : (kit : Kit) (tables : World) (bytes name : List ℕ) (c : Command) (fault : Fault)
-    → ((table : List ℕ) (other : Command) → SpellsRecord bytes table other → let r : Result Reads code.Fault = Ok (name, c) in r ≡ Ok (table, other))
+-- the one request that a record spells is refused
+unlawful : (kit : Kit) (tables : World) (bytes name : List ℕ) (c : Request Command) (fault : Fault)
+    → ((table : List ℕ) (other : Request Command) → SpellsRecord bytes table other → let r : Result Reads code.Fault = Ok (name, c) in r ≡ Ok (table, other))
     → record_verdict kit tables name c ≡ Some fault → IsUnlawful kit tables bytes
 unlawful kit tables bytes name c fault only refused table other spells lawful =
     let same = same_read (name, c) (table, other) _ _ refl refl (only table other spells) in
     let first = subst (λ (x : Reads). record_verdict kit tables x.0 x.1 ≡ Some fault) same refused in
     cc
 
--- where no file keeps the record, its command is refused by a rule or for want of memory
-pub refused_record : (kit : Kit) (tables : World) (bytes name : List ℕ) (c : Command) (stamp : ℕ) (fault : Fault)
-    → ((table : List ℕ) (other : Command) → SpellsRecord bytes table other → let r : Result Reads code.Fault = Ok (name, c) in r ≡ Ok (table, other))
+-- where no file keeps the record, its request is refused by a rule or for want of memory
+pub refused_record : (kit : Kit) (tables : World) (bytes name : List ℕ) (c : Request Command) (stamp : ℕ) (fault : Fault)
+    → ((table : List ℕ) (other : Request Command) → SpellsRecord bytes table other → let r : Result Reads code.Fault = Ok (name, c) in r ≡ Ok (table, other))
     → stamp ≡ present_stamp (table_named tables name)
     → MayRefuse (verdict_in kit tables stamp name c) ⊥ false fault false
     → (fault ≡ F.OutOfMemory) ⊎ IsUnlawful kit tables bytes

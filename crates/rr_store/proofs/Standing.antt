@@ -1,4 +1,4 @@
--- What a file stands for, with a command more.
+-- What a file stands for, with a request more.
 use Rattle.std.proofs.Common.{◌≡◌, ◌⊎◌, ℕ, List, [], ◌∷◌, ◌++◌, Option, None, Some, Result, inl, inr, refl, ap, subst}
 use Rattle.rr_disk.specs.Disk.{DiskState}
 use Rattle.rr_disk.specs.Moments.{LeavesOnly}
@@ -6,7 +6,8 @@ use Rattle.rr_disk.proofs.MomentLemmas.{EachImageOf-weaker}
 use Rattle.rr_kit.specs.declared.kit.Kit.{Kit}
 use Rattle.rr_kit.specs.Kits.{KitTexts}
 use Rattle.rr_code.specs.declared.command.Command.{Command}
-use Rattle.rr_code.specs.Command.{SpellsRecord}
+use Rattle.rr_code.specs.Request.{SpellsRecord}
+use Rattle.rr_turns.specs.declared.request.Request.{Request}
 use Rattle.rr_keeper.specs.File.{IsStore}
 use Rattle.rr_keeper.specs.Keeper.{number_of_next, part_of}
 use Rattle.rr_keeper.proofs.Parts.{is_store}
@@ -18,29 +19,29 @@ use Rattle.rr_store.specs.Holding.{Carries, IsUnchanged, disk_of, held_of, keepe
 use Rattle.rr_store.specs.Lent.{in_file}
 use Rattle.rr_store.specs.Logging.{IsStoreWith}
 use Rattle.rr_store.specs.Replaying.{Replayed, TakesRecord}
-use Rattle.rr_store.specs.World.{TableCommand, World, for_table, present_stamp, table_named, verdict_in, world_after}
+use Rattle.rr_store.specs.World.{TableRequest, World, for_table, present_stamp, table_named, verdict_in, world_after}
 use Rattle.rr_store.proofs.ReplayLemmas.{Replays-push}
 use Rattle.rr_store.proofs.Verdicts.{present}
 
-takes_record : (kit : Kit) (tables : World) (stamp : ℕ) (name bytes : List ℕ) (c : Command)
-    → SpellsRecord bytes name c → verdict_in kit tables stamp name c ≡ None → TakesRecord kit tables bytes (world_after tables name c)
+takes_record : (kit : Kit) (tables : World) (stamp : ℕ) (name bytes : List ℕ) (c : Request Command)
+    → SpellsRecord bytes name c → verdict_in kit tables stamp name c ≡ None → TakesRecord kit tables bytes (world_after kit tables name c)
 takes_record kit tables stamp name bytes c spelled lawful =
     record {
       name = name;
-      command = c;
+      request = c;
       spelled = spelled;
       lawful = subst (λ n. verdict_in kit tables n name c ≡ None) (present kit tables stamp name c lawful) lawful;
       taken = refl;
     }
 
 -- a kit and records with one more
-pub replayed_more : (texts : KitTexts) (records : List (List ℕ)) (kit : Kit) (tables : World) (stamp : ℕ) (name bytes : List ℕ) (c : Command)
+pub replayed_more : (texts : KitTexts) (records : List (List ℕ)) (kit : Kit) (tables : World) (stamp : ℕ) (name bytes : List ℕ) (c : Request Command)
     → SpellsRecord bytes name c → verdict_in kit tables stamp name c ≡ None → Replayed texts records kit tables
-    → Replayed texts (records ++ bytes ∷ []) kit (world_after tables name c)
+    → Replayed texts (records ++ bytes ∷ []) kit (world_after kit tables name c)
 replayed_more texts records kit tables stamp name bytes c spelled lawful h =
     record {
       right = h.right;
-      replayed = Replays-push kit [] tables (world_after tables name c) records bytes h.replayed (takes_record kit tables stamp name bytes c spelled lawful);
+      replayed = Replays-push kit [] tables (world_after kit tables name c) records bytes h.replayed (takes_record kit tables stamp name bytes c spelled lawful);
     }
 
 pub stands_by : (file : List ℕ) (texts : KitTexts) (records : List (List ℕ)) (kit : Kit) (tables : World)
@@ -54,13 +55,13 @@ carried_keeps state store texts s = λ image is.
     stands_by image texts s.records (held_of store).kit (held_of store).tables
     (is_store image (in_file texts) (part_of (keeper_of store)).index s.records s.keeps.front s.keeps.own s.keeps.joined (s.keeps.each image is)) s.replayed
 
--- a file with the record or without stands for the world with its command or without
-pub stands_either : (texts : KitTexts) (records : List (List ℕ)) (kit : Kit) (tables : World) (stamp : ℕ) (name bytes : List ℕ) (c : Command)
+-- a file with the record or without stands for the world with its request or without
+pub stands_either : (texts : KitTexts) (records : List (List ℕ)) (kit : Kit) (tables : World) (stamp : ℕ) (name bytes : List ℕ) (c : Request Command)
     → SpellsRecord bytes name c → verdict_in kit tables stamp name c ≡ None → Replayed texts records kit tables
-    → (image : List ℕ) → IsStoreWith (in_file texts) records bytes image → BeforeOrAfter texts tables (Some (for_table name c)) image
+    → (image : List ℕ) → IsStoreWith (in_file texts) records bytes image → BeforeOrAfter texts kit tables (Some (for_table name c)) image
 stands_either texts records kit tables stamp name bytes c spelled lawful h image (inl store) = inl (stands_by image texts records kit tables store h)
 stands_either texts records kit tables stamp name bytes c spelled lawful h image (inr store) =
-    inr (stands_by image texts (records ++ bytes ∷ []) kit (world_after tables name c) store (replayed_more texts records kit tables stamp name bytes c spelled lawful h))
+    inr (stands_by image texts (records ++ bytes ∷ []) kit (world_after kit tables name c) store (replayed_more texts records kit tables stamp name bytes c spelled lawful h))
 
 -- a store that is the same is unchanged
 pub same_unchanged : {D : Type 0} (old new : Store D) → new ≡ old → IsUnchanged old new
@@ -71,23 +72,23 @@ same_unchanged {D} old new same = record {
   number = ap (λ (s : Store D). number_of_next (keeper_of s)) same;
 }
 
--- a pending command of a commit is the one that it was asked for
-pub asked_or : (texts : KitTexts) (tables : World) (stamp : ℕ) (c : TableCommand) (pending : Option TableCommand) → MayPend texts tables stamp c pending
-    → (image : List ℕ) → BeforeOrAfter texts tables pending image → BeforeOrAfter texts tables (Some c) image
-asked_or texts tables stamp c None pends image (inl before) = inl before
-asked_or texts tables stamp c None pends image (inr before) = inl before
-asked_or texts tables stamp c (Some given) pends image opens =
-    subst (λ (x : TableCommand). BeforeOrAfter texts tables (Some x) image) pends.0 opens
+-- a pending request of a commit is the one that it was asked for
+pub asked_or : (texts : KitTexts) (kit : Kit) (tables : World) (stamp : ℕ) (c : TableRequest) (pending : Option TableRequest) → MayPend texts kit tables stamp c pending
+    → (image : List ℕ) → BeforeOrAfter texts kit tables pending image → BeforeOrAfter texts kit tables (Some c) image
+asked_or texts kit tables stamp c None pends image (inl before) = inl before
+asked_or texts kit tables stamp c None pends image (inr before) = inl before
+asked_or texts kit tables stamp c (Some given) pends image opens =
+    subst (λ (x : TableRequest). BeforeOrAfter texts kit tables (Some x) image) pends.0 opens
 
 -- what a commit allowed, as what a stop at any moment of it leaves
-pub commit_leaves : (texts : KitTexts) (tables : World) (stamp : ℕ) (c : TableCommand) (result : Result ℕ Fault) (past_old : List DiskState) (old : DiskState) (past_new : List DiskState) (new : DiskState)
-    → Between past_old old past_new new (λ moments. CommitAllows texts tables stamp c old moments new result)
-    → LeavesOnly past_old old past_new new (BeforeOrAfter texts tables (Some c))
-commit_leaves texts tables stamp c result past_old old past_new new b =
+pub commit_leaves : (texts : KitTexts) (kit : Kit) (tables : World) (stamp : ℕ) (c : TableRequest) (result : Result ℕ Fault) (past_old : List DiskState) (old : DiskState) (past_new : List DiskState) (new : DiskState)
+    → Between past_old old past_new new (λ moments. CommitAllows texts kit tables stamp c old moments new result)
+    → LeavesOnly past_old old past_new new (BeforeOrAfter texts kit tables (Some c))
+commit_leaves texts kit tables stamp c result past_old old past_new new b =
     record {
       since = b.moments;
       goes_on = b.passed;
       first = λ image is. inl (b.allowed.before image is);
-      each = EachImageOf-weaker b.moments (BeforeOrAfter texts tables b.allowed.pending) (BeforeOrAfter texts tables (Some c))
-          (asked_or texts tables stamp c b.allowed.pending b.allowed.pends) b.allowed.each;
+      each = EachImageOf-weaker b.moments (BeforeOrAfter texts kit tables b.allowed.pending) (BeforeOrAfter texts kit tables (Some c))
+          (asked_or texts kit tables stamp c b.allowed.pending b.allowed.pends) b.allowed.each;
     }

@@ -9,13 +9,14 @@ use Rattle.std.specs.Map.{lookup, set_value}
 use Rattle.indexmap.specs.IndexMap.{insert_entry}
 use Rattle.rr_code.specs.declared.command.Command.{Command}
 use Rattle.rr_code.specs.declared.command.Command.TheVariants.{Open}
-use Rattle.rr_game.specs.declared.fault.Fault as game
 use Rattle.rr_kit.specs.declared.kit.Kit.{Kit}
-use Rattle.rr_game.specs.Play.{play, players_of}
-use Rattle.rr_game.specs.Verdict.{MayJudge, command_verdict}
+use Rattle.rr_turns.specs.declared.request.Request.{Request}
+use Rattle.rr_turns.specs.declared.request.Request.TheVariants.{Play}
+use Rattle.rr_hist.specs.declared.fault.Fault as table
+use Rattle.rr_hist.specs.Fault as tables_of
 use Rattle.rr_store.specs.declared.fault.Fault.{Fault}
-use Rattle.rr_store.specs.Fault.{of_game}
-use Rattle.rr_store.specs.World.{MayFind, TableState, World, commands_in, names, is_full, opening_verdict, state_after, step_verdict, table_named, table_of, table_verdict, verdict_in, world_after, world_by}
+use Rattle.rr_store.specs.Fault.{of_table}
+use Rattle.rr_store.specs.World.{MayFind, TableState, World, names, opening_verdict, requests_in, state_after, step_verdict, table_named, verdict_in, world_after, world_by}
 
 module _ {T : Type 0} (state : T → TableState) where
   named_step : (b : Bool) (e : List ℕ × T) (o : Option T) (p : Option TableState) → p ≡ option_map state o
@@ -49,13 +50,13 @@ module _ {T : Type 0} (state : T → TableState) where
   set_by name (e ∷ es) t w v same found =
       set_step (bytes_eq name e.0) e es t w v name refl same found (set_by name es t w v same)
 
-  -- a table that is there has taken a command
-  pub world_set : (name : List ℕ) (entries : List (List ℕ × T)) (t w : T) (c : Command) → state w ≡ state_after (Some (state t)) c
+  -- a table that is there has taken a request
+  pub world_set : (kit : Kit) (name : List ℕ) (entries : List (List ℕ × T)) (t w : T) (c : Request Command) → state w ≡ state_after kit (Some (state t)) c
       → lookup (bytes_eq name) entries ≡ Some t
-      → world_by state (set_value (bytes_eq name) entries w) ≡ world_after (world_by state entries) name c
-  world_set name entries t w c same found =
+      → world_by state (set_value (bytes_eq name) entries w) ≡ world_after kit (world_by state entries) name c
+  world_set kit name entries t w c same found =
       set_by name entries t w _ same found
-      ∙ ap (λ o. insert_entry bytes_eq (world_by state entries) name (state_after o c)) (sym (named_by name entries ∙ ap (option_map state) found))
+      ∙ ap (λ o. insert_entry bytes_eq (world_by state entries) name (state_after kit o c)) (sym (named_by name entries ∙ ap (option_map state) found))
 
   add_step : (b : Bool) (e : List ℕ × T) (es : List (List ℕ × T)) (w : T) (v : TableState) (name : List ℕ) → cond b (Some e.1) (lookup (bytes_eq name) es) ≡ None
       → (lookup (bytes_eq name) es ≡ None → world_by state (es ++ (name, w) ∷ []) ≡ insert_entry bytes_eq (world_by state es) name v)
@@ -70,47 +71,38 @@ module _ {T : Type 0} (state : T → TableState) where
   add_by name (e ∷ es) w v same none = add_step (bytes_eq name e.0) e es w v name none (add_by name es w v same)
 
   -- a table that is opened comes last
-  pub world_add : (name : List ℕ) (entries : List (List ℕ × T)) (w : T) (c : Command) → state w ≡ state_after None c
+  pub world_add : (kit : Kit) (name : List ℕ) (entries : List (List ℕ × T)) (w : T) (c : Request Command) → state w ≡ state_after kit None c
       → lookup (bytes_eq name) entries ≡ None
-      → world_by state (entries ++ (name, w) ∷ []) ≡ world_after (world_by state entries) name c
-  world_add name entries w c same none =
+      → world_by state (entries ++ (name, w) ∷ []) ≡ world_after kit (world_by state entries) name c
+  world_add kit name entries w c same none =
       add_by name entries w _ same none
-      ∙ ap (λ o. insert_entry bytes_eq (world_by state entries) name (state_after o c)) (sym (named_by name entries ∙ ap (option_map state) none))
+      ∙ ap (λ o. insert_entry bytes_eq (world_by state entries) name (state_after kit o c)) (sym (named_by name entries ∙ ap (option_map state) none))
 
-  -- the verdict of an opening, and of another command
+  -- the verdict of an opening, and of another request
   pub opening_in : (kit : Kit) (name : List ℕ) (entries : List (List ℕ × T)) (stamp : ℕ) (players : List (List ℕ))
-      → verdict_in kit (world_by state entries) stamp name (Open players)
+      → verdict_in kit (world_by state entries) stamp name (Play (Open players))
       ≡ opening_verdict (option_map state (lookup (bytes_eq name) entries)) (length entries) stamp
   opening_in kit name entries stamp players =
       ap (λ o. opening_verdict o (length (world_by state entries)) stamp) (named_by name entries)
       ∙ ap (λ n. opening_verdict (option_map state (lookup (bytes_eq name) entries)) n stamp) (counted_by entries)
 
-  pub step_in : (kit : Kit) (name : List ℕ) (entries : List (List ℕ × T)) (stamp : ℕ) (c : Command)
-      → ((players : List (List ℕ)) → c ≡ Open players → ⊥)
+  pub step_in : (kit : Kit) (name : List ℕ) (entries : List (List ℕ × T)) (stamp : ℕ) (c : Request Command)
+      → ((players : List (List ℕ)) → c ≡ Play (Open players) → ⊥)
       → verdict_in kit (world_by state entries) stamp name c
       ≡ step_verdict kit (option_map state (lookup (bytes_eq name) entries)) stamp c
-  step_in kit name entries stamp (Open players) other = absurd (other players refl)
+  step_in kit name entries stamp (Play (Open players)) other = absurd (other players refl)
   step_in kit name entries stamp c other = ap (λ o. step_verdict kit o stamp c) (named_by name entries)
 
   -- the stamp of a table that is opened
-  pub named_stamp : (c : Command) (r : Result ℕ Fault) (o : Option T) → IfOk r (λ new. (new ≡ 1) × (o ≡ None))
-      → IfOk r (λ new. new ≡ (state_after (option_map state o) c).stamp)
-  named_stamp c (Ok n) o h = h.0 ∙ sym (ap (λ p. (state_after (option_map state p) c).stamp) h.1)
-  named_stamp c (Err fault) o h = tt
+  pub named_stamp : (kit : Kit) (players : List (List ℕ)) (r : Result ℕ Fault) (o : Option T) → IfOk r (λ new. (new ≡ 1) × (o ≡ None))
+      → IfOk r (λ new. new ≡ (state_after kit (option_map state o) (Play (Open players))).stamp)
+  named_stamp kit players (Ok n) o h = h.0 ∙ sym (ap (λ p. (state_after kit (option_map state p) (Play (Open players))).stamp) h.1)
+  named_stamp kit players (Err fault) o h = tt
 
--- a table that was just opened
-pub opened_state : (accepted : List Command) (stamp : ℕ) (c : Command) → accepted ≡ c ∷ [] → stamp ≡ 1 → table_of accepted stamp ≡ state_after None c
-opened_state accepted stamp c p q = ap (λ a. table_of a stamp) p ∙ ap (λ n. table_of (c ∷ []) n) q
-
--- the verdict of a table that can take commands, at its stamp, is that of the game
-pub table_verdict_of : (kit : Kit) (t : TableState) (stamp : ℕ) (c : Command) → (t.stamp == stamp) ≡ true → is_full t ≡ false
-    → table_verdict kit t stamp c ≡ option_map of_game (command_verdict kit (players_of t.accepted) (play kit t.accepted) c)
-table_verdict_of kit t stamp c e f = rw (e, f) refl
-
--- what a table finds, from what its game does
-pub found : (verdict : Option game.Fault) (fault : game.Fault) → MayJudge verdict fault → MayFind (option_map of_game verdict) (of_game fault)
-found verdict fault (inl refused) = inl (ap (option_map of_game) refused)
-found verdict fault (inr memory) = inr (ap (option_map of_game) memory.0, ap of_game memory.1)
+-- what a store finds, from what the table does
+pub found : (verdict : Option table.Fault) (fault : table.Fault) → tables_of.MayFind verdict fault → MayFind (option_map of_table verdict) (of_table fault)
+found verdict fault (inl refused) = inl (ap (option_map of_table) refused)
+found verdict fault (inr memory) = inr (ap (option_map of_table) memory.0, ap of_table memory.1)
 
 -- the tables of a store by their names, as its map has them
 pub names_by : {T : Type 0} (state : T → TableState) (entries : List (List ℕ × T)) → names (world_by state entries) ≡ keys_of entries
@@ -127,10 +119,10 @@ found_table state view held entries name (Ok t) same whole h =
 found_table state view held entries name (Err fault) same whole h =
     subst (λ (f : Fault). LacksTable held name f) (sym h.0) (whole, ap (λ (w : World). table_named w name) same ∙ named_by state name entries ∙ ap (option_map state) h.1)
 
--- how many commands the first tables have accepted, and one more
-commands_push : (ts : World) (t : List ℕ × TableState) → commands_in (ts ++ t ∷ []) ≡ commands_in ts + length t.1.accepted
-commands_push [] t = omega arith
-commands_push (x ∷ ts) t = omega (arith, commands_push ts t)
+-- how many requests the first tables have accepted, and one more
+requests_push : (ts : World) (t : List ℕ × TableState) → requests_in (ts ++ t ∷ []) ≡ requests_in ts + t.1.stamp
+requests_push [] t = omega arith
+requests_push (x ∷ ts) t = omega (arith, requests_push ts t)
 
 taken_by : {T : Type 0} (state : T → TableState) (n : ℕ) (entries : List (List ℕ × T)) → take n (world_by state entries) ≡ world_by state (take n entries)
 taken_by state zero entries = refl
@@ -141,10 +133,10 @@ by_push : {T : Type 0} (state : T → TableState) (es : List (List ℕ × T)) (e
 by_push state [] e = refl
 by_push state (x ∷ es) e = ap (λ l. (x.0, state x.1) ∷ l) (by_push state es e)
 
-pub commands_more : {T : Type 0} (state : T → TableState) (entries : List (List ℕ × T)) (place : ℕ) (e : List ℕ × T) → slice_get entries place ≡ Some e
-    → commands_in (take (place + 1) (world_by state entries)) ≡ commands_in (take place (world_by state entries)) + length (state e.1).accepted
-commands_more state entries place e at =
+pub requests_more : {T : Type 0} (state : T → TableState) (entries : List (List ℕ × T)) (place : ℕ) (e : List ℕ × T) → slice_get entries place ≡ Some e
+    → requests_in (take (place + 1) (world_by state entries)) ≡ requests_in (take place (world_by state entries)) + (state e.1).stamp
+requests_more state entries place e at =
     let one = take_more entries place e (slice_get_within entries place e at) ∙ ap (λ x. take place entries ++ x ∷ []) (get_or_from_slice_get entries place e e at) in
-    ap commands_in (taken_by state (place + 1) entries ∙ ap (world_by state) one ∙ by_push state (take place entries) e)
-    ∙ commands_push (world_by state (take place entries)) (e.0, state e.1)
-    ∙ ap (λ (w : World). commands_in w + length (state e.1).accepted) (sym (taken_by state place entries))
+    ap requests_in (taken_by state (place + 1) entries ∙ ap (world_by state) one ∙ by_push state (take place entries) e)
+    ∙ requests_push (world_by state (take place entries)) (e.0, state e.1)
+    ∙ ap (λ (w : World). requests_in w + (state e.1).stamp) (sym (taken_by state place entries))

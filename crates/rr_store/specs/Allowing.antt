@@ -8,7 +8,7 @@ use Rattle.rr_kit.specs.Kits.{IsRightKit, KitTexts, SpellsKit}
 use Rattle.rr_store.specs.declared.fault.Fault.{Fault}
 use Rattle.rr_store.specs.declared.fault.Fault.TheVariants as F
 use Rattle.rr_store.specs.Files.{IsDamagedFile, IsNewFile, IsNoFile, StandsFor}
-use Rattle.rr_store.specs.World.{IsOfForm, TableCommand, World, verdict_in, with_pending, world_after}
+use Rattle.rr_store.specs.World.{IsOfForm, TableRequest, World, verdict_in, with_pending, world_after}
 
 -- a stop in this state leaves only files that stand for this world
 abbrev pub Keeps : DiskState → KitTexts → World → Type 0
@@ -20,37 +20,36 @@ pub record Between (past_old : List DiskState) (old : DiskState) (past_new : Lis
   pub passed : new ∷ past_new ≡ moments ++ old ∷ past_old
   pub allowed : P moments
 
--- the file stands for the world, or for the world with the command that is pending
-abbrev pub BeforeOrAfter : KitTexts → World → Option TableCommand → List ℕ → Type 0
-BeforeOrAfter texts tables pending image = StandsFor image texts tables ⊎ StandsFor image texts (with_pending tables pending)
+-- the file stands for the world, or for the world with the request that is pending
+abbrev pub BeforeOrAfter : KitTexts → Kit → World → Option TableRequest → List ℕ → Type 0
+BeforeOrAfter texts kit tables pending image = StandsFor image texts tables ⊎ StandsFor image texts (with_pending kit tables pending)
 
--- no rule refuses the command with this stamp
-pub record IsLawful (texts : KitTexts) (tables : World) (stamp : ℕ) (c : TableCommand) : Type 0 where
-  pub kit : Kit
+-- with the kit that the texts spell, no rule refuses the request with this stamp
+pub record IsLawful (texts : KitTexts) (kit : Kit) (tables : World) (stamp : ℕ) (r : TableRequest) : Type 0 where
   pub right : SpellsKit texts kit
-  pub of_form : IsOfForm c
-  pub lawful : verdict_in kit tables stamp c.name c.command ≡ None
+  pub of_form : IsOfForm r
+  pub lawful : verdict_in kit tables stamp r.name r.request ≡ None
 
--- a command is pending only where it is lawful
-abbrev pub MayPend : KitTexts → World → ℕ → TableCommand → Option TableCommand → Type 0
-MayPend texts tables stamp c None = Unit {0}
-MayPend texts tables stamp c (Some given) = (given ≡ c) × IsLawful texts tables stamp c
+-- a request is pending only where it is lawful
+abbrev pub MayPend : KitTexts → Kit → World → ℕ → TableRequest → Option TableRequest → Type 0
+MayPend texts kit tables stamp r None = Unit {0}
+MayPend texts kit tables stamp r (Some given) = (given ≡ r) × IsLawful texts kit tables stamp r
 
--- how the disk is left where a commit ends so: with the command; after a device fault nothing more is known; any other
+-- how the disk is left where a commit ends so: with the request; after a device fault nothing more is known; any other
 -- refusal has left it alone
-abbrev pub CommitEnds : KitTexts → World → ℕ → TableCommand → List DiskState → DiskState → Result ℕ Fault → Type 0
-CommitEnds texts tables stamp c moments new (Ok _) = IsLawful texts tables stamp c × Keeps new texts (world_after tables c.name c.command)
-CommitEnds texts tables stamp c moments new (Err F.DeviceFailed) = IsLawful texts tables stamp c
-CommitEnds texts tables stamp c moments new (Err fault) = moments ≡ []
+abbrev pub CommitEnds : KitTexts → Kit → World → ℕ → TableRequest → List DiskState → DiskState → Result ℕ Fault → Type 0
+CommitEnds texts kit tables stamp r moments new (Ok _) = IsLawful texts kit tables stamp r × Keeps new texts (world_after kit tables r.name r.request)
+CommitEnds texts kit tables stamp r moments new (Err F.DeviceFailed) = IsLawful texts kit tables stamp r
+CommitEnds texts kit tables stamp r moments new (Err fault) = moments ≡ []
 
 -- What a commit may do to a disk that keeps a world: at each moment every image stands for the world, or for the world with
--- the command, if it is lawful.
-pub record CommitAllows (texts : KitTexts) (tables : World) (stamp : ℕ) (c : TableCommand) (old : DiskState) (moments : List DiskState) (new : DiskState) (result : Result ℕ Fault) : Type 0 where
-  pub pending : Option TableCommand
-  pub pends : MayPend texts tables stamp c pending
+-- the request, if it is lawful.
+pub record CommitAllows (texts : KitTexts) (kit : Kit) (tables : World) (stamp : ℕ) (r : TableRequest) (old : DiskState) (moments : List DiskState) (new : DiskState) (result : Result ℕ Fault) : Type 0 where
+  pub pending : Option TableRequest
+  pub pends : MayPend texts kit tables stamp r pending
   pub before : Keeps old texts tables
-  pub each : EachImageOf moments (BeforeOrAfter texts tables pending)
-  pub ends : CommitEnds texts tables stamp c moments new result
+  pub each : EachImageOf moments (BeforeOrAfter texts kit tables pending)
+  pub ends : CommitEnds texts kit tables stamp r moments new result
 
 -- a sync at most, and no write
 abbrev pub SyncsAtMost : DiskState → List DiskState → Type 0

@@ -4,8 +4,8 @@ use Rattle.rr_disk.specs.Disk.{counted}
 use Rattle.rr_kit.specs.declared.fault.Fault as kit
 use Rattle.rr_kit.specs.declared.fault.Fault.TheVariants as I
 use Rattle.rr_kit.specs.Fault as kits
-use Rattle.rr_game.specs.declared.fault.Fault as game
-use Rattle.rr_game.specs.declared.fault.Fault.TheVariants as G
+use Rattle.rr_hist.specs.declared.fault.Fault as table
+use Rattle.rr_hist.specs.declared.fault.Fault.TheVariants as H
 use Rattle.rr_game.specs.Fault as numbers
 use Rattle.rr_code.specs.declared.fault.Fault as code
 use Rattle.rr_code.specs.declared.fault.Fault.TheVariants as C
@@ -19,6 +19,7 @@ abbrev pub number_of : Fault → ℕ
 number_of (F.Kit fault) = kits.number_of fault
 number_of (F.Game fault) = numbers.number_of fault
 number_of (F.StaleStamp stamp) = 52
+number_of F.TurnNotKept = 53
 number_of F.TooManyCommands = 54
 number_of F.DeviceFailed = 60
 number_of F.HalfFull = 61
@@ -34,11 +35,14 @@ abbrev pub of_kit : kit.Fault → Fault
 of_kit I.OutOfMemory = F.OutOfMemory
 of_kit fault = F.Kit fault
 
-abbrev pub of_game : game.Fault → Fault
-of_game G.OutOfMemory = F.OutOfMemory
-of_game fault = F.Game fault
+abbrev pub of_table : table.Fault → Fault
+of_table (H.Game fault) = F.Game fault
+of_table (H.StaleStamp stamp) = F.StaleStamp stamp
+of_table H.TurnNotKept = F.TurnNotKept
+of_table H.TooManyCommands = F.TooManyCommands
+of_table H.OutOfMemory = F.OutOfMemory
 
--- a record that spells no command is clause 8 of a damaged file
+-- a record that spells no request is clause 8 of a damaged file
 abbrev pub of_code : code.Fault → Fault
 of_code C.Malformed = F.Damaged 8
 of_code C.OutOfMemory = F.OutOfMemory

@@ -27,7 +27,7 @@ abbrev pub IsNoFile : List ℕ → Type 0
 IsNoFile file =
     IsNoStore file ⊎ ((texts : KitTexts) × (records : List (List ℕ)) × IsStore file (in_file texts) records × IsWrongKit texts)
 
--- a record of the file is none, or has no lawful command
+-- a record of the file is none, or has no lawful request
 abbrev pub IsDamagedFile : List ℕ → Type 0
 IsDamagedFile file =
     IsDamaged file ⊎ ((texts : KitTexts) × (records : List (List ℕ)) × IsStore file (in_file texts) records × IsBroken texts records)

@@ -1,7 +1,8 @@
--- What a store holds, and what comes of a command.
+-- What a store holds, and what comes of a request.
 use Rattle.std.specs.Prelude.{◌≡◌, ℕ, ◌⊎◌, Bool, true, false, List, None, Some, Result, Ok, Err}
 use Rattle.rr_kit.specs.declared.kit.Kit.{Kit}
 use Rattle.rr_code.specs.declared.command.Command.{Command}
+use Rattle.rr_turns.specs.declared.request.Request.{Request}
 use Rattle.rr_store.specs.declared.fault.Fault.{Fault}
 use Rattle.rr_store.specs.declared.fault.Fault.TheVariants as F
 use Rattle.rr_store.specs.World.{World, state_after, table_named, verdict_in, world_after}
@@ -18,28 +19,28 @@ with_tables held tables = record { kit = held.kit; tables = tables; broken = hel
 abbrev pub with_failure : Held → Held
 with_failure held = record { kit = held.kit; tables = held.tables; broken = true }
 
--- the new stamp of a table that has taken a command
-abbrev pub stamp_after : World → List ℕ → Command → ℕ
-stamp_after tables name command = (state_after (table_named tables name) command).stamp
+-- the new stamp of a table that has taken a request
+abbrev pub stamp_after : Kit → World → List ℕ → Request Command → ℕ
+stamp_after kit tables name request = (state_after kit (table_named tables name) request).stamp
 
--- what comes of a command with this stamp: its table's new stamp, or why it is refused
-pub data Takes (old : Held) (stamp : ℕ) (name : List ℕ) (command : Command) (new : Held) : Result ℕ Fault → Type 0 where
+-- what comes of a request with this stamp: its table's new stamp, or why it is refused
+pub data Takes (old : Held) (stamp : ℕ) (name : List ℕ) (request : Request Command) (new : Held) : Result ℕ Fault → Type 0 where
   -- no rule refuses it, and the table has taken it
-  Accepted : old.broken ≡ false → verdict_in old.kit old.tables stamp name command ≡ None
-      → new ≡ with_tables old (world_after old.tables name command)
-      → Takes old stamp name command new (Ok (stamp_after old.tables name command))
+  Accepted : old.broken ≡ false → verdict_in old.kit old.tables stamp name request ≡ None
+      → new ≡ with_tables old (world_after old.kit old.tables name request)
+      → Takes old stamp name request new (Ok (stamp_after old.kit old.tables name request))
   -- the first rule that it breaks refuses it
-  Refused : (fault : Fault) → old.broken ≡ false → verdict_in old.kit old.tables stamp name command ≡ Some fault
-      → new ≡ old → Takes old stamp name command new (Err fault)
+  Refused : (fault : Fault) → old.broken ≡ false → verdict_in old.kit old.tables stamp name request ≡ Some fault
+      → new ≡ old → Takes old stamp name request new (Err fault)
   -- no rule refuses it, but there is no room for it in the file or in memory
-  NoRoom : (fault : Fault) → old.broken ≡ false → verdict_in old.kit old.tables stamp name command ≡ None
+  NoRoom : (fault : Fault) → old.broken ≡ false → verdict_in old.kit old.tables stamp name request ≡ None
       → (fault ≡ F.HalfFull) ⊎ (fault ≡ F.OutOfMemory)
-      → new ≡ old → Takes old stamp name command new (Err fault)
+      → new ≡ old → Takes old stamp name request new (Err fault)
   -- no rule refuses it, but the device failed
-  Fails : old.broken ≡ false → verdict_in old.kit old.tables stamp name command ≡ None
-      → new ≡ with_failure old → Takes old stamp name command new (Err F.DeviceFailed)
+  Fails : old.broken ≡ false → verdict_in old.kit old.tables stamp name request ≡ None
+      → new ≡ with_failure old → Takes old stamp name request new (Err F.DeviceFailed)
   -- the device failed before
-  Again : old.broken ≡ true → new ≡ old → Takes old stamp name command new (Err F.OpenAgain)
+  Again : old.broken ≡ true → new ≡ old → Takes old stamp name request new (Err F.OpenAgain)
 
 -- why a store gives no table of this name
 abbrev pub LacksTable : Held → List ℕ → Fault → Type 0

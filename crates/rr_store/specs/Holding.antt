@@ -2,33 +2,26 @@
 use Rattle.std.specs.Prelude.{◌≡◌, ℕ, List, length}
 use Rattle.rr_disk.specs.Disk.{DiskState}
 use Rattle.rr_code.specs.declared.command.Command.{Command}
-use Rattle.rr_code.specs.Command.{record_text}
-use Rattle.rr_game.specs.declared.game.Game.{Game}
+use Rattle.rr_code.specs.Request.{record_text}
+use Rattle.rr_turns.specs.declared.request.Request.{Request}
+use Rattle.rr_hist.specs.declared.table.Table.{Table}
+use Rattle.rr_hist.specs.Tables.{kept_in}
 use Rattle.rr_kit.specs.Kits.{KitTexts}
 use Rattle.rr_keeper.specs.declared.keeper.Keeper.{Keeper}
 use Rattle.rr_keeper.specs.Keeper.{Keeps as KeepsLines, is_broken, number_of_next, part_of}
 use Rattle.rr_keeper.specs.Keeper as file
 use Rattle.rr_keeper.specs.Parts.{part_after}
 use Rattle.rr_store.specs.declared.store.Store.{Store}
-use Rattle.rr_store.specs.declared.tables.Table.{Table}
 use Rattle.rr_store.specs.declared.tables.Tables.{Tables}
 use Rattle.rr_store.specs.Held.{Held}
 use Rattle.rr_store.specs.Lent.{in_file}
 use Rattle.rr_store.specs.Logging.{HasNoRoom}
 use Rattle.rr_store.specs.Replaying.{Replayed}
-use Rattle.rr_store.specs.World.{TableState, World, table_of, world_by}
-
--- what a table in memory says of itself
-abbrev pub state_of : Table → TableState
-state_of table = table_of table.accepted.items table.stamp
-
--- its game
-abbrev pub game_of : Table → Game
-game_of table = table.game
+use Rattle.rr_store.specs.World.{World, world_by}
 
 -- the tables that a map's entries hold
 abbrev pub world_of : List (List ℕ × Table) → World
-world_of entries = world_by state_of entries
+world_of entries = world_by kept_in entries
 
 -- what tables in memory, and the keeper of their file, hold
 abbrev pub held_by : {D : Type 0} → Keeper D → Tables → Held
@@ -45,16 +38,16 @@ disk_of store = file.disk_of store.log.keeper
 abbrev pub held_of : {D : Type 0} → Store D → Held
 held_of store = held_by store.log.keeper store.tables
 
--- the file has no room for the record of this command: the one refusal that tells of the journal, until it begins anew
-abbrev pub IsFull : {D : Type 0} → Store D → List ℕ → Command → Type 0
-IsFull store name command = HasNoRoom store.log.keeper (record_text name command)
+-- the file has no room for the record of this request: the one refusal that tells of the journal, until it begins anew
+abbrev pub IsFull : {D : Type 0} → Store D → List ℕ → Request Command → Type 0
+IsFull store name request = HasNoRoom store.log.keeper (record_text name request)
 
--- the next record goes right behind that of this command: into the next part only where the one before had no room for it
-abbrev pub GoesBehind : {D : Type 0} → Store D → List ℕ → Command → Store D → Type 0
-GoesBehind old name command new =
-    part_of (keeper_of new) ≡ part_after (part_of (keeper_of old)) (length (record_text name command))
+-- the next record goes right behind that of this request: into the next part only where the one before had no room for it
+abbrev pub GoesBehind : {D : Type 0} → Store D → List ℕ → Request Command → Store D → Type 0
+GoesBehind old name request new =
+    part_of (keeper_of new) ≡ part_after (part_of (keeper_of old)) (length (record_text name request))
 
--- Whatever a stop leaves now, the file stands for these texts and for what the store holds, and the next command goes
+-- Whatever a stop leaves now, the file stands for these texts and for what the store holds, and the next record goes
 -- behind what was accepted: on this a call rests, and this it carries on.
 pub record Carries {D : Type 0} (state : D → DiskState) (store : Store D) (texts : KitTexts) : Type 0 where
   pub records : List (List ℕ)

@@ -1,5 +1,6 @@
 pub mod Fault
 pub mod World
+pub mod Changing
 pub mod Held
 pub mod Lent
 pub mod Replaying

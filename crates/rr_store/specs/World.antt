@@ -1,40 +1,24 @@
--- The tables of a store, from the commands that it accepted alone.
-use Rattle.std.specs.Prelude.{◌≡◌, ℕ, ◌+◌, ◌==◌, ◌||◌, ◌⊎◌, Bool, true, not, nat_le, length, List, [], ◌∷◌, ◌++◌, Option, None, Some, option_map, bytes_eq, map, if◌then◌else◌}
+-- The tables of a store, from the requests that it accepted alone.
+use Rattle.std.specs.Prelude.{◌≡◌, ℕ, ◌+◌, ◌==◌, ◌⊎◌, Bool, true, not, nat_le, length, List, [], ◌∷◌, Option, None, Some, option_map, bytes_eq, map, if◌then◌else◌}
 use Rattle.std.specs.Map.{lookup}
 use Rattle.indexmap.specs.IndexMap.{insert_entry}
 use Rattle.rr_kit.specs.declared.kit.Kit.{Kit}
-use Rattle.rr_game.specs.Play.{play, players_of}
-use Rattle.rr_game.specs.Verdict.{command_verdict}
 use Rattle.rr_code.specs.declared.command.Command.{Command}
 use Rattle.rr_code.specs.declared.command.Command.TheVariants.{Open}
-use Rattle.rr_code.specs.Command.{IsCommand}
+use Rattle.rr_code.specs.Request.{IsRequest}
+use Rattle.rr_turns.specs.declared.request.Request.{Request}
+use Rattle.rr_turns.specs.declared.request.Request.TheVariants.{Play}
+use Rattle.rr_turns.specs.Kept.{Kept, kept_after, nothing}
+use Rattle.rr_hist.specs.Playing.{ends_turn}
+use Rattle.rr_hist.specs.Verdict.{request_verdict}
 use Rattle.rr_words.specs.Name.{IsTableName}
 use Rattle.rr_store.specs.declared.fault.Fault.{Fault}
 use Rattle.rr_store.specs.declared.fault.Fault.TheVariants as F
-use Rattle.rr_store.specs.Fault.{of_game}
+use Rattle.rr_store.specs.Fault.{of_table}
 
--- a table: the commands that it accepted, and its stamp
-pub record TableState : Type 0 where
-  pub accepted : List Command
-  pub stamp : ℕ
-
-abbrev pub table_of : List Command → ℕ → TableState
-table_of accepted stamp = record { accepted = accepted; stamp = stamp }
-
--- the table has all the commands that it can keep, or its last stamp
-abbrev pub is_full : TableState → Bool
-is_full t = nat_le 4096 (length t.accepted) || nat_le 4000000000 t.stamp
-
--- why a command with this stamp is refused at a table, if it is
-abbrev pub table_verdict : Kit → TableState → ℕ → Command → Option Fault
-table_verdict kit t stamp command =
-    if not (t.stamp == stamp) then Some (F.StaleStamp t.stamp)
-    else if is_full t then Some F.TooManyCommands
-    else option_map of_game (command_verdict kit (players_of t.accepted) (play kit t.accepted) command)
-
--- the table after a command
-abbrev pub with_command : TableState → Command → TableState
-with_command t command = record { accepted = t.accepted ++ command ∷ []; stamp = t.stamp + 1 }
+-- a table: the commands that it keeps, the least turn to which it can be taken back, and its stamp
+abbrev pub TableState : Type 0
+TableState = Kept Command
 
 -- why an opening with this stamp is refused, if it is, by the table of that name and the number of tables
 abbrev pub opening_verdict : Option TableState → ℕ → ℕ → Option Fault
@@ -44,7 +28,7 @@ opening_verdict None tables stamp =
     else if nat_le 64 tables then Some F.TooManyTables
     else None
 
--- what may keep a command that no rule refuses from being taken: want of memory, or the file, where that is full for it.
+-- what may keep a request that no rule refuses from being taken: want of memory, or the file, where that is full for it.
 -- Before and after tell whether the device has failed
 abbrev pub IsKeptOut : Type 0 → Bool → Fault → Bool → Type 0
 IsKeptOut Full before F.OutOfMemory after = after ≡ before
@@ -53,28 +37,29 @@ IsKeptOut Full before F.DeviceFailed after = after ≡ true
 IsKeptOut Full before F.OpenAgain after = before ≡ true
 IsKeptOut Full before _ after = ⊥
 
--- what a taker of commands may answer where this is the verdict
+-- what a taker of requests may answer where this is the verdict
 abbrev pub MayRefuse : Option Fault → Type 0 → Bool → Fault → Bool → Type 0
 MayRefuse verdict Full before fault after =
     ((verdict ≡ Some fault) × (after ≡ before)) ⊎ ((verdict ≡ None) × IsKeptOut Full before fault after)
 
--- what a judge of a table's commands may find where this is the verdict: the verdict's fault, or want of memory
+-- what a judge of requests may find where this is the verdict: the verdict's fault, or want of memory
 abbrev pub MayFind : Option Fault → Fault → Type 0
 MayFind verdict fault = (verdict ≡ Some fault) ⊎ ((verdict ≡ None) × (fault ≡ F.OutOfMemory))
 
--- why a command is refused, if it is, by the table of its name and the number of tables
-abbrev pub step_verdict : Kit → Option TableState → ℕ → Command → Option Fault
-step_verdict kit None stamp command = Some F.NoSuchTable
-step_verdict kit (Some t) stamp command = table_verdict kit t stamp command
+-- why a request is refused, if it is, by the table of its name, which there may not be
+abbrev pub step_verdict : Kit → Option TableState → ℕ → Request Command → Option Fault
+step_verdict kit None stamp request = Some F.NoSuchTable
+step_verdict kit (Some t) stamp request = option_map of_table (request_verdict kit t stamp request)
 
-abbrev pub world_verdict : Kit → Option TableState → ℕ → ℕ → Command → Option Fault
-world_verdict kit table tables stamp (Open players) = opening_verdict table tables stamp
-world_verdict kit table tables stamp command = step_verdict kit table stamp command
+-- and by the number of tables, where it opens one
+abbrev pub world_verdict : Kit → Option TableState → ℕ → ℕ → Request Command → Option Fault
+world_verdict kit table tables stamp (Play (Open players)) = opening_verdict table tables stamp
+world_verdict kit table tables stamp request = step_verdict kit table stamp request
 
--- the table after an accepted command
-abbrev pub state_after : Option TableState → Command → TableState
-state_after None command = record { accepted = command ∷ []; stamp = 1 }
-state_after (Some t) command = with_command t command
+-- the table after an accepted request, where there may have been none
+abbrev pub state_after : Kit → Option TableState → Request Command → TableState
+state_after kit None request = kept_after (ends_turn kit) nothing request
+state_after kit (Some t) request = kept_after (ends_turn kit) t request
 
 -- the tables of a file by their names, in the order of opening
 abbrev pub World : Type 0
@@ -93,47 +78,47 @@ abbrev pub present_stamp : Option TableState → ℕ
 present_stamp None = 0
 present_stamp (Some t) = t.stamp
 
--- why a command with this stamp is refused at the table of this name, if it is
-abbrev pub verdict_in : Kit → World → ℕ → List ℕ → Command → Option Fault
-verdict_in kit tables stamp name command =
-    world_verdict kit (table_named tables name) (length tables) stamp command
+-- why a request with this stamp is refused at the table of this name, if it is
+abbrev pub verdict_in : Kit → World → ℕ → List ℕ → Request Command → Option Fault
+verdict_in kit tables stamp name request =
+    world_verdict kit (table_named tables name) (length tables) stamp request
 
--- the tables after an accepted command: the table of this name has taken it, and one that it opened comes last
-abbrev pub world_after : World → List ℕ → Command → World
-world_after tables name command =
-    insert_entry bytes_eq tables name (state_after (table_named tables name) command)
+-- the tables after an accepted request: the table of this name has taken it, and one that it opened comes last
+abbrev pub world_after : Kit → World → List ℕ → Request Command → World
+world_after kit tables name request =
+    insert_entry bytes_eq tables name (state_after kit (table_named tables name) request)
 
--- a command and the table that it is for
-pub record TableCommand : Type 0 where
+-- a request and the table that it is for
+pub record TableRequest : Type 0 where
   pub name : List ℕ
-  pub command : Command
+  pub request : Request Command
 
-abbrev pub for_table : List ℕ → Command → TableCommand
-for_table table c = record { name = table; command = c }
+abbrev pub for_table : List ℕ → Request Command → TableRequest
+for_table table r = record { name = table; request = r }
 
--- the tables with a command that may be pending
-abbrev pub with_pending : World → Option TableCommand → World
-with_pending tables None = tables
-with_pending tables (Some c) = world_after tables c.name c.command
+-- the tables with a request that may be pending
+abbrev pub with_pending : Kit → World → Option TableRequest → World
+with_pending kit tables None = tables
+with_pending kit tables (Some r) = world_after kit tables r.name r.request
 
 -- its parts are what they stand for
-abbrev pub IsOfForm : TableCommand → Type 0
-IsOfForm c = IsTableName c.name × IsCommand c.command
+abbrev pub IsOfForm : TableRequest → Type 0
+IsOfForm r = IsTableName r.name × IsRequest r.request
 
--- a command is lawful at the present stamp of its table
-abbrev pub IsLawfulIn : Kit → World → TableCommand → Type 0
-IsLawfulIn kit tables c = IsOfForm c × (verdict_in kit tables (present_stamp (table_named tables c.name)) c.name c.command ≡ None)
+-- a request is lawful at the present stamp of its table
+abbrev pub IsLawfulIn : Kit → World → TableRequest → Type 0
+IsLawfulIn kit tables r = IsOfForm r × (verdict_in kit tables (present_stamp (table_named tables r.name)) r.name r.request ≡ None)
 
--- these commands, each lawful in its turn, lead from one world to another
-abbrev pub Follows : Kit → World → List TableCommand → World → Type 0
+-- these requests, each lawful in its turn, lead from one world to another
+abbrev pub Follows : Kit → World → List TableRequest → World → Type 0
 Follows kit old [] new = new ≡ old
-Follows kit old (c ∷ cs) new = IsLawfulIn kit old c × Follows kit (world_after old c.name c.command) cs new
+Follows kit old (r ∷ rs) new = IsLawfulIn kit old r × Follows kit (world_after kit old r.name r.request) rs new
 
 -- the names of the tables, in the order of opening
 abbrev pub names : World → List (List ℕ)
 names tables = map (λ t. t.0) tables
 
--- how many commands the tables have accepted
-abbrev pub commands_in : World → ℕ
-commands_in [] = 0
-commands_in (t ∷ ts) = length t.1.accepted + commands_in ts
+-- how many requests the tables have accepted: each raised the stamp of its table by one
+abbrev pub requests_in : World → ℕ
+requests_in [] = 0
+requests_in (t ∷ ts) = t.1.stamp + requests_in ts

@@ -1,11 +1,11 @@
 ghost use Rattle.std.specs.Prelude.{◌≡◌};
-ghost use Rattle.rr_store.specs.Fault.{number_of, of_code, of_game, of_keeper, of_kit};
+ghost use Rattle.rr_store.specs.Fault.{number_of, of_code, of_keeper, of_kit, of_table};
 ghost use Rattle.rr_store.specs.declared.fault.Fault.TheVariants.{OutOfMemory};
 
 use std::alloc::{AllocError, AllocFailed};
 use thiserror::Error;
 
-/// Why a command, a kit or a file is refused.
+/// Why a request, a kit or a file is refused.
 #[derive(Clone, Copy, Debug, Drop, PartialEq, Eq, Error)]
 pub enum Fault {
     /// A text of the kit is refused. Want of memory isn't told by this, but by `OutOfMemory`.
@@ -17,13 +17,16 @@ pub enum Fault {
     /// The stamp isn't the table's, which is given.
     #[error("stale stamp {0}")]
     StaleStamp(u64),
+    /// The turn hasn't ended yet, or it is forgotten.
+    #[error("turn not kept")]
+    TurnNotKept,
     /// The table has all the commands that it can keep, or its last stamp.
     #[error("too many commands")]
     TooManyCommands,
-    /// The device failed. Whether the command under way was taken is known when the file is opened again.
+    /// The device failed. Whether the request under way was taken is known when the file is opened again.
     #[error("device failed")]
     DeviceFailed,
-    /// The journal has no room for the command.
+    /// The journal has no room for the request.
     #[error("half full")]
     HalfFull,
     /// The file holds what no store of ours holds; the first clause that it breaks.
@@ -58,6 +61,7 @@ impl Fault {
             Fault::Kit(fault) => fault.number(),
             Fault::Game(fault) => fault.number(),
             Fault::StaleStamp(_) => 52,
+            Fault::TurnNotKept => 53,
             Fault::TooManyCommands => 54,
             Fault::DeviceFailed => 60,
             Fault::HalfFull => 61,
@@ -82,18 +86,21 @@ impl From<rr_kit::Fault> for Fault {
     }
 }
 
-impl From<rr_game::Fault> for Fault {
-    ghost from_gives = { λ fault wrapped. wrapped ≡ of_game fault };
+impl From<rr_hist::Fault> for Fault {
+    ghost from_gives = { λ fault wrapped. wrapped ≡ of_table fault };
 
-    fn from(fault: rr_game::Fault) -> Fault {
+    fn from(fault: rr_hist::Fault) -> Fault {
         match fault {
-            rr_game::Fault::OutOfMemory => Fault::OutOfMemory,
-            _ => Fault::Game(fault),
+            rr_hist::Fault::Game(fault) => Fault::Game(fault),
+            rr_hist::Fault::StaleStamp(stamp) => Fault::StaleStamp(stamp),
+            rr_hist::Fault::TurnNotKept => Fault::TurnNotKept,
+            rr_hist::Fault::TooManyCommands => Fault::TooManyCommands,
+            rr_hist::Fault::OutOfMemory => Fault::OutOfMemory,
         }
     }
 }
 
-/// Of a record: one that spells no command is clause 8 of a damaged file.
+/// Of a record: one that spells no request is clause 8 of a damaged file.
 impl From<rr_code::Fault> for Fault {
     ghost from_gives = { λ fault wrapped. wrapped ≡ of_code fault };
 

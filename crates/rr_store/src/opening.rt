@@ -12,7 +12,7 @@ ghost use Rattle.rr_store.specs.Files.{RefusesOpening};
 ghost use Rattle.rr_store.specs.Holding.{Carries, disk_of, held_by, held_of, keeper_of, world_of};
 ghost use Rattle.rr_store.specs.Lent.{from_file};
 ghost use Rattle.rr_store.specs.Replaying.{BreaksOff, IsUnlawful, RefusesReplay, Replayed, Replays, TakesRecord, damage_of, records_of};
-ghost use Rattle.rr_store.specs.World.{Follows, TableCommand};
+ghost use Rattle.rr_store.specs.World.{Follows, TableRequest};
 
 use crate::fault::Fault;
 use crate::log::Log;
@@ -41,7 +41,7 @@ pub struct Refused<D: Drop> {
 ///
 /// # Errors
 /// `DeviceFailed`; `NotAStore` where the file isn't of the form that `format` gives it, or a text of its kit is refused;
-/// `Damaged` where a record isn't a command that its table could take; `OutOfMemory`.
+/// `Damaged` where a record isn't a request that its table could take; `OutOfMemory`.
 pub fn open<D: Disk + Drop>(alloc: Global, disk: D) -> Result<Store<D>, Refused<D>>
     // The store holds the world for which the file stands, and goes on with it; else the file stands for none, or the
     // device failed or memory was wanted.
@@ -53,9 +53,9 @@ pub fn open<D: Disk + Drop>(alloc: Global, disk: D) -> Result<Store<D>, Refused<
         → Between (D.past disk) (D.state disk) (D.past refused.disk) (D.state refused.disk)
         (λ moments. OpenAllows (D.state disk) moments (D.state refused.disk) (Err refused.fault))) }
 
-    // Of every disk: what the store holds came of commands that the rules of a right kit allow, and its device hasn't failed.
+    // Of every disk: what the store holds came of requests that the rules of a right kit allow, and its device hasn't failed.
     ensures lawful { IfOk result (λ store. (texts : TextsOfKit) × SpellsKit texts (held_of store).kit
-        × (commands : List TableCommand) × Follows (held_of store).kit [] commands (held_of store).tables) }
+        × (requests : List TableRequest) × Follows (held_of store).kit [] requests (held_of store).tables) }
     ensures whole { IfOk result (λ store. (held_of store).broken ≡ false) }
     ensures refused { IfErr result (λ refused.
         RefusesOpening (D.Honest refused.disk) (D.state disk).content refused.fault) }
@@ -195,8 +195,8 @@ fn replay_record(alloc: Global, tables: &mut Tables, bytes: &[u8]) -> Result<(),
         ⊎ IsUnlawful tables.old.kit (world_of tables.old.map.entries) bytes.now) }
     ensures kit { tables.new.kit ≡ tables.old.kit }
 {
-    let (name, command) = read_record(bytes)?;
+    let (name, request) = read_record(bytes)?;
     let stamp = tables.stamp(&name);
-    tables.take(alloc, stamp, &name, &command, &mut Standing)?;
+    tables.take(alloc, stamp, &name, &request, &mut Standing)?;
     Ok(())
 }

@@ -1,16 +1,17 @@
 ghost use Rattle.std.specs.Prelude.{◌≡◌, ◌≢◌, ◌+◌, ◌≤◌, true, false, IfOk, IfErr, MatchResult, Some, None, slice_get, length};
 ghost use Rattle.std.specs.Option.{option_copied};
-ghost use Rattle.rr_code.specs.Command.{IsCommand, record_text};
-ghost use Rattle.rr_game.specs.Keeping.{IsGameOf};
+ghost use Rattle.rr_code.specs.Request.{IsRequest, record_text};
+ghost use Rattle.rr_hist.specs.Tables.{IsPlayed, kept_in};
 ghost use Rattle.rr_words.specs.Name.{IsTableName};
 ghost use Rattle.rr_store.specs.Held.{LacksTable};
-ghost use Rattle.rr_store.specs.World.{commands_in, names, table_named, verdict_in};
+ghost use Rattle.rr_store.specs.World.{names, requests_in, table_named, verdict_in};
 
 use crate::fault::Fault;
 use crate::log::Log;
-use crate::tables::{Table, Tables};
-use rr_code::Command;
+use crate::tables::Tables;
+use rr_code::{Command, Request};
 use rr_disk::Disk;
+use rr_hist::Table;
 use rr_kit::Kit;
 use rr_words::Name;
 use std::alloc::Global;
@@ -25,7 +26,7 @@ pub struct Store<D: Drop> {
 
 impl<D: Disk + Drop> Store<D> {
     ghost use Rattle.rr_store.specs.Committing.{Commits};
-    ghost use Rattle.rr_store.specs.Holding.{disk_of, game_of, held_of, state_of};
+    ghost use Rattle.rr_store.specs.Holding.{disk_of, held_of};
 
     pub(crate) fn new(alloc: Global, log: Log<D>, tables: Tables) -> Store<D>
         ensures log { result.log ≡ log }
@@ -47,24 +48,29 @@ impl<D: Disk + Drop> Store<D> {
         keeper.into_disk()
     }
 
-    /// Lets a table take a command with this stamp, and keeps it in the file; gives the table's new stamp. All memory is
-    /// taken before the first write. From `Ok` on the command is safe.
+    /// Lets a table take a request with this stamp, and keeps it in the file; gives the table's new stamp. All memory is
+    /// taken before the first write. From `Ok` on the request is safe.
     ///
     /// # Errors
-    /// `OpenAgain` first, where the device failed before. Then what refuses the command: for an opening `StaleStamp` and
-    /// `TooManyTables`; for another command `NoSuchTable`, `StaleStamp`, `TooManyCommands`, and what the game refuses.
-    /// Then `OutOfMemory`, and `HalfFull` where the journal has no room. After `DeviceFailed` the command may be in the
-    /// file or not, and the store is broken.
-    pub fn commit(&mut self, name: &Name, stamp: u64, command: &Command) -> Result<u64, Fault>
+    /// `OpenAgain` first, where the device failed before. Then what refuses the request: for an opening `StaleStamp` and
+    /// `TooManyTables`; for another request `NoSuchTable`, `StaleStamp`, `TooManyCommands`, and then `TurnNotKept` for one
+    /// that takes the table back or forgets, or what the game refuses. Then `OutOfMemory`, and `HalfFull` where the journal
+    /// has no room. After `DeviceFailed` the request may be in the file or not, and the store is broken.
+    pub fn commit(
+        &mut self,
+        name: &Name,
+        stamp: u64,
+        request: &Request<Command>,
+    ) -> Result<u64, Fault>
         requires name { IsTableName name.now }
-        requires command { IsCommand command.now }
-        ensures { Commits D.Honest D.Works D.state D.past D.fault_count D.write_count D.sync_count self.old name.now stamp command.now self.new result }
+        requires request { IsRequest request.now }
+        ensures { Commits D.Honest D.Works D.state D.past D.fault_count D.write_count D.sync_count self.old name.now stamp request.now self.new result }
     {
         if self.log.keeper.is_broken() {
             return Err(Fault::OpenAgain);
         }
         self.tables
-            .take(self.alloc, stamp, name, command, &mut self.log)
+            .take(self.alloc, stamp, name, request, &mut self.log)
     }
 
     /// A device call failed: each call but `into_disk` is refused until the file is opened again.
@@ -118,9 +124,9 @@ impl<D: Disk + Drop> Store<D> {
     /// `OpenAgain` first, then `NoSuchTable`.
     pub fn table(&self, name: &Name) -> Result<&Table, Fault>
         ensures found { MatchResult result
-            (λ table. ((held_of self.now).broken ≡ false) × (table_named (held_of self.now).tables name.now ≡ Some (state_of table.now)))
+            (λ table. ((held_of self.now).broken ≡ false) × (table_named (held_of self.now).tables name.now ≡ Some (kept_in table.now)))
             (λ fault. LacksTable (held_of self.now) name.now fault) }
-        ensures game { IfOk result (λ table. IsGameOf (held_of self.now).kit (state_of table.now).accepted (game_of table.now)) }
+        ensures played { IfOk result (λ table. IsPlayed (held_of self.now).kit table.now) }
     {
         if self.log.keeper.is_broken() {
             return Err(Fault::OpenAgain);
@@ -128,18 +134,18 @@ impl<D: Disk + Drop> Store<D> {
         self.tables.table(name)
     }
 
-    /// The number of the last command that was accepted, counted over all tables from 1; 0 where there is none.
+    /// The number of the last request that was accepted, counted over all tables from 1; 0 where there is none.
     ///
     /// # Errors
     /// `OpenAgain`.
     pub fn last(&self) -> Result<u64, Fault>
         ensures { MatchResult result
-            (λ last. ((held_of self.now).broken ≡ false) × (last ≡ commands_in (held_of self.now).tables))
+            (λ last. ((held_of self.now).broken ≡ false) × (last ≡ requests_in (held_of self.now).tables))
             (λ fault. ((held_of self.now).broken ≡ true) × (fault ≡ Fault.OpenAgain)) }
     {
         if self.log.keeper.is_broken() {
             return Err(Fault::OpenAgain);
         }
-        Ok(self.tables.commands())
+        Ok(self.tables.requests())
     }
 }

@@ -1,4 +1,7 @@
 //! The tiles of a kit: their tracks and centres, and the manifest of a kit's tiles, read from texts.
+//!
+//! Stands on `rr_words`. Its promise: the readers' `Spells` and `IsRefusal`, and `keeps`, exactly whether one tile
+//! keeps another.
 #![tactic(auto)]
 
 mod centre_word;

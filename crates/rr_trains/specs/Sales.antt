@@ -9,9 +9,9 @@ use Rattle.rr_books.specs.declared.acts.TrainSource.{TrainSource}
 use Rattle.rr_books.specs.declared.acts.TrainSource.TheVariants as S
 use Rattle.rr_books.specs.declared.parties.Place.{Place}
 use Rattle.rr_books.specs.declared.parties.Place.TheVariants as L
+use Rattle.rr_operations.specs.Phases.{TrainHolders, is_sold}
 use Rattle.rr_trains.specs.declared.prices.TrainOnSale.{TrainOnSale}
-use Rattle.rr_trains.specs.Places.{TrainHolders, has_train_at}
-use Rattle.rr_trains.specs.Phases.{is_sold}
+use Rattle.rr_trains.specs.Places.{has_train_at}
 
 -- where the trains of a source are
 abbrev pub source_place : TrainSource → Place

@@ -1,5 +1,8 @@
-//! Which trains are where, what is on sale, what the phase of the game says, and what the first train of a kind brings
+//! Which trains are where, what is on sale, what the phase of the game allows, and what the first train of a kind brings
 //! about.
+//!
+//! Stands on `rr_desk`. Its promise: `phase`, `is_on_sale` and `first_train`, each exactly its definition over the
+//! book.
 #![tactic(auto)]
 
 mod firsts;
@@ -10,9 +13,10 @@ mod prices;
 mod sales;
 
 pub use firsts::{first_train, give_lowest_train};
-pub use phases::{is_over_train_limit, is_sold, phase, rounds_in_set, sells_privates, train_limit};
+pub use phases::{is_over_train_limit, sells_privates, train_limit};
 pub use places::{has_train_at, lowest_train, trains_at, trains_held};
 pub use prices::{TrainOnSale, cheapest, is_traded_in, price, trade_price};
 pub use rr_books::{Books, Corp, Kind, Place, Train, TrainSource};
 pub use rr_desk::Desk;
+pub use rr_operations::{is_sold, phase, rounds_in_set};
 pub use sales::is_on_sale;

@@ -3,7 +3,7 @@ ghost use Rattle.std.specs.Bool.{OnTrue};
 ghost use Rattle.rr_roster.specs.Company.{kinds};
 ghost use Rattle.rr_books.specs.Book.{Book, train_holder};
 ghost use Rattle.rr_books.specs.State.{IsStateOf, has_train, train_place_of};
-ghost use Rattle.rr_trains.specs.Places.{has_train_at, is_train_at, lowest_train, train_numbers, trains_at, trains_held};
+ghost use Rattle.rr_trains.specs.Places.{has_train_at, is_train_at, lowest_train, trains_at, trains_held};
 
 use rr_books::{Books, Kind, Place, Train};
 

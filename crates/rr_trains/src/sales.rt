@@ -3,9 +3,9 @@ ghost use Rattle.rr_books.specs.Book.{Book, train_holder};
 ghost use Rattle.rr_books.specs.State.{IsStateOf, train_place_of};
 ghost use Rattle.rr_trains.specs.Sales.{are_smaller_sold, is_early_diesel, is_no_smaller_offer, is_on_sale, is_released};
 
-use crate::phases::is_sold;
 use crate::places::has_train_at;
 use rr_books::{Books, Kind, Place, TrainSource};
+use rr_operations::is_sold;
 
 /// Whether a train of the kind is on sale there: in the pool any that is there, in the bank one of the offer once all
 /// smaller kinds are sold, a D also once a 6 was sold.

@@ -1,4 +1,6 @@
 //! Whether a corporation has a route on its net.
+//!
+//! Stands on `rr_checker`. Its promise: `has_route` is true exactly where the corporation `HasRoute`.
 #![tactic(auto)]
 
 pub mod laws;

@@ -1,8 +1,9 @@
 //! The views of a position, which follow its entries together.
 use crate::layout::hex;
 use crate::opening::{check, position};
-use rr_books::{Act, Cell, Corp, Entry, Fault, Marker, Seat};
+use rr_books::{Act, Cell, Corp, Entry, Fault, Kind, Marker, Place, Seat, Train};
 use rr_layout::MOST_LAYS;
+use rr_operations::Stage;
 
 #[test]
 fn each_view_follows_the_entries(rt: HostRuntime) {
@@ -23,7 +24,30 @@ fn each_view_follows_the_entries(rt: HostRuntime) {
         .follow(&Entry::Step(Marker::Stock))
         .expect(&rt, "room");
     check(&rt, "round", table.rounds().is_under_way(), true);
+    check(&rt, "stage", table.operations().stage(), Stage::Stock);
     check(&rt, "players", table.books().players(), 3);
+}
+
+#[test]
+fn the_operating_rounds_follow_with_the_books(rt: HostRuntime) {
+    let mut table = position(&rt, 3);
+    let train = Train {
+        kind: Kind::Three,
+        number: 1,
+    };
+    assert!(rt; table.books().has_train(train));
+    let to = Place::Corp(Corp::Prr);
+    table
+        .follow(&Entry::Train { train, to })
+        .expect(&rt, "room");
+    for round in [1, 2] {
+        table
+            .follow(&Entry::Step(Marker::Operating))
+            .expect(&rt, "room");
+        check(&rt, "set", table.operations().set(), 1);
+        check(&rt, "round", table.operations().round(), round);
+    }
+    check(&rt, "length", table.operations().set_length(), 2);
 }
 
 #[test]

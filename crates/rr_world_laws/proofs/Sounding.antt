@@ -1,45 +1,72 @@
--- Every table that commands lead to is one that was played.
-use Rattle.std.proofs.Common.{◌≡◌, ℕ, ◌≤◌, ◌==◌, Bool, true, false, not, cond, List, [], ◌∷◌, ◌++◌, length, Option, None, Some, option_map, bytes_eq, if◌then◌else◌, nat_le, refl, sym, ap, subst, ◌∙◌, arith}
+-- Every table that requests lead to keeps commands that were played.
+use Rattle.std.proofs.Common.{◌≡◌, ℕ, ◌≤◌, ◌==◌, Bool, true, false, not, cond, zero, suc, List, [], ◌∷◌, ◌++◌, length, Option, None, Some, option_map, bytes_eq, if◌then◌else◌, nat_le, refl, sym, ap, subst, ◌∙◌, arith}
 use Rattle.std.specs.List.{AllByRecursion}
 use Rattle.std.proofs.lemmas.Bool.Decides.{nat_tests}
 use Rattle.indexmap.specs.IndexMap.{insert_entry}
 use Rattle.rr_kit.specs.declared.kit.Kit.{Kit}
+use Rattle.rr_books.specs.Book.{Book}
 use Rattle.rr_game.specs.declared.fault.Fault as game
-use Rattle.rr_game.specs.Play.{play, players_of}
+use Rattle.rr_game.specs.Play.{play, played_on, players_of}
 use Rattle.rr_game.specs.Verdict.{command_verdict}
+use Rattle.rr_hist.specs.declared.fault.Fault as hist
+use Rattle.rr_hist.specs.Fault.{of_game}
+use Rattle.rr_hist.specs.Playing.{ends_turn}
+use Rattle.rr_hist.specs.Verdict.{own_verdict, request_verdict}
+use Rattle.rr_turns.specs.declared.request.Request.{Request}
+use Rattle.rr_turns.specs.declared.request.Request.TheVariants.{Play, Back, Forget}
+use Rattle.rr_turns.specs.Turns.{first_turns, next_turns}
 use Rattle.rr_code.specs.declared.command.Command.{Command}
 use Rattle.rr_code.specs.declared.command.Command.TheVariants.{Open}
-use Rattle.rr_code.specs.Command.{IsCommand}
+use Rattle.rr_code.specs.Request.{IsRequest}
 use Rattle.rr_code.specs.Players.{ArePlayers}
-use Rattle.rr_laws.specs.Sound.{ArePlayed, IsSoundTable, KitsNameCorporations, NamesCorporations, PlaysGoOn, TablesStaySound}
+use Rattle.rr_laws.specs.Sound.{AreAccepted, ArePlayed, IsSoundTable, KitsNameCorporations, NamesCorporations, PlaysGoOn, TablesStaySound}
 use Rattle.rr_store.specs.declared.fault.Fault.{Fault}
-use Rattle.rr_store.specs.Fault.{of_game}
+use Rattle.rr_store.specs.Fault.{of_table}
 use Rattle.rr_store.specs.Files.{StandsFor}
-use Rattle.rr_store.specs.World.{Follows, IsLawfulIn, TableCommand, TableState, World, is_full, present_stamp, state_after, table_named, table_verdict, world_after, world_verdict}
+use Rattle.rr_store.specs.World.{Follows, IsLawfulIn, TableRequest, TableState, World, present_stamp, state_after, step_verdict, table_named, world_after, world_verdict}
 use Rattle.rr_store.proofs.Worlds.{replays_follow}
 use Rattle.rr_world_laws.specs.Worlds.{FilesAreSound, IsSoundWorld, WorldsAreSound}
 
 abbrev HasPlayed : Kit → World → Type 0
-HasPlayed kit tables = AllByRecursion (λ t. ArePlayed kit t.1.accepted) tables
+HasPlayed kit tables = AllByRecursion (λ t. ArePlayed kit t.1.commands) tables
 
-if_none : (b : Bool) (f : Fault) (rest : Option Fault) → (if b then Some f else rest) ≡ None → rest ≡ None
+if_none : (b : Bool) (f : hist.Fault) (rest : Option hist.Fault) → (if b then Some f else rest) ≡ None → rest ≡ None
 if_none true f rest e = absurd cc
 if_none false f rest e = e
 
-map_none : (o : Option game.Fault) → option_map of_game o ≡ None → o ≡ None
-map_none None e = refl
-map_none (Some fault) e = absurd cc
+map_none : {A B : Type 0} (f : A → B) (o : Option A) → option_map f o ≡ None → o ≡ None
+map_none f None e = refl
+map_none f (Some fault) e = absurd cc
 
-game_takes : (kit : Kit) (t : TableState) (stamp : ℕ) (c : Command) → table_verdict kit t stamp c ≡ None → command_verdict kit (players_of t.accepted) (play kit t.accepted) c ≡ None
-game_takes kit t stamp c e = map_none _ (if_none (is_full t) _ _ (if_none (not (t.stamp == stamp)) _ _ e))
+own_passes : (kit : Kit) (t : TableState) (stamp : ℕ) (r : Request Command) → step_verdict kit (Some t) stamp r ≡ None → own_verdict kit t r ≡ None
+own_passes kit t stamp r e =
+    if_none (nat_le 4000000000 t.stamp) _ _ (if_none (not (t.stamp == stamp)) _ _ (map_none of_table (request_verdict kit t stamp r) e))
+
+game_takes : (kit : Kit) (t : TableState) (stamp : ℕ) (c : Command) → step_verdict kit (Some t) stamp (Play c) ≡ None
+    → command_verdict kit (players_of t.commands) (play kit t.commands) c ≡ None
+game_takes kit t stamp c e = map_none of_game _ (if_none (nat_le 4096 (length t.commands)) _ _ (own_passes kit t stamp (Play c) e))
+
+-- the first turns of a table that was played
+front_accepted : (kit : Kit) (ends : List Command → Command → Bool) (players : List (List ℕ)) (book : Book) (before : List Command) (k : ℕ) (cs : List Command)
+    → AreAccepted kit players book cs → AreAccepted kit players book (next_turns ends before k cs)
+front_accepted kit ends players book before k [] all = tt
+front_accepted kit ends players book before zero (c ∷ cs) all = tt
+front_accepted kit ends players book before (suc k) (c ∷ cs) all =
+    (all.0, front_accepted kit ends players (played_on kit players book c) (before ++ c ∷ []) (if ends before c then k else suc k) cs all.1)
+
+front_played : (kit : Kit) (ends : List Command → Command → Bool) (k : ℕ) (cs : List Command) → ArePlayed kit cs → ArePlayed kit (first_turns ends k cs)
+front_played kit ends k [] played = absurd played
+front_played kit ends k (Open players ∷ cs) played =
+    (played.0, played.1, front_accepted kit ends players _ (Open players ∷ []) k cs played.2)
+front_played kit ends k (c ∷ cs) played = absurd played
 
 -- the table of a name, in a world whose tables were played
 named_step : (kit : Kit) (b : Bool) (e : List ℕ × TableState) (rest : Option TableState) (t : TableState) → cond b (Some e.1) rest ≡ Some t
-    → ArePlayed kit e.1.accepted → (rest ≡ Some t → ArePlayed kit t.accepted) → ArePlayed kit t.accepted
-named_step kit true e rest t is here others = let same : e.1 ≡ t = cc in subst (λ (x : TableState). ArePlayed kit x.accepted) same here
+    → ArePlayed kit e.1.commands → (rest ≡ Some t → ArePlayed kit t.commands) → ArePlayed kit t.commands
+named_step kit true e rest t is here others = let same : e.1 ≡ t = cc in subst (λ (x : TableState). ArePlayed kit x.commands) same here
 named_step kit false e rest t is here others = others is
 
-played_named : (kit : Kit) (tables : World) (name : List ℕ) (t : TableState) → table_named tables name ≡ Some t → HasPlayed kit tables → ArePlayed kit t.accepted
+played_named : (kit : Kit) (tables : World) (name : List ℕ) (t : TableState) → table_named tables name ≡ Some t → HasPlayed kit tables → ArePlayed kit t.commands
 played_named kit [] name t is all = absurd cc
 played_named kit (e ∷ es) name t is all = named_step kit (bytes_eq name e.0) e (table_named es name) t is all.0 (λ found. played_named kit es name t found all.1)
 
@@ -50,40 +77,46 @@ few_players players h =
     let most : nat_le (length players) 6 ≡ true = grind (arith, nat_tests) in
     (grind (arith, nat_tests), grind (arith, nat_tests))
 
--- the table after a lawful command
-played_after : PlaysGoOn → (kit : Kit) (there : Option TableState) (n stamp : ℕ) (c : Command) → IsCommand c → world_verdict kit there n stamp c ≡ None
-    → ((t : TableState) → there ≡ Some t → ArePlayed kit t.accepted) → ArePlayed kit (state_after there c).accepted
-played_after goes_on kit None n stamp (Open players) of_form lawful all =
-    let count = few_players players of_form in (count.0, count.1, tt)
-played_after goes_on kit (Some t) n stamp (Open players) of_form lawful all = absurd cc
-played_after goes_on kit None n stamp c of_form lawful all = absurd cc
-played_after goes_on kit (Some t) n stamp c of_form lawful all = goes_on kit t.accepted c (all t refl) (game_takes kit t stamp c lawful)
+-- the table after a lawful request
+played_by : PlaysGoOn → (kit : Kit) (t : TableState) (stamp : ℕ) (r : Request Command) → step_verdict kit (Some t) stamp r ≡ None
+    → ArePlayed kit t.commands → ArePlayed kit (state_after kit (Some t) r).commands
+played_by goes_on kit t stamp (Play c) lawful played = goes_on kit t.commands c played (game_takes kit t stamp c lawful)
+played_by goes_on kit t stamp (Back k) lawful played = front_played kit (ends_turn kit) k t.commands played
+played_by goes_on kit t stamp (Forget k) lawful played = played
 
-insert_step : (kit : Kit) (b : Bool) (e : List ℕ × TableState) (es rest : World) (v : TableState) → ArePlayed kit v.accepted → HasPlayed kit (e ∷ es) → HasPlayed kit rest
+played_after : PlaysGoOn → (kit : Kit) (there : Option TableState) (n stamp : ℕ) (r : Request Command) → IsRequest r → world_verdict kit there n stamp r ≡ None
+    → ((t : TableState) → there ≡ Some t → ArePlayed kit t.commands) → ArePlayed kit (state_after kit there r).commands
+played_after goes_on kit None n stamp (Play (Open players)) of_form lawful all =
+    let count = few_players players of_form in (count.0, count.1, tt)
+played_after goes_on kit (Some t) n stamp (Play (Open players)) of_form lawful all = absurd cc
+played_after goes_on kit None n stamp r of_form lawful all = absurd cc
+played_after goes_on kit (Some t) n stamp r of_form lawful all = played_by goes_on kit t stamp r lawful (all t refl)
+
+insert_step : (kit : Kit) (b : Bool) (e : List ℕ × TableState) (es rest : World) (v : TableState) → ArePlayed kit v.commands → HasPlayed kit (e ∷ es) → HasPlayed kit rest
     → HasPlayed kit (if b then (e.0, v) ∷ es else e ∷ rest)
 insert_step kit true e es rest v here all more = (here, all.1)
 insert_step kit false e es rest v here all more = (all.0, more)
 
-played_insert : (kit : Kit) (tables : World) (name : List ℕ) (v : TableState) → ArePlayed kit v.accepted → HasPlayed kit tables → HasPlayed kit (insert_entry bytes_eq tables name v)
+played_insert : (kit : Kit) (tables : World) (name : List ℕ) (v : TableState) → ArePlayed kit v.commands → HasPlayed kit tables → HasPlayed kit (insert_entry bytes_eq tables name v)
 played_insert kit [] name v here all = (here, tt)
 played_insert kit (e ∷ es) name v here all =
     insert_step kit (bytes_eq name e.0) e es (insert_entry bytes_eq es name v) v here all (played_insert kit es name v here all.1)
 
-played_step : PlaysGoOn → (kit : Kit) (old : World) (c : TableCommand) → IsLawfulIn kit old c → HasPlayed kit old → HasPlayed kit (world_after old c.name c.command)
+played_step : PlaysGoOn → (kit : Kit) (old : World) (c : TableRequest) → IsLawfulIn kit old c → HasPlayed kit old → HasPlayed kit (world_after kit old c.name c.request)
 played_step goes_on kit old c lawful all =
-    played_insert kit old c.name (state_after (table_named old c.name) c.command)
-    (played_after goes_on kit (table_named old c.name) (length old) (present_stamp (table_named old c.name)) c.command lawful.0.1 lawful.1 (λ t is. played_named kit old c.name t is all)) all
+    played_insert kit old c.name (state_after kit (table_named old c.name) c.request)
+    (played_after goes_on kit (table_named old c.name) (length old) (present_stamp (table_named old c.name)) c.request lawful.0.1 lawful.1 (λ t is. played_named kit old c.name t is all)) all
 
-played_follow : PlaysGoOn → (kit : Kit) (old new : World) (cs : List TableCommand) → Follows kit old cs new → HasPlayed kit old → HasPlayed kit new
+played_follow : PlaysGoOn → (kit : Kit) (old new : World) (cs : List TableRequest) → Follows kit old cs new → HasPlayed kit old → HasPlayed kit new
 played_follow goes_on kit old new [] same all = subst (λ (w : World). HasPlayed kit w) (sym same) all
-played_follow goes_on kit old new (c ∷ cs) follows all = played_follow goes_on kit (world_after old c.name c.command) new cs follows.1 (played_step goes_on kit old c follows.0 all)
+played_follow goes_on kit old new (c ∷ cs) follows all = played_follow goes_on kit (world_after kit old c.name c.request) new cs follows.1 (played_step goes_on kit old c follows.0 all)
 
 sound_all : TablesStaySound → (kit : Kit) (tables : World) → NamesCorporations kit → HasPlayed kit tables → IsSoundWorld kit tables
 sound_all laws kit [] order all = tt
-sound_all laws kit (t ∷ ts) order all = (laws kit t.1.accepted order all.0, sound_all laws kit ts order all.1)
+sound_all laws kit (t ∷ ts) order all = (laws kit t.1.commands order all.0, sound_all laws kit ts order all.1)
 
 pub worlds_are_sound : PlaysGoOn → TablesStaySound → WorldsAreSound
-worlds_are_sound goes_on laws kit commands tables order follows = sound_all laws kit tables order (played_follow goes_on kit [] tables commands follows tt)
+worlds_are_sound goes_on laws kit requests tables order follows = sound_all laws kit tables order (played_follow goes_on kit [] tables requests follows tt)
 
 pub files_are_sound : PlaysGoOn → TablesStaySound → KitsNameCorporations → FilesAreSound
 files_are_sound goes_on laws kits file texts tables stands =

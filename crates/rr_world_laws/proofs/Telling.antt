@@ -23,7 +23,6 @@ use Rattle.rr_kit.specs.declared.fault.Fault.TheVariants as F
 use Rattle.rr_kit.specs.Fault.{of_board, of_chart, of_manifest, of_roster}
 use Rattle.rr_kit.specs.Kits.{IsBoardText, IsChartText, IsManifestText, IsRosterText, IsWrongKit, KitTexts, RefusesBoard, RefusesChart, RefusesKit, RefusesManifest, RefusesRoster, SpellsKit}
 use Rattle.rr_kit.proofs.OneKit.{one_kit}
-use Rattle.rr_code.proofs.TextLemmas.{record-unique}
 use Rattle.rr_journal.specs.declared.reading.RunEnd.TheVariants.{Closed, OtherNumber, Damaged}
 use Rattle.rr_keeper.specs.File.{IsStore, kit_place}
 use Rattle.rr_keeper.proofs.Kits as texts_of_files
@@ -34,7 +33,8 @@ use Rattle.rr_store.specs.Allowing.{Refuses}
 use Rattle.rr_store.specs.Files.{IsDamagedFile, IsNoFile, StandsFor}
 use Rattle.rr_store.specs.Lent.{from_file, in_file}
 use Rattle.rr_store.specs.Replaying.{BreaksOff, IsBroken, IsUnlawful, Replays, TakesRecord}
-use Rattle.rr_store.specs.World.{World, world_after}
+use Rattle.rr_store.specs.World.{World}
+use Rattle.rr_store.proofs.Worlds.{same_step}
 use Rattle.rr_world_laws.specs.Worlds.{RightKitsAreNotWrong, StandingFilesOpen}
 
 -- each text of the kit
@@ -74,18 +74,13 @@ right_kits_are_not_wrong texts kit right wrong = refused_kit texts kit wrong.0 w
 
 -- the records of a file
 
-same_step : (kit other : Kit) (old a b : World) (bytes : List ℕ) → TakesRecord kit old bytes a → TakesRecord other old bytes b → a ≡ b
-same_step kit other old a b bytes ta tb =
-    let same = record-unique ta.name tb.name ta.command tb.command bytes ta.spelled tb.spelled in
-    ta.taken ∙ ((λ i. world_after old (same.0 i) (same.1 i)) ∙ sym tb.taken)
-
 -- records that are all taken don't break off
 breaks_nowhere : (kit : Kit) (old mid new : World) (front : List (List ℕ)) (next : List ℕ) (rest : List (List ℕ)) → Replays kit old (front ++ next ∷ rest) new → Replays kit old front mid → ¬ IsUnlawful kit mid next
 breaks_nowhere kit old mid new [] next rest all before unlawful =
     let takes : TakesRecord kit mid next all.0 = subst (λ (w : World). TakesRecord kit w next all.0) (sym before) all.1 in
-    unlawful takes.name takes.command takes.spelled takes.lawful
+    unlawful takes.name takes.request takes.spelled takes.lawful
 breaks_nowhere kit old mid new (bytes ∷ front) next rest all before unlawful =
-    let same = same_step kit kit old all.0 before.0 bytes all.1 before.1 in
+    let same = same_step kit old all.0 before.0 bytes all.1 before.1 in
     breaks_nowhere kit before.0 mid new front next rest (subst (λ (w : World). Replays kit w (front ++ next ∷ rest) new) same all.2) before.2 unlawful
 
 not_broken : (texts : KitTexts) (kit : Kit) (records : List (List ℕ)) (tables : World) → SpellsKit texts kit → Replays kit [] records tables → ¬ IsBroken texts records
@@ -123,6 +118,7 @@ standing_files_open file texts tables (S.Damaged clause) stands refused = absurd
 standing_files_open file texts tables (S.Kit fault) stands refused = absurd refused
 standing_files_open file texts tables (S.Game fault) stands refused = absurd refused
 standing_files_open file texts tables (S.StaleStamp stamp) stands refused = absurd refused
+standing_files_open file texts tables S.TurnNotKept stands refused = absurd refused
 standing_files_open file texts tables S.TooManyCommands stands refused = absurd refused
 standing_files_open file texts tables S.HalfFull stands refused = absurd refused
 standing_files_open file texts tables S.NotEmpty stands refused = absurd refused

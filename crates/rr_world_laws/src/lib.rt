@@ -1,5 +1,7 @@
 //! Laws on files and worlds: every world that is served is sound, a file opens or is refused and never both, and two fronts
-//! of the accepted commands never have one world. The calls do nothing: their contracts hold of all files and worlds.
+//! of the accepted requests never have one world. The calls do nothing: their contracts hold of all files and worlds.
+//!
+//! Stands on `rr_store` and `rr_laws`; nothing stands on it. Its promise: `files_are_sound`.
 #![tactic(auto)]
 
 ghost use Rattle.rr_kit.specs.Kits.{KitTexts};
@@ -10,7 +12,7 @@ ghost use Rattle.rr_world_laws.specs.Worlds.{FilesAreSound, RightKitsAreNotWrong
 use rr_disk::Disk;
 use rr_store::Store;
 
-/// Whatever lawful commands led to a world, each of its tables is in order, with a kit whose roster names each
+/// Whatever lawful requests led to a world, each of its tables is in order, with a kit whose roster names each
 /// corporation.
 pub fn worlds_are_sound()
     ensures { WorldsAreSound }
@@ -47,7 +49,7 @@ pub fn carried_files_stand<D: Disk + Drop>(store: &Store<D>)
     let _broken = store.is_broken();
 }
 
-/// Two fronts of the accepted commands, one longer than the other, never have one world.
+/// Two fronts of the accepted requests, one longer than the other, never have one world.
 pub fn worlds_differ()
     ensures { WorldsDiffer }
 {}

@@ -1,6 +1,6 @@
 //! Lines, and records of the journal.
-use super::{check_line, check_no_line, player, table};
-use rr_code::{Account, Command, Fault, Line, Owner, Query, laws, read_record, unstamped};
+use super::{check_line, check_no_line, check_record, check_request_written, player, table};
+use rr_code::{Account, Command, Fault, Line, Owner, Query, Request, laws, read_record, unstamped};
 use rr_roster::{Corp, Private};
 use std::process::Abort;
 use std::test::Fail;
@@ -53,7 +53,7 @@ fn reads_each_query_of_an_owner(rt: HostRuntime) {
 }
 
 #[test]
-fn reads_stamped_commands(rt: HostRuntime) {
+fn reads_stamped_requests(rt: HostRuntime) {
     let table = table(&rt);
     let ann = player(&rt, "ann");
     let buy = Command::BuyPrivate { player: ann };
@@ -62,14 +62,20 @@ fn reads_stamped_commands(rt: HostRuntime) {
         corp: Corp::Bo,
         price: 67,
     };
-    for (text, stamp, command) in [
-        ("9999999999 t1 buy ann", 9_999_999_999, buy),
-        ("0 t1 par ann B&O 67", 0, par),
+    for (text, stamp, request) in [
+        ("9999999999 t1 buy ann", 9_999_999_999, Request::Play(buy)),
+        ("0 t1 par ann B&O 67", 0, Request::Play(par)),
+        ("57 t1 back 2", 57, Request::Back(2)),
+        (
+            "57 t1 forget 9999999999",
+            57,
+            Request::Forget(9_999_999_999),
+        ),
     ] {
-        let line = Line::Command {
+        let line = Line::Request {
             stamp,
             table,
-            command,
+            request,
         };
         check_line(&rt, text, line);
     }
@@ -77,27 +83,59 @@ fn reads_stamped_commands(rt: HostRuntime) {
 
 #[test]
 fn drops_the_stamp(rt: HostRuntime) {
-    for (line, record) in [("9999999999 t1 buy ann", "t1 buy ann"), ("tables", "")] {
+    for (line, record) in [
+        ("9999999999 t1 buy ann", "t1 buy ann"),
+        ("7 t1 back 0", "t1 back 0"),
+        ("tables", ""),
+    ] {
         assert_eq!(rt; unstamped(line.as_bytes()), record.as_bytes());
     }
-}
-
-fn check_record(rt: &impl Abort, text: &str, want: Command) {
-    assert_eq!(rt; read_record(text.as_bytes()), Ok((table(rt), want)));
 }
 
 #[test]
 fn reads_records(rt: HostRuntime) {
     let ann = player(&rt, "ann");
-    check_record(&rt, "t1 buy ann", Command::BuyPrivate { player: ann });
+    let buy = Command::BuyPrivate { player: ann };
+    check_record(&rt, "t1 buy ann", Request::Play(buy));
     let bid = Command::Bid {
         player: ann,
         private: Private::Bo,
         amount: 225,
     };
-    check_record(&rt, "t1 bid ann B&O 225", bid);
+    check_record(&rt, "t1 bid ann B&O 225", Request::Play(bid));
+    check_record(&rt, "t1 back 0", Request::Back(0));
+    check_record(&rt, "t1 forget 31", Request::Forget(31));
     let two_spaces = matches!(read_record(b"t1  buy ann"), Err(Fault::Malformed));
     assert!(rt; two_spaces);
+}
+
+#[test]
+fn writes_requests(rt: HostRuntime) -> Result<(), Fail> {
+    let alloc = rt.alloc();
+    let ann = player(&rt, "ann");
+    let done = Request::Play(Command::Done { player: ann });
+    check_request_written(&rt, alloc, &done, "done ann")?;
+    check_request_written(&rt, alloc, &Request::Back(10), "back 10")?;
+    check_request_written(&rt, alloc, &Request::Forget(0), "forget 0")
+}
+
+#[test]
+fn refuses_other_requests_for_turns(rt: HostRuntime) {
+    for text in [
+        "7 t1 back",
+        "7 t1 back ",
+        "7 t1 back x",
+        "7 t1 back 02",
+        "7 t1 back -1",
+        "7 t1 back 12345678901",
+        "7 t1 back 1 2",
+        "7 t1 Back 1",
+        "7 t1 forget",
+        "7 t1 forget t1",
+        "back t1 1",
+    ] {
+        check_no_line(&rt, text);
+    }
 }
 
 #[test]

@@ -4,12 +4,12 @@ use Rattle.rr_code.proofs.TextLemmas.{unstamped-some, unstamped-none}
 use Rattle.rr_code.proofs.line.unstamped.Goals as goal
 
 pub returns-in_default-Some-clause-record : goal.returns-in_default-Some-clause-record
-returns-in_default-Some-clause-record c = λ stamp table command spelled.
-    unstamped-some _ _ _ stamp table command spelled (rw c.in_default-Some.is-1 at c.split_word.ensures.words)
+returns-in_default-Some-clause-record c = λ stamp table request spelled.
+    unstamped-some _ _ _ stamp table request spelled (rw c.in_default-Some.is-1 at c.split_word.ensures.words)
 
 pub returns-in_default-None-clause-record : goal.returns-in_default-None-clause-record
-returns-in_default-None-clause-record c = λ stamp table command spelled.
-    absurd (unstamped-none _ _ stamp table command spelled (rw c.in_default-None.is-1 at c.split_word.ensures.words))
+returns-in_default-None-clause-record c = λ stamp table request spelled.
+    absurd (unstamped-none _ _ stamp table request spelled (rw c.in_default-None.is-1 at c.split_word.ensures.words))
 
 pub returns-in_default-Some-clause-behind : goal.returns-in_default-Some-clause-behind
 returns-in_default-Some-clause-behind c =

@@ -2,7 +2,8 @@ use Rattle.std.proofs.Common.{refl, Ok}
 use Rattle.std.proofs.lemmas.Result.{err_from_is_err_and}
 use Rattle.rr_store.specs.World.{names}
 use Rattle.rr_moderator.specs.Queries.{asked_answer, cash_answer, due_answer, holds_answer, limit_answer, order_answer, price_answer, privates_answer, stamp_answer, turns_answer}
-use Rattle.rr_store.specs.Holding.{held_of, state_of}
+use Rattle.rr_hist.specs.Tables.{kept_in}
+use Rattle.rr_store.specs.Holding.{held_of}
 use Rattle.rr_moderator.proofs.Replies.{refuses_at, writes_at, written}
 use Rattle.rr_moderator.proofs.answering.write_answer.Goals as goal
 
@@ -18,7 +19,7 @@ returns-in_err-table-in-Stamp-clause-answer g c =
 
 pub returns-in_ok-table-in-Stamp-clause-answer : goal.returns-in_ok-table-in-Stamp-clause-answer
 returns-in_ok-table-in-Stamp-clause-answer g c =
-    rw c.in-Stamp.is (writes_at (held_of c.args.store.now).tables c.in-Stamp.table stamp_answer (state_of c.in_ok-table-in-Stamp.field-0.now) (Ok (tt {0})) c.write_stamp.new.reply c.in_ok-table-in-Stamp.ensures.found.1 (refl, c.write_stamp.ensures.text))
+    rw c.in-Stamp.is (writes_at (held_of c.args.store.now).tables c.in-Stamp.table stamp_answer (kept_in c.in_ok-table-in-Stamp.field-0.now) (Ok (tt {0})) c.write_stamp.new.reply c.in_ok-table-in-Stamp.ensures.found.1 (refl, c.write_stamp.ensures.text))
 
 pub returns-in_err-table-in-Cash-clause-answer : goal.returns-in_err-table-in-Cash-clause-answer
 returns-in_err-table-in-Cash-clause-answer g c =
@@ -27,7 +28,7 @@ returns-in_err-table-in-Cash-clause-answer g c =
 
 pub returns-in_ok-table-in-Cash-clause-answer : goal.returns-in_ok-table-in-Cash-clause-answer
 returns-in_ok-table-in-Cash-clause-answer g c =
-    rw c.in-Cash.is (writes_at (held_of c.args.store.now).tables c.in-Cash.table (cash_answer (held_of c.args.store.now).kit c.in-Cash.of) (state_of c.in_ok-table-in-Cash.field-0.now) c.write_cash.result c.write_cash.new.reply c.in_ok-table-in-Cash.ensures.found.1 (c.write_cash.ensures.answer _ c.in_ok-table-in-Cash.ensures.game))
+    rw c.in-Cash.is (writes_at (held_of c.args.store.now).tables c.in-Cash.table (cash_answer (held_of c.args.store.now).kit c.in-Cash.of) (kept_in c.in_ok-table-in-Cash.field-0.now) c.write_cash.result c.write_cash.new.reply c.in_ok-table-in-Cash.ensures.found.1 (c.write_cash.ensures.answer _ c.in_ok-table-in-Cash.ensures.played))
 
 pub returns-in_err-table-in-Limit-clause-answer : goal.returns-in_err-table-in-Limit-clause-answer
 returns-in_err-table-in-Limit-clause-answer g c =
@@ -36,7 +37,7 @@ returns-in_err-table-in-Limit-clause-answer g c =
 
 pub returns-in_ok-table-in-Limit-clause-answer : goal.returns-in_ok-table-in-Limit-clause-answer
 returns-in_ok-table-in-Limit-clause-answer g c =
-    rw c.in-Limit.is (writes_at (held_of c.args.store.now).tables c.in-Limit.table (limit_answer (held_of c.args.store.now).kit) (state_of c.in_ok-table-in-Limit.field-0.now) (Ok (tt {0})) c.write_limit.new.reply c.in_ok-table-in-Limit.ensures.found.1 (refl, c.write_limit.ensures.text _ c.in_ok-table-in-Limit.ensures.game))
+    rw c.in-Limit.is (writes_at (held_of c.args.store.now).tables c.in-Limit.table (limit_answer (held_of c.args.store.now).kit) (kept_in c.in_ok-table-in-Limit.field-0.now) (Ok (tt {0})) c.write_limit.new.reply c.in_ok-table-in-Limit.ensures.found.1 (refl, c.write_limit.ensures.text _ c.in_ok-table-in-Limit.ensures.played))
 
 pub returns-in_err-table-in-Turns-clause-answer : goal.returns-in_err-table-in-Turns-clause-answer
 returns-in_err-table-in-Turns-clause-answer g c =
@@ -45,7 +46,7 @@ returns-in_err-table-in-Turns-clause-answer g c =
 
 pub returns-in_ok-table-in-Turns-clause-answer : goal.returns-in_ok-table-in-Turns-clause-answer
 returns-in_ok-table-in-Turns-clause-answer g c =
-    rw c.in-Turns.is (writes_at (held_of c.args.store.now).tables c.in-Turns.table (turns_answer (held_of c.args.store.now).kit) (state_of c.in_ok-table-in-Turns.field-0.now) (Ok (tt {0})) c.write_turns.new.reply c.in_ok-table-in-Turns.ensures.found.1 (refl, c.write_turns.ensures.text _ c.in_ok-table-in-Turns.ensures.game))
+    rw c.in-Turns.is (writes_at (held_of c.args.store.now).tables c.in-Turns.table (turns_answer (held_of c.args.store.now).kit) (kept_in c.in_ok-table-in-Turns.field-0.now) (Ok (tt {0})) c.write_turns.new.reply c.in_ok-table-in-Turns.ensures.found.1 (refl, c.write_turns.ensures.text _ c.in_ok-table-in-Turns.ensures.played))
 
 pub returns-in_err-table-in-Due-clause-answer : goal.returns-in_err-table-in-Due-clause-answer
 returns-in_err-table-in-Due-clause-answer g c =
@@ -54,7 +55,7 @@ returns-in_err-table-in-Due-clause-answer g c =
 
 pub returns-in_ok-table-in-Due-clause-answer : goal.returns-in_ok-table-in-Due-clause-answer
 returns-in_ok-table-in-Due-clause-answer g c =
-    rw c.in-Due.is (writes_at (held_of c.args.store.now).tables c.in-Due.table (due_answer (held_of c.args.store.now).kit) (state_of c.in_ok-table-in-Due.field-0.now) (Ok (tt {0})) c.write_table_due.new.reply c.in_ok-table-in-Due.ensures.found.1 (refl, c.write_table_due.ensures.text _ c.in_ok-table-in-Due.ensures.game))
+    rw c.in-Due.is (writes_at (held_of c.args.store.now).tables c.in-Due.table (due_answer (held_of c.args.store.now).kit) (kept_in c.in_ok-table-in-Due.field-0.now) (Ok (tt {0})) c.write_table_due.new.reply c.in_ok-table-in-Due.ensures.found.1 (refl, c.write_table_due.ensures.text _ c.in_ok-table-in-Due.ensures.played))
 
 pub returns-in_err-table-in-Asked-clause-answer : goal.returns-in_err-table-in-Asked-clause-answer
 returns-in_err-table-in-Asked-clause-answer g c =
@@ -63,7 +64,7 @@ returns-in_err-table-in-Asked-clause-answer g c =
 
 pub returns-in_ok-table-in-Asked-clause-answer : goal.returns-in_ok-table-in-Asked-clause-answer
 returns-in_ok-table-in-Asked-clause-answer g c =
-    rw (c.in-Asked.is, ← c.kit.ensures) (writes_at (held_of c.args.store.now).tables c.in-Asked.table (asked_answer c.kit.result.now) (state_of c.in_ok-table-in-Asked.field-0.now) (Ok (tt {0})) c.write_cheapest.new.reply c.in_ok-table-in-Asked.ensures.found.1 (refl, c.write_cheapest.ensures.text (rw c.kit.ensures c.in_ok-table-in-Asked.ensures.game)))
+    rw (c.in-Asked.is, ← c.kit.ensures) (writes_at (held_of c.args.store.now).tables c.in-Asked.table (asked_answer c.kit.result.now) (kept_in c.in_ok-table-in-Asked.field-0.now) (Ok (tt {0})) c.write_cheapest.new.reply c.in_ok-table-in-Asked.ensures.found.1 (refl, c.write_cheapest.ensures.text (rw c.kit.ensures c.in_ok-table-in-Asked.ensures.played)))
 
 pub returns-in_err-table-in-Privates-clause-answer : goal.returns-in_err-table-in-Privates-clause-answer
 returns-in_err-table-in-Privates-clause-answer g c =
@@ -72,7 +73,7 @@ returns-in_err-table-in-Privates-clause-answer g c =
 
 pub returns-in_ok-table-in-Privates-clause-answer : goal.returns-in_ok-table-in-Privates-clause-answer
 returns-in_ok-table-in-Privates-clause-answer g c =
-    rw c.in-Privates.is (writes_at (held_of c.args.store.now).tables c.in-Privates.table (privates_answer (held_of c.args.store.now).kit c.in-Privates.of) (state_of c.in_ok-table-in-Privates.field-0.now) c.write_owner.result c.write_owner.new.reply c.in_ok-table-in-Privates.ensures.found.1 (c.write_owner.ensures.answer _ c.in_ok-table-in-Privates.ensures.game))
+    rw c.in-Privates.is (writes_at (held_of c.args.store.now).tables c.in-Privates.table (privates_answer (held_of c.args.store.now).kit c.in-Privates.of) (kept_in c.in_ok-table-in-Privates.field-0.now) c.write_owner.result c.write_owner.new.reply c.in_ok-table-in-Privates.ensures.found.1 (c.write_owner.ensures.answer _ c.in_ok-table-in-Privates.ensures.played))
 
 pub returns-in_err-table-in-Holds-clause-answer : goal.returns-in_err-table-in-Holds-clause-answer
 returns-in_err-table-in-Holds-clause-answer g c =
@@ -81,7 +82,7 @@ returns-in_err-table-in-Holds-clause-answer g c =
 
 pub returns-in_ok-table-in-Holds-clause-answer : goal.returns-in_ok-table-in-Holds-clause-answer
 returns-in_ok-table-in-Holds-clause-answer g c =
-    rw c.in-Holds.is (writes_at (held_of c.args.store.now).tables c.in-Holds.table (holds_answer (held_of c.args.store.now).kit c.in-Holds.player c.in-Holds.corp) (state_of c.in_ok-table-in-Holds.field-0.now) c.write_holds.result c.write_holds.new.reply c.in_ok-table-in-Holds.ensures.found.1 (c.write_holds.ensures.answer _ c.in_ok-table-in-Holds.ensures.game))
+    rw c.in-Holds.is (writes_at (held_of c.args.store.now).tables c.in-Holds.table (holds_answer (held_of c.args.store.now).kit c.in-Holds.player c.in-Holds.corp) (kept_in c.in_ok-table-in-Holds.field-0.now) c.write_holds.result c.write_holds.new.reply c.in_ok-table-in-Holds.ensures.found.1 (c.write_holds.ensures.answer _ c.in_ok-table-in-Holds.ensures.played))
 
 pub returns-in_err-table-in-Price-clause-answer : goal.returns-in_err-table-in-Price-clause-answer
 returns-in_err-table-in-Price-clause-answer g c =
@@ -90,7 +91,7 @@ returns-in_err-table-in-Price-clause-answer g c =
 
 pub returns-in_ok-table-in-Price-clause-answer : goal.returns-in_ok-table-in-Price-clause-answer
 returns-in_ok-table-in-Price-clause-answer g c =
-    rw (c.in-Price.is, ← c.kit-in-Price.ensures) (writes_at (held_of c.args.store.now).tables c.in-Price.table (price_answer c.kit-in-Price.result.now c.in-Price.corp) (state_of c.in_ok-table-in-Price.field-0.now) (Ok (tt {0})) c.write_price.new.reply c.in_ok-table-in-Price.ensures.found.1 (refl, c.write_price.ensures.text (rw c.kit-in-Price.ensures c.in_ok-table-in-Price.ensures.game)))
+    rw (c.in-Price.is, ← c.kit-in-Price.ensures) (writes_at (held_of c.args.store.now).tables c.in-Price.table (price_answer c.kit-in-Price.result.now c.in-Price.corp) (kept_in c.in_ok-table-in-Price.field-0.now) (Ok (tt {0})) c.write_price.new.reply c.in_ok-table-in-Price.ensures.found.1 (refl, c.write_price.ensures.text (rw c.kit-in-Price.ensures c.in_ok-table-in-Price.ensures.played)))
 
 pub returns-in_err-table-in-Order-clause-answer : goal.returns-in_err-table-in-Order-clause-answer
 returns-in_err-table-in-Order-clause-answer g c =
@@ -99,4 +100,4 @@ returns-in_err-table-in-Order-clause-answer g c =
 
 pub returns-in_ok-table-in-Order-clause-answer : goal.returns-in_ok-table-in-Order-clause-answer
 returns-in_ok-table-in-Order-clause-answer g c =
-    rw (c.in-Order.is, ← c.kit-in-Order.ensures) (writes_at (held_of c.args.store.now).tables c.in-Order.table (order_answer c.kit-in-Order.result.now) (state_of c.in_ok-table-in-Order.field-0.now) (Ok (tt {0})) c.write_order.new.reply c.in_ok-table-in-Order.ensures.found.1 (refl, c.write_order.ensures.text (rw c.kit-in-Order.ensures c.in_ok-table-in-Order.ensures.game)))
+    rw (c.in-Order.is, ← c.kit-in-Order.ensures) (writes_at (held_of c.args.store.now).tables c.in-Order.table (order_answer c.kit-in-Order.result.now) (kept_in c.in_ok-table-in-Order.field-0.now) (Ok (tt {0})) c.write_order.new.reply c.in_ok-table-in-Order.ensures.found.1 (refl, c.write_order.ensures.text (rw c.kit-in-Order.ensures c.in_ok-table-in-Order.ensures.played)))

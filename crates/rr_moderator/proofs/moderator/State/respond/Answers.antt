@@ -4,7 +4,7 @@ use Rattle.rr_code.specs.Line.{SpellsLine}
 use Rattle.rr_store.specs.Holding.{held_of}
 use Rattle.rr_moderator.specs.Queries.{query_answer}
 use Rattle.rr_moderator.specs.Serving.{TooLong, Malformed, Broken, Read, reply_to}
-use Rattle.rr_moderator.proofs.DurabilityLemmas.{command_lasts, lasts_unlawful}
+use Rattle.rr_moderator.proofs.DurabilityLemmas.{request_lasts, lasts_unlawful}
 use Rattle.rr_moderator.proofs.ServingLemmas.{no_query, queried}
 use Rattle.rr_moderator.proofs.Telling.{SaysNeither, malformed_calm, open_again_calm, query_calm, too_long_calm}
 use Rattle.rr_moderator.proofs.moderator.State.respond.Goals as goal
@@ -23,10 +23,10 @@ returns-then-is_broken-clause-responds g c =
     let short : length c.args.line.now ≤ 8000 = omega arith in
     Broken c.in_ok-read.read short c.in_ok-read.ensures.found (sym c.is_broken.ensures ∙ c.if-is_broken.true) refl
 
-pub returns-in-Command-clause-responds : goal.returns-in-Command-clause-responds
-returns-in-Command-clause-responds g c =
+pub returns-in-Request-clause-responds : goal.returns-in-Request-clause-responds
+returns-in-Request-clause-responds g c =
     let short : length c.args.line.now ≤ 8000 = omega arith in
-    Read _ _ short (subst (SpellsLine c.args.line.now) c.in-Command.is c.in_ok-read.ensures.found) (sym c.is_broken.ensures ∙ c.if-is_broken.false)
+    Read _ _ short (subst (SpellsLine c.args.line.now) c.in-Request.is c.in_ok-read.ensures.found) (sym c.is_broken.ensures ∙ c.if-is_broken.false)
     (c.commit.ensures.0, c.commit.ensures.1.takes, c.commit.ensures.2)
 
 pub returns-in-Query-clause-responds : goal.returns-in-Query-clause-responds
@@ -59,8 +59,8 @@ returns-in-Query-clause-lasts g c =
     (subst SaysNeither (sym told) (query_calm held.kit held.tables c.in-Query.query))
     (λ may. absurd (no_query c.args.line.now c.in-Query.query _ _ _ spells may.1.spelled))
 
-pub returns-in-Command-clause-lasts : goal.returns-in-Command-clause-lasts
-returns-in-Command-clause-lasts g c =
+pub returns-in-Request-clause-lasts : goal.returns-in-Request-clause-lasts
+returns-in-Request-clause-lasts g c =
     let short : length c.args.line.now ≤ 8000 = omega arith in
-    let spells = subst (SpellsLine c.args.line.now) c.in-Command.is c.in_ok-read.ensures.found in
-    command_lasts _ _ _ _ _ _ _ _ _ _ _ _ _ _ short spells (sym c.is_broken.ensures ∙ c.if-is_broken.false) c.commit.ensures.0 (ap reply_to c.commit.ensures.2) c.commit.ensures.1
+    let spells = subst (SpellsLine c.args.line.now) c.in-Request.is c.in_ok-read.ensures.found in
+    request_lasts _ _ _ _ _ _ _ _ _ _ _ _ _ _ short spells (sym c.is_broken.ensures ∙ c.if-is_broken.false) c.commit.ensures.0 (ap reply_to c.commit.ensures.2) c.commit.ensures.1

@@ -1,0 +1,4 @@
+pub mod Steps
+pub mod Records
+pub mod Writers
+pub mod Planning

@@ -1,0 +1,158 @@
+-- What the append of a record, and the first step of a checkpoint, leave of what is known of an open file.
+use Rattle.std.proofs.Common.{◌≡◌, ◌⊎◌, ℕ, ◌+◌, ◌^◌, ◌<◌, true, false, not, List, [], ◌∷◌, ◌++◌, length, Option, None, Some, refl, sym, ◌∙◌, ap, subst, arith}
+use Rattle.std.specs.Option.{is_some}
+use Rattle.rr_disk.specs.Disk.{DiskState, IsImage, after_write, after_sync}
+use Rattle.rr_journal.specs.declared.buffer.RecordBuffer.{RecordBuffer}
+use Rattle.rr_journal.specs.declared.layout.PartIndex.{PartIndex}
+use Rattle.rr_journal.specs.declared.part.Part.{Part}
+use Rattle.rr_journal.specs.Layout.{HasRoom, gate_place, spelling}
+use Rattle.rr_journal.specs.Stops.{next_gate, IsReady, MayLeave}
+use Rattle.rr_pages.specs.declared.root.Root.{Root}
+use Rattle.rr_pages.specs.Device.{Shuts, MayShut}
+use Rattle.rr_pages.specs.FreePages.{present_of, coming_of}
+use Rattle.rr_pages.specs.Sets.{Has}
+use Rattle.rr_images.specs.Calls.{far_gate, Appends, Begins, part_behind}
+use Rattle.rr_images.specs.Codec.{Codec}
+use Rattle.rr_images.specs.Halves.{half_part}
+use Rattle.rr_images.specs.Holding.{Holding, reached_of}
+use Rattle.rr_images.specs.Layout.{FarHalf, Unused, Old, Begun, Keeps}
+use Rattle.rr_images.specs.Progress.{IsPlan, IsBegun, IsNotBegun, IsBetween}
+use Rattle.rr_images.specs.Steps.{with_far, with_line, with_line_at, GoesOnAt}
+use Rattle.rr_images.proofs.Calls.{appends, begins, not_begun}
+use Rattle.rr_images.proofs.GoesOn.{goes_begun}
+use Rattle.rr_checkpoint.specs.declared.checkpoint.Checkpoint.{Checkpoint}
+use Rattle.rr_checkpoint.specs.declared.checkpoint.Plan.{Plan}
+use Rattle.rr_checkpoint.specs.declared.open_file.OpenFile.{OpenFile}
+use Rattle.rr_checkpoint.specs.Checkpoint.{plan_of, begun, progress_of}
+use Rattle.rr_checkpoint.specs.OpenFile.{IsBegunAt, CarriesWith}
+
+-- what is known by whether it is begun
+is_begun : (begun : Option ℕ) (number : ℕ) (far : FarHalf) → is_some begun ≡ true → IsBegunAt begun number far → IsBegun far
+is_begun None number far some begun = absurd (cc)
+is_begun (Some first) number far some begun = begun.0
+
+pub isnt_begun : (begun : Option ℕ) (number : ℕ) (far : FarHalf) → is_some begun ≡ false → IsBegunAt begun number far → IsNotBegun far
+isnt_begun None number far none begun = begun
+isnt_begun (Some first) number far none begun = absurd (cc)
+
+-- a record more
+module _ {C : Type 0} (codec : Codec) (file : OpenFile C) (checkpoint : Option Checkpoint) (state : DiskState) (old new : codec.World) (stays : IsImage state state.content) (carries : CarriesWith codec file checkpoint state old)
+    (line : List ℕ) (takes : codec.Takes line old new) (room : HasRoom file.place.part.next_slot (length line)) (low : file.place.number < 2 ^ 63) where
+  record_next : Appends codec carries.layout state (progress_of checkpoint carries.holding) file.place.part file.place.number line old new
+  record_next = appends codec carries.layout state old stays (progress_of checkpoint carries.holding) file.place.part file.place.number line new takes room low carries.tells.goes_on carries.between
+
+  pub record_ready : IsReady file.place.part state
+  record_ready = record_next.ready
+
+  pub record_stops : (image : List ℕ) → MayLeave file.place.part state file.place.number line image → Keeps codec image old ⊎ Keeps codec image new
+  record_stops = record_next.leaves
+
+  same_side : (far : FarHalf) → (with_line_at carries.layout far line new).side ≡ carries.layout.side
+  same_side Unused = refl
+  same_side Old = refl
+  same_side (Begun lines) = refl
+
+  same_root : (far : FarHalf) → (with_line_at carries.layout far line new).root ≡ carries.layout.root
+  same_root Unused = refl
+  same_root Old = refl
+  same_root (Begun lines) = refl
+
+  same_holding : (far : FarHalf) → (with_line_at carries.layout far line new).holding ≡ carries.layout.holding
+  same_holding Unused = refl
+  same_holding Old = refl
+  same_holding (Begun lines) = refl
+
+  -- where records went on before, they go on
+  begun_still : (begun : Option ℕ) (far : FarHalf) → carries.layout.far ≡ far → IsBegunAt begun (carries.layout.root.first + length carries.layout.near) far
+      → IsBegunAt begun ((with_line_at carries.layout far line new).root.first + length (with_line_at carries.layout far line new).near) (with_line_at carries.layout far line new).far
+  begun_still None Unused is none = subst IsNotBegun (sym is) none
+  begun_still None Old is none = subst IsNotBegun (sym is) none
+  begun_still None (Begun lines) is none = absurd none
+  begun_still (Some first) Unused is some = absurd (cc some.0.1)
+  begun_still (Some first) Old is some = absurd (cc some.0.1)
+  begun_still (Some first) (Begun lines) is some = ((lines ++ line ∷ [], refl), some.1)
+
+  pub record_carries : (part : Part) (buffer : RecordBuffer) (after : DiskState) → part ≡ part_behind file.place.part line
+      → after ≡ after_sync (after_write state (next_gate file.place.part) (spelling file.place.number line))
+      → CarriesWith codec
+      (record {
+        taken = file.taken;
+        place = record { part = part; number = file.place.number + 1; begun = file.place.begun };
+        free = file.free;
+        buffer = buffer;
+        codec = file.codec;
+      })
+      checkpoint after new
+  record_carries part buffer after behind is =
+      let far = carries.layout.far in
+      record {
+        layout = with_line carries.layout line new;
+        holding = carries.holding;
+        tells = record {
+          side = same_side far ∙ carries.tells.side;
+          root = same_root far ∙ carries.tells.root;
+          begun = begun_still file.place.begun far refl carries.tells.begun;
+          goes_on = subst (λ (p : Part). GoesOnAt (with_line carries.layout line new) p (file.place.number + 1)) (sym behind) record_next.goes_on;
+          reached = subst (λ (held : Holding). Has (present_of file.free) (reached_of held)) (sym (same_holding far)) carries.tells.reached;
+        };
+        between = subst (λ (s : DiskState). IsBetween codec (with_line carries.layout line new) s (progress_of checkpoint carries.holding) new) (sym is) record_next.done;
+        coming = carries.coming;
+      }
+
+-- the first step of a checkpoint
+module _ {C : Type 0} (codec : Codec) (file : OpenFile C) (state : DiskState) (world : codec.World) (stays : IsImage state state.content) (carries : CarriesWith codec file None state world) where
+  -- it was found begun
+  module _ (plan : Plan) (holding : Holding) (is_plan : IsPlan codec carries.layout (plan_of plan holding)) (coming : Has (coming_of file.free) (reached_of holding)) where
+    pub found_carries : is_some file.place.begun ≡ true → CarriesWith codec file (Some (begun plan)) state world
+    found_carries some =
+        record {
+          layout = carries.layout;
+          holding = holding;
+          tells = carries.tells;
+          between = record {
+            each = carries.between.each;
+            come = (is_plan, is_begun file.place.begun (carries.layout.root.first + length carries.layout.near) carries.layout.far some carries.tells.begun, refl, tt);
+          };
+          coming = coming;
+        }
+
+  module _ (none : IsNotBegun carries.layout.far) (index : PartIndex) (other : index ≡ half_part (not file.taken.root.half)) (at : ℕ) (there : at ≡ next_gate (record { index = index; next_slot = 0 })) where
+    begin_next : Begins codec carries.layout state world
+    begin_next = begins codec carries.layout state world stays carries.between.each none
+
+    other_part : index ≡ half_part (not carries.layout.root.half)
+    other_part = other ∙ ap (λ (root : Root). half_part (not root.half)) (sym carries.tells.root)
+
+    at_gate : at ≡ far_gate carries.layout
+    at_gate = there ∙ ap (λ (i : PartIndex). gate_place i 0) other_part
+
+    pub begin_stops : (image : List ℕ) → MayShut state at image → Keeps codec image world
+    begin_stops image may = begin_next.leaves image (subst (λ (n : ℕ). MayShut state n image) at_gate may)
+
+    module _ (plan : Plan) (holding : Holding) (is_plan : IsPlan codec carries.layout (plan_of plan holding)) (coming : Has (coming_of file.free) (reached_of holding)) where
+      pub begin_carries : (new : DiskState) → Shuts state at new
+          → CarriesWith codec
+          (record {
+            taken = file.taken;
+            place = record { part = record { index = index; next_slot = 0 }; number = file.place.number; begun = Some file.place.number };
+            free = file.free;
+            buffer = file.buffer;
+            codec = file.codec;
+          })
+          (Some (begun plan)) new world
+      begin_carries new shuts =
+          let layout = with_far carries.layout (Begun []) in
+          let goes = goes_begun codec carries.layout file.place.part file.place.number carries.tells.goes_on (not_begun carries.layout.far none) in
+          record {
+            layout = layout;
+            holding = holding;
+            tells = record {
+              side = carries.tells.side;
+              root = carries.tells.root;
+              begun = (([], refl), omega (arith, goes.numbered));
+              goes_on = subst (λ (i : PartIndex). GoesOnAt layout (record { index = i; next_slot = 0 }) file.place.number) (sym other_part) goes;
+              reached = carries.tells.reached;
+            };
+            between = begin_next.done (plan_of plan holding) new is_plan (subst (λ (n : ℕ). Shuts state n new) at_gate shuts);
+            coming = coming;
+          }

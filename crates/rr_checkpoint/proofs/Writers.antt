@@ -1,0 +1,95 @@
+-- What the calls of a writer say, by those on its file.
+use Rattle.std.proofs.Common.{◌≡◌, ◌+◌, ◌<◌, ℕ, Bool, true, List, length, Option, None, Some, refl, sym, subst, arith}
+use Rattle.std.specs.Option.{is_some}
+use Rattle.rr_disk.specs.Disk.{DiskState}
+use Rattle.rr_disk.specs.Moments.{EachImage}
+use Rattle.rr_pages.specs.declared.free_pages.FreePages.{FreePages}
+use Rattle.rr_pages.specs.FreePages.{present_of}
+use Rattle.rr_pages.specs.Sets.{Has}
+use Rattle.rr_images.specs.Codec.{Codec, Replays}
+use Rattle.rr_images.specs.Holding.{reached_of}
+use Rattle.rr_images.specs.Layout.{Layout, FarHalf, Unused, Old, Begun, far_lines, KeepsAt, Keeps}
+use Rattle.rr_images.specs.Progress.{IsNotBegun, IsBetween}
+use Rattle.rr_images.proofs.Commits.{settled_may_stay}
+use Rattle.rr_checkpoint.specs.declared.checkpoint.Checkpoint.{Checkpoint}
+use Rattle.rr_checkpoint.specs.declared.checkpoint.Stage.{Stage}
+use Rattle.rr_checkpoint.specs.declared.checkpoint.Stage.TheVariants as S
+use Rattle.rr_checkpoint.specs.declared.open_file.OpenFile.{OpenFile}
+use Rattle.rr_checkpoint.specs.declared.writer.Tick.{Tick}
+use Rattle.rr_checkpoint.specs.declared.writer.Tick.TheVariants.{Idle, More, Done}
+use Rattle.rr_checkpoint.specs.Calls.{Renews}
+use Rattle.rr_checkpoint.specs.Checkpoint.{progress_of, left_at, left_of}
+use Rattle.rr_checkpoint.specs.OpenFile.{IsBegunAt, HasComing, CarriesWith}
+use Rattle.rr_checkpoint.specs.Writer.{Lowers, RenewsAt, told_at}
+
+-- the same of a checkpoint that is told otherwise
+abbrev pub carries_same : {C : Type 0} (codec : Codec) (file : OpenFile C) (state : DiskState) (world : codec.World) (checkpoint other : Option Checkpoint) → checkpoint ≡ other
+    → CarriesWith codec file checkpoint state world → CarriesWith codec file other state world
+carries_same codec file state world checkpoint other is carries =
+    record {
+      layout = carries.layout;
+      holding = carries.holding;
+      tells = carries.tells;
+      between = subst (λ (c : Option Checkpoint). IsBetween codec carries.layout state (progress_of c carries.holding) world) is carries.between;
+      coming = subst (λ (c : Option Checkpoint). HasComing file.free c carries.holding) is carries.coming;
+    }
+
+some_left : (stage : Stage) (pages : ℕ) → 0 < left_at stage pages
+some_left (S.Writing written) pages = omega arith
+some_left S.Shut pages = omega arith
+some_left S.Filled pages = omega arith
+
+pub none_left : (checkpoint : Option Checkpoint) → left_of checkpoint ≡ 0 → checkpoint ≡ None
+none_left None none = refl
+none_left (Some checkpoint) none = let some = some_left checkpoint.stage (length checkpoint.plan.fresh.items) in absurd (omega (arith, some, none))
+
+pub renews_told : (codec : Codec) (layout : Layout codec) (next : Option Checkpoint) (new : DiskState) (world : codec.World) → Renews codec layout next new world → RenewsAt codec (told_at next) layout new world
+renews_told codec layout None new world renews = renews
+renews_told codec layout (Some checkpoint) new world renews = tt
+
+pub left_some : (checkpoint : Option Checkpoint) → is_some checkpoint ≡ true → 0 < left_of checkpoint
+left_some None some = absurd (cc)
+left_some (Some checkpoint) some = some_left checkpoint.stage (length checkpoint.plan.fresh.items)
+
+pub lowers_one : (tick : Tick) (old new : ℕ) → Lowers tick old new → 0 < old → old ≡ new + 1
+lowers_one Idle old new lowers some = absurd (omega (arith, lowers.0, some))
+lowers_one More old new lowers some = lowers.0
+lowers_one Done old new lowers some = omega (arith, lowers.0, lowers.1)
+
+-- where no checkpoint is under way, the pages that are taken for one may change
+pub carries_freed : {C : Type 0} (codec : Codec) (file : OpenFile C) (checkpoint : Option Checkpoint) (free : FreePages) → left_of checkpoint ≡ 0 → present_of free ≡ present_of file.free
+    → (state : DiskState) (world : codec.World) (carries : CarriesWith codec file checkpoint state world)
+    → (then : CarriesWith codec (record { taken = file.taken; place = file.place; free = free; buffer = file.buffer; codec = file.codec }) checkpoint state world) × (then.layout ≡ carries.layout)
+carries_freed codec file checkpoint free none present state world carries = (
+  record {
+    layout = carries.layout;
+    holding = carries.holding;
+    tells = record {
+      side = carries.tells.side;
+      root = carries.tells.root;
+      begun = carries.tells.begun;
+      goes_on = carries.tells.goes_on;
+      reached = subst (λ (marks : List Bool). Has marks (reached_of carries.layout.holding)) (sym present) carries.tells.reached;
+    };
+    between = carries.between;
+    coming = subst (λ (c : Option Checkpoint). HasComing free c carries.holding) (sym (none_left checkpoint none)) tt;
+  },
+  refl,
+)
+
+-- each file that a stop may leave now keeps the world that is carried
+pub carried_kept : {C : Type 0} (codec : Codec) (file : OpenFile C) (checkpoint : Option Checkpoint) (state : DiskState) (world : codec.World) → CarriesWith codec file checkpoint state world → EachImage state (λ image. Keeps codec image world)
+carried_kept codec file checkpoint state world carries = λ image is. record { layout = carries.layout; kept = carries.between.each image is }
+
+-- with no record in the other half the next root's base is the world itself
+middle_is : (codec : Codec) (layout : Layout codec) (file : List ℕ) (world : codec.World) (far : FarHalf) → layout.far ≡ far → IsNotBegun far → KeepsAt codec layout file world → layout.middle ≡ world
+middle_is codec layout file world Unused is none kept = subst (λ (half : FarHalf). Replays codec layout.middle (far_lines half) world) is kept.far_replayed
+middle_is codec layout file world Old is none kept = subst (λ (half : FarHalf). Replays codec layout.middle (far_lines half) world) is kept.far_replayed
+middle_is codec layout file world (Begun lines) is none kept = absurd none
+
+pub base_is_carried : {C : Type 0} (codec : Codec) (file : OpenFile C) (checkpoint : Option Checkpoint) (state : DiskState) (world : codec.World) (carries : CarriesWith codec file checkpoint state world)
+    → file.place.begun ≡ None → carries.layout.middle ≡ world
+base_is_carried codec file checkpoint state world carries none =
+    let number = carries.layout.root.first + length carries.layout.near in
+    middle_is codec carries.layout state.settled world carries.layout.far refl
+    (subst (λ (begun : Option ℕ). IsBegunAt begun number carries.layout.far) none carries.tells.begun) (carries.between.each state.settled (settled_may_stay state))

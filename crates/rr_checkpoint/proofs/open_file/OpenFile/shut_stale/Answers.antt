@@ -1,0 +1,22 @@
+use Rattle.rr_disk.proofs.MomentLemmas.{weaker}
+use Rattle.rr_images.specs.Layout.{Keeps}
+use Rattle.rr_checkpoint.proofs.Steps.{shut_stops, shut_carries}
+use Rattle.rr_checkpoint.proofs.open_file.OpenFile.shut_stale.Goals as goal
+
+pub returns-in_err-close-clause-stops : goal.returns-in_err-close-clause-stops
+returns-in_err-close-clause-stops g c = λ honest world carries.
+    let stays = g.met.D.Disk.content_may_stay c.args.disk.now (c.in_err-close.ensures.honest honest) in
+    weaker (c.in_err-close.ensures.any_moment honest) (λ image. Keeps g.C.Codec.codec image world)
+    (shut_stops g.C.Codec.codec c.args.self.now c.args.checkpoint (g.D.Disk.state c.args.disk.now) world stays carries c.args.written c.requires.stage c.requires.all)
+
+pub returns-clause-stops : goal.returns-clause-stops
+returns-clause-stops g c = λ honest world carries.
+    let stays = g.met.D.Disk.content_may_stay c.args.disk.now (c.in_ok-close.ensures.honest honest) in
+    weaker (c.in_ok-close.ensures.any_moment honest) (λ image. Keeps g.C.Codec.codec image world)
+    (shut_stops g.C.Codec.codec c.args.self.now c.args.checkpoint (g.D.Disk.state c.args.disk.now) world stays carries c.args.written c.requires.stage c.requires.all)
+
+pub returns-clause-carries : goal.returns-clause-carries
+returns-clause-carries g c = λ honest world carries.
+    let stays = g.met.D.Disk.content_may_stay c.args.disk.now (c.in_ok-close.ensures.honest honest) in
+    shut_carries g.C.Codec.codec c.args.self.now c.args.checkpoint (g.D.Disk.state c.args.disk.now) world stays carries c.args.written c.requires.stage c.requires.all
+    (g.D.Disk.state c.close.new.disk) (c.in_ok-close.ensures.done honest)

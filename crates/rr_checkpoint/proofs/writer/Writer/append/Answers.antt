@@ -1,0 +1,7 @@
+use Rattle.rr_checkpoint.proofs.writer.Writer.append.Goals as goal
+
+pub returns-in_err-append-clause-stops : goal.returns-in_err-append-clause-stops
+returns-in_err-append-clause-stops g c = λ honest old new takes carries. c.in_err-append.ensures.stops honest old new takes c.args.self.now.checkpoint carries
+
+pub returns-clause-stops : goal.returns-clause-stops
+returns-clause-stops g c = λ honest old new takes carries. c.in_ok-append.ensures.stops honest old new takes c.args.self.now.checkpoint carries

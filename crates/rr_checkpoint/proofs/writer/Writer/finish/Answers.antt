@@ -1,0 +1,46 @@
+use Rattle.std.proofs.Common.{◌∙◌, sym, refl, arith}
+use Rattle.rr_disk.proofs.MomentLemmas.{started, joins}
+use Rattle.rr_images.specs.Layout.{Keeps}
+use Rattle.rr_checkpoint.specs.Writer.{ticks_left_of}
+use Rattle.rr_checkpoint.proofs.Writers.{left_some, lowers_one}
+use Rattle.rr_checkpoint.proofs.writer.Writer.finish.Goals as goal
+
+pub loop-self-init : goal.loop-self-init
+loop-self-init g c =
+    let disk = c.args.disk.now in
+    record {
+      honest = λ honest. honest;
+      works = λ works. works;
+      carries = λ honest world carries. carries;
+      stops = λ honest world carries.
+          started (g.D.Disk.past disk) (g.D.Disk.state disk) (λ image. Keeps g.C.Codec.codec image world)
+          (λ image is. record { layout = carries.layout; kept = carries.between.each image is });
+      number = refl;
+      faults = refl;
+      writes = omega arith;
+      syncs = omega arith;
+    }
+
+pub loop-self-preserved : goal.loop-self-preserved
+loop-self-preserved g c =
+    let so_far = c.loop-self.invariant in
+    let under_way = left_some c.loop-self.self.checkpoint (sym c.is_some.ensures ∙ c.loop-self-test.true) in
+    let lowers = lowers_one c.in_ok-tick.field-0 (ticks_left_of c.loop-self.self) (ticks_left_of c.tick.new.self) c.in_ok-tick.ensures.left under_way in
+    record {
+      honest = λ honest. so_far.honest (c.tick.ensures.honest honest);
+      works = λ works. so_far.works (c.tick.ensures.works works);
+      carries = λ honest world carries.
+          c.in_ok-tick.ensures.carries honest world (so_far.carries (c.tick.ensures.honest honest) world carries);
+      stops = λ honest world carries.
+          let then = c.tick.ensures.honest honest in
+          joins (so_far.stops then world carries) (c.tick.ensures.stops honest world (so_far.carries then world carries));
+      number = c.tick.ensures.number ∙ so_far.number;
+      faults = c.in_ok-tick.ensures.fault ∙ so_far.faults;
+      writes = omega (arith, c.tick.ensures.writes, so_far.writes, lowers);
+      syncs = omega (arith, c.tick.ensures.syncs, so_far.syncs, lowers);
+    }
+
+pub returns-in_err-tick-clause-stops : goal.returns-in_err-tick-clause-stops
+returns-in_err-tick-clause-stops g c = λ honest world carries.
+    let then = c.tick.ensures.honest honest in
+    joins (c.loop-self.invariant.stops then world carries) (c.tick.ensures.stops honest world (c.loop-self.invariant.carries then world carries))

@@ -1,0 +1,22 @@
+use Rattle.std.proofs.Common.{◌≡◌, ◌+◌, ◌≤◌}
+use Rattle.rr_checkpoint.specs.Calls.{LeavesKept}
+use Rattle.rr_checkpoint.specs.Writer.{Carries, place_of, ticks_left_of}
+use Rattle.rr_checkpoint.proofs.writer.Writer.finish.Given as goal
+
+abbrev pub invariant-loop-self : goal.invariant-loop-self
+invariant-loop-self g l =
+    record {
+      honest : g.D.Disk.Honest l.disk → g.D.Disk.Honest l.fn.disk;
+      works : g.D.Disk.Works l.disk → g.D.Disk.Works l.fn.disk;
+      carries : g.D.Disk.Honest l.disk → (world : g.C.Codec.codec.World) → Carries g.C.Codec.codec l.fn.self (g.D.Disk.state l.fn.disk) world
+          → Carries g.C.Codec.codec l.self (g.D.Disk.state l.disk) world;
+      stops : g.D.Disk.Honest l.disk → (world : g.C.Codec.codec.World) → Carries g.C.Codec.codec l.fn.self (g.D.Disk.state l.fn.disk) world
+          → LeavesKept g.C.Codec.codec (g.D.Disk.past l.fn.disk) (g.D.Disk.state l.fn.disk) (g.D.Disk.past l.disk) (g.D.Disk.state l.disk) world;
+      number : (place_of l.self).number ≡ (place_of l.fn.self).number;
+      faults : g.D.Disk.fault_count l.disk ≡ g.D.Disk.fault_count l.fn.disk;
+      writes : g.D.Disk.write_count l.disk + ticks_left_of l.self ≤ g.D.Disk.write_count l.fn.disk + ticks_left_of l.fn.self;
+      syncs : g.D.Disk.sync_count l.disk + ticks_left_of l.self ≤ g.D.Disk.sync_count l.fn.disk + ticks_left_of l.fn.self;
+    }
+
+abbrev pub decreases-loop-self : goal.decreases-loop-self
+decreases-loop-self g l = ticks_left_of l.self

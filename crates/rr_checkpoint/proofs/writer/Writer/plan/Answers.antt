@@ -1,0 +1,26 @@
+use Rattle.std.proofs.Common.{◌∙◌, List, None, refl, ap}
+use Rattle.rr_pages.specs.declared.chain.FreshPage.{FreshPage}
+use Rattle.rr_checkpoint.specs.Planning.{coming_root_of}
+use Rattle.rr_checkpoint.proofs.Planning.{may_begin}
+use Rattle.rr_checkpoint.proofs.Writers.{carries_same, carries_freed, none_left}
+use Rattle.rr_checkpoint.proofs.writer.Writer.plan.Goals as goal
+
+pub returns-in_err-head-clause-carries : goal.returns-in_err-head-clause-carries
+returns-in_err-head-clause-carries g c =
+    let writer = c.args.self.now in
+    carries_freed g.C.Codec.codec writer.file writer.checkpoint c.chain_write.new.free c.requires.resting c.chain_write.ensures.present
+
+pub returns-clause-carries : goal.returns-clause-carries
+returns-clause-carries g c =
+    let writer = c.args.self.now in
+    carries_freed g.C.Codec.codec writer.file writer.checkpoint c.chain_write.new.free c.requires.resting c.chain_write.ensures.present
+
+pub returns-clause-plan : goal.returns-clause-plan
+returns-clause-plan g c = λ state world carries drafts drafted directory_is.
+    let codec = g.C.Codec.codec in
+    let writer = c.args.self.now in
+    let fresh = c.chain_write.new.fresh in
+    let resting = carries_same codec writer.file state world writer.checkpoint None (none_left writer.checkpoint c.requires.resting) carries in
+    let same = ap (λ (pages : List FreshPage). coming_root_of writer c.in_ok-head.head pages) c.deref.ensures.value in
+    may_begin codec writer.file state world resting drafts c.args.fresh.items fresh.items drafted c.args.directory.now directory_is c.chain_write.new.free c.in_ok-head.head
+    c.in_ok-head.ensures.laid c.requires.root c.requires.number (record { root = c.coming_root-root.result; fresh = fresh }) (c.coming_root-root.ensures ∙ same) refl

@@ -1,0 +1,6 @@
+pub mod Calls
+pub mod Checkpoint
+pub mod OpenFile
+pub mod Pages
+pub mod Writer
+pub mod Planning

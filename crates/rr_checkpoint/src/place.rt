@@ -1,0 +1,12 @@
+use rr_journal::Part;
+
+/// Where the next record goes.
+#[derive(Clone, Copy, Debug)]
+pub struct Place {
+    pub part: Part,
+    /// The record's number.
+    pub number: u64,
+    /// Where a checkpoint is begun, and records go to the half that the root doesn't name: the number of the first record
+    /// there.
+    pub begun: Option<u64>,
+}

@@ -1,0 +1,9 @@
+pub mod Standing
+pub mod Rows
+pub mod Verdicts
+pub mod Counts
+pub mod Endings
+pub mod WithinLimit
+pub mod InOrder
+pub mod Spending
+pub mod AnyOver

@@ -1,0 +1,5 @@
+pub mod Seats
+pub mod Flat
+pub mod Balances
+pub mod Tokens
+pub mod Hundred

@@ -1,0 +1,4 @@
+pub mod Fault
+pub mod Dividends
+pub mod DividendLaws
+pub mod WorkedDividends

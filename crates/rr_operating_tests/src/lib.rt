@@ -1,0 +1,13 @@
+//! Tests of the rules of operating rounds: dividends, purchases of trains and privates, and what follows on a round.
+#![tactic(auto)]
+
+#[cfg(test)]
+mod depot;
+#[cfg(test)]
+mod dividends;
+#[cfg(test)]
+mod fixtures;
+#[cfg(test)]
+mod running;
+#[cfg(test)]
+mod sets;

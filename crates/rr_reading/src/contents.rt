@@ -1,0 +1,135 @@
+ghost use Rattle.std.specs.Prelude.{◌≡◌, Bool, not, length, IfOk, IfErr};
+ghost use Rattle.rr_dir.specs.Directory.{directory_of};
+ghost use Rattle.rr_pages.specs.PageSet.{marks_of};
+ghost use Rattle.rr_reading.specs.Chains.{held, all_held};
+ghost use Rattle.rr_reading.specs.Faults.{CountsFault};
+ghost use Rattle.rr_reading.specs.Held.{GoesOn, chains_held};
+ghost use Rattle.rr_reading.specs.Reading.{TakesRoot, HoldsChains, Reads, Refuses};
+
+use crate::chains::{read_tables, read_texts};
+use crate::directory::{FoundDirectory, read_directory};
+use crate::forms::are_of_form;
+use crate::records::{FoundRecords, read_records};
+use crate::root::{page_count, read_root};
+use crate::{Damage, Fault};
+use rr_dir::Dir;
+use rr_disk::Disk;
+use rr_journal::Scanned;
+use rr_pages::{PageSet, ReadChain, Root, Taken};
+use std::alloc::Global;
+
+/// The chains of a kit's texts, whose bytes are the texts.
+#[derive(Drop)]
+pub struct KitTexts {
+    pub chart: ReadChain,
+    pub roster: ReadChain,
+    pub tiles: ReadChain,
+    pub board: ReadChain,
+}
+
+/// What a file holds.
+#[derive(Drop)]
+pub struct Contents {
+    pub taken: Taken,
+    pub dir: Dir,
+    /// The directory's chain.
+    pub directory: ReadChain,
+    pub texts: KitTexts,
+    /// The chain of each table, in the order of the directory. Its bytes are as many kept commands as that says.
+    pub tables: Vec<ReadChain>,
+    /// The pages of all these chains.
+    pub reached: PageSet,
+    /// The records in the half that the root names, and why they end.
+    pub near: Scanned,
+    /// Those in the other half, numbered on.
+    pub far: Scanned,
+}
+
+// What the chains of a root hold.
+#[derive(Drop)]
+struct FoundChains {
+    dir: Dir,
+    directory: ReadChain,
+    texts: KitTexts,
+    tables: Vec<ReadChain>,
+    reached: PageSet,
+}
+
+/// Reads a store's file, as far as no rule of the game is needed. It writes nothing, and neither syncs.
+///
+/// `NotAStore` where the file has fewer than 515 pages, no open root, or an open root of another version than 1; else
+/// `Damaged` with the first clause that it breaks, in the order in which it is read: the roots, the directory's pages and
+/// then its form, the pages and lengths of the chains that it names, one chain after another, and then the form of what
+/// the tables' chains hold. Else `Disk` or `OutOfMemory` alone. A record that is damaged is told by the end of its half:
+/// texts that are refused and commands that aren't lawful come before it.
+pub fn read_file<D: Disk>(alloc: Global, disk: &mut D) -> Result<Contents, Fault>
+    ensures read { D.Honest disk.new → Reads (D.state disk.old).content result }
+    ensures near { IfOk result (λ contents. GoesOn contents.taken.root.half contents.near) }
+    ensures far { IfOk result (λ contents. GoesOn (not contents.taken.root.half) contents.far) }
+    ensures fault { CountsFault (D.fault_count disk.old) (D.fault_count disk.new) result }
+    ensures honest { D.Honest disk.new → D.Honest disk.old }
+    ensures same_state { D.Honest disk.new → D.state disk.new ≡ D.state disk.old }
+    ensures same_past { D.Honest disk.new → D.past disk.new ≡ D.past disk.old }
+    ensures writes { D.write_count disk.new ≡ D.write_count disk.old }
+    ensures syncs { D.sync_count disk.new ≡ D.sync_count disk.old }
+    ensures works { D.Works disk.new → D.Works disk.old }
+    ensures same_len { D.file_len disk.new ≡ D.file_len disk.old }
+{
+    let taken = read_root(disk)?;
+    let found = read_chains(alloc, disk, &taken.root)?;
+    let records = read_records(alloc, disk, &taken.root)?;
+    let FoundChains {
+        dir,
+        directory,
+        texts,
+        tables,
+        reached,
+    } = found;
+    let FoundRecords { near, far } = records;
+    Ok(Contents {
+        taken,
+        dir,
+        directory,
+        texts,
+        tables,
+        reached,
+        near,
+        far,
+    })
+}
+
+// Reads all chains of the root that is taken.
+fn read_chains<D: Disk>(alloc: Global, disk: &mut D, root: &Root) -> Result<FoundChains, Fault>
+    ensures found { IfOk result (λ found. D.Honest disk.new → (side : Bool) → TakesRoot (D.state disk.old).content side root.now
+        → HoldsChains (D.state disk.old).content side root.now (directory_of found.dir) (held found.directory)
+        (chains_held found.texts) (all_held found.tables.items) (marks_of found.reached)) }
+    ensures refused { IfErr result (λ fault. D.Honest disk.new → (side : Bool) → TakesRoot (D.state disk.old).content side root.now
+        → Refuses (D.state disk.old).content fault) }
+    ensures fault { CountsFault (D.fault_count disk.old) (D.fault_count disk.new) result }
+    ensures honest { D.Honest disk.new → D.Honest disk.old }
+    ensures same_state { D.Honest disk.new → D.state disk.new ≡ D.state disk.old }
+    ensures same_past { D.Honest disk.new → D.past disk.new ≡ D.past disk.old }
+    ensures writes { D.write_count disk.new ≡ D.write_count disk.old }
+    ensures syncs { D.sync_count disk.new ≡ D.sync_count disk.old }
+    ensures works { D.Works disk.new → D.Works disk.old }
+    ensures same_len { D.file_len disk.new ≡ D.file_len disk.old }
+{
+    let FoundDirectory {
+        dir,
+        chain,
+        mut reached,
+    } = read_directory(alloc, disk, root)?;
+    let count = page_count(root.pages);
+    let texts = read_texts(alloc, disk, count, &mut reached, &dir.kit)?;
+    let tables = read_tables(alloc, disk, count, &mut reached, &dir.tables)?;
+    if !are_of_form(&dir.tables, &tables) {
+        return Err(Fault::Damaged(Damage::TableForm));
+    }
+    Ok(FoundChains {
+        dir,
+        directory: chain,
+        texts,
+        tables,
+        reached,
+    })
+}

@@ -1,0 +1,135 @@
+use std::alloc::{AllocError, AllocFailed};
+use thiserror::Error;
+
+/// Which clause a damaged file breaks, of those that its bytes alone decide. Of several the first one in the order of
+/// reading is told.
+#[derive(Clone, Copy, Debug, Drop, PartialEq, Eq, Error)]
+pub enum Damage {
+    /// A field of a root, or the pages of a chain.
+    #[error("{0}")]
+    Pages(rr_pages::Damage),
+    /// The bytes of the directory spell none.
+    #[error("5")]
+    DirectoryForm,
+    /// The bytes of a table's chain aren't as many commands as the directory says.
+    #[error("5")]
+    TableForm,
+}
+
+impl Damage {
+    ghost use Rattle.std.specs.Prelude.{◌≡◌};
+    ghost use Rattle.rr_reading.specs.Faults.{clause_of};
+
+    /// The number of the clause, 1 to 5.
+    pub fn clause(self) -> u8
+        ensures { result ≡ clause_of self }
+    {
+        match self {
+            Damage::Pages(damage) => damage.clause(),
+            Damage::DirectoryForm | Damage::TableForm => 5,
+        }
+    }
+}
+
+/// Why a file wasn't read.
+#[derive(Clone, Copy, Debug, Drop, PartialEq, Eq, Error)]
+pub enum Fault {
+    /// The file breaks a clause of its form.
+    #[error("damaged {0}")]
+    Damaged(Damage),
+    /// The file has no roots of this version.
+    #[error("not a store")]
+    NotAStore,
+    /// A device call failed.
+    #[error("{0}")]
+    Disk(rr_disk::Fault),
+    /// Memory was wanted and refused.
+    #[error("out of memory")]
+    OutOfMemory,
+}
+
+impl Fault {
+    ghost use Rattle.std.specs.Prelude.{◌≡◌};
+    ghost use Rattle.rr_reading.specs.Faults.{number_of};
+
+    /// The number that replies give.
+    pub fn number(self) -> u8
+        ensures { result ≡ number_of self }
+    {
+        match self {
+            Fault::Damaged(_) => 63,
+            Fault::NotAStore => 64,
+            Fault::Disk(fault) => fault.number(),
+            Fault::OutOfMemory => 70,
+        }
+    }
+}
+
+// Reading takes no free page, so that a full file is never told.
+impl From<rr_pages::Fault> for Fault {
+    ghost use Rattle.std.specs.Prelude.{◌≡◌};
+    ghost use Rattle.rr_reading.specs.Faults.{of_pages};
+
+    ghost from_gives = { λ fault wrapped. wrapped ≡ of_pages fault };
+
+    fn from(fault: rr_pages::Fault) -> Fault {
+        match fault {
+            rr_pages::Fault::Damaged(damage) => Fault::Damaged(Damage::Pages(damage)),
+            rr_pages::Fault::NotAStore => Fault::NotAStore,
+            rr_pages::Fault::Disk(fault) => Fault::Disk(fault),
+            rr_pages::Fault::FileFull | rr_pages::Fault::OutOfMemory => Fault::OutOfMemory,
+        }
+    }
+}
+
+// Nor does it append, so that a half is never told full.
+impl From<rr_journal::Fault> for Fault {
+    ghost use Rattle.std.specs.Prelude.{◌≡◌};
+    ghost use Rattle.rr_reading.specs.Faults.{of_journal};
+
+    ghost from_gives = { λ fault wrapped. wrapped ≡ of_journal fault };
+
+    fn from(fault: rr_journal::Fault) -> Fault {
+        match fault {
+            rr_journal::Fault::Disk(fault) => Fault::Disk(fault),
+            rr_journal::Fault::HalfFull | rr_journal::Fault::OutOfMemory => Fault::OutOfMemory,
+        }
+    }
+}
+
+/// Of a directory.
+impl From<rr_dir::Fault> for Fault {
+    ghost use Rattle.std.specs.Prelude.{◌≡◌};
+    ghost use Rattle.rr_reading.specs.Faults.{of_directory};
+
+    ghost from_gives = { λ fault wrapped. wrapped ≡ of_directory fault };
+
+    fn from(fault: rr_dir::Fault) -> Fault {
+        match fault {
+            rr_dir::Fault::Damaged => Fault::Damaged(Damage::DirectoryForm),
+            rr_dir::Fault::OutOfMemory => Fault::OutOfMemory,
+        }
+    }
+}
+
+impl From<AllocError> for Fault {
+    ghost use Rattle.std.specs.Prelude.{◌≡◌};
+    ghost use Rattle.rr_reading.specs.declared.fault.Fault.TheVariants.{OutOfMemory};
+
+    ghost from_gives = { λ _ fault. fault ≡ OutOfMemory };
+
+    fn from(_: AllocError) -> Fault {
+        Fault::OutOfMemory
+    }
+}
+
+impl<T: Drop> From<AllocFailed<T>> for Fault {
+    ghost use Rattle.std.specs.Prelude.{◌≡◌};
+    ghost use Rattle.rr_reading.specs.declared.fault.Fault.TheVariants.{OutOfMemory};
+
+    ghost from_gives = { λ _ fault. fault ≡ OutOfMemory };
+
+    fn from(_: AllocFailed<T>) -> Fault {
+        Fault::OutOfMemory
+    }
+}

@@ -1,0 +1,16 @@
+//! What an opening reads of a store's file before the rules judge it: the root that is taken, its directory, the chains
+//! that this names, and the records of both halves; or the first clause of damage that the bytes alone decide. `read_file`
+//! promises both exactly, of every file.
+#![tactic(auto)]
+
+mod chains;
+mod contents;
+mod directory;
+mod fault;
+mod forms;
+pub mod laws;
+mod records;
+mod root;
+
+pub use contents::{Contents, KitTexts, read_file};
+pub use fault::{Damage, Fault};

@@ -1,0 +1,83 @@
+// The records of both halves.
+ghost use Rattle.std.specs.Prelude.{◌≡◌, ◌+◌, ◌≤◌, ◌<◌, ◌^◌, not, length, IfOk, IfErr};
+ghost use Rattle.rr_images.specs.Halves.{half_part};
+ghost use Rattle.rr_journal.specs.Reading.{lines};
+ghost use Rattle.rr_journal.specs.Run.{Run};
+ghost use Rattle.rr_reading.specs.Faults.{CountsFault};
+ghost use Rattle.rr_reading.specs.Held.{GoesOn};
+ghost use Rattle.rr_reading.specs.Reading.{IsNoVerdict};
+
+use crate::Fault;
+use crate::root::first_number;
+use rr_disk::Disk;
+use rr_journal::{PartIndex, Scanned, scan};
+use rr_pages::Root;
+use std::alloc::Global;
+
+// The records behind a root.
+#[derive(Drop)]
+pub(crate) struct FoundRecords {
+    pub(crate) near: Scanned,
+    pub(crate) far: Scanned,
+}
+
+// Reads the half that the root names, and then the other one, whose records are numbered on.
+pub(crate) fn read_records<D: Disk>(
+    alloc: Global,
+    disk: &mut D,
+    root: &Root,
+) -> Result<FoundRecords, Fault>
+    ensures near { IfOk result (λ found. D.Honest disk.new → root.now.first < 2 ^ 63
+        → Run (D.state disk.old).content (half_part root.now.half) 0 root.now.first
+        (lines found.near.records.items) found.near.end) }
+    ensures far { IfOk result (λ found. D.Honest disk.new → root.now.first < 2 ^ 63
+        → Run (D.state disk.old).content (half_part (not root.now.half)) 0 (root.now.first + length (lines found.near.records.items))
+        (lines found.far.records.items) found.far.end) }
+    ensures near_part { IfOk result (λ found. GoesOn root.now.half found.near) }
+    ensures far_part { IfOk result (λ found. GoesOn (not root.now.half) found.far) }
+    ensures only { IfErr result IsNoVerdict }
+    ensures fault { CountsFault (D.fault_count disk.old) (D.fault_count disk.new) result }
+    ensures honest { D.Honest disk.new → D.Honest disk.old }
+    ensures same_state { D.Honest disk.new → D.state disk.new ≡ D.state disk.old }
+    ensures same_past { D.Honest disk.new → D.past disk.new ≡ D.past disk.old }
+    ensures writes { D.write_count disk.new ≡ D.write_count disk.old }
+    ensures syncs { D.sync_count disk.new ≡ D.sync_count disk.old }
+    ensures works { D.Works disk.new → D.Works disk.old }
+    ensures same_len { D.file_len disk.new ≡ D.file_len disk.old }
+{
+    let first = first_number(root.first);
+    let near = read_half(alloc, disk, root.half, first)?;
+    let next = first + near.records.len() as u64;
+    let far = read_half(alloc, disk, !root.half, next)?;
+    Ok(FoundRecords { near, far })
+}
+
+fn read_half<D: Disk>(alloc: Global, disk: &mut D, half: bool, first: u64) -> Result<Scanned, Fault>
+    requires { first + 255 < 2 ^ 64 }
+    ensures run { IfOk result (λ scanned. D.Honest disk.new
+        → Run (D.state disk.old).content (half_part half) 0 first (lines scanned.records.items) scanned.end) }
+    ensures part { IfOk result (λ scanned. GoesOn half scanned) }
+    ensures few { IfOk result (λ scanned. length scanned.records.items ≤ 255) }
+    ensures only { IfErr result IsNoVerdict }
+    ensures fault { CountsFault (D.fault_count disk.old) (D.fault_count disk.new) result }
+    ensures honest { D.Honest disk.new → D.Honest disk.old }
+    ensures same_state { D.Honest disk.new → D.state disk.new ≡ D.state disk.old }
+    ensures same_past { D.Honest disk.new → D.past disk.new ≡ D.past disk.old }
+    ensures writes { D.write_count disk.new ≡ D.write_count disk.old }
+    ensures syncs { D.sync_count disk.new ≡ D.sync_count disk.old }
+    ensures works { D.Works disk.new → D.Works disk.old }
+    ensures same_len { D.file_len disk.new ≡ D.file_len disk.old }
+{
+    let scanned = scan(alloc, disk, part_of(half), first)?;
+    Ok(scanned)
+}
+
+fn part_of(half: bool) -> PartIndex
+    ensures { result ≡ half_part half }
+{
+    if half {
+        PartIndex::Second
+    } else {
+        PartIndex::First
+    }
+}
