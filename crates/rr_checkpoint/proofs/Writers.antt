@@ -1,8 +1,9 @@
 -- What the calls of a writer say, by those on its file.
-use Rattle.std.proofs.Common.{◌≡◌, ◌+◌, ◌<◌, ℕ, Bool, true, List, length, Option, None, Some, refl, sym, subst, arith}
+use Rattle.std.proofs.Common.{◌≡◌, ◌+◌, ◌<◌, ℕ, Bool, true, false, List, length, Option, None, Some, refl, sym, subst, arith}
 use Rattle.std.specs.Option.{is_some}
 use Rattle.rr_disk.specs.Disk.{DiskState}
 use Rattle.rr_disk.specs.Moments.{EachImage}
+use Rattle.rr_pages.specs.declared.choosing.Taken.{Taken}
 use Rattle.rr_pages.specs.declared.free_pages.FreePages.{FreePages}
 use Rattle.rr_pages.specs.FreePages.{present_of}
 use Rattle.rr_pages.specs.Sets.{Has}
@@ -17,10 +18,10 @@ use Rattle.rr_checkpoint.specs.declared.checkpoint.Stage.TheVariants as S
 use Rattle.rr_checkpoint.specs.declared.open_file.OpenFile.{OpenFile}
 use Rattle.rr_checkpoint.specs.declared.writer.Tick.{Tick}
 use Rattle.rr_checkpoint.specs.declared.writer.Tick.TheVariants.{Idle, More, Done}
-use Rattle.rr_checkpoint.specs.Calls.{Renews}
+use Rattle.rr_checkpoint.specs.Calls.{Renews, StaysTaken, TakesRootBehind}
 use Rattle.rr_checkpoint.specs.Checkpoint.{progress_of, left_at, left_of}
 use Rattle.rr_checkpoint.specs.OpenFile.{IsBegunAt, HasComing, CarriesWith}
-use Rattle.rr_checkpoint.specs.Writer.{Lowers, RenewsAt, told_at}
+use Rattle.rr_checkpoint.specs.Writer.{Lowers, RenewsAt, StaysTakenAt, told_at}
 
 -- the same of a checkpoint that is told otherwise
 abbrev pub carries_same : {C : Type 0} (codec : Codec) (file : OpenFile C) (state : DiskState) (world : codec.World) (checkpoint other : Option Checkpoint) → checkpoint ≡ other
@@ -93,3 +94,27 @@ base_is_carried codec file checkpoint state world carries none =
     let number = carries.layout.root.first + length carries.layout.near in
     middle_is codec carries.layout state.settled world carries.layout.far refl
     (subst (λ (begun : Option ℕ). IsBegunAt begun number carries.layout.far) none carries.tells.begun) (carries.between.each state.settled (settled_may_stay state))
+
+pub none_is_left : (checkpoint : Option Checkpoint) → is_some checkpoint ≡ false → left_of checkpoint ≡ 0
+none_is_left None none = refl
+none_is_left (Some checkpoint) none = absurd (cc)
+
+-- the root that is taken, as a tick tells it
+pub taken_told : (next : Option Checkpoint) (old new : Taken) → StaysTaken next old new → StaysTakenAt (told_at next) old new
+taken_told None old new stays = tt
+taken_told (Some checkpoint) old new stays = stays
+
+-- a tick that isn't the last one leaves ticks, and the root
+pub taken_left : (tick : Tick) (left rest : ℕ) (old new : Taken) → Lowers tick left rest → StaysTakenAt tick old new → 0 < rest → new ≡ old
+taken_left Idle left rest old new lowers stays some = stays
+taken_left More left rest old new lowers stays some = stays
+taken_left Done left rest old new lowers stays some = absurd (omega (arith, lowers.1, some))
+
+-- the last one renews the root
+pub renewed_behind : (codec : Codec) (tick : Tick) (left rest : ℕ) (layout : Layout codec) (number : ℕ) (new : DiskState) (world : codec.World) → Lowers tick left rest → 0 < left → rest ≡ 0 → layout.root.number ≡ number → RenewsAt codec tick layout new world
+    → EachImage new (TakesRootBehind codec number world)
+renewed_behind codec Idle left rest layout number new world lowers some none same renews = absurd (omega (arith, lowers.0, some))
+renewed_behind codec More left rest layout number new world lowers some none same renews = absurd (omega (arith, lowers.1, none))
+renewed_behind codec Done left rest layout number new world lowers some none same renews = λ image is.
+    let takes = renews image is in
+    record { stands = takes.stands; newer = omega (arith, takes.newer, same); nothing_far = takes.nothing_far }

@@ -1,10 +1,11 @@
 -- What the calls on an open file leave.
-use Rattle.std.specs.Prelude.{◌⊎◌, List, Option, None, Some}
+use Rattle.std.specs.Prelude.{◌≡◌, ◌⊎◌, ℕ, ◌<◌, List, [], Option, None, Some}
 use Rattle.rr_disk.specs.Disk.{DiskState}
 use Rattle.rr_disk.specs.Moments.{EachImage, LeavesOnly}
 use Rattle.rr_images.specs.Calls.{TakesNewer}
 use Rattle.rr_images.specs.Codec.{Codec}
-use Rattle.rr_images.specs.Layout.{Keeps, Layout}
+use Rattle.rr_images.specs.Layout.{Keeps, Layout, Stands}
+use Rattle.rr_pages.specs.declared.choosing.Taken.{Taken}
 use Rattle.rr_checkpoint.specs.declared.checkpoint.Checkpoint.{Checkpoint}
 
 -- a stop at any moment of a call leaves a file that keeps the world
@@ -22,3 +23,15 @@ LeavesEither codec past_old old past_new new before behind =
 abbrev pub Renews : (codec : Codec) → Layout codec → Option Checkpoint → DiskState → codec.World → Type 0
 Renews codec layout (Some checkpoint) new world = Unit {0}
 Renews codec layout None new world = EachImage new (TakesNewer codec layout world)
+
+-- before the last step the same root is taken
+abbrev pub StaysTaken : Option Checkpoint → Taken → Taken → Type 0
+StaysTaken (Some checkpoint) old new = new ≡ old
+StaysTaken None old new = Unit {0}
+
+-- A file takes a root of a greater number than this, and stands for the world without a record in the half that this root
+-- doesn't name.
+pub record TakesRootBehind (codec : Codec) (number : ℕ) (world : codec.World) (file : List ℕ) : Type 0 where
+  pub stands : Stands codec file world
+  pub newer : number < stands.root.number
+  pub nothing_far : stands.far ≡ []

@@ -44,6 +44,12 @@ RenewsAt codec Idle layout new world = Unit {0}
 RenewsAt codec More layout new world = Unit {0}
 RenewsAt codec Done layout new world = EachImage new (TakesNewer codec layout world)
 
+-- before the last tick the same root is taken
+abbrev pub StaysTakenAt : Tick → Taken → Taken → Type 0
+StaysTakenAt Idle old new = new ≡ old
+StaysTakenAt More old new = new ≡ old
+StaysTakenAt Done old new = Unit {0}
+
 -- what a tick tells of the checkpoint whose step it made
 abbrev pub told_at : Option Checkpoint → Tick
 told_at None = Done

@@ -9,7 +9,7 @@ ghost use Rattle.rr_journal.specs.Layout.{HasRoom};
 ghost use Rattle.rr_journal.specs.declared.fault.Fault.TheVariants as journal;
 ghost use Rattle.rr_pages.specs.FreePages.{coming_of};
 ghost use Rattle.rr_pages.specs.Sets.{Has};
-ghost use Rattle.rr_checkpoint.specs.Calls.{LeavesKept, LeavesEither, Renews};
+ghost use Rattle.rr_checkpoint.specs.Calls.{LeavesKept, LeavesEither, Renews, StaysTaken};
 ghost use Rattle.rr_checkpoint.specs.Checkpoint.{plan_of, begun, left_of};
 
 use crate::Place;
@@ -135,6 +135,7 @@ impl<C: Codec> OpenFile<C> {
             → CarriesWith C.codec self.old (Some checkpoint) (D.state disk.old) world
             → LeavesKept C.codec (D.past disk.old) (D.state disk.old) (D.past disk.new) (D.state disk.new) world }
         ensures left { IfOk result (λ next. left_of (Some checkpoint) ≡ left_of next + 1) }
+        ensures taken { IfOk result (λ next. StaysTaken next self.old.taken self.new.taken) }
         ensures number { self.new.place.number ≡ self.old.place.number }
         ensures honest { D.Honest disk.new → D.Honest disk.old }
         ensures fault { device.CountsFault (D.fault_count disk.old) (D.fault_count disk.new) result }

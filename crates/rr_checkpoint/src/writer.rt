@@ -1,6 +1,7 @@
 ghost use Rattle.std.specs.Prelude.{◌≡◌, ◌⊎◌, ◌↔◌, ◌+◌, ◌^◌, ◌<◌, ◌≤◌, List, length, OnOk, OnErr, IfOk, IfErr, IsErrOf, Some, None};
 ghost use Rattle.rr_disk.specs.Disk as device;
 ghost use Rattle.rr_disk.specs.Disk.{DiskState, counted};
+ghost use Rattle.rr_disk.specs.Moments.{EachImage};
 ghost use Rattle.rr_images.specs.Layout.{Layout};
 ghost use Rattle.rr_images.specs.Plans.{Draft};
 ghost use Rattle.rr_images.specs.Progress.{Resting, IsBetween};
@@ -12,7 +13,7 @@ ghost use Rattle.rr_pages.specs.Laying.{pages_for};
 ghost use Rattle.rr_pages.specs.Sets.{IsEmpty, TooFewFree, marked};
 ghost use Rattle.rr_pages.specs.Writing.{IsLaid};
 ghost use Rattle.rr_pages.specs.declared.fault.Fault.TheVariants as pages;
-ghost use Rattle.rr_checkpoint.specs.Calls.{LeavesKept, LeavesEither};
+ghost use Rattle.rr_checkpoint.specs.Calls.{LeavesKept, LeavesEither, TakesRootBehind};
 ghost use Rattle.rr_checkpoint.specs.OpenFile.{Tells};
 ghost use Rattle.rr_checkpoint.specs.Pages.{pages_with};
 
@@ -58,7 +59,7 @@ fn page_count(count: u64, fresh: &[FreshPage]) -> u64
 
 impl<C: Codec> Writer<C> {
     ghost use Rattle.rr_checkpoint.specs.Planning.{AreDrafted, IsDirectory, MayBegin, CarriesOn, coming_root_of};
-    ghost use Rattle.rr_checkpoint.specs.Writer.{Carries, Lowers, RenewsAt, place_of, taken_of, free_of, ticks_left_of, told_of};
+    ghost use Rattle.rr_checkpoint.specs.Writer.{Carries, Lowers, RenewsAt, StaysTakenAt, place_of, taken_of, free_of, ticks_left_of, told_of};
 
     /// What writes to a file of which an opening read this.
     pub fn new(taken: Taken, place: Place, free: FreePages, buffer: RecordBuffer) -> Writer<C>
@@ -282,6 +283,7 @@ impl<C: Codec> Writer<C> {
         ensures stops { D.Honest disk.new → (world : C.codec.World) → Carries C.codec self.old (D.state disk.old) world
             → LeavesKept C.codec (D.past disk.old) (D.state disk.old) (D.past disk.new) (D.state disk.new) world }
         ensures left { IfOk result (λ tick. Lowers tick (ticks_left_of self.old) (ticks_left_of self.new)) }
+        ensures taken { IfOk result (λ tick. StaysTakenAt tick (taken_of self.old) (taken_of self.new)) }
         ensures number { (place_of self.new).number ≡ (place_of self.old).number }
 
         ensures fault { device.CountsFault (D.fault_count disk.old) (D.fault_count disk.new) result }
@@ -308,12 +310,15 @@ impl<C: Codec> Writer<C> {
         }
     }
 
-    /// Makes all ticks that are left.
+    /// Makes all ticks that are left. Where one was, each file that a stop may leave then takes a newer root.
     pub fn finish<D: Disk>(&mut self, disk: &mut D) -> Result<(), Fault>
         ensures carries { OnOk result (D.Honest disk.new → (world : C.codec.World)
             → Carries C.codec self.old (D.state disk.old) world → Carries C.codec self.new (D.state disk.new) world) }
         ensures stops { D.Honest disk.new → (world : C.codec.World) → Carries C.codec self.old (D.state disk.old) world
             → LeavesKept C.codec (D.past disk.old) (D.state disk.old) (D.past disk.new) (D.state disk.new) world }
+        ensures renews { OnOk result (D.Honest disk.new → (world : C.codec.World)
+            → Carries C.codec self.old (D.state disk.old) world → 0 < ticks_left_of self.old
+            → EachImage (D.state disk.new) (TakesRootBehind C.codec (taken_of self.old).root.number world)) }
         ensures left { OnOk result (ticks_left_of self.new ≡ 0) }
         ensures number { (place_of self.new).number ≡ (place_of self.old).number }
 

@@ -6,4 +6,8 @@ mod calls;
 #[cfg(test)]
 mod checkpoint;
 #[cfg(test)]
+mod formatting;
+#[cfg(test)]
 mod reading;
+#[cfg(test)]
+mod worlds;

@@ -2,7 +2,6 @@ use crate::calls::{failing_after, in_memory, write};
 use rr_dir::KeptCommands;
 use rr_disk::{Disk, MemoryDisk};
 use rr_journal::RunEnd;
-use rr_pages::Damage as PageDamage;
 use rr_reading::laws::files_have_one_answer;
 use rr_reading::{Contents, Damage, Fault, read_file};
 use std::alloc::Global;
@@ -139,54 +138,38 @@ fn records_of_both_halves_are_read(rt: HostRuntime) -> Result<(), Fail> {
 #[test]
 fn damage_has_its_clause(rt: HostRuntime) -> Result<(), Fail> {
     let alloc = rt.alloc();
-    let on_page = |damage| Damage::Pages(damage);
     let rows = [
         // Half 2.
-        (17, b"\x02".as_slice(), on_page(PageDamage::RootField), 1),
+        (17, b"\x02".as_slice(), Damage::RootField, 1),
         // The directory on the page that has the page count's number.
         (
             9,
             b"\0\0\0\0\0\0\x02\x08".as_slice(),
-            on_page(PageDamage::PageOutside),
+            Damage::PageOutside,
             2,
         ),
         // The chart's page leads to itself; the roster begins on the chart's page.
         (
             2_109_440,
             b"\0\0\0\0\0\0\x02\x03".as_slice(),
-            on_page(PageDamage::PageTwice),
+            Damage::PageTwice,
             3,
         ),
         (
             2_105_366,
             b"\0\0\0\0\0\0\x02\x03".as_slice(),
-            on_page(PageDamage::PageTwice),
+            Damage::PageTwice,
             3,
         ),
         // The chart's page with 4,087 used bytes.
-        (
-            2_109_448,
-            b"\x0f\xf7".as_slice(),
-            on_page(PageDamage::UsedBytes),
-            4,
-        ),
+        (2_109_448, b"\x0f\xf7".as_slice(), Damage::UsedBytes, 4),
         // The directory cut behind its table count.
-        (2_105_352, b"\0\x32".as_slice(), Damage::DirectoryForm, 5),
+        (2_105_352, b"\0\x32".as_slice(), Damage::Form, 5),
         // The chart a byte longer or shorter than stated.
-        (
-            2_105_365,
-            b"\x04".as_slice(),
-            on_page(PageDamage::ChainLength),
-            5,
-        ),
-        (
-            2_105_365,
-            b"\x06".as_slice(),
-            on_page(PageDamage::ChainLength),
-            5,
-        ),
+        (2_105_365, b"\x04".as_slice(), Damage::Form, 5),
+        (2_105_365, b"\x06".as_slice(), Damage::Form, 5),
         // Three kept commands, of which two are there.
-        (2_105_422, b"\x03".as_slice(), Damage::TableForm, 5),
+        (2_105_422, b"\x03".as_slice(), Damage::Form, 5),
     ];
     for (at, bytes, damage, clause) in rows {
         let mut disk = right_file(alloc)?;
@@ -196,44 +179,34 @@ fn damage_has_its_clause(rt: HostRuntime) -> Result<(), Fail> {
     Ok(())
 }
 
-// Of several the first in the order of reading is told, whatever its number.
+// Of several clauses the least is told, wherever it is broken: each alteration comes to those before it.
 #[test]
-fn the_first_damage_is_told(rt: HostRuntime) -> Result<(), Fail> {
+fn the_least_damage_is_told(rt: HostRuntime) -> Result<(), Fail> {
     let alloc = rt.alloc();
     let mut disk = right_file(alloc)?;
     let rows = [
-        // Three kept commands, of which two are there.
-        (2_105_422, b"\x03".as_slice(), Damage::TableForm, 5),
-        // The table's chain begins outside.
+        // The chart a byte longer than stated.
+        (2_105_365, b"\x04".as_slice(), Damage::Form, 5),
+        // Behind it the roster's page, with 4,087 used bytes.
+        (2_113_544, b"\x0f\xf7".as_slice(), Damage::UsedBytes, 4),
+        // The tiles begin on the chart's page.
+        (
+            2_105_378,
+            b"\0\0\0\0\0\0\x02\x03".as_slice(),
+            Damage::PageTwice,
+            3,
+        ),
+        // The last chain, the table's, begins outside.
         (
             2_105_423,
             b"\0\0\0\0\0\0\x02\x08".as_slice(),
-            Damage::Pages(PageDamage::PageOutside),
+            Damage::PageOutside,
             2,
         ),
-        // The roster's page with 4,087 used bytes.
-        (
-            2_113_544,
-            b"\x0f\xf7".as_slice(),
-            Damage::Pages(PageDamage::UsedBytes),
-            4,
-        ),
-        // The chart a byte longer than stated.
-        (
-            2_105_365,
-            b"\x04".as_slice(),
-            Damage::Pages(PageDamage::ChainLength),
-            5,
-        ),
-        // The directory cut behind its table count.
-        (2_105_352, b"\0\x32".as_slice(), Damage::DirectoryForm, 5),
-        // The directory's page leads to itself.
-        (
-            2_105_344,
-            b"\0\0\0\0\0\0\x02\x02".as_slice(),
-            Damage::Pages(PageDamage::PageTwice),
-            3,
-        ),
+        // The directory cut behind its table count: none of them can be found.
+        (2_105_352, b"\0\x32".as_slice(), Damage::Form, 5),
+        // Half 2.
+        (17, b"\x02".as_slice(), Damage::RootField, 1),
     ];
     for (at, bytes, damage, clause) in rows {
         write(&mut disk, at, bytes)?;
@@ -266,7 +239,7 @@ fn a_failing_device_is_told(rt: HostRuntime) -> Result<(), Fail> {
     }
     let table = [
         (failed, 60, "device failed"),
-        (Fault::Damaged(Damage::TableForm), 63, "damaged 5"),
+        (Fault::Damaged(Damage::Form), 63, "damaged 5"),
         (Fault::NotAStore, 64, "not a store"),
         (Fault::OutOfMemory, 70, "out of memory"),
     ];

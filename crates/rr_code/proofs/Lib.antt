@@ -1,6 +1,4 @@
-pub mod NamedLemmas
 pub mod PlayersLemmas
 pub mod ReadingLemmas
 pub mod TextLemmas
 pub mod UnspacedLemmas
-pub mod WordsLemmas

@@ -1,5 +1,5 @@
 -- The commands of a table, and the one text of each.
-use Rattle.std.specs.Prelude.{◌≡◌, ℕ, List, ◌^◌, ◌<◌, decimal, [], ◌∷◌, length, take, codes, Result, Ok, MatchResult}
+use Rattle.std.specs.Prelude.{◌≡◌, ℕ, List, ◌^◌, ◌<◌, decimal, [], ◌∷◌, codes, Result, Ok, MatchResult}
 use Rattle.rr_words.specs.Name.{IsPlayerName}
 use Rattle.rr_words.specs.Line.{line_of}
 use Rattle.rr_roster.specs.Company.{corp_name, private_name}
@@ -53,7 +53,3 @@ pub record SpellsCommand (bytes : List ℕ) (c : Command) : Type 0 where
 pub record IsReadAs (bytes : List ℕ) (answer : Result Command Fault) : Type 0 where
   pub found : MatchResult answer (λ c. SpellsCommand bytes c) (λ fault. fault ≡ Malformed)
   pub only : (c : Command) → SpellsCommand bytes c → answer ≡ Ok c
-
--- what was written stays, and more may follow
-abbrev pub Continues : List ℕ → List ℕ → Type 0
-Continues before after = take (length before) after ≡ before

@@ -1,7 +1,7 @@
 pub mod Fault
-pub mod Words
+pub use Rattle.rr_scan.specs.Words
 pub mod Players
-pub mod Company
+pub use Rattle.rr_scan.specs.Company
 pub mod Command
 pub mod Request
 pub mod Reading

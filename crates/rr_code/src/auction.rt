@@ -1,16 +1,14 @@
 //! The commands of the auction: reading their words behind the first, and writing them.
 ghost use Rattle.std.specs.Prelude.{◌≡◌, ◌∷◌, ◌++◌, codes, IfSome, OnOk};
-ghost use Rattle.rr_code.specs.Command.{Continues, IsCommand, spelling, text};
+ghost use Rattle.rr_scan.specs.Writing.{Continues};
+ghost use Rattle.rr_code.specs.Command.{IsCommand, spelling, text};
 ghost use Rattle.rr_code.specs.Reading.{read_bid, read_pass, read_par};
 
 use crate::command::Command;
-use crate::companies::{read_corp, read_private};
-use crate::fault::Fault;
-use crate::names::next_player;
-use crate::words::Words;
-use crate::writing::{write_number, write_word};
 use rr_roster::{Corp, Private};
+use rr_scan::{Words, next_player, read_corp, read_private, write_number, write_word};
 use rr_words::{Name, number};
+use std::alloc::AllocError;
 
 pub fn read_bid(words: &mut Words) -> Option<Command>
     ensures exact { result ≡ read_bid words.old }
@@ -48,7 +46,7 @@ pub fn read_par(words: &mut Words) -> Option<Command>
     })
 }
 
-pub fn write_buy(player: &Name, out: &mut Vec<u8>) -> Result<(), Fault>
+pub fn write_buy(player: &Name, out: &mut Vec<u8>) -> Result<(), AllocError>
     ensures ok { OnOk result (out.new.items ≡ out.old.items ++ text (Command.BuyPrivate player.now)) }
     ensures kept { Continues out.old.items out.new.items }
 {
@@ -61,7 +59,7 @@ pub fn write_bid(
     private: Private,
     amount: u64,
     out: &mut Vec<u8>,
-) -> Result<(), Fault>
+) -> Result<(), AllocError>
     ensures ok { OnOk result (out.new.items ≡ out.old.items ++ text (Command.Bid player.now private amount)) }
     ensures kept { Continues out.old.items out.new.items }
 {
@@ -71,7 +69,7 @@ pub fn write_bid(
     write_number(amount, out)
 }
 
-pub fn write_pass(player: &Name, out: &mut Vec<u8>) -> Result<(), Fault>
+pub fn write_pass(player: &Name, out: &mut Vec<u8>) -> Result<(), AllocError>
     ensures ok { OnOk result (out.new.items ≡ out.old.items ++ text (Command.Pass player.now)) }
     ensures kept { Continues out.old.items out.new.items }
 {
@@ -79,7 +77,7 @@ pub fn write_pass(player: &Name, out: &mut Vec<u8>) -> Result<(), Fault>
     write_word(player.as_bytes(), out)
 }
 
-pub fn write_par(player: &Name, corp: Corp, price: u64, out: &mut Vec<u8>) -> Result<(), Fault>
+pub fn write_par(player: &Name, corp: Corp, price: u64, out: &mut Vec<u8>) -> Result<(), AllocError>
     ensures ok { OnOk result (out.new.items ≡ out.old.items ++ text (Command.Par player.now corp price)) }
     ensures kept { Continues out.old.items out.new.items }
 {

@@ -1,15 +1,16 @@
 ghost use Rattle.std.specs.Prelude.{◌≡◌, ◌∷◌, ◌++◌, codes, IfSome, MatchResult, OnOk, OnErr, IsOkUnless};
-ghost use Rattle.rr_code.specs.Command.{Continues, IsCommand, IsReadAs, SpellsCommand, spelling, text};
+ghost use Rattle.rr_scan.specs.Writing.{Continues};
+ghost use Rattle.rr_code.specs.Command.{IsCommand, IsReadAs, SpellsCommand, spelling, text};
 ghost use Rattle.rr_code.specs.Reading.{read_words, read_open};
 
 use crate::auction;
 use crate::fault::Fault;
 use crate::players::Players;
 use crate::stock::{self, ShareSource};
-use crate::words::Words;
-use crate::writing::write_word;
 use rr_roster::{Corp, Private};
+use rr_scan::{Words, write_word};
 use rr_words::Name;
+use std::alloc::AllocError;
 
 /// What a table is played with. A number that a command's words spell has one to ten
 /// digits, so it is below 10^10, and the first of several digits is not 0.
@@ -137,7 +138,7 @@ impl Command {
         Ok(())
     }
 
-    fn write_words(&self, out: &mut Vec<u8>) -> Result<(), Fault>
+    fn write_words(&self, out: &mut Vec<u8>) -> Result<(), AllocError>
         ensures ok { OnOk result (out.new.items ≡ out.old.items ++ text self.now) }
         ensures kept { Continues out.old.items out.new.items }
     {
@@ -179,7 +180,7 @@ fn read_open(words: &mut Words) -> Option<Command>
     Some(Command::Open { players })
 }
 
-fn write_open(players: &Players, out: &mut Vec<u8>) -> Result<(), Fault>
+fn write_open(players: &Players, out: &mut Vec<u8>) -> Result<(), AllocError>
     ensures ok { OnOk result (out.new.items ≡ out.old.items ++ text (Command.Open players.now)) }
     ensures kept { Continues out.old.items out.new.items }
 {

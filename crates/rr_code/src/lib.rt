@@ -1,22 +1,18 @@
 //! The lines that a keeper of tables reads: one spelling for each request and each query.
 //!
-//! Stands on `rr_words`, `rr_roster` and `rr_turns`. Its promise: `Line::read` and `read_record` read exactly what is
+//! Stands on `rr_words`, `rr_roster`, `rr_turns` and `rr_scan`. Its promise: `Line::read` and `read_record` read exactly what is
 //! spelled, one text a line (`laws::one_spelling`).
 #![tactic(auto)]
 
 mod auction;
 mod command;
-mod companies;
 mod fault;
 pub mod laws;
 mod line;
-mod names;
 mod players;
 mod query;
 mod request;
 mod stock;
-mod words;
-mod writing;
 
 pub use command::Command;
 pub use fault::Fault;

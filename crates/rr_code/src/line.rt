@@ -10,7 +10,7 @@ use crate::command::Command;
 use crate::fault::Fault;
 use crate::query::Query;
 use crate::request::record_from_words;
-use crate::words::Words;
+use rr_scan::Words;
 use rr_turns::Request;
 use rr_words::{Name, number, split_word};
 

@@ -1,8 +1,8 @@
 //! Requests: the commands of a game, and those that take its table back.
 ghost use Rattle.std.specs.Prelude.{◌≡◌, ℕ, List, [], ◌∷◌, ◌++◌, codes, decimal, IfSome, MatchResult, OnOk, OnErr, IsOkUnless};
+ghost use Rattle.rr_scan.specs.Writing.{Continues};
 ghost use Rattle.rr_words.specs.Line.{line_of};
 ghost use Rattle.rr_words.specs.Name.{IsTableName};
-ghost use Rattle.rr_code.specs.Command.{Continues};
 ghost use Rattle.rr_code.specs.Request.{IsRequest, SpellsRecord, request_text, request_words};
 ghost use Rattle.rr_code.specs.Reading.{read_back, read_forget, read_record_words, read_request_words};
 ghost use Rattle.rr_code.specs.declared.command.Command.{Command as Played};
@@ -10,11 +10,10 @@ ghost use Rattle.rr_turns.specs.declared.request.Request.{Request as Asked};
 
 use crate::command::Command;
 use crate::fault::Fault;
-use crate::names::next_table;
-use crate::words::Words;
-use crate::writing::write_number;
+use rr_scan::{Words, next_table, write_number};
 use rr_turns::Request;
 use rr_words::{Name, number};
+use std::alloc::AllocError;
 
 pub(crate) fn request_from_words(words: &mut Words) -> Option<Request<Command>>
     ensures exact { result ≡ read_request_words words.old }
@@ -76,7 +75,7 @@ fn write_turn(head: &[u8], turn: u64, out: &mut Vec<u8>) -> Result<(), Fault>
     Ok(())
 }
 
-fn write_turn_words(head: &[u8], turn: u64, out: &mut Vec<u8>) -> Result<(), Fault>
+fn write_turn_words(head: &[u8], turn: u64, out: &mut Vec<u8>) -> Result<(), AllocError>
     ensures ok { OnOk result (out.new.items ≡ out.old.items ++ line_of (head.now ∷ decimal turn ∷ [])) }
     ensures kept { Continues out.old.items out.new.items }
 {

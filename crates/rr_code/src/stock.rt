@@ -1,16 +1,14 @@
 //! The commands of a stock round: reading their words behind the first, and writing them.
 ghost use Rattle.std.specs.Prelude.{◌≡◌, ◌∷◌, ◌++◌, codes, IfSome, OnOk};
-ghost use Rattle.rr_code.specs.Command.{Continues, IsCommand, source_word, spelling, text};
+ghost use Rattle.rr_scan.specs.Writing.{Continues};
+ghost use Rattle.rr_code.specs.Command.{IsCommand, source_word, spelling, text};
 ghost use Rattle.rr_code.specs.Reading.{source_of, read_buy, read_sell, read_swap, read_done};
 
 use crate::command::Command;
-use crate::companies::read_corp;
-use crate::fault::Fault;
-use crate::names::next_player;
-use crate::words::Words;
-use crate::writing::{write_number, write_word};
 use rr_roster::Corp;
+use rr_scan::{Words, next_player, read_corp, write_number, write_word};
 use rr_words::{Name, number};
+use std::alloc::AllocError;
 
 /// Where a share is bought.
 #[derive(Clone, Copy, Debug, PartialEq, Eq)]
@@ -99,7 +97,7 @@ pub fn write_buy(
     corp: Corp,
     source: ShareSource,
     out: &mut Vec<u8>,
-) -> Result<(), Fault>
+) -> Result<(), AllocError>
     ensures ok { OnOk result (out.new.items ≡ out.old.items ++ text (Command.BuyShare player.now corp source)) }
     ensures kept { Continues out.old.items out.new.items }
 {
@@ -109,7 +107,12 @@ pub fn write_buy(
     write_word(source.name().as_bytes(), out)
 }
 
-pub fn write_sell(player: &Name, corp: Corp, count: u64, out: &mut Vec<u8>) -> Result<(), Fault>
+pub fn write_sell(
+    player: &Name,
+    corp: Corp,
+    count: u64,
+    out: &mut Vec<u8>,
+) -> Result<(), AllocError>
     ensures ok { OnOk result (out.new.items ≡ out.old.items ++ text (Command.Sell player.now corp count)) }
     ensures kept { Continues out.old.items out.new.items }
 {
@@ -119,7 +122,7 @@ pub fn write_sell(player: &Name, corp: Corp, count: u64, out: &mut Vec<u8>) -> R
     write_number(count, out)
 }
 
-pub fn write_swap(player: &Name, source: ShareSource, out: &mut Vec<u8>) -> Result<(), Fault>
+pub fn write_swap(player: &Name, source: ShareSource, out: &mut Vec<u8>) -> Result<(), AllocError>
     ensures ok { OnOk result (out.new.items ≡ out.old.items ++ text (Command.Swap player.now source)) }
     ensures kept { Continues out.old.items out.new.items }
 {
@@ -128,7 +131,7 @@ pub fn write_swap(player: &Name, source: ShareSource, out: &mut Vec<u8>) -> Resu
     write_word(source.name().as_bytes(), out)
 }
 
-pub fn write_done(player: &Name, out: &mut Vec<u8>) -> Result<(), Fault>
+pub fn write_done(player: &Name, out: &mut Vec<u8>) -> Result<(), AllocError>
     ensures ok { OnOk result (out.new.items ≡ out.old.items ++ text (Command.Done player.now)) }
     ensures kept { Continues out.old.items out.new.items }
 {

@@ -1,5 +1,5 @@
 -- The book of a table that takes one command more.
-use Rattle.std.proofs.Common.{◌≡◌, ◌+◌, true, List, [], ◌∷◌, ◌++◌, false, refl, sym, ap, ◌∙◌, subst, append-nil, length, length-append, ℕ, Bool, ◌⊎◌, inl, inr, Option, None, Some, option_map}
+use Rattle.std.proofs.Common.{◌≡◌, ◌+◌, true, List, [], ◌∷◌, ◌++◌, refl, sym, ap, ◌∙◌, subst, append-nil, length, length-append, ℕ, Bool, Some}
 use Rattle.std.proofs.lemmas.List.Sums.{fold-append}
 use Rattle.rr_code.specs.declared.command.Command.{Command}
 use Rattle.rr_code.specs.declared.command.Command.TheVariants.{Open, BuyPrivate, Bid, Pass, Par, BuyShare, Sell, Swap, Done}
@@ -12,15 +12,13 @@ use Rattle.rr_desk.specs.Effects.{Effect}
 use Rattle.rr_desk.specs.Desk.{OnDesk, Takes}
 use Rattle.rr_books.specs.Book.{Book}
 use Rattle.rr_books.specs.declared.acts.Act.{Act}
-use Rattle.rr_game.specs.declared.fault.Fault.{Fault}
 use Rattle.rr_game.specs.declared.game.Game.{Game}
 use Rattle.rr_kit.specs.declared.kit.Kit.{Kit}
 use Rattle.rr_game.specs.Keeping.{IsGameOf}
-use Rattle.rr_game.specs.declared.fault.Fault.TheVariants.{OutOfMemory}
 use Rattle.rr_game.specs.Names.{act_of}
 use Rattle.rr_position.specs.Position.{OnTable, IsPositionOf}
 use Rattle.rr_game.specs.Play.{act_entries, begins_with_opening, command_entries, entries_of, entries_once, play, played_on, players_of}
-use Rattle.rr_game.specs.Verdict.{MayJudge, act_verdict, auction_is_over, command_verdict, verdict, verdict_once}
+use Rattle.rr_game.specs.Verdict.{auction_is_over}
 
 -- the commands are an opening and others
 pub record Opens (accepted : List Command) : Type 0 where
@@ -77,9 +75,6 @@ stepped kit accepted c act old new h named more same position =
     }
 
 -- once the auction is over or before, as the rules of that step say
-pub judged_once : (over : Bool) (kit : Kit) (book : Book) (act : Act) → auction_is_over book ≡ over → verdict kit book act ≡ verdict_once over kit book act
-judged_once over kit book act e = ap (λ (b : Bool). verdict_once b kit book act) e
-
 pub added_once : (over : Bool) (kit : Kit) (book : Book) (act : Act) → auction_is_over book ≡ over → entries_of kit book act ≡ entries_once over kit book act
 added_once over kit book act e = ap (λ (b : Bool). entries_once b kit book act) e
 

@@ -4,3 +4,4 @@ pub mod Verdict
 pub mod Play
 pub mod Keeping
 pub mod Queries
+pub mod Laws

@@ -1,5 +1,5 @@
 -- What a table's book says of its game.
-use Rattle.std.specs.Prelude.{ℕ, ◌+◌, List, Option, None, Some, option_and_then, option_map, unwrap_or}
+use Rattle.std.specs.Prelude.{ℕ, ◌+◌, List, Option, Some, option_and_then, option_map, unwrap_or}
 use Rattle.rr_roster.specs.declared.company.Corp.{Corp}
 use Rattle.rr_chart.specs.Chart.{Row}
 use Rattle.rr_books.specs.declared.entries.Cell.{Cell}

@@ -1,7 +1,8 @@
 ghost use Rattle.std.specs.Prelude.{◌≡◌, ◌+◌, ◌<◌, ◌≤◌, ◌++◌, List, [], ◌∷◌, None, IfOk, MatchResult};
 ghost use Rattle.rr_game.specs.Names.{amount_in};
 ghost use Rattle.rr_game.specs.Play.{play, players_of};
-ghost use Rattle.rr_game.specs.Verdict.{MayJudge, command_verdict};
+ghost use Rattle.rr_game.specs.Verdict.{command_judgement};
+ghost use Rattle.rr_turns.specs.Judgement.{IsVerdict, MayFind};
 
 use crate::fault::Fault;
 use crate::rules::take;
@@ -54,8 +55,8 @@ impl Game {
         requires played { self.now.played < 4096 }
         requires small { amount_in command.now ≤ 10000000000 }
         ensures verdict { (accepted : List Line) → IsGameOf kit.now accepted self.now → MatchResult result
-            (λ _. command_verdict kit.now (players_of accepted) (play kit.now accepted) command.now ≡ None)
-            (λ fault. MayJudge (command_verdict kit.now (players_of accepted) (play kit.now accepted) command.now) fault) }
+            (λ _. IsVerdict (command_judgement kit.now (players_of accepted) (play kit.now accepted) command.now) None)
+            (λ fault. MayFind (command_judgement kit.now (players_of accepted) (play kit.now accepted) command.now) Fault.OutOfMemory fault) }
         ensures game { IfOk result (λ game. (accepted : List Line) → IsGameOf kit.now accepted self.now →
             IsGameOf kit.now (accepted ++ command.now ∷ []) game) }
         ensures played { IfOk result (λ game. game.played ≡ self.now.played + 1) }

@@ -1,11 +1,12 @@
 //! The game of one table: the rules joined.
 //!
-//! Stands on the rules and the kit. Its promise: `Game::step` is refused exactly by `command_verdict`, and keeps
+//! Stands on the rules and the kit. Its promise: `Game::step` is refused exactly by `command_judgement`, and keeps
 //! `IsGameOf`.
 #![tactic(auto)]
 
 mod fault;
 mod game;
+pub mod laws;
 mod names;
 mod queries;
 mod rules;

@@ -12,14 +12,14 @@ use rr_words::Name;
 
 impl Game {
     ghost use Rattle.rr_kit.specs.declared.kit.Kit.{Kit};
-    ghost use Rattle.rr_game.specs.Verdict.{command_verdict};
+    ghost use Rattle.rr_game.specs.Verdict.{command_judgement};
 
     /// The command with seats in place of names.
     pub(crate) fn act(&self, command: &Command) -> Result<Act, Fault>
         requires { amount_in command.now ≤ 10000000000 }
         ensures { MatchResult result
             (λ act. (act_of self.now.players command.now ≡ Some act) × HasSeat act × IsSmall act)
-            (λ fault. (act_of self.now.players command.now ≡ None) × ((kit : Kit) (book : Book) → command_verdict kit self.now.players book command.now ≡ Some fault)) }
+            (λ fault. (act_of self.now.players command.now ≡ None) × ((kit : Kit) (book : Book) → (command_judgement kit self.now.players book command.now).first ≡ Some fault)) }
     {
         match command {
             Command::Open { .. } => Err(Fault::WrongStep),

@@ -6,7 +6,8 @@ ghost use Rattle.rr_position.specs.Position.{IsPositionOf};
 ghost use Rattle.rr_auction.specs.Small.{IsSmall};
 ghost use Rattle.rr_stock.specs.Small.{HasSeat};
 ghost use Rattle.rr_game.specs.Play.{entries_of, entries_once};
-ghost use Rattle.rr_game.specs.Verdict.{MayJudge, verdict, verdict_once};
+ghost use Rattle.rr_game.specs.Verdict.{judgement, judgement_once};
+ghost use Rattle.rr_turns.specs.Judgement.{IsVerdict, MayFind};
 
 use crate::fault::Fault;
 use rr_books::Act;
@@ -28,8 +29,8 @@ pub(crate) fn take(
     requires seated { HasSeat act.now }
     requires small { IsSmall act.now }
     ensures verdict { (book : Book) → IsPositionOf book position.now → MatchResult result
-        (λ _. verdict kit.now book act.now ≡ None)
-        (λ fault. MayJudge (verdict kit.now book act.now) fault) }
+        (λ _. IsVerdict (judgement kit.now book act.now) None)
+        (λ fault. MayFind (judgement kit.now book act.now) Fault.OutOfMemory fault) }
     ensures position { IfOk result (λ next. (book : Book) → IsPositionOf book position.now → IsPositionOf (book ++ entries_of kit.now book act.now) next) }
 {
     if rr_auction::is_over(position) {
@@ -49,8 +50,8 @@ fn take_in_auction(
 ) -> Result<Position, Fault>
     requires { IsSmall act.now }
     ensures verdict { (book : Book) → IsPositionOf book position.now → MatchResult result
-        (λ _. verdict_once false kit.now book act.now ≡ None)
-        (λ fault. MayJudge (verdict_once false kit.now book act.now) fault) }
+        (λ _. IsVerdict (judgement_once false kit.now book act.now) None)
+        (λ fault. MayFind (judgement_once false kit.now book act.now) Fault.OutOfMemory fault) }
     ensures position { IfOk result (λ next. (book : Book) → IsPositionOf book position.now → IsPositionOf (book ++ entries_once false kit.now book act.now) next) }
 {
     rr_auction::judge(kit.roster(), kit.chart(), position, act)?;
@@ -69,8 +70,8 @@ fn take_in_round(
 ) -> Result<Position, Fault>
     requires { HasSeat act.now }
     ensures verdict { (book : Book) → IsPositionOf book position.now → MatchResult result
-        (λ _. verdict_once true kit.now book act.now ≡ None)
-        (λ fault. MayJudge (verdict_once true kit.now book act.now) fault) }
+        (λ _. IsVerdict (judgement_once true kit.now book act.now) None)
+        (λ fault. MayFind (judgement_once true kit.now book act.now) Fault.OutOfMemory fault) }
     ensures position { IfOk result (λ next. (book : Book) → IsPositionOf book position.now → IsPositionOf (book ++ entries_once true kit.now book act.now) next) }
 {
     rr_stock::judge(kit.chart(), position, act)?;

@@ -1,32 +1,52 @@
 -- The play of a table that goes on with one command.
-use Rattle.std.proofs.Common.{◌≡◌, ℕ, ◌+◌, ◌≤◌, inl, inr, Bool, true, false, List, [], ◌∷◌, ◌++◌, length, Option, None, Some, option_map, if◌then◌else◌, sym, ap, ◌∙◌, arith}
-use Rattle.std.proofs.lemmas.Bool.{and_from, and_parts, false≢true}
+use Rattle.std.proofs.Common.{◌≡◌, ℕ, ◌+◌, ◌≤◌, Bool, true, false, List, [], ◌∷◌, ◌++◌, length, None, if◌then◌else◌, refl, sym, ap, ◌∙◌, arith}
+use Rattle.std.proofs.Math.Logic.{∥∥₁_elim, ∥∥₁_map}
+use mathlib.Core.HLevel.{⊥_prop}
 use Rattle.rr_kit.specs.declared.kit.Kit.{Kit}
 use Rattle.rr_code.specs.declared.command.Command.{Command}
-use Rattle.rr_game.specs.declared.fault.Fault as game
 use Rattle.rr_game.specs.declared.game.Game.{Game}
 use Rattle.rr_game.specs.Keeping.{IsGameOf}
-use Rattle.rr_game.specs.Play.{begins_with_opening}
-use Rattle.rr_turns.specs.Turns.{are_lawful, ended_turns, turns_in}
+use Rattle.rr_game.specs.Play.{play, players_of}
+use Rattle.rr_game.proofs.Judging.{command_one}
+use Rattle.rr_turns.specs.Judgement.{MayFind, judgement_map}
+use Rattle.rr_turns.specs.Turns.{ended_turns, turns_in}
+use Rattle.rr_turns.proofs.JudgementLemmas.{map-is, map-one, only-wanting}
 use Rattle.rr_turns.proofs.TurnLemmas.{ended-push}
 use Rattle.rr_turns.proofs.LawfulLemmas.{lawful-push}
 use Rattle.rr_hist.specs.declared.fault.Fault.{Fault}
 use Rattle.rr_hist.specs.declared.fault.Fault.TheVariants as F
-use Rattle.rr_hist.specs.Fault.{MayFind, of_game}
-use Rattle.rr_hist.specs.Playing.{IsPlayOf, ends_turn, refusal}
+use Rattle.rr_hist.specs.Fault.{of_game}
+use Rattle.rr_hist.specs.Playing.{ArePlayed, IsLawfulAfter, IsPlayOf, ends_turn, game_judgement}
+
+-- want of memory it is, if it can be nothing else
+for_memory : (fault : Fault) → ∥ fault ≡ F.OutOfMemory ∥₁ → fault ≡ F.OutOfMemory
+for_memory F.OutOfMemory h = refl
+for_memory (F.Game other) h = absurd (∥∥₁_elim h ⊥_prop (λ e. cc))
+for_memory (F.StaleStamp stamp) h = absurd (∥∥₁_elim h ⊥_prop (λ e. cc))
+for_memory F.TurnNotKept h = absurd (∥∥₁_elim h ⊥_prop (λ e. cc))
+for_memory F.TooManyCommands h = absurd (∥∥₁_elim h ⊥_prop (λ e. cc))
 
 -- a command that no rule refuses is refused for want of memory alone
-pub only_memory : (verdict : Option game.Fault) (fault : Fault) → verdict ≡ None → MayFind (option_map of_game verdict) fault → fault ≡ F.OutOfMemory
-only_memory None fault none (inl refused) = absurd cc
-only_memory None fault none (inr memory) = memory.1
-only_memory (Some other) fault none found = absurd cc
+pub only_memory : (kit : Kit) (before : List Command) (c : Command) (fault : Fault) → ∥ IsLawfulAfter kit before c ∥₁
+    → MayFind (judgement_map of_game (game_judgement kit before c)) F.OutOfMemory fault → fault ≡ F.OutOfMemory
+only_memory kit before c fault lawful found = for_memory fault (∥∥₁_map lawful by_verdict)
+  where
+    by_verdict : IsLawfulAfter kit before c → fault ≡ F.OutOfMemory
+    by_verdict none =
+        only-wanting (judgement_map of_game (game_judgement kit before c)) F.OutOfMemory fault
+        (map-one of_game (game_judgement kit before c) (command_one kit (players_of before) (play kit before) c))
+        (map-is of_game (game_judgement kit before c) None none) found
+
+plays_on : (kit : Kit) (opening : Command) (others : List Command) (c : Command) → IsLawfulAfter kit (opening ∷ others) c → ArePlayed kit (opening ∷ others)
+    → ArePlayed kit (opening ∷ others ++ c ∷ [])
+plays_on kit opening others c lawful both = (both.0, lawful-push (IsLawfulAfter kit) (opening ∷ []) others c both.1 lawful)
 
 pub goes_on : (kit : Kit) (commands : List Command) (c : Command) (old new : Game) (turns : ℕ) (ended : Bool) → IsPlayOf kit commands old turns
-    → refusal kit commands c ≡ None → IsGameOf kit (commands ++ c ∷ []) new → ended ≡ ends_turn kit commands c
+    → IsLawfulAfter kit commands c → IsGameOf kit (commands ++ c ∷ []) new → ended ≡ ends_turn kit commands c
     → IsPlayOf kit (commands ++ c ∷ []) new (turns + (if ended then 1 else 0))
-goes_on kit [] c old new turns ended play lawful next turn = absurd (false≢true play.lawful)
+goes_on kit [] c old new turns ended play lawful next turn = absurd (∥∥₁_elim play.lawful ⊥_prop (λ none. none))
 goes_on kit (opening ∷ others) c old new turns ended play lawful next turn = record {
-  lawful = let both = and_parts (begins_with_opening (opening ∷ [])) (are_lawful (refusal kit) (opening ∷ []) others) play.lawful in and_from _ _ both.0 (lawful-push (refusal kit) (opening ∷ []) others c both.1 lawful);
+  lawful = ∥∥₁_map play.lawful (plays_on kit opening others c lawful);
   played = next;
   counted =
       ap (λ n. n + (if ended then 1 else 0)) play.counted
@@ -45,7 +65,7 @@ few_turns ends before (c ∷ cs) =
 
 -- fewer turns have ended than there are commands
 pub turns-few : (kit : Kit) (commands : List Command) (game : Game) (turns : ℕ) → IsPlayOf kit commands game turns → turns + 1 ≤ length commands
-turns-few kit [] game turns play = absurd (false≢true play.lawful)
+turns-few kit [] game turns play = absurd (∥∥₁_elim play.lawful ⊥_prop (λ none. none))
 turns-few kit (opening ∷ others) game turns play =
     let few = few_turns (ends_turn kit) (opening ∷ []) others in
     let counted = play.counted in

@@ -1,5 +1,5 @@
 -- The commands of a table: which of them are lawful, which end a turn, and what game they make.
-use Rattle.std.specs.Prelude.{◌≡◌, ℕ, Bool, true, false, not, ◌&&◌, List, [], ◌∷◌, ◌++◌, Option}
+use Rattle.std.specs.Prelude.{◌≡◌, ℕ, Bool, true, false, not, List, [], ◌∷◌, ◌++◌, None}
 use Rattle.rr_kit.specs.declared.kit.Kit.{Kit}
 use Rattle.rr_auction.specs.declared.due.Due.{Due}
 use Rattle.rr_auction.specs.declared.due.Due.TheVariants as D
@@ -10,8 +10,9 @@ use Rattle.rr_game.specs.declared.game.Game.{Game}
 use Rattle.rr_game.specs.Keeping.{IsGameOf}
 use Rattle.rr_game.specs.Play.{begins_with_opening, play, players_of}
 use Rattle.rr_game.specs.Queries.{due}
-use Rattle.rr_game.specs.Verdict.{command_verdict}
-use Rattle.rr_turns.specs.Turns.{are_lawful, ended_turns}
+use Rattle.rr_game.specs.Verdict.{command_judgement}
+use Rattle.rr_turns.specs.Judgement.{IsVerdict, Judgement}
+use Rattle.rr_turns.specs.Turns.{AreLawful, ended_turns}
 
 -- what is waited for is a par
 abbrev pub is_par : Due → Bool
@@ -35,17 +36,22 @@ ends_turn kit before (Sell player corp count) = false
 ends_turn kit before (Swap player source) = false
 ends_turn kit before (Done player) = true
 
--- why the rules refuse a command after those before it, if they do
-abbrev pub refusal : Kit → List Command → Command → Option game.Fault
-refusal kit before command = command_verdict kit (players_of before) (play kit before) command
+-- what the rules say of a command after those before it
+abbrev pub game_judgement : Kit → List Command → Command → Judgement game.Fault
+game_judgement kit before command = command_judgement kit (players_of before) (play kit before) command
+
+-- no rule refuses the command after those before it
+abbrev pub IsLawfulAfter : Kit → List Command → Command → Type 0
+IsLawfulAfter kit before command = IsVerdict (game_judgement kit before command) None
 
 -- an opening, and then commands that are lawful, each after those before it
-abbrev pub are_played : Kit → List Command → Bool
-are_played kit [] = false
-are_played kit (opening ∷ others) = begins_with_opening (opening ∷ []) && are_lawful (refusal kit) (opening ∷ []) others
+abbrev pub ArePlayed : Kit → List Command → Type 0
+ArePlayed kit [] = ⊥
+ArePlayed kit (opening ∷ others) =
+    (begins_with_opening (opening ∷ []) ≡ true) × AreLawful (IsLawfulAfter kit) (opening ∷ []) others
 
 -- the commands are lawful, the game is their play, and this number of turns ended in them
 pub record IsPlayOf (kit : Kit) (commands : List Command) (game : Game) (turns : ℕ) : Type 0 where
-  pub lawful : are_played kit commands ≡ true
+  pub lawful : ∥ ArePlayed kit commands ∥₁
   pub played : IsGameOf kit commands game
   pub counted : turns ≡ ended_turns (ends_turn kit) commands

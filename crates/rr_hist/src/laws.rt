@@ -1,5 +1,5 @@
 //! What always holds of the tables of a game. The calls do nothing: their contracts hold of all tables.
-ghost use Rattle.rr_hist.specs.Laws.{AcceptedTurnsAreKept, BackGoesToItsTurn, BackToThePresentTurn, TablesGoOn};
+ghost use Rattle.rr_hist.specs.Laws.{AcceptedTurnsAreKept, BackGoesToItsTurn, BackToThePresentTurn, RequestsHaveOneVerdict, TablesGoOn};
 
 /// A table that accepts one request more is that of all of them.
 pub fn tables_go_on()
@@ -19,4 +19,9 @@ pub fn back_to_the_present_turn()
 /// A request that isn't refused names a turn between the floor and the turns, if it names one.
 pub fn accepted_turns_are_kept()
     ensures { AcceptedTurnsAreKept }
+{}
+
+/// Each request has one verdict, whatever its stamp and its table are.
+pub fn requests_have_one_verdict()
+    ensures { RequestsHaveOneVerdict }
 {}

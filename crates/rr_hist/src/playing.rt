@@ -1,11 +1,12 @@
 //! One command more, with the turn that it may end.
-ghost use Rattle.std.specs.Prelude.{◌≡◌, ◌+◌, ◌<◌, ◌++◌, List, [], ◌∷◌, None, IfOk, MatchResult, option_map, if◌then◌else◌};
+ghost use Rattle.std.specs.Prelude.{◌≡◌, ◌+◌, ◌<◌, ◌++◌, List, [], ◌∷◌, IfOk, MatchResult, if◌then◌else◌};
 ghost use Rattle.rr_code.specs.Command.{IsCommand};
 ghost use Rattle.rr_code.specs.declared.command.Command.{Command as Line};
 ghost use Rattle.rr_game.specs.Keeping.{IsGameOf};
-ghost use Rattle.rr_hist.specs.Fault.{MayFind, of_game};
-ghost use Rattle.rr_hist.specs.Playing.{ends_turn, is_par, owes_par, refusal};
+ghost use Rattle.rr_hist.specs.Fault.{of_game};
+ghost use Rattle.rr_hist.specs.Playing.{IsLawfulAfter, ends_turn, game_judgement, is_par, owes_par};
 ghost use Rattle.rr_kit.specs.declared.kit.Kit.{Kit as AnyKit};
+ghost use Rattle.rr_turns.specs.Judgement.{MayFind, judgement_map};
 
 use crate::fault::Fault;
 use rr_auction::Due;
@@ -33,8 +34,8 @@ impl Next {
         requires played { game.now.played < 4096 }
         requires command { IsCommand command.now }
         ensures verdict { (before : List Line) → IsGameOf kit.now before game.now → MatchResult result
-            (λ _. refusal kit.now before command.now ≡ None)
-            (λ fault. MayFind (option_map of_game (refusal kit.now before command.now)) fault) }
+            (λ _. IsLawfulAfter kit.now before command.now)
+            (λ fault. MayFind (judgement_map of_game (game_judgement kit.now before command.now)) Fault.OutOfMemory fault) }
         ensures game { IfOk result (λ next. (before : List Line) → IsGameOf kit.now before game.now →
             IsGameOf kit.now (before ++ command.now ∷ []) next.game) }
         ensures turn { IfOk result (λ next. (before : List Line) → IsGameOf kit.now before game.now →

@@ -3,7 +3,7 @@ ghost use Rattle.std.specs.Prelude.{◌≡◌, ◌+◌, ◌<◌, ◌≤◌, [], 
 ghost use Rattle.rr_game.specs.Keeping.{IsGameOf};
 ghost use Rattle.rr_game.specs.Play.{begins_with_opening};
 ghost use Rattle.rr_turns.specs.Turns.{ended_turns, first_turns};
-ghost use Rattle.rr_hist.specs.Playing.{IsPlayOf, are_played, ends_turn};
+ghost use Rattle.rr_hist.specs.Playing.{ArePlayed, IsPlayOf, ends_turn};
 
 use crate::fault::Fault;
 use crate::playing::{Next, turns_after};
@@ -28,7 +28,7 @@ pub(crate) fn replay(
     turn: u64,
     kit: &Kit,
 ) -> Result<Replayed, Fault>
-    requires lawful { are_played kit.now commands.now ≡ true }
+    requires lawful { ∥ ArePlayed kit.now commands.now ∥₁ }
     requires few { length commands.now ≤ 4096 }
     requires ended { turn ≤ ended_turns (ends_turn kit.now) commands.now }
     ensures front { IfOk result (λ replayed.
@@ -50,7 +50,7 @@ fn replay_behind(
     turn: u64,
     kit: &Kit,
 ) -> Result<Replayed, Fault>
-    requires lawful { are_played kit.now (opening.now ∷ others.now) ≡ true }
+    requires lawful { ∥ ArePlayed kit.now (opening.now ∷ others.now) ∥₁ }
     requires few { length others.now < 4096 }
     requires ended { turn ≤ ended_turns (ends_turn kit.now) (opening.now ∷ others.now) }
     ensures front { IfOk result (λ replayed.

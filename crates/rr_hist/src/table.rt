@@ -1,9 +1,9 @@
 ghost use Rattle.std.specs.Prelude.{◌≡◌, ◌+◌, ◌<◌, ◌≤◌, ◌++◌, [], ◌∷◌, None, Some, ◌&&◌, true, nat_le, length, take, vec_capacity, vec_len, option_to_list, IfOk, IfErr, OnOk, OnErr, IsOkUnless, MatchResult};
 ghost use Rattle.rr_code.specs.Command.{IsCommand};
 ghost use Rattle.rr_hist.specs.Changing.{Fits, IsChangeBy, kept_with};
-ghost use Rattle.rr_hist.specs.Fault.{MayFind};
 ghost use Rattle.rr_hist.specs.Playing.{ends_turn};
-ghost use Rattle.rr_hist.specs.Verdict.{IsOfForm, is_kept_turn, own_verdict, request_verdict};
+ghost use Rattle.rr_hist.specs.Verdict.{IsOfForm, is_kept_turn, own_judgement, request_judgement, stamp_verdict, turn_verdict};
+ghost use Rattle.rr_turns.specs.Judgement.{IsVerdict, MayFind};
 ghost use Rattle.rr_turns.specs.Kept.{kept_after, kept_of};
 
 use crate::change::Change;
@@ -82,8 +82,8 @@ impl Table {
         requires played { IsPlayed kit.now self.old }
         requires command { IsCommand command.now }
         ensures verdict { MatchResult result
-            (λ _. request_verdict kit.now (kept_in self.old) stamp (Request.Play command.now) ≡ None)
-            (λ fault. MayFind (request_verdict kit.now (kept_in self.old) stamp (Request.Play command.now)) fault) }
+            (λ _. IsVerdict (request_judgement kit.now (kept_in self.old) stamp (Request.Play command.now)) None)
+            (λ fault. MayFind (request_judgement kit.now (kept_in self.old) stamp (Request.Play command.now)) Fault.OutOfMemory fault) }
         ensures kept { OnOk result (kept_in self.new ≡
             kept_after (ends_turn kit.now) (kept_in self.old) (Request.Play command.now)) }
         ensures played { IsPlayed kit.now self.new }
@@ -110,8 +110,8 @@ impl Table {
     ) -> Result<(), Fault>
         requires { IsPlayed kit.now self.old }
         ensures verdict { MatchResult result
-            (λ _. request_verdict kit.now (kept_in self.old) stamp (Request.Back turn) ≡ None)
-            (λ fault. MayFind (request_verdict kit.now (kept_in self.old) stamp (Request.Back turn)) fault) }
+            (λ _. IsVerdict (request_judgement kit.now (kept_in self.old) stamp (Request.Back turn)) None)
+            (λ fault. MayFind (request_judgement kit.now (kept_in self.old) stamp (Request.Back turn)) Fault.OutOfMemory fault) }
         ensures kept { OnOk result (kept_in self.new ≡
             kept_after (ends_turn kit.now) (kept_in self.old) (Request.Back turn)) }
         ensures played { IsPlayed kit.now self.new }
@@ -131,8 +131,8 @@ impl Table {
     /// `TurnNotKept` where the turn is below the floor or hasn't ended.
     pub fn forget(&mut self, stamp: u64, turn: u64) -> Result<(), Fault>
         ensures verdict { (kit : AnyKit) → IsPlayed kit self.old → MatchResult result
-            (λ _. request_verdict kit (kept_in self.old) stamp (Request.Forget turn) ≡ None)
-            (λ fault. request_verdict kit (kept_in self.old) stamp (Request.Forget turn) ≡ Some fault) }
+            (λ _. IsVerdict (request_judgement kit (kept_in self.old) stamp (Request.Forget turn)) None)
+            (λ fault. (request_judgement kit (kept_in self.old) stamp (Request.Forget turn)).first ≡ Some fault) }
         ensures kept { OnOk result ((kit : AnyKit) → kept_in self.new ≡
             kept_after (ends_turn kit) (kept_in self.old) (Request.Forget turn)) }
         ensures played { (kit : AnyKit) → IsPlayed kit self.old → IsPlayed kit self.new }
@@ -160,8 +160,8 @@ impl Table {
         requires played { IsPlayed kit.now self.now }
         requires form { IsOfForm request.now }
         ensures verdict { MatchResult result
-            (λ _. request_verdict kit.now (kept_in self.now) stamp request.now ≡ None)
-            (λ fault. MayFind (request_verdict kit.now (kept_in self.now) stamp request.now) fault) }
+            (λ _. IsVerdict (request_judgement kit.now (kept_in self.now) stamp request.now) None)
+            (λ fault. MayFind (request_judgement kit.now (kept_in self.now) stamp request.now) Fault.OutOfMemory fault) }
         ensures change { IfOk result (λ change. IsChangeBy kit.now (kept_in self.now) request.now change) }
     {
         self.judge_stamp(stamp)?;
@@ -194,10 +194,9 @@ impl Table {
     }
 
     fn judge_stamp(&self, stamp: u64) -> Result<(), Fault>
-        ensures refused { IfErr result (λ fault. (kit : AnyKit) (request : AnyRequest Line) →
-            request_verdict kit (kept_in self.now) stamp request ≡ Some fault) }
-        ensures passed { OnOk result ((kit : AnyKit) (request : AnyRequest Line) →
-            request_verdict kit (kept_in self.now) stamp request ≡ own_verdict kit (kept_in self.now) request) }
+        ensures verdict { MatchResult result
+            (λ _. stamp_verdict (kept_in self.now) stamp ≡ None)
+            (λ fault. stamp_verdict (kept_in self.now) stamp ≡ Some fault) }
         ensures room { OnOk result (self.now.stamp < 4000000000) }
     {
         if self.stamp != stamp {
@@ -214,8 +213,8 @@ impl Table {
         requires command { IsCommand command.now }
         requires stamp { self.now.stamp < 4000000000 }
         ensures verdict { MatchResult result
-            (λ _. own_verdict kit.now (kept_in self.now) (Request.Play command.now) ≡ None)
-            (λ fault. MayFind (own_verdict kit.now (kept_in self.now) (Request.Play command.now)) fault) }
+            (λ _. IsVerdict (own_judgement kit.now (kept_in self.now) (Request.Play command.now)) None)
+            (λ fault. MayFind (own_judgement kit.now (kept_in self.now) (Request.Play command.now)) Fault.OutOfMemory fault) }
         ensures change { IfOk result (λ change.
             IsChangeBy kit.now (kept_in self.now) (Request.Play command.now) change) }
     {
@@ -238,8 +237,8 @@ impl Table {
         requires played { IsPlayed kit.now self.now }
         requires stamp { self.now.stamp < 4000000000 }
         ensures verdict { MatchResult result
-            (λ _. own_verdict kit.now (kept_in self.now) (Request.Back turn) ≡ None)
-            (λ fault. MayFind (own_verdict kit.now (kept_in self.now) (Request.Back turn)) fault) }
+            (λ _. IsVerdict (own_judgement kit.now (kept_in self.now) (Request.Back turn)) None)
+            (λ fault. MayFind (own_judgement kit.now (kept_in self.now) (Request.Back turn)) Fault.OutOfMemory fault) }
         ensures change { IfOk result (λ change. IsChangeBy kit.now (kept_in self.now) (Request.Back turn) change) }
     {
         if !self.keeps(turn) {
@@ -258,8 +257,8 @@ impl Table {
     fn judge_forget(&self, turn: u64) -> Result<Change, Fault>
         requires { self.now.stamp < 4000000000 }
         ensures verdict { (kit : AnyKit) → IsPlayed kit self.now → MatchResult result
-            (λ _. own_verdict kit (kept_in self.now) (Request.Forget turn) ≡ None)
-            (λ fault. own_verdict kit (kept_in self.now) (Request.Forget turn) ≡ Some fault) }
+            (λ _. turn_verdict kit (kept_in self.now) turn ≡ None)
+            (λ fault. turn_verdict kit (kept_in self.now) turn ≡ Some fault) }
         ensures change { IfOk result (λ change. (kit : AnyKit) → IsPlayed kit self.now →
             IsChangeBy kit (kept_in self.now) (Request.Forget turn) change) }
         ensures kept { IfOk result (λ change. (kit : AnyKit) → kept_with (kept_in self.now) change ≡

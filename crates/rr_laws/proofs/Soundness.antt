@@ -40,7 +40,9 @@ use Rattle.rr_kit.specs.declared.kit.Kit.{Kit}
 use Rattle.rr_game.specs.Names.{act_of}
 use Rattle.rr_game.specs.Play.{act_entries, entries_of, entries_once, play, played_on, players_of}
 use Rattle.rr_laws.specs.Sound.{AreAccepted, ArePlayed, IsSoundTable, NamesCorporations}
-use Rattle.rr_game.specs.Verdict.{act_verdict, auction_is_over, command_verdict, verdict, verdict_once}
+use Rattle.rr_game.specs.Verdict.{act_judgement, auction_is_over, command_judgement, judgement}
+use Rattle.rr_game.proofs.Judging.{no_auction_rule, no_stock_rule}
+use Rattle.rr_turns.specs.Judgement.{IsVerdict}
 use Rattle.rr_laws.proofs.LeavesAuction.{leaves_auction}
 use Rattle.rr_laws.proofs.Leaving.{auction_left}
 use Rattle.rr_laws.proofs.StockLeaves.{stock_leaves}
@@ -74,11 +76,6 @@ paid_on n roster book es h among = record {
   split = ap (λ (b : Book). b ++ es) h.split ∙ append_assoc (opening_entries n roster) h.more es;
   among = list_all-append (pays_among n) h.more es ∙ both _ _ h.among among;
 }
-
--- a verdict of a step's rules as one of the game
-none_before : {A B : Type 0} (f : A → B) (o : Option A) → option_map f o ≡ None → o ≡ None
-none_before f None e = refl
-none_before f (Some x) e = absurd (cc)
 
 -- an act of the auction
 by_bid : (n : ℕ) (kit : Kit) (book : Book) (act : Act) → auction_is_over book ≡ false → bidding.verdict kit.roster kit.chart book act ≡ None
@@ -115,21 +112,21 @@ by_trade laws n some few kit book act over lawful h =
     }
 
 -- an act, by the step that is due
-by_act : StockLaws → (n : ℕ) → 0 < n → n ≤ 6 → (kit : Kit) (book : Book) (act : Act) → verdict kit book act ≡ None
+by_act : StockLaws → (n : ℕ) → 0 < n → n ≤ 6 → (kit : Kit) (book : Book) (act : Act) → IsVerdict (judgement kit book act) None
     → Stands n kit.roster book → Stands n kit.roster (book ++ entries_of kit book act)
-by_act laws n some few kit book act lawful h = by_step (auction_is_over book) refl lawful
+by_act laws n some few kit book act lawful h = by_step (auction_is_over book) refl
   where
-    by_step : (over : Bool) → auction_is_over book ≡ over → verdict_once over kit book act ≡ None → Stands n kit.roster (book ++ entries_once over kit book act)
-    by_step true e none = by_trade laws n some few kit book act e (none_before _ _ none) h
-    by_step false e none = by_bid n kit book act e (none_before _ _ none) h
+    by_step : (over : Bool) → auction_is_over book ≡ over → Stands n kit.roster (book ++ entries_once over kit book act)
+    by_step true e = by_trade laws n some few kit book act e (no_stock_rule kit book act e lawful) h
+    by_step false e = by_bid n kit book act e (no_auction_rule kit book act e lawful) h
 
 -- an act, if names stand for one
-by_named : StockLaws → (n : ℕ) → 0 < n → n ≤ 6 → (kit : Kit) (book : Book) (named : Option Act) → act_verdict kit book named ≡ None
+by_named : StockLaws → (n : ℕ) → 0 < n → n ≤ 6 → (kit : Kit) (book : Book) (named : Option Act) → IsVerdict (act_judgement kit book named) None
     → Stands n kit.roster book → Stands n kit.roster (book ++ act_entries kit book named)
 by_named laws n some few kit book None lawful h = absurd (cc)
 by_named laws n some few kit book (Some act) lawful h = by_act laws n some few kit book act lawful h
 
-by_command : StockLaws → (n : ℕ) → 0 < n → n ≤ 6 → (kit : Kit) (players : List (List ℕ)) (book : Book) (command : Command) → command_verdict kit players book command ≡ None
+by_command : StockLaws → (n : ℕ) → 0 < n → n ≤ 6 → (kit : Kit) (players : List (List ℕ)) (book : Book) (command : Command) → IsVerdict (command_judgement kit players book command) None
     → Stands n kit.roster book → Stands n kit.roster (played_on kit players book command)
 by_command laws n some few kit players book (Open others) lawful h = absurd (cc)
 by_command laws n some few kit players book command lawful h = by_named laws n some few kit book (act_of players command) lawful h
@@ -177,12 +174,12 @@ sound_along kept laws kit _ order played = absurd played
 -- one command more that isn't refused
 
 accepted_on : (kit : Kit) (players : List (List ℕ)) (commands : List Command) (command : Command) (book : Book) → AreAccepted kit players book commands
-    → command_verdict kit players (fold (played_on kit players) book commands) command ≡ None → AreAccepted kit players book (commands ++ command ∷ [])
+    → IsVerdict (command_judgement kit players (fold (played_on kit players) book commands) command) None → AreAccepted kit players book (commands ++ command ∷ [])
 accepted_on kit players [] command book lawful next = (next, tt)
 accepted_on kit players (c ∷ cs) command book lawful next = (lawful.0, accepted_on kit players cs command (played_on kit players book c) lawful.1 next)
 
 pub played_more : (kit : Kit) (commands : List Command) (command : Command) → ArePlayed kit commands
-    → command_verdict kit (players_of commands) (play kit commands) command ≡ None → ArePlayed kit (commands ++ command ∷ [])
+    → IsVerdict (command_judgement kit (players_of commands) (play kit commands) command) None → ArePlayed kit (commands ++ command ∷ [])
 played_more kit (Open players ∷ commands) command played next =
     (played.0, played.1, accepted_on kit players commands command (opened players kit.roster) played.2 next)
 played_more kit _ command played next = absurd played

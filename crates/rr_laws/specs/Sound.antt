@@ -12,7 +12,8 @@ use Rattle.rr_code.specs.declared.command.Command.TheVariants.{Open}
 use Rattle.rr_kit.specs.declared.kit.Kit.{Kit}
 use Rattle.rr_kit.specs.Kits.{KitTexts, SpellsKit}
 use Rattle.rr_game.specs.Play.{play, played_on, players_of}
-use Rattle.rr_game.specs.Verdict.{command_verdict}
+use Rattle.rr_game.specs.Verdict.{command_judgement}
+use Rattle.rr_turns.specs.Judgement.{IsVerdict}
 
 -- the book of a table of n that is in order: bank, seats and corporations have 12,000 together, and no one but the bank
 -- has less than nothing; each certificate has a place of the table; each 20% certificate is in the offering, or with a
@@ -27,7 +28,7 @@ pub record IsSoundTable (n : ℕ) (book : Book) : Type 0 where
 abbrev pub AreAccepted : Kit → List (List ℕ) → Book → List Command → Type 0
 AreAccepted kit players book [] = ⊤
 AreAccepted kit players book (command ∷ others) =
-    (command_verdict kit players book command ≡ None) × AreAccepted kit players (played_on kit players book command) others
+    IsVerdict (command_judgement kit players book command) None × AreAccepted kit players (played_on kit players book command) others
 
 -- two to six players open a table, and then no command is refused
 abbrev pub ArePlayed : Kit → List Command → Type 0
@@ -53,4 +54,4 @@ TablesStaySound =
 abbrev pub PlaysGoOn : Type 0
 PlaysGoOn =
     (kit : Kit) (commands : List Command) (command : Command) → ArePlayed kit commands
-    → command_verdict kit (players_of commands) (play kit commands) command ≡ None → ArePlayed kit (commands ++ command ∷ [])
+    → IsVerdict (command_judgement kit (players_of commands) (play kit commands) command) None → ArePlayed kit (commands ++ command ∷ [])

@@ -8,9 +8,8 @@ use rr_roster::Corp;
 use rr_words::HexName;
 use std::marker::Model;
 
-/// How many tiles a layout has room for. No line lays a tile yet; a board of 200 hexes, each laid three times at most,
-/// will want 600.
-pub const MOST_LAYS: usize = 64;
+/// How many tiles a layout has room for: a board has at most 200 hexes, and each is laid at most three times.
+pub const MOST_LAYS: usize = 600;
 
 /// How many tokens a layout has room for: eight corporations have at most six each.
 pub const MOST_STATIONS: usize = 48;
@@ -34,9 +33,9 @@ pub struct Station {
 /// The tiles and tokens that were put on a board, oldest first. It takes no memory, and `Copy` copies it.
 #[derive(Clone, Copy, Debug)]
 pub struct Layout {
-    lays: [Lay; 64],
+    lays: [Lay; MOST_LAYS],
     lay_count: usize,
-    stations: [Station; 48],
+    stations: [Station; MOST_STATIONS],
     station_count: usize,
 }
 
@@ -49,18 +48,18 @@ impl Model for Layout {
 
     ghost view = { λ s. record { lays = take s.lay_count s.lays; stations = take s.station_count s.stations } };
 
-    ghost invariant = { λ s. IsFilled no_lay 64 s.lay_count s.lays × IsFilled no_station 48 s.station_count s.stations };
+    ghost invariant = { λ s. IsFilled no_lay 600 s.lay_count s.lays × IsFilled no_station 48 s.station_count s.stations };
 
     ghost inverse = { λ p. record {
-      lays = filled no_lay 64 p.lays;
+      lays = filled no_lay 600 p.lays;
       lay_count = length p.lays;
       stations = filled no_station 48 p.stations;
       station_count = length p.stations;
     } };
 
     ghost inverse_ok = { λ s h i. record {
-      lays = filled-take no_lay 64 s.lay_count s.lays h.0 i;
-      lay_count = length-take-filled no_lay 64 s.lay_count s.lays h.0 i;
+      lays = filled-take no_lay 600 s.lay_count s.lays h.0 i;
+      lay_count = length-take-filled no_lay 600 s.lay_count s.lays h.0 i;
       stations = filled-take no_station 48 s.station_count s.stations h.1 i;
       station_count = length-take-filled no_station 48 s.station_count s.stations h.1 i;
     } };
@@ -88,13 +87,13 @@ impl Layout {
                 hex,
                 tile: 0,
                 turn: 0,
-            }; 64],
+            }; MOST_LAYS],
             lay_count: 0,
             stations: [Station {
                 corp: Corp::Prr,
                 hex,
                 centre: 0,
-            }; 48],
+            }; MOST_STATIONS],
             station_count: 0,
         }
     }

@@ -4,4 +4,8 @@
 #[cfg(test)]
 mod code;
 #[cfg(test)]
+mod orders;
+#[cfg(test)]
+mod scan;
+#[cfg(test)]
 mod serving;

@@ -20,8 +20,11 @@ use Rattle.rr_moderator.specs.Queries.{Answer, answer_of_table, asked_answer, ca
 use Rattle.rr_moderator.specs.Serving.{Meets, Responds, TooLong, Malformed, Broken, Read, reply_to, text_of}
 use Rattle.rr_store.specs.declared.fault.Fault as store
 use Rattle.rr_store.specs.declared.fault.Fault.TheVariants as T
-use Rattle.rr_store.specs.Held.{Held, Takes, Accepted, Refused, NoRoom, Fails, Again}
-use Rattle.rr_store.specs.World.{TableState, World, state_after, table_named, world_verdict}
+use Rattle.rr_store.specs.Held.{Held, Takes, Accepted, Refused, Wants, NoRoom, Fails, Again}
+use Rattle.rr_store.specs.World.{TableState, World, opening_verdict, state_after, table_named, world_judgement}
+use Rattle.rr_store.proofs.Verdicts.{world_one}
+use Rattle.rr_turns.specs.Judgement.{IsVerdict}
+use Rattle.rr_turns.proofs.JudgementLemmas.{is-settled, settled-is}
 use Rattle.rr_moderator.proofs.ServingLemmas.{one_line}
 use Rattle.rr_moderator.specs.Alone.{Alone, Exchange, IsCalm, IsDisturbed, Names, Picks, Runs, disturbs, line_table, query_table}
 
@@ -60,11 +63,13 @@ opening_step true room few = refl
 opening_step false true few = absurd (few refl)
 opening_step false false few = refl
 
-uncounted : (kit : Kit) (t : Option TableState) (n stamp : ℕ) (c : Request Command) → (world_verdict kit t n stamp c ≡ Some T.TooManyTables → ⊥)
-    → world_verdict kit t n stamp c ≡ world_verdict kit t 0 stamp c
-uncounted kit (Some t) n stamp (Play (Open players)) few = refl
-uncounted kit None n stamp (Play (Open players)) few = opening_step _ _ few
-uncounted kit t n stamp c few = refl
+uncounted : (kit : Kit) (t : Option TableState) (n stamp : ℕ) (c : Request Command) (verdict : Option store.Fault) → (verdict ≡ Some T.TooManyTables → ⊥)
+    → IsVerdict (world_judgement kit t n stamp c) verdict → IsVerdict (world_judgement kit t 0 stamp c) verdict
+uncounted kit (Some t) n stamp (Play (Open players)) verdict few is = is
+uncounted kit None n stamp (Play (Open players)) verdict few is =
+    let found : verdict ≡ opening_verdict None n stamp = is-settled (opening_verdict None n stamp) verdict is in
+    settled-is (opening_verdict None 0 stamp) verdict (found ∙ opening_step _ _ (λ e. few (found ∙ e)))
+uncounted kit t n stamp c verdict few is = is
 
 -- what a line that names a table comes to, from the table alone
 
@@ -83,21 +88,33 @@ abbrev request_alone : Kit → List ℕ → Option TableState → Request Comman
 request_alone kit name t c None = (accepted_text name (state_after kit t c).stamp, Some (state_after kit t c))
 request_alone kit name t c (Some fault) = (refusal_of (of_store fault), t)
 
-abbrev line_alone : Kit → List ℕ → Option TableState → Line → Outcome
-line_alone kit name t (L.Request stamp table c) = request_alone kit name t c (world_verdict kit t 0 stamp c)
-line_alone kit name t (L.Query query) = (query_text kit (alone_with name t) query, t)
+-- the outcome of a request is that of its verdict
+abbrev RequestAlone : Kit → List ℕ → Option TableState → ℕ → Request Command → Outcome → Type 0
+RequestAlone kit name t stamp c outcome =
+    (verdict : Option store.Fault) × IsVerdict (world_judgement kit t 0 stamp c) verdict × (outcome ≡ request_alone kit name t c verdict)
+
+abbrev LineAlone : Kit → List ℕ → Option TableState → Line → Outcome → Type 0
+LineAlone kit name t (L.Request stamp table c) outcome = RequestAlone kit name t stamp c outcome
+LineAlone kit name t (L.Query query) outcome = outcome ≡ (query_text kit (alone_with name t) query, t)
+
+one_outcome : (kit : Kit) (name : List ℕ) (t : Option TableState) (l : Line) (x y : Outcome) → LineAlone kit name t l x → LineAlone kit name t l y → x ≡ y
+one_outcome kit name t (L.Request stamp table c) x y a b =
+    a.2 ∙ ap (λ (o : Option store.Fault). request_alone kit name t c o) (world_one kit t 0 stamp c a.0 b.0 a.1 b.1) ∙ sym b.2
+one_outcome kit name t (L.Query query) x y a b = a ∙ sym b
 
 abbrev ReplyAlone : Kit → List ℕ → Option TableState → List ℕ → Line → List ℕ → Option TableState → Type 0
 ReplyAlone kit name t line l reply after =
     ((8000 < length line) × (reply ≡ refusal_of F.LineTooLong) × (after ≡ t))
-    ⊎ ((length line ≤ 8000) × (reply ≡ (line_alone kit name t l).0) × (after ≡ (line_alone kit name t l).1))
+    ⊎ ((length line ≤ 8000) × LineAlone kit name t l (reply, after))
 
 one_reply : (kit : Kit) (name : List ℕ) (t : Option TableState) (line : List ℕ) (l : Line) (reply other : List ℕ) (after behind : Option TableState)
     → ReplyAlone kit name t line l reply after → ReplyAlone kit name t line l other behind → (reply ≡ other) × (after ≡ behind)
 one_reply kit name t line l reply other after behind (inl a) (inl b) = (a.1 ∙ sym b.1, a.2 ∙ sym b.2)
 one_reply kit name t line l reply other after behind (inl a) (inr b) = absurd (omega (arith, a.0, b.0))
 one_reply kit name t line l reply other after behind (inr a) (inl b) = absurd (omega (arith, a.0, b.0))
-one_reply kit name t line l reply other after behind (inr a) (inr b) = (a.1 ∙ sym b.1, a.2 ∙ sym b.2)
+one_reply kit name t line l reply other after behind (inr a) (inr b) =
+    let same = one_outcome kit name t l (reply, after) (other, behind) a.1 b.1 in
+    (ap (λ (o : Outcome). o.0) same, ap (λ (o : Outcome). o.1) same)
 
 -- a query that names the table
 ask_alone : (ask : TableState → Answer) (tables : World) (name table : List ℕ) → table ≡ name
@@ -124,45 +141,52 @@ query_alone kit tables name (Q.Price table corp) about = ap reply_of (ask_alone 
 query_alone kit tables name (Q.Order table) about = ap reply_of (ask_alone (order_answer kit) tables name table (some_same table name about))
 query_alone kit tables name (Q.Privates table of) about = ap reply_of (ask_alone (privates_answer kit of) tables name table (some_same table name about))
 
-abbrev Same : Held → Held → List ℕ → Outcome → List ℕ → Type 0
-Same old new name alone reply = (reply ≡ alone.0) × (table_named new.tables name ≡ alone.1) × (new.kit ≡ old.kit)
+abbrev Same : Held → Held → List ℕ → (Outcome → Type 0) → List ℕ → Type 0
+Same old new name Comes reply = Comes (reply, table_named new.tables name) × (new.kit ≡ old.kit)
 
 -- a request that names the table
 takes_alone : (old new : Held) (stamp : ℕ) (name : List ℕ) (c : Request Command) {result : Result ℕ store.Fault} → Takes old stamp name c new result
     → ¬ IsDisturbed (reply_to (text_of name result))
-    → Same old new name (request_alone old.kit name (table_named old.tables name) c (world_verdict old.kit (table_named old.tables name) 0 stamp c)) (reply_to (text_of name result))
+    → Same old new name (RequestAlone old.kit name (table_named old.tables name) stamp c) (reply_to (text_of name result))
 takes_alone old new stamp name c (Accepted whole lawful after) calm =
     let t = table_named old.tables name in
-    let few : world_verdict old.kit t (length old.tables) stamp c ≡ Some T.TooManyTables → ⊥ = λ e. let none = lawful in cc in
-    let v = sym (uncounted old.kit t (length old.tables) stamp c few) ∙ lawful in (
-      ap (λ o. (request_alone old.kit name t c o).0) (sym v),
-      ap (λ h. table_named h.tables name) after ∙ named_after old.tables name (state_after old.kit t c) ∙ ap (λ o. (request_alone old.kit name t c o).1) (sym v),
+    let there : table_named new.tables name ≡ Some (state_after old.kit t c) =
+    ap (λ h. table_named h.tables name) after ∙ named_after old.tables name (state_after old.kit t c) in (
+      (
+        None,
+        uncounted old.kit t (length old.tables) stamp c None (λ e. absurd (cc e)) lawful,
+        ap (λ (o : Option TableState). (accepted_text name (state_after old.kit t c).stamp, o)) there,
+      ),
       ap (λ h. h.kit) after,
     )
 takes_alone old new stamp name c (Refused fault whole refused same) calm =
     let t = table_named old.tables name in
-    let few : world_verdict old.kit t (length old.tables) stamp c ≡ Some T.TooManyTables → ⊥ =
-    λ e. calm (F.TooManyTables, refl, ap (λ (f : store.Fault). refusal_of (of_store f)) (some_same fault T.TooManyTables (sym refused ∙ e))) in
-    let v = sym (uncounted old.kit t (length old.tables) stamp c few) ∙ refused in (
-      ap (λ o. (request_alone old.kit name t c o).0) (sym v),
-      ap (λ h. table_named h.tables name) same ∙ ap (λ o. (request_alone old.kit name t c o).1) (sym v),
+    let few : Some fault ≡ Some T.TooManyTables → ⊥ =
+    λ e. calm (F.TooManyTables, refl, ap (λ (f : store.Fault). refusal_of (of_store f)) (some_same fault T.TooManyTables e)) in (
+      (
+        Some fault,
+        uncounted old.kit t (length old.tables) stamp c (Some fault) few refused,
+        ap (λ (o : Option TableState). (refusal_of (of_store fault), o)) (ap (λ h. table_named h.tables name) same),
+      ),
       ap (λ h. h.kit) same,
     )
-takes_alone old new stamp name c (NoRoom fault whole lawful (inl full) same) calm = absurd (calm (of_store fault, ap (λ (f : store.Fault). disturbs (of_store f)) full, refl))
-takes_alone old new stamp name c (NoRoom fault whole lawful (inr memory) same) calm = absurd (calm (of_store fault, ap (λ (f : store.Fault). disturbs (of_store f)) memory, refl))
+takes_alone old new stamp name c (Wants whole first same) calm = absurd (calm (F.OutOfMemory, refl, refl))
+takes_alone old new stamp name c (NoRoom whole lawful same) calm = absurd (calm (F.HalfFull, refl, refl))
 takes_alone old new stamp name c (Fails whole lawful after) calm = absurd (calm (F.DeviceFailed, refl, refl))
 takes_alone old new stamp name c (Again broken same) calm = absurd (calm (F.OpenAgain, refl, refl))
 
 meets_alone : (old new : Held) (name : List ℕ) (l : Line) (outcome : Result (List ℕ) Fault) → line_table l ≡ Some name → Meets old l new outcome
-    → ¬ IsDisturbed (reply_to outcome) → Same old new name (line_alone old.kit name (table_named old.tables name) l) (reply_to outcome)
+    → ¬ IsDisturbed (reply_to outcome) → Same old new name (LineAlone old.kit name (table_named old.tables name) l) (reply_to outcome)
 meets_alone old new name (L.Request stamp table c) outcome about meets calm =
     let named = some_same table name about in
     let takes = subst (λ k. Takes old stamp k c new meets.0) named meets.1 in
     let told : outcome ≡ text_of name meets.0 = subst (λ k. outcome ≡ text_of k meets.0) named meets.2 in
-    subst (λ (o : Result (List ℕ) Fault). Same old new name (request_alone old.kit name (table_named old.tables name) c (world_verdict old.kit (table_named old.tables name) 0 stamp c)) (reply_to o)) (sym told)
+    subst (λ (o : Result (List ℕ) Fault). Same old new name (RequestAlone old.kit name (table_named old.tables name) stamp c) (reply_to o)) (sym told)
     (takes_alone old new stamp name c takes (subst (λ (o : Result (List ℕ) Fault). ¬ IsDisturbed (reply_to o)) told calm))
 meets_alone old new name (L.Query query) outcome about meets calm =
-    (meets.1 ∙ query_alone old.kit old.tables name query about, ap (λ h. table_named h.tables name) meets.0, ap (λ h. h.kit) meets.0)
+    let text = meets.1 ∙ query_alone old.kit old.tables name query about in
+    let there = ap (λ h. table_named h.tables name) meets.0 in
+    (λ i. (text i, there i), ap (λ h. h.kit) meets.0)
 
 -- a line that names the table
 responds_alone : (old new : Held) (line name : List ℕ) (l : Line) → SpellsLine line l → line_table l ≡ Some name
@@ -174,7 +198,7 @@ responds_alone old new line name l spells about (Malformed short none same) calm
 responds_alone old new line name l spells about (Broken m short other broken same) calm = absurd (calm (F.OpenAgain, refl, refl))
 responds_alone old new line name l spells about (Read m outcome short other whole meets) calm =
     let r = meets_alone old new name l outcome about (subst (λ x. Meets old x new outcome) (one_line line m l other spells) meets) calm in
-    (inr (short, r.0, r.1), r.2)
+    (inr (short, r.0), r.1)
 
 -- a line that doesn't
 
@@ -189,7 +213,8 @@ takes_other : (old new : Held) (stamp : ℕ) (name table : List ℕ) (c : Reques
 takes_other old new stamp name table c apart (Accepted whole lawful after) =
     (ap (λ h. table_named h.tables name) after ∙ named_other old.tables table name (state_after old.kit (table_named old.tables table) c) apart, ap (λ h. h.kit) after)
 takes_other old new stamp name table c apart (Refused fault whole refused same) = unmoved old new name same
-takes_other old new stamp name table c apart (NoRoom fault whole lawful why same) = unmoved old new name same
+takes_other old new stamp name table c apart (Wants whole first same) = unmoved old new name same
+takes_other old new stamp name table c apart (NoRoom whole lawful same) = unmoved old new name same
 takes_other old new stamp name table c apart (Again broken same) = unmoved old new name same
 takes_other old new stamp name table c apart (Fails whole lawful after) = (ap (λ h. table_named h.tables name) after, ap (λ h. h.kit) after)
 

@@ -14,11 +14,12 @@ use Rattle.rr_store.specs.declared.fault.Fault.TheVariants as T
 use Rattle.rr_store.specs.declared.store.Store.{Store}
 use Rattle.rr_store.specs.Allowing.{BeforeOrAfter}
 use Rattle.rr_store.specs.Committing.{Commits, Spares}
-use Rattle.rr_store.specs.Held.{Held, Takes, Accepted, Refused, NoRoom, Fails, Again, stamp_after, with_tables}
+use Rattle.rr_store.specs.Held.{Held, Takes, Accepted, Refused, Wants, NoRoom, Fails, Again, stamp_after, with_tables}
 use Rattle.rr_store.specs.Holding.{Carries, IsFull, IsUnchanged, disk_of, held_of}
-use Rattle.rr_store.specs.World.{TableRequest, for_table, table_named, verdict_in, world_after}
+use Rattle.rr_store.specs.World.{TableRequest, for_table, judgement_in, table_named, world_after}
+use Rattle.rr_turns.specs.Judgement.{IsVerdict}
 use Rattle.rr_store.proofs.Standing.{carried_keeps, commit_leaves, same_unchanged}
-use Rattle.rr_store.proofs.Verdicts.{no_failure}
+use Rattle.rr_store.proofs.Verdicts.{no_failure, not_both}
 use Rattle.rr_moderator.specs.declared.fault.Fault.TheVariants as F
 use Rattle.rr_moderator.specs.Answer.{accepted_text}
 use Rattle.rr_moderator.specs.Fault.{of_store, refusal_of}
@@ -100,7 +101,7 @@ module _ {D : Type 0} (Honest Works : D → Type 0) (state : D → DiskState) (p
     asked = for_table name c
 
     abbrev Lawful : Type 0
-    Lawful = verdict_in (held_of old).kit (held_of old).tables stamp name c ≡ None
+    Lawful = IsVerdict (judgement_in (held_of old).kit (held_of old).tables stamp name c) None
 
     gives : Lawful → Gives (held_of old) line asked
     gives lawful = record { stamp = stamp; short = short; spelled = spells; whole = whole; lawful = lawful }
@@ -109,8 +110,8 @@ module _ {D : Type 0} (Honest Works : D → Type 0) (state : D → DiskState) (p
     lawful_of : (other : TableRequest) → Gives (held_of old) line other → Lawful
     lawful_of other g =
         let same = same_given line stamp name c (held_of old) other g spells in
-        subst (λ (x : TableRequest). verdict_in (held_of old).kit (held_of old).tables stamp x.name x.request ≡ None) same.1
-        (subst (λ (n : ℕ). verdict_in (held_of old).kit (held_of old).tables n other.name other.request ≡ None) same.0 g.lawful)
+        subst (λ (x : TableRequest). IsVerdict (judgement_in (held_of old).kit (held_of old).tables stamp x.name x.request) None) same.1
+        (subst (λ (n : ℕ). IsVerdict (judgement_in (held_of old).kit (held_of old).tables n other.name other.request) None) same.0 g.lawful)
 
     full_of : (none : HasNoPlace old line) → IsFull old name c
     full_of none = subst (λ (x : TableRequest). IsFull old x.name x.request) (same_given line stamp name c (held_of old) none.asked none.lawful spells).1 none.full
@@ -172,32 +173,34 @@ module _ {D : Type 0} (Honest Works : D → Type 0) (state : D → DiskState) (p
     no_place : Lawful → IsFull old name c → HasNoPlace old line
     no_place lawful full = record { asked = asked; lawful = gives lawful; full = full }
 
-    -- there was no room in the file or in memory
-    kept_out : (fault : store.Fault) → reply ≡ refusal_of (of_store fault) → Lawful → (fault ≡ T.HalfFull) ⊎ (fault ≡ T.OutOfMemory) → Committed (Err fault) → Lasting
-    kept_out fault told lawful (inl is) k =
-        let reply_is : reply ≡ refusal_of F.HalfFull = told ∙ ap (λ (f : store.Fault). refusal_of (of_store f)) is in
-        lasts_unchanged (unchanged_by old new fault (λ e. let both : T.HalfFull ≡ T.DeviceFailed = sym is ∙ e in absurd (cc both)) k.spares) k.carries
-        (ap tells_failure reply_is ∙ half_full_calm) (ap tells_acceptance reply_is ∙ refusal_calm F.HalfFull)
-        (λ _. no_place lawful (k.full (ap (λ (f : store.Fault). Err f) is))) (λ _. inl reply_is)
-    kept_out fault told lawful (inr is) k =
-        let reply_is : reply ≡ refusal_of F.OutOfMemory = told ∙ ap (λ (f : store.Fault). refusal_of (of_store f)) is in
-        lasts_unchanged (unchanged_by old new fault (λ e. let both : T.OutOfMemory ≡ T.DeviceFailed = sym is ∙ e in absurd (cc both)) k.spares) k.carries
-        (ap tells_failure reply_is ∙ memory_calm.0) (ap tells_acceptance reply_is ∙ refusal_calm F.OutOfMemory)
-        (λ full. both_ways (tells_full reply) full (ap tells_full reply_is ∙ memory_calm.1)) (λ _. inr reply_is)
+    -- there was no room in the file
+    no_space : reply ≡ refusal_of F.HalfFull → Lawful → Committed (Err T.HalfFull) → Lasting
+    no_space told lawful k =
+        lasts_unchanged (unchanged_by old new T.HalfFull (λ e. absurd (cc e)) k.spares) k.carries
+        (ap tells_failure told ∙ half_full_calm) (ap tells_acceptance told ∙ refusal_calm F.HalfFull)
+        (λ _. no_place lawful (k.full refl)) (λ _. inl told)
+
+    -- memory was wanted
+    wanting : reply ≡ refusal_of F.OutOfMemory → Committed (Err T.OutOfMemory) → Lasting
+    wanting told k =
+        lasts_unchanged (unchanged_by old new T.OutOfMemory (λ e. absurd (cc e)) k.spares) k.carries
+        (ap tells_failure told ∙ memory_calm.0) (ap tells_acceptance told ∙ refusal_calm F.OutOfMemory)
+        (λ full. both_ways (tells_full reply) full (ap tells_full told ∙ memory_calm.1)) (λ _. inr told)
 
     -- a rule refused it
-    ruled_out : (fault : store.Fault) → reply ≡ refusal_of (of_store fault) → verdict_in (held_of old).kit (held_of old).tables stamp name c ≡ Some fault → Committed (Err fault) → Lasting
+    ruled_out : (fault : store.Fault) → reply ≡ refusal_of (of_store fault) → IsVerdict (judgement_in (held_of old).kit (held_of old).tables stamp name c) (Some fault) → Committed (Err fault) → Lasting
     ruled_out fault told verdict k =
         let calm = verdict_calm (held_of old).kit (table_named (held_of old).tables name) (length (held_of old).tables) stamp c fault verdict in
         lasts_unchanged (unchanged_by old new fault (no_failure (held_of old).kit (held_of old).tables stamp name c fault verdict) k.spares) k.carries
         (ap tells_failure told ∙ calm.0) (ap tells_acceptance told ∙ calm.2)
         (λ full. both_ways (tells_full reply) full (ap tells_full told ∙ calm.1))
-        (λ none. let both : None ≡ Some fault = sym (lawful_of none.asked none.lawful) ∙ verdict in absurd (cc both))
+        (λ none. absurd (not_both (held_of old).kit (held_of old).tables stamp name c fault (lawful_of none.asked none.lawful) verdict))
 
     lasts_by : (taking : Result ℕ store.Fault) → reply ≡ reply_to (text_of name taking) → Takes (held_of old) stamp name c (held_of new) taking → Committed taking → Lasting
     lasts_by taking told (Accepted was lawful held_is) k = taken (stamp_after (held_of old).kit (held_of old).tables name c) told refl lawful held_is k
     lasts_by taking told (Refused fault was verdict held_is) k = ruled_out fault told verdict k
-    lasts_by taking told (NoRoom fault was lawful why held_is) k = kept_out fault told lawful why k
+    lasts_by taking told (Wants was first held_is) k = wanting told k
+    lasts_by taking told (NoRoom was lawful held_is) k = no_space told lawful k
     lasts_by taking told (Fails was lawful held_is) k = failed told lawful k
     lasts_by taking told (Again broken held_is) k = both_ways (held_of old).broken broken whole
 

@@ -1,5 +1,5 @@
 -- Which replies say that the device failed, or that the file is full.
-use Rattle.std.proofs.Common.{◌≡◌, ℕ, ◌==◌, Bool, true, false, not, List, [], ◌∷◌, ◌++◌, codes, Option, None, Some, if◌then◌else◌, option_map, nat_le, refl, subst}
+use Rattle.std.proofs.Common.{◌≡◌, ℕ, ◌==◌, Bool, true, false, not, List, [], ◌∷◌, ◌++◌, codes, Option, None, Some, if◌then◌else◌, option_map, nat_le, refl, sym, subst}
 use Rattle.std.specs.Fmt.{digits}
 use Rattle.rr_kit.specs.declared.kit.Kit.{Kit}
 use Rattle.rr_kit.specs.declared.fault.Fault as kit
@@ -8,7 +8,9 @@ use Rattle.rr_game.specs.declared.fault.Fault as game
 use Rattle.rr_game.specs.declared.fault.Fault.TheVariants as G
 use Rattle.rr_hist.specs.declared.fault.Fault as hist
 use Rattle.rr_hist.specs.declared.fault.Fault.TheVariants as H
-use Rattle.rr_hist.specs.Verdict.{request_verdict}
+use Rattle.rr_hist.specs.Verdict.{request_judgement}
+use Rattle.rr_turns.specs.Judgement.{IsVerdict, Judgement, judgement_map, settled}
+use Rattle.rr_turns.proofs.JudgementLemmas.{is-map, is-settled}
 use Rattle.rr_code.specs.declared.command.Command.{Command}
 use Rattle.rr_code.specs.declared.command.Command.TheVariants.{Open}
 use Rattle.rr_turns.specs.declared.request.Request.{Request}
@@ -18,7 +20,7 @@ use Rattle.rr_code.specs.declared.query.Query.TheVariants as Q
 use Rattle.rr_store.specs.declared.fault.Fault as store
 use Rattle.rr_store.specs.declared.fault.Fault.TheVariants as T
 use Rattle.rr_store.specs.Fault.{CountsFailure, of_table}
-use Rattle.rr_store.specs.World.{TableState, World, opening_verdict, step_verdict, table_named, world_verdict}
+use Rattle.rr_store.specs.World.{TableState, World, opening_verdict, step_judgement, table_named, world_judgement}
 use Rattle.rr_serve.specs.Serving.{tells_failure}
 use Rattle.rr_moderator.specs.declared.fault.Fault.{Fault}
 use Rattle.rr_moderator.specs.declared.fault.Fault.TheVariants as F
@@ -117,25 +119,35 @@ table_calm (Some H.TurnNotKept) = (refl, refl, refl)
 table_calm (Some H.TooManyCommands) = (refl, refl, refl)
 table_calm (Some H.OutOfMemory) = (refl, refl, refl)
 
-step_calm : (kit : Kit) (t : Option TableState) (stamp : ℕ) (c : Request Command) → IsCalm (step_verdict kit t stamp c)
+settled_calm : (o verdict : Option store.Fault) → IsCalm o → IsVerdict (settled o) verdict → IsCalm verdict
+settled_calm o verdict h is = let P : Option store.Fault → Type 0 = IsCalm in subst P (sym (is-settled o verdict is)) h
+
+mapped_calm : (j : Judgement hist.Fault) (verdict : Option store.Fault) → IsVerdict (judgement_map of_table j) verdict → IsCalm verdict
+mapped_calm j verdict is =
+    let found = is-map of_table j verdict is in
+    let P : Option store.Fault → Type 0 = IsCalm in subst P (sym found.2) (table_calm found.0)
+
+lacking_calm : SaysNeither (refusal_of (of_store T.NoSuchTable))
 unfolding digits
-step_calm kit None stamp c = (refl, refl, refl)
-step_calm kit (Some t) stamp c = table_calm (request_verdict kit t stamp c)
+lacking_calm = (refl, refl, refl)
+
+step_calm : (kit : Kit) (t : Option TableState) (stamp : ℕ) (c : Request Command) (verdict : Option store.Fault) → IsVerdict (step_judgement kit t stamp c) verdict → IsCalm verdict
+step_calm kit None stamp c verdict is = settled_calm (Some T.NoSuchTable) verdict lacking_calm is
+step_calm kit (Some t) stamp c verdict is = mapped_calm (request_judgement kit t stamp c) verdict is
 
 opening_calm : (t : Option TableState) (n stamp : ℕ) → IsCalm (opening_verdict t n stamp)
 unfolding digits
 opening_calm (Some t) n stamp = (refl, refl, refl)
 opening_calm None n stamp = calm_if (not (stamp == 0)) _ _ (refl, refl, refl) (calm_if (nat_le 64 n) _ _ (refl, refl, refl) tt)
 
-pub world_calm : (kit : Kit) (t : Option TableState) (n stamp : ℕ) (c : Request Command) → IsCalm (world_verdict kit t n stamp c)
-unfolding digits
-world_calm kit t n stamp (Play (Open players)) = opening_calm t n stamp
-world_calm kit t n stamp c = step_calm kit t stamp c
+world_calm : (kit : Kit) (t : Option TableState) (n stamp : ℕ) (c : Request Command) (verdict : Option store.Fault) → IsVerdict (world_judgement kit t n stamp c) verdict → IsCalm verdict
+world_calm kit t n stamp (Play (Open players)) verdict is = settled_calm (opening_verdict t n stamp) verdict (opening_calm t n stamp) is
+world_calm kit t n stamp c verdict is = step_calm kit t stamp c verdict is
 
 -- no fault of a verdict says one of them
-pub verdict_calm : (kit : Kit) (t : Option TableState) (n stamp : ℕ) (c : Request Command) (fault : store.Fault) → world_verdict kit t n stamp c ≡ Some fault
+pub verdict_calm : (kit : Kit) (t : Option TableState) (n stamp : ℕ) (c : Request Command) (fault : store.Fault) → IsVerdict (world_judgement kit t n stamp c) (Some fault)
     → SaysNeither (refusal_of (of_store fault))
-verdict_calm kit t n stamp c fault is = let P : Option store.Fault → Type 0 = IsCalm in subst P is (world_calm kit t n stamp c)
+verdict_calm kit t n stamp c fault is = world_calm kit t n stamp c (Some fault) is
 
 -- nor does a reply to a query
 

@@ -5,7 +5,8 @@ use Rattle.rr_code.specs.declared.line.Line.TheVariants as L
 use Rattle.rr_code.specs.Line.{SpellsLine}
 use Rattle.rr_store.specs.declared.fault.Fault as store
 use Rattle.rr_store.specs.Held.{Held, Takes}
-use Rattle.rr_store.specs.World.{TableRequest, verdict_in}
+use Rattle.rr_store.specs.World.{TableRequest, judgement_in}
+use Rattle.rr_turns.specs.Judgement.{IsVerdict}
 use Rattle.rr_moderator.specs.declared.fault.Fault.{Fault}
 use Rattle.rr_moderator.specs.declared.fault.Fault.TheVariants as F
 use Rattle.rr_serve.specs.declared.faults.Fault as serve
@@ -46,7 +47,7 @@ pub record Gives (held : Held) (line : List ℕ) (r : TableRequest) : Type 0 whe
   pub short : length line ≤ 8000
   pub spelled : SpellsLine line (L.Request stamp r.name r.request)
   pub whole : held.broken ≡ false
-  pub lawful : verdict_in held.kit held.tables stamp r.name r.request ≡ None
+  pub lawful : IsVerdict (judgement_in held.kit held.tables stamp r.name r.request) None
 
 -- the line gives a lawful request
 abbrev pub MayAppend : Held → List ℕ → Type 0

@@ -8,6 +8,10 @@ mod dividends;
 #[cfg(test)]
 mod fixtures;
 #[cfg(test)]
+mod forced;
+#[cfg(test)]
+mod operate;
+#[cfg(test)]
 mod running;
 #[cfg(test)]
 mod sets;

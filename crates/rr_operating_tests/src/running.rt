@@ -3,7 +3,8 @@ use crate::fixtures::{ROSTER, position};
 use rr_books::{Corp, Entry, Kind, Place, Train};
 use rr_desk::Position;
 use rr_kit::Kit;
-use rr_running::{Fault, Sheet, judge_best_run, judge_run, kinds_held, net_now};
+use rr_running::{BestRun, Clause, Fault, judge_best_run, judge_run, kinds_held, net_now};
+use rr_sheets::{is_certificate, is_sheet};
 use rr_words::HexName;
 use std::alloc::Global;
 use std::process::Abort;
@@ -47,26 +48,21 @@ fn with_train(rt: &impl Abort, alloc: Global, kind: Kind) -> Position {
     table
 }
 
-fn sheet(rt: &impl Abort, alloc: Global, text: &[u8]) -> Sheet {
-    Sheet::read(alloc, text).expect(rt, "a sheet")
-}
-
 /// The revenue, or the fault's number.
-fn judged(rt: &impl Abort, alloc: Global, kind: Kind, text: &[u8]) -> Result<i64, u8> {
+fn judged(rt: &impl Abort, alloc: Global, kind: Kind, words: &[u8]) -> Result<i64, u8> {
     let table = with_train(rt, alloc, kind);
-    let sheet = sheet(rt, alloc, text);
-    match judge_run(alloc, &kit(rt, alloc), &table, Corp::Prr, &sheet) {
+    match judge_run(alloc, &kit(rt, alloc), &table, Corp::Prr, words) {
         Ok(revenue) => Ok(revenue.0),
         Err(fault) => Err(fault.number()),
     }
 }
 
 /// The same with a certificate.
-fn shown(rt: &impl Abort, alloc: Global, text: &[u8], certificate: &[u8]) -> Result<i64, u8> {
+fn shown(rt: &impl Abort, alloc: Global, words: &[u8], certificate: &[u8]) -> Result<i64, u8> {
     let table = with_train(rt, alloc, Kind::Two);
-    let sheet = sheet(rt, alloc, text);
     let kit = kit(rt, alloc);
-    match judge_best_run(alloc, &kit, &table, Corp::Prr, &sheet, certificate) {
+    let run = BestRun { words, certificate };
+    match judge_best_run(alloc, &kit, &table, Corp::Prr, &run) {
         Ok(revenue) => Ok(revenue.0),
         Err(fault) => Err(fault.number()),
     }
@@ -82,6 +78,34 @@ fn a_sheet_earns_its_revenue(rt: HostRuntime) {
         judged(&rt, alloc, Kind::Diesel, b"D=1-2-3-4-5-6-7"),
         Ok(100)
     );
+    assert_eq!(rt; judged(&rt, alloc, Kind::Two, b"2=-"), Ok(0));
+}
+
+#[test]
+fn words_that_spell_no_sheet_are_refused(rt: HostRuntime) {
+    let alloc = rt.alloc();
+    let words: [&[u8]; 6] = [b"2", b"2=", b"2=01-2", b" ", b"2=1-2-3 ", b"T=1"];
+    for words in words {
+        assert!(rt; !is_sheet(words));
+        assert_eq!(rt; judged(&rt, alloc, Kind::Two, words), Err(39));
+        assert_eq!(rt; shown(&rt, alloc, words, b"b"), Err(39));
+    }
+    let clause = Fault::IllegalSheet(Clause::WrongWord);
+    let table = with_train(&rt, alloc, Kind::Two);
+    let judged = judge_run(alloc, &kit(&rt, alloc), &table, Corp::Prr, b"2-1");
+    assert!(rt; judged == Err(clause) || judged == Err(Fault::OutOfMemory));
+}
+
+#[test]
+fn the_form_of_a_line_is_told_without_memory(rt: HostRuntime) {
+    assert!(rt; is_sheet(b""));
+    assert!(rt; is_sheet(b"2=1-2-3 D=- 6=9999999999"));
+    assert!(rt; !is_sheet(b"6=10000000000"));
+    assert!(rt; is_certificate(b""));
+    assert!(rt; is_certificate(b"f s5 x1 b"));
+    assert!(rt; is_certificate(b"s0"));
+    assert!(rt; !is_certificate(b"s"));
+    assert!(rt; !is_certificate(b"b  b"));
 }
 
 #[test]

@@ -1,22 +1,65 @@
--- Chains that are read one after another, up to the first that is broken.
-use Rattle.std.proofs.Common.{◌≡◌, ℕ, ◌+◌, ◌<◌, ◌≤◌, Bool, List, [], ◌∷◌, ◌++◌, length, take, drop, get_or, Some, Err, refl, sym, ap, ◌∙◌, subst}
-use Rattle.std.proofs.lemmas.List.{append_assoc, map-append, take-append-drop, take_more, drop_more, take_all}
+-- Chains that are followed one after another.
+use Rattle.std.proofs.Common.{◌≡◌, ℕ, ◌+◌, ◌<◌, ◌≤◌, Bool, List, [], ◌∷◌, ◌++◌, length, map, fold, take, get_or, Option, None, Some, Ok, Err, refl, sym, ap, ◌∙◌, subst, arith, length-append}
+use Rattle.std.proofs.lemmas.List.{map-append, take_more, take_all, length-map}
+use Rattle.std.proofs.lemmas.List.Sums.{fold-append}
+use Rattle.rr_dir.specs.declared.directory.ChainRef.{ChainRef}
+use Rattle.rr_dir.specs.declared.directory.KitChains.{KitChains}
 use Rattle.rr_dir.specs.declared.directory.TableEntry.{TableEntry}
-use Rattle.rr_dir.specs.Heads.{head_of}
-use Rattle.rr_pages.specs.declared.reading.ReadChain.{ReadChain}
+use Rattle.rr_dir.specs.Heads.{head_of, heads_of}
 use Rattle.rr_images.specs.Following.{AllRead}
 use Rattle.rr_images.specs.Holding.{HeldChain}
 use Rattle.rr_pages.specs.declared.fault.Damage.{Damage as PageDamage}
 use Rattle.rr_pages.specs.declared.fault.Fault.{Fault as PageFault}
 use Rattle.rr_pages.specs.declared.fault.Fault.TheVariants as pages
+use Rattle.rr_pages.specs.declared.reading.ReadChain.{ReadChain}
 use Rattle.rr_pages.specs.Reading.{Reads}
-use Rattle.rr_reading.specs.declared.fault.Damage.TheVariants.{Pages, DirectoryForm, TableForm}
+use Rattle.rr_pages.specs.Sets.{all_marked}
+use Rattle.rr_pages.specs.Walk.{Walk}
+use Rattle.rr_pages.proofs.Walks.{walk_only}
+use Rattle.rr_reading.specs.declared.chains.Followed.{Followed}
+use Rattle.rr_reading.specs.declared.chains.Followed.TheVariants.{Whole, Broken}
 use Rattle.rr_reading.specs.declared.fault.Fault.{Fault}
-use Rattle.rr_reading.specs.declared.fault.Fault.TheVariants.{Damaged, NotAStore, Disk, OutOfMemory}
-use Rattle.rr_reading.specs.Faults.{of_pages}
-use Rattle.rr_reading.specs.Chains.{table_heads, held, all_held, FirstBroken, IsToldBroken}
+use Rattle.rr_reading.specs.declared.fault.Fault.TheVariants as F
+use Rattle.rr_reading.specs.Chains.{held, all_held, FoundChain, AllFollowed, damage_in, lower_of, least_in, IsFollowed, damage_told, read_of, AreRead}
+use Rattle.rr_reading.specs.Faults.{of_page, IsNoVerdict}
+use Rattle.rr_reading.specs.Told.{told_broken, told_least, IsToldBroken}
+use Rattle.rr_reading.proofs.Least.{AllRight, walk_right}
 
 module _ (file : List ℕ) (count : ℕ) where
+  -- one chain that was followed, and the least clause that it breaks
+  pub record OneFollowed (before : List Bool) (head : ℕ × ℕ) (after : List Bool) (told : Option PageDamage) : Type 0 where
+    pub chain : FoundChain
+    pub stated : chain.stated ≡ Some head.1
+    pub walk : Walk file count before head.0 chain.pages chain.end
+    pub marks : after ≡ all_marked before chain.pages
+    pub damage : damage_in file chain ≡ told
+
+  followed_one : (before : List Bool) (head : ℕ × ℕ) (after : List Bool) (followed : Followed) → IsFollowed file count before head after followed → OneFollowed before head after (damage_told followed)
+  followed_one before head after (Whole read) is =
+      record { chain = record { pages = read.pages.items; end = None; stated = Some head.1 }; stated = refl; walk = is.walk; marks = is.marks; damage = is.unbroken }
+  followed_one before head after (Broken damage) is =
+      record { chain = record { pages = is.pages; end = is.end; stated = Some head.1 }; stated = refl; walk = is.walk; marks = is.marks; damage = is.broken }
+
+  -- one more behind others
+  followed_more : (before between after : List Bool) (heads : List (ℕ × ℕ)) (head : ℕ × ℕ) (told : Option PageDamage) (found : List FoundChain) → AllFollowed file count before heads between found → (one : OneFollowed between head after told)
+      → AllFollowed file count before (heads ++ head ∷ []) after (found ++ one.chain ∷ [])
+  followed_more before between after [] head told found first one = (
+    one.chain,
+    [],
+    ap (λ (fs : List FoundChain). fs ++ one.chain ∷ []) first.1,
+    one.stated,
+    subst (λ (marks : List Bool). Walk file count marks head.0 one.chain.pages one.chain.end) first.0 one.walk,
+    (one.marks ∙ ap (λ (marks : List Bool). all_marked marks one.chain.pages) first.0, refl),
+  )
+  followed_more before between after (next ∷ heads) head told found first one = (
+    first.0,
+    first.1 ++ one.chain ∷ [],
+    ap (λ (fs : List FoundChain). fs ++ one.chain ∷ []) first.2,
+    first.3,
+    first.4,
+    followed_more (all_marked before first.0.pages) between after heads head told first.1 first.5 one,
+  )
+
   pub read_on : (before between after : List Bool) (front back : List (ℕ × ℕ)) (chains more : List HeldChain) → AllRead file count before front between chains → AllRead file count between back after more → AllRead file count before (front ++ back) after (chains ++ more)
   read_on before between after [] back chains more first then =
       subst (λ (cs : List HeldChain). AllRead file count before back after (cs ++ more)) (sym first.1) (subst (λ (marks : List Bool). AllRead file count marks back after more) first.0 then)
@@ -29,109 +72,138 @@ module _ (file : List ℕ) (count : ℕ) where
     read_on first.2 between after front back first.1 more first.5 then,
   )
 
-  broken_front : (before : List Bool) (heads more : List (ℕ × ℕ)) (damage : PageDamage) → FirstBroken file count before heads damage → FirstBroken file count before (heads ++ more) damage
-  broken_front before heads more damage told =
+  whole_more : (before between after : List Bool) (heads : List (ℕ × ℕ)) (head : ℕ × ℕ) (least : Option PageDamage) (chains : List HeldChain) (followed : Followed) → (least ≡ None → AllRead file count before heads between chains)
+      → IsFollowed file count between head after followed → lower_of least (damage_told followed) ≡ None → AllRead file count before (heads ++ head ∷ []) after (chains ++ all_held (read_of followed))
+  whole_more before between after heads head None chains (Whole read) whole is none =
+      read_on before between after heads (head ∷ []) chains (held read ∷ []) (whole refl) (held read, [], after, refl, is, (refl, refl))
+  whole_more before between after heads head None chains (Broken damage) whole is none = absurd (cc)
+  whole_more before between after heads head (Some least) chains (Whole read) whole is none = absurd (cc)
+  whole_more before between after heads head (Some least) chains (Broken damage) whole is none = absurd (cc)
+
+  pub are_read_none : (before : List Bool) → AreRead file count before [] before None []
+  are_read_none before = record { found = []; followed = (refl, refl); is_least = refl; whole = λ none. (refl, refl) }
+
+  are_read_more : (before between after : List Bool) (heads : List (ℕ × ℕ)) (head : ℕ × ℕ) (least : Option PageDamage) (chains : List HeldChain) (followed : Followed) → AreRead file count before heads between least chains
+      → IsFollowed file count between head after followed → AreRead file count before (heads ++ head ∷ []) after (lower_of least (damage_told followed)) (chains ++ all_held (read_of followed))
+  are_read_more before between after heads head least chains followed read is =
+      let one = followed_one between head after followed is in
       record {
-        front = told.front;
-        head = told.head;
-        back = told.back ++ more;
-        in_order = ap (λ (hs : List (ℕ × ℕ)). hs ++ more) told.in_order ∙ append_assoc told.front (told.head ∷ told.back) more;
-        between = told.between;
-        chains = told.chains;
-        whole = told.whole;
-        after = told.after;
-        broken = told.broken;
+        found = read.found ++ one.chain ∷ [];
+        followed = followed_more before between after heads head (damage_told followed) read.found read.followed one;
+        is_least = (λ i. lower_of (read.is_least i) (sym one.damage i)) ∙ sym (fold-append (λ (told : Option PageDamage) (chain : FoundChain). lower_of told (damage_in file chain)) None read.found (one.chain ∷ []));
+        whole = whole_more before between after heads head least chains followed read.whole is;
       }
 
-  broken_behind : (before between : List Bool) (front heads : List (ℕ × ℕ)) (chains : List HeldChain) (damage : PageDamage) → AllRead file count before front between chains → FirstBroken file count between heads damage → FirstBroken file count before (front ++ heads) damage
-  broken_behind before between front heads chains damage read told =
+  -- chains that are whole were followed, and none of them breaks a clause
+  pub record FollowedWhole (before : List Bool) (heads : List (ℕ × ℕ)) (after : List Bool) : Type 0 where
+    pub found : List FoundChain
+    pub followed : AllFollowed file count before heads after found
+    pub unbroken : least_in file found ≡ None
+
+  pub read_followed : (before : List Bool) (heads : List (ℕ × ℕ)) (after : List Bool) (chains : List HeldChain) → AllRead file count before heads after chains → FollowedWhole before heads after
+  read_followed before [] after chains read = record { found = []; followed = (read.0, refl); unbroken = refl }
+  read_followed before (head ∷ heads) after chains read =
+      let rest = read_followed read.2 heads after read.1 read.5 in
+      let chain : FoundChain = record { pages = read.0.pages; end = None; stated = Some head.1 } in
       record {
-        front = front ++ told.front;
-        head = told.head;
-        back = told.back;
-        in_order = ap (λ (hs : List (ℕ × ℕ)). front ++ hs) told.in_order ∙ sym (append_assoc front told.front (told.head ∷ told.back));
-        between = told.between;
-        chains = chains ++ told.chains;
-        whole = read_on before between told.between front told.front chains told.chains read told.whole;
-        after = told.after;
-        broken = told.broken;
+        found = chain ∷ rest.found;
+        followed = (chain, rest.found, refl, refl, read.4.walk, subst (λ (marks : List Bool). AllFollowed file count marks heads after rest.found) read.4.marks rest.followed);
+        unbroken = ap (λ (told : Option PageDamage). fold (λ least other. lower_of least (damage_in file other)) told rest.found) read.4.unbroken ∙ rest.unbroken;
       }
 
-  -- the same of any fault
-  pub told_front : (before : List Bool) (heads more : List (ℕ × ℕ)) (fault : Fault) → IsToldBroken file count before heads fault → IsToldBroken file count before (heads ++ more) fault
-  told_front before heads more (Damaged (Pages damage)) told = broken_front before heads more damage told
-  told_front before heads more (Damaged DirectoryForm) told = told
-  told_front before heads more (Damaged TableForm) told = told
-  told_front before heads more NotAStore told = told
-  told_front before heads more (Disk fault) told = tt
-  told_front before heads more OutOfMemory told = tt
+  pub all_right : (before : List Bool) (heads : List (ℕ × ℕ)) (after : List Bool) (found : List FoundChain) → AllFollowed file count before heads after found → AllRight file found
+  all_right before [] after found followed = subst (λ (fs : List FoundChain). AllRight file fs) (sym followed.1) tt
+  all_right before (head ∷ heads) after found followed =
+      subst (λ (fs : List FoundChain). AllRight file fs) (sym followed.2)
+      (walk_right file count before head.0 followed.0.pages followed.0.end followed.4, all_right (all_marked before followed.0.pages) heads after followed.1 followed.5)
 
-  pub told_behind : (before between : List Bool) (front heads : List (ℕ × ℕ)) (chains : List HeldChain) (fault : Fault) → AllRead file count before front between chains → IsToldBroken file count between heads fault → IsToldBroken file count before (front ++ heads) fault
-  told_behind before between front heads chains (Damaged (Pages damage)) read told = broken_behind before between front heads chains damage read told
-  told_behind before between front heads chains (Damaged DirectoryForm) read told = told
-  told_behind before between front heads chains (Damaged TableForm) read told = told
-  told_behind before between front heads chains NotAStore read told = told
-  told_behind before between front heads chains (Disk fault) read told = tt
-  told_behind before between front heads chains OutOfMemory read told = tt
+  -- there is one way to follow them
+  pub one_followed : (heads : List (ℕ × ℕ)) (before after others : List Bool) (found more : List FoundChain) → AllFollowed file count before heads after found → AllFollowed file count before heads others more → found ≡ more
+  one_followed [] before after others found more a b = a.1 ∙ sym b.1
+  one_followed (head ∷ heads) before after others found more a b =
+      let only = walk_only file count before head.0 a.0.pages b.0.pages a.0.end b.0.end a.4 b.4 in
+      let stated : a.0.stated ≡ b.0.stated = a.3 ∙ sym b.3 in
+      let there : AllFollowed file count (all_marked before a.0.pages) heads others b.1 = subst (λ (ps : List ℕ). AllFollowed file count (all_marked before ps) heads others b.1) (sym only.0) b.5 in
+      let rest = one_followed heads (all_marked before a.0.pages) after others a.1 b.1 a.5 there in
+      let joined : (a.0 ∷ a.1) ≡ (b.0 ∷ b.1) = λ i. record { pages = only.0 i; end = only.1 i; stated = stated i } ∷ rest i in
+      a.2 ∙ (joined ∙ sym b.2)
 
-  -- one chain
-  pub chain_told : (before after : List Bool) (head stated : ℕ) (fault : PageFault) → Reads file count before head (Some stated) after (Err fault) → IsToldBroken file count before ((head, stated) ∷ []) (of_pages fault)
-  chain_told before after head stated pages.FileFull read = tt
-  chain_told before after head stated (pages.Damaged damage) read =
-      record {
-        front = [];
-        head = (head, stated);
-        back = [];
-        in_order = refl;
-        between = before;
-        chains = [];
-        whole = (refl, refl);
-        after = after;
-        broken = read;
-      }
-  chain_told before after head stated pages.NotAStore read = absurd read
-  chain_told before after head stated (pages.Disk fault) read = tt
-  chain_told before after head stated pages.OutOfMemory read = tt
+-- what a call reads of a chain
+pub call_followed : (file : List ℕ) (count : ℕ) (before after : List Bool) (head stated : ℕ) (fault : PageFault) (followed : Followed) → Reads file count before head (Some stated) after (Err fault) → told_broken fault ≡ Ok followed
+    → IsFollowed file count before (head, stated) after followed
+call_followed file count before after head stated pages.FileFull followed read is = absurd read
+call_followed file count before after head stated (pages.Damaged damage) followed read is =
+    let same : Broken damage ≡ followed = cc in
+    subst (λ (f : Followed). IsFollowed file count before (head, stated) after f) same read
+call_followed file count before after head stated pages.NotAStore followed read is = absurd read
+call_followed file count before after head stated (pages.Disk fault) followed read is = absurd (cc)
+call_followed file count before after head stated pages.OutOfMemory followed read is = absurd (cc)
 
--- what a disk has later is what it had
-pub read_later : (file now : List ℕ) (count : ℕ) (before between after : List Bool) (front back : List (ℕ × ℕ)) (chains more : List HeldChain) → now ≡ file → AllRead file count before front between chains → AllRead now count between back after more
-    → AllRead file count before (front ++ back) after (chains ++ more)
-read_later file now count before between after front back chains more same read then =
-    read_on file count before between after front back chains more read (subst (λ (f : List ℕ). AllRead f count between back after more) same then)
+pub call_no_verdict : (file : List ℕ) (count : ℕ) (before after : List Bool) (head stated : ℕ) (fault : PageFault) (told : Fault) → Reads file count before head (Some stated) after (Err fault) → told_broken fault ≡ Err told → IsNoVerdict told
+call_no_verdict file count before after head stated pages.FileFull told read is = absurd read
+call_no_verdict file count before after head stated (pages.Damaged damage) told read is = absurd (cc)
+call_no_verdict file count before after head stated pages.NotAStore told read is = absurd read
+call_no_verdict file count before after head stated (pages.Disk fault) told read is = let same : F.Disk fault ≡ told = cc in subst IsNoVerdict same tt
+call_no_verdict file count before after head stated pages.OutOfMemory told read is = let same : F.OutOfMemory ≡ told = cc in subst IsNoVerdict same tt
 
-pub told_later : (file now : List ℕ) (count : ℕ) (before between : List Bool) (front heads more : List (ℕ × ℕ)) (chains : List HeldChain) (fault : Fault) → now ≡ file → AllRead file count before front between chains → IsToldBroken now count between heads fault
-    → IsToldBroken file count before (front ++ (heads ++ more)) fault
-told_later file now count before between front heads more chains fault same read told =
-    told_behind file count before between front (heads ++ more) chains fault read (told_front file count between heads more fault (subst (λ (f : List ℕ). IsToldBroken f count between heads fault) same told))
+-- a chain more, of a disk that has later what it had
+pub call_more : (file now : List ℕ) (count : ℕ) (before between after : List Bool) (heads more : List (ℕ × ℕ)) (head : ℕ × ℕ) (least new : Option PageDamage) (chains grown : List ReadChain) (followed : Followed) → now ≡ file → more ≡ heads ++ head ∷ []
+    → AreRead file count before heads between least (all_held chains) → IsFollowed now count between head after followed → grown ≡ chains ++ read_of followed → new ≡ lower_of least (damage_told followed)
+    → AreRead file count before more after new (all_held grown)
+call_more file now count before between after heads more head least new chains grown followed same heads_are read is grown_is new_is =
+    let there : IsFollowed file count between head after followed = subst (λ (f : List ℕ). IsFollowed f count between head after followed) same is in
+    let all = are_read_more file count before between after heads head least (all_held chains) followed read there in
+    subst (λ (hs : List (ℕ × ℕ)). AreRead file count before hs after new (all_held grown)) (sym heads_are)
+    (subst (λ (told : Option PageDamage). AreRead file count before (heads ++ head ∷ []) after told (all_held grown)) (sym new_is)
+    (subst (λ (cs : List HeldChain). AreRead file count before (heads ++ head ∷ []) after (lower_of least (damage_told followed)) cs) (sym (ap all_held grown_is ∙ map-append held chains (read_of followed))) all))
 
--- the chains of the first tables, and the next one
-module _ (entries : List TableEntry) (n : ℕ) (entry : TableEntry) (within : n < length entries) (is : entry ≡ get_or entries n entry) where
-  heads_more : table_heads (take (n + 1) entries) ≡ table_heads (take n entries) ++ head_of entry.chain ∷ []
-  heads_more =
-      ap table_heads (take_more entries n entry within) ∙ (map-append (λ (table : TableEntry). head_of table.chain) (take n entries) (get_or entries n entry ∷ [])
-      ∙ ap (λ (e : TableEntry). table_heads (take n entries) ++ head_of e.chain ∷ []) (sym is))
+-- how many were read while none is broken
+pub each_more : (least new : Option PageDamage) (n : ℕ) (chains grown : List ReadChain) (followed : Followed) → (least ≡ None → length chains ≡ n) → grown ≡ chains ++ read_of followed → new ≡ lower_of least (damage_told followed) → new ≡ None → length grown ≡ n + 1
+each_more None new n chains grown (Whole read) each grown_is new_is none = omega (arith, ap (λ (cs : List ReadChain). length cs) grown_is, length-append chains (read ∷ []), each refl)
+each_more None new n chains grown (Broken damage) each grown_is new_is none = absurd (cc)
+each_more (Some least) new n chains grown (Whole read) each grown_is new_is none = absurd (cc)
+each_more (Some least) new n chains grown (Broken damage) each grown_is new_is none = absurd (cc)
 
-  heads_split : table_heads (take n entries) ++ (head_of entry.chain ∷ [] ++ table_heads (drop (n + 1) entries)) ≡ table_heads entries
-  heads_split =
-      ap (λ (e : TableEntry). table_heads (take n entries) ++ (head_of e.chain ∷ table_heads (drop (n + 1) entries))) is
-      ∙ (sym (map-append (λ (table : TableEntry). head_of table.chain) (take n entries) (get_or entries n entry ∷ drop (n + 1) entries))
-      ∙ (ap (λ (es : List TableEntry). table_heads (take n entries ++ es)) (sym (drop_more entries n entry within)) ∙ ap table_heads (take-append-drop n entries)))
+-- what comes of the least clause
+pub least_told : {T : Type 0} → (file : List ℕ) (count : ℕ) (before after : List Bool) (heads : List (ℕ × ℕ)) (chains : List HeldChain) (least : Option PageDamage) (given : T) (fault : Fault) → AreRead file count before heads after least chains
+    → told_least least given ≡ Err fault → IsToldBroken file count before heads fault
+least_told file count before after heads chains None given fault read is = absurd (cc)
+least_told file count before after heads chains (Some least) given fault read is =
+    let same : F.Damaged (of_page least) ≡ fault = cc in
+    subst (λ (f : Fault). IsToldBroken file count before heads f) same
+    (least, refl, record { after = after; found = read.found; followed = read.followed; is_least = sym read.is_least })
 
-  module _ (file now : List ℕ) (count : ℕ) (before between after : List Bool) (tables : List ReadChain) (same : now ≡ file) (read : AllRead file count before (table_heads (take n entries)) between (all_held tables)) where
-    pub table_read : (grown : List ReadChain) (table : ReadChain) → grown ≡ tables ++ table ∷ [] → AllRead now count between (head_of entry.chain ∷ []) after (held table ∷ [])
-        → AllRead file count before (table_heads (take (n + 1) entries)) after (all_held grown)
-    table_read grown table push then =
-        let more : all_held grown ≡ all_held tables ++ held table ∷ [] = ap all_held push ∙ map-append held tables (table ∷ []) in
-        subst (λ (hs : List (ℕ × ℕ)). AllRead file count before hs after (all_held grown)) (sym heads_more)
-        (subst (λ (cs : List HeldChain). AllRead file count before (table_heads (take n entries) ++ head_of entry.chain ∷ []) after cs) (sym more)
-        (read_later file now count before between after (table_heads (take n entries)) (head_of entry.chain ∷ []) (all_held tables) (held table ∷ []) same read then))
+-- the heads of the first chains, and of the next one
+pub heads_more : (chains : List ChainRef) (n : ℕ) (default : ChainRef) → n < length chains → map head_of (take (n + 1) chains) ≡ map head_of (take n chains) ++ head_of (get_or chains n default) ∷ []
+heads_more chains n default within = ap (λ (cs : List ChainRef). map head_of cs) (take_more chains n default within) ∙ map-append head_of (take n chains) (get_or chains n default ∷ [])
 
-    pub table_told : (fault : Fault) → IsToldBroken now count between (head_of entry.chain ∷ []) fault → IsToldBroken file count before (table_heads entries) fault
-    table_told fault told =
-        subst (λ (hs : List (ℕ × ℕ)). IsToldBroken file count before hs fault) heads_split
-        (told_later file now count before between (table_heads (take n entries)) (head_of entry.chain ∷ []) (table_heads (drop (n + 1) entries)) (all_held tables) fault same read told)
+pub all_heads : (file : List ℕ) (count : ℕ) (before after : List Bool) (chains : List ChainRef) (n : ℕ) (least : Option PageDamage) (read : List HeldChain) → length chains ≤ n → AreRead file count before (map head_of (take n chains)) after least read
+    → AreRead file count before (map head_of chains) after least read
+all_heads file count before after chains n least read past are = subst (λ (cs : List ChainRef). AreRead file count before (map head_of cs) after least read) (take_all n chains past) are
 
-pub tables_read : (file : List ℕ) (count n : ℕ) (before after : List Bool) (entries : List TableEntry) (tables : List ReadChain) → length entries ≤ n → AllRead file count before (table_heads (take n entries)) after (all_held tables)
-    → AllRead file count before (table_heads entries) after (all_held tables)
-tables_read file count n before after entries tables past read =
-    subst (λ (es : List TableEntry). AllRead file count before (table_heads es) after (all_held tables)) (take_all n entries past) read
+-- the chains of tables
+pub tables_heads : (tables : List TableEntry) → map head_of (map (λ (table : TableEntry). table.chain) tables) ≡ map (λ (table : TableEntry). head_of table.chain) tables
+tables_heads [] = refl
+tables_heads (table ∷ tables) = ap (λ (hs : List (ℕ × ℕ)). head_of table.chain ∷ hs) (tables_heads tables)
+
+abbrev pub named_by : KitChains → List TableEntry → List ChainRef
+named_by kit tables = kit.chart ∷ kit.roster ∷ kit.tiles ∷ kit.board ∷ map (λ (table : TableEntry). table.chain) tables
+
+pub named_heads : (kit : KitChains) (tables : List TableEntry) (chains : List ChainRef) (n : ℕ) → chains ≡ named_by kit (take n tables) → length tables ≤ n → map head_of chains ≡ heads_of (record { kit = kit; tables = tables })
+named_heads kit tables chains n is past =
+    ap (λ (cs : List ChainRef). map head_of cs) (is ∙ ap (named_by kit) (take_all n tables past))
+    ∙ ap (λ (hs : List (ℕ × ℕ)). head_of kit.chart ∷ head_of kit.roster ∷ head_of kit.tiles ∷ head_of kit.board ∷ hs) (tables_heads tables)
+
+pub named_each : (kit : KitChains) (tables : List TableEntry) (chains : List ChainRef) (n : ℕ) → chains ≡ named_by kit (take n tables) → length tables ≤ n → length chains ≡ length tables + 4
+named_each kit tables chains n is past =
+    let all : chains ≡ named_by kit tables = is ∙ ap (named_by kit) (take_all n tables past) in
+    omega (arith, ap (λ (cs : List ChainRef). length cs) all, length-map tables (λ (table : TableEntry). table.chain))
+
+pub named_more : (kit : KitChains) (tables : List TableEntry) (chains grown : List ChainRef) (n : ℕ) (table : TableEntry) → chains ≡ named_by kit (take n tables) → grown ≡ chains ++ table.chain ∷ [] → n < length tables → table ≡ get_or tables n table
+    → grown ≡ named_by kit (take (n + 1) tables)
+named_more kit tables chains grown n table is pushed within item =
+    let more : map (λ (t : TableEntry). t.chain) (take (n + 1) tables) ≡ map (λ (t : TableEntry). t.chain) (take n tables) ++ table.chain ∷ [] =
+    ap (λ (ts : List TableEntry). map (λ (t : TableEntry). t.chain) ts) (take_more tables n table within)
+    ∙ (map-append (λ (t : TableEntry). t.chain) (take n tables) (get_or tables n table ∷ [])
+    ∙ ap (λ (t : TableEntry). map (λ (u : TableEntry). u.chain) (take n tables) ++ t.chain ∷ []) (sym item)) in
+    pushed ∙ (ap (λ (cs : List ChainRef). cs ++ table.chain ∷ []) is ∙ ap (λ (cs : List ChainRef). kit.chart ∷ kit.roster ∷ kit.tiles ∷ kit.board ∷ cs) (sym more))

@@ -1,6 +1,8 @@
+pub mod Versions
+pub mod Least
 pub mod ChainLemmas
-pub mod Told
 pub mod FormLemmas
-pub mod Whole
 pub mod OneAnswer
+pub mod Told
+pub mod FirstBroken
 pub mod Standing

@@ -1,19 +1,26 @@
 -- What a file holds, in the words of its images.
-use Rattle.std.proofs.Common.{◌≢◌, ℕ, List, ◌++◌, refl, subst}
+use Rattle.std.proofs.Common.{◌≡◌, ◌≢◌, inl, inr, ℕ, List, ◌++◌, Option, Some, refl, subst}
 use Rattle.rr_dir.specs.Directory.{Directory}
 use Rattle.rr_dir.specs.Heads.{Heads, heads_of}
 use Rattle.rr_images.specs.Codec.{Codec, Replays}
 use Rattle.rr_images.specs.Following.{IsRead, Of_directory, Of_chain}
 use Rattle.rr_images.specs.Holding.{texts_of}
 use Rattle.rr_images.specs.Layout.{Stands}
-use Rattle.rr_images.specs.Refusing.{IsRefused, Bad_field, Broken_chain, No_form}
+use Rattle.rr_images.specs.Refusing.{IsRefused, Bad_field, Broken_chain, No_form, Nothing_spelled}
 use Rattle.rr_images.proofs.Following.{read_is_spelled}
 use Rattle.rr_journal.specs.declared.reading.RunEnd.TheVariants as ends
+use Rattle.rr_pages.specs.declared.fault.Damage.{Damage as PageDamage}
+use Rattle.rr_pages.specs.Sets.{all_marked}
+use Rattle.rr_pages.specs.Walk.{damage_of}
 use Rattle.rr_reading.specs.declared.fault.Damage.{Damage}
-use Rattle.rr_reading.specs.declared.fault.Damage.TheVariants.{TableForm}
+use Rattle.rr_reading.specs.declared.fault.Damage.TheVariants.{RootField, PageOutside, PageTwice, UsedBytes, Form}
+use Rattle.rr_reading.specs.Chains.{FoundChain, HasOne, LeadsOutside, ReachesTwice, IsOverfull, HasOtherLength, damage_in}
 use Rattle.rr_reading.specs.Held.{Held, chains_of, holding_of}
-use Rattle.rr_reading.specs.Laws.{NamesChains}
-use Rattle.rr_reading.specs.Reading.{IsDirectory, Holds, IsDamaged, In_root, In_directory, In_form, In_chain, In_table}
+use Rattle.rr_reading.specs.Laws.{NamesChains, SpellsForms}
+use Rattle.rr_reading.specs.Reading.{IsDirectory, Holds, AreFound, Directory_alone, With_named, HasFound, HasBadTable, IsOfNoForm, Of_directory as Of_directory_form, Of_length, Of_table, Breaks, IsDamage}
+use Rattle.rr_reading.proofs.FirstBroken.{damage_told, first_broken}
+use Rattle.rr_reading.proofs.Least.{IsAtMost, EndsRight, outside_low, twice_low, overfull_low, length_low, one_more}
+use Rattle.rr_reading.proofs.Told.{found_right}
 
 -- a directory names its chains
 named_chains : (number : ℕ) (bytes : List ℕ) (directory : Directory) → IsDirectory number bytes directory → Heads number bytes (heads_of directory)
@@ -58,11 +65,35 @@ module _ (codec : Codec) (names : NamesChains codec) (file : List ℕ) where
         replayed = replayed;
       }
 
-  pub damaged_refused : (damage : Damage) → damage ≢ TableForm → IsDamaged file damage → IsRefused codec file
-  damaged_refused damage other (In_root is store bad) = Bad_field bad
-  damaged_refused damage other (In_directory side root of_chain is taken breaking) =
-      Broken_chain side root taken.0 of_chain taken.1 (Of_directory breaking.before breaking.after breaking.none.empty breaking.none.whole breaking.broken)
-  damaged_refused damage other (In_form side root reached chain is taken read none) =
+  -- a broken chain of those that can be found: the directory's, or the first one of those that it names
+  chain_refused : (found : List FoundChain) (n : ℕ) → AreFound file found → HasOne (λ chain. IsAtMost (damage_in file chain) n) found → IsRefused codec file
+  chain_refused found n (Directory_alone side root chain is taken follows none) one = elim (subst (λ (fs : List FoundChain). HasOne (λ c. IsAtMost (damage_in file c) n) fs) is one) [
+    | inl here ↦
+        let told = damage_told (damage_in file chain) n here in
+        Broken_chain side root taken.0 told.0 taken.1 (Of_directory follows.before (all_marked follows.before chain.pages) follows.none.empty follows.none.whole (record {
+          pages = chain.pages;
+          end = chain.end;
+          walk = follows.walk;
+          broken = subst (λ (stated : Option ℕ). damage_of file chain.pages chain.end stated ≡ Some told.0) follows.unstated told.1;
+          marks = refl;
+        }))
+    | inr there ↦ absurd there
+  ]
+  chain_refused found n (With_named side root reached after chain directory named is has followed) one = elim (subst (λ (fs : List FoundChain). HasOne (λ c. IsAtMost (damage_in file c) n) fs) is one) [
+    | inl here ↦ absurd (subst (λ (told : Option PageDamage). IsAtMost told n) has.read.whole.unbroken here)
+    | inr there ↦
+        let first = first_broken file root.pages (has.taken.1.sound.within) reached (heads_of directory) after named n followed there in
+        let names_them = (names root.version chain.text (heads_of directory)).1 (named_chains root.version chain.text directory has.form) in
+        Broken_chain side root has.taken.0 first.damage has.taken.1
+        (Of_chain has.read.before reached first.between first.beyond chain first.chains first.front first.back first.head has.read.none.empty has.read.none.whole has.read.whole
+        (subst (λ (heads : List (ℕ × ℕ)). codec.Heads root.version chain.text heads) first.in_order names_them) first.whole first.broken)
+  ]
+
+  one_refused : (P : FoundChain → Type 0) (n : ℕ) → ((chain : FoundChain) → EndsRight file chain.end → P chain → IsAtMost (damage_in file chain) n) → HasFound file P → IsRefused codec file
+  one_refused P n low has = chain_refused has.0 n has.1 (one_more file P (λ chain. IsAtMost (damage_in file chain) n) has.0 low (found_right file has.0 has.1) has.2)
+
+  form_refused : IsOfNoForm file → (HasBadTable file → IsRefused codec file) → IsRefused codec file
+  form_refused (Of_directory_form side root reached chain taken read none) bad =
       No_form side root taken.0 taken.1 (record {
         none_reached = read.before;
         empty = read.none.empty;
@@ -74,9 +105,34 @@ module _ (codec : Codec) (names : NamesChains codec) (file : List ℕ) where
             let here = (names root.version chain.text heads).0 named in
             none here.directory (record { version = here.version; numbered = here.numbered; spelled = here.spelled });
       })
-  damaged_refused damage other (In_chain side root reached chain directory of_chain is has first) =
-      let named = (names root.version chain.text (heads_of directory)).1 (named_chains root.version chain.text directory has.form) in
-      Broken_chain side root has.taken.0 of_chain has.taken.1
-      (Of_chain has.read.before reached first.between first.after chain first.chains first.front first.back first.head has.read.none.empty has.read.none.whole has.read.whole
-      (subst (λ (heads : List (ℕ × ℕ)). codec.Heads root.version chain.text heads) first.in_order named) first.whole first.broken)
-  damaged_refused damage other (In_table side root reached after chain directory texts tables is has read none) = absurd (other is)
+  form_refused (Of_length other) bad = one_refused (HasOtherLength file) 5 (λ chain right is. length_low file chain is) other
+  form_refused (Of_table table) bad = bad table
+
+  refused : (damage : Damage) → Breaks file damage → (HasBadTable file → IsRefused codec file) → IsRefused codec file
+  refused RootField broken bad = Bad_field broken
+  refused PageOutside broken bad = one_refused LeadsOutside 2 (λ chain right is. outside_low file chain is) broken
+  refused PageTwice broken bad = one_refused ReachesTwice 3 (λ chain right is. twice_low file chain is) broken
+  refused UsedBytes broken bad = one_refused (IsOverfull file) 4 (overfull_low file) broken
+  refused Form broken bad = form_refused broken bad
+
+  pub damaged_refused : (damage : Damage) → IsDamage file damage → (HasBadTable file → ⊥) → IsRefused codec file
+  damaged_refused damage damaged none = refused damage damaged.broken (λ bad. absurd (none bad))
+
+  pub all_refused : SpellsForms codec → (damage : Damage) → IsDamage file damage → IsRefused codec file
+  all_refused forms damage damaged = refused damage damaged.broken (λ bad.
+      let has = bad.has_directory in
+      Nothing_spelled bad.side bad.root has.taken.0 has.taken.1 (record {
+        holding = record { directory = bad.chain; chains = chains_of bad.texts bad.tables };
+        after = bad.reached;
+        read = record {
+          none_reached = has.read.before;
+          empty = has.read.none.empty;
+          marks = has.read.none.whole;
+          of_directory = bad.of_directory;
+          directory = has.read.whole;
+          heads = heads_of bad.directory;
+          named = (names bad.root.version bad.chain.text (heads_of bad.directory)).1 (named_chains bad.root.version bad.chain.text bad.directory has.form);
+          chains = bad.whole;
+        };
+        nothing = λ world spells. bad.formless (forms bad.root.version bad.chain.text bad.directory bad.texts bad.tables world has.form spells);
+      }))

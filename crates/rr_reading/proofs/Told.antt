@@ -1,62 +1,308 @@
--- What is told of the root and of its directory is so.
-use Rattle.std.proofs.Common.{◌≡◌, ◌≢◌, ℕ, ◌≤◌, Bool, List, Option, None, Some, MatchOption, Err, refl, sym, ap, subst}
+-- What is told of a file is its least damage.
+use Rattle.std.proofs.Common.{◌≡◌, inl, ℕ, ◌≤◌, Bool, List, [], ◌∷◌, fold, Option, None, Some, Err, refl, sym, ap, ◌∙◌, subst, arith}
 use Rattle.rr_dir.specs.Directory.{Directory, Spells}
-use Rattle.rr_dir.specs.Version.{version_number}
+use Rattle.rr_dir.specs.Heads.{heads_of}
 use Rattle.rr_dir.specs.declared.fault.Fault.{Fault as FormFault}
 use Rattle.rr_dir.specs.declared.fault.Fault.TheVariants as form
 use Rattle.rr_dir.specs.declared.version.Version.{Version}
-use Rattle.rr_dir.specs.declared.version.Version.TheVariants.{One}
+use Rattle.rr_images.specs.Following.{AllRead}
 use Rattle.rr_images.specs.Holding.{HeldChain}
-use Rattle.rr_pages.specs.Choosing.{Chooses}
+use Rattle.rr_pages.specs.Choosing.{IsNoStore, HasBadField, Chooses}
+use Rattle.rr_pages.specs.declared.fault.Damage.{Damage as PageDamage}
+use Rattle.rr_pages.specs.declared.fault.Damage.TheVariants as page
 use Rattle.rr_pages.specs.declared.fault.Fault.{Fault as PageFault}
 use Rattle.rr_pages.specs.declared.fault.Fault.TheVariants as pages
 use Rattle.rr_pages.specs.declared.root.Root.{Root}
+use Rattle.rr_pages.specs.Faults as page_clauses
 use Rattle.rr_pages.specs.Reading.{Reads, IsWhole, IsBroken}
-use Rattle.rr_reading.specs.declared.fault.Damage.TheVariants.{Pages}
-use Rattle.rr_reading.specs.Faults.{of_pages, of_directory}
-use Rattle.rr_reading.specs.Reading.{TakesRoot, NoneReached, ReadsDirectory, In_root, In_directory, In_form, Refuses}
+use Rattle.rr_pages.proofs.ChoosingLemmas.{taken_store, taken_good}
+use Rattle.rr_reading.specs.declared.fault.Damage.{Damage}
+use Rattle.rr_reading.specs.declared.fault.Damage.TheVariants.{RootField, PageOutside, PageTwice, UsedBytes, Form}
+use Rattle.rr_reading.specs.declared.fault.Fault.{Fault}
+use Rattle.rr_reading.specs.declared.fault.Fault.TheVariants.{Damaged, NotAStore, Disk, OutOfMemory}
+use Rattle.rr_reading.specs.Chains.{FoundChain, AllFollowed, HasOne, LeadsOutside, ReachesTwice, IsOverfull, HasOtherLength, damage_in, lower_of, least_in, AreOfForm}
+use Rattle.rr_reading.specs.Faults.{clause_of, of_page, of_pages, of_directory}
+use Rattle.rr_reading.specs.Held.{TextChains, Held, chains_of}
+use Rattle.rr_reading.specs.Reading.{TakesRoot, NoneReached, ReadsDirectory, directory_chain, IsDirectory, HasDirectory, HoldsChains, Holds, AreFound, Directory_alone, With_named, HasFound, IsOfNoForm, Of_directory, Of_length, Of_table, Breaks, IsDamage, Refuses}
+use Rattle.rr_reading.specs.Told.{IsToldBroken}
+use Rattle.rr_reading.proofs.ChainLemmas.{all_right, read_followed}
+use Rattle.rr_reading.proofs.Least.{IsAtMost, least_is, least_low, least_none, BreaksBy, breaks_of, AllRight, walk_right, outside_low, twice_low, overfull_low, length_low, one_more, none_of}
+use Rattle.rr_reading.proofs.OneAnswer.{one_empty, whole_broken, one_read, one_found, same_chains, same_root, has_there}
+use Rattle.rr_reading.proofs.Versions.{one_version}
 
-pub root_told : (file : List ℕ) (fault : PageFault) → Chooses file (Err fault) → Refuses file (of_pages fault)
-root_told file pages.FileFull chosen = tt
-root_told file (pages.Damaged damage) chosen = In_root (ap Pages chosen.0) chosen.1 chosen.2
-root_told file pages.NotAStore chosen = chosen
-root_told file (pages.Disk fault) chosen = tt
-root_told file pages.OutOfMemory chosen = tt
+clause_some : (damage : Damage) → 1 ≤ clause_of damage
+clause_some RootField = omega arith
+clause_some PageOutside = omega arith
+clause_some PageTwice = omega arith
+clause_some UsedBytes = omega arith
+clause_some Form = omega arith
 
--- the page count that a reading takes is the root's
-module _ (file : List ℕ) (side : Bool) (root : Root) (taken : TakesRoot file side root) (count : ℕ) (same : root.pages ≤ 65536 → count ≡ root.pages) where
-  pub count_is : count ≡ root.pages
-  count_is = same taken.1.sound.pages_high
+clause_low : (damage : Damage) → clause_of damage ≤ 5
+clause_low RootField = omega arith
+clause_low PageOutside = omega arith
+clause_low PageTwice = omega arith
+clause_low UsedBytes = omega arith
+clause_low Form = omega arith
 
-  pub directory_told : (before after : List Bool) (fault : PageFault) → NoneReached before → Reads file count before root.directory None after (Err fault) → Refuses file (of_pages fault)
-  directory_told before after pages.FileFull none read = tt
-  directory_told before after (pages.Damaged damage) none read =
-      let broken : IsBroken file root.pages before root.directory None after damage = subst (λ (n : ℕ). IsBroken file n before root.directory None after damage) count_is read in
-      In_directory side root damage refl taken (record { before = before; none = none; after = after; broken = broken })
-  directory_told before after pages.NotAStore none read = absurd read
-  directory_told before after (pages.Disk fault) none read = tt
-  directory_told before after pages.OutOfMemory none read = tt
+clause_same : (damage : PageDamage) → clause_of (of_page damage) ≡ page_clauses.clause_of damage
+clause_same page.RootField = refl
+clause_same page.PageOutside = refl
+clause_same page.PageTwice = refl
+clause_same page.UsedBytes = refl
+clause_same page.ChainLength = refl
 
-  pub directory_whole : (before after : List Bool) (chain : HeldChain) → NoneReached before → IsWhole file count before root.directory None after chain.pages chain.text → ReadsDirectory file root after chain
-  directory_whole before after chain none whole =
-      record { before = before; none = none; whole = subst (λ (n : ℕ). IsWhole file n before root.directory None after chain.pages chain.text) count_is whole }
+-- a clause is told by its number
+same_damage : (damage other : Damage) → clause_of damage ≡ clause_of other → damage ≡ other
+same_damage RootField RootField same = refl
+same_damage RootField PageOutside same = absurd (omega (arith, same))
+same_damage RootField PageTwice same = absurd (omega (arith, same))
+same_damage RootField UsedBytes same = absurd (omega (arith, same))
+same_damage RootField Form same = absurd (omega (arith, same))
+same_damage PageOutside RootField same = absurd (omega (arith, same))
+same_damage PageOutside PageOutside same = refl
+same_damage PageOutside PageTwice same = absurd (omega (arith, same))
+same_damage PageOutside UsedBytes same = absurd (omega (arith, same))
+same_damage PageOutside Form same = absurd (omega (arith, same))
+same_damage PageTwice RootField same = absurd (omega (arith, same))
+same_damage PageTwice PageOutside same = absurd (omega (arith, same))
+same_damage PageTwice PageTwice same = refl
+same_damage PageTwice UsedBytes same = absurd (omega (arith, same))
+same_damage PageTwice Form same = absurd (omega (arith, same))
+same_damage UsedBytes RootField same = absurd (omega (arith, same))
+same_damage UsedBytes PageOutside same = absurd (omega (arith, same))
+same_damage UsedBytes PageTwice same = absurd (omega (arith, same))
+same_damage UsedBytes UsedBytes same = refl
+same_damage UsedBytes Form same = absurd (omega (arith, same))
+same_damage Form RootField same = absurd (omega (arith, same))
+same_damage Form PageOutside same = absurd (omega (arith, same))
+same_damage Form PageTwice same = absurd (omega (arith, same))
+same_damage Form UsedBytes same = absurd (omega (arith, same))
+same_damage Form Form same = refl
 
--- there is one version
-pub one_version : (version other : Version) → version ≡ other
-one_version One One = refl
+module _ (file : List ℕ) where
+  pub one_damage : (first second : Damage) → IsDamage file first → IsDamage file second → first ≡ second
+  one_damage first second a b = same_damage first second (omega (arith, a.least second b.broken, b.least first a.broken))
 
-pub none_found : (found : Option Version) (number : ℕ) → ((version : Version) → found ≡ Some version → ⊥) → MatchOption found ((version : Version) → version_number version ≢ number) (λ version. version_number version ≡ number)
-    → (version : Version) → version_number version ≢ number
-none_found None number none told = told
-none_found (Some version) number none told = absurd (none version refl)
+  pub damaged_store : (damage : Damage) → IsDamage file damage → IsNoStore file → ⊥
+  damaged_store damage damaged = damaged.store
 
-module _ (file : List ℕ) (side : Bool) (root : Root) (taken : TakesRoot file side root) where
-  pub version_known : ((version : Version) → version_number version ≢ root.version) → ⊥
-  version_known unknown = unknown One (sym taken.1.sound.version)
+  found_taken : (found : List FoundChain) → AreFound file found → (side : Bool) × (root : Root) × TakesRoot file side root
+  found_taken found (Directory_alone side root chain is taken follows none) = (side, root, taken)
+  found_taken found (With_named side root reached after chain directory named is has followed) = (side, root, has.taken)
 
-  pub form_told : (version : Version) (reached : List Bool) (chain : HeldChain) (fault : FormFault) → ReadsDirectory file root reached chain
-      → (fault ≡ form.Damaged → (directory : Directory) → Spells version chain.text directory → ⊥) → Refuses file (of_directory fault)
-  form_told version reached chain form.Damaged read none =
-      In_form side root reached chain refl taken read
-      (λ directory is. none refl directory (subst (λ (v : Version). Spells v chain.text directory) (one_version is.version version) is.spelled))
-  form_told version reached chain form.OutOfMemory read none = tt
+  found_store : (found : List FoundChain) → AreFound file found → IsNoStore file → ⊥
+  found_store found are none = let taken = found_taken found are in taken_store file taken.0 taken.1 taken.2.0 taken.2.1 none
+
+  found_good : (found : List FoundChain) → AreFound file found → HasBadField file → ⊥
+  found_good found are bad = let taken = found_taken found are in taken_good file taken.0 taken.1 taken.2.0 taken.2.1 bad
+
+  pub found_right : (found : List FoundChain) → AreFound file found → AllRight file found
+  found_right found (Directory_alone side root chain is taken follows none) =
+      subst (λ (fs : List FoundChain). AllRight file fs) (sym is) (walk_right file root.pages follows.before root.directory chain.pages chain.end follows.walk, tt)
+  found_right found (With_named side root reached after chain directory named is has followed) =
+      subst (λ (fs : List FoundChain). AllRight file fs) (sym is) (inl refl, all_right file root.pages reached (heads_of directory) after named followed)
+
+  -- what one of the chains breaks, the least clause is no higher
+  module _ (found : List FoundChain) (are : AreFound file found) where
+    here : (P : FoundChain → Type 0) → HasFound file P → HasOne P found
+    here P has = subst (λ (fs : List FoundChain). HasOne P fs) (one_found file has.0 found has.1 are) has.2
+
+    low_of : (P : FoundChain → Type 0) (n : ℕ) → ((chain : FoundChain) → P chain → IsAtMost (damage_in file chain) n) → HasFound file P → HasOne (λ chain. IsAtMost (damage_in file chain) n) found
+    low_of P n low has = one_more file P (λ chain. IsAtMost (damage_in file chain) n) found (λ chain right is. low chain is) (found_right found are) (here P has)
+
+    over_of : HasFound file (IsOverfull file) → HasOne (λ chain. IsAtMost (damage_in file chain) 4) found
+    over_of has =
+        one_more file (IsOverfull file) (λ chain. IsAtMost (damage_in file chain) 4) found (λ chain right is. overfull_low file chain right is) (found_right found are) (here (IsOverfull file) has)
+
+    found_least : (damage : PageDamage) → least_in file found ≡ Some damage → (other : Damage) → Breaks file other → page_clauses.clause_of damage ≤ 5 → page_clauses.clause_of damage ≤ clause_of other
+    found_least damage is RootField broken high = absurd (found_good found are broken)
+    found_least damage is PageOutside broken high = least_low file found damage 2 is (low_of LeadsOutside 2 (outside_low file) broken)
+    found_least damage is PageTwice broken high = least_low file found damage 3 is (low_of ReachesTwice 3 (twice_low file) broken)
+    found_least damage is UsedBytes broken high = least_low file found damage 4 is (over_of broken)
+    found_least damage is Form broken high = high
+
+    none_lower : least_in file found ≡ None → (other : Damage) → Breaks file other → 5 ≤ clause_of other
+    none_lower is RootField broken = absurd (found_good found are broken)
+    none_lower is PageOutside broken = absurd (least_none file found 2 is (low_of LeadsOutside 2 (outside_low file) broken))
+    none_lower is PageTwice broken = absurd (least_none file found 3 is (low_of ReachesTwice 3 (twice_low file) broken))
+    none_lower is UsedBytes broken = absurd (least_none file found 4 is (over_of broken))
+    none_lower is Form broken = omega arith
+
+    breaks_by : (damage : PageDamage) → HasOne (λ chain. BreaksBy file chain damage) found → Breaks file (of_page damage)
+    breaks_by page.RootField one = absurd (none_of (λ chain. BreaksBy file chain page.RootField) found (λ chain none. none) one)
+    breaks_by page.PageOutside one = (found, are, one)
+    breaks_by page.PageTwice one = (found, are, one)
+    breaks_by page.UsedBytes one = (found, are, one)
+    breaks_by page.ChainLength one = Of_length (found, are, one)
+
+    pub found_damage : (damage : PageDamage) → least_in file found ≡ Some damage → IsDamage file (of_page damage)
+    found_damage damage is =
+        let high : clause_of (of_page damage) ≤ 5 = clause_low (of_page damage) in
+        let same = clause_same damage in
+        record {
+          store = found_store found are;
+          broken = breaks_by damage (one_more file (λ chain. damage_in file chain ≡ Some damage) (λ chain. BreaksBy file chain damage) found (λ chain right told. breaks_of file chain damage right told) (found_right found are) (least_is file found damage is));
+          least = λ other broken. let low = found_least damage is other broken (omega (arith, high, same)) in omega (arith, low, same);
+        }
+
+    pub found_form : least_in file found ≡ None → IsOfNoForm file → IsDamage file Form
+    found_form is formless = record { store = found_store found are; broken = formless; least = λ other broken. none_lower is other broken }
+
+    -- chains that break nothing, and tables of their form, are no damage
+    pub found_whole : least_in file found ≡ None → (IsOfNoForm file → ⊥) → (damage : Damage) → IsDamage file damage → ⊥
+    found_whole is formed RootField damaged = found_good found are damaged.broken
+    found_whole is formed PageOutside damaged = least_none file found 2 is (low_of LeadsOutside 2 (outside_low file) damaged.broken)
+    found_whole is formed PageTwice damaged = least_none file found 3 is (low_of ReachesTwice 3 (twice_low file) damaged.broken)
+    found_whole is formed UsedBytes damaged = least_none file found 4 is (over_of damaged.broken)
+    found_whole is formed Form damaged = formed damaged.broken
+
+    pub lengths_right : least_in file found ≡ None → HasFound file (HasOtherLength file) → ⊥
+    lengths_right is has = least_none file found 5 is (low_of (HasOtherLength file) 5 (length_low file) has)
+
+  -- the chains that a directory names, behind its own
+  module _ (side : Bool) (root : Root) (reached after : List Bool) (chain : HeldChain) (directory : Directory) (named : List FoundChain) (has : HasDirectory file side root reached chain directory)
+      (followed : AllFollowed file root.pages reached (heads_of directory) after named) where
+    pub named_found : AreFound file (directory_chain chain ∷ named)
+    named_found = With_named side root reached after chain directory named refl has followed
+
+    pub named_least : least_in file (directory_chain chain ∷ named) ≡ least_in file named
+    named_least = ap (λ (told : Option PageDamage). fold (λ least other. lower_of least (damage_in file other)) told named) has.read.whole.unbroken
+
+  -- a root
+  pub root_told : (fault : PageFault) → Chooses file (Err fault) → Refuses file (of_pages fault)
+  root_told pages.FileFull chosen = tt
+  root_told (pages.Damaged damage) chosen =
+      subst (λ (d : PageDamage). IsDamage file (of_page d)) (sym chosen.0) (record { store = chosen.1; broken = chosen.2; least = λ other broken. clause_some other })
+  root_told pages.NotAStore chosen = chosen
+  root_told (pages.Disk fault) chosen = tt
+  root_told pages.OutOfMemory chosen = tt
+
+  module _ (side : Bool) (root : Root) (taken : TakesRoot file side root) where
+    -- a directory that is broken can't be read
+    module _ (before after : List Bool) (none : NoneReached before) (damage : PageDamage) (broken : IsBroken file root.pages before root.directory None after damage) where
+      unread : (reached : List Bool) (chain : HeldChain) (directory : Directory) → HasDirectory file side root reached chain directory → ⊥
+      unread reached chain directory has =
+          let there : IsWhole file root.pages before root.directory None reached chain.pages chain.text =
+          subst (λ (marks : List Bool). IsWhole file root.pages marks root.directory None reached chain.pages chain.text) (one_empty has.read.before before has.read.none none) has.read.whole in
+          whole_broken file root.pages before root.directory None reached after chain.pages chain.text damage there broken
+
+      alone : FoundChain
+      alone = record { pages = broken.pages; end = broken.end; stated = None }
+
+      directory_broken : IsDamage file (of_page damage)
+      unfolding alone
+      directory_broken =
+          found_damage (alone ∷ []) (Directory_alone side root alone refl taken (record { before = before; none = none; unstated = refl; walk = broken.walk }) unread) damage broken.broken
+
+    module _ (count : ℕ) (same : root.pages ≤ 65536 → count ≡ root.pages) where
+      count_is : count ≡ root.pages
+      count_is = same taken.1.sound.pages_high
+
+      pub directory_told : (before after : List Bool) (fault : PageFault) → NoneReached before → Reads file count before root.directory None after (Err fault) → Refuses file (of_pages fault)
+      directory_told before after pages.FileFull none read = tt
+      directory_told before after (pages.Damaged damage) none read =
+          directory_broken before after none damage (subst (λ (n : ℕ). IsBroken file n before root.directory None after damage) count_is read)
+      directory_told before after pages.NotAStore none read = absurd read
+      directory_told before after (pages.Disk fault) none read = tt
+      directory_told before after pages.OutOfMemory none read = tt
+
+    formless_directory : (reached : List Bool) (chain : HeldChain) → ReadsDirectory file root reached chain → ((directory : Directory) → IsDirectory root.version chain.text directory → ⊥) → IsDamage file Form
+    formless_directory reached chain read none =
+        found_form (directory_chain chain ∷ [])
+        (Directory_alone side root (directory_chain chain) refl taken (record { before = read.before; none = read.none; unstated = refl; walk = read.whole.walk })
+        (λ others other directory has.
+        let one = one_read file root reached others chain other read has.read in
+        none directory (subst (λ (c : HeldChain). IsDirectory root.version c.text directory) (sym one.1) has.form)))
+        read.whole.unbroken (Of_directory side root reached chain taken read none)
+
+    pub form_told : (version : Version) (reached : List Bool) (chain : HeldChain) (fault : FormFault) → ReadsDirectory file root reached chain
+        → (fault ≡ form.Damaged → (directory : Directory) → Spells version chain.text directory → ⊥) → Refuses file (of_directory fault)
+    form_told version reached chain form.Damaged read none =
+        formless_directory reached chain read (λ directory is. none refl directory (subst (λ (v : Version). Spells v chain.text directory) (one_version is.version version) is.spelled))
+    form_told version reached chain form.OutOfMemory read none = tt
+
+  -- the chains that a directory names
+  module _ (side : Bool) (root : Root) (reached : List Bool) (chain : HeldChain) (directory : Directory) (has : HasDirectory file side root reached chain directory) (count : ℕ) (few : root.pages ≤ 65536 → count ≡ root.pages) where
+    pages_are : count ≡ root.pages
+    pages_are = few has.taken.1.sound.pages_high
+
+    pub chains_told : (fault : Fault) → IsToldBroken file count reached (heads_of directory) fault → Refuses file fault
+    chains_told (Damaged damage) told =
+        let broken = told.2 in
+        let followed : AllFollowed file root.pages reached (heads_of directory) broken.after broken.found =
+        subst (λ (n : ℕ). AllFollowed file n reached (heads_of directory) broken.after broken.found) pages_are broken.followed in
+        subst (λ (d : Damage). IsDamage file d) (sym told.1)
+        (found_damage (directory_chain chain ∷ broken.found) (named_found side root reached broken.after chain directory broken.found has followed) told.0
+        (named_least side root reached broken.after chain directory broken.found has followed ∙ broken.is_least))
+    chains_told NotAStore told = absurd told
+    chains_told (Disk fault) told = tt
+    chains_told OutOfMemory told = tt
+
+    module _ (after : List Bool) (texts : TextChains) (tables : List HeldChain) (read : AllRead file count reached (heads_of directory) after (chains_of texts tables)) where
+      all_read : AllRead file root.pages reached (heads_of directory) after (chains_of texts tables)
+      all_read = subst (λ (n : ℕ). AllRead file n reached (heads_of directory) after (chains_of texts tables)) pages_are read
+
+      pub table_told : (AreOfForm directory.tables tables → ⊥) → IsDamage file Form
+      table_told none =
+          let rest = read_followed file root.pages reached (heads_of directory) after (chains_of texts tables) all_read in
+          found_form (directory_chain chain ∷ rest.found) (named_found side root reached after chain directory rest.found has rest.followed)
+          (named_least side root reached after chain directory rest.found has rest.followed ∙ rest.unbroken)
+          (Of_table (record {
+            side = side;
+            root = root;
+            of_directory = reached;
+            chain = chain;
+            directory = directory;
+            has_directory = has;
+            reached = after;
+            texts = texts;
+            tables = tables;
+            whole = all_read;
+            formless = none;
+          }))
+
+      pub all_held_there : AreOfForm directory.tables tables → HoldsChains file side root directory chain texts tables after
+      all_held_there forms = record { of_directory = reached; has_directory = has; whole = all_read; forms = forms }
+
+    -- of a disk that has later what it had, and by the heads that were followed
+    module _ (now : List ℕ) (heads : List (ℕ × ℕ)) (same : now ≡ file) (heads_are : heads ≡ heads_of directory) where
+      pub told_later : (fault : Fault) → IsToldBroken now count reached heads fault → Refuses file fault
+      told_later fault told =
+          chains_told fault (subst (λ (hs : List (ℕ × ℕ)). IsToldBroken file count reached hs fault) heads_are (subst (λ (f : List ℕ). IsToldBroken f count reached heads fault) same told))
+
+      pub read_later : (after : List Bool) (chains tables : List HeldChain) (texts : TextChains) → chains ≡ chains_of texts tables → AllRead now count reached heads after chains → AllRead file count reached (heads_of directory) after (chains_of texts tables)
+      read_later after chains tables texts parts read =
+          subst (λ (cs : List HeldChain). AllRead file count reached (heads_of directory) after cs) parts
+          (subst (λ (hs : List (ℕ × ℕ)). AllRead file count reached hs after chains) heads_are (subst (λ (f : List ℕ). AllRead f count reached heads after chains) same read))
+
+  -- what holds something isn't damaged
+  pub held_whole : (has : Held) (damage : Damage) → Holds file has → IsDamage file damage → ⊥
+  held_whole has damage holds =
+      let chains = holds.chains in
+      let there = chains.has_directory in
+      let rest = read_followed file has.root.pages chains.of_directory (heads_of has.directory) has.reached (chains_of has.texts has.tables) chains.whole in
+      let are = named_found has.side has.root chains.of_directory has.reached has.chain has.directory rest.found there rest.followed in
+      let none = named_least has.side has.root chains.of_directory has.reached has.chain has.directory rest.found there rest.followed ∙ rest.unbroken in
+      found_whole (directory_chain has.chain ∷ rest.found) are none (formed (directory_chain has.chain ∷ rest.found) are none) damage
+    where
+      formed : (found : List FoundChain) → AreFound file found → least_in file found ≡ None → IsOfNoForm file → ⊥
+      formed found are none (Of_directory side root reached chain taken read formless) =
+          let there = holds.chains.has_directory in
+          let same = same_root file side has.side root has.root taken there.taken in
+          let at : HasDirectory file side root holds.chains.of_directory has.chain has.directory = has_there file side has.side root has.root holds.chains.of_directory has.chain has.directory same there in
+          let one = one_read file root reached holds.chains.of_directory chain has.chain read at.read in
+          formless has.directory (subst (λ (c : HeldChain). IsDirectory root.version c.text has.directory) (sym one.1) at.form)
+      formed found are none (Of_length other) = lengths_right found are none other
+      formed found are none (Of_table bad) =
+          let same = same_chains file bad has.side has.root has.directory has.chain has.texts has.tables has.reached holds.chains in
+          bad.formless (subst (λ (d : Directory). AreOfForm d.tables bad.tables) (sym same.same_directory) (subst (λ (ts : List HeldChain). AreOfForm has.directory.tables ts) (sym same.same_tables) holds.chains.forms))
+
+  pub held_store : (has : Held) → Holds file has → IsNoStore file → ⊥
+  held_store has holds none =
+      let taken = holds.chains.has_directory.taken in
+      taken_store file has.side has.root taken.0 taken.1 none
+
+-- what a disk has later is what it had
+pub refused_later : (file now : List ℕ) (side : Bool) (root : Root) (fault : Fault) → now ≡ file → TakesRoot file side root → ((s : Bool) → TakesRoot now s root → Refuses now fault) → Refuses file fault
+refused_later file now side root fault same taken refuses =
+    subst (λ (f : List ℕ). Refuses f fault) same (refuses side (subst (λ (f : List ℕ). TakesRoot f side root) (sym same) taken))

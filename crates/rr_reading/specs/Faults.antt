@@ -7,11 +7,12 @@ use Rattle.rr_dir.specs.declared.fault.Fault.{Fault as OfDirectory}
 use Rattle.rr_dir.specs.declared.fault.Fault.TheVariants as directory
 use Rattle.rr_journal.specs.declared.fault.Fault.{Fault as OfJournal}
 use Rattle.rr_journal.specs.declared.fault.Fault.TheVariants as journal
-use Rattle.rr_pages.specs.Faults as clauses
+use Rattle.rr_pages.specs.declared.fault.Damage.{Damage as OfChain}
+use Rattle.rr_pages.specs.declared.fault.Damage.TheVariants as chain
 use Rattle.rr_pages.specs.declared.fault.Fault.{Fault as OfPages}
 use Rattle.rr_pages.specs.declared.fault.Fault.TheVariants as pages
 use Rattle.rr_reading.specs.declared.fault.Damage.{Damage}
-use Rattle.rr_reading.specs.declared.fault.Damage.TheVariants.{Pages, DirectoryForm, TableForm}
+use Rattle.rr_reading.specs.declared.fault.Damage.TheVariants.{RootField, PageOutside, PageTwice, UsedBytes, Form}
 use Rattle.rr_reading.specs.declared.fault.Fault.{Fault}
 use Rattle.rr_reading.specs.declared.fault.Fault.TheVariants.{Damaged, NotAStore, Disk, OutOfMemory}
 
@@ -24,14 +25,24 @@ number_of OutOfMemory = 70
 
 -- the number of the clause that a damaged file breaks
 abbrev pub clause_of : Damage → ℕ
-clause_of (Pages damage) = clauses.clause_of damage
-clause_of DirectoryForm = 5
-clause_of TableForm = 5
+clause_of RootField = 1
+clause_of PageOutside = 2
+clause_of PageTwice = 3
+clause_of UsedBytes = 4
+clause_of Form = 5
+
+-- the clause that a root or a chain breaks
+abbrev pub of_page : OfChain → Damage
+of_page chain.RootField = RootField
+of_page chain.PageOutside = PageOutside
+of_page chain.PageTwice = PageTwice
+of_page chain.UsedBytes = UsedBytes
+of_page chain.ChainLength = Form
 
 -- a fault of the layers below
 abbrev pub of_pages : OfPages → Fault
 of_pages pages.FileFull = OutOfMemory
-of_pages (pages.Damaged damage) = Damaged (Pages damage)
+of_pages (pages.Damaged damage) = Damaged (of_page damage)
 of_pages pages.NotAStore = NotAStore
 of_pages (pages.Disk fault) = Disk fault
 of_pages pages.OutOfMemory = OutOfMemory
@@ -42,8 +53,15 @@ of_journal (journal.Disk fault) = Disk fault
 of_journal journal.OutOfMemory = OutOfMemory
 
 abbrev pub of_directory : OfDirectory → Fault
-of_directory directory.Damaged = Damaged DirectoryForm
+of_directory directory.Damaged = Damaged Form
 of_directory directory.OutOfMemory = OutOfMemory
+
+-- the device failed, or memory was wanted
+abbrev pub IsNoVerdict : Fault → Type 0
+IsNoVerdict (Damaged damage) = ⊥
+IsNoVerdict NotAStore = ⊥
+IsNoVerdict (Disk fault) = Unit {0}
+IsNoVerdict OutOfMemory = Unit {0}
 
 -- a fault of the disk is told exactly where the disk counted one more
 abbrev pub CountsFault : {T : Type 0} → ℕ → ℕ → Result T Fault → Type 0

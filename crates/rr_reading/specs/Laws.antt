@@ -1,31 +1,36 @@
 -- A file has one answer, and that is what images stand for or are refused for.
 use Rattle.std.specs.Prelude.{◌≡◌, ◌≢◌, ◌↔◌, ℕ, List, ◌++◌}
+use Rattle.rr_dir.specs.Directory.{Directory}
 use Rattle.rr_dir.specs.Heads.{Heads}
 use Rattle.rr_images.specs.Codec.{Codec, Replays}
 use Rattle.rr_images.specs.Following.{IsRead}
-use Rattle.rr_images.specs.Holding.{texts_of}
+use Rattle.rr_images.specs.Holding.{HeldChain, texts_of}
 use Rattle.rr_images.specs.Layout.{Stands}
 use Rattle.rr_images.specs.Refusing.{IsRefused}
 use Rattle.rr_journal.specs.declared.reading.RunEnd.TheVariants.{Damaged}
 use Rattle.rr_pages.specs.Choosing.{IsNoStore}
 use Rattle.rr_reading.specs.declared.fault.Damage.{Damage}
-use Rattle.rr_reading.specs.declared.fault.Damage.TheVariants.{TableForm}
-use Rattle.rr_reading.specs.Held.{Held, chains_of, holding_of}
-use Rattle.rr_reading.specs.Reading.{Holds, IsDamaged}
+use Rattle.rr_reading.specs.Chains.{FoundChain, AreOfForm}
+use Rattle.rr_reading.specs.Held.{Held, TextChains, chains_of, holding_of}
+use Rattle.rr_reading.specs.Reading.{IsDirectory, Holds, AreFound, HasBadTable, IsDamage}
 
 abbrev pub OneHeld : Type 0
 OneHeld = (file : List ℕ) (first second : Held) → Holds file first → Holds file second → first ≡ second
 
+-- there is one way to find chains
+abbrev pub OneFound : Type 0
+OneFound = (file : List ℕ) (first second : List FoundChain) → AreFound file first → AreFound file second → first ≡ second
+
 abbrev pub OneDamage : Type 0
-OneDamage = (file : List ℕ) (first second : Damage) → IsDamaged file first → IsDamaged file second → first ≡ second
+OneDamage = (file : List ℕ) (first second : Damage) → IsDamage file first → IsDamage file second → first ≡ second
 
 abbrev pub HeldIsWhole : Type 0
-HeldIsWhole = (file : List ℕ) (has : Held) (damage : Damage) → Holds file has → IsDamaged file damage → ⊥
+HeldIsWhole = (file : List ℕ) (has : Held) (damage : Damage) → Holds file has → IsDamage file damage → ⊥
 
 abbrev pub StoreIsOne : Type 0
 StoreIsOne =
     ((file : List ℕ) (has : Held) → Holds file has → IsNoStore file → ⊥)
-    × ((file : List ℕ) (damage : Damage) → IsDamaged file damage → IsNoStore file → ⊥)
+    × ((file : List ℕ) (damage : Damage) → IsDamage file damage → IsNoStore file → ⊥)
 
 module _ (codec : Codec) where
   -- a codec whose directories name the chains that a store's directory names
@@ -46,7 +51,19 @@ module _ (codec : Codec) where
       → has.near_end ≢ Damaged → has.far_end ≢ Damaged → Replays codec base (has.near ++ has.far) world
       → Stands codec file world
 
-  -- a file with a damage of its roots, of its pages or of its directory's form is refused
+  -- a file with a damage is refused, where its tables' chains are of their form
   abbrev pub DamagedIsRefused : Type 0
   DamagedIsRefused =
-      NamesChains → (file : List ℕ) (damage : Damage) → damage ≢ TableForm → IsDamaged file damage → IsRefused codec file
+      NamesChains → (file : List ℕ) (damage : Damage) → IsDamage file damage → (HasBadTable file → ⊥) → IsRefused codec file
+
+  -- a codec that spells nothing where a table's chain isn't of its form
+  abbrev pub SpellsForms : Type 0
+  SpellsForms =
+      (number : ℕ) (bytes : List ℕ) (directory : Directory) (texts : TextChains) (tables : List HeldChain)
+      → (world : codec.World) → IsDirectory number bytes directory
+      → codec.Spells number bytes (texts_of (chains_of texts tables)) world → AreOfForm directory.tables tables
+
+  -- then a file with any damage is refused
+  abbrev pub AllDamagedAreRefused : Type 0
+  AllDamagedAreRefused =
+      NamesChains → SpellsForms → (file : List ℕ) (damage : Damage) → IsDamage file damage → IsRefused codec file

@@ -1,5 +1,6 @@
 pub mod Faults
 pub mod Chains
+pub mod Told
 pub mod Held
 pub mod Reading
 pub mod Laws

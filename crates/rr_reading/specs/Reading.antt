@@ -1,8 +1,8 @@
--- What a file holds, and the first clause that it breaks. The order is that of reading: the roots; the directory's pages,
--- and then its form; the pages and lengths of the chains that it names, one after another; the form of what the tables'
--- chains hold. Records are read last, and tell no damage here: a kit that is refused and commands that aren't lawful come
--- before them.
-use Rattle.std.specs.Prelude.{◌≡◌, ℕ, ◌+◌, Bool, not, List, length, None, Result, Ok, Err}
+-- What a file holds, and the least clause that it breaks. The clauses that the bytes alone decide are the fields of the
+-- roots, and then the chains that can be found: their page numbers, pages reached twice, used bytes, and the forms of the
+-- directory and of the tables' chains. Records are read last, and tell no damage here: a kit that is refused and commands
+-- that aren't lawful come before them.
+use Rattle.std.specs.Prelude.{◌≡◌, ℕ, ◌+◌, ◌≤◌, Bool, not, List, [], ◌∷◌, length, None, Result, Ok, Err}
 use Rattle.rr_dir.specs.Directory.{Directory, Spells}
 use Rattle.rr_dir.specs.Heads.{heads_of}
 use Rattle.rr_dir.specs.Version.{version_number}
@@ -12,18 +12,18 @@ use Rattle.rr_images.specs.Halves.{half_part}
 use Rattle.rr_images.specs.Holding.{HeldChain}
 use Rattle.rr_journal.specs.Run.{Run}
 use Rattle.rr_pages.specs.Choosing.{IsNoStore, HasBadField}
-use Rattle.rr_pages.specs.declared.fault.Damage.{Damage as PageDamage}
-use Rattle.rr_pages.specs.declared.fault.Damage.TheVariants.{RootField}
 use Rattle.rr_pages.specs.declared.root.Root.{Root}
-use Rattle.rr_pages.specs.Reading.{IsWhole, IsBroken}
+use Rattle.rr_pages.specs.Reading.{IsWhole}
 use Rattle.rr_pages.specs.Roots.{Stale, IsTaken}
 use Rattle.rr_pages.specs.Sets.{IsEmpty}
+use Rattle.rr_pages.specs.Walk.{Walk}
 use Rattle.rr_reading.specs.declared.contents.Contents.{Contents}
 use Rattle.rr_reading.specs.declared.fault.Damage.{Damage}
-use Rattle.rr_reading.specs.declared.fault.Damage.TheVariants.{Pages, DirectoryForm, TableForm}
+use Rattle.rr_reading.specs.declared.fault.Damage.TheVariants.{RootField, PageOutside, PageTwice, UsedBytes, Form}
 use Rattle.rr_reading.specs.declared.fault.Fault.{Fault}
 use Rattle.rr_reading.specs.declared.fault.Fault.TheVariants.{Damaged, NotAStore, Disk, OutOfMemory}
-use Rattle.rr_reading.specs.Chains.{FirstBroken, AreOfForm}
+use Rattle.rr_reading.specs.Chains.{FoundChain, AllFollowed, HasOne, LeadsOutside, ReachesTwice, IsOverfull, HasOtherLength, AreOfForm}
+use Rattle.rr_reading.specs.Faults.{clause_of}
 use Rattle.rr_reading.specs.Held.{TextChains, chains_of, Held, held_of}
 
 -- the root on this side is taken
@@ -41,12 +41,16 @@ pub record ReadsDirectory (file : List ℕ) (root : Root) (reached : List Bool) 
   pub none : NoneReached before
   pub whole : IsWhole file root.pages before root.directory None reached chain.pages chain.text
 
--- or it is broken
-pub record BreaksDirectory (file : List ℕ) (root : Root) (damage : PageDamage) : Type 0 where
+-- or it is followed as far as it goes
+pub record FollowsDirectory (file : List ℕ) (root : Root) (chain : FoundChain) : Type 0 where
   pub before : List Bool
   pub none : NoneReached before
-  pub after : List Bool
-  pub broken : IsBroken file root.pages before root.directory None after damage
+  pub unstated : chain.stated ≡ None
+  pub walk : Walk file root.pages before root.directory chain.pages chain.end
+
+-- a directory's chain that is whole, as it was followed
+abbrev pub directory_chain : HeldChain → FoundChain
+directory_chain chain = record { pages = chain.pages; end = None; stated = None }
 
 -- in a file of this version these bytes are this directory
 pub record IsDirectory (number : ℕ) (bytes : List ℕ) (directory : Directory) : Type 0 where
@@ -75,26 +79,63 @@ pub record Holds (file : List ℕ) (has : Held) : Type 0 where
   pub near_run : Run file (half_part has.root.half) 0 has.root.first has.near has.near_end
   pub far_run : Run file (half_part (not has.root.half)) 0 (has.root.first + length has.near) has.far has.far_end
 
--- the file is damaged, and this is the first clause that it breaks
-pub data IsDamaged (file : List ℕ) (damage : Damage) : Type 0 where
-  In_root : damage ≡ Pages RootField → (IsNoStore file → ⊥) → HasBadField file → IsDamaged file damage
-  In_directory : (side : Bool) (root : Root) (of_chain : PageDamage) → damage ≡ Pages of_chain → TakesRoot file side root
-      → BreaksDirectory file root of_chain → IsDamaged file damage
-  In_form : (side : Bool) (root : Root) (reached : List Bool) (chain : HeldChain) → damage ≡ DirectoryForm
-      → TakesRoot file side root → ReadsDirectory file root reached chain
-      → ((directory : Directory) → IsDirectory root.version chain.text directory → ⊥) → IsDamaged file damage
-  In_chain : (side : Bool) (root : Root) (reached : List Bool) (chain : HeldChain) (directory : Directory)
-      → (of_chain : PageDamage) → damage ≡ Pages of_chain → HasDirectory file side root reached chain directory
-      → FirstBroken file root.pages reached (heads_of directory) of_chain → IsDamaged file damage
-  In_table : (side : Bool) (root : Root) (reached after : List Bool) (chain : HeldChain) (directory : Directory)
-      → (texts : TextChains) (tables : List HeldChain) → damage ≡ TableForm
+-- all chains that a directory names are whole, and those of the tables aren't all of their form
+pub record HasBadTable (file : List ℕ) : Type 0 where
+  pub side : Bool
+  pub root : Root
+  pub of_directory : List Bool
+  pub chain : HeldChain
+  pub directory : Directory
+  pub has_directory : HasDirectory file side root of_directory chain directory
+  pub reached : List Bool
+  pub texts : TextChains
+  pub tables : List HeldChain
+  pub whole : AllRead file root.pages of_directory (heads_of directory) reached (chains_of texts tables)
+  pub formless : AreOfForm directory.tables tables → ⊥
+
+-- All chains that can be found: that of the directory of the root that is taken, and where a directory can be read the
+-- chains that it names.
+pub data AreFound (file : List ℕ) (found : List FoundChain) : Type 0 where
+  Directory_alone : (side : Bool) (root : Root) (chain : FoundChain) → found ≡ chain ∷ [] → TakesRoot file side root
+      → FollowsDirectory file root chain
+      → ((reached : List Bool) (held : HeldChain) (directory : Directory) → HasDirectory file side root reached held directory → ⊥)
+      → AreFound file found
+  With_named : (side : Bool) (root : Root) (reached after : List Bool) (chain : HeldChain) (directory : Directory)
+      → (named : List FoundChain) → found ≡ directory_chain chain ∷ named
       → HasDirectory file side root reached chain directory
-      → AllRead file root.pages reached (heads_of directory) after (chains_of texts tables)
-      → (AreOfForm directory.tables tables → ⊥) → IsDamaged file damage
+      → AllFollowed file root.pages reached (heads_of directory) after named → AreFound file found
+
+-- one of the chains that can be found has this
+abbrev pub HasFound : List ℕ → (FoundChain → Type 0) → Type 0
+HasFound file P = (found : List FoundChain) × AreFound file found × HasOne P found
+
+-- The bytes of the directory spell none, or a chain has another length than the directory says, or a table's chain isn't
+-- as many commands as it says. That is judged once all chains are whole: where one isn't, a clause that is no higher is
+-- broken.
+pub data IsOfNoForm (file : List ℕ) : Type 0 where
+  Of_directory : (side : Bool) (root : Root) (reached : List Bool) (chain : HeldChain) → TakesRoot file side root
+      → ReadsDirectory file root reached chain
+      → ((directory : Directory) → IsDirectory root.version chain.text directory → ⊥) → IsOfNoForm file
+  Of_length : HasFound file (HasOtherLength file) → IsOfNoForm file
+  Of_table : HasBadTable file → IsOfNoForm file
+
+-- the file breaks the clause
+abbrev pub Breaks : List ℕ → Damage → Type 0
+Breaks file RootField = HasBadField file
+Breaks file PageOutside = HasFound file LeadsOutside
+Breaks file PageTwice = HasFound file ReachesTwice
+Breaks file UsedBytes = HasFound file (IsOverfull file)
+Breaks file Form = IsOfNoForm file
+
+-- the file is a damaged store: it breaks this clause, and none that is lower
+pub record IsDamage (file : List ℕ) (damage : Damage) : Type 0 where
+  pub store : IsNoStore file → ⊥
+  pub broken : Breaks file damage
+  pub least : (other : Damage) → Breaks file other → clause_of damage ≤ clause_of other
 
 -- why a file isn't read. The device may fail and memory may be wanted at any file
 abbrev pub Refuses : List ℕ → Fault → Type 0
-Refuses file (Damaged damage) = IsDamaged file damage
+Refuses file (Damaged damage) = IsDamage file damage
 Refuses file NotAStore = IsNoStore file
 Refuses file (Disk fault) = Unit {0}
 Refuses file OutOfMemory = Unit {0}
@@ -103,10 +144,3 @@ Refuses file OutOfMemory = Unit {0}
 abbrev pub Reads : List ℕ → Result Contents Fault → Type 0
 Reads file (Ok contents) = Holds file (held_of contents)
 Reads file (Err fault) = Refuses file fault
-
--- the device failed, or memory was wanted
-abbrev pub IsNoVerdict : Fault → Type 0
-IsNoVerdict (Damaged damage) = ⊥
-IsNoVerdict NotAStore = ⊥
-IsNoVerdict (Disk fault) = Unit {0}
-IsNoVerdict OutOfMemory = Unit {0}

@@ -1,68 +1,51 @@
 // The chains that a directory names, read one after another. A page that two of them reach is reached twice.
-ghost use Rattle.std.specs.Prelude.{◌≡◌, ◌≤◌, [], ◌∷◌, length, IfOk, IfErr};
+ghost use Rattle.std.specs.Prelude.{◌≡◌, ◌≢◌, ◌≤◌, ◌++◌, None, Some, length, map, IfOk, IfErr, OnOk};
 ghost use Rattle.rr_dir.specs.Heads.{head_of};
 ghost use Rattle.rr_images.specs.Following.{AllRead};
 ghost use Rattle.rr_pages.specs.PageSet.{marks_of};
-ghost use Rattle.rr_reading.specs.Chains.{text_heads, table_heads, held, all_held, IsToldBroken};
-ghost use Rattle.rr_reading.specs.Faults.{CountsFault};
-ghost use Rattle.rr_reading.specs.Held.{chains_of, chains_held};
+ghost use Rattle.rr_reading.specs.Chains.{all_held, lower, lower_of, IsFollowed, damage_told, read_of};
+ghost use Rattle.rr_reading.specs.Faults.{CountsFault, IsNoVerdict};
+ghost use Rattle.rr_reading.specs.Told.{IsToldBroken, told_broken, told_least};
 
-use crate::{Fault, KitTexts};
-use rr_dir::{ChainRef, KitChains, TableEntry};
+use crate::{Damage, Fault};
+use rr_dir::ChainRef;
 use rr_disk::Disk;
-use rr_pages::{PageSet, ReadChain, chain_read};
+use rr_pages::{Damage as PageDamage, PageSet, ReadChain, chain_read};
 use std::alloc::Global;
 
-// Reads the chains of a kit's texts.
-pub(crate) fn read_texts<D: Disk>(
-    alloc: Global,
-    disk: &mut D,
-    count: u32,
-    reached: &mut PageSet,
-    kit: &KitChains,
-) -> Result<KitTexts, Fault>
-    requires { count ≤ 65536 }
-    ensures whole { IfOk result (λ texts. D.Honest disk.new
-        → AllRead (D.state disk.old).content count (marks_of reached.old) (text_heads kit.now) (marks_of reached.new)
-        (chains_of (chains_held texts) [])) }
-    ensures broken { IfErr result (λ fault. D.Honest disk.new
-        → IsToldBroken (D.state disk.old).content count (marks_of reached.old) (text_heads kit.now) fault) }
-    ensures fault { CountsFault (D.fault_count disk.old) (D.fault_count disk.new) result }
-    ensures honest { D.Honest disk.new → D.Honest disk.old }
-    ensures same_state { D.Honest disk.new → D.state disk.new ≡ D.state disk.old }
-    ensures same_past { D.Honest disk.new → D.past disk.new ≡ D.past disk.old }
-    ensures writes { D.write_count disk.new ≡ D.write_count disk.old }
-    ensures syncs { D.sync_count disk.new ≡ D.sync_count disk.old }
-    ensures works { D.Works disk.new → D.Works disk.old }
-    ensures same_len { D.file_len disk.new ≡ D.file_len disk.old }
-{
-    let chart = read_chain(alloc, disk, count, reached, kit.chart)?;
-    let roster = read_chain(alloc, disk, count, reached, kit.roster)?;
-    let tiles = read_chain(alloc, disk, count, reached, kit.tiles)?;
-    let board = read_chain(alloc, disk, count, reached, kit.board)?;
-    Ok(KitTexts {
-        chart,
-        roster,
-        tiles,
-        board,
-    })
+// What following a chain found.
+#[derive(Drop)]
+pub(crate) enum Followed {
+    Whole(ReadChain),
+    // The least clause that it breaks, as far as it goes.
+    Broken(PageDamage),
 }
 
-// Reads the chain of each table.
-pub(crate) fn read_tables<D: Disk>(
+// Chains that were followed one after another.
+#[derive(Drop)]
+struct Reading {
+    // Those that are whole.
+    whole: Vec<ReadChain>,
+    // The least clause that the others break.
+    least: Option<PageDamage>,
+}
+
+// Reads the chains of these heads. `Damaged` with the least clause that they break: behind a chain that is broken the
+// others are followed too.
+pub(crate) fn read_chains<D: Disk>(
     alloc: Global,
     disk: &mut D,
     count: u32,
     reached: &mut PageSet,
-    entries: &[TableEntry],
+    chains: &[ChainRef],
 ) -> Result<Vec<ReadChain>, Fault>
     requires { count ≤ 65536 }
-    ensures whole { IfOk result (λ tables. D.Honest disk.new
-        → AllRead (D.state disk.old).content count (marks_of reached.old) (table_heads entries.now) (marks_of reached.new)
-        (all_held tables.items)) }
-    ensures each { IfOk result (λ tables. length entries.now ≡ length tables.items) }
+    ensures whole { IfOk result (λ read. D.Honest disk.new
+        → AllRead (D.state disk.old).content count (marks_of reached.old) (map head_of chains.now) (marks_of reached.new)
+        (all_held read.items)) }
+    ensures each { IfOk result (λ read. length read.items ≡ length chains.now) }
     ensures broken { IfErr result (λ fault. D.Honest disk.new
-        → IsToldBroken (D.state disk.old).content count (marks_of reached.old) (table_heads entries.now) fault) }
+        → IsToldBroken (D.state disk.old).content count (marks_of reached.old) (map head_of chains.now) fault) }
     ensures fault { CountsFault (D.fault_count disk.old) (D.fault_count disk.new) result }
     ensures honest { D.Honest disk.new → D.Honest disk.old }
     ensures same_state { D.Honest disk.new → D.state disk.new ≡ D.state disk.old }
@@ -72,28 +55,76 @@ pub(crate) fn read_tables<D: Disk>(
     ensures works { D.Works disk.new → D.Works disk.old }
     ensures same_len { D.file_len disk.new ≡ D.file_len disk.old }
 {
-    let mut tables = Vec::new(alloc);
-    for entry in entries {
-        let table = read_chain(alloc, disk, count, reached, entry.chain)?;
-        tables.push(table)?;
+    let mut reading = Reading {
+        whole: Vec::new(alloc),
+        least: None,
+    };
+    for chain in chains {
+        let followed = follow(alloc, disk, count, reached, *chain)?;
+        reading.add(followed)?;
     }
-    Ok(tables)
+    let read = reading.judge()?;
+    Ok(read)
 }
 
-// Reads one chain.
-fn read_chain<D: Disk>(
+impl Reading {
+    // Adds what following one more chain found.
+    fn add(&mut self, followed: Followed) -> Result<(), Fault>
+        ensures whole { OnOk result (self.new.whole.items ≡ self.old.whole.items ++ read_of followed) }
+        ensures least { OnOk result (self.new.least ≡ lower_of self.old.least (damage_told followed)) }
+        ensures memory { IfErr result (λ fault. fault ≡ Fault.OutOfMemory) }
+    {
+        match followed {
+            Followed::Whole(chain) => self.whole.push(chain)?,
+            Followed::Broken(damage) => self.note(damage),
+        }
+        Ok(())
+    }
+
+    fn note(&mut self, damage: PageDamage)
+        ensures least { self.new.least ≡ lower_of self.old.least (Some damage) }
+        ensures whole { self.new.whole ≡ self.old.whole }
+    {
+        self.least = match self.least {
+            None => Some(damage),
+            Some(least) => Some(lower(least, damage)),
+        };
+    }
+
+    // The chains, if all are whole.
+    fn judge(self) -> Result<Vec<ReadChain>, Fault>
+        ensures { result ≡ told_least self.least self.whole }
+    {
+        match self.least {
+            None => Ok(self.whole),
+            Some(damage) => Err(Fault::Damaged(Damage::of_page(damage))),
+        }
+    }
+}
+
+// The one of the lower clause.
+fn lower(least: PageDamage, damage: PageDamage) -> PageDamage
+    ensures { result ≡ lower least damage }
+{
+    if damage.clause() < least.clause() {
+        damage
+    } else {
+        least
+    }
+}
+
+// Follows one chain.
+fn follow<D: Disk>(
     alloc: Global,
     disk: &mut D,
     count: u32,
     reached: &mut PageSet,
     chain: ChainRef,
-) -> Result<ReadChain, Fault>
+) -> Result<Followed, Fault>
     requires { count ≤ 65536 }
-    ensures whole { IfOk result (λ read. D.Honest disk.new
-        → AllRead (D.state disk.old).content count (marks_of reached.old) (head_of chain ∷ []) (marks_of reached.new)
-        (held read ∷ [])) }
-    ensures broken { IfErr result (λ fault. D.Honest disk.new
-        → IsToldBroken (D.state disk.old).content count (marks_of reached.old) (head_of chain ∷ []) fault) }
+    ensures followed { IfOk result (λ followed. D.Honest disk.new
+        → IsFollowed (D.state disk.old).content count (marks_of reached.old) (head_of chain) (marks_of reached.new) followed) }
+    ensures only { IfErr result (λ fault. D.Honest disk.new → IsNoVerdict fault) }
     ensures fault { CountsFault (D.fault_count disk.old) (D.fault_count disk.new) result }
     ensures honest { D.Honest disk.new → D.Honest disk.old }
     ensures same_state { D.Honest disk.new → D.state disk.new ≡ D.state disk.old }
@@ -103,6 +134,19 @@ fn read_chain<D: Disk>(
     ensures works { D.Works disk.new → D.Works disk.old }
     ensures same_len { D.file_len disk.new ≡ D.file_len disk.old }
 {
-    let read = chain_read(alloc, disk, count, reached, chain.head, Some(chain.length))?;
-    Ok(read)
+    match chain_read(alloc, disk, count, reached, chain.head, Some(chain.length)) {
+        Ok(read) => Ok(Followed::Whole(read)),
+        Err(fault) => broken(fault),
+    }
+}
+
+fn broken(fault: rr_pages::Fault) -> Result<Followed, Fault>
+    ensures { result ≡ told_broken fault }
+{
+    match fault {
+        rr_pages::Fault::Damaged(damage) => Ok(Followed::Broken(damage)),
+        rr_pages::Fault::NotAStore => Err(Fault::NotAStore),
+        rr_pages::Fault::Disk(fault) => Err(Fault::Disk(fault)),
+        rr_pages::Fault::FileFull | rr_pages::Fault::OutOfMemory => Err(Fault::OutOfMemory),
+    }
 }

@@ -6,9 +6,10 @@ ghost use Rattle.rr_reading.specs.Faults.{CountsFault};
 ghost use Rattle.rr_reading.specs.Held.{GoesOn, chains_held};
 ghost use Rattle.rr_reading.specs.Reading.{TakesRoot, HoldsChains, Reads, Refuses};
 
-use crate::chains::{read_tables, read_texts};
+use crate::chains::read_chains;
 use crate::directory::{FoundDirectory, read_directory};
 use crate::forms::are_of_form;
+use crate::named::{named_chains, take_texts};
 use crate::records::{FoundRecords, read_records};
 use crate::root::{page_count, read_root};
 use crate::{Damage, Fault};
@@ -58,10 +59,10 @@ struct FoundChains {
 /// Reads a store's file, as far as no rule of the game is needed. It writes nothing, and neither syncs.
 ///
 /// `NotAStore` where the file has fewer than 515 pages, no open root, or an open root of another version than 1; else
-/// `Damaged` with the first clause that it breaks, in the order in which it is read: the roots, the directory's pages and
-/// then its form, the pages and lengths of the chains that it names, one chain after another, and then the form of what
-/// the tables' chains hold. Else `Disk` or `OutOfMemory` alone. A record that is damaged is told by the end of its half:
-/// texts that are refused and commands that aren't lawful come before it.
+/// `Damaged` with the least clause that it breaks: of each open root, and then over all chains that can be found, those of
+/// the directory and, where that can be read, of the texts and tables that it names. A chain that breaks off is judged as
+/// far as it goes. Else `Disk` or `OutOfMemory` alone. A record that is damaged is told by the end of its half: texts that
+/// are refused and commands that aren't lawful come before it.
 pub fn read_file<D: Disk>(alloc: Global, disk: &mut D) -> Result<Contents, Fault>
     ensures read { D.Honest disk.new → Reads (D.state disk.old).content result }
     ensures near { IfOk result (λ contents. GoesOn contents.taken.root.half contents.near) }
@@ -76,7 +77,7 @@ pub fn read_file<D: Disk>(alloc: Global, disk: &mut D) -> Result<Contents, Fault
     ensures same_len { D.file_len disk.new ≡ D.file_len disk.old }
 {
     let taken = read_root(disk)?;
-    let found = read_chains(alloc, disk, &taken.root)?;
+    let found = read_found(alloc, disk, &taken.root)?;
     let records = read_records(alloc, disk, &taken.root)?;
     let FoundChains {
         dir,
@@ -99,7 +100,7 @@ pub fn read_file<D: Disk>(alloc: Global, disk: &mut D) -> Result<Contents, Fault
 }
 
 // Reads all chains of the root that is taken.
-fn read_chains<D: Disk>(alloc: Global, disk: &mut D, root: &Root) -> Result<FoundChains, Fault>
+fn read_found<D: Disk>(alloc: Global, disk: &mut D, root: &Root) -> Result<FoundChains, Fault>
     ensures found { IfOk result (λ found. D.Honest disk.new → (side : Bool) → TakesRoot (D.state disk.old).content side root.now
         → HoldsChains (D.state disk.old).content side root.now (directory_of found.dir) (held found.directory)
         (chains_held found.texts) (all_held found.tables.items) (marks_of found.reached)) }
@@ -120,10 +121,11 @@ fn read_chains<D: Disk>(alloc: Global, disk: &mut D, root: &Root) -> Result<Foun
         mut reached,
     } = read_directory(alloc, disk, root)?;
     let count = page_count(root.pages);
-    let texts = read_texts(alloc, disk, count, &mut reached, &dir.kit)?;
-    let tables = read_tables(alloc, disk, count, &mut reached, &dir.tables)?;
+    let named = named_chains(alloc, &dir)?;
+    let mut tables = read_chains(alloc, disk, count, &mut reached, &named)?;
+    let texts = take_texts(&mut tables);
     if !are_of_form(&dir.tables, &tables) {
-        return Err(Fault::Damaged(Damage::TableForm));
+        return Err(Fault::Damaged(Damage::Form));
     }
     Ok(FoundChains {
         dir,

@@ -1,32 +1,55 @@
 use std::alloc::{AllocError, AllocFailed};
 use thiserror::Error;
 
-/// Which clause a damaged file breaks, of those that its bytes alone decide. Of several the first one in the order of
-/// reading is told.
+/// Which clause a damaged file breaks, of those that its bytes alone decide. Of several the least is told, over all chains
+/// that can be found.
 #[derive(Clone, Copy, Debug, Drop, PartialEq, Eq, Error)]
 pub enum Damage {
-    /// A field of a root, or the pages of a chain.
-    #[error("{0}")]
-    Pages(rr_pages::Damage),
-    /// The bytes of the directory spell none.
+    /// A field of an open root is out of bounds, or two open roots have the same number.
+    #[error("1")]
+    RootField,
+    /// A page number of a chain is below 514, or not under the page count of the root.
+    #[error("2")]
+    PageOutside,
+    /// A page is reached twice.
+    #[error("3")]
+    PageTwice,
+    /// A page has more than 4,086 used bytes.
+    #[error("4")]
+    UsedBytes,
+    /// The bytes of the directory spell none, or a chain has another length than that says, or the bytes of a table's
+    /// chain aren't as many commands as it says.
     #[error("5")]
-    DirectoryForm,
-    /// The bytes of a table's chain aren't as many commands as the directory says.
-    #[error("5")]
-    TableForm,
+    Form,
 }
 
 impl Damage {
     ghost use Rattle.std.specs.Prelude.{◌≡◌};
-    ghost use Rattle.rr_reading.specs.Faults.{clause_of};
+    ghost use Rattle.rr_reading.specs.Faults.{clause_of, of_page};
 
     /// The number of the clause, 1 to 5.
     pub fn clause(self) -> u8
         ensures { result ≡ clause_of self }
     {
         match self {
-            Damage::Pages(damage) => damage.clause(),
-            Damage::DirectoryForm | Damage::TableForm => 5,
+            Damage::RootField => 1,
+            Damage::PageOutside => 2,
+            Damage::PageTwice => 3,
+            Damage::UsedBytes => 4,
+            Damage::Form => 5,
+        }
+    }
+
+    // The clause that a root or a chain breaks.
+    pub(crate) fn of_page(damage: rr_pages::Damage) -> Damage
+        ensures { result ≡ of_page damage }
+    {
+        match damage {
+            rr_pages::Damage::RootField => Damage::RootField,
+            rr_pages::Damage::PageOutside => Damage::PageOutside,
+            rr_pages::Damage::PageTwice => Damage::PageTwice,
+            rr_pages::Damage::UsedBytes => Damage::UsedBytes,
+            rr_pages::Damage::ChainLength => Damage::Form,
         }
     }
 }
@@ -74,7 +97,7 @@ impl From<rr_pages::Fault> for Fault {
 
     fn from(fault: rr_pages::Fault) -> Fault {
         match fault {
-            rr_pages::Fault::Damaged(damage) => Fault::Damaged(Damage::Pages(damage)),
+            rr_pages::Fault::Damaged(damage) => Fault::Damaged(Damage::of_page(damage)),
             rr_pages::Fault::NotAStore => Fault::NotAStore,
             rr_pages::Fault::Disk(fault) => Fault::Disk(fault),
             rr_pages::Fault::FileFull | rr_pages::Fault::OutOfMemory => Fault::OutOfMemory,
@@ -106,7 +129,7 @@ impl From<rr_dir::Fault> for Fault {
 
     fn from(fault: rr_dir::Fault) -> Fault {
         match fault {
-            rr_dir::Fault::Damaged => Fault::Damaged(Damage::DirectoryForm),
+            rr_dir::Fault::Damaged => Fault::Damaged(Damage::Form),
             rr_dir::Fault::OutOfMemory => Fault::OutOfMemory,
         }
     }

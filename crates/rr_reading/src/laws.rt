@@ -3,10 +3,11 @@ ghost use Rattle.rr_reading.specs.Laws as laws;
 
 use rr_images::Codec;
 
-/// A file holds one thing at most, and breaks one clause first, if any; one that holds something breaks none, and is a
-/// store, as is one that is damaged.
+/// A file holds one thing at most; in one way its chains are found, and it has one damage at most. One that holds
+/// something has none, and is a store, as is one that is damaged.
 pub fn files_have_one_answer()
     ensures held { laws.OneHeld }
+    ensures found { laws.OneFound }
     ensures damage { laws.OneDamage }
     ensures whole { laws.HeldIsWhole }
     ensures store { laws.StoreIsOne }
@@ -19,7 +20,9 @@ pub fn held_files_stand<C: Codec>()
     ensures stands { laws.HeldStands C.codec }
 {}
 
-/// A file with a damage of its roots, of its pages or of its directory's form is refused, and so stands for nothing.
+/// A damaged file is refused, and so stands for nothing. Where the damage is the form of what a table's chain holds, that
+/// is so of codecs which spell nothing then.
 pub fn damaged_files_are_refused<C: Codec>()
-    ensures { laws.DamagedIsRefused C.codec }
+    ensures bytes { laws.DamagedIsRefused C.codec }
+    ensures all { laws.AllDamagedAreRefused C.codec }
 {}

@@ -1,5 +1,5 @@
 //! What an opening reads of a store's file before the rules judge it: the root that is taken, its directory, the chains
-//! that this names, and the records of both halves; or the first clause of damage that the bytes alone decide. `read_file`
+//! that this names, and the records of both halves; or the least clause of damage that the bytes alone decide. `read_file`
 //! promises both exactly, of every file.
 #![tactic(auto)]
 
@@ -9,6 +9,7 @@ mod directory;
 mod fault;
 mod forms;
 pub mod laws;
+mod named;
 mod records;
 mod root;
 

@@ -3,9 +3,8 @@ ghost use Rattle.std.specs.Prelude.{◌≡◌, ◌+◌, ◌≤◌, ◌<◌, ◌^
 ghost use Rattle.rr_images.specs.Halves.{half_part};
 ghost use Rattle.rr_journal.specs.Reading.{lines};
 ghost use Rattle.rr_journal.specs.Run.{Run};
-ghost use Rattle.rr_reading.specs.Faults.{CountsFault};
+ghost use Rattle.rr_reading.specs.Faults.{CountsFault, IsNoVerdict};
 ghost use Rattle.rr_reading.specs.Held.{GoesOn};
-ghost use Rattle.rr_reading.specs.Reading.{IsNoVerdict};
 
 use crate::Fault;
 use crate::root::first_number;

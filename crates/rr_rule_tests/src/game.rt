@@ -123,4 +123,5 @@ fn laws_are_called(_rt: HostRuntime) {
     rr_laws::sound();
     rr_laws::kits_name_corporations();
     rr_laws::plays_go_on();
+    rr_game::laws::commands_have_one_verdict();
 }

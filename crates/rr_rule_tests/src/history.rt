@@ -185,6 +185,7 @@ fn a_command_is_judged_before_it_counts(rt: HostRuntime) {
 
 #[test]
 fn laws_are_called(_rt: HostRuntime) {
+    rr_hist::laws::requests_have_one_verdict();
     rr_hist::laws::tables_go_on();
     rr_hist::laws::back_goes_to_its_turn();
     rr_hist::laws::back_to_the_present_turn();

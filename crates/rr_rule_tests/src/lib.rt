@@ -17,4 +17,6 @@ mod lay;
 #[cfg(test)]
 mod sound;
 #[cfg(test)]
+mod sound_turns;
+#[cfg(test)]
 mod stock;

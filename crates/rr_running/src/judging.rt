@@ -1,11 +1,11 @@
 //! Judges the run that a corporation proposes.
-ghost use Rattle.std.specs.Prelude.{◌≡◌, ℕ, ◌≤◌, ◌≤ℤ◌, pos, length, IfOk, MatchResult};
+ghost use Rattle.std.specs.Prelude.{◌≡◌, ℕ, ◌≤◌, ◌≤ℤ◌, ◌⊎◌, None, Some, pos, length, IfOk, MatchResult};
 ghost use Rattle.rr_books.specs.Book.{Book};
 ghost use Rattle.rr_desk.specs.Incomes.{dollars};
 ghost use Rattle.rr_position.specs.Position.{IsPositionOf};
 ghost use Rattle.rr_routes.specs.Net.{value};
-ghost use Rattle.rr_runs.specs.Sheets.{IsLegal};
-ghost use Rattle.rr_running.specs.Running.{IsBestRefusal, IsBestRunOf, IsCertificateRefusal, IsRefusal, IsRunOf, Shows, net_now};
+ghost use Rattle.rr_sheets.specs.Sheet.{SpellsSheet, SpellsSomeSheet};
+ghost use Rattle.rr_running.specs.Running.{IsBestRunVerdict, IsCertificateRefusal, IsRunVerdict, IsVerdictOn, Shows, earned_on, net_now, run_revenue};
 
 use crate::fault::Fault;
 use crate::nets::net_now;
@@ -13,35 +13,46 @@ use rr_books::{Corp, Money};
 use rr_checker::{Net, check};
 use rr_desk::Position;
 use rr_kit::Kit;
-use rr_runs::legal;
+use rr_runs::{Clause, legal};
 use rr_sheets::{Sheet, read_certificate};
 use std::alloc::Global;
 
-/// Judges a run of the corporation by a sheet, and gives its revenue.
+/// A run that is said to earn the most.
+#[derive(Clone, Copy, Debug)]
+pub struct BestRun<'a> {
+    /// The words of its sheet, with one space between each two.
+    pub words: &'a [u8],
+    /// The words of the certificate that no run earns more.
+    pub certificate: &'a [u8],
+}
+
+/// Judges a run of the corporation by the words of its sheet, with one space between each two, and gives its revenue: a
+/// dollar amount, 0 for the empty sheet of a corporation without trains.
 ///
 /// # Errors
 ///
-/// `IllegalSheet` with the first clause that the sheet breaks. `OutOfMemory`, also where a network has more than 65,536
-/// centres, which none of a board has.
+/// `IllegalSheet` with the first clause that the sheet breaks; of words that spell no sheet this is `WrongWord`.
+/// `OutOfMemory`, also where a network has more than 65,536 centres, which none of a board has.
 pub fn judge_run(
     alloc: Global,
     kit: &Kit,
     position: &Position,
     corp: Corp,
-    sheet: &Sheet,
+    words: &[u8],
 ) -> Result<Money, Fault>
     ensures judged { (book : Book) → IsPositionOf book position.now → MatchResult result
-        (λ revenue. IsRunOf (net_now kit.now.board kit.now.tiles book corp) sheet.now revenue)
-        (λ fault. IsRefusal (net_now kit.now.board kit.now.tiles book corp) sheet.now fault) }
+        (λ revenue. IsRunVerdict kit.now book corp words.now None × (revenue ≡ run_revenue kit.now book corp words.now))
+        (λ fault. (fault ≡ Fault.OutOfMemory) ⊎ IsRunVerdict kit.now book corp words.now (Some fault)) }
     ensures least { IfOk result (λ revenue. pos 0 ≤ℤ revenue.0) }
     ensures greatest { IfOk result (λ revenue. revenue.0 ≤ℤ pos 7785676800) }
 {
     let net = net_now(alloc, kit, position, corp)?;
-    let revenue = earned_by(alloc, &net, sheet)?;
+    let revenue = earned_by(alloc, &net, words)?;
     Ok(amount(revenue))
 }
 
-/// Judges a run of the corporation by a sheet, with a certificate that no run earns more, and gives its revenue.
+/// Judges a run of the corporation by the words of its sheet, with a certificate that no run earns more, and gives its
+/// revenue.
 ///
 /// # Errors
 ///
@@ -52,33 +63,46 @@ pub fn judge_best_run(
     kit: &Kit,
     position: &Position,
     corp: Corp,
-    sheet: &Sheet,
-    certificate: &[u8],
+    run: &BestRun<'_>,
 ) -> Result<Money, Fault>
     ensures judged { (book : Book) → IsPositionOf book position.now → MatchResult result
-        (λ revenue. IsBestRunOf (net_now kit.now.board kit.now.tiles book corp) sheet.now certificate.now revenue)
-        (λ fault. IsBestRefusal (net_now kit.now.board kit.now.tiles book corp) sheet.now certificate.now fault) }
+        (λ revenue. IsBestRunVerdict kit.now book corp run.now.words.now run.now.certificate.now None × (revenue ≡ run_revenue kit.now book corp run.now.words.now))
+        (λ fault. (fault ≡ Fault.OutOfMemory) ⊎ IsBestRunVerdict kit.now book corp run.now.words.now run.now.certificate.now (Some fault)) }
     ensures least { IfOk result (λ revenue. pos 0 ≤ℤ revenue.0) }
     ensures greatest { IfOk result (λ revenue. revenue.0 ≤ℤ pos 7785676800) }
 {
     let net = net_now(alloc, kit, position, corp)?;
-    let earned = earned_by(alloc, &net, sheet)?;
-    judge_certificate(alloc, &net, earned, certificate)?;
+    let earned = earned_by(alloc, &net, run.words)?;
+    judge_certificate(alloc, &net, earned, run.certificate)?;
     Ok(amount(earned))
 }
 
-// What the sheet's run earns on the net.
-fn earned_by(alloc: Global, net: &Net, sheet: &Sheet) -> Result<usize, Fault>
+// What the run of these words earns on the net.
+fn earned_by(alloc: Global, net: &Net, words: &[u8]) -> Result<usize, Fault>
     requires values { (centre : ℕ) → value net.now centre ≤ 990 }
     requires centres { length net.now.values ≤ 65536 }
     requires trains { length net.now.trains ≤ 120 }
     ensures judged { MatchResult result
-        (λ earned. IsLegal net.now sheet.now earned)
-        (λ fault. IsRefusal net.now sheet.now fault) }
+        (λ earned. IsVerdictOn net.now words.now None × (earned ≡ earned_on net.now words.now))
+        (λ fault. (fault ≡ Fault.OutOfMemory) ⊎ IsVerdictOn net.now words.now (Some fault)) }
     ensures greatest { IfOk result (λ earned. earned ≤ 7785676800) }
 {
-    let earned = legal(alloc, net, sheet)?;
+    let sheet = sheet_of(alloc, words)?;
+    let earned = legal(alloc, net, &sheet)?;
     Ok(earned)
+}
+
+// The sheet that the words spell.
+fn sheet_of(alloc: Global, words: &[u8]) -> Result<Sheet, Fault>
+    ensures { MatchResult result
+        (λ sheet. SpellsSheet words.now sheet)
+        (λ fault. (fault ≡ Fault.OutOfMemory) ⊎ ((fault ≡ Fault.IllegalSheet Clause.WrongWord) × (SpellsSomeSheet words.now → ⊥))) }
+{
+    match Sheet::read(alloc, words) {
+        Ok(sheet) => Ok(sheet),
+        Err(rr_sheets::Fault::OutOfMemory) => Err(Fault::OutOfMemory),
+        Err(_) => Err(Fault::IllegalSheet(Clause::WrongWord)),
+    }
 }
 
 // Whether the text shows that no run of the net earns more.

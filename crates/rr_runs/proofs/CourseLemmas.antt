@@ -14,6 +14,7 @@ use Rattle.rr_sheets.specs.declared.sheet.TrainWord.{TrainWord}
 use Rattle.rr_runs.specs.declared.clause.Clause.{Clause}
 use Rattle.rr_runs.specs.declared.clause.Clause.TheVariants.{NoWalk, NodeTwice, TerminalInside, NoToken, TooManyCentres}
 use Rattle.rr_runs.specs.declared.fault.Fault.{Fault}
+use Rattle.rr_runs.specs.Revenue.{course_from, course_of}
 use Rattle.rr_runs.specs.Sheets.{Course, SomeToken, Asks, route_clauses, IsFirstBroken, IsItsWord, links_of, BreaksWord, no_route, IsRefusal}
 use Rattle.rr_runs.specs.Tests.{start_of, onward, IsCourse, IsOnlyCourse, IsRouteUp, IsLawfulWord}
 use Rattle.rr_runs.proofs.WordLemmas.{word_numbers}
@@ -63,6 +64,10 @@ module _ (net : Net) where
       let again : start_of net links ≡ Some h.centre = h.start in
       let same : h.centre ≡ centre = cc in
       h.along ∙ ap (λ c. Centre c ∷ onward net (Centre c) links) same ∙ sym along
+
+  -- a walk between centres goes along the nodes at which its links lead
+  pub course_is : (links : List ℕ) (nodes : List Node) → Walk net links nodes → EndsAreCentres nodes → nodes ≡ course_of net links
+  course_is links nodes walk ends = let h = begins links nodes walk ends in h.along ∙ ap (course_from net links) (sym h.start)
 
   -- two walks between centres over the same links go along the same nodes
   pub one_course : (links : List ℕ) (nodes others : List Node) → Walk net links nodes → EndsAreCentres nodes → Walk net links others → EndsAreCentres others → nodes ≡ others

@@ -62,6 +62,10 @@ trip_same one other links nodes =
     let first : one ≡ record { links = other.links; nodes = one.nodes } = ap (λ (ls : List ℕ). let t : Trip = record { links = ls; nodes = one.nodes } in t) links in
     first ∙ ap (λ (ns : List Node). let t : Trip = record { links = other.links; nodes = ns } in t) nodes
 
+-- the links of a trip are those that its word names
+pub places_named : (limit : CentreLimit) (word : TrainWord) (trip : Trip) → IsWordOf limit word trip → links_of word ≡ trip.links
+places_named limit word trip is = ap (λ (ns : List ℕ). map (λ number. number - 1) ns) is.numbers ∙ places_back trip.links
+
 -- a train's trip is a route or none
 abbrev IsRouteOrNone : Net → CentreLimit → Trip → Type 0
 IsRouteOrNone net limit trip = (trip ≡ no_trip) ⊎ Route net limit trip
@@ -138,7 +142,7 @@ none_first Holds clause a b c d e broken =
 
 module _ (net : Net) (limit : CentreLimit) (word : TrainWord) (trip : Trip) (is_word : IsWordOf limit word trip) (lawful : IsRouteOrNone net limit trip) where
   links_are : links_of word ≡ trip.links
-  links_are = ap (λ (ns : List ℕ). map (λ number. number - 1) ns) is_word.numbers ∙ places_back trip.links
+  links_are = places_named limit word trip is_word
 
   link_inside : IsRouteOrNone net limit trip → (link : ℕ) → Contains trip.links link → link < length net.links
   link_inside (inl none) link c = absurd (Contains-nil link (subst (λ (t : Trip). Contains t.links link) none c))

@@ -4,3 +4,4 @@ pub mod ApartLemmas
 pub mod SheetLemmas
 pub mod BoundLemmas
 pub mod LawLemmas
+pub mod RevenueLemmas

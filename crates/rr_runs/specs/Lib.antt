@@ -1,3 +1,4 @@
 pub mod Fault
+pub mod Revenue
 pub mod Sheets
 pub mod Tests

@@ -1,6 +1,7 @@
 //! Whether a sheet is that of a lawful run.
 ghost use Rattle.std.specs.Prelude.{◌≡◌, ℕ, ◌≤◌, IfOk, MatchResult, length, slice_get};
 ghost use Rattle.rr_routes.specs.Net.{limit_of, value};
+ghost use Rattle.rr_runs.specs.Revenue.{revenue_of};
 ghost use Rattle.rr_runs.specs.Sheets.{AreLawful, Breaks, BreaksWord, IsLegal, IsRefusal};
 ghost use Rattle.rr_runs.specs.Tests.{BreaksAWord, IsLawfulAt};
 
@@ -26,6 +27,7 @@ pub fn legal(alloc: Global, net: &Net, sheet: &Sheet) -> Result<usize, Fault>
     requires centres { length net.now.values ≤ 65536 }
     requires trains { length net.now.trains ≤ 1000 }
     ensures judged { MatchResult result (λ revenue. IsLegal net.now sheet.now revenue) (λ fault. IsRefusal (Breaks net.now sheet.now) fault) }
+    ensures shown { IfOk result (λ revenue. revenue ≡ revenue_of net.now sheet.now) }
     ensures bounded { IfOk result (λ revenue. revenue ≤ 4294901760000) }
 {
     let words = sheet.as_slice();

@@ -5,6 +5,7 @@ ghost use Rattle.rr_routes.specs.Routes.{Trip, Run, Optimal, earned};
 ghost use Rattle.rr_routes.specs.Certificates.{Accepts};
 ghost use Rattle.rr_routes.specs.declared.certificate.CertTree.{CertTree};
 ghost use Rattle.rr_sheets.specs.declared.sheet.TrainWord.{TrainWord};
+ghost use Rattle.rr_runs.specs.Revenue.{revenue_of};
 ghost use Rattle.rr_runs.specs.Sheets.{Breaks, IsLegal, IsSheetOf};
 ghost use Rattle.rr_runs.specs.declared.clause.Clause.{Clause};
 
@@ -15,6 +16,11 @@ pub fn optimal()
         (legal : IsLegal net sheet claim) → Optimal net legal.run }
     ensures sheets { (net : Net) (sheet other : List TrainWord) (claim revenue : ℕ) (tree : CertTree) → IsLegal net sheet claim →
         Accepts net claim tree → IsLegal net other revenue → revenue ≤ claim }
+{}
+
+/// A legal sheet has one revenue: what its words earn.
+pub fn revenue()
+    ensures { (net : Net) (sheet : List TrainWord) (revenue : ℕ) → IsLegal net sheet revenue → revenue ≡ revenue_of net sheet }
 {}
 
 /// A sheet is legal exactly where it is that of a lawful run. It is that of one run alone, whose revenue it has, and

@@ -1,5 +1,6 @@
 pub mod CertificateLemmas
 pub mod EachLemmas
+pub mod FormLemmas
 pub mod ForestLemmas
 pub mod JoinedLemmas
 pub mod SameLemmas

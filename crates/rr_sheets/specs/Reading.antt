@@ -1,5 +1,5 @@
 -- How words are read.
-use Rattle.std.specs.Prelude.{ℕ, ◌==◌, Bool, List, [], ◌∷◌, bytes_eq, if◌then◌else◌, Option, Some, None, option_map, option_and_then}
+use Rattle.std.specs.Prelude.{ℕ, ◌==◌, Bool, List, [], ◌∷◌, bytes_eq, if◌then◌else◌, Option, Some, None, option_map, option_and_then, unwrap_or}
 use Rattle.std.specs.List.{find, slice_split}
 use Rattle.rr_words.specs.Line.{words_of}
 use Rattle.rr_words.specs.Numeral.{number_of}
@@ -34,6 +34,10 @@ train_of (letter ∷ mark ∷ text) = if mark == 61 then option_and_then (train_
 abbrev pub sheet_of : List ℕ → Option (List TrainWord)
 sheet_of [] = Some []
 sheet_of (c ∷ rest) = each train_of (words_of (c ∷ rest))
+
+-- the words of the sheet that a text spells, and none where it spells no sheet
+unfoldable pub sheet_in : List ℕ → List TrainWord
+sheet_in text = unwrap_or (sheet_of text) []
 
 abbrev pub leaf_of : List ℕ → Option CertWord
 leaf_of word = if bytes_eq word (98 ∷ []) then Some W.Bound else if bytes_eq word (102 ∷ []) then Some W.Full else None

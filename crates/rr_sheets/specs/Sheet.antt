@@ -29,6 +29,10 @@ pub record SpellsSheet (text : List ℕ) (sheet : List TrainWord) : Type 0 where
   pub short : All HasShortNumbers sheet
   pub spelled : text ≡ text_of sheet
 
+-- the text is that of some sheet
+abbrev pub SpellsSomeSheet : List ℕ → Type 0
+SpellsSomeSheet text = (sheet : List TrainWord) × SpellsSheet text sheet
+
 -- why a text is read as no sheet: it spells none, or there is no memory
 abbrev pub IsSheetRefusal : List ℕ → Fault → Type 0
 IsSheetRefusal text Malformed = (sheet : List TrainWord) → ¬ SpellsSheet text sheet

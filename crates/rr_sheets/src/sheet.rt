@@ -1,5 +1,5 @@
 //! The sheet of a run: a word for each train.
-ghost use Rattle.std.specs.Prelude.{◌≡◌, ℕ, List, [], ◌∷◌, ◌++◌, OnOk, OnErr, IfOk, MatchResult, IsOkUnless, map};
+ghost use Rattle.std.specs.Prelude.{◌≡◌, ℕ, List, [], ◌∷◌, ◌++◌, OnOk, OnErr, IfOk, MatchResult, IsOkUnless, Some, map};
 ghost use Rattle.rr_words.specs.Line.{line_of};
 ghost use Rattle.rr_words.specs.Numeral.{number_of};
 ghost use Rattle.rr_sheets.specs.Each.{each};
@@ -127,7 +127,7 @@ impl TrainWord {
     }
 }
 
-fn kind_of(letter: u8) -> Option<Kind>
+pub(crate) fn kind_of(letter: u8) -> Option<Kind>
     ensures { result ≡ kind_of (letter ∷ []) }
 {
     Kind::from_name(&[letter])
@@ -183,6 +183,7 @@ impl Sheet {
     pub fn read(alloc: Global, text: &[u8]) -> Result<Sheet, Fault>
         ensures read { MatchResult result (λ sheet. SpellsSheet text.now sheet) (λ fault. IsSheetRefusal text.now fault) }
         ensures only { IfOk result (λ sheet. (other : List TrainWord) → SpellsSheet text.now other → other ≡ sheet) }
+        ensures value { IfOk result (λ sheet. sheet_of text.now ≡ Some sheet) }
     {
         match Sheet::read_text(alloc, text)? {
             Some(sheet) => Ok(sheet),

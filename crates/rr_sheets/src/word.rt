@@ -16,7 +16,7 @@ pub enum CertWord {
 }
 
 impl CertWord {
-    fn read(word: &[u8]) -> Option<CertWord>
+    pub(crate) fn read(word: &[u8]) -> Option<CertWord>
         ensures { result ≡ cert_word_of word.now }
     {
         match word {

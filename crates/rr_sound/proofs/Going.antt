@@ -129,7 +129,7 @@ keeps_move n cert to there o book h = goes_by n o o book (E.Move cert to) h refl
 more_seats : (k n : ℕ) → k < n → max n (k + 1) ≡ n
 more_seats k n h = omega arith
 
-same_players : (n : ℕ) (p : Party) → has_party n p ≡ true → max n (seats_up_to p) ≡ n
+pub same_players : (n : ℕ) (p : Party) → has_party n p ≡ true → max n (seats_up_to p) ≡ n
 same_players n P.Bank h = omega arith
 same_players n (P.Corp c) h = omega arith
 same_players n (P.Seat s) h = let lt : s.0 < n = grind (arith, nat_tests) in more_seats s.0 n lt
@@ -148,7 +148,7 @@ spent : (b : Bool) (m : ℕ) (x : ℤ) → pos (cond b m 0) ≤ℤ x → pos 0 �
 spent true m x h = omega (arith, ints)
 spent false m x h = omega (arith, ints)
 
-none_seated : (n : ℕ) → max n 0 ≡ n
+pub none_seated : (n : ℕ) → max n 0 ≡ n
 none_seated n = omega arith
 
 -- a seat pays its debt to the bank

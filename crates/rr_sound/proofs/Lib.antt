@@ -15,3 +15,4 @@ pub mod PricedShares
 pub mod StockPresidents
 pub mod PresidentPlays
 pub mod Priorities
+pub mod GoodOrder

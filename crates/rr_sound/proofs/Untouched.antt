@@ -16,6 +16,7 @@ use Rattle.rr_books.specs.declared.parties.Place.TheVariants as L
 use Rattle.rr_books.specs.declared.certificates.ShareNumber.{ShareNumber}
 use Rattle.rr_books.specs.declared.certificates.Cert.{Cert}
 use Rattle.rr_books.specs.declared.certificates.Cert.TheVariants as C
+use Rattle.rr_books.specs.declared.certificates.Train.{Train}
 use Rattle.rr_books.specs.declared.entries.Cell.{Cell}
 use Rattle.rr_books.specs.declared.entries.Entry.{Entry}
 use Rattle.rr_books.specs.declared.entries.Entry.TheVariants as E
@@ -170,6 +171,27 @@ spares_step c marker book =
 pub spares_pay : (c : Corp) (from to : Party) (amount : Money) → Spares c (adds (E.Pay from to amount))
 spares_pay c from to amount book =
     let e = E.Pay from to amount in
+    untouched_by c book e (keeps_by c book e refl (λ h. h) (promised_still (holder book) (held_after book e) c (λ p. refl)) (λ p h. h)) (λ m. refl)
+
+-- a train that changes hands, a tile, a token, and a run with its certificate
+pub spares_train : (c : Corp) (train : Train) (to : Place) → Spares c (adds (E.Train train to))
+spares_train c train to book =
+    let e = E.Train train to in
+    untouched_by c book e (keeps_by c book e refl (λ h. h) (promised_still (holder book) (held_after book e) c (λ p. refl)) (λ p h. h)) (λ m. refl)
+
+pub spares_lay : (c : Corp) (hex : List ℕ) (tile turn : ℕ) → Spares c (adds (E.Lay hex tile turn))
+spares_lay c hex tile turn book =
+    let e = E.Lay hex tile turn in
+    untouched_by c book e (keeps_by c book e refl (λ h. h) (promised_still (holder book) (held_after book e) c (λ p. refl)) (λ p h. h)) (λ m. refl)
+
+pub spares_station : (c : Corp) (d : Corp) (hex : List ℕ) (centre : ℕ) → Spares c (adds (E.Station d hex centre))
+spares_station c d hex centre book =
+    let e = E.Station d hex centre in
+    untouched_by c book e (keeps_by c book e refl (λ h. h) (promised_still (holder book) (held_after book e) c (λ p. refl)) (λ p h. h)) (λ m. refl)
+
+pub spares_best : (c : Corp) (d : Corp) (sheet certificate : List ℕ) → Spares c (adds (E.Best d sheet certificate))
+spares_best c d sheet certificate book =
+    let e = E.Best d sheet certificate in
     untouched_by c book e (keeps_by c book e refl (λ h. h) (promised_still (holder book) (held_after book e) c (λ p. refl)) (λ p h. h)) (λ m. refl)
 
 -- a mark of another corporation

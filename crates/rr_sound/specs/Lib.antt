@@ -3,3 +3,4 @@ pub mod Sound
 pub mod Play
 pub mod Presidencies
 pub mod Priority
+pub mod GoodOrder

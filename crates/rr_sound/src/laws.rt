@@ -1,4 +1,5 @@
 //! Laws of the definitions, each the contract of a function that does nothing.
+ghost use Rattle.rr_sound.specs.GoodOrder.{GoodOrderHasGreatestPresidents};
 ghost use Rattle.rr_sound.specs.Play.{AuctionStaysWithinHalf, MoneyStaysAlongPlays, PoolStaysWithinHalfAlongPlays, SoundAlongPlays};
 ghost use Rattle.rr_sound.specs.Presidencies.{AuctionStaysGoverned, GovernedHasGreatestPresidents, PresidentsStayGreatest, StockStaysGoverned};
 ghost use Rattle.rr_sound.specs.Priority.{FirstTurnIsOfPriority, PriorityIsOne};
@@ -97,4 +98,10 @@ pub fn priority_is_one()
 /// The first stock round begins with the turn of the seat that has priority by the auction.
 pub fn first_turn_is_of_priority()
     ensures { FirstTurnIsOfPriority }
+{}
+
+/// At a table in good order each 20% certificate is in the offering, or with a player than whom no other holds more of
+/// the corporation.
+pub fn good_order_has_greatest_presidents()
+    ensures { GoodOrderHasGreatestPresidents }
 {}

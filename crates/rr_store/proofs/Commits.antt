@@ -8,6 +8,8 @@ use Rattle.rr_kit.specs.Kits.{KitTexts}
 use Rattle.rr_code.specs.declared.command.Command.{Command}
 use Rattle.rr_code.specs.Request.{SpellsRecord, record_text}
 use Rattle.rr_turns.specs.declared.request.Request.{Request}
+use Rattle.rr_turns.specs.Judgement.{IsVerdict, MayFind}
+use Rattle.rr_turns.proofs.JudgementLemmas.{lawful-first}
 use Rattle.rr_keeper.specs.declared.keeper.Keeper.{Keeper}
 use Rattle.rr_keeper.specs.Keeper.{IsUnchanged as IsSame, Keeps as KeepsLines, is_broken, number_of_next, part_of}
 use Rattle.rr_keeper.specs.Keeper as file
@@ -18,14 +20,14 @@ use Rattle.rr_store.specs.declared.store.Store.{Store}
 use Rattle.rr_store.specs.Allowing.{BeforeOrAfter, Between, CommitAllows, CommitEnds, IsLawful, Keeps}
 use Rattle.rr_store.specs.Committing.{Commits, Spares}
 use Rattle.rr_store.specs.Fault.{CountsEnd, OnDevice}
-use Rattle.rr_store.specs.Held.{Accepted, Again, Fails, Held, NoRoom, Refused, Takes, stamp_after, with_failure, with_tables}
+use Rattle.rr_store.specs.Held.{Accepted, Again, Fails, Held, NoRoom, Refused, Takes, Wants, stamp_after, with_failure, with_tables}
 use Rattle.rr_store.specs.Holding.{Carries, IsFull, IsUnchanged, disk_of, held_of, keeper_of, world_of}
 use Rattle.rr_store.specs.Lent.{in_file}
 use Rattle.rr_store.specs.Logging.{HasNoRoom, Keeping, Passed, Stays}
 use Rattle.rr_store.specs.Replaying.{Replayed}
-use Rattle.rr_store.specs.World.{MayRefuse, World, for_table, verdict_in, world_after}
+use Rattle.rr_store.specs.World.{MayRefuse, World, for_table, judgement_in, world_after}
 use Rattle.rr_store.proofs.Standing.{carried_keeps, replayed_more, stands_either}
-use Rattle.rr_store.proofs.Verdicts.{no_failure, refused_full}
+use Rattle.rr_store.proofs.Verdicts.{no_failure, not_both, refused_full}
 
 abbrev held : Kit → World → Bool → Held
 held kit tables broken = record { kit = kit; tables = tables; broken = broken }
@@ -34,21 +36,28 @@ held_same : (r r' : Kit) (t t' : World) (b b' : Bool) → r' ≡ r → t' ≡ t 
 held_same r r' t t' b b' p q s = cc
 
 takes_accepted : (r r' : Kit) (t t' : World) (b b' : Bool) (stamp n : ℕ) (name : List ℕ) (c : Request Command)
-    → b ≡ false → b' ≡ false → r' ≡ r → t' ≡ world_after r t name c → verdict_in r t stamp name c ≡ None → n ≡ stamp_after r t name c
+    → b ≡ false → b' ≡ false → r' ≡ r → t' ≡ world_after r t name c → IsVerdict (judgement_in r t stamp name c) None → n ≡ stamp_after r t name c
     → Takes (held r t b) stamp name c (held r' t' b') (Ok n)
 takes_accepted r r' t t' b b' stamp n name c whole whole' p q lawful counted =
     subst (λ (x : ℕ). Takes (held r t b) stamp name c (held r' t' b') (Ok x)) (sym counted)
     (Accepted whole lawful (held_same r r' (world_after r t name c) t' b b' p q (whole' ∙ sym whole)))
 
-takes_refused : (Full : Type 0) (r r' : Kit) (t t' : World) (b b' : Bool) (stamp : ℕ) (name : List ℕ) (c : Request Command) (fault : Fault)
-    → b ≡ false → r' ≡ r → t' ≡ t → MayRefuse (verdict_in r t stamp name c) Full b fault b'
+takes_found : (r r' : Kit) (t t' : World) (b b' : Bool) (stamp : ℕ) (name : List ℕ) (c : Request Command) (fault : Fault)
+    → b ≡ false → held r' t' b' ≡ held r t b → MayFind (judgement_in r t stamp name c) F.OutOfMemory fault
     → Takes (held r t b) stamp name c (held r' t' b') (Err fault)
-takes_refused Full r r' t t' b b' stamp name c fault whole p q (inl by_rule) =
-    Refused fault whole by_rule.0 (held_same r r' t t' b b' p q by_rule.1)
+takes_found r r' t t' b b' stamp name c fault whole same (inl by_rule) = Refused fault whole by_rule same
+takes_found r r' t t' b b' stamp name c fault whole same (inr wants) =
+    subst (λ (f : Fault). Takes (held r t b) stamp name c (held r' t' b') (Err f)) (sym wants.1) (Wants whole wants.0 same)
+
+takes_refused : (Full : Type 0) (r r' : Kit) (t t' : World) (b b' : Bool) (stamp : ℕ) (name : List ℕ) (c : Request Command) (fault : Fault)
+    → b ≡ false → r' ≡ r → t' ≡ t → MayRefuse (judgement_in r t stamp name c) Full b fault b'
+    → Takes (held r t b) stamp name c (held r' t' b') (Err fault)
+takes_refused Full r r' t t' b b' stamp name c fault whole p q (inl found) =
+    takes_found r r' t t' b b' stamp name c fault whole (held_same r r' t t' b b' p q found.1) found.0
 takes_refused Full r r' t t' b b' stamp name c F.OutOfMemory whole p q (inr out) =
-    NoRoom F.OutOfMemory whole out.0 (inr refl) (held_same r r' t t' b b' p q out.1)
+    Wants whole (lawful-first (judgement_in r t stamp name c) out.0) (held_same r r' t t' b b' p q out.1)
 takes_refused Full r r' t t' b b' stamp name c F.HalfFull whole p q (inr out) =
-    NoRoom F.HalfFull whole out.0 (inl refl) (held_same r r' t t' b b' p q out.1.0)
+    NoRoom whole out.0 (held_same r r' t t' b b' p q out.1.0)
 takes_refused Full r r' t t' b b' stamp name c F.DeviceFailed whole p q (inr out) =
     Fails whole out.0 (held_same r r' t t' true b' p q out.1)
 takes_refused Full r r' t t' b b' stamp name c F.OpenAgain whole p q (inr out) =
@@ -110,16 +119,12 @@ module _ {D : Type 0} (Honest Works : D → Type 0) (state : D → DiskState) (p
   tables_now = (held_of old).tables
 
   abbrev Lawful : Type 0
-  Lawful = verdict_in kit_now tables_now stamp name c ≡ None
+  Lawful = IsVerdict (judgement_in kit_now tables_now stamp name c) None
 
   -- the file goes on with the lines that it had
   abbrev GoesOn : Type 0
   GoesOn = Honest (disk_of new) → is_broken (keeper_of new) ≡ false → (texts : KitTexts) (records : List (List ℕ))
       → KeepsLines (keeper_of old) (state (disk_of old)) (in_file texts) records → KeepsLines (keeper_of new) (state (disk_of new)) (in_file texts) records
-
-  room_calm : (fault : Fault) → (fault ≡ F.HalfFull) ⊎ (fault ≡ F.OutOfMemory) → fault ≡ F.DeviceFailed → ⊥
-  room_calm fault (inl is) e = let both : F.HalfFull ≡ F.DeviceFailed = sym is ∙ e in cc both
-  room_calm fault (inr is) e = let both : F.OutOfMemory ≡ F.DeviceFailed = sym is ∙ e in cc both
 
   -- all is as it was
   spared : (fault : Fault) → (fault ≡ F.DeviceFailed → ⊥) → Takes (held_of old) stamp name c (held_of new) (Err fault) → held_of new ≡ held_of old
@@ -272,32 +277,37 @@ module _ {D : Type 0} (Honest Works : D → Type 0) (state : D → DiskState) (p
     same_goes_on : new.log ≡ old.log → GoesOn
     same_goes_on still h whole texts records kept = subst (λ (l : Log D). KeepsLines l.keeper (state (file.disk_of l.keeper)) (in_file texts) records) (sym still) kept
 
-    refused : (fault : Fault) → Takes (held_of old) stamp name c (held_of new) (Err fault) → ((f : Fault) → verdict_in kit_now tables_now stamp name c ≡ Some f → new.log ≡ old.log)
+    refused : (fault : Fault) → Takes (held_of old) stamp name c (held_of new) (Err fault) → ((f : Fault) → IsVerdict (judgement_in kit_now tables_now stamp name c) (Some f) → new.log ≡ old.log)
         → (fault ≡ F.HalfFull → IsFull old name c)
         → (new.log ≡ old.log) ⊎ Keeps_record old.log bytes_of (Err fault) new.log → Done (Err fault)
     refused fault (Refused f whole verdict held_is) untouched full passed =
         spared f (no_failure kit_now tables_now stamp name c f verdict) (Refused f whole verdict held_is) held_is (same_log (untouched f verdict)) (same_goes_on (untouched f verdict)) full
-        (λ _ lawful none. let both : None ≡ Some f = sym lawful ∙ verdict in absurd (cc both))
-    refused fault (NoRoom f whole lawful why held_is) untouched full (inl still) =
-        spared f (room_calm f why) (NoRoom f whole lawful why held_is) held_is (same_log still) (same_goes_on still) full (λ _ _ none. why)
-    refused fault (NoRoom f whole lawful why held_is) untouched full (inr k) =
-        spared f (room_calm f why) (NoRoom f whole lawful why held_is) held_is (stays_same (keeper_of old) (keeper_of new) f (room_calm f why) k.stays)
-        (λ h unbroken texts records kept. k.keeps h unbroken (in_file texts) records kept) full (λ _ _ none. why)
+        (λ _ lawful none. absurd (not_both kit_now tables_now stamp name c f lawful verdict))
+    refused fault (Wants whole first held_is) untouched full (inl still) =
+        spared F.OutOfMemory (λ is. absurd (cc is)) (Wants whole first held_is) held_is (same_log still) (same_goes_on still) full (λ _ _ none. inr refl)
+    refused fault (Wants whole first held_is) untouched full (inr k) =
+        spared F.OutOfMemory (λ is. absurd (cc is)) (Wants whole first held_is) held_is (stays_same (keeper_of old) (keeper_of new) F.OutOfMemory (λ is. absurd (cc is)) k.stays)
+        (λ h unbroken texts records kept. k.keeps h unbroken (in_file texts) records kept) full (λ _ _ none. inr refl)
+    refused fault (NoRoom whole lawful held_is) untouched full (inl still) =
+        spared F.HalfFull (λ is. absurd (cc is)) (NoRoom whole lawful held_is) held_is (same_log still) (same_goes_on still) full (λ _ _ none. inl refl)
+    refused fault (NoRoom whole lawful held_is) untouched full (inr k) =
+        spared F.HalfFull (λ is. absurd (cc is)) (NoRoom whole lawful held_is) held_is (stays_same (keeper_of old) (keeper_of new) F.HalfFull (λ is. absurd (cc is)) k.stays)
+        (λ h unbroken texts records kept. k.keeps h unbroken (in_file texts) records kept) full (λ _ _ none. inl refl)
     refused fault (Fails whole lawful held_is) untouched full (inl still) =
         let both : true ≡ false = sym (ap (λ (x : Held). x.broken) held_is) ∙ ap (λ (l : Log D). is_broken l.keeper) still ∙ was in absurd (cc both)
     refused fault (Fails whole lawful held_is) untouched full (inr k) = failed (Fails whole lawful held_is) lawful held_is k
     refused fault (Again broken held_is) untouched full passed = let both : true ≡ false = sym broken ∙ was in absurd (cc both)
 
     pub commits : (result : Result ℕ Fault)
-        → MatchResult result (λ _. verdict_in kit_now tables_now stamp name c ≡ None)
-        (λ fault. MayRefuse (verdict_in kit_now tables_now stamp name c) (HasNoRoom (keeper_of old) bytes_of) (is_broken (keeper_of old)) fault (is_broken (keeper_of new)))
+        → MatchResult result (λ _. IsVerdict (judgement_in kit_now tables_now stamp name c) None)
+        (λ fault. MayRefuse (judgement_in kit_now tables_now stamp name c) (HasNoRoom (keeper_of old) bytes_of) (is_broken (keeper_of old)) fault (is_broken (keeper_of new)))
         → OnOk result (world_of new.tables.map.entries ≡ world_after kit_now tables_now name c)
         → IfOk result (λ n. n ≡ stamp_after kit_now tables_now name c)
         → OnOk result (is_broken (keeper_of new) ≡ false)
         → Passed Keeps_record old.log bytes_of new.log result
         → new.tables.kit ≡ old.tables.kit
         → OnErr result (new.tables.map.entries ≡ old.tables.map.entries)
-        → ((f : Fault) → verdict_in kit_now tables_now stamp name c ≡ Some f → new.log ≡ old.log)
+        → ((f : Fault) → IsVerdict (judgement_in kit_now tables_now stamp name c) (Some f) → new.log ≡ old.log)
         → Done result
     commits (Ok n) lawful world counted whole k kit_is entries untouched =
         taken n (takes_accepted _ _ _ _ _ _ stamp n name c was whole kit_is world lawful counted) lawful

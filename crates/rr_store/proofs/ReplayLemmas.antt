@@ -7,6 +7,7 @@ use Rattle.rr_code.specs.declared.command.Command.{Command}
 use Rattle.rr_code.specs.declared.fault.Fault as code
 use Rattle.rr_code.specs.Request.{SpellsRecord}
 use Rattle.rr_turns.specs.declared.request.Request.{Request}
+use Rattle.rr_turns.specs.Judgement.{IsVerdict}
 use Rattle.rr_keeper.specs.declared.fault.Fault as keeper
 use Rattle.rr_keeper.specs.declared.fault.Fault.TheVariants as K
 use Rattle.rr_keeper.specs.Opening.{Refuses}
@@ -15,8 +16,9 @@ use Rattle.rr_store.specs.declared.fault.Fault.TheVariants as F
 use Rattle.rr_kit.specs.Kits.{KitTexts}
 use Rattle.rr_store.specs.Fault.{of_keeper}
 use Rattle.rr_store.specs.Files.{RefusesOpening}
-use Rattle.rr_store.specs.Replaying.{BreaksOff, IsUnlawful, RefusesReplay, Replays, TakesRecord, damage_of, record_verdict}
-use Rattle.rr_store.specs.World.{MayRefuse, World, present_stamp, table_named, verdict_in}
+use Rattle.rr_store.specs.Replaying.{BreaksOff, IsUnlawful, RefusesReplay, Replays, TakesRecord, damage_of, record_judgement}
+use Rattle.rr_store.specs.World.{MayRefuse, World, judgement_in, present_stamp, table_named}
+use Rattle.rr_store.proofs.Verdicts.{not_both}
 
 pub Replays-push : (kit : Kit) (old mid new : World) (records : List (List ℕ)) (bytes : List ℕ)
     → Replays kit old records mid → TakesRecord kit mid bytes new → Replays kit old (records ++ bytes ∷ []) new
@@ -34,20 +36,21 @@ same_read x y r s p q e = cc
 -- the one request that a record spells is refused
 unlawful : (kit : Kit) (tables : World) (bytes name : List ℕ) (c : Request Command) (fault : Fault)
     → ((table : List ℕ) (other : Request Command) → SpellsRecord bytes table other → let r : Result Reads code.Fault = Ok (name, c) in r ≡ Ok (table, other))
-    → record_verdict kit tables name c ≡ Some fault → IsUnlawful kit tables bytes
+    → IsVerdict (record_judgement kit tables name c) (Some fault) → IsUnlawful kit tables bytes
 unlawful kit tables bytes name c fault only refused table other spells lawful =
     let same = same_read (name, c) (table, other) _ _ refl refl (only table other spells) in
-    let first = subst (λ (x : Reads). record_verdict kit tables x.0 x.1 ≡ Some fault) same refused in
-    cc
+    let first = subst (λ (x : Reads). IsVerdict (record_judgement kit tables x.0 x.1) (Some fault)) same refused in
+    not_both kit tables (present_stamp (table_named tables table)) table other fault lawful first
 
 -- where no file keeps the record, its request is refused by a rule or for want of memory
 pub refused_record : (kit : Kit) (tables : World) (bytes name : List ℕ) (c : Request Command) (stamp : ℕ) (fault : Fault)
     → ((table : List ℕ) (other : Request Command) → SpellsRecord bytes table other → let r : Result Reads code.Fault = Ok (name, c) in r ≡ Ok (table, other))
     → stamp ≡ present_stamp (table_named tables name)
-    → MayRefuse (verdict_in kit tables stamp name c) ⊥ false fault false
+    → MayRefuse (judgement_in kit tables stamp name c) ⊥ false fault false
     → (fault ≡ F.OutOfMemory) ⊎ IsUnlawful kit tables bytes
-refused_record kit tables bytes name c stamp fault only at (inl by_rule) =
-    inr (unlawful kit tables bytes name c fault only (subst (λ n. verdict_in kit tables n name c ≡ Some fault) at by_rule.0))
+refused_record kit tables bytes name c stamp fault only at (inl (inl by_rule, same)) =
+    inr (unlawful kit tables bytes name c fault only (subst (λ n. IsVerdict (judgement_in kit tables n name c) (Some fault)) at by_rule))
+refused_record kit tables bytes name c stamp fault only at (inl (inr wants, same)) = inl wants.1
 refused_record kit tables bytes name c stamp F.OutOfMemory only at (inr out) = inl refl
 refused_record kit tables bytes name c stamp F.HalfFull only at (inr out) = absurd out.1.1
 refused_record kit tables bytes name c stamp F.DeviceFailed only at (inr out) = let both = out.1 in cc

@@ -8,6 +8,7 @@ use Rattle.rr_kit.specs.Kits.{KitTexts}
 use Rattle.rr_code.specs.declared.command.Command.{Command}
 use Rattle.rr_code.specs.Request.{SpellsRecord}
 use Rattle.rr_turns.specs.declared.request.Request.{Request}
+use Rattle.rr_turns.specs.Judgement.{IsVerdict}
 use Rattle.rr_keeper.specs.File.{IsStore}
 use Rattle.rr_keeper.specs.Keeper.{number_of_next, part_of}
 use Rattle.rr_keeper.proofs.Parts.{is_store}
@@ -19,24 +20,24 @@ use Rattle.rr_store.specs.Holding.{Carries, IsUnchanged, disk_of, held_of, keepe
 use Rattle.rr_store.specs.Lent.{in_file}
 use Rattle.rr_store.specs.Logging.{IsStoreWith}
 use Rattle.rr_store.specs.Replaying.{Replayed, TakesRecord}
-use Rattle.rr_store.specs.World.{TableRequest, World, for_table, present_stamp, table_named, verdict_in, world_after}
+use Rattle.rr_store.specs.World.{TableRequest, World, for_table, judgement_in, present_stamp, table_named, world_after}
 use Rattle.rr_store.proofs.ReplayLemmas.{Replays-push}
 use Rattle.rr_store.proofs.Verdicts.{present}
 
 takes_record : (kit : Kit) (tables : World) (stamp : ℕ) (name bytes : List ℕ) (c : Request Command)
-    → SpellsRecord bytes name c → verdict_in kit tables stamp name c ≡ None → TakesRecord kit tables bytes (world_after kit tables name c)
+    → SpellsRecord bytes name c → IsVerdict (judgement_in kit tables stamp name c) None → TakesRecord kit tables bytes (world_after kit tables name c)
 takes_record kit tables stamp name bytes c spelled lawful =
     record {
       name = name;
       request = c;
       spelled = spelled;
-      lawful = subst (λ n. verdict_in kit tables n name c ≡ None) (present kit tables stamp name c lawful) lawful;
+      lawful = subst (λ n. IsVerdict (judgement_in kit tables n name c) None) (present kit tables stamp name c lawful) lawful;
       taken = refl;
     }
 
 -- a kit and records with one more
 pub replayed_more : (texts : KitTexts) (records : List (List ℕ)) (kit : Kit) (tables : World) (stamp : ℕ) (name bytes : List ℕ) (c : Request Command)
-    → SpellsRecord bytes name c → verdict_in kit tables stamp name c ≡ None → Replayed texts records kit tables
+    → SpellsRecord bytes name c → IsVerdict (judgement_in kit tables stamp name c) None → Replayed texts records kit tables
     → Replayed texts (records ++ bytes ∷ []) kit (world_after kit tables name c)
 replayed_more texts records kit tables stamp name bytes c spelled lawful h =
     record {
@@ -57,7 +58,7 @@ carried_keeps state store texts s = λ image is.
 
 -- a file with the record or without stands for the world with its request or without
 pub stands_either : (texts : KitTexts) (records : List (List ℕ)) (kit : Kit) (tables : World) (stamp : ℕ) (name bytes : List ℕ) (c : Request Command)
-    → SpellsRecord bytes name c → verdict_in kit tables stamp name c ≡ None → Replayed texts records kit tables
+    → SpellsRecord bytes name c → IsVerdict (judgement_in kit tables stamp name c) None → Replayed texts records kit tables
     → (image : List ℕ) → IsStoreWith (in_file texts) records bytes image → BeforeOrAfter texts kit tables (Some (for_table name c)) image
 stands_either texts records kit tables stamp name bytes c spelled lawful h image (inl store) = inl (stands_by image texts records kit tables store h)
 stands_either texts records kit tables stamp name bytes c spelled lawful h image (inr store) =

@@ -12,11 +12,8 @@ use Rattle.rr_code.specs.declared.command.Command.TheVariants.{Open}
 use Rattle.rr_kit.specs.declared.kit.Kit.{Kit}
 use Rattle.rr_turns.specs.declared.request.Request.{Request}
 use Rattle.rr_turns.specs.declared.request.Request.TheVariants.{Play}
-use Rattle.rr_hist.specs.declared.fault.Fault as table
-use Rattle.rr_hist.specs.Fault as tables_of
 use Rattle.rr_store.specs.declared.fault.Fault.{Fault}
-use Rattle.rr_store.specs.Fault.{of_table}
-use Rattle.rr_store.specs.World.{MayFind, TableState, World, names, opening_verdict, requests_in, state_after, step_verdict, table_named, verdict_in, world_after, world_by}
+use Rattle.rr_store.specs.World.{TableState, World, judgement_in, names, opening_verdict, requests_in, state_after, step_judgement, table_named, world_after, world_by}
 
 module _ {T : Type 0} (state : T → TableState) where
   named_step : (b : Bool) (e : List ℕ × T) (o : Option T) (p : Option TableState) → p ≡ option_map state o
@@ -78,31 +75,26 @@ module _ {T : Type 0} (state : T → TableState) where
       add_by name entries w _ same none
       ∙ ap (λ o. insert_entry bytes_eq (world_by state entries) name (state_after kit o c)) (sym (named_by name entries ∙ ap (option_map state) none))
 
-  -- the verdict of an opening, and of another request
-  pub opening_in : (kit : Kit) (name : List ℕ) (entries : List (List ℕ × T)) (stamp : ℕ) (players : List (List ℕ))
-      → verdict_in kit (world_by state entries) stamp name (Play (Open players))
+  -- the judgement on an opening, and on another request
+  pub opening_in : (name : List ℕ) (entries : List (List ℕ × T)) (stamp : ℕ)
+      → opening_verdict (table_named (world_by state entries) name) (length (world_by state entries)) stamp
       ≡ opening_verdict (option_map state (lookup (bytes_eq name) entries)) (length entries) stamp
-  opening_in kit name entries stamp players =
+  opening_in name entries stamp =
       ap (λ o. opening_verdict o (length (world_by state entries)) stamp) (named_by name entries)
       ∙ ap (λ n. opening_verdict (option_map state (lookup (bytes_eq name) entries)) n stamp) (counted_by entries)
 
   pub step_in : (kit : Kit) (name : List ℕ) (entries : List (List ℕ × T)) (stamp : ℕ) (c : Request Command)
       → ((players : List (List ℕ)) → c ≡ Play (Open players) → ⊥)
-      → verdict_in kit (world_by state entries) stamp name c
-      ≡ step_verdict kit (option_map state (lookup (bytes_eq name) entries)) stamp c
+      → judgement_in kit (world_by state entries) stamp name c
+      ≡ step_judgement kit (option_map state (lookup (bytes_eq name) entries)) stamp c
   step_in kit name entries stamp (Play (Open players)) other = absurd (other players refl)
-  step_in kit name entries stamp c other = ap (λ o. step_verdict kit o stamp c) (named_by name entries)
+  step_in kit name entries stamp c other = ap (λ o. step_judgement kit o stamp c) (named_by name entries)
 
   -- the stamp of a table that is opened
   pub named_stamp : (kit : Kit) (players : List (List ℕ)) (r : Result ℕ Fault) (o : Option T) → IfOk r (λ new. (new ≡ 1) × (o ≡ None))
       → IfOk r (λ new. new ≡ (state_after kit (option_map state o) (Play (Open players))).stamp)
   named_stamp kit players (Ok n) o h = h.0 ∙ sym (ap (λ p. (state_after kit (option_map state p) (Play (Open players))).stamp) h.1)
   named_stamp kit players (Err fault) o h = tt
-
--- what a store finds, from what the table does
-pub found : (verdict : Option table.Fault) (fault : table.Fault) → tables_of.MayFind verdict fault → MayFind (option_map of_table verdict) (of_table fault)
-found verdict fault (inl refused) = inl (ap (option_map of_table) refused)
-found verdict fault (inr memory) = inr (ap (option_map of_table) memory.0, ap of_table memory.1)
 
 -- the tables of a store by their names, as its map has them
 pub names_by : {T : Type 0} (state : T → TableState) (entries : List (List ℕ × T)) → names (world_by state entries) ≡ keys_of entries

@@ -5,10 +5,11 @@ use Rattle.rr_disk.specs.Disk.{DiskState, after_sync}
 use Rattle.rr_disk.specs.Moments.{EachImage, EachImageOf}
 use Rattle.rr_kit.specs.declared.kit.Kit.{Kit}
 use Rattle.rr_kit.specs.Kits.{IsRightKit, KitTexts, SpellsKit}
+use Rattle.rr_turns.specs.Judgement.{IsVerdict}
 use Rattle.rr_store.specs.declared.fault.Fault.{Fault}
 use Rattle.rr_store.specs.declared.fault.Fault.TheVariants as F
 use Rattle.rr_store.specs.Files.{IsDamagedFile, IsNewFile, IsNoFile, StandsFor}
-use Rattle.rr_store.specs.World.{IsOfForm, TableRequest, World, verdict_in, with_pending, world_after}
+use Rattle.rr_store.specs.World.{IsOfForm, TableRequest, World, judgement_in, with_pending, world_after}
 
 -- a stop in this state leaves only files that stand for this world
 abbrev pub Keeps : DiskState → KitTexts → World → Type 0
@@ -28,7 +29,7 @@ BeforeOrAfter texts kit tables pending image = StandsFor image texts tables ⊎ 
 pub record IsLawful (texts : KitTexts) (kit : Kit) (tables : World) (stamp : ℕ) (r : TableRequest) : Type 0 where
   pub right : SpellsKit texts kit
   pub of_form : IsOfForm r
-  pub lawful : verdict_in kit tables stamp r.name r.request ≡ None
+  pub lawful : IsVerdict (judgement_in kit tables stamp r.name r.request) None
 
 -- a request is pending only where it is lawful
 abbrev pub MayPend : KitTexts → Kit → World → ℕ → TableRequest → Option TableRequest → Type 0

@@ -3,6 +3,7 @@ use Rattle.std.specs.Prelude.{◌≡◌, ◌⊎◌, ℕ, ◌+◌, ◌≤◌, fal
 use Rattle.rr_disk.specs.Disk.{DiskState}
 use Rattle.rr_code.specs.declared.command.Command.{Command}
 use Rattle.rr_turns.specs.declared.request.Request.{Request}
+use Rattle.rr_turns.specs.Judgement.{IsVerdict}
 use Rattle.rr_kit.specs.Kits.{KitTexts}
 use Rattle.rr_store.specs.declared.fault.Fault.{Fault}
 use Rattle.rr_store.specs.declared.fault.Fault.TheVariants as F
@@ -11,7 +12,7 @@ use Rattle.rr_store.specs.Allowing.{Between, CommitAllows}
 use Rattle.rr_store.specs.Fault.{CountsEnd, OnDeviceFault}
 use Rattle.rr_store.specs.Held.{Takes}
 use Rattle.rr_store.specs.Holding.{Carries, GoesBehind, IsFull, IsUnchanged, disk_of, held_of}
-use Rattle.rr_store.specs.World.{for_table, verdict_in}
+use Rattle.rr_store.specs.World.{for_table, judgement_in}
 
 -- a refusal other than a device fault leaves a store as it was
 abbrev pub Spares : {D : Type 0} → Store D → Result ℕ Fault → Store D → Type 0
@@ -40,5 +41,5 @@ pub record Commits {D : Type 0} (Honest Works : D → Type 0) (state : D → Dis
   pub few_writes : writes (disk_of new) ≤ writes (disk_of old) + 2
   pub few_syncs : syncs (disk_of new) ≤ syncs (disk_of old) + 2
   pub full : result ≡ Err F.HalfFull → IsFull old name request
-  pub in_time : (held_of old).broken ≡ false → verdict_in (held_of old).kit (held_of old).tables stamp name request ≡ None → IsFull old name request
+  pub in_time : (held_of old).broken ≡ false → IsVerdict (judgement_in (held_of old).kit (held_of old).tables stamp name request) None → IsFull old name request
       → (result ≡ Err F.HalfFull) ⊎ (result ≡ Err F.OutOfMemory)

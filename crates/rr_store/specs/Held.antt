@@ -1,11 +1,12 @@
 -- What a store holds, and what comes of a request.
-use Rattle.std.specs.Prelude.{◌≡◌, ℕ, ◌⊎◌, Bool, true, false, List, None, Some, Result, Ok, Err}
+use Rattle.std.specs.Prelude.{◌≡◌, ℕ, Bool, true, false, List, None, Some, Result, Ok, Err}
 use Rattle.rr_kit.specs.declared.kit.Kit.{Kit}
 use Rattle.rr_code.specs.declared.command.Command.{Command}
 use Rattle.rr_turns.specs.declared.request.Request.{Request}
+use Rattle.rr_turns.specs.Judgement.{IsVerdict}
 use Rattle.rr_store.specs.declared.fault.Fault.{Fault}
 use Rattle.rr_store.specs.declared.fault.Fault.TheVariants as F
-use Rattle.rr_store.specs.World.{World, state_after, table_named, verdict_in, world_after}
+use Rattle.rr_store.specs.World.{World, judgement_in, state_after, table_named, world_after}
 
 -- what a store holds: the kit, the tables, and whether the device failed since the file was opened
 pub record Held : Type 0 where
@@ -26,18 +27,20 @@ stamp_after kit tables name request = (state_after kit (table_named tables name)
 -- what comes of a request with this stamp: its table's new stamp, or why it is refused
 pub data Takes (old : Held) (stamp : ℕ) (name : List ℕ) (request : Request Command) (new : Held) : Result ℕ Fault → Type 0 where
   -- no rule refuses it, and the table has taken it
-  Accepted : old.broken ≡ false → verdict_in old.kit old.tables stamp name request ≡ None
+  Accepted : old.broken ≡ false → IsVerdict (judgement_in old.kit old.tables stamp name request) None
       → new ≡ with_tables old (world_after old.kit old.tables name request)
       → Takes old stamp name request new (Ok (stamp_after old.kit old.tables name request))
   -- the first rule that it breaks refuses it
-  Refused : (fault : Fault) → old.broken ≡ false → verdict_in old.kit old.tables stamp name request ≡ Some fault
+  Refused : (fault : Fault) → old.broken ≡ false → IsVerdict (judgement_in old.kit old.tables stamp name request) (Some fault)
       → new ≡ old → Takes old stamp name request new (Err fault)
-  -- no rule refuses it, but there is no room for it in the file or in memory
-  NoRoom : (fault : Fault) → old.broken ≡ false → verdict_in old.kit old.tables stamp name request ≡ None
-      → (fault ≡ F.HalfFull) ⊎ (fault ≡ F.OutOfMemory)
-      → new ≡ old → Takes old stamp name request new (Err fault)
+  -- no rule that takes no memory to judge refuses it, but memory is wanted
+  Wants : old.broken ≡ false → (judgement_in old.kit old.tables stamp name request).first ≡ None
+      → new ≡ old → Takes old stamp name request new (Err F.OutOfMemory)
+  -- no rule refuses it, but there is no room for it in the file
+  NoRoom : old.broken ≡ false → IsVerdict (judgement_in old.kit old.tables stamp name request) None
+      → new ≡ old → Takes old stamp name request new (Err F.HalfFull)
   -- no rule refuses it, but the device failed
-  Fails : old.broken ≡ false → verdict_in old.kit old.tables stamp name request ≡ None
+  Fails : old.broken ≡ false → IsVerdict (judgement_in old.kit old.tables stamp name request) None
       → new ≡ with_failure old → Takes old stamp name request new (Err F.DeviceFailed)
   -- the device failed before
   Again : old.broken ≡ true → new ≡ old → Takes old stamp name request new (Err F.OpenAgain)

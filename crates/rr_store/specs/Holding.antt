@@ -1,11 +1,11 @@
 -- The tables in memory, as the tables that they stand for, and what a store holds.
 use Rattle.std.specs.Prelude.{◌≡◌, ℕ, List, length}
+use Rattle.std.specs.Global.{Box}
 use Rattle.rr_disk.specs.Disk.{DiskState}
 use Rattle.rr_code.specs.declared.command.Command.{Command}
 use Rattle.rr_code.specs.Request.{record_text}
 use Rattle.rr_turns.specs.declared.request.Request.{Request}
 use Rattle.rr_hist.specs.declared.table.Table.{Table}
-use Rattle.rr_hist.specs.Tables.{kept_in}
 use Rattle.rr_kit.specs.Kits.{KitTexts}
 use Rattle.rr_keeper.specs.declared.keeper.Keeper.{Keeper}
 use Rattle.rr_keeper.specs.Keeper.{Keeps as KeepsLines, is_broken, number_of_next, part_of}
@@ -13,6 +13,7 @@ use Rattle.rr_keeper.specs.Keeper as file
 use Rattle.rr_keeper.specs.Parts.{part_after}
 use Rattle.rr_store.specs.declared.store.Store.{Store}
 use Rattle.rr_store.specs.declared.tables.Tables.{Tables}
+use Rattle.rr_store.specs.Changing.{kept_in_box}
 use Rattle.rr_store.specs.Held.{Held}
 use Rattle.rr_store.specs.Lent.{in_file}
 use Rattle.rr_store.specs.Logging.{HasNoRoom}
@@ -20,8 +21,8 @@ use Rattle.rr_store.specs.Replaying.{Replayed}
 use Rattle.rr_store.specs.World.{World, world_by}
 
 -- the tables that a map's entries hold
-abbrev pub world_of : List (List ℕ × Table) → World
-world_of entries = world_by kept_in entries
+abbrev pub world_of : List (List ℕ × Box Table) → World
+world_of entries = world_by kept_in_box entries
 
 -- what tables in memory, and the keeper of their file, hold
 abbrev pub held_by : {D : Type 0} → Keeper D → Tables → Held

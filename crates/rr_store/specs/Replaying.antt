@@ -1,25 +1,26 @@
 -- The tables that the records of a file make.
-use Rattle.std.specs.Prelude.{◌≡◌, ℕ, ◌⊎◌, List, [], ◌∷◌, ◌++◌, map, Option, None, Vec}
+use Rattle.std.specs.Prelude.{◌≡◌, ℕ, ◌⊎◌, List, [], ◌∷◌, ◌++◌, map, None, Vec}
 use Rattle.std.specs.declared.alloc.Global.{Global}
 use Rattle.rr_kit.specs.declared.kit.Kit.{Kit}
 use Rattle.rr_kit.specs.Kits.{IsWrongKit, KitTexts, SpellsKit}
 use Rattle.rr_code.specs.declared.command.Command.{Command}
 use Rattle.rr_code.specs.Request.{SpellsRecord}
 use Rattle.rr_turns.specs.declared.request.Request.{Request}
+use Rattle.rr_turns.specs.Judgement.{IsVerdict, Judgement}
 use Rattle.rr_store.specs.declared.fault.Fault.{Fault}
 use Rattle.rr_store.specs.declared.fault.Fault.TheVariants as F
-use Rattle.rr_store.specs.World.{World, present_stamp, table_named, verdict_in, world_after}
+use Rattle.rr_store.specs.World.{World, judgement_in, present_stamp, table_named, world_after}
 
 -- a request is judged again with the present stamp of its table, since a record has none
-abbrev pub record_verdict : Kit → World → List ℕ → Request Command → Option Fault
-record_verdict kit tables name request = verdict_in kit tables (present_stamp (table_named tables name)) name request
+abbrev pub record_judgement : Kit → World → List ℕ → Request Command → Judgement Fault
+record_judgement kit tables name request = judgement_in kit tables (present_stamp (table_named tables name)) name request
 
 -- the record's request is lawful, and its table takes it
 pub record TakesRecord (kit : Kit) (old : World) (bytes : List ℕ) (new : World) : Type 0 where
   pub name : List ℕ
   pub request : Request Command
   pub spelled : SpellsRecord bytes name request
-  pub lawful : record_verdict kit old name request ≡ None
+  pub lawful : IsVerdict (record_judgement kit old name request) None
   pub taken : new ≡ world_after kit old name request
 
 -- the records are taken in turn
@@ -30,7 +31,7 @@ Replays kit old (bytes ∷ records) new = (mid : World) × TakesRecord kit old b
 -- the record has no lawful request
 abbrev pub IsUnlawful : Kit → World → List ℕ → Type 0
 IsUnlawful kit tables bytes =
-    (name : List ℕ) (request : Request Command) → SpellsRecord bytes name request → ¬ (record_verdict kit tables name request ≡ None)
+    (name : List ℕ) (request : Request Command) → SpellsRecord bytes name request → ¬ IsVerdict (record_judgement kit tables name request) None
 
 -- some of the records are taken, and the next has no lawful request
 pub record BreaksOff (kit : Kit) (old : World) (records : List (List ℕ)) : Type 0 where

@@ -1,5 +1,5 @@
 -- The tables of a store, from the requests that it accepted alone.
-use Rattle.std.specs.Prelude.{◌≡◌, ℕ, ◌+◌, ◌==◌, ◌⊎◌, Bool, true, not, nat_le, length, List, [], ◌∷◌, Option, None, Some, option_map, bytes_eq, map, if◌then◌else◌}
+use Rattle.std.specs.Prelude.{◌≡◌, ℕ, ◌+◌, ◌==◌, ◌⊎◌, Bool, true, not, nat_le, length, List, [], ◌∷◌, Option, None, Some, bytes_eq, map, if◌then◌else◌}
 use Rattle.std.specs.Map.{lookup}
 use Rattle.indexmap.specs.IndexMap.{insert_entry}
 use Rattle.rr_kit.specs.declared.kit.Kit.{Kit}
@@ -8,9 +8,10 @@ use Rattle.rr_code.specs.declared.command.Command.TheVariants.{Open}
 use Rattle.rr_code.specs.Request.{IsRequest}
 use Rattle.rr_turns.specs.declared.request.Request.{Request}
 use Rattle.rr_turns.specs.declared.request.Request.TheVariants.{Play}
+use Rattle.rr_turns.specs.Judgement.{IsVerdict, Judgement, MayFind, judgement_map, settled}
 use Rattle.rr_turns.specs.Kept.{Kept, kept_after, nothing}
 use Rattle.rr_hist.specs.Playing.{ends_turn}
-use Rattle.rr_hist.specs.Verdict.{request_verdict}
+use Rattle.rr_hist.specs.Verdict.{request_judgement}
 use Rattle.rr_words.specs.Name.{IsTableName}
 use Rattle.rr_store.specs.declared.fault.Fault.{Fault}
 use Rattle.rr_store.specs.declared.fault.Fault.TheVariants as F
@@ -37,24 +38,21 @@ IsKeptOut Full before F.DeviceFailed after = after ≡ true
 IsKeptOut Full before F.OpenAgain after = before ≡ true
 IsKeptOut Full before _ after = ⊥
 
--- what a taker of requests may answer where this is the verdict
-abbrev pub MayRefuse : Option Fault → Type 0 → Bool → Fault → Bool → Type 0
-MayRefuse verdict Full before fault after =
-    ((verdict ≡ Some fault) × (after ≡ before)) ⊎ ((verdict ≡ None) × IsKeptOut Full before fault after)
+-- what a taker of requests may answer where this is the judgement: what a judge may find, before a record is kept; and of a
+-- lawful request what keeps it from being taken
+abbrev pub MayRefuse : Judgement Fault → Type 0 → Bool → Fault → Bool → Type 0
+MayRefuse judgement Full before fault after =
+    (MayFind judgement F.OutOfMemory fault × (after ≡ before)) ⊎ (IsVerdict judgement None × IsKeptOut Full before fault after)
 
--- what a judge of requests may find where this is the verdict: the verdict's fault, or want of memory
-abbrev pub MayFind : Option Fault → Fault → Type 0
-MayFind verdict fault = (verdict ≡ Some fault) ⊎ ((verdict ≡ None) × (fault ≡ F.OutOfMemory))
-
--- why a request is refused, if it is, by the table of its name, which there may not be
-abbrev pub step_verdict : Kit → Option TableState → ℕ → Request Command → Option Fault
-step_verdict kit None stamp request = Some F.NoSuchTable
-step_verdict kit (Some t) stamp request = option_map of_table (request_verdict kit t stamp request)
+-- the judgement on a request, by the table of its name, which there may not be
+abbrev pub step_judgement : Kit → Option TableState → ℕ → Request Command → Judgement Fault
+step_judgement kit None stamp request = settled (Some F.NoSuchTable)
+step_judgement kit (Some t) stamp request = judgement_map of_table (request_judgement kit t stamp request)
 
 -- and by the number of tables, where it opens one
-abbrev pub world_verdict : Kit → Option TableState → ℕ → ℕ → Request Command → Option Fault
-world_verdict kit table tables stamp (Play (Open players)) = opening_verdict table tables stamp
-world_verdict kit table tables stamp request = step_verdict kit table stamp request
+abbrev pub world_judgement : Kit → Option TableState → ℕ → ℕ → Request Command → Judgement Fault
+world_judgement kit table tables stamp (Play (Open players)) = settled (opening_verdict table tables stamp)
+world_judgement kit table tables stamp request = step_judgement kit table stamp request
 
 -- the table after an accepted request, where there may have been none
 abbrev pub state_after : Kit → Option TableState → Request Command → TableState
@@ -78,10 +76,10 @@ abbrev pub present_stamp : Option TableState → ℕ
 present_stamp None = 0
 present_stamp (Some t) = t.stamp
 
--- why a request with this stamp is refused at the table of this name, if it is
-abbrev pub verdict_in : Kit → World → ℕ → List ℕ → Request Command → Option Fault
-verdict_in kit tables stamp name request =
-    world_verdict kit (table_named tables name) (length tables) stamp request
+-- the judgement on a request with this stamp at the table of this name
+abbrev pub judgement_in : Kit → World → ℕ → List ℕ → Request Command → Judgement Fault
+judgement_in kit tables stamp name request =
+    world_judgement kit (table_named tables name) (length tables) stamp request
 
 -- the tables after an accepted request: the table of this name has taken it, and one that it opened comes last
 abbrev pub world_after : Kit → World → List ℕ → Request Command → World
@@ -107,7 +105,7 @@ IsOfForm r = IsTableName r.name × IsRequest r.request
 
 -- a request is lawful at the present stamp of its table
 abbrev pub IsLawfulIn : Kit → World → TableRequest → Type 0
-IsLawfulIn kit tables r = IsOfForm r × (verdict_in kit tables (present_stamp (table_named tables r.name)) r.name r.request ≡ None)
+IsLawfulIn kit tables r = IsOfForm r × IsVerdict (judgement_in kit tables (present_stamp (table_named tables r.name)) r.name r.request) None
 
 -- these requests, each lawful in its turn, lead from one world to another
 abbrev pub Follows : Kit → World → List TableRequest → World → Type 0

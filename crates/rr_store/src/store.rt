@@ -4,7 +4,7 @@ ghost use Rattle.rr_code.specs.Request.{IsRequest, record_text};
 ghost use Rattle.rr_hist.specs.Tables.{IsPlayed, kept_in};
 ghost use Rattle.rr_words.specs.Name.{IsTableName};
 ghost use Rattle.rr_store.specs.Held.{LacksTable};
-ghost use Rattle.rr_store.specs.World.{names, requests_in, table_named, verdict_in};
+ghost use Rattle.rr_store.specs.World.{names, requests_in, table_named};
 
 use crate::fault::Fault;
 use crate::log::Log;
@@ -131,7 +131,10 @@ impl<D: Disk + Drop> Store<D> {
         if self.log.keeper.is_broken() {
             return Err(Fault::OpenAgain);
         }
-        self.tables.table(name)
+        match self.tables.table(name) {
+            Ok(table) => Ok(&**table),
+            Err(fault) => Err(fault),
+        }
     }
 
     /// The number of the last request that was accepted, counted over all tables from 1; 0 where there is none.

@@ -6,11 +6,12 @@ ghost use Rattle.rr_code.specs.Request.{IsRequest, record_text};
 ghost use Rattle.rr_code.specs.declared.command.Command.{Command as Line};
 ghost use Rattle.rr_hist.specs.Changing.{Fits, IsChangeBy};
 ghost use Rattle.rr_hist.specs.Playing.{ends_turn};
-ghost use Rattle.rr_hist.specs.Tables.{IsPlayed, kept_in};
+ghost use Rattle.rr_hist.specs.Tables.{IsPlayed};
 ghost use Rattle.rr_kit.specs.declared.kit.Kit.{Kit as AnyKit};
-ghost use Rattle.rr_store.specs.Changing.{IsChangeOf};
+ghost use Rattle.rr_store.specs.Changing.{IsChangeOf, kept_in_box};
 ghost use Rattle.rr_store.specs.Logging.{Passed};
-ghost use Rattle.rr_store.specs.World.{IsKeptOut, MayFind, MayRefuse, opening_verdict, state_after, step_verdict};
+ghost use Rattle.rr_store.specs.World.{IsKeptOut, MayRefuse, opening_verdict, state_after, step_judgement};
+ghost use Rattle.rr_turns.specs.Judgement.{IsVerdict, MayFind, settled};
 ghost use Rattle.rr_turns.specs.Kept.{kept_after};
 ghost use Rattle.rr_turns.specs.declared.request.Request.{Request as AnyRequest};
 
@@ -66,15 +67,15 @@ impl Journal for Standing {
 #[derive(Drop)]
 pub(crate) struct Tables {
     kit: Kit,
-    map: IndexMap<Name, Table>,
+    map: IndexMap<Name, Box<Table>>,
     ghost room: { 64 ≤ index_map_len map + spare map },
     ghost few: { index_map_len map ≤ 64 },
-    ghost played: { (name : List ℕ) → IfSome (get bytes_eq map name) (λ table. IsPlayed kit table) } by { Prim.hlevel props },
+    ghost played: { (name : List ℕ) → IfSome (get bytes_eq map name) (λ table. IsPlayed kit table.value) } by { Prim.hlevel props },
 }
 
 impl Tables {
     ghost use Rattle.rr_store.specs.Holding.{world_of};
-    ghost use Rattle.rr_store.specs.World.{present_stamp, requests_in, table_named, verdict_in, world_after};
+    ghost use Rattle.rr_store.specs.World.{judgement_in, present_stamp, requests_in, table_named, world_after};
 
     /// No table, with room for as many as there may be.
     pub(crate) fn new(alloc: Global, kit: Kit) -> Result<Tables, Fault>
@@ -119,7 +120,7 @@ impl Tables {
         ensures few { result ≤ 4000000000 }
     {
         match self.map.get_index(place) {
-            Some((_, table)) => table.stamp(),
+            Some((_, table)) => stamp_of(table),
             None => unreachable!(),
         }
     }
@@ -135,11 +136,11 @@ impl Tables {
     }
 
     /// The table of this name.
-    pub(crate) fn table(&self, name: &Name) -> Result<&Table, Fault>
+    pub(crate) fn table(&self, name: &Name) -> Result<&Box<Table>, Fault>
         ensures value { MatchResult result
             (λ table. get bytes_eq self.now.map name.now ≡ Some table.now)
             (λ fault. (fault ≡ Fault.NoSuchTable) × (get bytes_eq self.now.map name.now ≡ None)) }
-        ensures played { IfOk result (λ table. IsPlayed self.now.kit table.now) }
+        ensures played { IfOk result (λ table. IsPlayed self.now.kit table.now.value) }
     {
         match self.map.get(name) {
             Some(table) => Ok(table),
@@ -149,7 +150,7 @@ impl Tables {
 
     /// The stamp of the table of this name, 0 without one.
     pub(crate) fn stamp(&self, name: &Name) -> u64
-        ensures { result ≡ present_stamp (option_map kept_in (get bytes_eq self.now.map name.now)) }
+        ensures { result ≡ present_stamp (option_map kept_in_box (get bytes_eq self.now.map name.now)) }
     {
         match self.map.get(name) {
             Some(table) => table.stamp(),
@@ -169,15 +170,15 @@ impl Tables {
     ) -> Result<u64, Fault>
         requires { IsRequest request.now }
         ensures verdict { MatchResult result
-            (λ _. verdict_in self.old.kit (world_of self.old.map.entries) stamp name.now request.now ≡ None)
-            (λ fault. MayRefuse (verdict_in self.old.kit (world_of self.old.map.entries) stamp name.now request.now) (J.IsFull journal.old (record_text name.now request.now)) (J.broken journal.old) fault (J.broken journal.new)) }
+            (λ _. IsVerdict (judgement_in self.old.kit (world_of self.old.map.entries) stamp name.now request.now) None)
+            (λ fault. MayRefuse (judgement_in self.old.kit (world_of self.old.map.entries) stamp name.now request.now) (J.IsFull journal.old (record_text name.now request.now)) (J.broken journal.old) fault (J.broken journal.new)) }
         ensures world { OnOk result (world_of self.new.map.entries ≡ world_after self.old.kit (world_of self.old.map.entries) name.now request.now) }
         ensures stamp { IfOk result (λ new. new ≡ (state_after self.old.kit (table_named (world_of self.old.map.entries) name.now) request.now).stamp) }
         ensures whole { OnOk result (J.broken journal.new ≡ false) }
         ensures kept { Passed J.Kept journal.old (record_text name.now request.now) journal.new result }
         ensures kit { self.new.kit ≡ self.old.kit }
         ensures err { OnErr result (self.new.map.entries ≡ self.old.map.entries) }
-        ensures untouched { (fault : Fault) → verdict_in self.old.kit (world_of self.old.map.entries) stamp name.now request.now ≡ Some fault
+        ensures untouched { (fault : Fault) → IsVerdict (judgement_in self.old.kit (world_of self.old.map.entries) stamp name.now request.now) (Some fault)
             → journal.new ≡ journal.old }
     {
         match opening_of(request) {
@@ -196,15 +197,15 @@ impl Tables {
         journal: &mut J,
     ) -> Result<u64, Fault>
         ensures verdict { MatchResult result
-            (λ _. opening_verdict (option_map kept_in (get bytes_eq self.old.map name.now)) (index_map_len self.old.map) stamp ≡ None)
-            (λ fault. MayRefuse (opening_verdict (option_map kept_in (get bytes_eq self.old.map name.now)) (index_map_len self.old.map) stamp) (J.IsFull journal.old (record_text name.now (Request.Play (Command.Open players.now)))) (J.broken journal.old) fault (J.broken journal.new)) }
+            (λ _. IsVerdict (settled (opening_verdict (option_map kept_in_box (get bytes_eq self.old.map name.now)) (index_map_len self.old.map) stamp)) None)
+            (λ fault. MayRefuse (settled (opening_verdict (option_map kept_in_box (get bytes_eq self.old.map name.now)) (index_map_len self.old.map) stamp)) (J.IsFull journal.old (record_text name.now (Request.Play (Command.Open players.now)))) (J.broken journal.old) fault (J.broken journal.new)) }
         ensures world { OnOk result (world_of self.new.map.entries ≡ world_after self.old.kit (world_of self.old.map.entries) name.now (Request.Play (Command.Open players.now))) }
         ensures stamp { IfOk result (λ new. (new ≡ 1) × (get bytes_eq self.old.map name.now ≡ None)) }
         ensures whole { OnOk result (J.broken journal.new ≡ false) }
         ensures kept { Passed J.Kept journal.old (record_text name.now (Request.Play (Command.Open players.now))) journal.new result }
         ensures kit { self.new.kit ≡ self.old.kit }
         ensures err { OnErr result (self.new.map.entries ≡ self.old.map.entries) }
-        ensures untouched { (fault : Fault) → opening_verdict (option_map kept_in (get bytes_eq self.old.map name.now)) (index_map_len self.old.map) stamp ≡ Some fault
+        ensures untouched { (fault : Fault) → IsVerdict (settled (opening_verdict (option_map kept_in_box (get bytes_eq self.old.map name.now)) (index_map_len self.old.map) stamp)) (Some fault)
             → journal.new ≡ journal.old }
     {
         self.judge_opening(stamp, name)?;
@@ -216,10 +217,10 @@ impl Tables {
     }
 
     /// A new table.
-    fn add(&mut self, name: Name, table: Table)
+    fn add(&mut self, name: Name, table: Box<Table>)
         requires few { index_map_len self.old.map < 64 }
         requires absent { get bytes_eq self.old.map name ≡ None }
-        requires played { IsPlayed self.old.kit table }
+        requires played { IsPlayed self.old.kit table.value }
         ensures last { self.new.map.entries ≡ self.old.map.entries ++ (name, table) ∷ [] }
         ensures kit { self.new.kit ≡ self.old.kit }
     {
@@ -228,8 +229,8 @@ impl Tables {
 
     fn judge_opening(&self, stamp: u64, name: &Name) -> Result<(), Fault>
         ensures verdict { MatchResult result
-            (λ _. opening_verdict (option_map kept_in (get bytes_eq self.now.map name.now)) (index_map_len self.now.map) stamp ≡ None)
-            (λ fault. opening_verdict (option_map kept_in (get bytes_eq self.now.map name.now)) (index_map_len self.now.map) stamp ≡ Some fault) }
+            (λ _. opening_verdict (option_map kept_in_box (get bytes_eq self.now.map name.now)) (index_map_len self.now.map) stamp ≡ None)
+            (λ fault. opening_verdict (option_map kept_in_box (get bytes_eq self.now.map name.now)) (index_map_len self.now.map) stamp ≡ Some fault) }
         ensures absent { OnOk result (get bytes_eq self.now.map name.now ≡ None) }
         ensures few { OnOk result (index_map_len self.now.map < 64) }
     {
@@ -256,15 +257,15 @@ impl Tables {
     ) -> Result<u64, Fault>
         requires { IsRequest request.now }
         ensures verdict { MatchResult result
-            (λ _. step_verdict self.old.kit (option_map kept_in (get bytes_eq self.old.map name.now)) stamp request.now ≡ None)
-            (λ fault. MayRefuse (step_verdict self.old.kit (option_map kept_in (get bytes_eq self.old.map name.now)) stamp request.now) (J.IsFull journal.old (record_text name.now request.now)) (J.broken journal.old) fault (J.broken journal.new)) }
+            (λ _. IsVerdict (step_judgement self.old.kit (option_map kept_in_box (get bytes_eq self.old.map name.now)) stamp request.now) None)
+            (λ fault. MayRefuse (step_judgement self.old.kit (option_map kept_in_box (get bytes_eq self.old.map name.now)) stamp request.now) (J.IsFull journal.old (record_text name.now request.now)) (J.broken journal.old) fault (J.broken journal.new)) }
         ensures world { OnOk result (world_of self.new.map.entries ≡ world_after self.old.kit (world_of self.old.map.entries) name.now request.now) }
-        ensures stamp { IfOk result (λ new. new ≡ (state_after self.old.kit (option_map kept_in (get bytes_eq self.old.map name.now)) request.now).stamp) }
+        ensures stamp { IfOk result (λ new. new ≡ (state_after self.old.kit (option_map kept_in_box (get bytes_eq self.old.map name.now)) request.now).stamp) }
         ensures whole { OnOk result (J.broken journal.new ≡ false) }
         ensures kept { Passed J.Kept journal.old (record_text name.now request.now) journal.new result }
         ensures kit { self.new.kit ≡ self.old.kit }
         ensures err { OnErr result (self.new.map.entries ≡ self.old.map.entries) }
-        ensures untouched { (fault : Fault) → step_verdict self.old.kit (option_map kept_in (get bytes_eq self.old.map name.now)) stamp request.now ≡ Some fault
+        ensures untouched { (fault : Fault) → IsVerdict (step_judgement self.old.kit (option_map kept_in_box (get bytes_eq self.old.map name.now)) stamp request.now) (Some fault)
             → journal.new ≡ journal.old }
     {
         let change = self.judge(alloc, stamp, name, request)?;
@@ -282,8 +283,8 @@ impl Tables {
     ) -> Result<Change, Fault>
         requires { IsRequest request.now }
         ensures verdict { MatchResult result
-            (λ _. step_verdict self.now.kit (option_map kept_in (get bytes_eq self.now.map name.now)) stamp request.now ≡ None)
-            (λ fault. MayFind (step_verdict self.now.kit (option_map kept_in (get bytes_eq self.now.map name.now)) stamp request.now) fault) }
+            (λ _. IsVerdict (step_judgement self.now.kit (option_map kept_in_box (get bytes_eq self.now.map name.now)) stamp request.now) None)
+            (λ fault. MayFind (step_judgement self.now.kit (option_map kept_in_box (get bytes_eq self.now.map name.now)) stamp request.now) Fault.OutOfMemory fault) }
         ensures change { IfOk result (λ change. IsChangeOf self.now.kit (get bytes_eq self.now.map name.now) request.now change) }
     {
         let table = self.table(name)?;
@@ -297,7 +298,7 @@ impl Tables {
         ensures world { (request : AnyRequest Line) → IsChangeOf self.old.kit (get bytes_eq self.old.map name.now) request change →
             world_of self.new.map.entries ≡ world_after self.old.kit (world_of self.old.map.entries) name.now request }
         ensures stamp { (request : AnyRequest Line) → IsChangeOf self.old.kit (get bytes_eq self.old.map name.now) request change →
-            result ≡ (state_after self.old.kit (option_map kept_in (get bytes_eq self.old.map name.now)) request).stamp }
+            result ≡ (state_after self.old.kit (option_map kept_in_box (get bytes_eq self.old.map name.now)) request).stamp }
         ensures kit { self.new.kit ≡ self.old.kit }
     {
         match self.map.get_mut(name) {
@@ -321,24 +322,32 @@ fn opening_of(request: &Request<Command>) -> Option<&Players>
     }
 }
 
-/// The table that these players open.
-fn open_table(alloc: Global, players: &Players, kit: &Kit) -> Result<Table, Fault>
-    ensures kept { IfOk result (λ table. kept_in table ≡ state_after kit.now None (Request.Play (Command.Open players.now))) }
-    ensures played { IfOk result (λ table. IsPlayed kit.now table) }
+/// The table that these players open, in a box: a map moves its values about.
+fn open_table(alloc: Global, players: &Players, kit: &Kit) -> Result<Box<Table>, Fault>
+    ensures kept { IfOk result (λ table. kept_in_box table ≡ state_after kit.now None (Request.Play (Command.Open players.now))) }
+    ensures played { IfOk result (λ table. IsPlayed kit.now table.value) }
     ensures memory { IfErr result (λ fault. fault ≡ Fault.OutOfMemory) }
 {
     let table = Table::open(alloc, players, kit)?;
+    let table = Box::new(alloc, table)?;
     Ok(table)
 }
 
 /// Makes a change of a table; gives its new stamp.
-fn make(table: &mut Table, change: Change) -> u64
-    requires { Fits (kept_in table.old) change }
-    ensures kept { (kit : AnyKit) (request : AnyRequest Line) → IsChangeBy kit (kept_in table.old) request change →
-        kept_in table.new ≡ kept_after (ends_turn kit) (kept_in table.old) request }
-    ensures played { (kit : AnyKit) (request : AnyRequest Line) → IsChangeBy kit (kept_in table.old) request change → IsPlayed kit table.new }
-    ensures stamp { result ≡ (kept_in table.new).stamp }
+fn make(table: &mut Box<Table>, change: Change) -> u64
+    requires { Fits (kept_in_box table.old) change }
+    ensures kept { (kit : AnyKit) (request : AnyRequest Line) → IsChangeBy kit (kept_in_box table.old) request change →
+        kept_in_box table.new ≡ kept_after (ends_turn kit) (kept_in_box table.old) request }
+    ensures played { (kit : AnyKit) (request : AnyRequest Line) → IsChangeBy kit (kept_in_box table.old) request change → IsPlayed kit table.new.value }
+    ensures stamp { result ≡ (kept_in_box table.new).stamp }
 {
     table.take(change);
+    table.stamp()
+}
+
+/// The stamp of a table: how many requests it has accepted.
+fn stamp_of(table: &Box<Table>) -> u64
+    ensures { result ≡ (kept_in_box table.now).stamp }
+{
     table.stamp()
 }

@@ -1,3 +1,4 @@
 pub mod TurnLemmas
 pub mod LawfulLemmas
 pub mod ReplayLemmas
+pub mod JudgementLemmas

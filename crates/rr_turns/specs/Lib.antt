@@ -1,3 +1,4 @@
 pub mod Turns
 pub mod Kept
+pub mod Judgement
 pub mod Laws

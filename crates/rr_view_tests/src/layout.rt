@@ -70,7 +70,7 @@ fn a_full_board_has_no_room_for_a_tile(rt: HostRuntime) {
     for _tile in 0..MOST_LAYS {
         layout = after(&rt, layout, &tile);
     }
-    check(&rt, "tiles", layout.lays().len(), 64);
+    check(&rt, "tiles", layout.lays().len(), 600);
     check(&rt, "room for a tile", layout.has_room(&tile), false);
     check(&rt, "room for a token", layout.has_room(&token), true);
 }

@@ -67,5 +67,5 @@ fn a_full_board_takes_no_tile(rt: HostRuntime) {
         table.follow(&tile),
         Err(Fault::OutOfMemory),
     );
-    check(&rt, "tiles", table.layout().lays().len(), 64);
+    check(&rt, "tiles", table.layout().lays().len(), 600);
 }

@@ -1,50 +1,43 @@
 -- Every table that requests lead to keeps commands that were played.
-use Rattle.std.proofs.Common.{◌≡◌, ℕ, ◌≤◌, ◌==◌, Bool, true, false, not, cond, zero, suc, List, [], ◌∷◌, ◌++◌, length, Option, None, Some, option_map, bytes_eq, if◌then◌else◌, nat_le, refl, sym, ap, subst, ◌∙◌, arith}
+use Rattle.std.proofs.Common.{◌≡◌, ℕ, ◌≤◌, Bool, true, false, cond, zero, suc, List, [], ◌∷◌, ◌++◌, length, Option, None, Some, bytes_eq, if◌then◌else◌, nat_le, refl, sym, ap, subst, ◌∙◌, arith}
 use Rattle.std.specs.List.{AllByRecursion}
 use Rattle.std.proofs.lemmas.Bool.Decides.{nat_tests}
 use Rattle.indexmap.specs.IndexMap.{insert_entry}
 use Rattle.rr_kit.specs.declared.kit.Kit.{Kit}
 use Rattle.rr_books.specs.Book.{Book}
-use Rattle.rr_game.specs.declared.fault.Fault as game
 use Rattle.rr_game.specs.Play.{play, played_on, players_of}
-use Rattle.rr_game.specs.Verdict.{command_verdict}
-use Rattle.rr_hist.specs.declared.fault.Fault as hist
+use Rattle.rr_game.specs.Verdict.{command_judgement}
 use Rattle.rr_hist.specs.Fault.{of_game}
-use Rattle.rr_hist.specs.Playing.{ends_turn}
-use Rattle.rr_hist.specs.Verdict.{own_verdict, request_verdict}
+use Rattle.rr_hist.specs.Playing.{ends_turn, game_judgement}
+use Rattle.rr_hist.specs.Verdict.{own_judgement, request_judgement, room_verdict, stamp_verdict}
 use Rattle.rr_turns.specs.declared.request.Request.{Request}
 use Rattle.rr_turns.specs.declared.request.Request.TheVariants.{Play, Back, Forget}
+use Rattle.rr_turns.specs.Judgement.{IsVerdict, judgement_map}
 use Rattle.rr_turns.specs.Turns.{first_turns, next_turns}
+use Rattle.rr_turns.proofs.JudgementLemmas.{lawful-behind, lawful-map}
 use Rattle.rr_code.specs.declared.command.Command.{Command}
 use Rattle.rr_code.specs.declared.command.Command.TheVariants.{Open}
 use Rattle.rr_code.specs.Request.{IsRequest}
 use Rattle.rr_code.specs.Players.{ArePlayers}
 use Rattle.rr_laws.specs.Sound.{AreAccepted, ArePlayed, IsSoundTable, KitsNameCorporations, NamesCorporations, PlaysGoOn, TablesStaySound}
-use Rattle.rr_store.specs.declared.fault.Fault.{Fault}
 use Rattle.rr_store.specs.Fault.{of_table}
 use Rattle.rr_store.specs.Files.{StandsFor}
-use Rattle.rr_store.specs.World.{Follows, IsLawfulIn, TableRequest, TableState, World, present_stamp, state_after, step_verdict, table_named, world_after, world_verdict}
+use Rattle.rr_store.specs.World.{Follows, IsLawfulIn, TableRequest, TableState, World, present_stamp, state_after, step_judgement, table_named, world_after, world_judgement}
 use Rattle.rr_store.proofs.Worlds.{replays_follow}
 use Rattle.rr_world_laws.specs.Worlds.{FilesAreSound, IsSoundWorld, WorldsAreSound}
 
 abbrev HasPlayed : Kit → World → Type 0
 HasPlayed kit tables = AllByRecursion (λ t. ArePlayed kit t.1.commands) tables
 
-if_none : (b : Bool) (f : hist.Fault) (rest : Option hist.Fault) → (if b then Some f else rest) ≡ None → rest ≡ None
-if_none true f rest e = absurd cc
-if_none false f rest e = e
-
-map_none : {A B : Type 0} (f : A → B) (o : Option A) → option_map f o ≡ None → o ≡ None
-map_none f None e = refl
-map_none f (Some fault) e = absurd cc
-
-own_passes : (kit : Kit) (t : TableState) (stamp : ℕ) (r : Request Command) → step_verdict kit (Some t) stamp r ≡ None → own_verdict kit t r ≡ None
+own_passes : (kit : Kit) (t : TableState) (stamp : ℕ) (r : Request Command) → IsVerdict (step_judgement kit (Some t) stamp r) None → IsVerdict (own_judgement kit t r) None
 own_passes kit t stamp r e =
-    if_none (nat_le 4000000000 t.stamp) _ _ (if_none (not (t.stamp == stamp)) _ _ (map_none of_table (request_verdict kit t stamp r) e))
+    lawful-behind (stamp_verdict t stamp) (own_judgement kit t r) (lawful-map of_table (request_judgement kit t stamp r) e)
 
-game_takes : (kit : Kit) (t : TableState) (stamp : ℕ) (c : Command) → step_verdict kit (Some t) stamp (Play c) ≡ None
-    → command_verdict kit (players_of t.commands) (play kit t.commands) c ≡ None
-game_takes kit t stamp c e = map_none of_game _ (if_none (nat_le 4096 (length t.commands)) _ _ (own_passes kit t stamp (Play c) e))
+game_takes : (kit : Kit) (t : TableState) (stamp : ℕ) (c : Command) → IsVerdict (step_judgement kit (Some t) stamp (Play c)) None
+    → IsVerdict (command_judgement kit (players_of t.commands) (play kit t.commands) c) None
+game_takes kit t stamp c e =
+    lawful-map of_game (game_judgement kit t.commands c)
+    (lawful-behind (room_verdict t) (judgement_map of_game (game_judgement kit t.commands c)) (own_passes kit t stamp (Play c) e))
 
 -- the first turns of a table that was played
 front_accepted : (kit : Kit) (ends : List Command → Command → Bool) (players : List (List ℕ)) (book : Book) (before : List Command) (k : ℕ) (cs : List Command)
@@ -78,13 +71,13 @@ few_players players h =
     (grind (arith, nat_tests), grind (arith, nat_tests))
 
 -- the table after a lawful request
-played_by : PlaysGoOn → (kit : Kit) (t : TableState) (stamp : ℕ) (r : Request Command) → step_verdict kit (Some t) stamp r ≡ None
+played_by : PlaysGoOn → (kit : Kit) (t : TableState) (stamp : ℕ) (r : Request Command) → IsVerdict (step_judgement kit (Some t) stamp r) None
     → ArePlayed kit t.commands → ArePlayed kit (state_after kit (Some t) r).commands
 played_by goes_on kit t stamp (Play c) lawful played = goes_on kit t.commands c played (game_takes kit t stamp c lawful)
 played_by goes_on kit t stamp (Back k) lawful played = front_played kit (ends_turn kit) k t.commands played
 played_by goes_on kit t stamp (Forget k) lawful played = played
 
-played_after : PlaysGoOn → (kit : Kit) (there : Option TableState) (n stamp : ℕ) (r : Request Command) → IsRequest r → world_verdict kit there n stamp r ≡ None
+played_after : PlaysGoOn → (kit : Kit) (there : Option TableState) (n stamp : ℕ) (r : Request Command) → IsRequest r → IsVerdict (world_judgement kit there n stamp r) None
     → ((t : TableState) → there ≡ Some t → ArePlayed kit t.commands) → ArePlayed kit (state_after kit there r).commands
 played_after goes_on kit None n stamp (Play (Open players)) of_form lawful all =
     let count = few_players players of_form in (count.0, count.1, tt)

@@ -1,17 +1,15 @@
 use Rattle.std.proofs.Common.{◌≡◌, ◌+◌, ◌<◌, ℕ, [], ◌∷◌, take, get_or, sym, subst, arith}
-use Rattle.std.proofs.lemmas.Bool.{and_parts}
+use Rattle.std.proofs.Math.Logic.{∥∥₁_elim}
 use Rattle.std.proofs.lemmas.Result.{err_from_is_err_and}
+use Rattle.std.specs.Coded.{Coded-set, coded_bool}
 use Rattle.rr_code.specs.declared.command.Command.{Command}
-use Rattle.rr_game.specs.Play.{begins_with_opening}
-use Rattle.rr_turns.specs.Turns.{are_lawful}
-use Rattle.rr_hist.specs.Playing.{ends_turn, refusal}
+use Rattle.rr_hist.specs.Playing.{ends_turn}
 use Rattle.rr_hist.proofs.Plays.{few_turns, only_memory}
 use Rattle.rr_hist.proofs.Replays.{IsReplayed, next, next_lawful, stopped}
 use Rattle.rr_hist.proofs.replaying.replay_behind.Goals as goal
 
 pub opened-game-requires : goal.opened-game-requires
-opened-game-requires c =
-    (and_parts (begins_with_opening (c.args.opening.now ∷ [])) (are_lawful (refusal c.args.kit.now) (c.args.opening.now ∷ []) c.args.others.now) c.requires.lawful).0
+opened-game-requires c = ∥∥₁_elim c.requires.lawful (Coded-set coded_bool _ _) (λ both. both.0)
 
 pub returns-then-turns-turn-clause-front : goal.returns-then-turns-turn-clause-front
 returns-then-turns-turn-clause-front c =
@@ -28,9 +26,9 @@ returns-in_err-next-clause-memory c =
     let p = err_from_is_err_and c.from_residual.result c.from_residual.ensures.1 in
     let P : Command → Type 0 = λ x. x ≡ get_or c.args.others.now c.loop-index.index x in
     let here = subst P (sym c.command-command.ensures.value) c.index-others-index.is in
-    let none = next_lawful c.args.kit.now c.args.opening.now c.args.others.now c.loop-index.index c.command-command.result c.requires.lawful c.loop-index-test.true here in
+    let lawful = next_lawful c.args.kit.now c.args.opening.now c.args.others.now c.loop-index.index c.command-command.result c.requires.lawful c.loop-index-test.true here in
     rw (p.1, p.2)
-    (only_memory _ _ none (c.in_err-next.ensures.verdict (c.args.opening.now ∷ take c.loop-index.index c.args.others.now) c.loop-index.invariant.played))
+    (only_memory c.args.kit.now (c.args.opening.now ∷ take c.loop-index.index c.args.others.now) c.command-command.result _ lawful (c.in_err-next.ensures.verdict (c.args.opening.now ∷ take c.loop-index.index c.args.others.now) c.loop-index.invariant.played))
 
 pub turns_after-turns-requires : goal.turns_after-turns-requires
 turns_after-turns-requires c =

@@ -1,7 +1,7 @@
 use Rattle.std.proofs.Common.{ℕ, List, ap}
 use Rattle.std.proofs.lemmas.Result.{err_from_is_err_and}
 use Rattle.rr_disk.specs.Disk.{DiskState}
-use Rattle.rr_reading.proofs.Whole.{refused_later}
+use Rattle.rr_reading.proofs.Told.{refused_later}
 use Rattle.rr_reading.proofs.contents.read_file.Goals as goal
 
 content : DiskState → List ℕ

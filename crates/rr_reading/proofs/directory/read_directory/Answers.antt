@@ -4,7 +4,8 @@ use Rattle.rr_dir.specs.Directory.{Spells, directory_of}
 use Rattle.rr_dir.specs.declared.fault.Fault.{Fault as FormFault}
 use Rattle.rr_pages.specs.PageSet.{marks_of}
 use Rattle.rr_reading.specs.Chains.{held}
-use Rattle.rr_reading.proofs.Told.{none_found, version_known, form_told}
+use Rattle.rr_reading.proofs.Told.{form_told}
+use Rattle.rr_reading.proofs.Versions.{none_found, version_known}
 use Rattle.rr_reading.proofs.directory.read_directory.Goals as goal
 
 pub returns-in_err-chain-clause-refused : goal.returns-in_err-chain-clause-refused

@@ -4,6 +4,7 @@ use Rattle.rr_checker.proofs.StepLemmas.{yes, no}
 use Rattle.rr_runs.specs.Sheets.{AreLawful}
 use Rattle.rr_runs.proofs.SheetLemmas.{refused_sheet, words_left, side_shared, is_legal}
 use Rattle.rr_runs.proofs.BoundLemmas.{earned_most}
+use Rattle.rr_runs.proofs.RevenueLemmas.{legal_earns}
 use Rattle.rr_runs.proofs.judge.legal.Goals as goal
 
 pub returns-in_err-journeys-clause-judged : goal.returns-in_err-journeys-clause-judged
@@ -42,6 +43,9 @@ returns-clause-judged c =
     is_legal c.args.net.now c.args.sheet.now c.in_ok-journeys.journeys.items (rw c.as_slice-words.ensures at (c.in_ok-journeys.ensures {u = tt})) c.in_ok-revenue.revenue
     (rw (c.trains.ensures, c.as_slice-words.ensures) at c.if-trains-words.false) (rw c.deref.ensures.value at (yes c.are_apart.ensures c.if-not-are_apart.false))
     (rw c.deref-2.ensures.value at (c.in_ok-revenue.ensures {u = tt}))
+
+pub returns-clause-shown : goal.returns-clause-shown
+returns-clause-shown c = legal_earns c.args.net.now c.args.sheet.now c.in_ok-revenue.revenue (returns-clause-judged c)
 
 pub returns-clause-bounded : goal.returns-clause-bounded
 returns-clause-bounded c =

@@ -1,8 +1,10 @@
-use Rattle.std.proofs.Common.{◌∙◌, sym, refl, arith}
+use Rattle.std.proofs.Common.{◌∙◌, sym, refl, ap, arith}
 use Rattle.rr_disk.proofs.MomentLemmas.{started, joins}
 use Rattle.rr_images.specs.Layout.{Keeps}
-use Rattle.rr_checkpoint.specs.Writer.{ticks_left_of}
-use Rattle.rr_checkpoint.proofs.Writers.{left_some, lowers_one}
+use Rattle.rr_pages.specs.declared.choosing.Taken.{Taken}
+use Rattle.rr_pages.specs.declared.root.Root.{Root}
+use Rattle.rr_checkpoint.specs.Writer.{ticks_left_of, taken_of}
+use Rattle.rr_checkpoint.proofs.Writers.{left_some, lowers_one, none_is_left, taken_left, renewed_behind}
 use Rattle.rr_checkpoint.proofs.writer.Writer.finish.Goals as goal
 
 pub loop-self-init : goal.loop-self-init
@@ -15,6 +17,8 @@ loop-self-init g c =
       stops = λ honest world carries.
           started (g.D.Disk.past disk) (g.D.Disk.state disk) (λ image. Keeps g.C.Codec.codec image world)
           (λ image is. record { layout = carries.layout; kept = carries.between.each image is });
+      taken = λ some. refl;
+      renews = λ honest world carries some none. absurd (omega (arith, some, none));
       number = refl;
       faults = refl;
       writes = omega arith;
@@ -34,6 +38,14 @@ loop-self-preserved g c =
       stops = λ honest world carries.
           let then = c.tick.ensures.honest honest in
           joins (so_far.stops then world carries) (c.tick.ensures.stops honest world (so_far.carries then world carries));
+      taken = λ some.
+          taken_left c.in_ok-tick.field-0 (ticks_left_of c.loop-self.self) (ticks_left_of c.tick.new.self) (taken_of c.loop-self.self) (taken_of c.tick.new.self) c.in_ok-tick.ensures.left c.in_ok-tick.ensures.taken some
+          ∙ so_far.taken under_way;
+      renews = λ honest world carries some none.
+          let carried = so_far.carries (c.tick.ensures.honest honest) world carries in
+          renewed_behind g.C.Codec.codec c.in_ok-tick.field-0 (ticks_left_of c.loop-self.self) (ticks_left_of c.tick.new.self) carried.layout (taken_of c.args.self.now).root.number (g.D.Disk.state c.tick.new.disk) world
+          c.in_ok-tick.ensures.left under_way none
+          (ap (λ (root : Root). root.number) carried.tells.root ∙ ap (λ (taken : Taken). taken.root.number) (so_far.taken under_way)) (c.in_ok-tick.ensures.renews honest world carried);
       number = c.tick.ensures.number ∙ so_far.number;
       faults = c.in_ok-tick.ensures.fault ∙ so_far.faults;
       writes = omega (arith, c.tick.ensures.writes, so_far.writes, lowers);
@@ -44,3 +56,7 @@ pub returns-in_err-tick-clause-stops : goal.returns-in_err-tick-clause-stops
 returns-in_err-tick-clause-stops g c = λ honest world carries.
     let then = c.tick.ensures.honest honest in
     joins (c.loop-self.invariant.stops then world carries) (c.tick.ensures.stops honest world (c.loop-self.invariant.carries then world carries))
+
+pub returns-clause-renews : goal.returns-clause-renews
+returns-clause-renews g c = λ honest world carries some.
+    c.loop-self.invariant.renews honest world carries some (none_is_left c.loop-self.self.checkpoint (sym c.is_some.ensures ∙ c.loop-self-test.false))

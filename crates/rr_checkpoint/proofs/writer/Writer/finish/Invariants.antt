@@ -1,6 +1,7 @@
-use Rattle.std.proofs.Common.{◌≡◌, ◌+◌, ◌≤◌}
-use Rattle.rr_checkpoint.specs.Calls.{LeavesKept}
-use Rattle.rr_checkpoint.specs.Writer.{Carries, place_of, ticks_left_of}
+use Rattle.std.proofs.Common.{◌≡◌, ◌+◌, ◌<◌, ◌≤◌}
+use Rattle.rr_disk.specs.Moments.{EachImage}
+use Rattle.rr_checkpoint.specs.Calls.{LeavesKept, TakesRootBehind}
+use Rattle.rr_checkpoint.specs.Writer.{Carries, place_of, taken_of, ticks_left_of}
 use Rattle.rr_checkpoint.proofs.writer.Writer.finish.Given as goal
 
 abbrev pub invariant-loop-self : goal.invariant-loop-self
@@ -12,6 +13,9 @@ invariant-loop-self g l =
           → Carries g.C.Codec.codec l.self (g.D.Disk.state l.disk) world;
       stops : g.D.Disk.Honest l.disk → (world : g.C.Codec.codec.World) → Carries g.C.Codec.codec l.fn.self (g.D.Disk.state l.fn.disk) world
           → LeavesKept g.C.Codec.codec (g.D.Disk.past l.fn.disk) (g.D.Disk.state l.fn.disk) (g.D.Disk.past l.disk) (g.D.Disk.state l.disk) world;
+      taken : 0 < ticks_left_of l.self → taken_of l.self ≡ taken_of l.fn.self;
+      renews : g.D.Disk.Honest l.disk → (world : g.C.Codec.codec.World) → Carries g.C.Codec.codec l.fn.self (g.D.Disk.state l.fn.disk) world → 0 < ticks_left_of l.fn.self → ticks_left_of l.self ≡ 0
+          → EachImage (g.D.Disk.state l.disk) (TakesRootBehind g.C.Codec.codec (taken_of l.fn.self).root.number world);
       number : (place_of l.self).number ≡ (place_of l.fn.self).number;
       faults : g.D.Disk.fault_count l.disk ≡ g.D.Disk.fault_count l.fn.disk;
       writes : g.D.Disk.write_count l.disk + ticks_left_of l.self ≤ g.D.Disk.write_count l.fn.disk + ticks_left_of l.fn.self;

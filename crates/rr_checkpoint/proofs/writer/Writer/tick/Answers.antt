@@ -2,8 +2,8 @@ use Rattle.std.proofs.Common.{◌∙◌, Some, sym, subst}
 use Rattle.rr_disk.proofs.MomentLemmas.{started}
 use Rattle.rr_images.specs.Layout.{Keeps}
 use Rattle.rr_checkpoint.specs.declared.writer.Tick.{Tick}
-use Rattle.rr_checkpoint.specs.Writer.{RenewsAt}
-use Rattle.rr_checkpoint.proofs.Writers.{carries_same, renews_told}
+use Rattle.rr_checkpoint.specs.Writer.{RenewsAt, StaysTakenAt}
+use Rattle.rr_checkpoint.proofs.Writers.{carries_same, renews_told, taken_told}
 use Rattle.rr_checkpoint.proofs.writer.Writer.tick.Goals as goal
 
 pub returns-in-None-clause-stops : goal.returns-in-None-clause-stops
@@ -23,3 +23,9 @@ returns-in_ok-self-in-Some-clause-renews g c = λ honest world carries.
     let with_it = carries_same codec writer.file state world writer.checkpoint (Some c.in-Some.checkpoint) under_way carries in
     subst (λ (tick : Tick). RenewsAt codec tick carries.layout new world) (sym c.told.ensures)
     (renews_told codec carries.layout next new world (c.in_ok-self-in-Some.ensures.renews honest world with_it))
+
+pub returns-in_ok-self-in-Some-clause-taken : goal.returns-in_ok-self-in-Some-clause-taken
+returns-in_ok-self-in-Some-clause-taken g c =
+    let old = c.args.self.now.file.taken in
+    let new = c.advance.new.self.taken in
+    subst (λ (tick : Tick). StaysTakenAt tick old new) (sym c.told.ensures) (taken_told c.in_ok-self-in-Some.field-0 old new c.in_ok-self-in-Some.ensures.taken)

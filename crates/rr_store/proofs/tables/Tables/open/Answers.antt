@@ -1,7 +1,7 @@
 use Rattle.std.proofs.Common.{◌∙◌, ap}
 use Rattle.rr_code.specs.declared.command.Command.TheVariants.{Open}
 use Rattle.rr_turns.specs.declared.request.Request.TheVariants.{Play}
-use Rattle.rr_hist.specs.Tables.{kept_in}
+use Rattle.rr_store.specs.Changing.{kept_in_box}
 use Rattle.rr_store.specs.Holding.{world_of}
 use Rattle.rr_store.proofs.WorldLemmas.{world_add}
 use Rattle.rr_store.proofs.tables.Tables.open.Goals as goal
@@ -10,4 +10,4 @@ pub returns-clause-world : goal.returns-clause-world
 returns-clause-world g c =
     let opens = Play (Open c.args.players.now) in
     ap world_of c.add.ensures.last
-    ∙ world_add kept_in c.args.self.now.kit c.args.name.now c.args.self.now.map.entries c.in_ok-table.table opens c.in_ok-table.ensures.kept c.in_ok-judge_opening.ensures.absent
+    ∙ world_add kept_in_box c.args.self.now.kit c.args.name.now c.args.self.now.map.entries c.in_ok-table.table opens c.in_ok-table.ensures.kept c.in_ok-judge_opening.ensures.absent

@@ -1,5 +1,5 @@
 use Rattle.std.proofs.Common.{◌≡◌, ◌∙◌, ◌+◌, ℕ, take, sym, ap}
-use Rattle.rr_hist.specs.Tables.{kept_in}
+use Rattle.rr_store.specs.Changing.{kept_in_box}
 use Rattle.rr_store.specs.Holding.{world_of}
 use Rattle.rr_store.specs.World.{requests_in}
 use Rattle.rr_store.proofs.WorldLemmas.{requests_more}
@@ -8,5 +8,5 @@ use Rattle.rr_store.proofs.tables.Tables.stamp_at.Goals as goal
 pub returns-clause-more : goal.returns-clause-more
 returns-clause-more c =
     let entries = c.args.self.now.map.entries in
-    requests_more kept_in entries c.args.place (c.in-Some.field-0-0.now, c.in-Some.table.now) (sym c.in-Some.ensures.entry)
-    ∙ ap (λ (n : ℕ). requests_in (take c.args.place (world_of entries)) + n) (sym c.stamp.ensures.value)
+    requests_more kept_in_box entries c.args.place (c.in-Some.field-0-0.now, c.in-Some.table.now) (sym c.in-Some.ensures.entry)
+    ∙ ap (λ (n : ℕ). requests_in (take c.args.place (world_of entries)) + n) (sym c.stamp_of.ensures)

@@ -1,0 +1,2 @@
+pub mod NeedsOfBook
+pub mod WorkedRows

@@ -1,0 +1,5 @@
+pub mod Fault
+pub mod Needs
+pub mod Rules
+pub mod Effects
+pub mod WorkedNeeds

@@ -1,0 +1,6 @@
+pub mod Fault
+pub mod Order
+pub mod Rows
+pub mod Effects
+pub mod TurnLaws
+pub mod WorkedTurn

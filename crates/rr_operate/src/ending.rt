@@ -1,0 +1,82 @@
+//! Whether a corporation may end its turn.
+ghost use Rattle.std.specs.Prelude.{◌≡◌, IfOk, None, MatchResult};
+ghost use Rattle.std.specs.Bool.{Decides};
+ghost use Rattle.std.specs.List.{list_any};
+ghost use Rattle.rr_roster.specs.Company.{kinds};
+ghost use Rattle.rr_books.specs.declared.acts.Act.TheVariants as A;
+ghost use Rattle.rr_books.specs.Book.{Book, train_holder};
+ghost use Rattle.rr_books.specs.State.{train_place_of};
+ghost use Rattle.rr_position.specs.Position.{IsPositionOf};
+ghost use Rattle.rr_routes.specs.declared.net.CentreLimit.TheVariants.{AtMost};
+ghost use Rattle.rr_trips.specs.Having.{HasRoute};
+ghost use Rattle.rr_running.specs.Running.{net_now};
+ghost use Rattle.rr_operate.specs.Rows.{IsVerdictOfRow, MayJudgeRow, could_buy_first, is_kind_on_sale};
+
+use crate::fault::Fault;
+use rr_books::{Books, Corp, Kind, Place, TrainSource};
+use rr_checker::CentreLimit;
+use rr_desk::Position;
+use rr_kit::Kit;
+use rr_running::net_now;
+use rr_trains::{is_on_sale, trains_held};
+use rr_trips::has_route;
+use std::alloc::{AllocError, Global};
+
+// Whether the corporation may end its turn: it has a train, or none is on sale, or it has no route.
+pub(crate) fn judge_end(
+    alloc: Global,
+    kit: &Kit,
+    position: &Position,
+    corp: Corp,
+) -> Result<(), Fault>
+    ensures { (book : Book) → IsPositionOf book position.now → MatchResult result
+        (λ _. IsVerdictOfRow kit.now book (A.End corp) None)
+        (λ fault. MayJudgeRow kit.now book (A.End corp) fault) }
+{
+    if !could_buy_first(position, corp) {
+        return Ok(());
+    }
+    if has_route_now(alloc, kit, position, corp)? {
+        return Err(Fault::MustOwnTrain);
+    }
+    Ok(())
+}
+
+// Whether the corporation has a route as the board lies.
+fn has_route_now(
+    alloc: Global,
+    kit: &Kit,
+    position: &Position,
+    corp: Corp,
+) -> Result<bool, AllocError>
+    ensures { (book : Book) → IsPositionOf book position.now → IfOk result (λ found. Decides found (HasRoute (net_now kit.now.board kit.now.tiles book corp) (AtMost 2))) }
+{
+    let net = net_now(alloc, kit, position, corp)?;
+    has_route(alloc, &net, &CentreLimit::AtMost(2))
+}
+
+// Whether the corporation has no train, and one is on sale.
+fn could_buy_first(position: &Position, corp: Corp) -> bool
+    ensures { (book : Book) → IsPositionOf book position.now → result ≡ could_buy_first (train_holder book) corp }
+{
+    could_buy_shown(position.books(), corp)
+}
+
+#[tactic(auto, unfolding(crate::specs::Rows::could_buy_first))]
+fn could_buy_shown(books: &Books, corp: Corp) -> bool
+    ensures { result ≡ could_buy_first (train_place_of books.now) corp }
+{
+    trains_held(books, Place::Corp(corp)) == 0 && is_any_on_sale(books)
+}
+
+fn is_any_on_sale(books: &Books) -> bool
+    ensures { result ≡ list_any (is_kind_on_sale (train_place_of books.now)) kinds }
+{
+    Kind::ALL.iter().any(|kind| is_kind_on_sale(books, *kind))
+}
+
+fn is_kind_on_sale(books: &Books, kind: Kind) -> bool
+    ensures { result ≡ is_kind_on_sale (train_place_of books.now) kind }
+{
+    is_on_sale(books, kind, TrainSource::Bank) || is_on_sale(books, kind, TrainSource::Pool)
+}

@@ -1,0 +1,19 @@
+//! A corporation's turn in an operating round: which commands a table's book takes, and what they add to it.
+//!
+//! Joins the rules of tiles and tokens, runs, dividends, and trains, and what follows on a turn. Its promise: `judge` is
+//! exactly `IsVerdict` over the book, want of memory apart, and `play` `Takes` exactly `entries_of`.
+#![tactic(auto)]
+
+mod ending;
+mod fault;
+mod judging;
+pub mod laws;
+mod order;
+mod playing;
+mod rows;
+
+pub use fault::Fault;
+pub use judging::judge;
+pub use order::judge_order;
+pub use playing::play;
+pub use rr_running::Clause;

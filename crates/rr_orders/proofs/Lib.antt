@@ -1,0 +1,4 @@
+pub mod CutLemmas
+pub mod SpelledLemmas
+pub mod OrderLemmas
+pub mod WrittenLemmas

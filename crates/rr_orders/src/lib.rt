@@ -1,0 +1,17 @@
+//! What a corporation orders in its turn of an operating round: one spelling for each order.
+//!
+//! Stands on `rr_scan`, `rr_sheets`, `rr_roster` and `rr_words`. Its promise: `Order::read` reads exactly what is spelled,
+//! one text an order (`laws::one_spelling`), and takes no memory.
+#![tactic(auto)]
+
+pub mod laws;
+mod order;
+mod runs;
+mod texts;
+mod tiles;
+mod trains;
+mod turns;
+
+pub use order::Order;
+pub use texts::{CertificateWords, SheetWords};
+pub use trains::TrainSource;

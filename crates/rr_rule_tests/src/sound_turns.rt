@@ -1,0 +1,18 @@
+//! The laws of corporations' turns, each called once.
+use rr_sound_turns::laws::{
+    lawful_commands_are_of_turns, plays_of_turns_keep_good_order, revenue_is_never_negative,
+    turns_keep_good_order,
+};
+
+#[test]
+fn laws_of_turns_are_called(_rt: HostRuntime) {
+    lawful_commands_are_of_turns();
+    turns_keep_good_order();
+    revenue_is_never_negative();
+    plays_of_turns_keep_good_order();
+}
+
+#[test]
+fn law_of_good_order_is_called(_rt: HostRuntime) {
+    rr_sound::laws::good_order_has_greatest_presidents();
+}

@@ -1,0 +1,3 @@
+pub mod Words
+pub mod Company
+pub mod Writing

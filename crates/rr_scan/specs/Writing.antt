@@ -1,0 +1,6 @@
+-- What is written behind what stands there.
+use Rattle.std.specs.Prelude.{◌≡◌, ℕ, List, length, take}
+
+-- what was written stays, and more may follow
+abbrev pub Continues : List ℕ → List ℕ → Type 0
+Continues before after = take (length before) after ≡ before

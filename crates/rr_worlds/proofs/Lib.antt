@@ -1,0 +1,4 @@
+pub mod Exact
+pub mod ReadBack
+pub mod Drafts
+pub mod KeptBytes

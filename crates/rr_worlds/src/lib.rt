@@ -1,0 +1,14 @@
+//! The worlds of a store as its file holds them: the texts of its kit, and its tables with what they keep, each command by
+//! its words. A directory and its chains spell a world, and each world that is within their limits has one spelling. The
+//! kit's texts keep their chains at a checkpoint, and each table's chain is written.
+//!
+//! Stands on `rr_dir`, `rr_images` and `rr_reading`. Its promise: `laws::worlds_are_read_back`, which a checkpoint needs of
+//! the directory that it writes.
+#![tactic(auto)]
+
+pub mod laws;
+mod worlds;
+mod writing;
+
+pub use worlds::{Rules, Worlds};
+pub use writing::kept_bytes;
