@@ -8,9 +8,10 @@ use Rattle.rr_store.proofs.store.Store.table.Goals as goal
 
 pub returns-in-Ok-clause-found : goal.returns-in-Ok-clause-found
 returns-in-Ok-clause-found g c =
-    let entries = c.args.self.now.tables.map.entries in
-    (sym c.is_broken.ensures ∙ c.if-is_broken.false,
-     named_by kept_in_box c.args.name.now entries ∙ ap (option_map kept_in_box) c.in-Ok.ensures.value ∙ ap (λ (t : Table). Some (kept_in t)) (sym c.deref.ensures))
+    let entries = c.args.self.now.tables.map.entries in (
+      sym c.is_broken.ensures ∙ c.if-is_broken.false,
+      named_by kept_in_box c.args.name.now entries ∙ ap (option_map kept_in_box) c.in-Ok.ensures.value ∙ ap (λ (t : Table). Some (kept_in t)) (sym c.deref.ensures),
+    )
 
 pub returns-in-Err-clause-found : goal.returns-in-Err-clause-found
 returns-in-Err-clause-found g c =
