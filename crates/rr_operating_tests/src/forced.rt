@@ -1,4 +1,7 @@
 //! A corporation that must own a train and can't pay it.
+ghost use Rattle.std.specs.Prelude.{◌<◌};
+ghost use Rattle.rr_books.specs.State.{party_index};
+
 use crate::fixtures::{A, ROSTER, position};
 use rr_books::{Act, Cell, Cert, Corp, Entry, Kind, Marker, Money, Party, Place, TrainSource};
 use rr_desk::{Desk, Position};
@@ -22,7 +25,9 @@ fn kit(rt: &impl Abort, alloc: Global) -> Kit {
     Kit::read(alloc, b"100p\n", ROSTER.as_bytes(), TILES, BOARD.as_bytes()).expect(rt, "a kit")
 }
 
-fn pay(rt: &impl Abort, table: &mut Position, to: Party, amount: u16) {
+fn pay(rt: &impl Abort, table: &mut Position, to: Party, amount: u16)
+    requires { party_index to < 15 }
+{
     let pay = Entry::Pay {
         from: Party::Bank,
         to,

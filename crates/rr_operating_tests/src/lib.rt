@@ -12,6 +12,8 @@ mod forced;
 #[cfg(test)]
 mod operate;
 #[cfg(test)]
+mod rules;
+#[cfg(test)]
 mod running;
 #[cfg(test)]
 mod sets;

@@ -1,0 +1,5 @@
+pub mod Fault
+pub mod State
+pub mod Judging
+pub mod Playing
+pub mod RuleLaws

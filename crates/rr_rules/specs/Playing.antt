@@ -1,0 +1,39 @@
+-- The state of a table's game behind a command that isn't refused.
+use Rattle.std.specs.Prelude.{Bool, true, false, [], ◌∷◌, ◌++◌}
+use Rattle.rr_kit.specs.declared.kit.Kit.{Kit}
+use Rattle.rr_books.specs.declared.acts.Act.{Act}
+use Rattle.rr_books.specs.declared.parties.Money.{Money}
+use Rattle.rr_books.specs.Book.{Book}
+use Rattle.rr_desk.specs.Effects.{in_turn}
+use Rattle.rr_auction.specs.Effects as auction
+use Rattle.rr_stock.specs.Effects as stock
+use Rattle.rr_sets.specs.Following.{goes_on_in_stock_round}
+use Rattle.rr_operations.specs.declared.turn.Stage.{Stage}
+use Rattle.rr_operations.specs.declared.turn.Stage.TheVariants as G
+use Rattle.rr_operate.specs.Effects as operate
+use Rattle.rr_forced.specs.Effects as forced
+use Rattle.rr_forced.specs.Rules.{is_forced}
+use Rattle.rr_rules.specs.Judging.{stage}
+use Rattle.rr_rules.specs.State.{GameState}
+
+-- a command of a stock round adds its own entries, and what follows on them by itself
+abbrev pub stock_entries : Kit → Book → Act → Book
+stock_entries kit book act = in_turn ((λ so_far. stock.entries_of kit.chart so_far act) ∷ goes_on_in_stock_round kit ∷ []) book
+
+-- what a command of an operating round adds, a forced purchase or any other
+abbrev pub operating_entries : Bool → Kit → GameState → Act → Book
+operating_entries true kit state act = forced.entries_of kit.roster state.book act
+operating_entries false kit state act = operate.entries_of kit state.revenue state.book act
+
+-- the state behind a command, by the rules of a stage
+abbrev pub state_in : Stage → Kit → GameState → Act → GameState
+state_in G.Auction kit state act = record { book = state.book ++ auction.entries_of kit.roster kit.chart state.book act; revenue = state.revenue }
+state_in G.Stock kit state act = record { book = state.book ++ stock_entries kit state.book act; revenue = state.revenue }
+state_in G.Operating kit state act = record {
+  book = state.book ++ operating_entries (is_forced act) kit state act;
+  revenue = operate.revenue_after kit state.book state.revenue act;
+}
+
+-- the state behind a command, by the rules in force
+abbrev pub state_after : Kit → GameState → Act → GameState
+state_after kit state act = state_in (stage state.book) kit state act
