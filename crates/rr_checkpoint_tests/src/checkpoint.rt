@@ -16,7 +16,7 @@ const PAGE: usize = 4096;
 const ROOM: usize = 1 << 22;
 
 // A codec of lists of lines. It has no code.
-struct Lists;
+pub(crate) struct Lists;
 
 impl Codec for Lists {
     ghost codec = { lists };
@@ -49,7 +49,7 @@ fn flip(disk: &mut MemoryDisk, roots: &mut Roots, root: &Root) -> Result<(), rr_
     roots.flip(disk, root)
 }
 
-fn opened(alloc: Global, taken: Taken) -> Result<Writer<Lists>, Fail> {
+pub(crate) fn opened(alloc: Global, taken: Taken) -> Result<Writer<Lists>, Fail> {
     let mut reached = PageSet::new(alloc)?;
     reached.take(514);
     let free = FreePages::new(alloc, reached)?;
@@ -99,7 +99,7 @@ fn finish<D: Disk>(disk: &mut D, writer: &mut Writer<Lists>) -> Result<(), rr_di
     writer.finish(disk)
 }
 
-fn append<D: Disk>(
+pub(crate) fn append<D: Disk>(
     disk: &mut D,
     writer: &mut Writer<Lists>,
     line: &[u8],
@@ -155,7 +155,7 @@ fn left(writer: &Writer<Lists>) -> usize {
     writer.ticks_left()
 }
 
-fn take(disk: &mut MemoryDisk) -> Result<Taken, rr_pages::Fault> {
+pub(crate) fn take(disk: &mut MemoryDisk) -> Result<Taken, rr_pages::Fault> {
     take_root(disk)
 }
 

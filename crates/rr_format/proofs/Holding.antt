@@ -12,6 +12,7 @@ use Rattle.rr_dir.specs.Heads.{Heads}
 use Rattle.rr_images.specs.Holding.{heads_of, texts_of}
 use Rattle.rr_images.specs.Layout.{Layout, formatted}
 use Rattle.rr_images.specs.Laws.{OneLaid}
+use Rattle.rr_images.specs.Progress.{AreSpare}
 use Rattle.rr_images.specs.Plans.{LaidChain, Fresh, laid_as, all_laid, laid_pages, AllFit, AreLaid, pages_up_to, plan_made, IsMade}
 use Rattle.rr_images.proofs.Laid.{nothing_laid, one_more_laid, laid_are_free}
 use Rattle.rr_images.proofs.Plans.{made_is_plan}
@@ -197,6 +198,7 @@ module _ (takes : List ℕ → World → World → Type 0) (present coming betwe
         first_root = record { number = refl; half = refl; first = refl; version = refl };
         in_turn = pages_written present coming after more chains last.laid ∙ laid_turn;
         count = refl;
+        spare = subst (λ (xs : List (ℕ × List ℕ)). AreSpare [] xs) (sym last.laid.to_write) plan.spare;
         sound = plan.sound;
         spells = λ file stand. plan.spells file tt (subst (λ (xs : List (ℕ × List ℕ)). AllStand file xs) last.laid.to_write stand);
       }

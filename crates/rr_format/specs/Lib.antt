@@ -1,3 +1,4 @@
 pub mod InTurn
 pub mod Kit
 pub mod NewFile
+pub mod Formatted

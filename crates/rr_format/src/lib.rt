@@ -1,12 +1,18 @@
-//! What a new file of a store holds: the four texts of a kit and a directory without tables, laid into pages from the
-//! first data page on. It is laid in memory, and no device call is made.
+//! A new file of a store: the four texts of a kit and a directory without tables, laid in memory into pages from the first
+//! data page on, and then put on an empty disk.
 //!
-//! Stands on `rr_pages`, `rr_dir` and `rr_worlds`. Its promise: `new_file`, whose pages, wherever they stand, spell the
-//! world of these texts without a table.
+//! Stands on `rr_pages`, `rr_dir`, `rr_worlds` and `rr_disk`. Its promises: `new_file`, whose pages, wherever they stand,
+//! spell the world of these texts without a table; and `write_new_file` and `format`, which leave no store or the whole
+//! new file, wherever the device stops.
 #![tactic(auto)]
 
+mod formatting;
 mod kit;
+pub mod laws;
 mod laying;
 mod text;
+mod writing;
 
+pub use formatting::format;
 pub use laying::{NewFile, new_file};
+pub use writing::write_new_file;
