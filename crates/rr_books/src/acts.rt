@@ -72,6 +72,15 @@ impl Model for Words {
 }
 
 impl Words {
+    /// No words. It takes no memory.
+    pub fn none(alloc: Global) -> Words
+        ensures { result ≡ [] }
+    {
+        Words {
+            bytes: Vec::new(alloc),
+        }
+    }
+
     /// Keeps a copy of the words.
     pub fn of(alloc: Global, bytes: &[u8]) -> Result<Words, Fault>
         ensures ok { IfOk result (λ words. words ≡ bytes.now) }

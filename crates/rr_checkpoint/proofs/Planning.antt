@@ -135,13 +135,16 @@ module _ {C : Type 0} (codec : Codec) (file : OpenFile C) (state : DiskState) (w
           spells = subst (λ (bytes : List ℕ). codec.Spells 1 bytes (texts_of (chains_of drafts)) layout.middle) (sym one.whole) directory_is.spells;
         }
 
-    pub may_begin : (plan : Plan) → plan.root ≡ root → plan.fresh.items ≡ more → MayBegin codec layout after plan
+    pub may_begin : (plan : Plan) → plan.root ≡ root → plan.fresh.items ≡ more
+        → (may : MayBegin codec layout after plan) × (may.holding.chains ≡ chains_of drafts)
     may_begin plan root_is fresh_is =
         let here = (carries.between.each state.settled (settled_may_stay state)).spelled in
         let planned = made_is_plan codec layout root one.chain drafts made here.apart here.in_data in
-        let holding : Holding = record { directory = laid_as one.chain; chains = chains_of drafts } in
-        record {
-          holding = holding;
-          is_plan = subst (λ (p : images.Plan). IsPlan codec layout p) (λ i. record { root = sym root_is i; holding = holding; fresh = (sym one.laid.to_write ∙ ap (λ (pages : List FreshPage). map fresh_of pages) (sym fresh_is)) i }) planned;
-          coming = plan_reaches root one.chain drafts (coming_of after) free_now.1;
-        }
+        let holding : Holding = record { directory = laid_as one.chain; chains = chains_of drafts } in (
+          record {
+            holding = holding;
+            is_plan = subst (λ (p : images.Plan). IsPlan codec layout p) (λ i. record { root = sym root_is i; holding = holding; fresh = (sym one.laid.to_write ∙ ap (λ (pages : List FreshPage). map fresh_of pages) (sym fresh_is)) i }) planned;
+            coming = plan_reaches root one.chain drafts (coming_of after) free_now.1;
+          },
+          refl,
+        )

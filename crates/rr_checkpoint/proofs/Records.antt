@@ -15,7 +15,7 @@ use Rattle.rr_images.specs.Calls.{far_gate, Appends, Begins, part_behind}
 use Rattle.rr_images.specs.Codec.{Codec}
 use Rattle.rr_images.specs.Halves.{half_part}
 use Rattle.rr_images.specs.Holding.{Holding, reached_of}
-use Rattle.rr_images.specs.Layout.{FarHalf, Unused, Old, Begun, Keeps}
+use Rattle.rr_images.specs.Layout.{Layout, FarHalf, Unused, Old, Begun, Keeps}
 use Rattle.rr_images.specs.Progress.{IsPlan, IsBegun, IsNotBegun, IsBetween}
 use Rattle.rr_images.specs.Steps.{with_far, with_line, with_line_at, GoesOnAt}
 use Rattle.rr_images.proofs.Calls.{appends, begins, not_begun}
@@ -24,6 +24,7 @@ use Rattle.rr_checkpoint.specs.declared.checkpoint.Checkpoint.{Checkpoint}
 use Rattle.rr_checkpoint.specs.declared.checkpoint.Plan.{Plan}
 use Rattle.rr_checkpoint.specs.declared.open_file.OpenFile.{OpenFile}
 use Rattle.rr_checkpoint.specs.Checkpoint.{plan_of, begun, progress_of}
+use Rattle.rr_checkpoint.specs.Holds.{HoldsOn, HoldsWithRecord}
 use Rattle.rr_checkpoint.specs.OpenFile.{IsBegunAt, CarriesWith}
 
 -- what is known by whether it is begun
@@ -62,6 +63,12 @@ module _ {C : Type 0} (codec : Codec) (file : OpenFile C) (checkpoint : Option C
   same_holding Old = refl
   same_holding (Begun lines) = refl
 
+  -- once a checkpoint is begun, the record is none of those before its base
+  same_middle : (far : FarHalf) → carries.layout.far ≡ far → IsBegun carries.layout.far → (with_line_at carries.layout far line new).middle ≡ carries.layout.middle
+  same_middle Unused is begun = let lines = begun.0 in let never : Unused ≡ Begun lines = sym is ∙ begun.1 in absurd (cc never)
+  same_middle Old is begun = let lines = begun.0 in let never : Old ≡ Begun lines = sym is ∙ begun.1 in absurd (cc never)
+  same_middle (Begun lines) is begun = refl
+
   -- where records went on before, they go on
   begun_still : (begun : Option ℕ) (far : FarHalf) → carries.layout.far ≡ far → IsBegunAt begun (carries.layout.root.first + length carries.layout.near) far
       → IsBegunAt begun ((with_line_at carries.layout far line new).root.first + length (with_line_at carries.layout far line new).near) (with_line_at carries.layout far line new).far
@@ -74,7 +81,7 @@ module _ {C : Type 0} (codec : Codec) (file : OpenFile C) (checkpoint : Option C
 
   pub record_carries : (part : Part) (buffer : RecordBuffer) (after : DiskState) → part ≡ part_behind file.place.part line
       → after ≡ after_sync (after_write state (next_gate file.place.part) (spelling file.place.number line))
-      → CarriesWith codec
+      → (then : CarriesWith codec
       (record {
         taken = file.taken;
         place = record { part = part; number = file.place.number + 1; begun = file.place.begun };
@@ -82,39 +89,44 @@ module _ {C : Type 0} (codec : Codec) (file : OpenFile C) (checkpoint : Option C
         buffer = buffer;
         codec = file.codec;
       })
-      checkpoint after new
+      checkpoint after new)
+      × HoldsWithRecord carries.layout carries.holding then.layout then.holding
   record_carries part buffer after behind is =
-      let far = carries.layout.far in
-      record {
-        layout = with_line carries.layout line new;
-        holding = carries.holding;
-        tells = record {
-          side = same_side far ∙ carries.tells.side;
-          root = same_root far ∙ carries.tells.root;
-          begun = begun_still file.place.begun far refl carries.tells.begun;
-          goes_on = subst (λ (p : Part). GoesOnAt (with_line carries.layout line new) p (file.place.number + 1)) (sym behind) record_next.goes_on;
-          reached = subst (λ (held : Holding). Has (present_of file.free) (reached_of held)) (sym (same_holding far)) carries.tells.reached;
-        };
-        between = subst (λ (s : DiskState). IsBetween codec (with_line carries.layout line new) s (progress_of checkpoint carries.holding) new) (sym is) record_next.done;
-        coming = carries.coming;
-      }
+      let far = carries.layout.far in (
+        record {
+          layout = with_line carries.layout line new;
+          holding = carries.holding;
+          tells = record {
+            side = same_side far ∙ carries.tells.side;
+            root = same_root far ∙ carries.tells.root;
+            begun = begun_still file.place.begun far refl carries.tells.begun;
+            goes_on = subst (λ (p : Part). GoesOnAt (with_line carries.layout line new) p (file.place.number + 1)) (sym behind) record_next.goes_on;
+            reached = subst (λ (held : Holding). Has (present_of file.free) (reached_of held)) (sym (same_holding far)) carries.tells.reached;
+          };
+          between = subst (λ (s : DiskState). IsBetween codec (with_line carries.layout line new) s (progress_of checkpoint carries.holding) new) (sym is) record_next.done;
+          coming = carries.coming;
+        },
+        record { present = same_holding far; coming = refl; middle = same_middle far refl },
+      )
 
 -- the first step of a checkpoint
 module _ {C : Type 0} (codec : Codec) (file : OpenFile C) (state : DiskState) (world : codec.World) (stays : IsImage state state.content) (carries : CarriesWith codec file None state world) where
   -- it was found begun
   module _ (plan : Plan) (holding : Holding) (is_plan : IsPlan codec carries.layout (plan_of plan holding)) (coming : Has (coming_of file.free) (reached_of holding)) where
-    pub found_carries : is_some file.place.begun ≡ true → CarriesWith codec file (Some (begun plan)) state world
-    found_carries some =
-        record {
-          layout = carries.layout;
-          holding = holding;
-          tells = carries.tells;
-          between = record {
-            each = carries.between.each;
-            come = (is_plan, is_begun file.place.begun (carries.layout.root.first + length carries.layout.near) carries.layout.far some carries.tells.begun, refl, tt);
-          };
-          coming = coming;
-        }
+    pub found_carries : is_some file.place.begun ≡ true → (then : CarriesWith codec file (Some (begun plan)) state world) × HoldsOn carries.layout holding then.layout then.holding
+    found_carries some = (
+      record {
+        layout = carries.layout;
+        holding = holding;
+        tells = carries.tells;
+        between = record {
+          each = carries.between.each;
+          come = (is_plan, is_begun file.place.begun (carries.layout.root.first + length carries.layout.near) carries.layout.far some carries.tells.begun, refl, tt);
+        };
+        coming = coming;
+      },
+      record { present = refl; coming = refl; middle = refl },
+    )
 
   module _ (none : IsNotBegun carries.layout.far) (index : PartIndex) (other : index ≡ half_part (not file.taken.root.half)) (at : ℕ) (there : at ≡ next_gate (record { index = index; next_slot = 0 })) where
     begin_next : Begins codec carries.layout state world
@@ -131,7 +143,7 @@ module _ {C : Type 0} (codec : Codec) (file : OpenFile C) (state : DiskState) (w
 
     module _ (plan : Plan) (holding : Holding) (is_plan : IsPlan codec carries.layout (plan_of plan holding)) (coming : Has (coming_of file.free) (reached_of holding)) where
       pub begin_carries : (new : DiskState) → Shuts state at new
-          → CarriesWith codec
+          → (then : CarriesWith codec
           (record {
             taken = file.taken;
             place = record { part = record { index = index; next_slot = 0 }; number = file.place.number; begun = Some file.place.number };
@@ -139,20 +151,23 @@ module _ {C : Type 0} (codec : Codec) (file : OpenFile C) (state : DiskState) (w
             buffer = file.buffer;
             codec = file.codec;
           })
-          (Some (begun plan)) new world
+          (Some (begun plan)) new world)
+          × HoldsOn carries.layout holding then.layout then.holding
       begin_carries new shuts =
           let layout = with_far carries.layout (Begun []) in
-          let goes = goes_begun codec carries.layout file.place.part file.place.number carries.tells.goes_on (not_begun carries.layout.far none) in
-          record {
-            layout = layout;
-            holding = holding;
-            tells = record {
-              side = carries.tells.side;
-              root = carries.tells.root;
-              begun = (([], refl), omega (arith, goes.numbered));
-              goes_on = subst (λ (i : PartIndex). GoesOnAt layout (record { index = i; next_slot = 0 }) file.place.number) (sym other_part) goes;
-              reached = carries.tells.reached;
-            };
-            between = begin_next.done (plan_of plan holding) new is_plan (subst (λ (n : ℕ). Shuts state n new) at_gate shuts);
-            coming = coming;
-          }
+          let goes = goes_begun codec carries.layout file.place.part file.place.number carries.tells.goes_on (not_begun carries.layout.far none) in (
+            record {
+              layout = layout;
+              holding = holding;
+              tells = record {
+                side = carries.tells.side;
+                root = carries.tells.root;
+                begun = (([], refl), omega (arith, goes.numbered));
+                goes_on = subst (λ (i : PartIndex). GoesOnAt layout (record { index = i; next_slot = 0 }) file.place.number) (sym other_part) goes;
+                reached = carries.tells.reached;
+              };
+              between = begin_next.done (plan_of plan holding) new is_plan (subst (λ (n : ℕ). Shuts state n new) at_gate shuts);
+              coming = coming;
+            },
+            record { present = refl; coming = refl; middle = refl },
+          )

@@ -25,6 +25,7 @@ use Rattle.rr_checkpoint.specs.declared.checkpoint.Stage.{Stage}
 use Rattle.rr_checkpoint.specs.declared.checkpoint.Stage.TheVariants as S
 use Rattle.rr_checkpoint.specs.declared.open_file.OpenFile.{OpenFile}
 use Rattle.rr_checkpoint.specs.Checkpoint.{plan_of, come_to}
+use Rattle.rr_checkpoint.specs.Holds.{HoldsOn}
 use Rattle.rr_checkpoint.specs.OpenFile.{CarriesWith}
 
 -- lists cut at a place
@@ -88,20 +89,23 @@ module _ {C : Type 0} (codec : Codec) (file : OpenFile C) (checkpoint : Checkpoi
         record { layout = carries.layout; kept = page_next.leaves image (subst (λ (n : ℕ). TornFrom state (4096 * fresh.page) n image) long torn) }
 
     pub page_carries : (bytes : List ℕ) → bytes ≡ fresh.bytes.items → (new : DiskState) → new ≡ after_write state (4096 * fresh.page) bytes
-        → CarriesWith codec file (Some (record { plan = checkpoint.plan; stage = S.Writing (written + 1) })) new world
+        → (then : CarriesWith codec file (Some (record { plan = checkpoint.plan; stage = S.Writing (written + 1) })) new world)
+        × HoldsOn carries.layout carries.holding then.layout then.holding
     page_carries bytes same new is =
         let more : suc written ≡ written + 1 = omega arith in
-        let became : new ≡ after_write state (4096 * fresh.page) fresh.bytes.items = is ∙ ap (λ (b : List ℕ). after_write state (4096 * fresh.page) b) same in
-        record {
-          layout = carries.layout;
-          holding = carries.holding;
-          tells = carries.tells;
-          between = subst (λ (n : ℕ). IsBetween codec carries.layout new (come_to (S.Writing n) plan) world) more
-              (subst (λ (s : DiskState). IsBetween codec carries.layout s (come_to (S.Writing (suc written)) plan) world) (sym became)
-              (subst (λ (front : List (ℕ × List ℕ)). IsBetween codec carries.layout (after_write state (4096 * fresh.page) fresh.bytes.items) (Writing plan front left) world)
-              (next_taken fresh_of checkpoint.plan.fresh.items written fresh found) page_next.done));
-          coming = carries.coming;
-        }
+        let became : new ≡ after_write state (4096 * fresh.page) fresh.bytes.items = is ∙ ap (λ (b : List ℕ). after_write state (4096 * fresh.page) b) same in (
+          record {
+            layout = carries.layout;
+            holding = carries.holding;
+            tells = carries.tells;
+            between = subst (λ (n : ℕ). IsBetween codec carries.layout new (come_to (S.Writing n) plan) world) more
+                (subst (λ (s : DiskState). IsBetween codec carries.layout s (come_to (S.Writing (suc written)) plan) world) (sym became)
+                (subst (λ (front : List (ℕ × List ℕ)). IsBetween codec carries.layout (after_write state (4096 * fresh.page) fresh.bytes.items) (Writing plan front left) world)
+                (next_taken fresh_of checkpoint.plan.fresh.items written fresh found) page_next.done));
+            coming = carries.coming;
+          },
+          record { present = refl; coming = refl; middle = refl },
+        )
 
   -- the stale root's gate is shut
   module _ (written : ℕ) (writing : checkpoint.stage ≡ S.Writing written) (all : length checkpoint.plan.fresh.items ≤ written) where
@@ -116,21 +120,24 @@ module _ {C : Type 0} (codec : Codec) (file : OpenFile C) (checkpoint : Checkpoi
     shut_stops image may = shut_next.leaves image (subst (λ (n : ℕ). MayShut state n image) gate_is may)
 
     pub shut_carries : (new : DiskState) → Shuts state (root_gate (not file.taken.side)) new
-        → CarriesWith codec file (Some (record { plan = checkpoint.plan; stage = S.Shut })) new world
-    shut_carries new shuts =
-        record {
-          layout = with_stale carries.layout Shut;
-          holding = carries.holding;
-          tells = record {
-            side = carries.tells.side;
-            root = carries.tells.root;
-            begun = carries.tells.begun;
-            goes_on = goes_stale codec carries.layout file.place.part file.place.number carries.tells.goes_on Shut;
-            reached = carries.tells.reached;
-          };
-          between = shut_next.done new (subst (λ (n : ℕ). Shuts state n new) gate_is shuts);
-          coming = carries.coming;
-        }
+        → (then : CarriesWith codec file (Some (record { plan = checkpoint.plan; stage = S.Shut })) new world)
+        × HoldsOn carries.layout carries.holding then.layout then.holding
+    shut_carries new shuts = (
+      record {
+        layout = with_stale carries.layout Shut;
+        holding = carries.holding;
+        tells = record {
+          side = carries.tells.side;
+          root = carries.tells.root;
+          begun = carries.tells.begun;
+          goes_on = goes_stale codec carries.layout file.place.part file.place.number carries.tells.goes_on Shut;
+          reached = carries.tells.reached;
+        };
+        between = shut_next.done new (subst (λ (n : ℕ). Shuts state n new) gate_is shuts);
+        coming = carries.coming;
+      },
+      record { present = refl; coming = refl; middle = refl },
+    )
 
   -- the coming root is written behind it
   module _ (shut : checkpoint.stage ≡ S.Shut) where
@@ -141,16 +148,19 @@ module _ {C : Type 0} (codec : Codec) (file : OpenFile C) (checkpoint : Checkpoi
     fill_stops image torn = record { layout = carries.layout; kept = fill_next.leaves image (subst (λ (n : ℕ). TornFrom state (n + 1) 35 image) gate_is torn) }
 
     pub fill_carries : (new : DiskState) → new ≡ after_sync (after_write state (root_gate (not file.taken.side) + 1) (root_bytes checkpoint.plan.root))
-        → CarriesWith codec file (Some (record { plan = checkpoint.plan; stage = S.Filled })) new world
+        → (then : CarriesWith codec file (Some (record { plan = checkpoint.plan; stage = S.Filled })) new world)
+        × HoldsOn carries.layout carries.holding then.layout then.holding
     fill_carries new is =
-        let became : new ≡ after_sync (after_write state (stale_gate carries.layout + 1) (root_bytes checkpoint.plan.root)) = is ∙ ap (λ (n : ℕ). after_sync (after_write state (n + 1) (root_bytes checkpoint.plan.root))) gate_is in
-        record {
-          layout = carries.layout;
-          holding = carries.holding;
-          tells = carries.tells;
-          between = subst (λ (s : DiskState). IsBetween codec carries.layout s (Filling plan) world) (sym became) fill_next.done;
-          coming = carries.coming;
-        }
+        let became : new ≡ after_sync (after_write state (stale_gate carries.layout + 1) (root_bytes checkpoint.plan.root)) = is ∙ ap (λ (n : ℕ). after_sync (after_write state (n + 1) (root_bytes checkpoint.plan.root))) gate_is in (
+          record {
+            layout = carries.layout;
+            holding = carries.holding;
+            tells = carries.tells;
+            between = subst (λ (s : DiskState). IsBetween codec carries.layout s (Filling plan) world) (sym became) fill_next.done;
+            coming = carries.coming;
+          },
+          record { present = refl; coming = refl; middle = refl },
+        )
 
   -- its gate is opened
   module _ (filled : checkpoint.stage ≡ S.Filled) where
@@ -171,7 +181,7 @@ module _ {C : Type 0} (codec : Codec) (file : OpenFile C) (checkpoint : Checkpoi
       open_renews = subst (λ (s : DiskState). EachImage s (TakesNewer codec carries.layout world)) (sym became) open_next.renewed
 
       pub open_carries : (side : Bool) (free : FreePages) → side ≡ not file.taken.side → present_of free ≡ coming_of file.free
-          → CarriesWith codec
+          → (then : CarriesWith codec
           (record {
             taken = record { side = side; root = checkpoint.plan.root };
             place = record { part = file.place.part; number = file.place.number; begun = None };
@@ -179,19 +189,22 @@ module _ {C : Type 0} (codec : Codec) (file : OpenFile C) (checkpoint : Checkpoi
             buffer = file.buffer;
             codec = file.codec;
           })
-          None new world
+          None new world)
+          × (then.layout.holding ≡ carries.holding)
       open_carries side free other reclaimed =
-          let lines = filling.come.1.0 in
-          record {
-            layout = flipped carries.layout plan.root plan.holding lines world;
-            holding = carries.holding;
-            tells = record {
-              side = ap not carries.tells.side ∙ sym other;
-              root = refl;
-              begun = none_behind carries.layout.near;
-              goes_on = goes_flip codec carries.layout file.place.part file.place.number carries.tells.goes_on plan.root plan.holding lines world filling.come.1.1 filling.come.0.next;
-              reached = subst (λ (marks : List Bool). Has marks (reached_of carries.holding)) (sym reclaimed) carries.coming;
-            };
-            between = subst (λ (s : DiskState). IsBetween codec (flipped carries.layout plan.root plan.holding lines world) s Resting world) (sym became) open_next.done;
-            coming = tt;
-          }
+          let lines = filling.come.1.0 in (
+            record {
+              layout = flipped carries.layout plan.root plan.holding lines world;
+              holding = carries.holding;
+              tells = record {
+                side = ap not carries.tells.side ∙ sym other;
+                root = refl;
+                begun = none_behind carries.layout.near;
+                goes_on = goes_flip codec carries.layout file.place.part file.place.number carries.tells.goes_on plan.root plan.holding lines world filling.come.1.1 filling.come.0.next;
+                reached = subst (λ (marks : List Bool). Has marks (reached_of carries.holding)) (sym reclaimed) carries.coming;
+              };
+              between = subst (λ (s : DiskState). IsBetween codec (flipped carries.layout plan.root plan.holding lines world) s Resting world) (sym became) open_next.done;
+              coming = tt;
+            },
+            refl,
+          )

@@ -1,5 +1,5 @@
 -- What the calls of a writer say, by those on its file.
-use Rattle.std.proofs.Common.{◌≡◌, ◌+◌, ◌<◌, ℕ, Bool, true, false, List, length, Option, None, Some, refl, sym, subst, arith}
+use Rattle.std.proofs.Common.{◌≡◌, ◌+◌, ◌<◌, ℕ, Bool, true, false, List, length, Option, None, Some, refl, sym, ◌∙◌, subst, arith}
 use Rattle.std.specs.Option.{is_some}
 use Rattle.rr_disk.specs.Disk.{DiskState}
 use Rattle.rr_disk.specs.Moments.{EachImage}
@@ -8,7 +8,7 @@ use Rattle.rr_pages.specs.declared.free_pages.FreePages.{FreePages}
 use Rattle.rr_pages.specs.FreePages.{present_of}
 use Rattle.rr_pages.specs.Sets.{Has}
 use Rattle.rr_images.specs.Codec.{Codec, Replays}
-use Rattle.rr_images.specs.Holding.{reached_of}
+use Rattle.rr_images.specs.Holding.{Holding, reached_of}
 use Rattle.rr_images.specs.Layout.{Layout, FarHalf, Unused, Old, Begun, far_lines, KeepsAt, Keeps}
 use Rattle.rr_images.specs.Progress.{IsNotBegun, IsBetween}
 use Rattle.rr_images.proofs.Commits.{settled_may_stay}
@@ -20,6 +20,7 @@ use Rattle.rr_checkpoint.specs.declared.writer.Tick.{Tick}
 use Rattle.rr_checkpoint.specs.declared.writer.Tick.TheVariants.{Idle, More, Done}
 use Rattle.rr_checkpoint.specs.Calls.{Renews, StaysTaken, TakesRootBehind}
 use Rattle.rr_checkpoint.specs.Checkpoint.{progress_of, left_at, left_of}
+use Rattle.rr_checkpoint.specs.Holds.{HoldsOn, HoldsBehind, HoldsAt, RestsBehind, RestsAt}
 use Rattle.rr_checkpoint.specs.OpenFile.{IsBegunAt, HasComing, CarriesWith}
 use Rattle.rr_checkpoint.specs.Writer.{Lowers, RenewsAt, StaysTakenAt, told_at}
 
@@ -118,3 +119,48 @@ renewed_behind codec More left rest layout number new world lowers some none sam
 renewed_behind codec Done left rest layout number new world lowers some none same renews = λ image is.
     let takes = renews image is in
     record { stands = takes.stands; newer = omega (arith, takes.newer, same); nothing_far = takes.nothing_far }
+
+-- what the roots hold, as a tick tells it
+pub holds_told : {codec : Codec} (next : Option Checkpoint) (old : Layout codec) (coming_old : Holding) (new : Layout codec) (coming_new : Holding)
+    → HoldsBehind next old coming_old new coming_new → HoldsAt (told_at next) old coming_old new coming_new
+holds_told None old coming_old new coming_new holds = holds
+holds_told (Some checkpoint) old coming_old new coming_new holds = holds
+
+-- and after so many ticks of those that were left
+pub record HoldsSoFar {codec : Codec} (left rest : ℕ) (old : Layout codec) (coming_old : Holding) (new : Layout codec) (coming_new : Holding) : Type 0 where
+  pub under_way : 0 < rest → HoldsOn old coming_old new coming_new
+  pub done : 0 < left → rest ≡ 0 → new.holding ≡ coming_old
+
+pub holds_at_first : {codec : Codec} (left : ℕ) (layout : Layout codec) (coming : Holding) → HoldsSoFar left left layout coming layout coming
+holds_at_first left layout coming =
+    record { under_way = λ some. record { present = refl; coming = refl; middle = refl }; done = λ some none. absurd (omega (arith, some, none)) }
+
+holds_twice : {codec : Codec} (old : Layout codec) (coming_old : Holding) (then : Layout codec) (coming_then : Holding) (new : Layout codec) (coming_new : Holding)
+    → HoldsOn old coming_old then coming_then → HoldsOn then coming_then new coming_new → HoldsOn old coming_old new coming_new
+holds_twice old coming_old then coming_then new coming_new first second =
+    record { present = second.present ∙ first.present; coming = second.coming ∙ first.coming; middle = second.middle ∙ first.middle }
+
+pub holds_more : {codec : Codec} (tick : Tick) (left rest new_rest : ℕ) (old : Layout codec) (coming_old : Holding) (then : Layout codec) (coming_then : Holding) (new : Layout codec) (coming_new : Holding)
+    → 0 < rest → Lowers tick rest new_rest → HoldsSoFar left rest old coming_old then coming_then → HoldsAt tick then coming_then new coming_new
+    → HoldsSoFar left new_rest old coming_old new coming_new
+holds_more Idle left rest new_rest old coming_old then coming_then new coming_new some lowers so_far holds = absurd (omega (arith, some, lowers.0))
+holds_more More left rest new_rest old coming_old then coming_then new coming_new some lowers so_far holds =
+    record {
+      under_way = λ more. holds_twice old coming_old then coming_then new coming_new (so_far.under_way some) holds;
+      done = λ some_left none. absurd (omega (arith, none, lowers.1));
+    }
+holds_more Done left rest new_rest old coming_old then coming_then new coming_new some lowers so_far holds =
+    record {
+      under_way = λ more. absurd (omega (arith, more, lowers.1));
+      done = λ some_left none. holds ∙ (so_far.under_way some).coming;
+    }
+
+-- the last of the ticks that were left is the one that rests
+pub rests_behind : (tick : Tick) (left rest : ℕ) (begun : Option ℕ) → Lowers tick left rest → 0 < left → rest ≡ 0 → RestsAt tick begun → begun ≡ None
+rests_behind Idle left rest begun lowers some none rests = absurd (omega (arith, lowers.0, some))
+rests_behind More left rest begun lowers some none rests = absurd (omega (arith, lowers.1, none))
+rests_behind Done left rest begun lowers some none rests = rests
+
+pub rests_told : (next : Option Checkpoint) (begun : Option ℕ) → RestsBehind next begun → RestsAt (told_at next) begun
+rests_told None begun rests = rests
+rests_told (Some checkpoint) begun rests = rests

@@ -4,3 +4,4 @@ pub mod OpenFile
 pub mod Pages
 pub mod Writer
 pub mod Planning
+pub mod Holds

@@ -11,6 +11,7 @@ ghost use Rattle.rr_pages.specs.FreePages.{coming_of};
 ghost use Rattle.rr_pages.specs.Sets.{Has};
 ghost use Rattle.rr_checkpoint.specs.Calls.{LeavesKept, LeavesEither, Renews, StaysTaken};
 ghost use Rattle.rr_checkpoint.specs.Checkpoint.{plan_of, begun, left_of};
+ghost use Rattle.rr_checkpoint.specs.Holds.{HoldsOn, HoldsWithRecord, HoldsBehind, RestsBehind};
 
 use crate::Place;
 use crate::checkpoint::{Checkpoint, Stage};
@@ -54,8 +55,9 @@ impl<C: Codec> OpenFile<C> {
         requires number { self.old.place.number < 2 ^ 63 }
 
         ensures carries { OnOk result (D.Honest disk.new → (old new : C.codec.World) → C.codec.Takes line.now old new
-            → (checkpoint : _) → CarriesWith C.codec self.old checkpoint (D.state disk.old) old
-            → CarriesWith C.codec self.new checkpoint (D.state disk.new) new) }
+            → (checkpoint : _) → (carries : CarriesWith C.codec self.old checkpoint (D.state disk.old) old)
+            → (then : CarriesWith C.codec self.new checkpoint (D.state disk.new) new)
+            × HoldsWithRecord carries.layout carries.holding then.layout then.holding) }
         ensures stops { D.Honest disk.new → (old new : C.codec.World) → C.codec.Takes line.now old new
             → (checkpoint : _) → CarriesWith C.codec self.old checkpoint (D.state disk.old) old
             → LeavesEither C.codec (D.past disk.old) (D.state disk.old) (D.past disk.new) (D.state disk.new) old new }
@@ -65,6 +67,7 @@ impl<C: Codec> OpenFile<C> {
         ensures no_call { IsErrOf result journal.HalfFull → disk.new ≡ disk.old }
         ensures no_memory { IsErrOf result journal.OutOfMemory → ⊥ }
         ensures number { OnOk result (self.new.place.number ≡ self.old.place.number + 1) }
+        ensures begun { self.new.place.begun ≡ self.old.place.begun }
 
         ensures honest { D.Honest disk.new → D.Honest disk.old }
         ensures fault { CountsFault (D.fault_count disk.old) (D.fault_count disk.new) result }
@@ -92,8 +95,10 @@ impl<C: Codec> OpenFile<C> {
             → (carries : CarriesWith C.codec self.old None (D.state disk.old) world)
             → (plan : _) (holding : Holding) → IsPlan C.codec carries.layout (plan_of plan holding)
             → Has (coming_of self.old.free) (reached_of holding)
-            → CarriesWith C.codec self.new (Some (begun plan)) (D.state disk.new) world) }
+            → (then : CarriesWith C.codec self.new (Some (begun plan)) (D.state disk.new) world)
+            × HoldsOn carries.layout holding then.layout then.holding) }
         ensures number { self.new.place.number ≡ self.old.place.number }
+        ensures taken { self.new.taken ≡ self.old.taken }
         ensures stops { D.Honest disk.new → (world : C.codec.World)
             → CarriesWith C.codec self.old None (D.state disk.old) world
             → LeavesKept C.codec (D.past disk.old) (D.state disk.old) (D.past disk.new) (D.state disk.new) world }
@@ -126,8 +131,9 @@ impl<C: Codec> OpenFile<C> {
         checkpoint: Checkpoint,
     ) -> Result<Option<Checkpoint>, Fault>
         ensures carries { IfOk result (λ next. D.Honest disk.new → (world : C.codec.World)
-            → CarriesWith C.codec self.old (Some checkpoint) (D.state disk.old) world
-            → CarriesWith C.codec self.new next (D.state disk.new) world) }
+            → (carries : CarriesWith C.codec self.old (Some checkpoint) (D.state disk.old) world)
+            → (then : CarriesWith C.codec self.new next (D.state disk.new) world)
+            × HoldsBehind next carries.layout carries.holding then.layout then.holding) }
         ensures renews { IfOk result (λ next. D.Honest disk.new → (world : C.codec.World)
             → (carries : CarriesWith C.codec self.old (Some checkpoint) (D.state disk.old) world)
             → Renews C.codec carries.layout next (D.state disk.new) world) }
@@ -136,6 +142,7 @@ impl<C: Codec> OpenFile<C> {
             → LeavesKept C.codec (D.past disk.old) (D.state disk.old) (D.past disk.new) (D.state disk.new) world }
         ensures left { IfOk result (λ next. left_of (Some checkpoint) ≡ left_of next + 1) }
         ensures taken { IfOk result (λ next. StaysTaken next self.old.taken self.new.taken) }
+        ensures rests { IfOk result (λ next. RestsBehind next self.new.place.begun) }
         ensures number { self.new.place.number ≡ self.old.place.number }
         ensures honest { D.Honest disk.new → D.Honest disk.old }
         ensures fault { device.CountsFault (D.fault_count disk.old) (D.fault_count disk.new) result }
@@ -168,8 +175,9 @@ impl<C: Codec> OpenFile<C> {
     ) -> Result<Checkpoint, Fault>
         requires stage { checkpoint.stage ≡ Stage.Writing written }
         ensures carries { IfOk result (λ next. D.Honest disk.new → (world : C.codec.World)
-            → CarriesWith C.codec self.now (Some checkpoint) (D.state disk.old) world
-            → CarriesWith C.codec self.now (Some next) (D.state disk.new) world) }
+            → (carries : CarriesWith C.codec self.now (Some checkpoint) (D.state disk.old) world)
+            → (then : CarriesWith C.codec self.now (Some next) (D.state disk.new) world)
+            × HoldsOn carries.layout carries.holding then.layout then.holding) }
         ensures stops { D.Honest disk.new → (world : C.codec.World)
             → CarriesWith C.codec self.now (Some checkpoint) (D.state disk.old) world
             → LeavesKept C.codec (D.past disk.old) (D.state disk.old) (D.past disk.new) (D.state disk.new) world }
@@ -199,8 +207,9 @@ impl<C: Codec> OpenFile<C> {
         requires stage { checkpoint.stage ≡ Stage.Writing written }
         requires all { length checkpoint.plan.fresh.items ≤ written }
         ensures carries { IfOk result (λ next. D.Honest disk.new → (world : C.codec.World)
-            → CarriesWith C.codec self.now (Some checkpoint) (D.state disk.old) world
-            → CarriesWith C.codec self.now (Some next) (D.state disk.new) world) }
+            → (carries : CarriesWith C.codec self.now (Some checkpoint) (D.state disk.old) world)
+            → (then : CarriesWith C.codec self.now (Some next) (D.state disk.new) world)
+            × HoldsOn carries.layout carries.holding then.layout then.holding) }
         ensures stops { D.Honest disk.new → (world : C.codec.World)
             → CarriesWith C.codec self.now (Some checkpoint) (D.state disk.old) world
             → LeavesKept C.codec (D.past disk.old) (D.state disk.old) (D.past disk.new) (D.state disk.new) world }
@@ -223,8 +232,9 @@ impl<C: Codec> OpenFile<C> {
     fn fill<D: Disk>(&self, disk: &mut D, mut checkpoint: Checkpoint) -> Result<Checkpoint, Fault>
         requires stage { checkpoint.stage ≡ Stage.Shut }
         ensures carries { IfOk result (λ next. D.Honest disk.new → (world : C.codec.World)
-            → CarriesWith C.codec self.now (Some checkpoint) (D.state disk.old) world
-            → CarriesWith C.codec self.now (Some next) (D.state disk.new) world) }
+            → (carries : CarriesWith C.codec self.now (Some checkpoint) (D.state disk.old) world)
+            → (then : CarriesWith C.codec self.now (Some next) (D.state disk.new) world)
+            × HoldsOn carries.layout carries.holding then.layout then.holding) }
         ensures stops { D.Honest disk.new → (world : C.codec.World)
             → CarriesWith C.codec self.now (Some checkpoint) (D.state disk.old) world
             → LeavesKept C.codec (D.past disk.old) (D.state disk.old) (D.past disk.new) (D.state disk.new) world }
@@ -247,8 +257,9 @@ impl<C: Codec> OpenFile<C> {
     fn open<D: Disk>(&mut self, disk: &mut D, checkpoint: &Checkpoint) -> Result<(), Fault>
         requires stage { checkpoint.now.stage ≡ Stage.Filled }
         ensures carries { OnOk result (D.Honest disk.new → (world : C.codec.World)
-            → CarriesWith C.codec self.old (Some checkpoint.now) (D.state disk.old) world
-            → CarriesWith C.codec self.new None (D.state disk.new) world) }
+            → (carries : CarriesWith C.codec self.old (Some checkpoint.now) (D.state disk.old) world)
+            → (then : CarriesWith C.codec self.new None (D.state disk.new) world)
+            × (then.layout.holding ≡ carries.holding)) }
         ensures renews { OnOk result (D.Honest disk.new → (world : C.codec.World)
             → (carries : CarriesWith C.codec self.old (Some checkpoint.now) (D.state disk.old) world)
             → Renews C.codec carries.layout None (D.state disk.new) world) }
@@ -256,6 +267,7 @@ impl<C: Codec> OpenFile<C> {
             → CarriesWith C.codec self.old (Some checkpoint.now) (D.state disk.old) world
             → LeavesKept C.codec (D.past disk.old) (D.state disk.old) (D.past disk.new) (D.state disk.new) world }
         ensures number { self.new.place.number ≡ self.old.place.number }
+        ensures rests { OnOk result (self.new.place.begun ≡ None) }
         ensures honest { D.Honest disk.new → D.Honest disk.old }
         ensures fault { device.CountsFault (D.fault_count disk.old) (D.fault_count disk.new) result }
         ensures writes { D.write_count disk.new ≤ D.write_count disk.old + 1 }

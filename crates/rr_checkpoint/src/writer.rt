@@ -3,7 +3,7 @@ ghost use Rattle.rr_disk.specs.Disk as device;
 ghost use Rattle.rr_disk.specs.Disk.{DiskState, counted};
 ghost use Rattle.rr_disk.specs.Moments.{EachImage};
 ghost use Rattle.rr_images.specs.Layout.{Layout};
-ghost use Rattle.rr_images.specs.Plans.{Draft};
+ghost use Rattle.rr_images.specs.Plans.{Draft, chains_of};
 ghost use Rattle.rr_images.specs.Progress.{Resting, IsBetween};
 ghost use Rattle.rr_journal.specs.Faults.{CountsFault, OnDeviceFault};
 ghost use Rattle.rr_journal.specs.Layout.{HasRoom};
@@ -14,6 +14,7 @@ ghost use Rattle.rr_pages.specs.Sets.{IsEmpty, TooFewFree, marked};
 ghost use Rattle.rr_pages.specs.Writing.{IsLaid};
 ghost use Rattle.rr_pages.specs.declared.fault.Fault.TheVariants as pages;
 ghost use Rattle.rr_checkpoint.specs.Calls.{LeavesKept, LeavesEither, TakesRootBehind};
+ghost use Rattle.rr_checkpoint.specs.Holds.{HoldsOn, HoldsWithRecord, HoldsAt, RestsAt};
 ghost use Rattle.rr_checkpoint.specs.OpenFile.{Tells};
 ghost use Rattle.rr_checkpoint.specs.Pages.{pages_with};
 
@@ -117,11 +118,14 @@ impl<C: Codec> Writer<C> {
         requires number { (place_of self.old).number < 2 ^ 63 }
 
         ensures carries { OnOk result (D.Honest disk.new → (old new : C.codec.World) → C.codec.Takes line.now old new
-            → Carries C.codec self.old (D.state disk.old) old → Carries C.codec self.new (D.state disk.new) new) }
+            → (carries : Carries C.codec self.old (D.state disk.old) old)
+            → (then : Carries C.codec self.new (D.state disk.new) new)
+            × HoldsWithRecord carries.layout carries.holding then.layout then.holding) }
         ensures stops { D.Honest disk.new → (old new : C.codec.World) → C.codec.Takes line.now old new
             → Carries C.codec self.old (D.state disk.old) old
             → LeavesEither C.codec (D.past disk.old) (D.state disk.old) (D.past disk.new) (D.state disk.new) old new }
         ensures number { OnOk result ((place_of self.new).number ≡ (place_of self.old).number + 1) }
+        ensures begun { (place_of self.new).begun ≡ (place_of self.old).begun }
         ensures left { ticks_left_of self.new ≡ ticks_left_of self.old }
 
         // When each error comes.
@@ -214,7 +218,8 @@ impl<C: Codec> Writer<C> {
             → (carries : Carries C.codec self.old state world) (drafts : List Draft)
             → AreDrafted carries.layout (free_of self.old) fresh.items drafts
             → IsDirectory C.codec carries.layout drafts directory.now
-            → MayBegin C.codec carries.layout (free_of self.new) plan) }
+            → (may : MayBegin C.codec carries.layout (free_of self.new) plan)
+            × (may.holding.chains ≡ chains_of drafts)) }
         ensures full { IsErrOf result pages.FileFull
             → TooFewFree (present_of (free_of self.old)) (coming_of (free_of self.old)) (pages_for (length directory.now)) }
         ensures err { IfErr result (λ fault. (fault ≡ pages.FileFull) ⊎ (fault ≡ pages.OutOfMemory)) }
@@ -251,11 +256,13 @@ impl<C: Codec> Writer<C> {
 
         ensures carries { OnOk result (D.Honest disk.new → (world : C.codec.World)
             → (carries : Carries C.codec self.old (D.state disk.old) world)
-            → MayBegin C.codec carries.layout (free_of self.old) plan
-            → Carries C.codec self.new (D.state disk.new) world) }
+            → (may : MayBegin C.codec carries.layout (free_of self.old) plan)
+            → (then : Carries C.codec self.new (D.state disk.new) world)
+            × HoldsOn carries.layout may.holding then.layout then.holding) }
         ensures stops { D.Honest disk.new → (world : C.codec.World) → Carries C.codec self.old (D.state disk.old) world
             → LeavesKept C.codec (D.past disk.old) (D.state disk.old) (D.past disk.new) (D.state disk.new) world }
         ensures left { OnOk result (ticks_left_of self.new ≡ length plan.fresh.items + 3) }
+        ensures taken { taken_of self.new ≡ taken_of self.old }
         ensures number { (place_of self.new).number ≡ (place_of self.old).number }
 
         ensures fault { device.CountsFault (D.fault_count disk.old) (D.fault_count disk.new) result }
@@ -275,8 +282,10 @@ impl<C: Codec> Writer<C> {
     /// Makes the next step of the checkpoint under way: one fresh page, or the stale root's gate shut, or the coming root
     /// without its gate, or its gate.
     pub fn tick<D: Disk>(&mut self, disk: &mut D) -> Result<Tick, Fault>
-        ensures carries { OnOk result (D.Honest disk.new → (world : C.codec.World)
-            → Carries C.codec self.old (D.state disk.old) world → Carries C.codec self.new (D.state disk.new) world) }
+        ensures carries { IfOk result (λ tick. D.Honest disk.new → (world : C.codec.World)
+            → (carries : Carries C.codec self.old (D.state disk.old) world)
+            → (then : Carries C.codec self.new (D.state disk.new) world)
+            × HoldsAt tick carries.layout carries.holding then.layout then.holding) }
         ensures renews { IfOk result (λ tick. D.Honest disk.new → (world : C.codec.World)
             → (carries : Carries C.codec self.old (D.state disk.old) world)
             → RenewsAt C.codec tick carries.layout (D.state disk.new) world) }
@@ -284,6 +293,7 @@ impl<C: Codec> Writer<C> {
             → LeavesKept C.codec (D.past disk.old) (D.state disk.old) (D.past disk.new) (D.state disk.new) world }
         ensures left { IfOk result (λ tick. Lowers tick (ticks_left_of self.old) (ticks_left_of self.new)) }
         ensures taken { IfOk result (λ tick. StaysTakenAt tick (taken_of self.old) (taken_of self.new)) }
+        ensures rests { IfOk result (λ tick. RestsAt tick (place_of self.new).begun) }
         ensures number { (place_of self.new).number ≡ (place_of self.old).number }
 
         ensures fault { device.CountsFault (D.fault_count disk.old) (D.fault_count disk.new) result }
@@ -313,13 +323,16 @@ impl<C: Codec> Writer<C> {
     /// Makes all ticks that are left. Where one was, each file that a stop may leave then takes a newer root.
     pub fn finish<D: Disk>(&mut self, disk: &mut D) -> Result<(), Fault>
         ensures carries { OnOk result (D.Honest disk.new → (world : C.codec.World)
-            → Carries C.codec self.old (D.state disk.old) world → Carries C.codec self.new (D.state disk.new) world) }
+            → (carries : Carries C.codec self.old (D.state disk.old) world)
+            → (then : Carries C.codec self.new (D.state disk.new) world)
+            × (0 < ticks_left_of self.old → then.layout.holding ≡ carries.holding)) }
         ensures stops { D.Honest disk.new → (world : C.codec.World) → Carries C.codec self.old (D.state disk.old) world
             → LeavesKept C.codec (D.past disk.old) (D.state disk.old) (D.past disk.new) (D.state disk.new) world }
         ensures renews { OnOk result (D.Honest disk.new → (world : C.codec.World)
             → Carries C.codec self.old (D.state disk.old) world → 0 < ticks_left_of self.old
             → EachImage (D.state disk.new) (TakesRootBehind C.codec (taken_of self.old).root.number world)) }
         ensures left { OnOk result (ticks_left_of self.new ≡ 0) }
+        ensures rests { OnOk result (0 < ticks_left_of self.old → (place_of self.new).begun ≡ None) }
         ensures number { (place_of self.new).number ≡ (place_of self.old).number }
 
         ensures fault { device.CountsFault (D.fault_count disk.old) (D.fault_count disk.new) result }

@@ -2,23 +2,26 @@
 use Rattle.std.proofs.Common.{◌≡◌, ℕ, ◌≤◌, length, lit≤, true, List, refl, arith}
 use Rattle.std.proofs.lemmas.Bool.Decides.{nat_tests}
 use Rattle.rr_words.specs.Name.{is_player_name}
+use Rattle.rr_orders.proofs.OrderLemmas as orders
 use Rattle.rr_code.specs.Players.{ArePlayers}
 use Rattle.rr_code.specs.Command.{IsCommand, source_word, spelling}
 use Rattle.rr_turns.specs.declared.request.Request.{Request}
 use Rattle.rr_turns.specs.declared.request.Request.TheVariants.{Play, Back, Forget}
 use Rattle.rr_code.specs.Request.{IsRequest, request_words}
-use Rattle.rr_code.specs.Query.{IsQuery, IsAccount, IsOwner, account_word, owner_word, query_words}
+use Rattle.rr_code.specs.Query.{IsQuery, IsAccount, IsOwner, account_word, owner_word, holder_word, query_words}
 use Rattle.rr_code.specs.Line.{IsLine, line_words}
 use Rattle.rr_code.specs.declared.command.Command.{Command}
-use Rattle.rr_code.specs.declared.command.Command.TheVariants.{Open, BuyPrivate, Bid, Pass, Par, BuyShare, Sell, Swap, Done}
+use Rattle.rr_code.specs.declared.command.Command.TheVariants.{Open, BuyPrivate, Bid, Pass, Par, BuyShare, Sell, Swap, Done, Order as Ordered}
 use Rattle.rr_code.specs.declared.stock.ShareSource.{ShareSource}
 use Rattle.rr_code.specs.declared.stock.ShareSource.TheVariants as S
 use Rattle.rr_code.specs.declared.query.Query.{Query}
-use Rattle.rr_code.specs.declared.query.Query.TheVariants.{Tables, Stamp, Turns, Due, Cash, Limit, Asked, Privates, Holds, Price, Order}
+use Rattle.rr_code.specs.declared.query.Query.TheVariants.{Tables, Stamp, Turns, Due, Cash, Limit, Asked, Privates, Holds, Price, Order, Phase, Trains, Iou, Worth}
 use Rattle.rr_code.specs.declared.query.Account.{Account}
 use Rattle.rr_code.specs.declared.query.Account.TheVariants as A
 use Rattle.rr_code.specs.declared.query.Owner.{Owner}
 use Rattle.rr_code.specs.declared.query.Owner.TheVariants as O
+use Rattle.rr_code.specs.declared.query.TrainHolder.{TrainHolder}
+use Rattle.rr_code.specs.declared.query.TrainHolder.TheVariants as H
 use Rattle.rr_code.specs.declared.line.Line.{Line}
 use Rattle.rr_code.specs.declared.line.Line.TheVariants as L
 use Rattle.rr_scan.proofs.WordsLemmas.{is_unspaced, are_unspaced}
@@ -41,6 +44,7 @@ spelling-unspaced (BuyShare player corp source) h = rw (player-unspaced player h
 spelling-unspaced (Sell player corp count) h = rw (player-unspaced player h.0, corp-unspaced corp, decimal-unspaced count h.1) refl
 spelling-unspaced (Swap player source) h = rw (player-unspaced player h, source-unspaced source) refl
 spelling-unspaced (Done player) h = rw (player-unspaced player h) refl
+spelling-unspaced (Ordered order) h = orders.spelling-unspaced order h
 
 pub spelling-some : (c : Command) → 1 ≤ length (spelling c)
 spelling-some (Open players) = omega arith
@@ -52,6 +56,7 @@ spelling-some (BuyShare player corp source) = lit≤ tt
 spelling-some (Sell player corp count) = lit≤ tt
 spelling-some (Swap player source) = lit≤ tt
 spelling-some (Done player) = lit≤ tt
+spelling-some (Ordered order) = orders.spelling-some order
 
 pub request-unspaced : (r : Request Command) → IsRequest r → are_unspaced (request_words r) ≡ true
 request-unspaced (Play c) h = spelling-unspaced c h
@@ -72,6 +77,10 @@ owner-unspaced : (owner : Owner) → IsOwner owner → is_unspaced (owner_word o
 owner-unspaced (O.Corp corp) h = corp-unspaced corp
 owner-unspaced (O.Player name) h = player-unspaced name h
 
+holder-unspaced : (holder : TrainHolder) → is_unspaced (holder_word holder) ≡ true
+holder-unspaced (H.Corp corp) = corp-unspaced corp
+holder-unspaced H.Pool = refl
+
 query-unspaced : (query : Query) → IsQuery query → are_unspaced (query_words query) ≡ true
 query-unspaced Tables h = refl
 query-unspaced (Stamp table) h = rw (table-unspaced table h) refl
@@ -84,11 +93,16 @@ query-unspaced (Privates table of) h = rw (table-unspaced table h.0, owner-unspa
 query-unspaced (Holds table player corp) h = rw (table-unspaced table h.0, player-unspaced player h.1, corp-unspaced corp) refl
 query-unspaced (Price table corp) h = rw (table-unspaced table h, corp-unspaced corp) refl
 query-unspaced (Order table) h = rw (table-unspaced table h) refl
+query-unspaced (Phase table) h = rw (table-unspaced table h) refl
+query-unspaced (Trains table of) h = rw (table-unspaced table h, holder-unspaced of) refl
+query-unspaced (Iou table) h = rw (table-unspaced table h) refl
+query-unspaced (Worth table player) h = rw (table-unspaced table h.0, player-unspaced player h.1) refl
 
 pub line-unspaced : (line : Line) → IsLine line → are_unspaced (line_words line) ≡ true
 line-unspaced (L.Request stamp table request) h =
     rw (decimal-unspaced stamp h.0, table-unspaced table h.1, request-unspaced request h.2) refl
 line-unspaced (L.Query query) h = query-unspaced query h
+line-unspaced (L.Best stamp table corp) h = rw (decimal-unspaced stamp h.0, table-unspaced table h.1, corp-unspaced corp) refl
 
 query-some : (query : Query) → 1 ≤ length (query_words query)
 query-some Tables = lit≤ tt
@@ -102,7 +116,12 @@ query-some (Privates table of) = lit≤ tt
 query-some (Holds table player corp) = lit≤ tt
 query-some (Price table corp) = lit≤ tt
 query-some (Order table) = lit≤ tt
+query-some (Phase table) = lit≤ tt
+query-some (Trains table of) = lit≤ tt
+query-some (Iou table) = lit≤ tt
+query-some (Worth table player) = lit≤ tt
 
 pub line-some : (line : Line) → 1 ≤ length (line_words line)
 line-some (L.Request stamp table request) = omega arith
 line-some (L.Query query) = query-some query
+line-some (L.Best stamp table corp) = lit≤ tt

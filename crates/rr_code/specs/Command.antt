@@ -3,9 +3,10 @@ use Rattle.std.specs.Prelude.{◌≡◌, ℕ, List, ◌^◌, ◌<◌, decimal, [
 use Rattle.rr_words.specs.Name.{IsPlayerName}
 use Rattle.rr_words.specs.Line.{line_of}
 use Rattle.rr_roster.specs.Company.{corp_name, private_name}
+use Rattle.rr_orders.specs.Order as orders
 use Rattle.rr_code.specs.Players.{ArePlayers}
 use Rattle.rr_code.specs.declared.command.Command.{Command}
-use Rattle.rr_code.specs.declared.command.Command.TheVariants.{Open, BuyPrivate, Bid, Pass, Par, BuyShare, Sell, Swap, Done}
+use Rattle.rr_code.specs.declared.command.Command.TheVariants.{Open, BuyPrivate, Bid, Pass, Par, BuyShare, Sell, Swap, Done, Order}
 use Rattle.rr_code.specs.declared.stock.ShareSource.{ShareSource}
 use Rattle.rr_code.specs.declared.stock.ShareSource.TheVariants.{Offer, Pool}
 use Rattle.rr_code.specs.declared.fault.Fault.{Fault}
@@ -27,6 +28,7 @@ spelling (BuyShare player corp source) = codes "buy" ∷ player ∷ corp_name co
 spelling (Sell player corp count) = codes "sell" ∷ player ∷ corp_name corp ∷ decimal count ∷ []
 spelling (Swap player source) = codes "swap" ∷ player ∷ source_word source ∷ []
 spelling (Done player) = codes "done" ∷ player ∷ []
+spelling (Order order) = orders.spelling order
 
 -- its parts are what they stand for
 abbrev pub IsCommand : Command → Type 0
@@ -39,6 +41,7 @@ IsCommand (BuyShare player corp source) = IsPlayerName player
 IsCommand (Sell player corp count) = IsPlayerName player × (count < 10 ^ 10)
 IsCommand (Swap player source) = IsPlayerName player
 IsCommand (Done player) = IsPlayerName player
+IsCommand (Order order) = orders.IsOrder order
 
 -- the text of a command: its words with one space between each two
 abbrev pub text : Command → List ℕ

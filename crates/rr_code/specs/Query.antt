@@ -4,11 +4,13 @@ use Rattle.rr_words.specs.Name.{is_player_name, player_name_of, table_name_of, I
 use Rattle.rr_roster.specs.Company.{corp_name}
 use Rattle.rr_scan.specs.Company.{corp_of}
 use Rattle.rr_code.specs.declared.query.Query.{Query}
-use Rattle.rr_code.specs.declared.query.Query.TheVariants.{Tables, Stamp, Turns, Due, Cash, Limit, Asked, Privates, Holds, Price, Order}
+use Rattle.rr_code.specs.declared.query.Query.TheVariants.{Tables, Stamp, Turns, Due, Cash, Limit, Asked, Privates, Holds, Price, Order, Phase, Trains, Iou, Worth}
 use Rattle.rr_code.specs.declared.query.Account.{Account}
 use Rattle.rr_code.specs.declared.query.Account.TheVariants as A
 use Rattle.rr_code.specs.declared.query.Owner.{Owner}
 use Rattle.rr_code.specs.declared.query.Owner.TheVariants as O
+use Rattle.rr_code.specs.declared.query.TrainHolder.{TrainHolder}
+use Rattle.rr_code.specs.declared.query.TrainHolder.TheVariants as H
 
 -- the word of an account
 abbrev pub account_word : Account → List ℕ
@@ -32,6 +34,11 @@ abbrev pub IsOwner : Owner → Type 0
 IsOwner (O.Corp corp) = Unit {0}
 IsOwner (O.Player name) = IsPlayerName name
 
+-- the word of a holder of trains
+abbrev pub holder_word : TrainHolder → List ℕ
+holder_word (H.Corp corp) = corp_name corp
+holder_word H.Pool = codes "pool"
+
 -- the words of a query
 abbrev pub query_words : Query → List (List ℕ)
 query_words Tables = codes "tables" ∷ []
@@ -45,6 +52,10 @@ query_words (Privates table of) = codes "privates" ∷ table ∷ owner_word of �
 query_words (Holds table player corp) = codes "holds" ∷ table ∷ player ∷ corp_name corp ∷ []
 query_words (Price table corp) = codes "price" ∷ table ∷ corp_name corp ∷ []
 query_words (Order table) = codes "order" ∷ table ∷ []
+query_words (Phase table) = codes "phase" ∷ table ∷ []
+query_words (Trains table of) = codes "trains" ∷ table ∷ holder_word of ∷ []
+query_words (Iou table) = codes "iou" ∷ table ∷ []
+query_words (Worth table player) = codes "worth" ∷ table ∷ player ∷ []
 
 -- its parts are what they stand for
 abbrev pub IsQuery : Query → Type 0
@@ -59,6 +70,10 @@ IsQuery (Privates table of) = IsTableName table × IsOwner of
 IsQuery (Holds table player corp) = IsTableName table × IsPlayerName player
 IsQuery (Price table corp) = IsTableName table
 IsQuery (Order table) = IsTableName table
+IsQuery (Phase table) = IsTableName table
+IsQuery (Trains table of) = IsTableName table
+IsQuery (Iou table) = IsTableName table
+IsQuery (Worth table player) = IsTableName table × IsPlayerName player
 
 -- the account that a word names
 abbrev pub account_of : List ℕ → Option Account
@@ -70,6 +85,10 @@ account_of word =
 -- the owner that a word names
 abbrev pub owner_of : List ℕ → Option Owner
 owner_of word = if is_player_name word then Some (O.Player word) else option_map O.Corp (corp_of word)
+
+-- the holder of trains that a word names
+abbrev pub holder_of : List ℕ → Option TrainHolder
+holder_of word = if bytes_eq word (codes "pool") then Some H.Pool else option_map H.Corp (corp_of word)
 
 -- what the words behind a query's first word are read as, form by form
 abbrev pub read_tables : List (List ℕ) → Option Query
@@ -117,6 +136,22 @@ abbrev pub read_order : List (List ℕ) → Option Query
 read_order (table ∷ []) = option_map Order (table_name_of table)
 read_order _ = None
 
+abbrev pub read_phase : List (List ℕ) → Option Query
+read_phase (table ∷ []) = option_map Phase (table_name_of table)
+read_phase _ = None
+
+abbrev pub read_trains : List (List ℕ) → Option Query
+read_trains (table ∷ of ∷ []) = option_and_then (λ t. option_map (Trains t) (holder_of of)) (table_name_of table)
+read_trains _ = None
+
+abbrev pub read_iou : List (List ℕ) → Option Query
+read_iou (table ∷ []) = option_map Iou (table_name_of table)
+read_iou _ = None
+
+abbrev pub read_worth : List (List ℕ) → Option Query
+read_worth (table ∷ player ∷ []) = option_and_then (λ t. option_map (Worth t) (player_name_of player)) (table_name_of table)
+read_worth _ = None
+
 -- a query's words
 abbrev pub read_query_words : List (List ℕ) → Option Query
 read_query_words [] = None
@@ -132,4 +167,8 @@ read_query_words (head ∷ rest) =
     if bytes_eq head (codes "holds") then read_holds rest else
     if bytes_eq head (codes "price") then read_price rest else
     if bytes_eq head (codes "order") then read_order rest else
+    if bytes_eq head (codes "phase") then read_phase rest else
+    if bytes_eq head (codes "trains") then read_trains rest else
+    if bytes_eq head (codes "iou") then read_iou rest else
+    if bytes_eq head (codes "worth") then read_worth rest else
     None

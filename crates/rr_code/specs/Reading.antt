@@ -5,11 +5,12 @@ use Rattle.rr_words.specs.Numeral.{number_of}
 use Rattle.rr_turns.specs.declared.request.Request.{Request}
 use Rattle.rr_turns.specs.declared.request.Request.TheVariants.{Play, Back, Forget}
 use Rattle.rr_scan.specs.Company.{corp_of, private_of}
+use Rattle.rr_orders.specs.Reading.{read_order}
 use Rattle.rr_code.specs.Players.{are_players}
 use Rattle.rr_code.specs.declared.stock.ShareSource.{ShareSource}
 use Rattle.rr_code.specs.declared.stock.ShareSource.TheVariants.{Offer, Pool}
 use Rattle.rr_code.specs.declared.command.Command.{Command}
-use Rattle.rr_code.specs.declared.command.Command.TheVariants.{Open, BuyPrivate, Bid, Pass, Par, BuyShare, Sell, Swap, Done}
+use Rattle.rr_code.specs.declared.command.Command.TheVariants.{Open, BuyPrivate, Bid, Pass, Par, BuyShare, Sell, Swap, Done, Order}
 
 -- the place that a word names
 abbrev pub source_of : List ℕ → Option ShareSource
@@ -62,7 +63,7 @@ abbrev pub read_done : List (List ℕ) → Option Command
 read_done (player ∷ []) = option_map Done (player_name_of player)
 read_done _ = None
 
--- a command's words
+-- a command's words: where the first names no command of the auction or of a stock round, those of an order
 abbrev pub read_words : List (List ℕ) → Option Command
 read_words [] = None
 read_words (head ∷ rest) =
@@ -74,7 +75,7 @@ read_words (head ∷ rest) =
     if bytes_eq head (codes "sell") then read_sell rest else
     if bytes_eq head (codes "swap") then read_swap rest else
     if bytes_eq head (codes "done") then read_done rest else
-    None
+    option_map Order (read_order (head ∷ rest))
 
 -- behind `back` and `forget`: a number
 abbrev pub read_back : List (List ℕ) → Option (Request Command)

@@ -10,7 +10,7 @@ use rr_scan::{Words, next_player, read_corp, read_private, write_number, write_w
 use rr_words::{Name, number};
 use std::alloc::AllocError;
 
-pub fn read_bid(words: &mut Words) -> Option<Command>
+pub fn read_bid<'a>(words: &mut Words<'a>) -> Option<Command<'a>>
     ensures exact { result ≡ read_bid words.old }
     ensures found { IfSome result (λ c. IsCommand c × (codes "bid" ∷ words.old ≡ spelling c)) }
 {
@@ -24,7 +24,7 @@ pub fn read_bid(words: &mut Words) -> Option<Command>
     })
 }
 
-pub fn read_pass(words: &mut Words) -> Option<Command>
+pub fn read_pass<'a>(words: &mut Words<'a>) -> Option<Command<'a>>
     ensures exact { result ≡ read_pass words.old }
     ensures found { IfSome result (λ c. IsCommand c × (codes "pass" ∷ words.old ≡ spelling c)) }
 {
@@ -32,7 +32,7 @@ pub fn read_pass(words: &mut Words) -> Option<Command>
     Some(Command::Pass { player })
 }
 
-pub fn read_par(words: &mut Words) -> Option<Command>
+pub fn read_par<'a>(words: &mut Words<'a>) -> Option<Command<'a>>
     ensures exact { result ≡ read_par words.old }
     ensures found { IfSome result (λ c. IsCommand c × (codes "par" ∷ words.old ≡ spelling c)) }
 {

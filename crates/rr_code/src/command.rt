@@ -7,15 +7,17 @@ use crate::auction;
 use crate::fault::Fault;
 use crate::players::Players;
 use crate::stock::{self, ShareSource};
+use rr_orders::Order;
 use rr_roster::{Corp, Private};
 use rr_scan::{Words, write_word};
 use rr_words::Name;
 use std::alloc::AllocError;
 
 /// What a table is played with. A number that a command's words spell has one to ten
-/// digits, so it is below 10^10, and the first of several digits is not 0.
-#[derive(Clone, Copy, Debug, PartialEq, Eq)]
-pub enum Command {
+/// digits, so it is below 10^10, and the first of several digits is not 0. The words of a
+/// sheet and of a certificate are lent from the line.
+#[derive(Debug, Drop, PartialEq, Eq)]
+pub enum Command<'a> {
     /// The table is opened with these players.
     Open {
         players: Players,
@@ -61,16 +63,18 @@ pub enum Command {
     Done {
         player: Name,
     },
+    /// A corporation does something in its turn of an operating round.
+    Order(Order<'a>),
 }
 
-impl Command {
+impl<'a> Command<'a> {
     /// Reads the words of a command as a table keeps them, without its stamp and the table's name.
     /// Each command has one text: its words with one space between each two, none before and none
     /// behind, and numbers without a leading zero.
     ///
     /// # Errors
     /// `Malformed` where the bytes are no command's text.
-    pub fn read(words: &[u8]) -> Result<Command, Fault>
+    pub fn read(words: &'a [u8]) -> Result<Command<'a>, Fault>
         ensures found { MatchResult result (λ c. SpellsCommand words.now c) (λ fault. fault ≡ Fault.Malformed) }
         ensures only { (c : Command) → SpellsCommand words.now c → result ≡ Ok c }
         ensures exact { IsReadAs words.now result }
@@ -79,7 +83,7 @@ impl Command {
         Command::from_words(&mut words).ok_or(Fault::Malformed)
     }
 
-    pub(crate) fn from_words(words: &mut Words) -> Option<Command>
+    pub(crate) fn from_words(words: &mut Words<'a>) -> Option<Command<'a>>
         ensures exact { result ≡ read_words words.old }
         ensures found { IfSome result (λ c. IsCommand c × (words.old ≡ spelling c)) }
     {
@@ -88,7 +92,7 @@ impl Command {
     }
 
     /// The command with this first word, and these behind it.
-    pub(crate) fn named(head: &[u8], words: &mut Words) -> Option<Command>
+    pub(crate) fn named(head: &[u8], words: &mut Words<'a>) -> Option<Command<'a>>
         ensures exact { result ≡ read_words (head.now ∷ words.old) }
         ensures found { IfSome result (λ c. IsCommand c × (head.now ∷ words.old ≡ spelling c)) }
     {
@@ -116,7 +120,8 @@ impl Command {
         if head == b"done".as_slice() {
             return stock::read_done(words);
         }
-        None
+        let order = Order::named(head, words)?;
+        Some(Command::Order(order))
     }
 
     /// Appends the command's words, as `read` reads them: what it gives back is this command, if
@@ -168,11 +173,12 @@ impl Command {
             } => stock::write_sell(player, *corp, *count, out),
             Command::Swap { player, source } => stock::write_swap(player, *source, out),
             Command::Done { player } => stock::write_done(player, out),
+            Command::Order(order) => order.write(out),
         }
     }
 }
 
-fn read_open(words: &mut Words) -> Option<Command>
+fn read_open<'a>(words: &mut Words<'a>) -> Option<Command<'a>>
     ensures exact { result ≡ read_open words.old }
     ensures found { IfSome result (λ c. IsCommand c × (codes "open" ∷ words.old ≡ spelling c)) }
 {

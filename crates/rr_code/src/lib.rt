@@ -1,6 +1,6 @@
 //! The lines that a keeper of tables reads: one spelling for each request and each query.
 //!
-//! Stands on `rr_words`, `rr_roster`, `rr_turns` and `rr_scan`. Its promise: `Line::read` and `read_record` read exactly what is
+//! Stands on `rr_words`, `rr_roster`, `rr_turns`, `rr_scan` and `rr_orders`. Its promise: `Line::read` and `read_record` read exactly what is
 //! spelled, one text a line (`laws::one_spelling`).
 #![tactic(auto)]
 
@@ -18,7 +18,8 @@ pub use command::Command;
 pub use fault::Fault;
 pub use line::{Line, unstamped};
 pub use players::Players;
-pub use query::{Account, Owner, Query};
+pub use query::{Account, Owner, Query, TrainHolder};
 pub use request::{read_record, write_request};
+pub use rr_orders::Order;
 pub use rr_turns::Request;
 pub use stock::ShareSource;

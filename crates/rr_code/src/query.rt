@@ -1,5 +1,5 @@
 ghost use Rattle.std.specs.Prelude.{◌≡◌, ◌∷◌, codes, IfSome};
-ghost use Rattle.rr_code.specs.Query.{IsQuery, IsAccount, IsOwner, query_words, account_word, owner_word, account_of, owner_of, read_query_words, read_tables, read_stamp, read_turns, read_due, read_cash, read_limit, read_asked, read_privates, read_holds, read_price, read_order};
+ghost use Rattle.rr_code.specs.Query.{IsQuery, IsAccount, IsOwner, query_words, account_word, owner_word, holder_word, account_of, owner_of, holder_of, read_query_words, read_tables, read_stamp, read_turns, read_due, read_cash, read_limit, read_asked, read_privates, read_holds, read_price, read_order, read_phase, read_trains, read_iou, read_worth};
 
 use rr_roster::Corp;
 use rr_scan::{Words, next_player, next_table, only_table, read_corp};
@@ -55,6 +55,24 @@ pub enum Query {
     Order {
         table: Name,
     },
+    /// The phase of a table, which is that of the greatest kind of train that was sold.
+    Phase {
+        table: Name,
+    },
+    /// The trains that a corporation holds, or the pool.
+    Trains {
+        table: Name,
+        of: TrainHolder,
+    },
+    /// How far a table's bank is below 0, in dollars.
+    Iou {
+        table: Name,
+    },
+    /// What a player's cash, shares and privates are worth, in dollars.
+    Worth {
+        table: Name,
+        player: Name,
+    },
 }
 
 /// Whose money it is.
@@ -75,6 +93,15 @@ pub enum Owner {
     Corp(Corp),
     /// A player.
     Player(Name),
+}
+
+/// Who holds a train.
+#[derive(Clone, Copy, Debug, PartialEq, Eq)]
+pub enum TrainHolder {
+    /// A corporation.
+    Corp(Corp),
+    /// The bank's pool.
+    Pool,
 }
 
 impl Account {
@@ -103,6 +130,19 @@ impl Owner {
         }
         let corp = read_corp(word)?;
         Some(Owner::Corp(corp))
+    }
+}
+
+impl TrainHolder {
+    fn read(word: &[u8]) -> Option<TrainHolder>
+        ensures exact { result ≡ holder_of word.now }
+        ensures found { IfSome result (λ holder. word.now ≡ holder_word holder) }
+    {
+        if word == b"pool".as_slice() {
+            return Some(TrainHolder::Pool);
+        }
+        let corp = read_corp(word)?;
+        Some(TrainHolder::Corp(corp))
     }
 }
 
@@ -144,6 +184,18 @@ impl Query {
         }
         if head == b"order".as_slice() {
             return read_order(words);
+        }
+        if head == b"phase".as_slice() {
+            return read_phase(words);
+        }
+        if head == b"trains".as_slice() {
+            return read_trains(words);
+        }
+        if head == b"iou".as_slice() {
+            return read_iou(words);
+        }
+        if head == b"worth".as_slice() {
+            return read_worth(words);
         }
         None
     }
@@ -244,4 +296,38 @@ fn read_order(words: &mut Words) -> Option<Query>
 {
     let table = only_table(words)?;
     Some(Query::Order { table })
+}
+
+fn read_phase(words: &mut Words) -> Option<Query>
+    ensures exact { result ≡ read_phase words.old }
+    ensures found { IfSome result (λ query. IsQuery query × (codes "phase" ∷ words.old ≡ query_words query)) }
+{
+    let table = only_table(words)?;
+    Some(Query::Phase { table })
+}
+
+fn read_trains(words: &mut Words) -> Option<Query>
+    ensures exact { result ≡ read_trains words.old }
+    ensures found { IfSome result (λ query. IsQuery query × (codes "trains" ∷ words.old ≡ query_words query)) }
+{
+    let table = next_table(words)?;
+    let of = TrainHolder::read(words.last()?)?;
+    Some(Query::Trains { table, of })
+}
+
+fn read_iou(words: &mut Words) -> Option<Query>
+    ensures exact { result ≡ read_iou words.old }
+    ensures found { IfSome result (λ query. IsQuery query × (codes "iou" ∷ words.old ≡ query_words query)) }
+{
+    let table = only_table(words)?;
+    Some(Query::Iou { table })
+}
+
+fn read_worth(words: &mut Words) -> Option<Query>
+    ensures exact { result ≡ read_worth words.old }
+    ensures found { IfSome result (λ query. IsQuery query × (codes "worth" ∷ words.old ≡ query_words query)) }
+{
+    let table = next_table(words)?;
+    let player = Name::player(words.last()?)?;
+    Some(Query::Worth { table, player })
 }

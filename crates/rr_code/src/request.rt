@@ -15,11 +15,19 @@ use rr_turns::Request;
 use rr_words::{Name, number};
 use std::alloc::AllocError;
 
-pub(crate) fn request_from_words(words: &mut Words) -> Option<Request<Command>>
+fn request_from_words<'a>(words: &mut Words<'a>) -> Option<Request<Command<'a>>>
     ensures exact { result ≡ read_request_words words.old }
     ensures found { IfSome result (λ r. IsRequest r × (words.old ≡ request_words r)) }
 {
     let head = words.next()?;
+    request_named(head, words)
+}
+
+/// The request with this first word, and these behind it.
+pub(crate) fn request_named<'a>(head: &[u8], words: &mut Words<'a>) -> Option<Request<Command<'a>>>
+    ensures exact { result ≡ read_request_words (head.now ∷ words.old) }
+    ensures found { IfSome result (λ r. IsRequest r × (head.now ∷ words.old ≡ request_words r)) }
+{
     if head == b"back".as_slice() {
         return read_back(words);
     }
@@ -30,7 +38,7 @@ pub(crate) fn request_from_words(words: &mut Words) -> Option<Request<Command>>
     Some(Request::Play(command))
 }
 
-fn read_back(words: &mut Words) -> Option<Request<Command>>
+fn read_back<'a>(words: &mut Words<'a>) -> Option<Request<Command<'a>>>
     ensures exact { result ≡ read_back words.old }
     ensures found { IfSome result (λ r. IsRequest r × (codes "back" ∷ words.old ≡ request_words r)) }
 {
@@ -38,7 +46,7 @@ fn read_back(words: &mut Words) -> Option<Request<Command>>
     Some(Request::Back(turn))
 }
 
-fn read_forget(words: &mut Words) -> Option<Request<Command>>
+fn read_forget<'a>(words: &mut Words<'a>) -> Option<Request<Command<'a>>>
     ensures exact { result ≡ read_forget words.old }
     ensures found { IfSome result (λ r. IsRequest r × (codes "forget" ∷ words.old ≡ request_words r)) }
 {
@@ -83,11 +91,11 @@ fn write_turn_words(head: &[u8], turn: u64, out: &mut Vec<u8>) -> Result<(), All
     write_number(turn, out)
 }
 
-/// Reads a journal's record: the name of a table, and the words of a request.
+/// Reads a journal's record: the name of a table, and the words of a request. The words of a run are lent from the record.
 ///
 /// # Errors
 /// `Malformed` where the bytes are no record's text.
-pub fn read_record(bytes: &[u8]) -> Result<(Name, Request<Command>), Fault>
+pub fn read_record(bytes: &[u8]) -> Result<(Name, Request<Command<'_>>), Fault>
     ensures found { MatchResult result (λ r. SpellsRecord bytes.now r.0 r.1) (λ fault. fault ≡ Fault.Malformed) }
     ensures only { (table : List ℕ) (r : Asked Played) → SpellsRecord bytes.now table r → result ≡ Ok (table, r) }
 {
@@ -95,7 +103,7 @@ pub fn read_record(bytes: &[u8]) -> Result<(Name, Request<Command>), Fault>
     record_from_words(&mut words).ok_or(Fault::Malformed)
 }
 
-pub(crate) fn record_from_words(words: &mut Words) -> Option<(Name, Request<Command>)>
+fn record_from_words<'a>(words: &mut Words<'a>) -> Option<(Name, Request<Command<'a>>)>
     ensures exact { result ≡ read_record_words words.old }
     ensures found { IfSome result (λ r. IsTableName r.0 × IsRequest r.1 × (words.old ≡ r.0 ∷ request_words r.1)) }
 {

@@ -44,7 +44,7 @@ impl ShareSource {
 }
 
 /// A player's name alone is a purchase of the auction.
-pub fn read_buy(words: &mut Words) -> Option<Command>
+pub fn read_buy<'a>(words: &mut Words<'a>) -> Option<Command<'a>>
     ensures exact { result ≡ read_buy words.old }
     ensures found { IfSome result (λ c. IsCommand c × (codes "buy" ∷ words.old ≡ spelling c)) }
 {
@@ -61,7 +61,7 @@ pub fn read_buy(words: &mut Words) -> Option<Command>
     })
 }
 
-pub fn read_sell(words: &mut Words) -> Option<Command>
+pub fn read_sell<'a>(words: &mut Words<'a>) -> Option<Command<'a>>
     ensures exact { result ≡ read_sell words.old }
     ensures found { IfSome result (λ c. IsCommand c × (codes "sell" ∷ words.old ≡ spelling c)) }
 {
@@ -75,7 +75,7 @@ pub fn read_sell(words: &mut Words) -> Option<Command>
     })
 }
 
-pub fn read_swap(words: &mut Words) -> Option<Command>
+pub fn read_swap<'a>(words: &mut Words<'a>) -> Option<Command<'a>>
     ensures exact { result ≡ read_swap words.old }
     ensures found { IfSome result (λ c. IsCommand c × (codes "swap" ∷ words.old ≡ spelling c)) }
 {
@@ -84,7 +84,7 @@ pub fn read_swap(words: &mut Words) -> Option<Command>
     Some(Command::Swap { player, source })
 }
 
-pub fn read_done(words: &mut Words) -> Option<Command>
+pub fn read_done<'a>(words: &mut Words<'a>) -> Option<Command<'a>>
     ensures exact { result ≡ read_done words.old }
     ensures found { IfSome result (λ c. IsCommand c × (codes "done" ∷ words.old ≡ spelling c)) }
 {

@@ -1,2 +1,4 @@
 pub mod NeedsOfBook
+pub mod SaleLemmas
+pub mod Raises
 pub mod WorkedRows

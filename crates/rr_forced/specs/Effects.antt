@@ -1,7 +1,8 @@
--- What a forced purchase adds to a table's book.
-use Rattle.std.specs.Prelude.{ℕ, [], ◌∷◌, Option, None, Some}
+-- What a command of a corporation that must own a train and can't pay it adds to a table's book.
+use Rattle.std.specs.Prelude.{ℕ, List, [], ◌∷◌, Option, None, Some}
 use Rattle.rr_roster.specs.declared.company.Corp.{Corp}
 use Rattle.rr_roster.specs.Terms.{Terms}
+use Rattle.rr_chart.specs.Chart.{Row}
 use Rattle.rr_books.specs.declared.parties.Seat.{Seat}
 use Rattle.rr_books.specs.declared.parties.Party.TheVariants as P
 use Rattle.rr_books.specs.declared.parties.Place.TheVariants as L
@@ -11,6 +12,9 @@ use Rattle.rr_books.specs.declared.acts.Act.TheVariants as A
 use Rattle.rr_books.specs.Book.{Book}
 use Rattle.rr_desk.specs.Effects.{Effect, adds, in_turn}
 use Rattle.rr_desk.specs.Incomes.{dollars}
+use Rattle.rr_shares.specs.Effects.{sale_shares}
+use Rattle.rr_stock.specs.Effects.{pays_seller, proceeds}
+use Rattle.rr_stock.specs.Situation as stock
 use Rattle.rr_trains.specs.Sales.{source_place}
 use Rattle.rr_trains.specs.Effects.{first_train, moves_lowest_train}
 use Rattle.rr_depot.specs.Effects.{pays, says}
@@ -36,7 +40,14 @@ abbrev pub forces_if : Option Need → Effect
 forces_if None = in_turn []
 forces_if (Some need) = forces need
 
--- what a command that isn't refused adds
-abbrev pub entries_of : Terms → Book → Act → Book
-entries_of roster book (A.Force c) = forces_if (cheapest_need roster (situation_of book) c) book
-entries_of roster book _ = []
+-- a seat sells so many 10% shares as in a stock round: the presidency and the shares, the price before the sale for each,
+-- and the fall of the token
+unfoldable pub raises : List Row → stock.Situation → Seat → Corp → ℕ → Effect
+raises rows t s c n = in_turn (says (A.Raise s c n) ∷ sale_shares c s n ∷ pays_seller rows s c n (proceeds t c n) ∷ [])
+
+-- what a command that isn't refused adds; a bankruptcy adds its words alone
+abbrev pub entries_of : Terms → List Row → Book → Act → Book
+entries_of roster rows book (A.Force c) = forces_if (cheapest_need roster (situation_of book) c) book
+entries_of roster rows book (A.Raise s c n) = raises rows (stock.situation_of rows book) s c n book
+entries_of roster rows book (A.Bankrupt s) = says (A.Bankrupt s) book
+entries_of roster rows book _ = []

@@ -1,10 +1,13 @@
--- The verdict on a forced purchase: the first check that refuses it.
-use Rattle.std.specs.Prelude.{◌≡◌, ◌⊎◌, ◌==◌, Bool, true, false, not, ◌&&◌, Option, None, Some, if◌then◌else◌}
+-- The verdict on a command of a corporation that must own a train and can't pay it: the first check that refuses it.
+use Rattle.std.specs.Prelude.{◌≡◌, ◌⊎◌, ℕ, ◌==◌, Bool, true, false, not, ◌&&◌, Option, None, Some, if◌then◌else◌}
+use Rattle.std.specs.Bool.{Decides}
 use Rattle.rr_roster.specs.declared.company.Corp.{Corp}
+use Rattle.rr_books.specs.declared.parties.Seat.{Seat}
 use Rattle.rr_books.specs.declared.acts.Act.{Act}
 use Rattle.rr_books.specs.declared.acts.Act.TheVariants as A
 use Rattle.rr_books.specs.Book.{Book, train_holder}
 use Rattle.rr_kit.specs.declared.kit.Kit.{Kit}
+use Rattle.rr_holdings.specs.Holdings.{holdings_of}
 use Rattle.rr_operations.specs.Turn.{takes}
 use Rattle.rr_operations.specs.Progress.{progress}
 use Rattle.rr_operations.specs.Due.{due}
@@ -13,15 +16,14 @@ use Rattle.rr_operate.specs.Order.{is_due}
 use Rattle.rr_forced.specs.declared.fault.Fault.{Fault}
 use Rattle.rr_forced.specs.declared.fault.Fault.TheVariants as F
 use Rattle.rr_forced.specs.declared.needs.Need.{Need}
-use Rattle.rr_forced.specs.Needs.{IsNeedOf}
+use Rattle.rr_forced.specs.Needs.{IsNeed, IsNeedOf}
+use Rattle.rr_forced.specs.Sales.{CanRaise, bankrupt_verdict, raise_verdict}
 
--- the corporation whose purchase is forced
-abbrev pub buyer : Act → Option Corp
-buyer (A.Force c) = Some c
-buyer _ = None
-
+-- the commands of such a corporation
 abbrev pub is_forced : Act → Bool
 is_forced (A.Force c) = true
+is_forced (A.Raise s c n) = true
+is_forced (A.Bankrupt s) = true
 is_forced _ = false
 
 -- trains over a limit are given up before anything else; then the step takes the command
@@ -41,9 +43,26 @@ force_verdict due (Some need) =
     else if not (need.shortfall == 0) then Some F.TooLittleCash
     else None
 
+-- the verdict on a forced purchase, by what the buyer needs
+abbrev pub IsForceVerdict : Kit → Book → Corp → Option Fault → Type 0
+IsForceVerdict kit book c verdict = (need : Option Need) × IsNeedOf kit book (Some c) need × (verdict ≡ force_verdict (due kit.chart book) need)
+
+-- the verdict on a sale for a train, by what the corporation due needs
+abbrev pub IsRaiseVerdict : Kit → Book → Seat → Corp → ℕ → Option Fault → Type 0
+IsRaiseVerdict kit book s c n verdict = (need : Option Need) × IsNeed kit book need × (verdict ≡ raise_verdict (holdings_of kit.chart book) need s c n)
+
+-- the verdict on a bankruptcy, by what the corporation due needs, and whether a sale is lawful
+abbrev pub IsBankruptVerdict : Kit → Book → Seat → Option Fault → Type 0
+IsBankruptVerdict kit book s verdict =
+    (need : Option Need) × (can_raise : Bool) × IsNeed kit book need × Decides can_raise (CanRaise (holdings_of kit.chart book) need s)
+    × (verdict ≡ bankrupt_verdict need s can_raise)
+
 -- the verdict behind the order of commands
-abbrev pub IsForceVerdict : Kit → Book → Act → Option Fault → Type 0
-IsForceVerdict kit book act verdict = (need : Option Need) × IsNeedOf kit book (buyer act) need × (verdict ≡ force_verdict (due kit.chart book) need)
+abbrev pub IsRowVerdict : Kit → Book → Act → Option Fault → Type 0
+IsRowVerdict kit book (A.Force c) verdict = IsForceVerdict kit book c verdict
+IsRowVerdict kit book (A.Raise s c n) verdict = IsRaiseVerdict kit book s c n verdict
+IsRowVerdict kit book (A.Bankrupt s) verdict = IsBankruptVerdict kit book s verdict
+IsRowVerdict kit book _ verdict = verdict ≡ Some F.WrongStep
 
 -- the first fault, or else what comes next
 abbrev pub After : Option Fault → (Option Fault → Type 0) → Option Fault → Type 0
@@ -52,7 +71,7 @@ After None Next verdict = Next verdict
 
 -- the verdict on a command
 abbrev pub IsVerdict : Kit → Book → Act → Option Fault → Type 0
-IsVerdict kit book act verdict = After (order_verdict kit book act) (IsForceVerdict kit book act) verdict
+IsVerdict kit book act verdict = After (order_verdict kit book act) (IsRowVerdict kit book act) verdict
 
 -- a fault with which a command may be refused: that of its verdict, or want of memory behind the order of commands
 abbrev pub MayJudge : Kit → Book → Act → Fault → Type 0

@@ -40,14 +40,14 @@ force = A.Force Corp.Prr
 -- the president adds 30, keeps 10, and the corporation has nothing left
 pub record WorkedForce : Type 0 where
   pub lawful : force_verdict (Some Corp.Prr) (cheapest_need usual_terms (situation_of (with_leader_of 40)) Corp.Prr) ≡ None
-  pub entries : entries_of usual_terms (with_leader_of 40) force
+  pub entries : entries_of usual_terms [] (with_leader_of 40) force
       ≡ E.Step (M.Act force)
       ∷ E.Pay (P.Seat (seat 0)) (P.Corp Corp.Prr) (dollars 30)
       ∷ E.Train (train K.Two 1) (L.Corp Corp.Prr)
       ∷ E.Pay (P.Corp Corp.Prr) P.Bank (dollars 80)
       ∷ []
-  pub left : balance (with_leader_of 40 ++ entries_of usual_terms (with_leader_of 40) force) (P.Seat (seat 0)) ≡ pos 10
-  pub spent : balance (with_leader_of 40 ++ entries_of usual_terms (with_leader_of 40) force) (P.Corp Corp.Prr) ≡ pos 0
+  pub left : balance (with_leader_of 40 ++ entries_of usual_terms [] (with_leader_of 40) force) (P.Seat (seat 0)) ≡ pos 10
+  pub spent : balance (with_leader_of 40 ++ entries_of usual_terms [] (with_leader_of 40) force) (P.Corp Corp.Prr) ≡ pos 0
   pub too_little : force_verdict (Some Corp.Prr) (cheapest_need usual_terms (situation_of (with_leader_of 25)) Corp.Prr) ≡ Some F.TooLittleCash
   pub not_due : force_verdict (Some Corp.Nyc) (cheapest_need usual_terms (situation_of (with_leader_of 40)) Corp.Prr) ≡ Some F.NotYourTurn
   pub alone : force_verdict (Some Corp.Prr) (cheapest_need usual_terms (situation_of (with_leader_of 40 ++ E.Pay P.Bank (P.Corp Corp.Prr) (dollars 30) ∷ [])) Corp.Prr) ≡ Some F.WrongStep

@@ -1,38 +1,52 @@
-//! Judges a forced purchase.
-ghost use Rattle.std.specs.Prelude.{◌≡◌, ◌⊎◌, None, Some, MatchResult};
+//! Judges the commands of a corporation that must own a train and can't pay it.
+ghost use Rattle.std.specs.Prelude.{◌≡◌, ◌⊎◌, ◌≤◌, ◌<◌, ℕ, None, Some, MatchResult, OnOk};
 ghost use Rattle.rr_books.specs.Book.{Book};
 ghost use Rattle.rr_operations.specs.Progress.{progress};
 ghost use Rattle.rr_position.specs.Position.{IsPositionOf};
 ghost use Rattle.rr_operate.specs.Order.{is_due};
-ghost use Rattle.rr_forced.specs.Rules.{IsForceVerdict, IsVerdict, MayJudge, buyer, force_verdict, is_forced, order_verdict};
+ghost use Rattle.rr_forced.specs.Rules.{IsBankruptVerdict, IsForceVerdict, IsRaiseVerdict, IsRowVerdict, IsVerdict, MayJudge, force_verdict, is_forced, order_verdict};
+ghost use Rattle.rr_forced.specs.Small.{IsSmall};
 ghost use Rattle.rr_forced.specs.declared.fault.Fault.TheVariants.{OutOfMemory};
 
+use crate::bankruptcy::judge_bankrupt_for;
 use crate::fault::Fault;
-use crate::needs::{Need, due, need_of};
-use rr_books::{Act, Corp};
+use crate::needs::{Need, due, need_of, needed_train};
+use crate::raising::{can_raise, judge_raise_for};
+use rr_books::{Act, Corp, Seat};
 use rr_depot::is_over_limit_somewhere;
 use rr_desk::Position;
 use rr_kit::Kit;
 use rr_operations::TurnStep;
 use std::alloc::Global;
 
-/// Judges `force`: a corporation that must own a train buys the cheapest on sale, and its president adds what it lacks.
+/// Judges what a corporation and its president may do that must own a train and can't pay it: with `force` the
+/// corporation buys the cheapest on sale, and its president adds what it lacks; with `raise` the president sells shares
+/// before; with `bankrupt` it says that it can't help, which ends the game.
 ///
 /// # Errors
 ///
-/// The first of these that applies: `MustDiscardFirst` where some corporation is over its train limit; `WrongStep` where
-/// the step of the turn doesn't take the command, or it is no `force`; `WrongStep` where the corporation needn't own a
-/// train (it has one, none is on sale, or it has no route), or can pay the price alone; `NotYourTurn` where another
-/// corporation is due; `TooLittleCash` where it and its president have less than the price together.
+/// The first of these that applies. `MustDiscardFirst` where some corporation is over its train limit; `WrongStep` where
+/// the step of the turn doesn't take the command, or it is none of the three. Then for each command in this order:
+///
+/// - `force`: `WrongStep` where the corporation needn't own a train (it has one, none is on sale, or it has no route), or
+///   can pay the price alone; `NotYourTurn` where another corporation is due; `TooLittleCash` where it and its president
+///   have less than the price together.
+/// - `raise`: `NotYourTurn` where the seat isn't the president of the corporation due, or that one needn't own a train;
+///   `SaleNotNeeded` where the two have the price of the cheapest train together; `NotForSale` and `PoolOverHalf` as for
+///   a sale in a stock round, of which it may be the first; `PresidencyWouldChange` where another seat would become
+///   president of the corporation due.
+/// - `bankrupt`: `NotYourTurn` as for `raise`; `NotBankrupt` where the two have the price together, or some `raise` of
+///   the seat's is lawful.
 ///
 /// `OutOfMemory` only where neither of the first two comes.
 pub fn judge(alloc: Global, kit: &Kit, position: &Position, act: &Act) -> Result<(), Fault>
-    ensures { (book : Book) → IsPositionOf book position.now → MatchResult result
+    ensures verdict { (book : Book) → IsPositionOf book position.now → MatchResult result
         (λ _. IsVerdict kit.now book act.now None)
         (λ fault. MayJudge kit.now book act.now fault) }
+    ensures small { OnOk result (IsSmall act.now) }
 {
     judge_order(kit, position, act)?;
-    judge_force(alloc, kit, position, act)?;
+    judge_row(alloc, kit, position, act)?;
     Ok(())
 }
 
@@ -52,13 +66,30 @@ fn judge_order(kit: &Kit, position: &Position, act: &Act) -> Result<(), Fault>
     Ok(())
 }
 
-// Judges by what the buyer needs.
-fn judge_force(alloc: Global, kit: &Kit, position: &Position, act: &Act) -> Result<(), Fault>
-    ensures { (book : Book) → IsPositionOf book position.now → MatchResult result
-        (λ _. IsForceVerdict kit.now book act.now None)
-        (λ fault. IsForceVerdict kit.now book act.now (Some fault) ⊎ (fault ≡ OutOfMemory)) }
+// Judges by the row of the command.
+fn judge_row(alloc: Global, kit: &Kit, position: &Position, act: &Act) -> Result<(), Fault>
+    ensures verdict { (book : Book) → IsPositionOf book position.now → MatchResult result
+        (λ _. IsRowVerdict kit.now book act.now None)
+        (λ fault. IsRowVerdict kit.now book act.now (Some fault) ⊎ (fault ≡ OutOfMemory)) }
+    ensures small { OnOk result (IsSmall act.now) }
 {
-    let need = need_of(alloc, kit, position, buyer(act))?;
+    match act {
+        Act::Force { corp } => judge_force(alloc, kit, position, *corp),
+        Act::Raise { seat, corp, count } => {
+            judge_raise(alloc, kit, position, *seat, *corp, *count)
+        }
+        Act::Bankrupt { seat } => judge_bankrupt(alloc, kit, position, *seat),
+        _ => Err(Fault::WrongStep),
+    }
+}
+
+// Judges a forced purchase by what the buyer needs.
+fn judge_force(alloc: Global, kit: &Kit, position: &Position, corp: Corp) -> Result<(), Fault>
+    ensures { (book : Book) → IsPositionOf book position.now → MatchResult result
+        (λ _. IsForceVerdict kit.now book corp None)
+        (λ fault. IsForceVerdict kit.now book corp (Some fault) ⊎ (fault ≡ OutOfMemory)) }
+{
+    let need = need_of(alloc, kit, position, Some(corp))?;
     judge_need(due(kit, position), need)?;
     Ok(())
 }
@@ -84,6 +115,39 @@ fn judge_need(due: Option<Corp>, need: Option<Need>) -> Result<(), Fault>
     Ok(())
 }
 
+// Judges a sale of shares by what the corporation due needs.
+fn judge_raise(
+    alloc: Global,
+    kit: &Kit,
+    position: &Position,
+    seat: Seat,
+    corp: Corp,
+    count: u64,
+) -> Result<(), Fault>
+    ensures verdict { (book : Book) → IsPositionOf book position.now → MatchResult result
+        (λ _. IsRaiseVerdict kit.now book seat corp count None)
+        (λ fault. IsRaiseVerdict kit.now book seat corp count (Some fault) ⊎ (fault ≡ OutOfMemory)) }
+    ensures small { OnOk result ((seat.0 < 6) × (count ≤ 10)) }
+{
+    let need = needed_train(alloc, kit, position)?;
+    judge_raise_for(kit.chart(), position, need, seat, corp, count)?;
+    Ok(())
+}
+
+// Judges a bankruptcy by what the corporation due needs, and what the seat can sell.
+fn judge_bankrupt(alloc: Global, kit: &Kit, position: &Position, seat: Seat) -> Result<(), Fault>
+    ensures { (book : Book) → IsPositionOf book position.now → MatchResult result
+        (λ _. IsBankruptVerdict kit.now book seat None)
+        (λ fault. IsBankruptVerdict kit.now book seat (Some fault) ⊎ (fault ≡ OutOfMemory)) }
+{
+    // There are at most six players, among whom one share tells of several.
+    let _players = position.books().players();
+    let need = needed_train(alloc, kit, position)?;
+    let can_raise = can_raise(kit.chart(), position, need, seat);
+    judge_bankrupt_for(need, seat, can_raise)?;
+    Ok(())
+}
+
 fn is_due(due: Option<Corp>, corp: Corp) -> bool
     ensures { result ≡ is_due due (Some corp) }
 {
@@ -99,17 +163,11 @@ fn step(position: &Position) -> TurnStep
     position.operations().step()
 }
 
-fn buyer(act: &Act) -> Option<Corp>
-    ensures { result ≡ buyer act.now }
-{
-    match act {
-        Act::Force { corp } => Some(*corp),
-        _ => None,
-    }
-}
-
 fn is_forced(act: &Act) -> bool
     ensures { result ≡ is_forced act.now }
 {
-    matches!(act, Act::Force { .. })
+    matches!(
+        act,
+        Act::Force { .. } | Act::Raise { .. } | Act::Bankrupt { .. }
+    )
 }

@@ -55,7 +55,8 @@ pub fn needed_train(
     kit: &Kit,
     position: &Position,
 ) -> Result<Option<Need>, AllocError>
-    ensures { (book : Book) → IsPositionOf book position.now → IfOk result (λ need. IsNeed kit.now book need) }
+    ensures need { (book : Book) → IsPositionOf book position.now → IfOk result (λ need. IsNeed kit.now book need) }
+    ensures seated { IfOk result (λ need. IfSome need (λ need. IfSome need.president (λ seat. seat.0 < 6))) }
 {
     need_of(alloc, kit, position, due(kit, position))
 }
@@ -74,7 +75,8 @@ pub(crate) fn need_of(
     position: &Position,
     corp: Option<Corp>,
 ) -> Result<Option<Need>, AllocError>
-    ensures { (book : Book) → IsPositionOf book position.now → IfOk result (λ need. IsNeedOf kit.now book corp need) }
+    ensures need { (book : Book) → IsPositionOf book position.now → IfOk result (λ need. IsNeedOf kit.now book corp need) }
+    ensures seated { IfOk result (λ need. IfSome need (λ need. IfSome need.president (λ seat. seat.0 < 6))) }
 {
     let Some(corp) = corp else {
         return Ok(None);

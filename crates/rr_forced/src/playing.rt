@@ -1,35 +1,78 @@
-//! Plays a forced purchase.
+//! Plays the commands of a corporation that must own a train and can't pay it.
 ghost use Rattle.std.specs.Prelude.{◌≡◌, ◌≤◌, ◌<◌, ◌≤ℤ◌, pos, OnOk, IfErr, IfSome};
 ghost use Rattle.rr_books.specs.State.{party_index};
 ghost use Rattle.rr_desk.specs.Desk.{Takes};
 ghost use Rattle.rr_desk.specs.Incomes.{dollars};
+ghost use Rattle.rr_stock.specs.Situation as stock;
 ghost use Rattle.rr_trains.specs.Sales.{source_place};
-ghost use Rattle.rr_depot.specs.Effects.{pays};
+ghost use Rattle.rr_depot.specs.Effects.{pays, says};
 ghost use Rattle.rr_depot.specs.Situation.{situation_of};
-ghost use Rattle.rr_forced.specs.Effects.{entries_of, forces, forces_if, gets_train, helps};
+ghost use Rattle.rr_forced.specs.Effects.{entries_of, forces, forces_if, gets_train, helps, raises};
 ghost use Rattle.rr_forced.specs.Needs.{cheapest_need};
+ghost use Rattle.rr_forced.specs.Small.{IsSmall};
 
 use crate::needs::{Need, cheapest_need};
 use rr_books::{Act, Corp, Entry, Fault, Marker, Money, Party, Place, Seat, TrainSource};
+use rr_chart::Chart;
 use rr_desk::Desk;
 use rr_roster::Roster;
+use rr_shares::sell_shares;
+use rr_stock::{pay_seller, proceeds};
 use rr_trains::{first_train, give_lowest_train};
 
-/// Adds to the desk what `force` brings about: its words, what the president pays to the corporation, the cheapest train
-/// on sale, the payment for it to the bank, and what the first train of its kind brings about. Any other command adds
-/// nothing. It doesn't ask whether the command is lawful, which `judge` tells.
+/// Adds to the desk what a command of a corporation brings about that must own a train and can't pay it. Any other
+/// command adds nothing. It doesn't ask whether the command is lawful, which `judge` tells.
+///
+/// - `force`: its words, what the president pays to the corporation, the cheapest train on sale, the payment for it to
+///   the bank, and what the first train of its kind brings about.
+/// - `raise`: its words, and what a sale in a stock round adds: the presidency by the shares after it, the shares, the
+///   price before it for each, and the fall of the token.
+/// - `bankrupt`: its words alone.
 ///
 /// # Errors
 ///
 /// `OutOfMemory`; the desk may have some of the entries then.
-pub fn play(roster: &Roster, desk: &mut Desk, act: &Act) -> Result<(), Fault>
+pub fn play(roster: &Roster, chart: &Chart, desk: &mut Desk, act: &Act) -> Result<(), Fault>
+    requires { IsSmall act.now }
     ensures fault { IfErr result (λ fault. fault ≡ Fault.OutOfMemory) }
-    ensures takes { OnOk result (Takes (λ book. entries_of roster.now book act.now) desk.old desk.new) }
+    ensures takes { OnOk result (Takes (λ book. entries_of roster.now chart.now book act.now) desk.old desk.new) }
 {
     match act {
         Act::Force { corp } => play_force(roster, desk, *corp),
+        Act::Raise { seat, corp, count } => play_raise(chart, desk, *seat, *corp, *count),
+        Act::Bankrupt { seat } => play_bankruptcy(desk, *seat),
         _ => Ok(()),
     }
+}
+
+// The seat sells so many 10% shares at the market price, which falls then.
+fn play_raise(
+    chart: &Chart,
+    desk: &mut Desk,
+    seat: Seat,
+    corp: Corp,
+    count: u64,
+) -> Result<(), Fault>
+    requires seated { seat.0 < 6 }
+    requires small { count ≤ 10 }
+    ensures fault { IfErr result (λ fault. fault ≡ Fault.OutOfMemory) }
+    ensures takes { OnOk result (Takes (λ book. raises chart.now (stock.situation_of chart.now book) seat corp count book) desk.old desk.new) }
+{
+    let shares = count as u8;
+    let amount = proceeds(desk.position(), chart, corp, shares);
+    desk.push(Entry::Step(Marker::Act(Act::Raise { seat, corp, count })))?;
+    sell_shares(desk, corp, seat, shares)?;
+    pay_seller(desk, chart, seat, corp, shares, amount)?;
+    Ok(())
+}
+
+// The seat is bankrupt.
+fn play_bankruptcy(desk: &mut Desk, seat: Seat) -> Result<(), Fault>
+    ensures fault { IfErr result (λ fault. fault ≡ Fault.OutOfMemory) }
+    ensures takes { OnOk result (Takes (says (Act.Bankrupt seat)) desk.old desk.new) }
+{
+    desk.push(Entry::Step(Marker::Act(Act::Bankrupt { seat })))?;
+    Ok(())
 }
 
 // The corporation buys the cheapest train on sale.

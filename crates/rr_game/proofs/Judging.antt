@@ -1,62 +1,119 @@
--- The judgement on a command, from that on its act, and that there is one.
-use Rattle.std.proofs.Common.{◌≡◌, ℕ, Bool, true, false, List, Option, None, Some, ap, sym, subst, option_map, refl}
-use Rattle.rr_auction.specs.Rules as auction
+-- The judgement on a command, from what its names stand for and from the rules, and that there is one.
+use Rattle.std.proofs.Common.{◌≡◌, ◌∙◌, ℕ, List, Option, Some, None, inr, refl, sym, subst}
 use Rattle.rr_books.specs.declared.acts.Act.{Act}
-use Rattle.rr_books.specs.Book.{Book}
+use Rattle.rr_books.specs.declared.acts.Act.TheVariants as A
 use Rattle.rr_code.specs.declared.command.Command.{Command}
 use Rattle.rr_code.specs.declared.command.Command.TheVariants.{Open}
 use Rattle.rr_kit.specs.declared.kit.Kit.{Kit}
-use Rattle.rr_stock.specs.Rules as stock
+use Rattle.rr_roster.specs.declared.company.Corp.{Corp}
+use Rattle.rr_rules.specs.declared.fault.Fault as rules
+use Rattle.rr_rules.specs.declared.fault.Fault.TheVariants as R
+use Rattle.rr_rules.specs.Judging.{judgement}
+use Rattle.rr_rules.specs.RuleLaws.{ActsHaveOneVerdict}
+use Rattle.rr_rules.specs.Runs.{run_verdict}
+use Rattle.rr_rules.specs.State.{GameState}
+use Rattle.rr_rules.proofs.RunLemmas.{best_run_alike, run_alike}
 use Rattle.rr_turns.specs.Judgement.{HasOneVerdict, IsVerdict, Judgement, MayFind}
-use Rattle.rr_turns.proofs.JudgementLemmas.{is-settled, settled-one}
+use Rattle.rr_turns.proofs.JudgementLemmas.{behind-finds, behind-is, behind-one, check-passed, check-refuses, first-is-found, lawful-behind, lawful-map, map-finds, map-is, map-one, settled-one}
 use Rattle.rr_game.specs.declared.fault.Fault.{Fault}
 use Rattle.rr_game.specs.declared.fault.Fault.TheVariants as F
+use Rattle.rr_game.specs.Fault.{of_rules}
 use Rattle.rr_game.specs.Names.{act_of}
-use Rattle.rr_game.specs.Verdict.{act_judgement, auction_is_over, command_judgement, judgement, judgement_once}
+use Rattle.rr_game.specs.Verdict.{act_judgement, command_judgement, command_judgement_in_play, over_verdict}
 
--- once the auction is over or before, as the rules of that step say
-pub judged_once : (over : Bool) (kit : Kit) (book : Book) (act : Act) → auction_is_over book ≡ over → judgement kit book act ≡ judgement_once over kit book act
-unfolding judgement
-judged_once over kit book act e = ap (λ (b : Bool). judgement_once b kit book act) e
+-- a command whose names stand for an act is judged as that
 
-pub verdict_once : (over : Bool) (kit : Kit) (book : Book) (act : Act) (verdict : Option Fault) → auction_is_over book ≡ over
-    → IsVerdict (judgement_once over kit book act) verdict → IsVerdict (judgement kit book act) verdict
-verdict_once over kit book act verdict e is = subst (λ (j : Judgement Fault). IsVerdict j verdict) (sym (judged_once over kit book act e)) is
+named : (kit : Kit) (players : List (List ℕ)) (state : GameState) (command : Command) (act : Act) (P : Judgement Fault → Type 0) → act_of players command ≡ Some act
+    → P (act_judgement kit state (Some act)) → P (command_judgement_in_play kit players state command)
+named kit players state (Open others) act P h is = absurd cc
+named kit players state command act P h is = subst (λ (a : Option Act). P (act_judgement kit state a)) (sym h) is
 
-pub found_once : (over : Bool) (kit : Kit) (book : Book) (act : Act) (fault : Fault) → auction_is_over book ≡ over
-    → MayFind (judgement_once over kit book act) F.OutOfMemory fault → MayFind (judgement kit book act) F.OutOfMemory fault
-found_once over kit book act fault e found = subst (λ (j : Judgement Fault). MayFind j F.OutOfMemory fault) (sym (judged_once over kit book act e)) found
+-- by the players of the table, as the game has them
 
--- what the rules of a step don't refuse
+among : (kit : Kit) (own players : List (List ℕ)) (state : GameState) (command : Command) (P : Judgement Fault → Type 0) → own ≡ players
+    → P (command_judgement kit own state command) → P (command_judgement kit players state command)
+among kit own players state command P same is = subst (λ (ps : List (List ℕ)). P (command_judgement kit ps state command)) same is
 
-none_before : {A B : Type 0} (f : A → B) (o : Option A) → None ≡ option_map f o → o ≡ None
-none_before f None e = refl
-none_before f (Some x) e = absurd cc
+-- the game is over
 
-pub no_auction_rule : (kit : Kit) (book : Book) (act : Act) → auction_is_over book ≡ false → IsVerdict (judgement kit book act) None
-    → auction.verdict kit.roster kit.chart book act ≡ None
-no_auction_rule kit book act e is =
-    none_before _ _ (is-settled _ _ (subst (λ (j : Judgement Fault). IsVerdict j None) (judged_once false kit book act e) is))
+pub unplayed : (kit : Kit) (players : List (List ℕ)) (state : GameState) (command : Command) (fault : Fault) → over_verdict kit state ≡ Some fault
+    → MayFind (command_judgement kit players state command) F.OutOfMemory fault
+unplayed kit players state command fault h =
+    first-is-found (command_judgement kit players state command) F.OutOfMemory fault
+    (check-refuses (over_verdict kit state) (command_judgement_in_play kit players state command) fault h)
 
-pub no_stock_rule : (kit : Kit) (book : Book) (act : Act) → auction_is_over book ≡ true → IsVerdict (judgement kit book act) None
-    → stock.verdict kit.chart book act ≡ None
-no_stock_rule kit book act e is =
-    none_before _ _ (is-settled _ _ (subst (λ (j : Judgement Fault). IsVerdict j None) (judged_once true kit book act e) is))
+-- the command stands for no act, or its run doesn't come in its order
+pub unnamed : (kit : Kit) (own players : List (List ℕ)) (state : GameState) (command : Command) (fault : Fault) → own ≡ players → over_verdict kit state ≡ None
+    → MayFind (command_judgement_in_play kit own state command) F.OutOfMemory fault → MayFind (command_judgement kit players state command) F.OutOfMemory fault
+unnamed kit own players state command fault same passed found =
+    among kit own players state command (λ j. MayFind j F.OutOfMemory fault) same
+    (behind-finds (over_verdict kit state) (command_judgement_in_play kit own state command) F.OutOfMemory fault passed found)
 
--- each act has one verdict, and so has each command
+-- the rules refuse the act
 
-one_once : (over : Bool) (kit : Kit) (book : Book) (act : Act) → HasOneVerdict (judgement_once over kit book act)
-one_once true kit book act = settled-one _
-one_once false kit book act = settled-one _
+pub act_refused : (kit : Kit) (state : GameState) (act : Act) (fault : rules.Fault) → MayFind (judgement kit state act) R.OutOfMemory fault
+    → MayFind (act_judgement kit state (Some act)) F.OutOfMemory (of_rules fault)
+act_refused kit state act fault found = map-finds of_rules (judgement kit state act) R.OutOfMemory fault found
 
-act_one : (kit : Kit) (book : Book) (act : Act) → HasOneVerdict (judgement kit book act)
-unfolding judgement
-act_one kit book act = one_once (auction_is_over book) kit book act
+pub command_refused : (kit : Kit) (own players : List (List ℕ)) (state : GameState) (command : Command) (act : Act) (fault : rules.Fault) → own ≡ players
+    → act_of own command ≡ Some act → over_verdict kit state ≡ None → MayFind (judgement kit state act) R.OutOfMemory fault
+    → MayFind (command_judgement kit players state command) F.OutOfMemory (of_rules fault)
+command_refused kit own players state command act fault same h passed found =
+    unnamed kit own players state command (of_rules fault) same passed
+    (named kit own state command act (λ j. MayFind j F.OutOfMemory (of_rules fault)) h (act_refused kit state act fault found))
 
-named_one : (kit : Kit) (book : Book) (named : Option Act) → HasOneVerdict (act_judgement kit book named)
-named_one kit book None = settled-one (Some F.NoSuchName)
-named_one kit book (Some act) = act_one kit book act
+-- nothing refuses it
+pub command_lawful : (kit : Kit) (own players : List (List ℕ)) (state : GameState) (command : Command) (act : Act) → own ≡ players
+    → act_of own command ≡ Some act → over_verdict kit state ≡ None → IsVerdict (judgement kit state act) None
+    → IsVerdict (command_judgement kit players state command) None
+command_lawful kit own players state command act same h passed is =
+    let judged = map-is of_rules (judgement kit state act) None is in
+    among kit own players state command (λ j. IsVerdict j None) same
+    (behind-is (over_verdict kit state) (command_judgement_in_play kit own state command) None passed
+    (named kit own state command act (λ j. IsVerdict j None) h judged))
 
-pub command_one : (kit : Kit) (players : List (List ℕ)) (book : Book) (command : Command) → HasOneVerdict (command_judgement kit players book command)
-command_one kit players book (Open others) = settled-one (Some F.WrongStep)
-command_one kit players book command = named_one kit book (act_of players command)
+-- a run, before its words are looked at
+
+pub run_refused : (kit : Kit) (state : GameState) (c : Corp) (sheet : List ℕ) (fault : rules.Fault) → run_verdict kit state c ≡ Some fault
+    → MayFind (act_judgement kit state (Some (A.Run c sheet))) F.OutOfMemory (of_rules fault)
+run_refused kit state c sheet fault h =
+    act_refused kit state (A.Run c sheet) fault (first-is-found (judgement kit state (A.Run c sheet)) R.OutOfMemory fault (run_alike kit state c sheet ∙ h))
+
+pub best_run_refused : (kit : Kit) (state : GameState) (c : Corp) (sheet certificate : List ℕ) (fault : rules.Fault) → run_verdict kit state c ≡ Some fault
+    → MayFind (act_judgement kit state (Some (A.RunBest c sheet certificate))) F.OutOfMemory (of_rules fault)
+best_run_refused kit state c sheet certificate fault h =
+    act_refused kit state (A.RunBest c sheet certificate) fault
+    (first-is-found (judgement kit state (A.RunBest c sheet certificate)) R.OutOfMemory fault (best_run_alike kit state c sheet certificate ∙ h))
+
+-- its words want memory, which no check refuses it for
+
+wants : (kit : Kit) (state : GameState) (act : Act) (fault : Fault) → (judgement kit state act).first ≡ None → fault ≡ F.OutOfMemory
+    → MayFind (act_judgement kit state (Some act)) F.OutOfMemory fault
+wants kit state act fault h same =
+    let P : Fault → Type 0 = λ f. MayFind (act_judgement kit state (Some act)) F.OutOfMemory f in
+    subst P (sym same) (act_refused kit state act R.OutOfMemory (inr (h, refl)))
+
+pub run_wants : (kit : Kit) (state : GameState) (c : Corp) (sheet : List ℕ) (fault : Fault) → run_verdict kit state c ≡ None → fault ≡ F.OutOfMemory
+    → MayFind (act_judgement kit state (Some (A.Run c sheet))) F.OutOfMemory fault
+run_wants kit state c sheet fault h same = wants kit state (A.Run c sheet) fault (run_alike kit state c sheet ∙ h) same
+
+pub best_run_wants : (kit : Kit) (state : GameState) (c : Corp) (sheet certificate : List ℕ) (fault : Fault) → run_verdict kit state c ≡ None → fault ≡ F.OutOfMemory
+    → MayFind (act_judgement kit state (Some (A.RunBest c sheet certificate))) F.OutOfMemory fault
+best_run_wants kit state c sheet certificate fault h same =
+    wants kit state (A.RunBest c sheet certificate) fault (best_run_alike kit state c sheet certificate ∙ h) same
+
+-- each command has one verdict
+
+act_one : ActsHaveOneVerdict → (kit : Kit) (state : GameState) (act : Option Act) → HasOneVerdict (act_judgement kit state act)
+act_one law kit state None = settled-one (Some F.NoSuchName)
+act_one law kit state (Some act) = map-one of_rules (judgement kit state act) (law kit state act)
+
+in_play_one : ActsHaveOneVerdict → (kit : Kit) (players : List (List ℕ)) (state : GameState) (command : Command)
+    → HasOneVerdict (command_judgement_in_play kit players state command)
+in_play_one law kit players state (Open others) = settled-one (Some (F.Rules R.WrongStep))
+in_play_one law kit players state command = act_one law kit state (act_of players command)
+
+pub command_one : ActsHaveOneVerdict → (kit : Kit) (players : List (List ℕ)) (state : GameState) (command : Command)
+    → HasOneVerdict (command_judgement kit players state command)
+command_one law kit players state command =
+    behind-one (over_verdict kit state) (command_judgement_in_play kit players state command) (in_play_one law kit players state command)

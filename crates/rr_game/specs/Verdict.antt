@@ -1,38 +1,32 @@
--- The judgement on a command, from a table's book and its kit alone.
-use Rattle.std.specs.Prelude.{ℕ, Bool, true, false, List, Option, None, Some, option_map}
+-- The judgement on a command, from the state of a table's game and its kit alone.
+use Rattle.std.specs.Prelude.{ℕ, List, Option, None, Some, if◌then◌else◌}
 use Rattle.rr_books.specs.declared.acts.Act.{Act}
-use Rattle.rr_books.specs.Book.{Book}
-use Rattle.rr_auction.specs.Effects.{is_over}
-use Rattle.rr_auction.specs.Rules as auction
-use Rattle.rr_stock.specs.Rules as stock
 use Rattle.rr_code.specs.declared.command.Command.{Command}
 use Rattle.rr_code.specs.declared.command.Command.TheVariants.{Open}
 use Rattle.rr_kit.specs.declared.kit.Kit.{Kit}
-use Rattle.rr_turns.specs.Judgement.{Judgement, settled}
+use Rattle.rr_rules.specs.declared.fault.Fault.TheVariants as R
+use Rattle.rr_rules.specs.Judging.{game_is_over, judgement}
+use Rattle.rr_rules.specs.State.{GameState}
+use Rattle.rr_turns.specs.Judgement.{Judgement, judgement_behind, judgement_map, settled}
 use Rattle.rr_game.specs.declared.fault.Fault.{Fault}
 use Rattle.rr_game.specs.declared.fault.Fault.TheVariants as F
-use Rattle.rr_game.specs.Fault.{of_auction, of_stock}
+use Rattle.rr_game.specs.Fault.{of_rules}
 use Rattle.rr_game.specs.Names.{act_of}
 
--- the auction is over
-abbrev pub auction_is_over : Book → Bool
-auction_is_over book = is_over (auction.due book)
+-- a name that the table lacks comes before the rules
+abbrev pub act_judgement : Kit → GameState → Option Act → Judgement Fault
+act_judgement kit state None = settled (Some F.NoSuchName)
+act_judgement kit state (Some act) = judgement_map of_rules (judgement kit state act)
 
--- the judgement on an act, once the auction is over or before
-abbrev pub judgement_once : Bool → Kit → Book → Act → Judgement Fault
-judgement_once true kit book act = settled (option_map of_stock (stock.verdict kit.chart book act))
-judgement_once false kit book act = settled (option_map of_auction (auction.verdict kit.roster kit.chart book act))
+-- the judgement on a command while the game isn't over: no step takes a second opening
+abbrev pub command_judgement_in_play : Kit → List (List ℕ) → GameState → Command → Judgement Fault
+command_judgement_in_play kit players state (Open others) = settled (Some (F.Rules R.WrongStep))
+command_judgement_in_play kit players state command = act_judgement kit state (act_of players command)
 
--- the judgement on an act: the rules of the auction judge until it is over, and then those of the stock rounds
-unfoldable pub judgement : Kit → Book → Act → Judgement Fault
-judgement kit book act = judgement_once (auction_is_over book) kit book act
-
--- a name that the table lacks comes before the rules of the game
-abbrev pub act_judgement : Kit → Book → Option Act → Judgement Fault
-act_judgement kit book None = settled (Some F.NoSuchName)
-act_judgement kit book (Some act) = judgement kit book act
+-- nothing is played once the game is over
+abbrev pub over_verdict : Kit → GameState → Option Fault
+over_verdict kit state = if game_is_over kit.chart state.book then Some F.GameOver else None
 
 -- the judgement on a command after the opening
-abbrev pub command_judgement : Kit → List (List ℕ) → Book → Command → Judgement Fault
-command_judgement kit players book (Open others) = settled (Some F.WrongStep)
-command_judgement kit players book command = act_judgement kit book (act_of players command)
+abbrev pub command_judgement : Kit → List (List ℕ) → GameState → Command → Judgement Fault
+command_judgement kit players state command = judgement_behind (over_verdict kit state) (command_judgement_in_play kit players state command)

@@ -1,14 +1,14 @@
-ghost use Rattle.std.specs.Prelude.{◌≡◌, ◌+◌, ◌<◌, ◌≤◌, ◌++◌, List, [], ◌∷◌, None, IfOk, MatchResult};
+ghost use Rattle.std.specs.Prelude.{◌≡◌, ◌+◌, ◌<◌, ◌≤◌, ◌++◌, List, [], ◌∷◌, None, Some, IfOk, MatchResult};
+ghost use Rattle.rr_rules.specs.State.{GameState, IsStandingOf};
 ghost use Rattle.rr_game.specs.Names.{amount_in};
 ghost use Rattle.rr_game.specs.Play.{play, players_of};
-ghost use Rattle.rr_game.specs.Verdict.{command_judgement};
+ghost use Rattle.rr_game.specs.Verdict.{command_judgement, over_verdict};
 ghost use Rattle.rr_turns.specs.Judgement.{IsVerdict, MayFind};
 
 use crate::fault::Fault;
-use crate::rules::take;
 use rr_code::{Command, Players};
-use rr_desk::Position;
 use rr_kit::Kit;
+use rr_rules::Standing;
 use std::alloc::Global;
 
 /// One table's game. It takes no memory, and `Copy` copies it. The kit is lent to each call: the one with which the
@@ -16,7 +16,7 @@ use std::alloc::Global;
 #[derive(Clone, Copy, Debug)]
 pub struct Game {
     pub(crate) players: Players,
-    pub(crate) position: Position,
+    pub(crate) standing: Standing,
     /// The commands that were played, the opening among them.
     pub(crate) played: u32,
 }
@@ -33,7 +33,7 @@ impl Game {
         let count = players.as_slice().len() as u8;
         Game {
             players,
-            position: Position::open(count, kit.roster()),
+            standing: Standing::open(count, kit.roster()),
             played: 1,
         }
     }
@@ -49,8 +49,9 @@ impl Game {
     ///
     /// # Errors
     ///
-    /// `WrongStep` for an opening, `NoSuchName` for a player who isn't at the table; then what the rules refuse, in
-    /// their order: those of the auction until it is over, and then those of the stock rounds. Or `OutOfMemory`.
+    /// `GameOver` once the game is over; `NoSuchName` for a player who isn't at the table; then what the rules in force
+    /// refuse, in their order. An opening is refused as `WrongStep` while the game isn't over. `OutOfMemory` where none
+    /// of those comes that take no memory.
     pub fn step(&self, alloc: Global, command: &Command, kit: &Kit) -> Result<Game, Fault>
         requires played { self.now.played < 4096 }
         requires small { amount_in command.now ≤ 10000000000 }
@@ -61,12 +62,25 @@ impl Game {
             IsGameOf kit.now (accepted ++ command.now ∷ []) game) }
         ensures played { IfOk result (λ game. game.played ≡ self.now.played + 1) }
     {
-        let act = self.act(command)?;
-        let position = take(alloc, kit, &self.position, &act)?;
+        self.judge_end(kit)?;
+        let act = self.act(alloc, kit, command)?;
+        let standing = self.standing.take(alloc, kit, &act)?;
         Ok(Game {
             players: self.players,
-            position,
+            standing,
             played: self.played + 1,
         })
+    }
+
+    // Nothing is played once the game is over.
+    fn judge_end(&self, kit: &Kit) -> Result<(), Fault>
+        ensures { (state : GameState) → IsStandingOf state self.now.standing → MatchResult result
+            (λ _. over_verdict kit.now state ≡ None)
+            (λ fault. over_verdict kit.now state ≡ Some fault) }
+    {
+        if self.standing.is_over(kit) {
+            return Err(Fault::GameOver);
+        }
+        Ok(())
     }
 }

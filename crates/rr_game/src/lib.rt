@@ -1,16 +1,20 @@
-//! The game of one table: the rules joined.
+//! The game of one table, by the names of its players.
 //!
-//! Stands on the rules and the kit. Its promise: `Game::step` is refused exactly by `command_judgement`, and keeps
-//! `IsGameOf`.
+//! Stands on `rr_rules`, the kit and `rr_code`. Its promise: `Game::step` is refused exactly by `command_judgement`, and
+//! keeps `IsGameOf`.
 #![tactic(auto)]
 
+mod acts;
+mod due;
 mod fault;
 mod game;
 pub mod laws;
 mod names;
 mod queries;
-mod rules;
+mod wealth;
 
+pub use due::Due;
 pub use fault::Fault;
 pub use game::Game;
 pub use rr_kit::Kit;
+pub use rr_operations::TurnStep;

@@ -1,80 +1,13 @@
 ghost use Rattle.std.specs.Prelude.{◌≡◌, ◌<◌, ◌≤◌, length, None, Some, position, bytes_eq, IfOk, IfSome, MatchResult};
-ghost use Rattle.rr_books.specs.Book.{Book};
-ghost use Rattle.rr_auction.specs.Small.{IsSmall};
-ghost use Rattle.rr_stock.specs.Small.{HasSeat};
-ghost use Rattle.rr_game.specs.Names.{act_of, amount_in, owner_place, party_of, player_word, seat_of, source_of};
+ghost use Rattle.rr_game.specs.Names.{owner_place, party_of, player_word, seat_of};
 
 use crate::fault::Fault;
 use crate::game::Game;
-use rr_books::{Act, Party, Place, Seat};
-use rr_code::{Account, Command, Owner, ShareSource};
+use rr_books::{Party, Place, Seat};
+use rr_code::{Account, Owner};
 use rr_words::Name;
 
 impl Game {
-    ghost use Rattle.rr_kit.specs.declared.kit.Kit.{Kit};
-    ghost use Rattle.rr_game.specs.Verdict.{command_judgement};
-
-    /// The command with seats in place of names.
-    pub(crate) fn act(&self, command: &Command) -> Result<Act, Fault>
-        requires { amount_in command.now ≤ 10000000000 }
-        ensures { MatchResult result
-            (λ act. (act_of self.now.players command.now ≡ Some act) × HasSeat act × IsSmall act)
-            (λ fault. (act_of self.now.players command.now ≡ None) × ((kit : Kit) (book : Book) → (command_judgement kit self.now.players book command.now).first ≡ Some fault)) }
-    {
-        match command {
-            Command::Open { .. } => Err(Fault::WrongStep),
-            Command::BuyPrivate { player } => Ok(Act::BuyPrivate {
-                seat: self.seat(player)?,
-            }),
-            Command::Bid {
-                player,
-                private,
-                amount,
-            } => Ok(Act::Bid {
-                seat: self.seat(player)?,
-                private: *private,
-                amount: *amount,
-            }),
-            Command::Pass { player } => Ok(Act::Pass {
-                seat: self.seat(player)?,
-            }),
-            Command::Par {
-                player,
-                corp,
-                price,
-            } => Ok(Act::Par {
-                seat: self.seat(player)?,
-                corp: *corp,
-                price: *price,
-            }),
-            Command::BuyShare {
-                player,
-                corp,
-                source,
-            } => Ok(Act::BuyShare {
-                seat: self.seat(player)?,
-                corp: *corp,
-                source: source_of(*source),
-            }),
-            Command::Sell {
-                player,
-                corp,
-                count,
-            } => Ok(Act::Sell {
-                seat: self.seat(player)?,
-                corp: *corp,
-                count: *count,
-            }),
-            Command::Swap { player, source } => Ok(Act::Swap {
-                seat: self.seat(player)?,
-                source: source_of(*source),
-            }),
-            Command::Done { player } => Ok(Act::Done {
-                seat: self.seat(player)?,
-            }),
-        }
-    }
-
     /// The seat of a player.
     pub(crate) fn seat(&self, player: &Name) -> Result<Seat, Fault>
         ensures value { MatchResult result
@@ -135,14 +68,4 @@ fn place_among(name: &Name, names: &[Name]) -> Option<usize>
     ensures bound { IfSome result (λ place. place < length names.now) }
 {
     names.iter().position(|other| *other == *name)
-}
-
-/// Where a share is bought.
-fn source_of(source: ShareSource) -> rr_books::ShareSource
-    ensures { result ≡ source_of source }
-{
-    match source {
-        ShareSource::Offer => rr_books::ShareSource::Offer,
-        ShareSource::Pool => rr_books::ShareSource::Pool,
-    }
 }

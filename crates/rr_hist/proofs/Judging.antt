@@ -4,8 +4,8 @@ use Rattle.std.specs.Option.{option_or}
 use Rattle.std.proofs.lemmas.Bool.Decides.{nat_tests}
 use Rattle.rr_kit.specs.declared.kit.Kit.{Kit}
 use Rattle.rr_code.specs.declared.command.Command.{Command}
+use Rattle.rr_game.specs.Laws.{CommandsHaveOneVerdict}
 use Rattle.rr_game.specs.Play.{play, players_of}
-use Rattle.rr_game.proofs.Judging.{command_one}
 use Rattle.rr_turns.specs.declared.request.Request.{Request}
 use Rattle.rr_turns.specs.declared.request.Request.TheVariants.{Play, Back, Forget}
 use Rattle.rr_turns.specs.Judgement.{HasOneVerdict, IsVerdict, judgement_map}
@@ -58,12 +58,12 @@ lawful_turn kit table stamp k h kept = lawful_behind_stamp kit table stamp (Forg
 
 -- each request has one verdict
 
-own_one : (kit : Kit) (table : Kept Command) (request : Request Command) → HasOneVerdict (own_judgement kit table request)
-own_one kit table (Play c) =
+own_one : CommandsHaveOneVerdict → (kit : Kit) (table : Kept Command) (request : Request Command) → HasOneVerdict (own_judgement kit table request)
+own_one law kit table (Play c) =
     behind-one (room_verdict table) (judgement_map of_game (game_judgement kit table.commands c))
-    (map-one of_game (game_judgement kit table.commands c) (command_one kit (players_of table.commands) (play kit table.commands) c))
-own_one kit table (Back k) = settled-one (turn_verdict kit table k)
-own_one kit table (Forget k) = settled-one (turn_verdict kit table k)
+    (map-one of_game (game_judgement kit table.commands c) (law kit (players_of table.commands) (play kit table.commands) c))
+own_one law kit table (Back k) = settled-one (turn_verdict kit table k)
+own_one law kit table (Forget k) = settled-one (turn_verdict kit table k)
 
-pub request_one : (kit : Kit) (table : Kept Command) (stamp : ℕ) (request : Request Command) → HasOneVerdict (request_judgement kit table stamp request)
-request_one kit table stamp request = behind-one (stamp_verdict table stamp) (own_judgement kit table request) (own_one kit table request)
+pub request_one : CommandsHaveOneVerdict → (kit : Kit) (table : Kept Command) (stamp : ℕ) (request : Request Command) → HasOneVerdict (request_judgement kit table stamp request)
+request_one law kit table stamp request = behind-one (stamp_verdict table stamp) (own_judgement kit table request) (own_one law kit table request)

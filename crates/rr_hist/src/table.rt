@@ -89,7 +89,8 @@ impl Table {
         ensures played { IsPlayed kit.now self.new }
         ensures err { OnErr result (self.new ≡ self.old) }
     {
-        let change = self.judge(alloc, stamp, &Request::Play(*command), kit)?;
+        self.judge_stamp(stamp)?;
+        let change = self.judge_command(alloc, command, kit)?;
         self.take(change);
         Ok(())
     }
@@ -288,7 +289,7 @@ impl Table {
 }
 
 /// The command by which these players open their table.
-fn opening_of(players: &Players) -> Command
+fn opening_of(players: &Players) -> Command<'static>
     ensures value { result ≡ Command.Open players.now }
     ensures form { IsCommand result }
 {

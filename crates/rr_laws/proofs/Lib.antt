@@ -1,4 +1,11 @@
 pub mod LeavesAuction
 pub mod Leaving
 pub mod StockLeaves
+pub mod RoundLeaves
+pub mod TurnLeaves
+pub mod ForcedLeaves
+pub mod StockOrder
+pub mod ForcedOrder
+pub mod MaySell
+pub mod RaiseOrder
 mod Soundness

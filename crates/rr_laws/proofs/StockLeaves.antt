@@ -1,4 +1,4 @@
--- What a command of a stock round adds leaves an auction that is over as it is.
+-- What a command of a stock round adds of itself leaves an auction that is over as it is.
 use Rattle.std.specs.Prelude.{◌≡◌, ℕ, zero, suc, ◌*◌, Bool, true, false, cond, List, [], ◌∷◌, ◌++◌, ◌&&◌, Option, None, Some, find, map, option_and_then, option_map, refl, if◌then◌else◌}
 use Rattle.std.proofs.Common.{◌∙◌, ap}
 use Rattle.std.specs.List.{list_all}
@@ -35,33 +35,32 @@ use Rattle.rr_rounds.specs.Round.{ends_round, has_floated}
 use Rattle.rr_desk.specs.Incomes.{dollars, owner, pay_incomes_of, pays_if, pays_income}
 use Rattle.rr_stock.specs.Situation.{Situation, situation_of}
 use Rattle.rr_stock.specs.Rules.{place_of_source, share_price}
-use Rattle.rr_stock.specs.Effects.{buys_share, gets_share, gives_up_private, is_sold_out, pays_bank, pays_seller, proceeds, rises, rises_among, rises_if_sold_out, sells, sets_par, settles_corporation, settles_in, swaps, takes_presidency}
-use Rattle.rr_sequence.specs.Whole.{ends_if, ends_stock_round, ends_turn, entries_of, passes_operating_round, row}
+use Rattle.rr_stock.specs.Effects.{buys_share, ends_if, ends_stock_round, ends_turn, entries_of, gets_share, gives_up_private, is_sold_out, pays_bank, pays_seller, proceeds, rises, rises_among, rises_if_sold_out, row, sells, sets_par, settles_corporation, settles_in, swaps, takes_presidency}
 use Rattle.rr_laws.proofs.LeavesAuction.{leaves_auction}
 
 -- whatever the book, the effect leaves the auction alone
-abbrev Leaves : Effect → Type 0
+abbrev pub Leaves : Effect → Type 0
 Leaves f = (book : Book) → list_all leaves_auction (f book) ≡ true
 
-both_leave : (xs ys : Book) → list_all leaves_auction xs ≡ true → list_all leaves_auction ys ≡ true → list_all leaves_auction (xs ++ ys) ≡ true
+pub both_leave : (xs ys : Book) → list_all leaves_auction xs ≡ true → list_all leaves_auction ys ≡ true → list_all leaves_auction (xs ++ ys) ≡ true
 both_leave xs ys h k = list_all-append leaves_auction xs ys ∙ ap (λ (b : Bool). b && list_all leaves_auction ys) h ∙ k
 
-none_leaves : Leaves (in_turn [])
+pub none_leaves : Leaves (in_turn [])
 none_leaves book = refl
 
-then_leaves : (f : Effect) (fs : List Effect) → Leaves f → Leaves (in_turn fs) → Leaves (in_turn (f ∷ fs))
+pub then_leaves : (f : Effect) (fs : List Effect) → Leaves f → Leaves (in_turn fs) → Leaves (in_turn (f ∷ fs))
 then_leaves f fs h k book = both_leave (f book) (in_turn fs (book ++ f book)) (h book) (k (book ++ f book))
 
-two_leave : (f g : Effect) → Leaves f → Leaves g → Leaves (in_turn (f ∷ g ∷ []))
+pub two_leave : (f g : Effect) → Leaves f → Leaves g → Leaves (in_turn (f ∷ g ∷ []))
 two_leave f g h k = then_leaves f (g ∷ []) h (then_leaves g [] k none_leaves)
 
-three_leave : (f g i : Effect) → Leaves f → Leaves g → Leaves i → Leaves (in_turn (f ∷ g ∷ i ∷ []))
+pub three_leave : (f g i : Effect) → Leaves f → Leaves g → Leaves i → Leaves (in_turn (f ∷ g ∷ i ∷ []))
 three_leave f g i h k l = then_leaves f (g ∷ i ∷ []) h (two_leave g i k l)
 
-one_leaves : (e : Entry) → leaves_auction e ≡ true → Leaves (adds e)
+pub one_leaves : (e : Entry) → leaves_auction e ≡ true → Leaves (adds e)
 one_leaves e h book = ap (λ (b : Bool). b && true) h
 
-test_leaves : (b : Bool) (f : Effect) → Leaves f → Leaves (λ book. (if b then f else in_turn []) book)
+pub test_leaves : (b : Bool) (f : Effect) → Leaves f → Leaves (λ book. (if b then f else in_turn []) book)
 test_leaves true f h book = h book
 test_leaves false f h book = refl
 
@@ -96,7 +95,7 @@ presidency_leaves : (c : Corp) → Leaves (presidency c)
 unfolding presidency
 presidency_leaves c book = handover_if_leaves c (handover_due (holder book) (players book) c) book
 
-sale_leaves : (c : Corp) (seller : Seat) (n : ℕ) → Leaves (sale_shares c seller n)
+pub sale_leaves : (c : Corp) (seller : Seat) (n : ℕ) → Leaves (sale_shares c seller n)
 unfolding sale_shares presidency_after_sale
 sale_leaves c seller n =
     two_leave (presidency_after_sale c seller n) (moves_lowest_shares c n (L.Seat seller) L.Pool) (λ book. handover_if_leaves c (handover_after_sale (holder book) (players book) c seller n) book)
@@ -115,13 +114,13 @@ pays_if_leaves : (party : Option Party) (n : ℕ) → Leaves (pays_if party n)
 pays_if_leaves None n = λ book. refl
 pays_if_leaves (Some party) n = λ book. refl
 
-incomes_leave : (roster : Terms) (ps : List Private) → Leaves (pay_incomes_of roster ps)
+pub incomes_leave : (roster : Terms) (ps : List Private) → Leaves (pay_incomes_of roster ps)
 unfolding pay_incomes_of pays_income
 incomes_leave roster [] = none_leaves
 incomes_leave roster (x ∷ xs) =
     then_leaves (pays_income roster x) (map (pays_income roster) xs) (λ book. pays_if_leaves (owner (players book) (holder book (C.Private x))) (income_of roster x) book) (incomes_leave roster xs)
 
-mark_leaves : (c : Corp) (cell : Option Cell) → list_all leaves_auction (mark_at c cell) ≡ true
+pub mark_leaves : (c : Corp) (cell : Option Cell) → list_all leaves_auction (mark_at c cell) ≡ true
 mark_leaves c None = refl
 mark_leaves c (Some cell) = refl
 
@@ -146,7 +145,7 @@ private_given_leaves seat source =
     two_leave (adds (E.Move (C.Private Private.Mh) L.Gone)) (moves_lowest_share Corp.Nyc (place_of_source source) (L.Seat seat)) (λ book. refl)
     (lowest_leaves Corp.Nyc (place_of_source source) (L.Seat seat))
 
-seller_leaves : (rows : List Row) (seat : Seat) (c : Corp) (n amount : ℕ) → Leaves (pays_seller rows seat c n amount)
+pub seller_leaves : (rows : List Row) (seat : Seat) (c : Corp) (n amount : ℕ) → Leaves (pays_seller rows seat c n amount)
 unfolding pays_seller
 seller_leaves rows seat c n amount =
     two_leave (adds (E.Pay P.Bank (P.Seat seat) (dollars amount))) (sale_marks rows n c) (λ book. refl) (λ book. mark_leaves c (option_and_then (cell_after_sale rows n) (mark_of book c)))
@@ -161,30 +160,29 @@ unfolding rises_among
 among_leave rows [] = none_leaves
 among_leave rows (c ∷ cs) = then_leaves (rises_if_sold_out rows c) (map (rises_if_sold_out rows) cs) (rise_leaves rows c) (among_leave rows cs)
 
-ending_leaves : (roster : Terms) (rows : List Row) (ends : Bool) → Leaves (ends_if roster rows ends)
-unfolding ends_stock_round passes_operating_round rises
-ending_leaves roster rows false = none_leaves
-ending_leaves roster rows true =
-    two_leave (rises rows) (passes_operating_round roster) (λ book. among_leave rows (operating_order rows book) book)
-    (three_leave (adds (E.Step M.Operating)) (pay_incomes_of roster privates) (adds (E.Step M.Stock)) (λ book. refl) (incomes_leave roster privates) (λ book. refl))
+ending_leaves : (rows : List Row) (ends : Bool) → Leaves (ends_if rows ends)
+unfolding ends_stock_round rises
+ending_leaves rows false = none_leaves
+ending_leaves rows true =
+    two_leave (rises rows) (adds (E.Step M.Operating)) (λ book. among_leave rows (operating_order rows book) book) (λ book. refl)
 
-row_leaves : (roster : Terms) (rows : List Row) (t : Situation) (act : Act) → Leaves (row roster rows t act)
+row_leaves : (rows : List Row) (t : Situation) (act : Act) → Leaves (row rows t act)
 unfolding sets_par buys_share sells swaps ends_turn
-row_leaves roster rows t (A.Par seat c n) =
+row_leaves rows t (A.Par seat c n) =
     three_leave (adds (E.Step (M.Act (A.Par seat c n)))) (takes_presidency rows seat c n) (float_if_due c (Some n) (has_floated t.progress c)) (λ book. refl) (presidency_taken_leaves rows seat c n)
     (float_leaves c (Some n) (has_floated t.progress c))
-row_leaves roster rows t (A.BuyShare seat c source) =
+row_leaves rows t (A.BuyShare seat c source) =
     three_leave (adds (E.Step (M.Act (A.BuyShare seat c source)))) (gets_share seat c source (share_price t c source)) (settles_in t c) (λ book. refl) (share_bought_leaves seat c source (share_price t c source))
     (settled_leaves c (t.pars c) (has_floated t.progress c))
-row_leaves roster rows t (A.Sell seat c n) =
+row_leaves rows t (A.Sell seat c n) =
     three_leave (adds (E.Step (M.Act (A.Sell seat c n)))) (sale_shares c seat n) (pays_seller rows seat c n (proceeds t c n)) (λ book. refl) (sale_leaves c seat n)
     (seller_leaves rows seat c n (proceeds t c n))
-row_leaves roster rows t (A.Swap seat source) =
+row_leaves rows t (A.Swap seat source) =
     three_leave (adds (E.Step (M.Act (A.Swap seat source)))) (gives_up_private seat source) (settles_in t Corp.Nyc) (λ book. refl) (private_given_leaves seat source)
     (settled_leaves Corp.Nyc (t.pars Corp.Nyc) (has_floated t.progress Corp.Nyc))
-row_leaves roster rows t (A.Done seat) =
-    two_leave (adds (E.Step (M.Act (A.Done seat)))) (ends_if roster rows (ends_round t.progress)) (λ book. refl) (ending_leaves roster rows (ends_round t.progress))
-row_leaves roster rows t _ = none_leaves
+row_leaves rows t (A.Done seat) =
+    two_leave (adds (E.Step (M.Act (A.Done seat)))) (ends_if rows (ends_round t.progress)) (λ book. refl) (ending_leaves rows (ends_round t.progress))
+row_leaves rows t _ = none_leaves
 
-pub stock_leaves : (roster : Terms) (rows : List Row) (book : Book) (act : Act) → list_all leaves_auction (entries_of roster rows book act) ≡ true
-stock_leaves roster rows book act = row_leaves roster rows (situation_of rows book) act book
+pub act_leaves : (rows : List Row) (act : Act) → Leaves (λ book. entries_of rows book act)
+act_leaves rows act book = row_leaves rows (situation_of rows book) act book

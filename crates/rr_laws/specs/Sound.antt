@@ -2,7 +2,6 @@
 use Rattle.std.specs.Prelude.{◌≡◌, ℕ, ◌≤◌, List, [], ◌∷◌, ◌++◌, None, length, ⊤}
 use Rattle.rr_roster.specs.Terms.{IsOrder, order_of}
 use Rattle.rr_books.specs.Book.{Book}
-use Rattle.rr_auction.specs.Opening.{opened}
 use Rattle.rr_auction.specs.SoundMoney.{HasSoundMoney}
 use Rattle.rr_stock.specs.PoolLimits.{HasHalfAtMost}
 use Rattle.rr_sound.specs.Presidencies.{HasGreatestPresidents}
@@ -11,7 +10,8 @@ use Rattle.rr_code.specs.declared.command.Command.{Command}
 use Rattle.rr_code.specs.declared.command.Command.TheVariants.{Open}
 use Rattle.rr_kit.specs.declared.kit.Kit.{Kit}
 use Rattle.rr_kit.specs.Kits.{KitTexts, SpellsKit}
-use Rattle.rr_game.specs.Play.{play, played_on, players_of}
+use Rattle.rr_rules.specs.State.{GameState}
+use Rattle.rr_game.specs.Play.{opened_state, play, played_on, players_of}
 use Rattle.rr_game.specs.Verdict.{command_judgement}
 use Rattle.rr_turns.specs.Judgement.{IsVerdict}
 
@@ -24,16 +24,16 @@ pub record IsSoundTable (n : ℕ) (book : Book) : Type 0 where
   pub presidents : HasGreatestPresidents n book
   pub pool : HasHalfAtMost book
 
--- none of these commands is refused in the book that those before it made
-abbrev pub AreAccepted : Kit → List (List ℕ) → Book → List Command → Type 0
-AreAccepted kit players book [] = ⊤
-AreAccepted kit players book (command ∷ others) =
-    IsVerdict (command_judgement kit players book command) None × AreAccepted kit players (played_on kit players book command) others
+-- none of these commands is refused in the state that those before it made
+abbrev pub AreAccepted : Kit → List (List ℕ) → GameState → List Command → Type 0
+AreAccepted kit players state [] = ⊤
+AreAccepted kit players state (command ∷ others) =
+    IsVerdict (command_judgement kit players state command) None × AreAccepted kit players (played_on kit players state command) others
 
 -- two to six players open a table, and then no command is refused
 abbrev pub ArePlayed : Kit → List Command → Type 0
 ArePlayed kit (Open players ∷ commands) =
-    (2 ≤ length players) × (length players ≤ 6) × AreAccepted kit players (opened players kit.roster) commands
+    (2 ≤ length players) × (length players ≤ 6) × AreAccepted kit players (opened_state players kit.roster) commands
 ArePlayed kit _ = ⊥
 
 -- the kit's roster names each corporation once
@@ -48,9 +48,9 @@ KitsNameCorporations = (texts : KitTexts) (kit : Kit) → SpellsKit texts kit �
 abbrev pub TablesStaySound : Type 0
 TablesStaySound =
     (kit : Kit) (commands : List Command) → NamesCorporations kit → ArePlayed kit commands
-    → IsSoundTable (length (players_of commands)) (play kit commands)
+    → IsSoundTable (length (players_of commands)) (play kit commands).book
 
--- a play goes on with each command that isn't refused in its book
+-- a play goes on with each command that isn't refused in its state
 abbrev pub PlaysGoOn : Type 0
 PlaysGoOn =
     (kit : Kit) (commands : List Command) (command : Command) → ArePlayed kit commands

@@ -1,6 +1,6 @@
 //! The law that every table is sound, whatever commands it accepted.
 //!
-//! Stands on `rr_sound` and `rr_game`; nothing stands on it. Its promise: `sound`.
+//! Stands on `rr_sound`, `rr_sound_turns` and `rr_game`; nothing stands on it. Its promise: `sound`.
 #![tactic(auto)]
 
 ghost use Rattle.rr_laws.specs.Sound.{KitsNameCorporations, PlaysGoOn, TablesStaySound};
@@ -15,6 +15,7 @@ pub fn sound()
     rr_books::laws::money_is_kept();
     rr_sequence::laws::pool_stays_within_half();
     rr_sequence::laws::lawful_sales_move_shares();
+    rr_shares::laws::sales_move_shares();
 }
 
 /// The roster of each right kit names each corporation.
@@ -22,7 +23,7 @@ pub fn kits_name_corporations()
     ensures { KitsNameCorporations }
 {}
 
-/// What a table was played with, and one command more that isn't refused in its book, is what a table is played with.
+/// What a table was played with, and one command more that isn't refused in its state, is what a table is played with.
 pub fn plays_go_on()
     ensures { PlaysGoOn }
 {}

@@ -1,4 +1,4 @@
-//! What a corporation orders in its turn.
+//! What is ordered in a corporation's turn.
 use rr_orders::Order;
 use rr_roster::Corp;
 use std::alloc::Global;
@@ -11,7 +11,14 @@ fn is_order(text: &str) -> bool {
     Order::read(text.as_bytes()).is_some()
 }
 
-// The first line of a corporation's order that isn't read, or is written otherwise.
+fn is_order_of(text: &str, corp: Option<Corp>) -> bool {
+    match Order::read(text.as_bytes()) {
+        Some(order) => order.corp() == corp,
+        None => false,
+    }
+}
+
+// The first line of an order that isn't read, or is written otherwise, or is another corporation's than the PRR's.
 fn first_unlike<'a>(alloc: Global, lines: &'a str) -> Result<Option<&'a str>, Fail> {
     for line in lines.lines() {
         let Some(order) = Order::read(line.as_bytes()) else {
@@ -19,7 +26,8 @@ fn first_unlike<'a>(alloc: Global, lines: &'a str) -> Result<Option<&'a str>, Fa
         };
         let mut written = Vec::new(alloc);
         order.write(&mut written)?;
-        if written.as_slice() != line.as_bytes() || order.corp() != Corp::Prr {
+        let of_another = order.corp().is_some_and(|corp| corp != Corp::Prr);
+        if written.as_slice() != line.as_bytes() || of_another {
             return Ok(Some(line));
         }
     }
@@ -48,7 +56,11 @@ train PRR 3 NYC 9999999999 ann bob
 trade PRR 4
 drop PRR 2
 private PRR SV 40
-end PRR",
+end PRR
+force PRR
+raise ann NYC 0
+raise bob B&O 9999999999
+bankrupt ann",
     )?;
     assert!(rt; unlike.is_none(), "an order is read or written otherwise");
     Ok(())
@@ -67,7 +79,46 @@ private PRR SV 040
 hold  PRR
 run PRR 9=1
 run PRR 2=1-2 best b best
-end PRR now",
+end PRR now
+best PRR",
     );
     assert!(rt; taken.is_none(), "a line that is no order is read");
+}
+
+#[test]
+fn refuses_what_forces_no_train(rt: HostRuntime) {
+    let taken = first_taken(
+        "force
+force ann
+force PRR 2
+force PRR bank
+Force PRR
+raise
+raise PRR 1
+raise ann PRR
+raise ann PRR 01
+raise ann PRR 10000000000
+raise ann PRR 1 pool
+raise ann 1 PRR
+raise pool PRR 1
+raise ann SV 1
+bankrupt
+bankrupt PRR
+bankrupt bank
+bankrupt ann bob
+bankrupt  ann",
+    );
+    assert!(rt; taken.is_none(), "a line that forces no train is read");
+}
+
+#[test]
+fn tells_whose_order_it_is(rt: HostRuntime) {
+    for (text, corp) in [
+        ("end NYC", Some(Corp::Nyc)),
+        ("force NYC", Some(Corp::Nyc)),
+        ("raise ann NYC 1", None),
+        ("bankrupt ann", None),
+    ] {
+        assert!(rt; is_order_of(text, corp), "{text}");
+    }
 }

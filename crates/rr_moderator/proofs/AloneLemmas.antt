@@ -16,12 +16,13 @@ use Rattle.rr_moderator.specs.declared.fault.Fault.{Fault}
 use Rattle.rr_moderator.specs.declared.fault.Fault.TheVariants as F
 use Rattle.rr_moderator.specs.Answer.{accepted_text}
 use Rattle.rr_moderator.specs.Fault.{of_store, refusal_of}
-use Rattle.rr_moderator.specs.Queries.{Answer, answer_of_table, asked_answer, cash_answer, due_answer, holds_answer, limit_answer, order_answer, price_answer, privates_answer, query_text, reply_of, stamp_answer, turns_answer}
+use Rattle.rr_moderator.specs.Queries.{Answer, answer_of_table, asked_answer, cash_answer, due_answer, holds_answer, iou_answer, limit_answer, order_answer, phase_answer, price_answer, privates_answer, query_text, reply_of, stamp_answer, trains_answer, turns_answer, worth_answer}
 use Rattle.rr_moderator.specs.Serving.{Meets, Responds, TooLong, Malformed, Broken, Read, reply_to, text_of}
 use Rattle.rr_store.specs.declared.fault.Fault as store
 use Rattle.rr_store.specs.declared.fault.Fault.TheVariants as T
 use Rattle.rr_store.specs.Held.{Held, Takes, Accepted, Refused, Wants, NoRoom, Fails, Again}
 use Rattle.rr_store.specs.World.{TableState, World, opening_verdict, state_after, table_named, world_judgement}
+use Rattle.rr_hist.specs.Laws.{RequestsHaveOneVerdict}
 use Rattle.rr_store.proofs.Verdicts.{world_one}
 use Rattle.rr_turns.specs.Judgement.{IsVerdict}
 use Rattle.rr_turns.proofs.JudgementLemmas.{is-settled, settled-is}
@@ -35,7 +36,7 @@ named_step : (b : Bool) (e : List ℕ × TableState) (es rest : World) (name : L
 named_step true e es rest name v is more = ap (λ c. cond c (Some v) (table_named es name)) is
 named_step false e es rest name v is more = ap (λ c. cond c (Some e.1) (table_named rest name)) is ∙ more
 
-named_after : (tables : World) (name : List ℕ) (v : TableState) → table_named (insert_entry bytes_eq tables name v) name ≡ Some v
+pub named_after : (tables : World) (name : List ℕ) (v : TableState) → table_named (insert_entry bytes_eq tables name v) name ≡ Some v
 named_after [] name v = let empty : Option TableState = None in ap (λ c. cond c (Some v) empty) ((bytes_eq-Decides name name).1 refl)
 named_after (e ∷ es) name v =
     named_step (bytes_eq name e.0) e es (insert_entry bytes_eq es name v) name v refl (named_after es name v)
@@ -85,7 +86,7 @@ abbrev Outcome : Type 0
 Outcome = List ℕ × Option TableState
 
 abbrev request_alone : Kit → List ℕ → Option TableState → Request Command → Option store.Fault → Outcome
-request_alone kit name t c None = (accepted_text name (state_after kit t c).stamp, Some (state_after kit t c))
+request_alone kit name t c None = (accepted_text kit name (state_after kit t c) c, Some (state_after kit t c))
 request_alone kit name t c (Some fault) = (refusal_of (of_store fault), t)
 
 -- the outcome of a request is that of its verdict
@@ -96,24 +97,26 @@ RequestAlone kit name t stamp c outcome =
 abbrev LineAlone : Kit → List ℕ → Option TableState → Line → Outcome → Type 0
 LineAlone kit name t (L.Request stamp table c) outcome = RequestAlone kit name t stamp c outcome
 LineAlone kit name t (L.Query query) outcome = outcome ≡ (query_text kit (alone_with name t) query, t)
+LineAlone kit name t (L.Best stamp table corp) outcome = outcome ≡ (refusal_of F.MalformedLine, t)
 
-one_outcome : (kit : Kit) (name : List ℕ) (t : Option TableState) (l : Line) (x y : Outcome) → LineAlone kit name t l x → LineAlone kit name t l y → x ≡ y
-one_outcome kit name t (L.Request stamp table c) x y a b =
-    a.2 ∙ ap (λ (o : Option store.Fault). request_alone kit name t c o) (world_one kit t 0 stamp c a.0 b.0 a.1 b.1) ∙ sym b.2
-one_outcome kit name t (L.Query query) x y a b = a ∙ sym b
+one_outcome : RequestsHaveOneVerdict → (kit : Kit) (name : List ℕ) (t : Option TableState) (l : Line) (x y : Outcome) → LineAlone kit name t l x → LineAlone kit name t l y → x ≡ y
+one_outcome one kit name t (L.Request stamp table c) x y a b =
+    a.2 ∙ ap (λ (o : Option store.Fault). request_alone kit name t c o) (world_one one kit t 0 stamp c a.0 b.0 a.1 b.1) ∙ sym b.2
+one_outcome one kit name t (L.Query query) x y a b = a ∙ sym b
+one_outcome one kit name t (L.Best stamp table corp) x y a b = a ∙ sym b
 
 abbrev ReplyAlone : Kit → List ℕ → Option TableState → List ℕ → Line → List ℕ → Option TableState → Type 0
 ReplyAlone kit name t line l reply after =
     ((8000 < length line) × (reply ≡ refusal_of F.LineTooLong) × (after ≡ t))
     ⊎ ((length line ≤ 8000) × LineAlone kit name t l (reply, after))
 
-one_reply : (kit : Kit) (name : List ℕ) (t : Option TableState) (line : List ℕ) (l : Line) (reply other : List ℕ) (after behind : Option TableState)
+one_reply : RequestsHaveOneVerdict → (kit : Kit) (name : List ℕ) (t : Option TableState) (line : List ℕ) (l : Line) (reply other : List ℕ) (after behind : Option TableState)
     → ReplyAlone kit name t line l reply after → ReplyAlone kit name t line l other behind → (reply ≡ other) × (after ≡ behind)
-one_reply kit name t line l reply other after behind (inl a) (inl b) = (a.1 ∙ sym b.1, a.2 ∙ sym b.2)
-one_reply kit name t line l reply other after behind (inl a) (inr b) = absurd (omega (arith, a.0, b.0))
-one_reply kit name t line l reply other after behind (inr a) (inl b) = absurd (omega (arith, a.0, b.0))
-one_reply kit name t line l reply other after behind (inr a) (inr b) =
-    let same = one_outcome kit name t l (reply, after) (other, behind) a.1 b.1 in
+one_reply one kit name t line l reply other after behind (inl a) (inl b) = (a.1 ∙ sym b.1, a.2 ∙ sym b.2)
+one_reply one kit name t line l reply other after behind (inl a) (inr b) = absurd (omega (arith, a.0, b.0))
+one_reply one kit name t line l reply other after behind (inr a) (inl b) = absurd (omega (arith, a.0, b.0))
+one_reply one kit name t line l reply other after behind (inr a) (inr b) =
+    let same = one_outcome one kit name t l (reply, after) (other, behind) a.1 b.1 in
     (ap (λ (o : Outcome). o.0) same, ap (λ (o : Outcome). o.1) same)
 
 -- a query that names the table
@@ -139,6 +142,10 @@ query_alone kit tables name (Q.Asked table) about = ap reply_of (ask_alone (aske
 query_alone kit tables name (Q.Holds table player corp) about = ap reply_of (ask_alone (holds_answer kit player corp) tables name table (some_same table name about))
 query_alone kit tables name (Q.Price table corp) about = ap reply_of (ask_alone (price_answer kit corp) tables name table (some_same table name about))
 query_alone kit tables name (Q.Order table) about = ap reply_of (ask_alone (order_answer kit) tables name table (some_same table name about))
+query_alone kit tables name (Q.Phase table) about = ap reply_of (ask_alone (phase_answer kit) tables name table (some_same table name about))
+query_alone kit tables name (Q.Trains table of) about = ap reply_of (ask_alone (trains_answer kit of) tables name table (some_same table name about))
+query_alone kit tables name (Q.Iou table) about = ap reply_of (ask_alone (iou_answer kit) tables name table (some_same table name about))
+query_alone kit tables name (Q.Worth table player) about = ap reply_of (ask_alone (worth_answer kit player) tables name table (some_same table name about))
 query_alone kit tables name (Q.Privates table of) about = ap reply_of (ask_alone (privates_answer kit of) tables name table (some_same table name about))
 
 abbrev Same : Held → Held → List ℕ → (Outcome → Type 0) → List ℕ → Type 0
@@ -146,8 +153,8 @@ Same old new name Comes reply = Comes (reply, table_named new.tables name) × (n
 
 -- a request that names the table
 takes_alone : (old new : Held) (stamp : ℕ) (name : List ℕ) (c : Request Command) {result : Result ℕ store.Fault} → Takes old stamp name c new result
-    → ¬ IsDisturbed (reply_to (text_of name result))
-    → Same old new name (RequestAlone old.kit name (table_named old.tables name) stamp c) (reply_to (text_of name result))
+    → ¬ IsDisturbed (reply_to (text_of old name c result))
+    → Same old new name (RequestAlone old.kit name (table_named old.tables name) stamp c) (reply_to (text_of old name c result))
 takes_alone old new stamp name c (Accepted whole lawful after) calm =
     let t = table_named old.tables name in
     let there : table_named new.tables name ≡ Some (state_after old.kit t c) =
@@ -155,7 +162,7 @@ takes_alone old new stamp name c (Accepted whole lawful after) calm =
       (
         None,
         uncounted old.kit t (length old.tables) stamp c None (λ e. absurd (cc e)) lawful,
-        ap (λ (o : Option TableState). (accepted_text name (state_after old.kit t c).stamp, o)) there,
+        ap (λ (o : Option TableState). (accepted_text old.kit name (state_after old.kit t c) c, o)) there,
       ),
       ap (λ h. h.kit) after,
     )
@@ -180,11 +187,15 @@ meets_alone : (old new : Held) (name : List ℕ) (l : Line) (outcome : Result (L
 meets_alone old new name (L.Request stamp table c) outcome about meets calm =
     let named = some_same table name about in
     let takes = subst (λ k. Takes old stamp k c new meets.0) named meets.1 in
-    let told : outcome ≡ text_of name meets.0 = subst (λ k. outcome ≡ text_of k meets.0) named meets.2 in
+    let told : outcome ≡ text_of old name c meets.0 = subst (λ k. outcome ≡ text_of old k c meets.0) named meets.2 in
     subst (λ (o : Result (List ℕ) Fault). Same old new name (RequestAlone old.kit name (table_named old.tables name) stamp c) (reply_to o)) (sym told)
     (takes_alone old new stamp name c takes (subst (λ (o : Result (List ℕ) Fault). ¬ IsDisturbed (reply_to o)) told calm))
 meets_alone old new name (L.Query query) outcome about meets calm =
     let text = meets.1 ∙ query_alone old.kit old.tables name query about in
+    let there = ap (λ h. table_named h.tables name) meets.0 in
+    (λ i. (text i, there i), ap (λ h. h.kit) meets.0)
+meets_alone old new name (L.Best stamp table corp) outcome about meets calm =
+    let text = ap reply_to meets.1 in
     let there = ap (λ h. table_named h.tables name) meets.0 in
     (λ i. (text i, there i), ap (λ h. h.kit) meets.0)
 
@@ -227,6 +238,7 @@ meets_other : (old new : Held) (line name : List ℕ) (l : Line) (outcome : Resu
 meets_other old new line name (L.Request stamp table c) outcome spells none meets =
     takes_other old new stamp name table c (apart_from (bytes_eq name table) name table refl (λ e. none (L.Request stamp table c, spells, ap Some (sym e)))) meets.1
 meets_other old new line name (L.Query query) outcome spells none meets = unmoved old new name meets.0
+meets_other old new line name (L.Best stamp table corp) outcome spells none meets = unmoved old new name meets.0
 
 responds_other : (old new : Held) (line name : List ℕ) {outcome : Result (List ℕ) Fault} → ¬ Names name line → Responds old line new outcome → Unmoved old new name
 responds_other old new line name none (TooLong long same) = unmoved old new name same
@@ -266,24 +278,24 @@ one_exchange a b p q = λ i. (p i, q i)
 one_run : (a b : Exchange) (p q : List Exchange) → a ≡ b → p ≡ q → a ∷ p ≡ b ∷ q
 one_run a b p q e f = cc
 
-agreed : (kit : Kit) (name : List ℕ) (t : Option TableState) (picked others : List Exchange) → RunsAlone kit name t picked → RunsAlone kit name t others
+agreed : RequestsHaveOneVerdict → (kit : Kit) (name : List ℕ) (t : Option TableState) (picked others : List Exchange) → RunsAlone kit name t picked → RunsAlone kit name t others
     → map (λ exchange. exchange.0) picked ≡ map (λ exchange. exchange.0) others → picked ≡ others
-agreed kit name t [] [] one two same = refl
-agreed kit name t [] (b ∷ others) one two same = absurd cc
-agreed kit name t (a ∷ picked) [] one two same = absurd cc
-agreed kit name t (a ∷ picked) (b ∷ others) one two same =
+agreed verdicts kit name t [] [] one two same = refl
+agreed verdicts kit name t [] (b ∷ others) one two same = absurd cc
+agreed verdicts kit name t (a ∷ picked) [] one two same = absurd cc
+agreed verdicts kit name t (a ∷ picked) (b ∷ others) one two same =
     let line : b.0 ≡ a.0 = cc in
     let lines : map (λ exchange. exchange.0) picked ≡ map (λ exchange. exchange.0) others = cc in
     let spelled = subst (λ x. SpellsLine x two.1) line two.2 in
     let again = subst (λ x. ReplyAlone kit name t x two.1 b.1 two.0) line two.3 in
     let meant = subst (λ x. ReplyAlone kit name t a.0 x b.1 two.0) (one_line a.0 two.1 one.1 spelled one.2) again in
-    let r = one_reply kit name t a.0 one.1 a.1 b.1 one.0 two.0 one.3 meant in
+    let r = one_reply verdicts kit name t a.0 one.1 a.1 b.1 one.0 two.0 one.3 meant in
     one_run a b picked others (one_exchange a b (sym line) r.0)
-    (agreed kit name one.0 picked others one.4 (subst (λ x. RunsAlone kit name x others) (sym r.1) two.4) lines)
+    (agreed verdicts kit name one.0 picked others one.4 (subst (λ x. RunsAlone kit name x others) (sym r.1) two.4) lines)
 
-pub is_alone : Alone
-is_alone name one two one_end two_end run other picked others runs runs_other kit table calm calm_other picks picks_other same =
+pub is_alone : RequestsHaveOneVerdict → Alone
+is_alone verdicts name one two one_end two_end run other picked others runs runs_other kit table calm calm_other picks picks_other same =
     let there = gathered name two two_end other others runs_other calm_other picks_other in
     let moved = subst (λ t. RunsAlone two.kit name t others) (sym table) there in
-    agreed one.kit name (table_named one.tables name) picked others (gathered name one one_end run picked runs calm picks)
+    agreed verdicts one.kit name (table_named one.tables name) picked others (gathered name one one_end run picked runs calm picks)
     (subst (λ x. RunsAlone x name (table_named one.tables name) others) (sym kit) moved) same

@@ -16,9 +16,10 @@ use Rattle.rr_store.specs.Allowing.{BeforeOrAfter}
 use Rattle.rr_store.specs.Committing.{Commits, Spares}
 use Rattle.rr_store.specs.Held.{Held, Takes, Accepted, Refused, Wants, NoRoom, Fails, Again, stamp_after, with_tables}
 use Rattle.rr_store.specs.Holding.{Carries, IsFull, IsUnchanged, disk_of, held_of}
-use Rattle.rr_store.specs.World.{TableRequest, for_table, judgement_in, table_named, world_after}
+use Rattle.rr_store.specs.World.{TableRequest, TableState, for_table, judgement_in, state_after, table_named, world_after}
 use Rattle.rr_turns.specs.Judgement.{IsVerdict}
 use Rattle.rr_store.proofs.Standing.{carried_keeps, commit_leaves, same_unchanged}
+use Rattle.rr_hist.specs.Laws.{RequestsHaveOneVerdict}
 use Rattle.rr_store.proofs.Verdicts.{no_failure, not_both}
 use Rattle.rr_moderator.specs.declared.fault.Fault.TheVariants as F
 use Rattle.rr_moderator.specs.Answer.{accepted_text}
@@ -41,6 +42,7 @@ unchanged_by old new _ other h = h
 abbrev named : Line → Option (ℕ × TableRequest)
 named (L.Request stamp name c) = Some (stamp, for_table name c)
 named (L.Query query) = None
+named (L.Best stamp name corp) = None
 
 same_some : (a b : ℕ × TableRequest) → Some a ≡ Some b → a ≡ b
 same_some a b e = cc
@@ -123,30 +125,34 @@ module _ {D : Type 0} (Honest Works : D → Type 0) (state : D → DiskState) (p
     no_room taking not_full not_memory (inl is) = absurd (not_full is)
     no_room taking not_full not_memory (inr is) = absurd (not_memory is)
 
-    taken : (n : ℕ) → reply ≡ accepted_text name n → n ≡ stamp_after (held_of old).kit (held_of old).tables name c → Lawful → held_of new ≡ with_tables (held_of old) (world_after (held_of old).kit (held_of old).tables name c)
+    -- the table behind the request
+    abbrev behind : TableState
+    behind = state_after (held_of old).kit (table_named (held_of old).tables name) c
+
+    taken : (n : ℕ) → reply ≡ accepted_text (held_of old).kit name behind c → Lawful → held_of new ≡ with_tables (held_of old) (world_after (held_of old).kit (held_of old).tables name c)
         → Committed (Ok n) → Lasting
-    taken n told counted lawful held_is k =
+    taken n told lawful held_is k =
         record {
           pending = Some asked;
           pends = gives lawful;
-          accepted = λ _. record { asked = asked; pends = refl; held = held_is; told = told ∙ ap (accepted_text name) counted };
+          accepted = λ _. record { asked = asked; pends = refl; held = held_is; told = told };
           honest = k.honest;
           stops = λ h texts s. commit_leaves texts (held_of old).kit (held_of old).tables stamp asked (Ok n) _ _ _ _ (k.allowed h texts s);
           carries = k.carries;
           spares = λ refused _. both_ways (tells_acceptance reply) acceptance refused;
           untouched = λ unlawful. absurd (unlawful (asked, gives lawful));
           place = λ _. k.place;
-          counts = counts_none (ap tells_failure told ∙ (accepted_calm name n).0) k.counts;
-          device = λ is. both_ways (tells_failure reply) is (ap tells_failure told ∙ (accepted_calm name n).0);
+          counts = counts_none (ap tells_failure told ∙ (accepted_calm (held_of old).kit name behind c).0) k.counts;
+          device = λ is. both_ways (tells_failure reply) is (ap tells_failure told ∙ (accepted_calm (held_of old).kit name behind c).0);
           works = k.works;
           few_writes = k.few_writes;
           few_syncs = k.few_syncs;
-          full = λ is. both_ways (tells_full reply) is (ap tells_full told ∙ (accepted_calm name n).1);
+          full = λ is. both_ways (tells_full reply) is (ap tells_full told ∙ (accepted_calm (held_of old).kit name behind c).1);
           in_time = λ none. no_room (Ok n) (λ e. absurd (cc e)) (λ e. absurd (cc e)) (k.in_time whole lawful (full_of none));
         }
       where
         acceptance : tells_acceptance reply ≡ true
-        acceptance = ap tells_acceptance told ∙ accepted_told name n
+        acceptance = ap tells_acceptance told ∙ accepted_told (held_of old).kit name behind c
 
     failed : reply ≡ refusal_of F.DeviceFailed → Lawful → Committed (Err T.DeviceFailed) → Lasting
     failed told lawful k =
@@ -188,21 +194,21 @@ module _ {D : Type 0} (Honest Works : D → Type 0) (state : D → DiskState) (p
         (λ full. both_ways (tells_full reply) full (ap tells_full told ∙ memory_calm.1)) (λ _. inr told)
 
     -- a rule refused it
-    ruled_out : (fault : store.Fault) → reply ≡ refusal_of (of_store fault) → IsVerdict (judgement_in (held_of old).kit (held_of old).tables stamp name c) (Some fault) → Committed (Err fault) → Lasting
-    ruled_out fault told verdict k =
+    ruled_out : RequestsHaveOneVerdict → (fault : store.Fault) → reply ≡ refusal_of (of_store fault) → IsVerdict (judgement_in (held_of old).kit (held_of old).tables stamp name c) (Some fault) → Committed (Err fault) → Lasting
+    ruled_out one fault told verdict k =
         let calm = verdict_calm (held_of old).kit (table_named (held_of old).tables name) (length (held_of old).tables) stamp c fault verdict in
         lasts_unchanged (unchanged_by old new fault (no_failure (held_of old).kit (held_of old).tables stamp name c fault verdict) k.spares) k.carries
         (ap tells_failure told ∙ calm.0) (ap tells_acceptance told ∙ calm.2)
         (λ full. both_ways (tells_full reply) full (ap tells_full told ∙ calm.1))
-        (λ none. absurd (not_both (held_of old).kit (held_of old).tables stamp name c fault (lawful_of none.asked none.lawful) verdict))
+        (λ none. absurd (not_both one (held_of old).kit (held_of old).tables stamp name c fault (lawful_of none.asked none.lawful) verdict))
 
-    lasts_by : (taking : Result ℕ store.Fault) → reply ≡ reply_to (text_of name taking) → Takes (held_of old) stamp name c (held_of new) taking → Committed taking → Lasting
-    lasts_by taking told (Accepted was lawful held_is) k = taken (stamp_after (held_of old).kit (held_of old).tables name c) told refl lawful held_is k
-    lasts_by taking told (Refused fault was verdict held_is) k = ruled_out fault told verdict k
-    lasts_by taking told (Wants was first held_is) k = wanting told k
-    lasts_by taking told (NoRoom was lawful held_is) k = no_space told lawful k
-    lasts_by taking told (Fails was lawful held_is) k = failed told lawful k
-    lasts_by taking told (Again broken held_is) k = both_ways (held_of old).broken broken whole
+    lasts_by : RequestsHaveOneVerdict → (taking : Result ℕ store.Fault) → reply ≡ reply_to (text_of (held_of old) name c taking) → Takes (held_of old) stamp name c (held_of new) taking → Committed taking → Lasting
+    lasts_by one taking told (Accepted was lawful held_is) k = taken (stamp_after (held_of old).kit (held_of old).tables name c) told lawful held_is k
+    lasts_by one taking told (Refused fault was verdict held_is) k = ruled_out one fault told verdict k
+    lasts_by one taking told (Wants was first held_is) k = wanting told k
+    lasts_by one taking told (NoRoom was lawful held_is) k = no_space told lawful k
+    lasts_by one taking told (Fails was lawful held_is) k = failed told lawful k
+    lasts_by one taking told (Again broken held_is) k = both_ways (held_of old).broken broken whole
 
-    pub request_lasts : (taking : Result ℕ store.Fault) → reply ≡ reply_to (text_of name taking) → Committed taking → Lasting
-    request_lasts taking told k = lasts_by taking told k.takes k
+    pub request_lasts : RequestsHaveOneVerdict → (taking : Result ℕ store.Fault) → reply ≡ reply_to (text_of (held_of old) name c taking) → Committed taking → Lasting
+    request_lasts one taking told k = lasts_by one taking told k.takes k

@@ -5,4 +5,5 @@ pub mod Telling
 pub mod DurabilityLemmas
 pub mod AlongLemmas
 pub mod SessionLemmas
+pub mod Accepting
 pub mod AloneLemmas

@@ -6,6 +6,7 @@ use Rattle.rr_code.specs.declared.line.Line.{Line}
 use Rattle.rr_code.specs.declared.line.Line.TheVariants as L
 use Rattle.rr_code.specs.declared.query.Query.{Query}
 use Rattle.rr_code.proofs.TextLemmas.{line-unique}
+use Rattle.rr_roster.specs.declared.company.Corp.{Corp}
 use Rattle.rr_code.specs.Line.{SpellsLine}
 use Rattle.rr_moderator.specs.declared.fault.Fault.{Fault}
 use Rattle.rr_moderator.specs.Fault.{refusal_of}
@@ -31,3 +32,9 @@ one_line line l m first second = line-unique l m first.is_line second.is_line (s
 -- a query is no request
 pub no_query : (line : List ℕ) (query : Query) (stamp : ℕ) (name : List ℕ) (c : Request Command) → SpellsLine line (L.Query query) → SpellsLine line (L.Request stamp name c) → ⊥
 no_query line query stamp name c first second = absurd (cc (one_line line (L.Query query) (L.Request stamp name c) first second))
+
+-- nor is a line that asks for the best run
+pub no_best : (line : List ℕ) (at : ℕ) (table : List ℕ) (corp : Corp) (stamp : ℕ) (name : List ℕ) (c : Request Command)
+    → SpellsLine line (L.Best at table corp) → SpellsLine line (L.Request stamp name c) → ⊥
+no_best line at table corp stamp name c first second =
+    absurd (cc (one_line line (L.Best at table corp) (L.Request stamp name c) first second))

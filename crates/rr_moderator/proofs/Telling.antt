@@ -4,6 +4,8 @@ use Rattle.std.specs.Fmt.{digits}
 use Rattle.rr_kit.specs.declared.kit.Kit.{Kit}
 use Rattle.rr_kit.specs.declared.fault.Fault as kit
 use Rattle.rr_kit.specs.declared.fault.Fault.TheVariants as I
+use Rattle.rr_rules.specs.declared.fault.Fault as rules
+use Rattle.rr_rules.specs.declared.fault.Fault.TheVariants as U
 use Rattle.rr_game.specs.declared.fault.Fault as game
 use Rattle.rr_game.specs.declared.fault.Fault.TheVariants as G
 use Rattle.rr_hist.specs.declared.fault.Fault as hist
@@ -27,17 +29,24 @@ use Rattle.rr_moderator.specs.declared.fault.Fault.TheVariants as F
 use Rattle.rr_moderator.specs.Answer.{accepted_text, answer_of}
 use Rattle.rr_moderator.specs.Durability.{CountsTold, tells_acceptance, tells_full}
 use Rattle.rr_moderator.specs.Fault.{of_store, refusal_of}
-use Rattle.rr_moderator.specs.Queries.{Answer, answer_of_named, answer_of_table, asked_answer, cash_answer, due_answer, holds_answer, limit_answer, order_answer, price_answer, privates_answer, query_text, reply_of, stamp_answer, turns_answer}
+use Rattle.rr_moderator.specs.Queries.{Answer, answer_of_named, answer_of_table, asked_answer, cash_answer, due_answer, holds_answer, iou_answer, limit_answer, order_answer, phase_answer, price_answer, privates_answer, query_text, reply_of, stamp_answer, trains_answer, turns_answer, worth_answer}
 
 counts_kit : (old new : ℕ) (fault : kit.Fault) → new ≡ old → CountsTold old new (tells_failure (refusal_of (F.Kit fault)))
 unfolding digits
 counts_kit old new I.BadRoster h = h
 counts_kit old new _ h = h
 
+counts_rules : (old new : ℕ) (fault : rules.Fault) → new ≡ old → CountsTold old new (tells_failure (refusal_of (F.Game (G.Rules fault))))
+unfolding digits
+counts_rules old new U.NoSuchName h = h
+counts_rules old new _ h = h
+
 counts_game : (old new : ℕ) (fault : game.Fault) → new ≡ old → CountsTold old new (tells_failure (refusal_of (F.Game fault)))
 unfolding digits
+counts_game old new (G.Rules fault) h = counts_rules old new fault h
+counts_game old new G.GameOver h = h
 counts_game old new G.NoSuchName h = h
-counts_game old new _ h = h
+counts_game old new G.OutOfMemory h = h
 
 -- a count that follows a fault follows the reply that refuses by it
 pub counts_told : (old new : ℕ) (fault : store.Fault) → CountsFailure old new fault → CountsTold old new (tells_failure (refusal_of (of_store fault)))
@@ -52,11 +61,12 @@ abbrev pub SaysNeither : List ℕ → Type 0
 SaysNeither reply = (tells_failure reply ≡ false) × (tells_full reply ≡ false) × (tells_acceptance reply ≡ false)
 
 -- an acceptance says the last, and neither of the others
-pub accepted_told : (name : List ℕ) (stamp : ℕ) → tells_acceptance (accepted_text name stamp) ≡ true
-accepted_told name stamp = refl
+pub accepted_told : (kit : Kit) (name : List ℕ) (t : TableState) (c : Request Command) → tells_acceptance (accepted_text kit name t c) ≡ true
+accepted_told kit name t c = refl
 
-pub accepted_calm : (name : List ℕ) (stamp : ℕ) → (tells_failure (accepted_text name stamp) ≡ false) × (tells_full (accepted_text name stamp) ≡ false)
-accepted_calm name stamp = (refl, refl)
+pub accepted_calm : (kit : Kit) (name : List ℕ) (t : TableState) (c : Request Command)
+    → (tells_failure (accepted_text kit name t c) ≡ false) × (tells_full (accepted_text kit name t c) ≡ false)
+accepted_calm kit name t c = (refl, refl)
 
 -- no refusal says that a request was taken
 pub refusal_calm : (fault : Fault) → tells_acceptance (refusal_of fault) ≡ false
@@ -105,10 +115,17 @@ calm_if : (b : Bool) (o p : Option store.Fault) → IsCalm o → IsCalm p → Is
 calm_if true o p h k = h
 calm_if false o p h k = k
 
+rules_calm : (fault : rules.Fault) → SaysNeither (refusal_of (F.Game (G.Rules fault)))
+unfolding digits
+rules_calm U.NoSuchName = (refl, refl, refl)
+rules_calm _ = (refl, refl, refl)
+
 game_calm : (fault : game.Fault) → SaysNeither (refusal_of (F.Game fault))
 unfolding digits
+game_calm (G.Rules fault) = rules_calm fault
+game_calm G.GameOver = (refl, refl, refl)
 game_calm G.NoSuchName = (refl, refl, refl)
-game_calm _ = (refl, refl, refl)
+game_calm G.OutOfMemory = (refl, refl, refl)
 
 table_calm : (o : Option hist.Fault) → IsCalm (option_map of_table o)
 unfolding digits
@@ -178,3 +195,7 @@ query_calm kit tables (Q.Holds table player corp) = table_answer_calm (holds_ans
 query_calm kit tables (Q.Price table corp) = table_answer_calm (price_answer kit corp) (table_named tables table) (λ t. words_calm _)
 query_calm kit tables (Q.Order table) = table_answer_calm (order_answer kit) (table_named tables table) (λ t. words_calm _)
 query_calm kit tables (Q.Privates table of) = table_answer_calm (privates_answer kit of) (table_named tables table) (λ t. named_calm _)
+query_calm kit tables (Q.Phase table) = table_answer_calm (phase_answer kit) (table_named tables table) (λ t. (refl, refl, refl))
+query_calm kit tables (Q.Trains table of) = table_answer_calm (trains_answer kit of) (table_named tables table) (λ t. words_calm _)
+query_calm kit tables (Q.Iou table) = table_answer_calm (iou_answer kit) (table_named tables table) (λ t. (refl, refl, refl))
+query_calm kit tables (Q.Worth table player) = table_answer_calm (worth_answer kit player) (table_named tables table) (λ t. named_calm _)

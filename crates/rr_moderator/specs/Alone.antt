@@ -26,11 +26,16 @@ query_table (Q.Privates table of) = Some table
 query_table (Q.Holds table player corp) = Some table
 query_table (Q.Price table corp) = Some table
 query_table (Q.Order table) = Some table
+query_table (Q.Phase table) = Some table
+query_table (Q.Trains table of) = Some table
+query_table (Q.Iou table) = Some table
+query_table (Q.Worth table player) = Some table
 
 -- the table that a line names, if it names one
 abbrev pub line_table : Line → Option (List ℕ)
 line_table (L.Request stamp table request) = Some table
 line_table (L.Query query) = query_table query
+line_table (L.Best stamp table corp) = Some table
 
 abbrev pub Names : List ℕ → List ℕ → Type 0
 Names name line = (l : Line) × SpellsLine line l × (line_table l ≡ Some name)

@@ -1,5 +1,5 @@
 -- The replies to what isn't refused.
-use Rattle.std.specs.Prelude.{ℕ, List, [], ◌∷◌, ◌++◌, Option, None, Some, codes, decimal, filter}
+use Rattle.std.specs.Prelude.{ℕ, Bool, true, false, List, [], ◌∷◌, ◌++◌, Option, None, Some, codes, decimal, filter, if◌then◌else◌}
 use Rattle.std.specs.List.{flat_map}
 use Rattle.std.specs.Fmt.{signed_decimal}
 use Rattle.rr_roster.specs.declared.company.Private.{Private}
@@ -9,14 +9,33 @@ use Rattle.rr_books.specs.declared.parties.Money.{Money}
 use Rattle.rr_books.specs.declared.parties.Place.{Place}
 use Rattle.rr_books.specs.declared.certificates.Cert.TheVariants as C
 use Rattle.rr_books.specs.Shares.{Holders, is_at, privates}
-
--- the reply to an accepted request to a table, with the table's new stamp
-abbrev pub accepted_text : List ℕ → ℕ → List ℕ
-accepted_text table stamp = codes "ok " ++ table ++ codes " " ++ decimal stamp ++ codes "\n"
+use Rattle.rr_code.specs.declared.command.Command.{Command}
+use Rattle.rr_code.specs.declared.command.Command.TheVariants.{Order}
+use Rattle.rr_orders.specs.declared.order.Order.TheVariants as O
+use Rattle.rr_turns.specs.declared.request.Request.{Request}
+use Rattle.rr_turns.specs.declared.request.Request.TheVariants.{Play}
+use Rattle.rr_kit.specs.declared.kit.Kit.{Kit}
+use Rattle.rr_game.specs.Play.{play}
+use Rattle.rr_store.specs.World.{TableState}
 
 -- words, each behind a space
 abbrev pub spaced : List (List ℕ) → List ℕ
 spaced words = flat_map (λ word. codes " " ++ word) words
+
+-- the request runs a corporation's trains
+abbrev pub runs_trains : Request Command → Bool
+runs_trains (Play (Order (O.Run corp sheet))) = true
+runs_trains (Play (Order (O.RunBest corp sheet certificate))) = true
+runs_trains request = false
+
+-- what the trains earned, behind a run
+abbrev pub earned_words : Kit → TableState → Request Command → List (List ℕ)
+earned_words kit t request = if runs_trains request then signed_decimal (play kit t.commands).revenue.0 ∷ [] else []
+
+-- the reply to an accepted request to a table: with the table's new stamp, and behind a run what the trains earned
+abbrev pub accepted_text : Kit → List ℕ → TableState → Request Command → List ℕ
+accepted_text kit name t request =
+    codes "ok " ++ name ++ codes " " ++ decimal t.stamp ++ spaced (earned_words kit t request) ++ codes "\n"
 
 -- an answer without its LF: the sign and the words, a dash in the place of none
 abbrev pub answer_of : List (List ℕ) → List ℕ

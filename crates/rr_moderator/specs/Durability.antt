@@ -7,9 +7,9 @@ use Rattle.rr_kit.specs.Kits.{KitTexts, SpellsKit}
 use Rattle.rr_store.specs.declared.store.Store.{Store}
 use Rattle.rr_store.specs.Allowing.{BeforeOrAfter}
 use Rattle.rr_store.specs.Files.{StandsFor}
-use Rattle.rr_store.specs.Held.{Held, stamp_after, with_tables}
+use Rattle.rr_store.specs.Held.{Held, with_tables}
 use Rattle.rr_store.specs.Holding.{Carries, GoesBehind, IsFull, IsUnchanged, disk_of, held_of}
-use Rattle.rr_store.specs.World.{TableRequest, world_after}
+use Rattle.rr_store.specs.World.{TableRequest, state_after, table_named, world_after}
 use Rattle.rr_moderator.specs.declared.fault.Fault.TheVariants as F
 use Rattle.rr_moderator.specs.Answer.{accepted_text}
 use Rattle.rr_moderator.specs.Fault.{refusal_of}
@@ -34,7 +34,7 @@ pub record IsTaken (old : Held) (pending : Option TableRequest) (new : Held) (re
   pub asked : TableRequest
   pub pends : pending ≡ Some asked
   pub held : new ≡ with_tables old (world_after old.kit old.tables asked.name asked.request)
-  pub told : reply ≡ accepted_text asked.name (stamp_after old.kit old.tables asked.name asked.request)
+  pub told : reply ≡ accepted_text old.kit asked.name (state_after old.kit (table_named old.tables asked.name) asked.request) asked.request
 
 -- a device fault is counted exactly where the reply says that the device failed
 abbrev pub CountsTold : ℕ → ℕ → Bool → Type 0

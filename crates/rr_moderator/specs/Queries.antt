@@ -1,20 +1,27 @@
 -- The answers to queries, each from what its table keeps.
-use Rattle.std.specs.Prelude.{◌≡◌, ℕ, List, [], ◌∷◌, ◌++◌, Option, None, Some, Result, Ok, Err, MatchResult, codes, decimal, map, option_map}
+use Rattle.std.specs.Prelude.{◌≡◌, ℕ, List, [], ◌∷◌, ◌++◌, Option, None, Some, Result, Ok, Err, MatchResult, codes, decimal, map, option_map, replicate}
+use Rattle.std.specs.List.{flat_map}
 use Rattle.std.specs.Fmt.{signed_decimal}
 use Rattle.rr_roster.specs.declared.company.Corp.{Corp}
-use Rattle.rr_roster.specs.Company.{corp_name, private_name}
+use Rattle.rr_roster.specs.declared.company.Kind.{Kind}
+use Rattle.rr_roster.specs.Company.{corp_name, kind_name, kinds, private_name}
 use Rattle.rr_market.specs.Order.{operating_order}
 use Rattle.rr_kit.specs.declared.kit.Kit.{Kit}
 use Rattle.rr_books.specs.declared.parties.Party.{Party}
 use Rattle.rr_books.specs.declared.parties.Place.{Place}
-use Rattle.rr_books.specs.Book.{Book, balance, holder, players}
+use Rattle.rr_books.specs.Book.{Book, balance, holder, players, train_holder}
 use Rattle.rr_books.specs.Opening.{certificate_limit}
 use Rattle.rr_books.specs.declared.parties.Seat.{Seat}
-use Rattle.rr_auction.specs.declared.due.Due.{Due}
-use Rattle.rr_auction.specs.declared.due.Due.TheVariants as D
+use Rattle.rr_operations.specs.declared.turn.TurnStep.{TurnStep}
+use Rattle.rr_operations.specs.declared.turn.TurnStep.TheVariants as S
+use Rattle.rr_operations.specs.Phases.{TrainHolders, phase}
+use Rattle.rr_trains.specs.Places.{trains_at}
+use Rattle.rr_game.specs.declared.due.Due.{Due}
+use Rattle.rr_game.specs.declared.due.Due.TheVariants as D
 use Rattle.rr_auction.specs.Rules.{asked}
 use Rattle.rr_code.specs.declared.query.Account.{Account}
 use Rattle.rr_code.specs.declared.query.Owner.{Owner}
+use Rattle.rr_code.specs.declared.query.TrainHolder.{TrainHolder}
 use Rattle.rr_code.specs.declared.query.Query.{Query}
 use Rattle.rr_code.specs.declared.query.Query.TheVariants as Q
 use Rattle.rr_moderator.specs.declared.fault.Fault.{Fault}
@@ -22,9 +29,9 @@ use Rattle.rr_moderator.specs.declared.fault.Fault.TheVariants as F
 use Rattle.rr_moderator.specs.Answer.{answer_of, asked_words, owned, price_words}
 use Rattle.rr_moderator.specs.Fault.{refusal_of}
 use Rattle.rr_game.specs.declared.fault.Fault.TheVariants as G
-use Rattle.rr_game.specs.Names.{owner_place, party_of, player_word, seat_of}
+use Rattle.rr_game.specs.Names.{owner_place, party_of, player_word, seat_of, trains_place}
 use Rattle.rr_game.specs.Play.{play, players_of}
-use Rattle.rr_game.specs.Queries.{due, holding, quote}
+use Rattle.rr_game.specs.Queries.{due, holding, iou, quote, worth}
 use Rattle.rr_turns.specs.Turns.{ended_turns}
 use Rattle.rr_hist.specs.Playing.{ends_turn}
 use Rattle.rr_store.specs.World.{TableState, World, names, table_named}
@@ -45,7 +52,7 @@ answer_of_table answer (Some t) = answer t
 
 -- the book of a table
 abbrev pub book_of : Kit → TableState → Book
-book_of kit t = play kit t.commands
+book_of kit t = (play kit t.commands).book
 
 -- the stamp of a table
 abbrev pub stamp_answer : TableState → Answer
@@ -66,15 +73,25 @@ limit_answer kit t = Ok (decimal (certificate_limit (players (book_of kit t))) �
 abbrev pub asked_answer : Kit → TableState → Answer
 asked_answer kit t = Ok (asked_words (asked kit.roster (book_of kit t)))
 
--- who is due, and the step
+-- the word for a step of a corporation's turn
+abbrev pub step_word : TurnStep → List ℕ
+step_word S.Lay = codes "lay"
+step_word S.Station = codes "station"
+step_word S.Run = codes "run"
+step_word S.Pay = codes "pay"
+step_word S.Train = codes "train"
+
+-- who is due, and the step; or that the game is over
 abbrev pub due_words : List (List ℕ) → Due → List (List ℕ)
 due_words players (D.Turn seat) = player_word players seat ∷ codes "auction" ∷ []
 due_words players (D.Raise seat) = player_word players seat ∷ codes "raise" ∷ []
 due_words players (D.Par seat) = player_word players seat ∷ codes "par" ∷ []
 due_words players (D.Stock seat) = player_word players seat ∷ codes "stock" ∷ []
+due_words players (D.Operating corp step) = corp_name corp ∷ step_word step ∷ []
+due_words players D.Over = codes "over" ∷ []
 
 abbrev pub due_answer : Kit → TableState → Answer
-due_answer kit t = Ok (due_words (players_of t.commands) (due (book_of kit t)))
+due_answer kit t = Ok (due_words (players_of t.commands) (due kit.chart (book_of kit t)))
 
 -- the turns that have ended, and the least one to which the table can be taken back
 abbrev pub turns_answer : Kit → TableState → Answer
@@ -102,6 +119,31 @@ price_answer kit corp t = Ok (price_words (quote kit.chart (book_of kit t) corp)
 abbrev pub order_answer : Kit → TableState → Answer
 order_answer kit t = Ok (map corp_name (operating_order kit.chart (book_of kit t)))
 
+-- the phase
+abbrev pub phase_answer : Kit → TableState → Answer
+phase_answer kit t = Ok (kind_name (phase (train_holder (book_of kit t))) ∷ [])
+
+-- the trains at a place, a word for each, the smallest kind first
+abbrev pub trains_of : TrainHolders → Place → Kind → List (List ℕ)
+trains_of trains place kind = replicate (trains_at trains place kind) (kind_name kind)
+
+abbrev pub trains_words : TrainHolders → Place → List (List ℕ)
+trains_words trains place = flat_map (trains_of trains place) kinds
+
+abbrev pub trains_answer : Kit → TrainHolder → TableState → Answer
+trains_answer kit of t = Ok (trains_words (train_holder (book_of kit t)) (trains_place of))
+
+-- what the bank owes
+abbrev pub iou_answer : Kit → TableState → Answer
+iou_answer kit t = Ok (decimal (iou (book_of kit t)) ∷ [])
+
+-- what a player's cash, shares and privates are worth
+abbrev pub worth_words : Kit → Book → Seat → List (List ℕ)
+worth_words kit book seat = signed_decimal (worth kit book seat) ∷ []
+
+abbrev pub worth_answer : Kit → List ℕ → TableState → Answer
+worth_answer kit player t = answer_of_named (option_map (worth_words kit (book_of kit t)) (seat_of (players_of t.commands) player))
+
 -- the answer to a query
 abbrev pub query_answer : Kit → World → Query → Answer
 query_answer kit tables Q.Tables = Ok (names tables)
@@ -115,6 +157,10 @@ query_answer kit tables (Q.Privates table of) = answer_of_table (privates_answer
 query_answer kit tables (Q.Holds table player corp) = answer_of_table (holds_answer kit player corp) (table_named tables table)
 query_answer kit tables (Q.Price table corp) = answer_of_table (price_answer kit corp) (table_named tables table)
 query_answer kit tables (Q.Order table) = answer_of_table (order_answer kit) (table_named tables table)
+query_answer kit tables (Q.Phase table) = answer_of_table (phase_answer kit) (table_named tables table)
+query_answer kit tables (Q.Trains table of) = answer_of_table (trains_answer kit of) (table_named tables table)
+query_answer kit tables (Q.Iou table) = answer_of_table (iou_answer kit) (table_named tables table)
+query_answer kit tables (Q.Worth table player) = answer_of_table (worth_answer kit player) (table_named tables table)
 
 -- why there is no answer, if there is none
 abbrev pub fault_of : Answer → Option Fault

@@ -5,7 +5,9 @@ use Rattle.rr_code.specs.declared.line.Line.TheVariants as L
 use Rattle.rr_code.specs.Line.{SpellsLine}
 use Rattle.rr_store.specs.declared.fault.Fault as store
 use Rattle.rr_store.specs.Held.{Held, Takes}
-use Rattle.rr_store.specs.World.{TableRequest, judgement_in}
+use Rattle.rr_store.specs.World.{TableRequest, judgement_in, state_after, table_named}
+use Rattle.rr_code.specs.declared.command.Command.{Command}
+use Rattle.rr_turns.specs.declared.request.Request.{Request}
 use Rattle.rr_turns.specs.Judgement.{IsVerdict}
 use Rattle.rr_moderator.specs.declared.fault.Fault.{Fault}
 use Rattle.rr_moderator.specs.declared.fault.Fault.TheVariants as F
@@ -14,10 +16,11 @@ use Rattle.rr_moderator.specs.Fault.{of_serve, of_store, refusal_of}
 use Rattle.rr_moderator.specs.Answer.{accepted_text}
 use Rattle.rr_moderator.specs.Queries.{query_text}
 
--- the text of the reply to a request: its table and the new stamp; or why it is refused
-abbrev pub text_of : List ℕ → Result ℕ store.Fault → Result (List ℕ) Fault
-text_of name (Ok stamp) = Ok (accepted_text name stamp)
-text_of name (Err fault) = Err (of_store fault)
+-- the text of the reply to a request, by what was held before it: that the table took it, or why it is refused
+abbrev pub text_of : Held → List ℕ → Request Command → Result ℕ store.Fault → Result (List ℕ) Fault
+text_of old name request (Ok stamp) =
+    Ok (accepted_text old.kit name (state_after old.kit (table_named old.tables name) request) request)
+text_of old name request (Err fault) = Err (of_store fault)
 
 -- the reply: the text, or the refusal
 abbrev pub reply_to : Result (List ℕ) Fault → List ℕ
@@ -27,8 +30,9 @@ reply_to (Err fault) = refusal_of fault
 -- what comes of a line that was read. A query changes nothing, and asks for no memory
 abbrev pub Meets : Held → Line → Held → Result (List ℕ) Fault → Type 0
 Meets old (L.Request stamp name request) new outcome =
-    (result : Result ℕ store.Fault) × Takes old stamp name request new result × (outcome ≡ text_of name result)
+    (result : Result ℕ store.Fault) × Takes old stamp name request new result × (outcome ≡ text_of old name request result)
 Meets old (L.Query query) new outcome = (new ≡ old) × (reply_to outcome ≡ query_text old.kit old.tables query)
+Meets old (L.Best stamp name corp) new outcome = (new ≡ old) × (outcome ≡ Err F.MalformedLine)
 
 -- what comes of a line
 pub data Responds (old : Held) (line : List ℕ) (new : Held) : Result (List ℕ) Fault → Type 0 where

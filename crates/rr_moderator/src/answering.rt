@@ -1,39 +1,42 @@
 // The answers to queries, and the reply to an accepted request.
-ghost use Rattle.std.specs.Prelude.{◌≡◌, ◌≢◌, false, ◌+◌, ◌*◌, ◌≤◌, ◌++◌, List, ℕ, [], ◌∷◌, MatchResult, codes, filter, length, map, slice_get, take};
+ghost use Rattle.std.specs.Prelude.{◌≡◌, ◌≢◌, false, ◌+◌, ◌*◌, ◌≤◌, ◌++◌, List, ℕ, [], ◌∷◌, MatchResult, codes, decimal, filter, length, map, replicate, slice_get, take};
 ghost use Rattle.std.specs.Option.{option_copied};
 ghost use Rattle.rr_books.specs.Shares.{is_at};
-ghost use Rattle.rr_roster.specs.Company.{corp_name, private_name};
+ghost use Rattle.rr_roster.specs.Company.{corp_name, kind_name, private_name};
 ghost use Rattle.rr_books.specs.State.{holder_in};
-ghost use Rattle.rr_moderator.specs.Answer.{accepted_text, answer_of, asked_words, owned, price_words, spaced};
+ghost use Rattle.rr_moderator.specs.Answer.{answer_of, asked_words, owned, price_words, runs_trains, spaced};
 ghost use Rattle.rr_hist.specs.Tables.{IsPlayed, kept_in};
 ghost use Rattle.rr_store.specs.Holding.{held_of};
 ghost use Rattle.rr_store.specs.World.{names};
-ghost use Rattle.rr_game.specs.Names.{player_word};
-ghost use Rattle.rr_moderator.specs.Queries.{Writes, asked_answer, cash_answer, due_answer, due_words, holds_answer, limit_answer, order_answer, price_answer, privates_answer, query_answer, query_text, query_verdict, reply_of, stamp_answer, turns_answer};
+ghost use Rattle.rr_books.specs.Book.{Book, train_holder};
+ghost use Rattle.rr_position.specs.Position.{IsPositionOf};
+ghost use Rattle.rr_game.specs.Names.{player_word, trains_place};
+ghost use Rattle.rr_moderator.specs.Queries.{Writes, asked_answer, cash_answer, due_answer, due_words, holds_answer, iou_answer, limit_answer, order_answer, phase_answer, price_answer, privates_answer, query_answer, query_text, query_verdict, reply_of, stamp_answer, step_word, trains_answer, trains_words, turns_answer, worth_answer};
 
 use crate::fault::Fault;
 use crate::reply::Reply;
-use rr_auction::Due;
 use rr_books::{Cell, Cert, Money, Place, Seat};
-use rr_code::{Account, Owner, Query};
+use rr_code::{Account, Command, Owner, Query, Request, TrainHolder};
 use rr_disk::Disk;
-use rr_game::Game;
+use rr_game::{Due, Game};
 use rr_kit::Kit;
-use rr_roster::{Corp, Private};
+use rr_operations::TurnStep;
+use rr_orders::Order;
+use rr_roster::{Corp, Kind, Private};
 use rr_store::{Store, Table};
 use rr_words::Name;
 
 impl Reply {
-    /// The reply to an accepted request.
+    /// The reply to an accepted request, as far as it tells the table and its new stamp.
     pub(crate) fn accept(&mut self, table: &Name, stamp: u64)
-        ensures { self.new ≡ accepted_text table.now stamp }
+        ensures text { self.new ≡ codes "ok " ++ table.now ++ codes " " ++ decimal stamp }
+        ensures bounded { length self.new ≤ 60 }
     {
         self.clear();
         self.text(b"ok ");
         self.text(table.as_bytes());
         self.text(b" ");
         self.number(stamp);
-        self.text(b"\n");
     }
 
     /// The name of a corporation, behind a space.
@@ -53,6 +56,16 @@ impl Reply {
     {
         self.word(private.name().as_bytes());
     }
+}
+
+/// Whether the request runs a corporation's trains.
+pub(crate) fn runs_trains(request: &Request<Command>) -> bool
+    ensures { result ≡ runs_trains request.now }
+{
+    matches!(
+        request,
+        Request::Play(Command::Order(Order::Run { .. } | Order::RunBest { .. }))
+    )
 }
 
 /// Writes the answer to a query. It asks for no memory.
@@ -101,7 +114,7 @@ fn write_answer<D: Disk + Drop>(
             Ok(())
         }
         Query::Due { table } => {
-            write_table_due(store.table(table)?, reply);
+            write_table_due(store.table(table)?, store.kit(), reply);
             Ok(())
         }
         Query::Cash { table, of } => write_cash(store.table(table)?, of, reply),
@@ -126,6 +139,21 @@ fn write_answer<D: Disk + Drop>(
         Query::Order { table } => {
             write_order(store.table(table)?, store.kit(), reply);
             Ok(())
+        }
+        Query::Phase { table } => {
+            write_phase(store.table(table)?, reply);
+            Ok(())
+        }
+        Query::Trains { table, of } => {
+            write_trains(store.table(table)?, *of, reply);
+            Ok(())
+        }
+        Query::Iou { table } => {
+            write_iou(store.table(table)?, reply);
+            Ok(())
+        }
+        Query::Worth { table, player } => {
+            write_worth(store.table(table)?, player, store.kit(), reply)
         }
     }
 }
@@ -204,14 +232,14 @@ fn write_turns(table: &Table, reply: &mut Reply)
     reply.number(table.floor());
 }
 
-/// Writes who is due, and the step.
-fn write_table_due(table: &Table, reply: &mut Reply)
+/// Writes who is due, and the step; or that the game is over.
+fn write_table_due(table: &Table, kit: &Kit, reply: &mut Reply)
     requires { reply.old ≡ [] }
-    ensures text { (kit : Kit) → IsPlayed kit table.now →
-        reply_of (due_answer kit (kept_in table.now)) ≡ reply.new ++ codes "\n" }
+    ensures text { IsPlayed kit.now table.now →
+        reply_of (due_answer kit.now (kept_in table.now)) ≡ reply.new ++ codes "\n" }
     ensures bounded { length reply.new ≤ 40 }
 {
-    write_due(table.game(), table.game().due(), reply);
+    write_due(table.game(), table.game().due(kit), reply);
 }
 
 /// Writes what an account has.
@@ -337,7 +365,123 @@ fn write_due(game: &Game, due: Due, reply: &mut Reply)
         Due::Raise(seat) => write_step(game, seat, b"raise", reply),
         Due::Par(seat) => write_step(game, seat, b"par", reply),
         Due::Stock(seat) => write_step(game, seat, b"stock", reply),
+        Due::Operating(corp, step) => write_operating_step(corp, step, reply),
+        Due::Over => reply.text(b"= over"),
     }
+}
+
+/// Writes the name of a corporation, and the step of its turn.
+fn write_operating_step(corp: Corp, step: TurnStep, reply: &mut Reply)
+    requires { reply.old ≡ [] }
+    ensures text { reply.new ≡ answer_of (corp_name corp ∷ step_word step ∷ []) }
+    ensures bounded { length reply.new ≤ 40 }
+{
+    reply.text(b"=");
+    reply.corp(corp);
+    reply.word(step_word(step));
+}
+
+/// The word for a step of a corporation's turn.
+fn step_word(step: TurnStep) -> &'static [u8]
+    ensures word { result.now ≡ step_word step }
+    ensures short { length result.now ≤ 10 }
+{
+    match step {
+        TurnStep::Lay => b"lay",
+        TurnStep::Station => b"station",
+        TurnStep::Run => b"run",
+        TurnStep::Pay => b"pay",
+        TurnStep::Train => b"train",
+    }
+}
+
+/// Writes the phase.
+fn write_phase(table: &Table, reply: &mut Reply)
+    requires { reply.old ≡ [] }
+    ensures text { (kit : Kit) → IsPlayed kit table.now →
+        reply_of (phase_answer kit (kept_in table.now)) ≡ reply.new ++ codes "\n" }
+    ensures bounded { length reply.new ≤ 40 }
+{
+    write_kind(table.game().phase(), reply);
+}
+
+/// Writes the name of a kind of train.
+fn write_kind(kind: Kind, reply: &mut Reply)
+    requires { reply.old ≡ [] }
+    ensures text { reply.new ≡ answer_of (kind_name kind ∷ []) }
+    ensures bounded { length reply.new ≤ 40 }
+{
+    reply.text(b"=");
+    reply.word(kind.name().as_bytes());
+}
+
+/// Writes the trains of a corporation or of the pool.
+fn write_trains(table: &Table, of: TrainHolder, reply: &mut Reply)
+    requires { reply.old ≡ [] }
+    ensures text { (kit : Kit) → IsPlayed kit table.now →
+        reply_of (trains_answer kit of (kept_in table.now)) ≡ reply.new ++ codes "\n" }
+    ensures bounded { length reply.new ≤ 400 }
+{
+    write_trains_of(table.game(), of, reply);
+}
+
+/// Writes the trains of a corporation or of the pool, the smallest kind first.
+fn write_trains_of(game: &Game, of: TrainHolder, reply: &mut Reply)
+    requires { reply.old ≡ [] }
+    ensures text { (book : Book) → IsPositionOf book game.now.standing.position →
+        reply.new ≡ answer_of (trains_words (train_holder book) (trains_place of)) }
+    ensures bounded { length reply.new ≤ 400 }
+{
+    reply.text(b"=");
+    for kind in &Kind::ALL {
+        write_kinds(*kind, game.trains(of, *kind), reply);
+    }
+    write_nothing(reply);
+}
+
+/// Writes the name of a kind of train behind a space.
+fn write_one(kind: Kind, reply: &mut Reply)
+    requires { length reply.old ≤ 4090 }
+    ensures text { reply.new ≡ reply.old ++ (codes " " ++ kind_name kind) }
+    ensures bounded { length reply.new ≡ length reply.old + 2 }
+{
+    reply.word(kind.name().as_bytes());
+}
+
+/// Writes a word for each train of a kind, behind a space each.
+fn write_kinds(kind: Kind, count: u8, reply: &mut Reply)
+    requires few { count ≤ 20 }
+    requires room { length reply.old ≤ 4000 }
+    ensures text { reply.new ≡ reply.old ++ spaced (replicate count (kind_name kind)) }
+    ensures bounded { length reply.new ≤ length reply.old + 3 * count }
+{
+    for _written in 0..count {
+        write_one(kind, reply);
+    }
+}
+
+/// Writes what the bank owes.
+fn write_iou(table: &Table, reply: &mut Reply)
+    requires { reply.old ≡ [] }
+    ensures text { (kit : Kit) → IsPlayed kit table.now →
+        reply_of (iou_answer kit (kept_in table.now)) ≡ reply.new ++ codes "\n" }
+    ensures bounded { length reply.new ≤ 40 }
+{
+    reply.text(b"= ");
+    reply.number(table.game().iou());
+}
+
+/// Writes what a player's cash, shares and privates are worth.
+fn write_worth(table: &Table, player: &Name, kit: &Kit, reply: &mut Reply) -> Result<(), Fault>
+    requires { reply.old ≡ [] }
+    ensures answer { IsPlayed kit.now table.now →
+        Writes (worth_answer kit.now player.now (kept_in table.now)) result reply.new }
+    ensures bounded { length reply.new ≤ 40 }
+{
+    let worth = table.game().worth(player, kit)?;
+    reply.text(b"= ");
+    reply.signed(worth.0);
+    Ok(())
 }
 
 /// Writes the name of a seat's player, and what the seat is to do.
@@ -372,7 +516,7 @@ fn write_asked(asked: Option<(Private, Money)>, reply: &mut Reply)
 /// Writes the privates that are at a place.
 fn write_privates(game: &Game, place: Place, reply: &mut Reply)
     requires { reply.old ≡ [] }
-    ensures text { reply.new ≡ answer_of (map private_name (owned (holder_in game.now.position.books) place)) }
+    ensures text { reply.new ≡ answer_of (map private_name (owned (holder_in game.now.standing.position.books) place)) }
     ensures bounded { length reply.new ≤ 40 }
 {
     reply.text(b"=");
@@ -385,7 +529,7 @@ fn write_privates(game: &Game, place: Place, reply: &mut Reply)
 /// Writes the private's name behind a space, if it is at the place.
 fn write_owned(game: &Game, place: Place, private: Private, reply: &mut Reply)
     requires { length reply.old ≤ 4000 }
-    ensures text { reply.new ≡ reply.old ++ spaced (map private_name (filter (λ p. is_at (holder_in game.now.position.books (Cert.Private p)) place) (private ∷ []))) }
+    ensures text { reply.new ≡ reply.old ++ spaced (map private_name (filter (λ p. is_at (holder_in game.now.standing.position.books (Cert.Private p)) place) (private ∷ []))) }
     ensures bounded { length reply.new ≤ length reply.old + 5 }
 {
     if !game.owns(place, private) {

@@ -1,5 +1,5 @@
 ghost use Rattle.std.specs.Prelude.{◌≡◌, ◌+◌, ◌≤◌, ◌++◌, length};
-ghost use Rattle.rr_moderator.specs.Fault.{data_of, game_words, kit_data, kit_words, number_of, of_code, of_game, of_store, of_serve, refusal_of, words_of};
+ghost use Rattle.rr_moderator.specs.Fault.{data_of, game_data, game_words, kit_data, kit_words, number_of, of_code, of_game, of_store, of_serve, refusal_of, rule_words, words_of};
 ghost use Rattle.rr_moderator.specs.declared.fault.Fault.TheVariants.{OutOfMemory};
 
 use crate::reply::Reply;
@@ -109,10 +109,7 @@ impl Fault {
     {
         match *self {
             Fault::Kit(fault) => write_kit_data(fault, reply),
-            Fault::Game(rr_game::Fault::BidTooLow(least)) => {
-                reply.text(b" ");
-                reply.number(least);
-            }
+            Fault::Game(fault) => write_game_data(fault, reply),
             Fault::StaleStamp(number) => {
                 reply.text(b" ");
                 reply.number(number);
@@ -128,7 +125,7 @@ impl Fault {
     /// The words of the refusal, without those that follow them.
     fn words(&self) -> &'static str
         ensures value { result.now ≡ words_of self.now }
-        ensures short { length result.now ≤ 20 }
+        ensures short { length result.now ≤ 24 }
     {
         match self {
             Fault::Kit(fault) => kit_words(*fault),
@@ -155,7 +152,7 @@ impl Fault {
 /// The words of a refusal of a kit.
 fn kit_words(fault: rr_kit::Fault) -> &'static str
     ensures value { result.now ≡ kit_words fault }
-    ensures short { length result.now ≤ 20 }
+    ensures short { length result.now ≤ 24 }
 {
     match fault {
         rr_kit::Fault::BadChart { .. } => "bad chart",
@@ -167,28 +164,77 @@ fn kit_words(fault: rr_kit::Fault) -> &'static str
     }
 }
 
-/// The words of a refusal by the rules.
+/// The words of a refusal by the game.
 fn game_words(fault: rr_game::Fault) -> &'static str
     ensures value { result.now ≡ game_words fault }
-    ensures short { length result.now ≤ 20 }
+    ensures short { length result.now ≤ 24 }
 {
     match fault {
+        rr_game::Fault::GameOver => "game is over",
         rr_game::Fault::NoSuchName => "no such name",
-        rr_game::Fault::TooLittleCash => "too little cash",
-        rr_game::Fault::NotYourTurn => "not your turn",
-        rr_game::Fault::BidTooLow(_) => "bid too low",
-        rr_game::Fault::NotForSale => "not for sale",
-        rr_game::Fault::CashTiedUp => "cash tied up",
-        rr_game::Fault::CertificateLimit => "certificate limit",
-        rr_game::Fault::OverSixty => "over 60 percent",
-        rr_game::Fault::SoldThisRound => "sold this round",
-        rr_game::Fault::FirstStockRound => "first stock round",
-        rr_game::Fault::PoolOverHalf => "pool over 50 percent",
-        rr_game::Fault::SecondPurchase => "second buy",
-        rr_game::Fault::MustSellFirst => "must sell first",
-        rr_game::Fault::NotAPar => "not a par",
-        rr_game::Fault::WrongStep => "wrong step",
+        rr_game::Fault::Rules(fault) => rule_words(fault),
         rr_game::Fault::OutOfMemory => "out of memory",
+    }
+}
+
+/// The words of a refusal by the rules.
+fn rule_words(fault: rr_rules::Fault) -> &'static str
+    ensures value { result.now ≡ rule_words fault }
+    ensures short { length result.now ≤ 24 }
+{
+    match fault {
+        rr_rules::Fault::NoSuchName => "no such name",
+        rr_rules::Fault::TooLittleCash => "too little cash",
+        rr_rules::Fault::NotYourTurn => "not your turn",
+        rr_rules::Fault::BidTooLow(_) => "bid too low",
+        rr_rules::Fault::NotForSale => "not for sale",
+        rr_rules::Fault::CashTiedUp => "cash tied up",
+        rr_rules::Fault::CertificateLimit => "certificate limit",
+        rr_rules::Fault::OverSixty => "over 60 percent",
+        rr_rules::Fault::SoldThisRound => "sold this round",
+        rr_rules::Fault::FirstStockRound => "first stock round",
+        rr_rules::Fault::PoolOverHalf => "pool over 50 percent",
+        rr_rules::Fault::SecondPurchase => "second buy",
+        rr_rules::Fault::MustSellFirst => "must sell first",
+        rr_rules::Fault::NotAPar => "not a par",
+        rr_rules::Fault::ColourNotOpen => "colour not open",
+        rr_rules::Fault::TileGone => "tile gone",
+        rr_rules::Fault::NotAnUpgrade => "not an upgrade",
+        rr_rules::Fault::NotReached => "not reached",
+        rr_rules::Fault::BlockedHex => "blocked hex",
+        rr_rules::Fault::NoSlot => "no slot",
+        rr_rules::Fault::NoTokenLeft => "no token left",
+        rr_rules::Fault::IllegalSheet(_) => "illegal sheet",
+        rr_rules::Fault::CertificateRefused => "certificate refused",
+        rr_rules::Fault::WrongStep => "wrong step",
+        rr_rules::Fault::TrainLimit => "train limit",
+        rr_rules::Fault::NotOnSale => "not on sale",
+        rr_rules::Fault::PriceOutOfBounds => "price out of bounds",
+        rr_rules::Fault::MustDiscardFirst => "must discard first",
+        rr_rules::Fault::MustOwnTrain => "must own a train",
+        rr_rules::Fault::SaleNotNeeded => "sale not needed",
+        rr_rules::Fault::PresidencyWouldChange => "presidency would change",
+        rr_rules::Fault::NotBankrupt => "not bankrupt",
+        rr_rules::Fault::OutOfMemory => "out of memory",
+    }
+}
+
+/// What follows the words of a refusal by the game: the least lawful bid, or the clause that a sheet breaks.
+fn write_game_data(fault: rr_game::Fault, reply: &mut Reply)
+    requires { length reply.old ≤ 50 }
+    ensures text { reply.new ≡ reply.old ++ game_data fault }
+    ensures bounded { length reply.new ≤ length reply.old + 42 }
+{
+    match fault {
+        rr_game::Fault::Rules(rr_rules::Fault::BidTooLow(least)) => {
+            reply.text(b" ");
+            reply.number(least);
+        }
+        rr_game::Fault::Rules(rr_rules::Fault::IllegalSheet(clause)) => {
+            reply.text(b" ");
+            reply.number(u64::from(clause.number()));
+        }
+        _ => {}
     }
 }
 

@@ -9,7 +9,9 @@ use rr_disk::Disk;
 /// same, so are the replies to them, whatever lines for other tables come between.
 pub fn alone()
     ensures { Alone }
-{}
+{
+    rr_hist::laws::requests_have_one_verdict();
+}
 
 /// However many lines are answered, no reply says that the device failed while the device works: such a failure is never
 /// of the moderator's own making.

@@ -1,4 +1,4 @@
-ghost use Rattle.std.specs.Prelude.{◌≡◌, ◌⊎◌, ◌+◌, ◌≤◌, ℕ, List, [], Result, Ok, Err, false, OnOk, OnErr, IfOk, IfErr};
+ghost use Rattle.std.specs.Prelude.{◌≡◌, ◌⊎◌, ◌+◌, ◌++◌, ◌≤◌, ℕ, List, [], Result, Ok, Err, Some, false, OnOk, OnErr, IfOk, IfErr, codes, length};
 ghost use Rattle.std.specs.Borrow.{sem};
 ghost use Rattle.std.specs.Io.BufRead.{Rests};
 ghost use Rattle.rr_code.specs.Request.{IsRequest};
@@ -18,13 +18,15 @@ ghost use Rattle.rr_store.specs.Fault.{CountsFailure, OnDevice};
 ghost use Rattle.rr_store.specs.Files.{RefusesOpening};
 ghost use Rattle.rr_store.specs.Holding.{Carries, IsUnchanged};
 ghost use Rattle.rr_store.specs.Holding as held_in;
-ghost use Rattle.rr_store.specs.World.{Follows, TableRequest};
+ghost use Rattle.rr_store.specs.World.{Follows, TableRequest, TableState, table_named};
+ghost use Rattle.rr_game.specs.Play.{play};
+ghost use Rattle.std.specs.Fmt.{signed_decimal};
 ghost use Rattle.rr_moderator.specs.Durability.{Lasts, Opens, SpeaksAndLasts, StandsAlong, told};
 ghost use Rattle.rr_moderator.specs.Holding.{disk_under, held_of, last_reply, spoken_of, store_of, told_of};
 ghost use Rattle.rr_moderator.specs.Serving.{Answers, EndsAs, MayAppend, Responds, Speaks, outcome_of, reply_to, said, text_of};
 ghost use Rattle.rr_moderator.specs.contracts.moderator.Moderator.{the_row};
 
-use crate::answering::answer;
+use crate::answering::{answer, runs_trains};
 use crate::fault::Fault;
 use crate::reply::Reply;
 use rr_code::{Command, Line, Request};
@@ -222,6 +224,7 @@ impl<D: Disk + Drop> State<D> {
         if self.store.is_broken() {
             return Err(Fault::OpenAgain);
         }
+        rr_hist::laws::requests_have_one_verdict();
         match read {
             Line::Request {
                 stamp,
@@ -229,6 +232,7 @@ impl<D: Disk + Drop> State<D> {
                 request,
             } => self.commit(stamp, &table, &request),
             Line::Query(query) => answer(&self.store, &query, &mut self.reply),
+            Line::Best { .. } => Err(Fault::MalformedLine),
         }
     }
 
@@ -238,10 +242,29 @@ impl<D: Disk + Drop> State<D> {
         requires request { IsRequest request.now }
         ensures { (taking : Result ℕ stored.Fault)
             × Commits D.Honest D.Works D.state D.past D.fault_count D.write_count D.sync_count self.old.store table.now stamp request.now self.new.store taking
-            × (outcome_of result self.new.reply ≡ text_of table.now taking) }
+            × (outcome_of result self.new.reply ≡ text_of (held_in.held_of self.old.store) table.now request.now taking) }
     {
         let stamp = self.store.commit(table, stamp, request)?;
         self.reply.accept(table, stamp);
+        if runs_trains(request) {
+            self.tell_revenue(table);
+        }
+        self.reply.text(b"\n");
         Ok(())
+    }
+
+    /// What the trains earned that ran last, behind a space.
+    fn tell_revenue(&mut self, name: &Name)
+        requires room { length self.old.reply ≤ 60 }
+        requires whole { (held_in.held_of self.old.store).broken ≡ false }
+        ensures told { (t : TableState) → table_named (held_in.held_of self.old.store).tables name.now ≡ Some t
+            → self.new.reply ≡ self.old.reply ++ (codes " " ++ signed_decimal (play (held_in.held_of self.old.store).kit t.commands).revenue.0) }
+        ensures bounded { length self.new.reply ≤ length self.old.reply + 21 }
+        ensures store { self.new.store ≡ self.old.store }
+    {
+        if let Ok(table) = self.store.table(name) {
+            self.reply.text(b" ");
+            self.reply.signed(table.game().revenue().0);
+        }
     }
 }

@@ -1,11 +1,17 @@
 //! A corporation that must own a train and can't pay it.
 ghost use Rattle.std.specs.Prelude.{◌<◌};
 ghost use Rattle.rr_books.specs.State.{party_index};
+ghost use Rattle.rr_forced.specs.Small.{IsSmall};
 
-use crate::fixtures::{A, ROSTER, position};
-use rr_books::{Act, Cell, Cert, Corp, Entry, Kind, Marker, Money, Party, Place, TrainSource};
+use crate::fixtures::{A, B, ROSTER, position};
+use rr_books::{
+    Act, Cell, Cert, Corp, Entry, Kind, Marker, Money, Party, Place, Seat, ShareNumber, Train,
+    TrainSource,
+};
 use rr_desk::{Desk, Position};
-use rr_forced::laws::worked_force;
+use rr_forced::laws::{
+    one_share_suffices, worked_bankruptcy, worked_force, worked_presidency, worked_raise,
+};
 use rr_forced::{Fault, TrainOnSale, judge, needed_train, play};
 use rr_kit::Kit;
 use rr_words::HexName;
@@ -22,7 +28,14 @@ const TILES: &[u8] = b"yellow 7 x4 0-1
 ";
 
 fn kit(rt: &impl Abort, alloc: Global) -> Kit {
-    Kit::read(alloc, b"100p\n", ROSTER.as_bytes(), TILES, BOARD.as_bytes()).expect(rt, "a kit")
+    Kit::read(
+        alloc,
+        b"100p\n90\n",
+        ROSTER.as_bytes(),
+        TILES,
+        BOARD.as_bytes(),
+    )
+    .expect(rt, "a kit")
 }
 
 fn pay(rt: &impl Abort, table: &mut Position, to: Party, amount: u16)
@@ -36,10 +49,21 @@ fn pay(rt: &impl Abort, table: &mut Position, to: Party, amount: u16)
     table.follow(&pay).expect(rt, "room");
 }
 
-fn float(rt: &impl Abort, table: &mut Position) {
-    let corp = Corp::Prr;
+/// The corporation's token stands at 100.
+fn mark(rt: &impl Abort, table: &mut Position, corp: Corp) {
     let cell = Cell { row: 0, column: 0 };
     table.follow(&Entry::Mark { corp, cell }).expect(rt, "room");
+}
+
+/// A 10% certificate of the corporation goes to a place.
+fn share(rt: &impl Abort, table: &mut Position, corp: Corp, number: ShareNumber, to: Place) {
+    let cert = Cert::Share(corp, number);
+    table.follow(&Entry::Move { cert, to }).expect(rt, "room");
+}
+
+fn float(rt: &impl Abort, table: &mut Position) {
+    let corp = Corp::Prr;
+    mark(rt, table, corp);
     table
         .follow(&Entry::Step(Marker::Float(corp)))
         .expect(rt, "room");
@@ -91,10 +115,12 @@ fn fault(rt: &impl Abort, alloc: Global, table: &Position, act: &Act) -> u8 {
 }
 
 /// How many entries a command adds, and the table behind it.
-fn with(rt: &impl Abort, alloc: Global, table: Position, act: &Act) -> (usize, Position) {
+fn with(rt: &impl Abort, alloc: Global, table: Position, act: &Act) -> (usize, Position)
+    requires { IsSmall act.now }
+{
     let mut desk = Desk::new(alloc, table);
     let kit = kit(rt, alloc);
-    play(kit.roster(), &mut desk, act).expect(rt, "memory");
+    play(kit.roster(), kit.chart(), &mut desk, act).expect(rt, "memory");
     let (position, entries) = desk.into_parts();
     (entries.as_slice().len(), position)
 }
@@ -140,13 +166,131 @@ fn a_president_with_too_little_is_refused(rt: HostRuntime) {
     let force = Act::Force { corp };
     assert!(rt; amounts(&rt, alloc, &table) == Some([80, 30, 5]));
     assert_eq!(rt; fault(&rt, alloc, &table, &force), 2);
-    assert_eq!(rt; fault(&rt, alloc, &table, &Act::Bankrupt { seat: A }), 42);
     pay(&rt, &mut table, Party::Corp(corp), 30);
     assert_eq!(rt; fault(&rt, alloc, &table, &force), 42);
     assert_eq!(rt; Fault::OutOfMemory.number(), 70);
 }
 
+/// The NYC gets this 2-train.
+fn give_two(rt: &impl Abort, table: &mut Position, number: u8) {
+    let train = Train {
+        kind: Kind::Two,
+        number,
+    };
+    assert!(rt; table.books().has_train(train));
+    let to = Place::Corp(Corp::Nyc);
+    table.follow(&Entry::Train { train, to }).expect(rt, "room");
+}
+
+fn raise(seat: Seat, corp: Corp, count: u64) -> Act {
+    Act::Raise { seat, corp, count }
+}
+
+/// PRR's president has 25 dollars and a share of the NYC, which stands at 100.
+fn with_a_share(rt: &impl Abort, alloc: Global) -> Position {
+    let mut table = in_need(rt, alloc, 25);
+    mark(rt, &mut table, Corp::Nyc);
+    share(rt, &mut table, Corp::Nyc, ShareNumber::One, Place::Seat(A));
+    table
+}
+
+#[test]
+fn a_president_sells_shares_for_a_train(rt: HostRuntime) {
+    let alloc = rt.alloc();
+    let table = with_a_share(&rt, alloc);
+    // B isn't the president; A has one share of the NYC, and nobody else has 20% of the PRR; and A isn't bankrupt.
+    assert_eq!(rt; fault(&rt, alloc, &table, &raise(B, Corp::Nyc, 1)), 20);
+    assert_eq!(rt; fault(&rt, alloc, &table, &raise(A, Corp::Nyc, 2)), 22);
+    assert_eq!(rt; fault(&rt, alloc, &table, &raise(A, Corp::Nyc, 0)), 22);
+    assert_eq!(rt; fault(&rt, alloc, &table, &raise(A, Corp::Prr, 1)), 22);
+    assert_eq!(rt; fault(&rt, alloc, &table, &Act::Bankrupt { seat: A }), 50);
+    assert_eq!(rt; fault(&rt, alloc, &table, &Act::Bankrupt { seat: B }), 20);
+    assert_eq!(rt; fault(&rt, alloc, &table, &raise(A, Corp::Nyc, 1)), 0);
+    let sale = Act::Raise {
+        seat: A,
+        corp: Corp::Nyc,
+        count: 1,
+    };
+    let (added, table) = with(&rt, alloc, table, &sale);
+    // Words, the share, the payment, and the mark.
+    assert_eq!(rt; added, 4);
+    assert_eq!(rt; table.books().balance(Party::Seat(A)).0, 125);
+    assert_eq!(rt; table.books().share(Place::Pool, Corp::Nyc), 10);
+    let kit = kit(&rt, alloc);
+    assert!(rt; table.market().price(kit.chart(), Corp::Nyc) == Some(90));
+    // 125 and 50 suffice for 80.
+    assert_eq!(rt; fault(&rt, alloc, &table, &raise(A, Corp::Prr, 1)), 48);
+    assert_eq!(rt; fault(&rt, alloc, &table, &Act::Bankrupt { seat: A }), 50);
+    assert_eq!(rt;
+        fault(&rt, alloc, &table, &Act::Force { corp: Corp::Prr }),
+        0
+    );
+}
+
+#[test]
+fn a_full_pool_takes_no_forced_sale(rt: HostRuntime) {
+    let alloc = rt.alloc();
+    let mut table = with_a_share(&rt, alloc);
+    share(&rt, &mut table, Corp::Nyc, ShareNumber::Two, Place::Pool);
+    share(&rt, &mut table, Corp::Nyc, ShareNumber::Three, Place::Pool);
+    share(&rt, &mut table, Corp::Nyc, ShareNumber::Four, Place::Pool);
+    share(&rt, &mut table, Corp::Nyc, ShareNumber::Five, Place::Pool);
+    assert_eq!(rt; fault(&rt, alloc, &table, &raise(A, Corp::Nyc, 1)), 0);
+    share(&rt, &mut table, Corp::Nyc, ShareNumber::Six, Place::Pool);
+    assert_eq!(rt; fault(&rt, alloc, &table, &raise(A, Corp::Nyc, 1)), 28);
+    assert_eq!(rt; fault(&rt, alloc, &table, &Act::Bankrupt { seat: A }), 0);
+}
+
+#[test]
+fn the_corporation_due_keeps_its_president(rt: HostRuntime) {
+    let alloc = rt.alloc();
+    let mut table = in_need(&rt, alloc, 25);
+    let corp = Corp::Prr;
+    share(&rt, &mut table, corp, ShareNumber::One, Place::Seat(A));
+    share(&rt, &mut table, corp, ShareNumber::Two, Place::Seat(B));
+    share(&rt, &mut table, corp, ShareNumber::Three, Place::Seat(B));
+    assert_eq!(rt; fault(&rt, alloc, &table, &raise(A, corp, 1)), 0);
+    share(&rt, &mut table, corp, ShareNumber::Four, Place::Seat(B));
+    // A would have 20%, and B has 30%.
+    assert_eq!(rt; fault(&rt, alloc, &table, &raise(A, corp, 1)), 49);
+    assert_eq!(rt; fault(&rt, alloc, &table, &Act::Bankrupt { seat: A }), 0);
+}
+
+#[test]
+fn a_president_is_bankrupt(rt: HostRuntime) {
+    let alloc = rt.alloc();
+    let table = in_need(&rt, alloc, 25);
+    assert!(rt; !table.operations().is_bankrupt());
+    assert_eq!(rt; fault(&rt, alloc, &table, &Act::Bankrupt { seat: A }), 0);
+    let (added, table) = with(&rt, alloc, table, &Act::Bankrupt { seat: A });
+    assert_eq!(rt; added, 1);
+    assert!(rt; table.operations().is_bankrupt());
+    assert_eq!(rt; table.books().balance(Party::Seat(A)).0, 25);
+}
+
+#[test]
+fn steps_and_limits_come_before_a_forced_sale(rt: HostRuntime) {
+    let alloc = rt.alloc();
+    let mut table = with_a_share(&rt, alloc);
+    table
+        .follow(&Entry::Step(Marker::Operating))
+        .expect(&rt, "room");
+    // The turn is at its tile.
+    assert_eq!(rt; fault(&rt, alloc, &table, &raise(A, Corp::Nyc, 1)), 42);
+    assert_eq!(rt; fault(&rt, alloc, &table, &Act::Bankrupt { seat: A }), 42);
+    for number in 1..=5 {
+        give_two(&rt, &mut table, number);
+    }
+    // Five trains are over the limit of four.
+    assert_eq!(rt; fault(&rt, alloc, &table, &raise(A, Corp::Nyc, 1)), 46);
+    assert_eq!(rt; fault(&rt, alloc, &table, &Act::Bankrupt { seat: A }), 46);
+}
+
 #[test]
 fn laws_are_called(_rt: HostRuntime) {
     worked_force();
+    worked_raise();
+    worked_presidency();
+    worked_bankruptcy();
+    one_share_suffices();
 }

@@ -2,6 +2,8 @@
 #![tactic(auto)]
 
 #[cfg(test)]
+mod best_runs;
+#[cfg(test)]
 mod depot;
 #[cfg(test)]
 mod dividends;

@@ -7,7 +7,7 @@ ghost use Rattle.rr_depot.specs.Small as depot;
 use crate::fixtures::{A, B, ROSTER};
 use rr_books::{Act, Corp, Kind, Party, Seat, ShareSource, TrainSource, Words};
 use rr_kit::Kit;
-use rr_rules::laws::acts_have_one_verdict;
+use rr_rules::laws::{acts_have_one_verdict, bankruptcy_ends_the_game};
 use rr_rules::{Fault, Standing};
 use rr_words::HexName;
 use std::alloc::Global;
@@ -236,4 +236,5 @@ fn what_a_run_earns_is_paid_out(rt: HostRuntime) {
 #[test]
 fn laws_are_called(_rt: HostRuntime) {
     acts_have_one_verdict();
+    bankruptcy_ends_the_game();
 }

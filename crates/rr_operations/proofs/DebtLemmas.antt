@@ -33,6 +33,7 @@ act_owed (A.RunBest c sheet certificate) p = refl
 act_owed (A.PayOut c) p = refl
 act_owed (A.Hold c) p = refl
 act_owed (A.End c) p = refl
+act_owed (A.Bankrupt s) p = refl
 act_owed _ p = refl
 
 round_owed : (now : Kind) (p : Progress) (b : Bool) → (if b then after_next_round p else after_first_round now p).bank_owed ≡ p.bank_owed

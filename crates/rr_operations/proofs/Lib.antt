@@ -6,4 +6,5 @@ pub mod StayLemmas
 pub mod TurnLemmas
 pub mod SetLemmas
 pub mod DebtLemmas
+pub mod BankruptcyLemmas
 pub mod WorkedRows

@@ -66,6 +66,7 @@ act_once (A.RunBest c sheet certificate) p = record { sets = omega arith; round 
 act_once (A.PayOut c) p = record { sets = omega arith; round = omega arith }
 act_once (A.Hold c) p = record { sets = omega arith; round = omega arith }
 act_once (A.End c) p = record { sets = omega arith; round = omega arith }
+act_once (A.Bankrupt s) p = record { sets = omega arith; round = omega arith }
 act_once _ p = same_counts p
 
 round_once : (now : Kind) (p : Progress) (b : Bool) → GrowsByOne p (if b then after_next_round p else after_first_round now p)
@@ -105,6 +106,7 @@ run_by_act (A.Lay c hex tile turn) p ran h = h
 run_by_act (A.Station c hex centre) p ran h = h
 run_by_act (A.PayOut c) p ran h = h
 run_by_act (A.Hold c) p ran h = h
+run_by_act (A.Bankrupt s) p ran h = h
 run_by_act _ p ran h = h
 
 run_by_round : (now : Kind) (p : Progress) (b : Bool) → (if b then after_next_round p else after_first_round now p).has_run ≡ false

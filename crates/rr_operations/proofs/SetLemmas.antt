@@ -31,6 +31,7 @@ act_goes_on (A.RunBest c sheet certificate) p h = record { operating = h; length
 act_goes_on (A.PayOut c) p h = record { operating = h; length = refl; round = omega arith }
 act_goes_on (A.Hold c) p h = record { operating = h; length = refl; round = omega arith }
 act_goes_on (A.End c) p h = record { operating = h; length = refl; round = omega arith }
+act_goes_on (A.Bankrupt s) p h = record { operating = h; length = refl; round = omega arith }
 act_goes_on _ p h = record { operating = h; length = refl; round = omega arith }
 
 next_goes_on : (now : Kind) (p : Progress) (b : Bool) → is_operating p.stage ≡ b → b ≡ true → GoesOn p (if b then after_next_round p else after_first_round now p) 1

@@ -45,6 +45,7 @@ act_still (A.RunBest c sheet certificate) p h = record { stage = refl; turns = r
 act_still (A.PayOut c) p h = record { stage = refl; turns = refl }
 act_still (A.Hold c) p h = record { stage = refl; turns = refl }
 act_still (A.End c) p h = absurd (false≢true (sym h))
+act_still (A.Bankrupt s) p h = record { stage = refl; turns = refl }
 act_still _ p h = still p
 
 entry_still : (now : Kind) (bank : ℤ) (p : Progress) (e : Entry) → begins_turn e ≡ false → ends_set e ≡ false → IsStill p (after_entry now bank p e)

@@ -35,6 +35,7 @@ act_rises (A.RunBest c sheet certificate) p h t = let at = leb-true (rank p.step
 act_rises (A.PayOut c) p h t = at_most_last p.step
 act_rises (A.Hold c) p h t = at_most_last p.step
 act_rises (A.End c) p h t = absurd (false≢true (sym h))
+act_rises (A.Bankrupt s) p h t = omega arith
 act_rises _ p h t = omega arith
 
 entry_rises : (now : Kind) (bank : ℤ) (p : Progress) (e : Entry) → begins_turn e ≡ false → is_taken p.step e ≡ true → rank p.step ≤ rank (after_entry now bank p e).step

@@ -70,6 +70,7 @@ act_adds (A.Run c sheet) p = nothing_added p.turns
 act_adds (A.RunBest c sheet certificate) p = nothing_added p.turns
 act_adds (A.PayOut c) p = nothing_added p.turns
 act_adds (A.Hold c) p = nothing_added p.turns
+act_adds (A.Bankrupt s) p = nothing_added p.turns
 act_adds _ p = nothing_added p.turns
 
 entry_adds : (now : Kind) (bank : ℤ) (p : Progress) (e : Entry) → begins_operating e ≡ false → Adds p.turns (after_entry now bank p e).turns (λ c. is_end_of c e)

@@ -82,3 +82,12 @@ pub record DebtsAreRemembered : Type 0 where
   pub told : (front rest : Book) → int_lt (balance front P.Bank) (pos 0) ≡ true → (progress (front ++ rest)).bank_owed ≡ true
   pub only : (book : Book) → (progress book).bank_owed ≡ true
       → (front : Book) × (rest : Book) × (front ++ rest ≡ book) × (int_lt (balance front P.Bank) (pos 0) ≡ true)
+
+-- the entry says that a seat is bankrupt
+abbrev pub is_bankruptcy : Entry → Bool
+is_bankruptcy (E.Step (M.Act (A.Bankrupt s))) = true
+is_bankruptcy _ = false
+
+-- a bankruptcy is told exactly where some entry of the book says so
+abbrev pub BankruptciesAreRemembered : Type 0
+BankruptciesAreRemembered = (book : Book) → (progress book).bankrupt ≡ list_any is_bankruptcy book

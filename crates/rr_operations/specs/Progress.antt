@@ -21,7 +21,7 @@ use Rattle.rr_operations.specs.Phases.{phase, rounds_in_set}
 
 -- what is under way; the sets of operating rounds that have begun, the rounds of the last set that have begun, and how
 -- many it has; which corporations had their turn in the last round; the step of the turn, and whether the trains ran in
--- it; and whether the bank's balance was negative after some entry
+-- it; whether the bank's balance was negative after some entry; and whether a seat said that it is bankrupt
 pub record Progress : Type 0 where
   pub stage : Stage
   pub sets : ℕ
@@ -31,6 +31,7 @@ pub record Progress : Type 0 where
   pub step : TurnStep
   pub has_run : Bool
   pub bank_owed : Bool
+  pub bankrupt : Bool
 
 -- before the first entry
 abbrev pub beginning : Progress
@@ -43,6 +44,7 @@ beginning = record {
   step = T.Lay;
   has_run = false;
   bank_owed = false;
+  bankrupt = false;
 }
 
 abbrev pub is_operating : Stage → Bool
@@ -85,6 +87,10 @@ after_run p = record p { step = T.Pay; has_run = true }
 abbrev pub after_end : Corp → Progress → Progress
 after_end c p = record p { turns = with_mark p.turns c; step = T.Lay; has_run = false }
 
+-- a seat said that it is bankrupt
+abbrev pub after_bankruptcy : Progress → Progress
+after_bankruptcy p = record p { bankrupt = true }
+
 -- a command was given; `best` stands in the book as the run that it found
 abbrev pub after_act : Act → Progress → Progress
 after_act (A.Lay c hex tile turn) p = record p { step = T.Station }
@@ -94,6 +100,7 @@ after_act (A.RunBest c sheet certificate) p = after_run p
 after_act (A.PayOut c) p = record p { step = T.Train }
 after_act (A.Hold c) p = record p { step = T.Train }
 after_act (A.End c) p = after_end c p
+after_act (A.Bankrupt s) p = after_bankruptcy p
 after_act _ p = p
 
 -- after what a step says, in a phase

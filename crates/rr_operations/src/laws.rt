@@ -1,5 +1,5 @@
 //! Laws of the definitions, each the contract of a function that does nothing.
-ghost use Rattle.rr_operations.specs.OperatingLaws.{DebtsAreRemembered, DueStays, SetsKeepTheirLength, StepsNeverGoBack, TurnsAreOfTheirRound, TurnsComeOnce};
+ghost use Rattle.rr_operations.specs.OperatingLaws.{BankruptciesAreRemembered, DebtsAreRemembered, DueStays, SetsKeepTheirLength, StepsNeverGoBack, TurnsAreOfTheirRound, TurnsComeOnce};
 ghost use Rattle.rr_operations.specs.WorkedRound.{WorkedRound};
 
 /// Where each command is one that the step takes, a turn's steps never go back.
@@ -30,6 +30,11 @@ pub fn sets_keep_their_length()
 /// The bank is told to have owed exactly where its balance was negative after some front of the book.
 pub fn debts_are_remembered()
     ensures { DebtsAreRemembered }
+{}
+
+/// A bankruptcy is told exactly where some entry of the book says so.
+pub fn bankruptcies_are_remembered()
+    ensures { BankruptciesAreRemembered }
 {}
 
 /// The PRR is due through all of its turn, whatever its token does; only in the next round the NYC comes first.

@@ -8,7 +8,7 @@ ghost use Rattle.rr_books.specs.State.{IsStateOf, cash_of, train_place_of};
 ghost use Rattle.rr_market.specs.State.{IsMarketOf};
 ghost use Rattle.rr_rounds.specs.Round.{IsRoundOf};
 ghost use Rattle.rr_operations.specs.Phases.{phase};
-ghost use Rattle.rr_operations.specs.Progress.{after_act, after_end, after_entry, after_operating, after_payment, after_run, after_step, beginning, had_turn, has_more_rounds, owes_after, progress, sheet_run};
+ghost use Rattle.rr_operations.specs.Progress.{after_act, after_bankruptcy, after_end, after_entry, after_operating, after_payment, after_run, after_step, beginning, had_turn, has_more_rounds, owes_after, progress, sheet_run};
 ghost use Rattle.rr_operations.specs.Due.{IsOperationsOf, begins_turn, due, due_in, first_waiting, is_waiting};
 
 use crate::phases::{phase, rounds_in_set};
@@ -35,6 +35,8 @@ pub struct Operations {
     step: TurnStep,
     has_run: bool,
     bank_owed: bool,
+    /// Whether a seat said that it is bankrupt.
+    bankrupt: bool,
     /// The tokens on the chart as the turn began.
     market: Market,
     /// The stock rounds as the turn began, which tell who had floated.
@@ -46,9 +48,9 @@ impl Model for Operations {
 
     ghost Value = { OnRounds };
 
-    ghost view = { λ o. record { progress = record { stage = o.stage; sets = o.sets; round = o.round; set_length = o.set_length; turns = o.turns; step = o.step; has_run = o.has_run; bank_owed = o.bank_owed }; market = o.market; stock = o.stock } };
+    ghost view = { λ o. record { progress = record { stage = o.stage; sets = o.sets; round = o.round; set_length = o.set_length; turns = o.turns; step = o.step; has_run = o.has_run; bank_owed = o.bank_owed; bankrupt = o.bankrupt }; market = o.market; stock = o.stock } };
 
-    ghost inverse = { λ v. record { stage = v.progress.stage; sets = v.progress.sets; round = v.progress.round; set_length = v.progress.set_length; turns = v.progress.turns; step = v.progress.step; has_run = v.progress.has_run; bank_owed = v.progress.bank_owed; market = v.market; stock = v.stock } };
+    ghost inverse = { λ v. record { stage = v.progress.stage; sets = v.progress.sets; round = v.progress.round; set_length = v.progress.set_length; turns = v.progress.turns; step = v.progress.step; has_run = v.progress.has_run; bank_owed = v.progress.bank_owed; bankrupt = v.progress.bankrupt; market = v.market; stock = v.stock } };
 }
 
 impl Operations {
@@ -68,6 +70,7 @@ impl Operations {
             step: TurnStep::Lay,
             has_run: false,
             bank_owed: false,
+            bankrupt: false,
             market: Market::new(),
             stock: Rounds::new(),
         }
@@ -159,6 +162,14 @@ impl Operations {
         ensures book { (book : Book) → IsOperationsOf book self.now → result ≡ (progress book).bank_owed }
     {
         self.bank_owed
+    }
+
+    /// Whether a seat said that it is bankrupt, which ends the game at once.
+    pub fn is_bankrupt(&self) -> bool
+        ensures shown { result ≡ self.now.progress.bankrupt }
+        ensures book { (book : Book) → IsOperationsOf book self.now → result ≡ (progress book).bankrupt }
+    {
+        self.bankrupt
     }
 
     /// The corporation due in an operating round: of those that had floated as the turn began, and had no turn in the
@@ -297,6 +308,7 @@ impl Operations {
             Act::PayOut { .. } => self.at_step(TurnStep::Train),
             Act::Hold { .. } => self.at_step(TurnStep::Train),
             Act::End { corp } => self.after_end(*corp),
+            Act::Bankrupt { .. } => self.after_bankruptcy(),
             _ => *self,
         }
     }
@@ -328,6 +340,15 @@ impl Operations {
         next.turns[corp.index()] = true;
         next.step = TurnStep::Lay;
         next.has_run = false;
+        next
+    }
+
+    // Once a seat has said that it is bankrupt.
+    fn after_bankruptcy(&self) -> Operations
+        ensures { result ≡ record self.now { progress = after_bankruptcy self.now.progress } }
+    {
+        let mut next = *self;
+        next.bankrupt = true;
         next
     }
 }

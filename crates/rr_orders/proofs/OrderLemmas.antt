@@ -20,7 +20,7 @@ use Rattle.rr_orders.specs.Texts.{IsCertificateText, IsSheetText, certificate_te
 use Rattle.rr_orders.specs.Order.{IsOrder, SpellsOrder, source_word, spelling}
 use Rattle.rr_orders.specs.Reading.{read_order, source_of}
 use Rattle.rr_orders.specs.declared.order.Order.{Order}
-use Rattle.rr_orders.specs.declared.order.Order.TheVariants.{Lay, Station, Run, RunBest, PayOut, Hold, BuyTrain, BuyTrainFrom, Trade, Discard, TakePrivate, End}
+use Rattle.rr_orders.specs.declared.order.Order.TheVariants.{Lay, Station, Run, RunBest, PayOut, Hold, BuyTrain, BuyTrainFrom, Trade, Discard, TakePrivate, End, Force, Raise, Bankrupt}
 use Rattle.rr_orders.specs.declared.trains.TrainSource.{TrainSource}
 use Rattle.rr_orders.specs.declared.trains.TrainSource.TheVariants as S
 use Rattle.rr_orders.proofs.CutLemmas.{cut-found, cut-none, list_all-joined, words_of-unspaced}
@@ -53,7 +53,7 @@ certificate_text-parts : (certificate : List ℕ) → IsCertificateText certific
 certificate_text-parts [] h = refl
 certificate_text-parts (c ∷ rest) h = certificate_text-told (c ∷ rest) (omega arith) ∙ (rw h refl)
 
-read-order : (order : Order) → IsOrder order → read_order (spelling order) ≡ Some order
+pub read-order : (order : Order) → IsOrder order → read_order (spelling order) ≡ Some order
 read-order (Lay corp hex tile turn) h =
     rw (corp_of-name corp, h.0, small_number_of-decimal tile 1 999 (omega (arith, h.2)) h.1 h.2, small_number_of-decimal turn 0 5 (omega (arith, h.3)) (omega arith) h.3) refl
 read-order (Station corp hex centre) h = rw (corp_of-name corp, h.0, read-number centre h.1) refl
@@ -69,6 +69,9 @@ read-order (Trade corp kind) h = rw (corp_of-name corp, kind_of-name kind) refl
 read-order (Discard corp kind) h = rw (corp_of-name corp, kind_of-name kind) refl
 read-order (TakePrivate corp private price) h = rw (corp_of-name corp, private_of-name private, read-number price h) refl
 read-order (End corp) h = rw (corp_of-name corp) refl
+read-order (Force corp) h = rw (corp_of-name corp) refl
+read-order (Raise player corp count) h = rw (h.0, corp_of-name corp, read-number count h.1) refl
+read-order (Bankrupt player) h = rw h refl
 
 source-unspaced : (source : TrainSource) → is_unspaced (source_word source) ≡ true
 source-unspaced S.Bank = refl
@@ -92,7 +95,7 @@ parts-unspaced : (bytes : List ℕ) → are_unspaced (parts bytes) ≡ true
 parts-unspaced [] = refl
 parts-unspaced (c ∷ rest) = words_of-unspaced (c ∷ rest)
 
-spelling-unspaced : (order : Order) → IsOrder order → are_unspaced (spelling order) ≡ true
+pub spelling-unspaced : (order : Order) → IsOrder order → are_unspaced (spelling order) ≡ true
 spelling-unspaced (Lay corp hex tile turn) h =
     rw (corp-unspaced corp, hex-unspaced hex h.0, decimal-unspaced tile (omega (arith, h.2)), decimal-unspaced turn (omega (arith, h.3))) refl
 spelling-unspaced (Station corp hex centre) h = rw (corp-unspaced corp, hex-unspaced hex h.0, decimal-unspaced centre h.1) refl
@@ -108,8 +111,11 @@ spelling-unspaced (Trade corp kind) h = rw (corp-unspaced corp, kind-unspaced ki
 spelling-unspaced (Discard corp kind) h = rw (corp-unspaced corp, kind-unspaced kind) refl
 spelling-unspaced (TakePrivate corp private price) h = rw (corp-unspaced corp, private-unspaced private, decimal-unspaced price h) refl
 spelling-unspaced (End corp) h = rw (corp-unspaced corp) refl
+spelling-unspaced (Force corp) h = rw (corp-unspaced corp) refl
+spelling-unspaced (Raise player corp count) h = rw (player-unspaced player h.0, corp-unspaced corp, decimal-unspaced count h.1) refl
+spelling-unspaced (Bankrupt player) h = rw (player-unspaced player h) refl
 
-spelling-some : (order : Order) → 1 ≤ length (spelling order)
+pub spelling-some : (order : Order) → 1 ≤ length (spelling order)
 spelling-some (Lay corp hex tile turn) = lit≤ tt
 spelling-some (Station corp hex centre) = lit≤ tt
 spelling-some (Run corp sheet) = omega arith
@@ -122,6 +128,9 @@ spelling-some (Trade corp kind) = lit≤ tt
 spelling-some (Discard corp kind) = lit≤ tt
 spelling-some (TakePrivate corp private price) = lit≤ tt
 spelling-some (End corp) = lit≤ tt
+spelling-some (Force corp) = lit≤ tt
+spelling-some (Raise player corp count) = lit≤ tt
+spelling-some (Bankrupt player) = lit≤ tt
 
 pub read_order-text : (bytes : List ℕ) (order : Order) → SpellsOrder bytes order → read_order (words_of bytes) ≡ Some order
 read_order-text bytes order h =

@@ -1,12 +1,12 @@
--- What a corporation does in its turn, and the one text of each.
-use Rattle.std.specs.Prelude.{◌≡◌, ℕ, List, ◌^◌, ◌<◌, ◌≤◌, decimal, [], ◌∷◌, ◌++◌, codes}
+-- What is done in a corporation's turn, and the one text of each.
+use Rattle.std.specs.Prelude.{◌≡◌, ℕ, List, ◌^◌, ◌<◌, ◌≤◌, decimal, [], ◌∷◌, ◌++◌, codes, Option, Some, None}
 use Rattle.rr_words.specs.Name.{IsHexName, IsPlayerName}
 use Rattle.rr_words.specs.Line.{line_of}
 use Rattle.rr_roster.specs.Company.{corp_name, private_name, kind_name}
 use Rattle.rr_roster.specs.declared.company.Corp.{Corp}
 use Rattle.rr_orders.specs.Texts.{parts, IsSheetText, IsCertificateText}
 use Rattle.rr_orders.specs.declared.order.Order.{Order}
-use Rattle.rr_orders.specs.declared.order.Order.TheVariants.{Lay, Station, Run, RunBest, PayOut, Hold, BuyTrain, BuyTrainFrom, Trade, Discard, TakePrivate, End}
+use Rattle.rr_orders.specs.declared.order.Order.TheVariants.{Lay, Station, Run, RunBest, PayOut, Hold, BuyTrain, BuyTrainFrom, Trade, Discard, TakePrivate, End, Force, Raise, Bankrupt}
 use Rattle.rr_orders.specs.declared.trains.TrainSource.{TrainSource}
 use Rattle.rr_orders.specs.declared.trains.TrainSource.TheVariants.{Bank, Pool}
 
@@ -30,6 +30,9 @@ spelling (Trade corp kind) = codes "trade" ∷ corp_name corp ∷ kind_name kind
 spelling (Discard corp kind) = codes "drop" ∷ corp_name corp ∷ kind_name kind ∷ []
 spelling (TakePrivate corp private price) = codes "private" ∷ corp_name corp ∷ private_name private ∷ decimal price ∷ []
 spelling (End corp) = codes "end" ∷ corp_name corp ∷ []
+spelling (Force corp) = codes "force" ∷ corp_name corp ∷ []
+spelling (Raise player corp count) = codes "raise" ∷ player ∷ corp_name corp ∷ decimal count ∷ []
+spelling (Bankrupt player) = codes "bankrupt" ∷ player ∷ []
 
 -- its parts are what they stand for
 abbrev pub IsOrder : Order → Type 0
@@ -46,21 +49,27 @@ IsOrder (Trade corp kind) = Unit {0}
 IsOrder (Discard corp kind) = Unit {0}
 IsOrder (TakePrivate corp private price) = price < 10 ^ 10
 IsOrder (End corp) = Unit {0}
+IsOrder (Force corp) = Unit {0}
+IsOrder (Raise player corp count) = IsPlayerName player × (count < 10 ^ 10)
+IsOrder (Bankrupt player) = IsPlayerName player
 
--- the corporation whose turn it is
-abbrev pub corp_in : Order → Corp
-corp_in (Lay corp hex tile turn) = corp
-corp_in (Station corp hex centre) = corp
-corp_in (Run corp sheet) = corp
-corp_in (RunBest corp sheet certificate) = corp
-corp_in (PayOut corp) = corp
-corp_in (Hold corp) = corp
-corp_in (BuyTrain corp kind source) = corp
-corp_in (BuyTrainFrom corp kind seller price buyer_president seller_president) = corp
-corp_in (Trade corp kind) = corp
-corp_in (Discard corp kind) = corp
-corp_in (TakePrivate corp private price) = corp
-corp_in (End corp) = corp
+-- the corporation that does it: a player raises money, and is bankrupt
+abbrev pub corp_in : Order → Option Corp
+corp_in (Lay corp hex tile turn) = Some corp
+corp_in (Station corp hex centre) = Some corp
+corp_in (Run corp sheet) = Some corp
+corp_in (RunBest corp sheet certificate) = Some corp
+corp_in (PayOut corp) = Some corp
+corp_in (Hold corp) = Some corp
+corp_in (BuyTrain corp kind source) = Some corp
+corp_in (BuyTrainFrom corp kind seller price buyer_president seller_president) = Some corp
+corp_in (Trade corp kind) = Some corp
+corp_in (Discard corp kind) = Some corp
+corp_in (TakePrivate corp private price) = Some corp
+corp_in (End corp) = Some corp
+corp_in (Force corp) = Some corp
+corp_in (Raise player corp count) = None
+corp_in (Bankrupt player) = None
 
 -- the text of an order: its words with one space between each two
 abbrev pub text : Order → List ℕ

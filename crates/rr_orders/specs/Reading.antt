@@ -9,7 +9,7 @@ use Rattle.rr_roster.specs.declared.company.Kind.{Kind}
 use Rattle.rr_scan.specs.Company.{corp_of, private_of}
 use Rattle.rr_orders.specs.Texts.{sheet_text, certificate_text, cut_at_best}
 use Rattle.rr_orders.specs.declared.order.Order.{Order}
-use Rattle.rr_orders.specs.declared.order.Order.TheVariants.{Lay, Station, Run, RunBest, PayOut, Hold, BuyTrain, BuyTrainFrom, Trade, Discard, TakePrivate, End}
+use Rattle.rr_orders.specs.declared.order.Order.TheVariants.{Lay, Station, Run, RunBest, PayOut, Hold, BuyTrain, BuyTrainFrom, Trade, Discard, TakePrivate, End, Force, Raise, Bankrupt}
 use Rattle.rr_orders.specs.declared.trains.TrainSource.{TrainSource}
 use Rattle.rr_orders.specs.declared.trains.TrainSource.TheVariants.{Bank, Pool}
 
@@ -45,7 +45,7 @@ abbrev pub read_run : List (List ℕ) → Option Order
 read_run [] = None
 read_run (corp ∷ words) = option_and_then (λ c. read_sheets c words (cut_at_best words)) (corp_of corp)
 
--- behind `pay`, `hold` and `end`: a corporation
+-- behind `pay`, `hold`, `end` and `force`: a corporation
 abbrev pub read_alone : (Corp → Order) → List (List ℕ) → Option Order
 read_alone order (corp ∷ []) = option_map order (corp_of corp)
 read_alone order _ = None
@@ -69,6 +69,17 @@ read_private (corp ∷ private ∷ price ∷ []) =
     option_and_then (λ c. option_and_then (λ p. option_map (TakePrivate c p) (number_of price)) (private_of private)) (corp_of corp)
 read_private _ = None
 
+-- behind `raise`: a player, a corporation and a number
+abbrev pub read_raise : List (List ℕ) → Option Order
+read_raise (player ∷ corp ∷ count ∷ []) =
+    option_and_then (λ s. option_and_then (λ c. option_map (Raise s c) (number_of count)) (corp_of corp)) (player_name_of player)
+read_raise _ = None
+
+-- behind `bankrupt`: a player
+abbrev pub read_bankrupt : List (List ℕ) → Option Order
+read_bankrupt (player ∷ []) = option_map Bankrupt (player_name_of player)
+read_bankrupt _ = None
+
 -- an order's words
 abbrev pub read_order : List (List ℕ) → Option Order
 read_order [] = None
@@ -83,4 +94,7 @@ read_order (head ∷ rest) =
     if bytes_eq head (codes "drop") then read_kind Discard rest else
     if bytes_eq head (codes "private") then read_private rest else
     if bytes_eq head (codes "end") then read_alone End rest else
+    if bytes_eq head (codes "force") then read_alone Force rest else
+    if bytes_eq head (codes "raise") then read_raise rest else
+    if bytes_eq head (codes "bankrupt") then read_bankrupt rest else
     None

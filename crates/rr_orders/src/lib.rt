@@ -1,9 +1,10 @@
-//! What a corporation orders in its turn of an operating round: one spelling for each order.
+//! What is ordered in a corporation's turn of an operating round: one spelling for each order.
 //!
 //! Stands on `rr_scan`, `rr_sheets`, `rr_roster` and `rr_words`. Its promise: `Order::read` reads exactly what is spelled,
 //! one text an order (`laws::one_spelling`), and takes no memory.
 #![tactic(auto)]
 
+mod forced;
 pub mod laws;
 mod order;
 mod runs;

@@ -6,15 +6,15 @@ ghost use Rattle.rr_orders.specs.Reading.{read_order};
 
 use crate::texts::{CertificateWords, SheetWords};
 use crate::trains::{self, TrainSource};
-use crate::{runs, tiles, turns};
+use crate::{forced, runs, tiles, turns};
 use rr_roster::{Corp, Kind, Private};
 use rr_scan::Words;
 use rr_words::{HexName, Name};
 use std::alloc::AllocError;
 
-/// What a corporation does in its turn of an operating round. A number that an order's words spell has one to ten digits,
-/// so it is below 10^10, and the first of several digits is not 0.
-#[derive(Drop)]
+/// What a corporation does in its turn of an operating round, or a player for it. A number that an order's words spell has
+/// one to ten digits, so it is below 10^10, and the first of several digits is not 0.
+#[derive(Debug, Drop, PartialEq, Eq)]
 pub enum Order<'a> {
     /// The corporation lays the tile of this number, 1 to 999, turned by this many sixths, 0 to 5.
     Lay {
@@ -83,6 +83,21 @@ pub enum Order<'a> {
     End {
         corp: Corp,
     },
+    /// The corporation, which must own a train, buys the cheapest one, and its president pays what it lacks.
+    Force {
+        corp: Corp,
+    },
+    /// The president sells this number of 10% shares of a corporation to raise money for the train that its own corporation
+    /// must buy.
+    Raise {
+        player: Name,
+        corp: Corp,
+        count: u64,
+    },
+    /// The president can raise no more money for the train, and is bankrupt.
+    Bankrupt {
+        player: Name,
+    },
 }
 
 impl<'a> Order<'a> {
@@ -142,11 +157,20 @@ impl<'a> Order<'a> {
         if head == b"end".as_slice() {
             return turns::read_end(words);
         }
+        if head == b"force".as_slice() {
+            return forced::read_force(words);
+        }
+        if head == b"raise".as_slice() {
+            return forced::read_raise(words);
+        }
+        if head == b"bankrupt".as_slice() {
+            return forced::read_bankrupt(words);
+        }
         None
     }
 
-    /// The corporation whose turn it is.
-    pub fn corp(&self) -> Corp
+    /// The corporation that does it; `None` where a player does, to raise money or as a bankrupt.
+    pub fn corp(&self) -> Option<Corp>
         ensures { result ≡ corp_in self.now }
     {
         match self {
@@ -161,7 +185,9 @@ impl<'a> Order<'a> {
             | Order::Trade { corp, .. }
             | Order::Discard { corp, .. }
             | Order::TakePrivate { corp, .. }
-            | Order::End { corp } => *corp,
+            | Order::End { corp }
+            | Order::Force { corp } => Some(*corp),
+            Order::Raise { .. } | Order::Bankrupt { .. } => None,
         }
     }
 
@@ -228,6 +254,13 @@ impl<'a> Order<'a> {
                 price,
             } => turns::write_purchase(*corp, *private, *price, out),
             Order::End { corp } => turns::write_end(*corp, out),
+            Order::Force { corp } => forced::write_force(*corp, out),
+            Order::Raise {
+                player,
+                corp,
+                count,
+            } => forced::write_raise(player, *corp, *count, out),
+            Order::Bankrupt { player } => forced::write_bankrupt(player, out),
         }
     }
 }

@@ -1,5 +1,7 @@
 //! The words of sheets and certificates, where they stand in a line.
-ghost use Rattle.std.specs.Prelude.{◌≡◌, IfSome};
+ghost use Rattle.std.specs.Prelude.{◌≡◌, IfSome, bytes_eq};
+ghost use Rattle.std.specs.Cmp.{partial_equiv_from_equiv};
+ghost use Rattle.std.specs.Cmp.Lexicographic.{nat_list_eq_equiv};
 ghost use Rattle.rr_scan.specs.Words.{words_left};
 ghost use Rattle.rr_orders.specs.Texts.{IsCertificateText, IsSheetText, certificate_text, parts, sheet_text};
 
@@ -7,9 +9,9 @@ use rr_sheets::{is_certificate, is_sheet};
 use std::marker::Model;
 
 /// The words of a run's sheet, lent from the line that has them: a word for each train, or none.
-#[derive(Drop)]
+#[derive(Debug, Drop)]
 pub struct SheetWords<'a> {
-    text: &'a [u8],
+    sheet: &'a [u8],
 }
 
 impl<'a> Model for SheetWords<'a> {
@@ -18,9 +20,24 @@ impl<'a> Model for SheetWords<'a> {
 
     ghost Value = { List ℕ };
 
-    ghost view = { λ s. s.text.now };
+    ghost view = { λ s. s.sheet.now };
 
-    ghost invariant = { λ s. IsSheetText s.text.now };
+    ghost invariant = { λ s. IsSheetText s.sheet.now };
+}
+
+// Sheets are equal where their words are.
+impl<'a> PartialEq for SheetWords<'a> {
+    ghost eq = { bytes_eq };
+
+    ghost laws = { partial_equiv_from_equiv nat_list_eq_equiv };
+
+    fn eq(&self, other: &Self) -> bool {
+        self.as_bytes() == other.as_bytes()
+    }
+}
+
+impl<'a> Eq for SheetWords<'a> {
+    ghost laws = { nat_list_eq_equiv };
 }
 
 impl<'a> SheetWords<'a> {
@@ -30,7 +47,7 @@ impl<'a> SheetWords<'a> {
         ensures found { IfSome result (λ sheet. IsSheetText sheet × (words_left text.entry ≡ parts sheet)) }
     {
         let Some(text) = text else {
-            return Some(SheetWords { text: &[] });
+            return Some(SheetWords { sheet: &[] });
         };
         if text.is_empty() {
             return None;
@@ -38,7 +55,7 @@ impl<'a> SheetWords<'a> {
         if !is_sheet(text) {
             return None;
         }
-        Some(SheetWords { text })
+        Some(SheetWords { sheet: text })
     }
 
     /// The words with one space between each two; empty where there is none.
@@ -46,14 +63,14 @@ impl<'a> SheetWords<'a> {
         ensures value { result.now ≡ self.now }
         ensures sheet { IsSheetText self.now }
     {
-        self.text
+        self.sheet
     }
 }
 
 /// The words of a run's certificate, lent from the line that has them. Whether they are a tree isn't asked.
-#[derive(Drop)]
+#[derive(Debug, Drop)]
 pub struct CertificateWords<'a> {
-    text: &'a [u8],
+    certificate: &'a [u8],
 }
 
 impl<'a> Model for CertificateWords<'a> {
@@ -62,9 +79,24 @@ impl<'a> Model for CertificateWords<'a> {
 
     ghost Value = { List ℕ };
 
-    ghost view = { λ s. s.text.now };
+    ghost view = { λ s. s.certificate.now };
 
-    ghost invariant = { λ s. IsCertificateText s.text.now };
+    ghost invariant = { λ s. IsCertificateText s.certificate.now };
+}
+
+// Certificates are equal where their words are.
+impl<'a> PartialEq for CertificateWords<'a> {
+    ghost eq = { bytes_eq };
+
+    ghost laws = { partial_equiv_from_equiv nat_list_eq_equiv };
+
+    fn eq(&self, other: &Self) -> bool {
+        self.as_bytes() == other.as_bytes()
+    }
+}
+
+impl<'a> Eq for CertificateWords<'a> {
+    ghost laws = { nat_list_eq_equiv };
 }
 
 impl<'a> CertificateWords<'a> {
@@ -74,7 +106,7 @@ impl<'a> CertificateWords<'a> {
         ensures found { IfSome result (λ certificate. IsCertificateText certificate × (words_left text.entry ≡ parts certificate)) }
     {
         let Some(text) = text else {
-            return Some(CertificateWords { text: &[] });
+            return Some(CertificateWords { certificate: &[] });
         };
         if text.is_empty() {
             return None;
@@ -82,7 +114,7 @@ impl<'a> CertificateWords<'a> {
         if !is_certificate(text) {
             return None;
         }
-        Some(CertificateWords { text })
+        Some(CertificateWords { certificate: text })
     }
 
     /// The words with one space between each two; empty where there is none.
@@ -90,6 +122,6 @@ impl<'a> CertificateWords<'a> {
         ensures value { result.now ≡ self.now }
         ensures certificate { IsCertificateText self.now }
     {
-        self.text
+        self.certificate
     }
 }

@@ -58,6 +58,31 @@ fn goes_on(alloc: Global) -> Result<bool, Fail> {
     )
 }
 
+/// Whether an auction takes no corporation's order, and the table stays as it was.
+fn refuses_orders(alloc: Global) -> Result<bool, Fail> {
+    let mut moderator = opened(alloc, with_two_commands(alloc)?)?;
+    Ok(
+        is_answered(
+            &mut moderator,
+            b"2 t1 lay PRR ZZ 57 5",
+            b"no 1 no such name\n",
+        ) && is_answered(&mut moderator, b"2 t1 hold PRR", b"no 42 wrong step\n")
+            && is_answered(&mut moderator, b"1 t1 end PRR", b"no 52 stale stamp 2\n")
+            && is_answered(
+                &mut moderator,
+                b"2 t1 end PRR now",
+                b"no 55 malformed line\n",
+            )
+            && is_answered(&mut moderator, b"stamp t1", b"= 2\n"),
+    )
+}
+
+#[test]
+fn refuses_the_orders_of_corporations(rt: HostRuntime) -> Result<(), Fail> {
+    assert!(rt; refuses_orders(rt.alloc())?);
+    Ok(())
+}
+
 #[test]
 fn goes_on_where_it_stopped(rt: HostRuntime) -> Result<(), Fail> {
     assert!(rt; goes_on(rt.alloc())?);

@@ -1,12 +1,12 @@
 //! A game of two from a small kit.
 ghost use Rattle.std.specs.Prelude.{◌≡◌, ◌≤◌, true};
-ghost use Rattle.rr_game.specs.Names.{amount_in};
+ghost use Rattle.rr_game.specs.Names.{amount_in, price_in};
 
 use crate::fixtures::{A, B, ROSTER};
-use rr_auction::Due;
-use rr_books::{Cell, Corp, Money, Place, Private};
-use rr_code::{Account, Command, Owner};
-use rr_game::{Game, Kit};
+use rr_books::{Cell, Corp, Kind, Money, Place, Private};
+use rr_code::{Account, Command, Owner, TrainHolder};
+use rr_game::{Due, Fault, Game, Kit, TurnStep};
+use rr_orders::Order;
 use rr_words::Name;
 use std::alloc::Global;
 use std::process::Abort;
@@ -19,7 +19,7 @@ fn player(rt: &impl Abort, word: &[u8]) -> Name {
     Name::player(word).expect(rt, "a player's name")
 }
 
-fn command(rt: &impl Abort, words: &[u8]) -> Command {
+fn command<'a>(rt: &impl Abort, words: &'a [u8]) -> Command<'a> {
     Command::read(words).expect(rt, "a command")
 }
 
@@ -32,6 +32,17 @@ fn is_small(command: &Command) -> bool
 {
     match command {
         Command::Bid { amount, .. } => *amount <= 10_000_000_000,
+        Command::Order(order) => is_small_order(order),
+        _ => true,
+    }
+}
+
+fn is_small_order(order: &Order) -> bool
+    ensures { result ≡ true → price_in order.now ≤ 10000000000 }
+{
+    match order {
+        Order::BuyTrainFrom { price, .. } => *price <= 10_000_000_000,
+        Order::TakePrivate { price, .. } => *price <= 10_000_000_000,
         _ => true,
     }
 }
@@ -42,6 +53,19 @@ fn after(rt: &impl Abort, game: &Game, alloc: Global, command: &Command, kit: &K
     assert!(rt; is_small(command));
     game.step(alloc, command, kit)
         .expect(rt, "a lawful command")
+}
+
+/// Why the game doesn't take a command.
+fn refusal(
+    rt: &impl Abort,
+    game: &Game,
+    alloc: Global,
+    command: &Command,
+    kit: &Kit,
+) -> Option<Fault> {
+    assert!(rt; game.played() < 4096);
+    assert!(rt; is_small(command));
+    game.step(alloc, command, kit).err()
 }
 
 fn opened(rt: &impl Abort, command: Command, kit: &Kit) -> Game {
@@ -78,7 +102,7 @@ fn place(rt: &impl Abort, game: &Game, player: Name) -> Place {
 fn a_game_begins_with_the_auction(rt: HostRuntime) {
     let kit = kit(&rt, rt.alloc(), CHART, ROSTER.as_bytes(), BOARD);
     let game = played(&rt, rt.alloc(), &kit, &[]);
-    assert_eq!(rt; game.due(), Due::Turn(A));
+    assert_eq!(rt; game.due(&kit), Due::Turn(A));
     assert_eq!(rt; game.asked(&kit), Some((Private::Sv, Money(20))));
     assert_eq!(rt; game.limit(), 28);
 }
@@ -99,11 +123,9 @@ fn an_auction_and_the_stock_round_behind_it(rt: HostRuntime) {
         b"done a",
     ];
     let game = played(&rt, alloc, &kit, &lines[..7]);
-    assert_eq!(rt; game.due(), Due::Stock(A));
-    assert_eq!(rt; game.turns(), 6);
+    assert_eq!(rt; game.due(&kit), Due::Stock(A));
     let game = played(&rt, alloc, &kit, &lines);
-    assert_eq!(rt; game.due(), Due::Stock(B));
-    assert_eq!(rt; game.turns(), 7);
+    assert_eq!(rt; game.due(&kit), Due::Stock(B));
     assert_eq!(rt; game.played(), 10);
     assert_eq!(rt; game.asked(&kit), None);
     let a = player(&rt, b"a");
@@ -116,6 +138,60 @@ fn an_auction_and_the_stock_round_behind_it(rt: HostRuntime) {
     assert_eq!(rt; game.price(Corp::Prr, &kit), Some((100, cell)));
     let order = [Corp::Bo, Corp::Prr];
     assert_eq!(rt; game.order(&kit).as_slice(), order.as_slice());
+}
+
+#[test]
+fn the_auction_takes_no_order(rt: HostRuntime) {
+    let alloc = rt.alloc();
+    let kit = kit(&rt, alloc, CHART, ROSTER.as_bytes(), BOARD);
+    let game = played(&rt, alloc, &kit, &[]);
+    let run = command(&rt, b"run PRR 2=1-2 best s1 b f");
+    assert_eq!(rt;
+        refusal(&rt, &game, alloc, &run, &kit),
+        Some(Fault::Rules(rr_rules::Fault::WrongStep))
+    );
+    let sale = command(&rt, b"train PRR 2 NYC 40 nobody b");
+    assert_eq!(rt;
+        refusal(&rt, &game, alloc, &sale, &kit),
+        Some(Fault::NoSuchName)
+    );
+}
+
+// Two players buy the privates; a floats the PRR, which is due as the first operating round begins.
+#[test]
+fn a_corporation_is_due_in_an_operating_round(rt: HostRuntime) {
+    let alloc = rt.alloc();
+    let kit = kit(&rt, alloc, CHART, ROSTER.as_bytes(), BOARD);
+    let lines: [&[u8]; 20] = [
+        b"buy a",
+        b"buy b",
+        b"buy a",
+        b"buy b",
+        b"buy a",
+        b"buy b",
+        b"par b B&O 100",
+        b"par a PRR 100",
+        b"done a",
+        b"done b",
+        b"buy a PRR offer",
+        b"done a",
+        b"done b",
+        b"buy a PRR offer",
+        b"done a",
+        b"done b",
+        b"buy a PRR offer",
+        b"done a",
+        b"done b",
+        b"done a",
+    ];
+    let game = played(&rt, alloc, &kit, &lines);
+    assert_eq!(rt; game.due(&kit), Due::Operating(Corp::Prr, TurnStep::Lay));
+    assert_eq!(rt; game.cash(&Account::Corp(Corp::Prr)), Ok(Money(1000)));
+    assert_eq!(rt; game.phase(), Kind::Two);
+    assert_eq!(rt; game.iou(), 0);
+    assert_eq!(rt; game.trains(TrainHolder::Corp(Corp::Prr), Kind::Two), 0);
+    assert_eq!(rt; game.trains(TrainHolder::Pool, Kind::Two), 0);
+    assert_eq!(rt; game.revenue(), Money(0));
 }
 
 #[test]

@@ -1,7 +1,10 @@
 -- The judgement on a command, from what the rules of each step say, and that there is one.
+use Rattle.std.specs.Bool.{Decides, one_answer}
 use Rattle.std.proofs.Common.{◌≡◌, ◌∙◌, ◌⊎◌, inl, inr, Bool, true, false, Option, None, Some, ap, sym, subst, option_map, refl}
 use Rattle.rr_books.specs.declared.acts.Act.{Act}
+use Rattle.rr_books.specs.declared.acts.Act.TheVariants as A
 use Rattle.rr_books.specs.declared.parties.Money.{Money}
+use Rattle.rr_books.specs.declared.parties.Seat.{Seat}
 use Rattle.rr_books.specs.Book.{Book}
 use Rattle.rr_kit.specs.declared.kit.Kit.{Kit}
 use Rattle.rr_operations.specs.Due.{due}
@@ -16,6 +19,8 @@ use Rattle.rr_forced.specs.declared.fault.Fault.TheVariants as C
 use Rattle.rr_forced.specs.declared.needs.Need.{Need}
 use Rattle.rr_forced.specs.Needs.{IsNeedOf}
 use Rattle.rr_forced.specs.Rules as force
+use Rattle.rr_forced.specs.Sales.{CanRaise, bankrupt_verdict, raise_verdict}
+use Rattle.rr_holdings.specs.Holdings.{holdings_of}
 use Rattle.rr_roster.specs.declared.company.Corp.{Corp}
 use Rattle.rr_turns.specs.Judgement.{HasOneVerdict, IsFirstOrBehind, IsVerdict, Judgement, MayFind, judgement_behind}
 use Rattle.rr_turns.proofs.JudgementLemmas.{behind-finds, behind-is, behind-one, check-refuses, first-is-found, map-finds, map-is, map-one, settled-one}
@@ -55,7 +60,7 @@ turn_refused_at kit state revenue act fault same h =
     let Judged : Money → Type 0 = λ m. rows.MayJudge kit state.book m act fault in
     turn_refused kit state act fault (subst Judged same h)
 
--- a forced purchase
+-- a corporation that must own a train and can't pay it
 
 force_is : (first : Option forced.Fault) (Next : Option forced.Fault → Type 0) (verdict : Option forced.Fault) → force.After first Next verdict → IsFirstOrBehind first Next verdict
 force_is None Next verdict h = h
@@ -63,7 +68,7 @@ force_is (Some fault) Next verdict h = h
 
 force_verdict : (kit : Kit) (state : GameState) (act : Act) (verdict : Option forced.Fault) → force.IsVerdict kit state.book act verdict
     → IsVerdict (force_judgement kit state act) verdict
-force_verdict kit state act verdict h = force_is (force.order_verdict kit state.book act) (force.IsForceVerdict kit state.book act) verdict h
+force_verdict kit state act verdict h = force_is (force.order_verdict kit state.book act) (force.IsRowVerdict kit state.book act) verdict h
 
 force_found : (kit : Kit) (state : GameState) (act : Act) (fault : forced.Fault) → force.MayJudge kit state.book act fault
     → MayFind (force_judgement kit state act) C.OutOfMemory fault
@@ -121,9 +126,25 @@ need_one kit book (Some c) a b (inl one) (inr other) = absurd (one.0 other.0)
 need_one kit book (Some c) a b (inr one) (inl other) = absurd (other.0 one.0)
 need_one kit book (Some c) a b (inr one) (inr other) = one.1 ∙ sym other.1
 
-force_behind_one : (kit : Kit) (book : Book) (act : Act) (a b : Option forced.Fault) → force.IsForceVerdict kit book act a → force.IsForceVerdict kit book act b → a ≡ b
-force_behind_one kit book act a b one other =
-    one.2 ∙ ap (force.force_verdict (due kit.chart book)) (need_one kit book (force.buyer act) one.0 other.0 one.1 other.1) ∙ sym other.2
+bankrupt_one : (kit : Kit) (book : Book) (s : Seat) (a b : Option forced.Fault) → force.IsBankruptVerdict kit book s a → force.IsBankruptVerdict kit book s b → a ≡ b
+bankrupt_one kit book s a b one other =
+    let same = need_one kit book (due kit.chart book) one.0 other.0 one.2 other.2 in
+    let Raises : Option Need → Type 0 = λ need. Decides other.1 (CanRaise (holdings_of kit.chart book) need s) in
+    let raises = one_answer one.1 other.1 one.3 (subst Raises (sym same) other.3) in
+    one.4
+    ∙ ap (λ (need : Option Need). bankrupt_verdict need s one.1) same
+    ∙ ap (λ (b : Bool). bankrupt_verdict other.0 s b) raises
+    ∙ sym other.4
+
+forced_behind_one : (kit : Kit) (book : Book) (act : Act) (a b : Option forced.Fault) → force.IsRowVerdict kit book act a → force.IsRowVerdict kit book act b → a ≡ b
+forced_behind_one kit book (A.Force c) a b one other =
+    one.2 ∙ ap (force.force_verdict (due kit.chart book)) (need_one kit book (Some c) one.0 other.0 one.1 other.1) ∙ sym other.2
+forced_behind_one kit book (A.Raise s c n) a b one other =
+    one.2
+    ∙ ap (λ (need : Option Need). raise_verdict (holdings_of kit.chart book) need s c n) (need_one kit book (due kit.chart book) one.0 other.0 one.1 other.1)
+    ∙ sym other.2
+forced_behind_one kit book (A.Bankrupt s) a b one other = bankrupt_one kit book s a b one other
+forced_behind_one kit book _ a b one other = one ∙ sym other
 
 one_of : {F : Type 0} (first : Option F) (Behind : Option F → Type 0) → ((a b : Option F) → Behind a → Behind b → a ≡ b)
     → (a b : Option F) → IsFirstOrBehind first Behind a → IsFirstOrBehind first Behind b → a ≡ b
@@ -132,7 +153,7 @@ one_of (Some fault) Behind same a b one other = one ∙ sym other
 
 force_one : (kit : Kit) (state : GameState) (act : Act) → HasOneVerdict (force_judgement kit state act)
 force_one kit state act a b one other =
-    one_of (force.order_verdict kit state.book act) (force.IsForceVerdict kit state.book act) (force_behind_one kit state.book act) a b one other
+    one_of (force.order_verdict kit state.book act) (force.IsRowVerdict kit state.book act) (forced_behind_one kit state.book act) a b one other
 
 operating_one : OneVerdict → (forced : Bool) (kit : Kit) (state : GameState) (act : Act) → HasOneVerdict (operating_judgement forced kit state act)
 operating_one law true kit state act = map-one of_forced (force_judgement kit state act) (force_one kit state act)

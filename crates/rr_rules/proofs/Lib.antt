@@ -1,2 +1,4 @@
 pub mod Judging
 pub mod Playing
+pub mod Ending
+pub mod RunLemmas

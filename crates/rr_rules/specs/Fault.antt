@@ -44,6 +44,9 @@ number_of F.NotOnSale = 44
 number_of F.PriceOutOfBounds = 45
 number_of F.MustDiscardFirst = 46
 number_of F.MustOwnTrain = 47
+number_of F.SaleNotNeeded = 48
+number_of F.PresidencyWouldChange = 49
+number_of F.NotBankrupt = 50
 number_of F.OutOfMemory = 70
 
 -- a refusal of the auction
@@ -94,12 +97,17 @@ of_turn O.MustDiscardFirst = F.MustDiscardFirst
 of_turn O.MustOwnTrain = F.MustOwnTrain
 of_turn O.OutOfMemory = F.OutOfMemory
 
--- a refusal of a forced purchase
+-- a refusal of a command of a corporation that must own a train and can't pay it
 abbrev pub of_forced : forced.Fault → Fault
 of_forced C.TooLittleCash = F.TooLittleCash
 of_forced C.NotYourTurn = F.NotYourTurn
+of_forced C.NotForSale = F.NotForSale
+of_forced C.PoolOverHalf = F.PoolOverHalf
 of_forced C.WrongStep = F.WrongStep
 of_forced C.MustDiscardFirst = F.MustDiscardFirst
+of_forced C.SaleNotNeeded = F.SaleNotNeeded
+of_forced C.PresidencyWouldChange = F.PresidencyWouldChange
+of_forced C.NotBankrupt = F.NotBankrupt
 of_forced C.OutOfMemory = F.OutOfMemory
 
 -- a refusal of the books

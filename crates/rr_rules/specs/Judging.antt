@@ -1,5 +1,5 @@
 -- The judgement on a command, by the rules that are in force.
-use Rattle.std.specs.Prelude.{Bool, true, false, not, ◌&&◌, is_some, List, Option, None, Some, option_map, if◌then◌else◌}
+use Rattle.std.specs.Prelude.{Bool, true, false, not, ◌&&◌, ◌||◌, is_some, List, Option, None, Some, option_map, if◌then◌else◌}
 use Rattle.rr_chart.specs.Chart.{Row}
 use Rattle.rr_board.specs.Plan.{hex_named}
 use Rattle.rr_tiles.specs.Supply.{supply_at}
@@ -18,7 +18,7 @@ use Rattle.rr_sets.specs.Rounds.{round_is_over}
 use Rattle.rr_operate.specs.declared.fault.Fault as operate
 use Rattle.rr_operate.specs.Rows.{IsRowVerdict, first_verdict}
 use Rattle.rr_forced.specs.declared.fault.Fault as forced
-use Rattle.rr_forced.specs.Rules.{IsForceVerdict, is_forced, order_verdict}
+use Rattle.rr_forced.specs.Rules.{IsRowVerdict as IsForcedVerdict, is_forced, order_verdict}
 use Rattle.rr_turns.specs.Judgement.{Judgement, judgement_behind, judgement_map, settled}
 use Rattle.rr_rules.specs.declared.fault.Fault.{Fault}
 use Rattle.rr_rules.specs.declared.fault.Fault.TheVariants as F
@@ -35,9 +35,13 @@ stage_once true false = G.Operating
 unfoldable pub stage : Book → Stage
 stage book = stage_once (is_over (auction.due book)) (rounds.progress book).under_way
 
--- the game is over: a set of operating rounds has ended behind an entry after which the bank owed money
+-- a set of operating rounds has ended behind an entry after which the bank owed money
+abbrev pub bank_is_broken : List Row → Book → Bool
+bank_is_broken rows book = round_is_over rows book && (progress book).bank_owed && not (has_more_rounds (progress book))
+
+-- the game is over: a seat is bankrupt, or the bank is broken
 abbrev pub game_is_over : List Row → Book → Bool
-game_is_over rows book = round_is_over rows book && (progress book).bank_owed && not (has_more_rounds (progress book))
+game_is_over rows book = (progress book).bankrupt || bank_is_broken rows book
 
 -- a hex that the board lacks, or a tile that the manifest lacks
 abbrev pub refused_unless : Bool → Option Fault
@@ -52,11 +56,11 @@ name_verdict kit _ = None
 abbrev pub turn_judgement : Kit → GameState → Act → Judgement operate.Fault
 turn_judgement kit state act = record { first = first_verdict kit state.book state.revenue act; Behind = IsRowVerdict kit state.book act }
 
--- the judgement on a forced purchase
+-- the judgement on a command of a corporation that must own a train and can't pay it
 abbrev pub force_judgement : Kit → GameState → Act → Judgement forced.Fault
-force_judgement kit state act = record { first = order_verdict kit state.book act; Behind = IsForceVerdict kit state.book act }
+force_judgement kit state act = record { first = order_verdict kit state.book act; Behind = IsForcedVerdict kit state.book act }
 
--- the judgement in an operating round, on a forced purchase or any other command
+-- the judgement in an operating round, on such a command or any other
 abbrev pub operating_judgement : Bool → Kit → GameState → Act → Judgement Fault
 operating_judgement true kit state act = judgement_map of_forced (force_judgement kit state act)
 operating_judgement false kit state act = judgement_map of_turn (turn_judgement kit state act)

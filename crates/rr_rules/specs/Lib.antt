@@ -2,4 +2,5 @@ pub mod Fault
 pub mod State
 pub mod Judging
 pub mod Playing
+pub mod Runs
 pub mod RuleLaws

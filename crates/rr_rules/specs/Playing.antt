@@ -20,9 +20,9 @@ use Rattle.rr_rules.specs.State.{GameState}
 abbrev pub stock_entries : Kit → Book → Act → Book
 stock_entries kit book act = in_turn ((λ so_far. stock.entries_of kit.chart so_far act) ∷ goes_on_in_stock_round kit ∷ []) book
 
--- what a command of an operating round adds, a forced purchase or any other
+-- what a command of an operating round adds, one of a corporation that must own a train and can't pay it or any other
 abbrev pub operating_entries : Bool → Kit → GameState → Act → Book
-operating_entries true kit state act = forced.entries_of kit.roster state.book act
+operating_entries true kit state act = forced.entries_of kit.roster kit.chart state.book act
 operating_entries false kit state act = operate.entries_of kit state.revenue state.book act
 
 -- the state behind a command, by the rules of a stage

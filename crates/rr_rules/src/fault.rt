@@ -94,6 +94,15 @@ pub enum Fault {
     /// The corporation has a route and no train, and a train is on sale.
     #[error("must own a train")]
     MustOwnTrain,
+    /// The corporation that is due and its president can pay the train that it must own.
+    #[error("sale not needed")]
+    SaleNotNeeded,
+    /// Another seat would become president of the corporation that is due.
+    #[error("presidency would change")]
+    PresidencyWouldChange,
+    /// The corporation that is due and its president can pay the train that it must own, or the president can sell shares.
+    #[error("not bankrupt")]
+    NotBankrupt,
     /// A request for memory was refused.
     #[error("out of memory")]
     OutOfMemory,
@@ -134,6 +143,9 @@ impl Fault {
             Fault::PriceOutOfBounds => 45,
             Fault::MustDiscardFirst => 46,
             Fault::MustOwnTrain => 47,
+            Fault::SaleNotNeeded => 48,
+            Fault::PresidencyWouldChange => 49,
+            Fault::NotBankrupt => 50,
             Fault::OutOfMemory => 70,
         }
     }
@@ -212,8 +224,13 @@ impl From<rr_forced::Fault> for Fault {
         match fault {
             rr_forced::Fault::TooLittleCash => Fault::TooLittleCash,
             rr_forced::Fault::NotYourTurn => Fault::NotYourTurn,
+            rr_forced::Fault::NotForSale => Fault::NotForSale,
+            rr_forced::Fault::PoolOverHalf => Fault::PoolOverHalf,
             rr_forced::Fault::WrongStep => Fault::WrongStep,
             rr_forced::Fault::MustDiscardFirst => Fault::MustDiscardFirst,
+            rr_forced::Fault::SaleNotNeeded => Fault::SaleNotNeeded,
+            rr_forced::Fault::PresidencyWouldChange => Fault::PresidencyWouldChange,
+            rr_forced::Fault::NotBankrupt => Fault::NotBankrupt,
             rr_forced::Fault::OutOfMemory => Fault::OutOfMemory,
         }
     }

@@ -1,7 +1,7 @@
 //! The rules of a table: which of them are in force, what they refuse, and what a command that they don't refuse comes to.
 //! Names of players are seats here; `rr_books::Act` is a command in these terms.
 //!
-//! Stands on the rules of the auction, of stock rounds, of operating rounds and of forced purchases. Its promise:
+//! Stands on the rules of the auction, of stock rounds, of operating rounds and of forced purchases and sales. Its promise:
 //! `Standing::take` is refused exactly by `judgement`, and keeps `IsStandingOf`.
 #![tactic(auto)]
 
@@ -9,6 +9,7 @@ mod fault;
 pub mod laws;
 mod names;
 mod rounds;
+mod runs;
 mod standing;
 
 pub use fault::Fault;

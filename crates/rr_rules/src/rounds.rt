@@ -79,13 +79,15 @@ impl Standing {
         ensures standing { IfOk result (λ next. (state : GameState) → IsStandingOf state self.now → IsStandingOf (state_in G.Operating kit.now state act.now) next) }
     {
         match act {
-            Act::Force { .. } => self.take_force(alloc, kit, act),
+            Act::Force { .. } | Act::Raise { .. } | Act::Bankrupt { .. } => {
+                self.take_forced(alloc, kit, act)
+            }
             _ => self.take_in_turn(alloc, kit, act),
         }
     }
 
-    // A forced purchase.
-    fn take_force(&self, alloc: Global, kit: &Kit, act: &Act) -> Result<Standing, Fault>
+    // A command of a corporation that must own a train and can't pay it.
+    fn take_forced(&self, alloc: Global, kit: &Kit, act: &Act) -> Result<Standing, Fault>
         requires { is_forced act.now ≡ true }
         ensures verdict { (state : GameState) → IsStandingOf state self.now → MatchResult result
             (λ _. IsVerdict (operating_judgement true kit.now state act.now) None)
@@ -94,7 +96,7 @@ impl Standing {
     {
         rr_forced::judge(alloc, kit, &self.position, act)?;
         let mut desk = Desk::new(alloc, self.position);
-        rr_forced::play(kit.roster(), &mut desk, act)?;
+        rr_forced::play(kit.roster(), kit.chart(), &mut desk, act)?;
         let (position, _) = desk.into_parts();
         Ok(Standing {
             position,

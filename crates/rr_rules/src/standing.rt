@@ -6,7 +6,7 @@ ghost use Rattle.rr_depot.specs.Small as depot;
 ghost use Rattle.rr_books.specs.Book.{Book};
 ghost use Rattle.rr_position.specs.Position.{IsPositionOf};
 ghost use Rattle.rr_turns.specs.Judgement.{IsVerdict, MayFind};
-ghost use Rattle.rr_rules.specs.Judging.{game_is_over, judgement, judgement_in, stage};
+ghost use Rattle.rr_rules.specs.Judging.{bank_is_broken, game_is_over, judgement, judgement_in, stage};
 ghost use Rattle.rr_rules.specs.Playing.{state_after, state_in};
 ghost use Rattle.rr_rules.specs.State.{GameState, IsStandingOf};
 
@@ -72,9 +72,16 @@ impl Standing {
         self.revenue
     }
 
-    /// Whether the game is over: a set of operating rounds has ended, and the bank owed money before.
+    /// Whether the game is over: a seat is bankrupt, or a set of operating rounds has ended and the bank owed money before.
     pub fn is_over(&self, kit: &Kit) -> bool
         ensures { (book : Book) → IsPositionOf book self.now.position → result ≡ game_is_over kit.now.chart book }
+    {
+        self.position.operations().is_bankrupt() || self.bank_is_broken(kit)
+    }
+
+    // Whether a set of operating rounds has ended, and the bank owed money before.
+    fn bank_is_broken(&self, kit: &Kit) -> bool
+        ensures { (book : Book) → IsPositionOf book self.now.position → result ≡ bank_is_broken kit.now.chart book }
     {
         let operations = self.position.operations();
         operations.stage() == Stage::Operating
@@ -121,9 +128,9 @@ impl Standing {
         }
     }
 
-    // Whose rules are in force.
+    /// Whose rules are in force.
     #[tactic(auto, unfolding(crate::specs::Judging::stage))]
-    fn stage(&self) -> Stage
+    pub fn stage(&self) -> Stage
         ensures { (book : Book) → IsPositionOf book self.now.position → result ≡ stage book }
     {
         if !rr_auction::is_over(&self.position) {

@@ -115,3 +115,17 @@ entries_are_whole roster rows book (A.Done s) lawful =
     let r = progress book in
     turn_told roster rows s (ends_round r) book (in_round r s (first_of (rules.turn_verdict r s) _ lawful))
 entries_are_whole roster rows book _ lawful = absurd (cc)
+
+-- a lawful command that isn't the end of a turn adds its own entries alone
+pub own_alone : (roster : Terms) (rows : List Row) (book : Book) (act : Act) → rules.verdict rows book act ≡ None → ((s : Seat) → act ≡ A.Done s → ⊥)
+    → sequence.entries_of roster rows book act ≡ stock.entries_of rows book act
+own_alone roster rows book (A.Par s c n) lawful other =
+    let r = progress book in nothing_follows roster rows book (A.Par s c n) (in_round r s (first_of (rules.turn_verdict r s) _ lawful)) other
+own_alone roster rows book (A.BuyShare s c source) lawful other =
+    let r = progress book in nothing_follows roster rows book (A.BuyShare s c source) (in_round r s (first_of (rules.turn_verdict r s) _ lawful)) other
+own_alone roster rows book (A.Sell s c n) lawful other =
+    let r = progress book in nothing_follows roster rows book (A.Sell s c n) (in_round r s (first_of (rules.turn_verdict r s) _ lawful)) other
+own_alone roster rows book (A.Swap s source) lawful other =
+    let r = progress book in nothing_follows roster rows book (A.Swap s source) (in_round r s (first_of (rules.turn_verdict r s) _ lawful)) other
+own_alone roster rows book (A.Done s) lawful other = absurd (other s refl)
+own_alone roster rows book _ lawful other = absurd (cc)

@@ -100,7 +100,7 @@ unfolding first_train
 brought_stays n b kind c = stays_two n (first_if b kind) (closes_own_private c) (first_stays n b kind) (own_stays n c)
 
 -- a train that is paid for
-paid_for : (n : ℕ) (kind : Kind) (from : Place) (c : Corp) (payee : Party) (m : ℕ) (is_first : Bool) → has_party n payee ≡ true
+pub paid_for : (n : ℕ) (kind : Kind) (from : Place) (c : Corp) (payee : Party) (m : ℕ) (is_first : Bool) → has_party n payee ≡ true
     → Settles n (due_of c m) no_dues (in_turn (moves_lowest_train kind from (L.Corp c) ∷ pays c payee m ∷ first_train is_first kind c ∷ []))
 paid_for n kind from c payee m is_first there =
     let o = due_of c m in

@@ -44,7 +44,7 @@ income_stays : (n : ℕ) (roster : Terms) (p : Private) → Stays n (pays_income
 unfolding pays_income
 income_stays n roster p o book h = owner_stays n (players book) (holder book (C.Private p)) (income_of roster p) h.seated o book h
 
-incomes_stay : (n : ℕ) (roster : Terms) (ps : List Private) → Stays n (pay_incomes_of roster ps)
+pub incomes_stay : (n : ℕ) (roster : Terms) (ps : List Private) → Stays n (pay_incomes_of roster ps)
 unfolding pay_incomes_of
 incomes_stay n roster ps = stays_each n (pays_income roster) ps (λ p. income_stays n roster p)
 

@@ -4,15 +4,11 @@ use Rattle.std.proofs.Common.{ap}
 use Rattle.rr_roster.specs.declared.company.Corp.{Corp}
 use Rattle.rr_chart.specs.Chart.{Row}
 use Rattle.rr_books.specs.declared.parties.Seat.{Seat}
-use Rattle.rr_books.specs.declared.parties.Party.TheVariants as P
-use Rattle.rr_books.specs.declared.entries.Entry.TheVariants as E
 use Rattle.rr_books.specs.declared.acts.Act.TheVariants as A
 use Rattle.rr_books.specs.declared.acts.ShareSource.{ShareSource}
 use Rattle.rr_books.specs.Book.{Book}
-use Rattle.rr_desk.specs.Effects.{Effect, adds, in_turn}
-use Rattle.rr_desk.specs.Incomes.{dollars}
+use Rattle.rr_desk.specs.Effects.{Effect, in_turn}
 use Rattle.rr_market.specs.Marks.{par_of, price_of}
-use Rattle.rr_market.specs.Moves.{sale_marks}
 use Rattle.rr_shares.specs.Effects.{float_if_due, sale_shares}
 use Rattle.rr_rounds.specs.Round.{ends_round, has_floated, progress}
 use Rattle.rr_position.specs.Position.{IsPositionOf}
@@ -56,17 +52,16 @@ takes_purchase rows s c source price par floated a b d e costs same is said boug
     (takes_three (says (A.BuyShare s c source)) (gets_share s c source price) (settles_corporation c par floated) a b d e said bought settled)
 
 -- a sale
-pub takes_sale : (rows : List Row) (s : Seat) (c : Corp) (n amount : ℕ) (a b d e f : OnDesk)
+pub takes_sale : (rows : List Row) (s : Seat) (c : Corp) (n amount : ℕ) (a b d e : OnDesk)
     → ((book : Book) → IsPositionOf book a.position → amount ≡ proceeds (situation_of rows book) c n)
-    → Takes (says (A.Sell s c n)) a b → Takes (sale_shares c s n) b d → Takes (adds (E.Pay P.Bank (P.Seat s) (dollars amount))) d e → Takes (sale_marks rows n c) e f
-    → Takes (λ book. sells rows (situation_of rows book) s c n book) a f
-unfolding sells pays_seller
-takes_sale rows s c n amount a b d e f is said sold paid fallen =
+    → Takes (says (A.Sell s c n)) a b → Takes (sale_shares c s n) b d → Takes (pays_seller rows s c n amount) d e
+    → Takes (λ book. sells rows (situation_of rows book) s c n book) a e
+unfolding sells
+takes_sale rows s c n amount a b d e is said sold paid =
     let row : ℕ → Effect = λ m. in_turn (says (A.Sell s c n) ∷ sale_shares c s n ∷ pays_seller rows s c n m ∷ []) in
-    takes_same (row amount) (λ book. sells rows (situation_of rows book) s c n book) a f
+    takes_same (row amount) (λ book. sells rows (situation_of rows book) s c n book) a e
     (λ book h. ap (λ (m : ℕ). row m book) (is book h))
-    (takes_three (says (A.Sell s c n)) (sale_shares c s n) (pays_seller rows s c n amount) a b d f said sold
-    (takes_two (adds (E.Pay P.Bank (P.Seat s) (dollars amount))) (sale_marks rows n c) d e f paid fallen))
+    (takes_three (says (A.Sell s c n)) (sale_shares c s n) (pays_seller rows s c n amount) a b d e said sold paid)
 
 -- a swap
 pub takes_swap : (rows : List Row) (s : Seat) (source : ShareSource) (par : Option ℕ) (floated : Bool) (a b d e : OnDesk)

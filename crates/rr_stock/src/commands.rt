@@ -5,9 +5,7 @@ ghost use Rattle.rr_stock.specs.Situation.{situation_of};
 
 use crate::ending::end_if;
 use crate::reading::{ends_with_done, has_floated, par, proceeds, share_price};
-use crate::trading::{
-    fall, get_share, give_up_private, pay_seat, settle_corporation, take_presidency,
-};
+use crate::trading::{get_share, give_up_private, pay_seller, settle_corporation, take_presidency};
 use rr_books::{Act, Corp, Entry, Fault, Marker, Seat, ShareSource};
 use rr_chart::Chart;
 use rr_desk::Desk;
@@ -72,8 +70,7 @@ pub(crate) fn play_sale(
     let amount = proceeds(desk.position(), chart, corp, shares);
     desk.push(Entry::Step(Marker::Act(Act::Sell { seat, corp, count })))?;
     sell_shares(desk, corp, seat, shares)?;
-    pay_seat(desk, seat, amount)?;
-    fall(desk, chart, corp, shares)?;
+    pay_seller(desk, chart, seat, corp, shares, amount)?;
     Ok(())
 }
 

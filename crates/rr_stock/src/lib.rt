@@ -1,7 +1,7 @@
 //! The stock rounds: pars, purchases and sales of shares, and the end of a round.
 //!
 //! Stands on `rr_shares` and `rr_holdings`. Its promise: `judge` is exactly `verdict` over the book, `play` exactly
-//! `entries_of`.
+//! `entries_of`. What a forced sale shares with a sale, `proceeds` and `pay_seller`, it shows too.
 #![tactic(auto)]
 
 mod commands;
@@ -17,4 +17,6 @@ mod waiting;
 pub use fault::Fault;
 pub use judging::judge;
 pub use playing::play;
+pub use reading::proceeds;
+pub use trading::pay_seller;
 pub use waiting::due;

@@ -39,8 +39,9 @@ pub(crate) fn share_price(
     }
 }
 
-/// What a seller gets for so many 10% shares: the market price for each.
-pub(crate) fn proceeds(position: &Position, chart: &Chart, corp: Corp, count: u8) -> u32
+/// What a seller gets for so many 10% shares of the corporation, in dollars: the market price for each, and nothing
+/// before its token is on the chart.
+pub fn proceeds(position: &Position, chart: &Chart, corp: Corp, count: u8) -> u32
     ensures { (book : Book) → IsPositionOf book position.now → result ≡ count * unwrap_or (price_of chart.now book corp) 0 }
 {
     let price = position.market().price(chart, corp).unwrap_or(0);

@@ -3,7 +3,7 @@ ghost use Rattle.rr_desk.specs.Effects.{adds};
 ghost use Rattle.rr_desk.specs.Incomes.{dollars};
 ghost use Rattle.rr_market.specs.Moves.{par_marks, sale_marks};
 ghost use Rattle.rr_desk.specs.Desk.{Takes};
-ghost use Rattle.rr_stock.specs.Effects.{gets_share, gives_up_private, marks, pays_bank, settles_corporation, takes_presidency};
+ghost use Rattle.rr_stock.specs.Effects.{gets_share, gives_up_private, marks, pays_bank, pays_seller, settles_corporation, takes_presidency};
 
 use crate::reading::{cell_after_sale, place_of_source};
 use rr_books::{Cell, Cert, Corp, Entry, Fault, Money, Party, Place, Private, Seat, ShareSource};
@@ -118,8 +118,33 @@ pub(crate) fn settle_corporation(
     Ok(())
 }
 
-/// The bank pays the seat.
-pub(crate) fn pay_seat(desk: &mut Desk, seat: Seat, amount: u32) -> Result<(), Fault>
+/// The bank pays the seller of so many 10% shares the amount, and the corporation's token falls a row for each of them,
+/// stopping above the first missing cell. The amount is what `proceeds` tells before the sale; the shares themselves are
+/// moved elsewhere.
+///
+/// # Errors
+///
+/// `OutOfMemory`; the seller may have been paid then.
+#[tactic(auto, unfolding(crate::specs::Effects::pays_seller))]
+pub fn pay_seller(
+    desk: &mut Desk,
+    chart: &Chart,
+    seat: Seat,
+    corp: Corp,
+    count: u8,
+    amount: u32,
+) -> Result<(), Fault>
+    requires { seat.0 < 6 }
+    ensures fault { IfErr result (λ fault. fault ≡ Fault.OutOfMemory) }
+    ensures takes { OnOk result (Takes (pays_seller chart.now seat corp count amount) desk.old desk.new) }
+{
+    pay_seat(desk, seat, amount)?;
+    fall(desk, chart, corp, count)?;
+    Ok(())
+}
+
+// The bank pays the seat.
+fn pay_seat(desk: &mut Desk, seat: Seat, amount: u32) -> Result<(), Fault>
     requires { seat.0 < 6 }
     ensures fault { IfErr result (λ fault. fault ≡ Fault.OutOfMemory) }
     ensures takes { OnOk result (Takes (adds (Entry.Pay Party.Bank (Party.Seat seat) (dollars amount))) desk.old desk.new) }
@@ -133,8 +158,8 @@ pub(crate) fn pay_seat(desk: &mut Desk, seat: Seat, amount: u32) -> Result<(), F
     Ok(())
 }
 
-/// The token falls a row for each of so many 10% shares.
-pub(crate) fn fall(desk: &mut Desk, chart: &Chart, corp: Corp, count: u8) -> Result<(), Fault>
+// The token falls a row for each of so many 10% shares.
+fn fall(desk: &mut Desk, chart: &Chart, corp: Corp, count: u8) -> Result<(), Fault>
     ensures fault { IfErr result (λ fault. fault ≡ Fault.OutOfMemory) }
     ensures takes { OnOk result (Takes (sale_marks chart.now count corp) desk.old desk.new) }
 {

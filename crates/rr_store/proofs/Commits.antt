@@ -27,6 +27,7 @@ use Rattle.rr_store.specs.Logging.{HasNoRoom, Keeping, Passed, Stays}
 use Rattle.rr_store.specs.Replaying.{Replayed}
 use Rattle.rr_store.specs.World.{MayRefuse, World, for_table, judgement_in, world_after}
 use Rattle.rr_store.proofs.Standing.{carried_keeps, replayed_more, stands_either}
+use Rattle.rr_hist.specs.Laws.{RequestsHaveOneVerdict}
 use Rattle.rr_store.proofs.Verdicts.{no_failure, not_both, refused_full}
 
 abbrev held : Kit → World → Bool → Held
@@ -277,28 +278,28 @@ module _ {D : Type 0} (Honest Works : D → Type 0) (state : D → DiskState) (p
     same_goes_on : new.log ≡ old.log → GoesOn
     same_goes_on still h whole texts records kept = subst (λ (l : Log D). KeepsLines l.keeper (state (file.disk_of l.keeper)) (in_file texts) records) (sym still) kept
 
-    refused : (fault : Fault) → Takes (held_of old) stamp name c (held_of new) (Err fault) → ((f : Fault) → IsVerdict (judgement_in kit_now tables_now stamp name c) (Some f) → new.log ≡ old.log)
+    refused : RequestsHaveOneVerdict → (fault : Fault) → Takes (held_of old) stamp name c (held_of new) (Err fault) → ((f : Fault) → IsVerdict (judgement_in kit_now tables_now stamp name c) (Some f) → new.log ≡ old.log)
         → (fault ≡ F.HalfFull → IsFull old name c)
         → (new.log ≡ old.log) ⊎ Keeps_record old.log bytes_of (Err fault) new.log → Done (Err fault)
-    refused fault (Refused f whole verdict held_is) untouched full passed =
+    refused law fault (Refused f whole verdict held_is) untouched full passed =
         spared f (no_failure kit_now tables_now stamp name c f verdict) (Refused f whole verdict held_is) held_is (same_log (untouched f verdict)) (same_goes_on (untouched f verdict)) full
-        (λ _ lawful none. absurd (not_both kit_now tables_now stamp name c f lawful verdict))
-    refused fault (Wants whole first held_is) untouched full (inl still) =
+        (λ _ lawful none. absurd (not_both law kit_now tables_now stamp name c f lawful verdict))
+    refused law fault (Wants whole first held_is) untouched full (inl still) =
         spared F.OutOfMemory (λ is. absurd (cc is)) (Wants whole first held_is) held_is (same_log still) (same_goes_on still) full (λ _ _ none. inr refl)
-    refused fault (Wants whole first held_is) untouched full (inr k) =
+    refused law fault (Wants whole first held_is) untouched full (inr k) =
         spared F.OutOfMemory (λ is. absurd (cc is)) (Wants whole first held_is) held_is (stays_same (keeper_of old) (keeper_of new) F.OutOfMemory (λ is. absurd (cc is)) k.stays)
         (λ h unbroken texts records kept. k.keeps h unbroken (in_file texts) records kept) full (λ _ _ none. inr refl)
-    refused fault (NoRoom whole lawful held_is) untouched full (inl still) =
+    refused law fault (NoRoom whole lawful held_is) untouched full (inl still) =
         spared F.HalfFull (λ is. absurd (cc is)) (NoRoom whole lawful held_is) held_is (same_log still) (same_goes_on still) full (λ _ _ none. inl refl)
-    refused fault (NoRoom whole lawful held_is) untouched full (inr k) =
+    refused law fault (NoRoom whole lawful held_is) untouched full (inr k) =
         spared F.HalfFull (λ is. absurd (cc is)) (NoRoom whole lawful held_is) held_is (stays_same (keeper_of old) (keeper_of new) F.HalfFull (λ is. absurd (cc is)) k.stays)
         (λ h unbroken texts records kept. k.keeps h unbroken (in_file texts) records kept) full (λ _ _ none. inl refl)
-    refused fault (Fails whole lawful held_is) untouched full (inl still) =
+    refused law fault (Fails whole lawful held_is) untouched full (inl still) =
         let both : true ≡ false = sym (ap (λ (x : Held). x.broken) held_is) ∙ ap (λ (l : Log D). is_broken l.keeper) still ∙ was in absurd (cc both)
-    refused fault (Fails whole lawful held_is) untouched full (inr k) = failed (Fails whole lawful held_is) lawful held_is k
-    refused fault (Again broken held_is) untouched full passed = let both : true ≡ false = sym broken ∙ was in absurd (cc both)
+    refused law fault (Fails whole lawful held_is) untouched full (inr k) = failed (Fails whole lawful held_is) lawful held_is k
+    refused law fault (Again broken held_is) untouched full passed = let both : true ≡ false = sym broken ∙ was in absurd (cc both)
 
-    pub commits : (result : Result ℕ Fault)
+    pub commits : RequestsHaveOneVerdict → (result : Result ℕ Fault)
         → MatchResult result (λ _. IsVerdict (judgement_in kit_now tables_now stamp name c) None)
         (λ fault. MayRefuse (judgement_in kit_now tables_now stamp name c) (HasNoRoom (keeper_of old) bytes_of) (is_broken (keeper_of old)) fault (is_broken (keeper_of new)))
         → OnOk result (world_of new.tables.map.entries ≡ world_after kit_now tables_now name c)
@@ -309,9 +310,9 @@ module _ {D : Type 0} (Honest Works : D → Type 0) (state : D → DiskState) (p
         → OnErr result (new.tables.map.entries ≡ old.tables.map.entries)
         → ((f : Fault) → IsVerdict (judgement_in kit_now tables_now stamp name c) (Some f) → new.log ≡ old.log)
         → Done result
-    commits (Ok n) lawful world counted whole k kit_is entries untouched =
+    commits law (Ok n) lawful world counted whole k kit_is entries untouched =
         taken n (takes_accepted _ _ _ _ _ _ stamp n name c was whole kit_is world lawful counted) lawful
         (held_same _ _ _ _ _ _ kit_is world (whole ∙ sym was)) k
-    commits (Err fault) verdict world counted whole passed kit_is entries untouched =
-        refused fault (takes_refused _ _ _ _ _ _ _ stamp name c fault was kit_is (ap world_of entries) verdict) untouched
+    commits law (Err fault) verdict world counted whole passed kit_is entries untouched =
+        refused law fault (takes_refused _ _ _ _ _ _ _ stamp name c fault was kit_is (ap world_of entries) verdict) untouched
         (refused_full _ kit_now tables_now _ _ stamp name c fault verdict) passed

@@ -18,6 +18,7 @@ use Rattle.rr_store.specs.Fault.{of_keeper}
 use Rattle.rr_store.specs.Files.{RefusesOpening}
 use Rattle.rr_store.specs.Replaying.{BreaksOff, IsUnlawful, RefusesReplay, Replays, TakesRecord, damage_of, record_judgement}
 use Rattle.rr_store.specs.World.{MayRefuse, World, judgement_in, present_stamp, table_named}
+use Rattle.rr_hist.specs.Laws.{RequestsHaveOneVerdict}
 use Rattle.rr_store.proofs.Verdicts.{not_both}
 
 pub Replays-push : (kit : Kit) (old mid new : World) (records : List (List ℕ)) (bytes : List ℕ)
@@ -34,28 +35,28 @@ same_read : (x y : Reads) (r s : Result Reads code.Fault) → r ≡ Ok x → s �
 same_read x y r s p q e = cc
 
 -- the one request that a record spells is refused
-unlawful : (kit : Kit) (tables : World) (bytes name : List ℕ) (c : Request Command) (fault : Fault)
+unlawful : RequestsHaveOneVerdict → (kit : Kit) (tables : World) (bytes name : List ℕ) (c : Request Command) (fault : Fault)
     → ((table : List ℕ) (other : Request Command) → SpellsRecord bytes table other → let r : Result Reads code.Fault = Ok (name, c) in r ≡ Ok (table, other))
     → IsVerdict (record_judgement kit tables name c) (Some fault) → IsUnlawful kit tables bytes
-unlawful kit tables bytes name c fault only refused table other spells lawful =
+unlawful law kit tables bytes name c fault only refused table other spells lawful =
     let same = same_read (name, c) (table, other) _ _ refl refl (only table other spells) in
     let first = subst (λ (x : Reads). IsVerdict (record_judgement kit tables x.0 x.1) (Some fault)) same refused in
-    not_both kit tables (present_stamp (table_named tables table)) table other fault lawful first
+    not_both law kit tables (present_stamp (table_named tables table)) table other fault lawful first
 
 -- where no file keeps the record, its request is refused by a rule or for want of memory
-pub refused_record : (kit : Kit) (tables : World) (bytes name : List ℕ) (c : Request Command) (stamp : ℕ) (fault : Fault)
+pub refused_record : RequestsHaveOneVerdict → (kit : Kit) (tables : World) (bytes name : List ℕ) (c : Request Command) (stamp : ℕ) (fault : Fault)
     → ((table : List ℕ) (other : Request Command) → SpellsRecord bytes table other → let r : Result Reads code.Fault = Ok (name, c) in r ≡ Ok (table, other))
     → stamp ≡ present_stamp (table_named tables name)
     → MayRefuse (judgement_in kit tables stamp name c) ⊥ false fault false
     → (fault ≡ F.OutOfMemory) ⊎ IsUnlawful kit tables bytes
-refused_record kit tables bytes name c stamp fault only at (inl (inl by_rule, same)) =
-    inr (unlawful kit tables bytes name c fault only (subst (λ n. IsVerdict (judgement_in kit tables n name c) (Some fault)) at by_rule))
-refused_record kit tables bytes name c stamp fault only at (inl (inr wants, same)) = inl wants.1
-refused_record kit tables bytes name c stamp F.OutOfMemory only at (inr out) = inl refl
-refused_record kit tables bytes name c stamp F.HalfFull only at (inr out) = absurd out.1.1
-refused_record kit tables bytes name c stamp F.DeviceFailed only at (inr out) = let both = out.1 in cc
-refused_record kit tables bytes name c stamp F.OpenAgain only at (inr out) = let both = out.1 in cc
-refused_record kit tables bytes name c stamp fault only at (inr out) = absurd out.1
+refused_record law kit tables bytes name c stamp fault only at (inl (inl by_rule, same)) =
+    inr (unlawful law kit tables bytes name c fault only (subst (λ n. IsVerdict (judgement_in kit tables n name c) (Some fault)) at by_rule))
+refused_record law kit tables bytes name c stamp fault only at (inl (inr wants, same)) = inl wants.1
+refused_record law kit tables bytes name c stamp F.OutOfMemory only at (inr out) = inl refl
+refused_record law kit tables bytes name c stamp F.HalfFull only at (inr out) = absurd out.1.1
+refused_record law kit tables bytes name c stamp F.DeviceFailed only at (inr out) = let both = out.1 in cc
+refused_record law kit tables bytes name c stamp F.OpenAgain only at (inr out) = let both = out.1 in cc
+refused_record law kit tables bytes name c stamp fault only at (inr out) = absurd out.1
 
 module _ {X : Type 0} (f : X → List ℕ) (xs : List X) (i : ℕ) (d : X) (within : i < length xs) where
   here_on : drop i xs ≡ get_or xs i d ∷ drop (i + 1) xs

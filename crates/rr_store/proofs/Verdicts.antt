@@ -5,7 +5,7 @@ use Rattle.rr_kit.specs.declared.kit.Kit.{Kit}
 use Rattle.rr_hist.specs.declared.fault.Fault as table
 use Rattle.rr_hist.specs.declared.fault.Fault.TheVariants as H
 use Rattle.rr_hist.specs.Verdict.{own_judgement, request_judgement, stamp_verdict}
-use Rattle.rr_hist.proofs.Judging.{request_one}
+use Rattle.rr_hist.specs.Laws.{RequestsHaveOneVerdict}
 use Rattle.rr_turns.specs.Judgement.{HasOneVerdict, IsVerdict, Judgement, judgement_map, settled}
 use Rattle.rr_turns.proofs.JudgementLemmas.{check-passed, is-map, is-settled, lawful-map, map-one, settled-one}
 use Rattle.rr_turns.specs.declared.request.Request.{Request}
@@ -82,27 +82,27 @@ refused_full Full kit tables b b' stamp name c fault (inr out) is = absurd out.1
 
 -- each request has one verdict
 
-step_one : (kit : Kit) (t : Option TableState) (stamp : ℕ) (c : Request Command) → HasOneVerdict (step_judgement kit t stamp c)
-step_one kit None stamp c = settled-one (Some F.NoSuchTable)
-step_one kit (Some t) stamp c = map-one of_table (request_judgement kit t stamp c) (request_one kit t stamp c)
+step_one : RequestsHaveOneVerdict → (kit : Kit) (t : Option TableState) (stamp : ℕ) (c : Request Command) → HasOneVerdict (step_judgement kit t stamp c)
+step_one law kit None stamp c = settled-one (Some F.NoSuchTable)
+step_one law kit (Some t) stamp c = map-one of_table (request_judgement kit t stamp c) (law kit t stamp c)
 
-pub step_not_both : (kit : Kit) (t : Option TableState) (stamp : ℕ) (c : Request Command) (fault : Fault)
+pub step_not_both : RequestsHaveOneVerdict → (kit : Kit) (t : Option TableState) (stamp : ℕ) (c : Request Command) (fault : Fault)
     → IsVerdict (step_judgement kit t stamp c) None → IsVerdict (step_judgement kit t stamp c) (Some fault) → ⊥
-step_not_both kit t stamp c fault lawful refused =
-    let both : None ≡ Some fault = step_one kit t stamp c None (Some fault) lawful refused in absurd (cc both)
+step_not_both law kit t stamp c fault lawful refused =
+    let both : None ≡ Some fault = step_one law kit t stamp c None (Some fault) lawful refused in absurd (cc both)
 
-pub world_one : (kit : Kit) (t : Option TableState) (n stamp : ℕ) (c : Request Command) → HasOneVerdict (world_judgement kit t n stamp c)
-world_one kit t n stamp (Play (Open players)) = settled-one (opening_verdict t n stamp)
-world_one kit t n stamp c = step_one kit t stamp c
+pub world_one : RequestsHaveOneVerdict → (kit : Kit) (t : Option TableState) (n stamp : ℕ) (c : Request Command) → HasOneVerdict (world_judgement kit t n stamp c)
+world_one law kit t n stamp (Play (Open players)) = settled-one (opening_verdict t n stamp)
+world_one law kit t n stamp c = step_one law kit t stamp c
 
-pub verdict_one : (kit : Kit) (tables : World) (stamp : ℕ) (name : List ℕ) (c : Request Command) → HasOneVerdict (judgement_in kit tables stamp name c)
-verdict_one kit tables stamp name c = world_one kit (table_named tables name) _ stamp c
+pub verdict_one : RequestsHaveOneVerdict → (kit : Kit) (tables : World) (stamp : ℕ) (name : List ℕ) (c : Request Command) → HasOneVerdict (judgement_in kit tables stamp name c)
+verdict_one law kit tables stamp name c = world_one law kit (table_named tables name) _ stamp c
 
 -- none is lawful and refused
-pub not_both : (kit : Kit) (tables : World) (stamp : ℕ) (name : List ℕ) (c : Request Command) (fault : Fault)
+pub not_both : RequestsHaveOneVerdict → (kit : Kit) (tables : World) (stamp : ℕ) (name : List ℕ) (c : Request Command) (fault : Fault)
     → IsVerdict (judgement_in kit tables stamp name c) None → IsVerdict (judgement_in kit tables stamp name c) (Some fault) → ⊥
-not_both kit tables stamp name c fault lawful refused =
-    let both : None ≡ Some fault = verdict_one kit tables stamp name c None (Some fault) lawful refused in absurd (cc both)
+not_both law kit tables stamp name c fault lawful refused =
+    let both : None ≡ Some fault = verdict_one law kit tables stamp name c None (Some fault) lawful refused in absurd (cc both)
 
 -- a lawful command has the present stamp of its table
 

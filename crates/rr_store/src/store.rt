@@ -69,6 +69,7 @@ impl<D: Disk + Drop> Store<D> {
         if self.log.keeper.is_broken() {
             return Err(Fault::OpenAgain);
         }
+        rr_hist::laws::requests_have_one_verdict();
         self.tables
             .take(self.alloc, stamp, name, request, &mut self.log)
     }

@@ -268,6 +268,7 @@ impl Tables {
         ensures untouched { (fault : Fault) → IsVerdict (step_judgement self.old.kit (option_map kept_in_box (get bytes_eq self.old.map name.now)) stamp request.now) (Some fault)
             → journal.new ≡ journal.old }
     {
+        rr_hist::laws::requests_have_one_verdict();
         let change = self.judge(alloc, stamp, name, request)?;
         journal.keep(name, request)?;
         Ok(self.change(name, change))
@@ -309,7 +310,7 @@ impl Tables {
 }
 
 /// The players of an opening, if the request is one.
-fn opening_of(request: &Request<Command>) -> Option<&Players>
+fn opening_of<'a>(request: &'a Request<Command>) -> Option<&'a Players>
     ensures { MatchOption result ((players : List (List ℕ)) → request.now ≡ Request.Play (Command.Open players) → ⊥)
         (λ players. request.now ≡ Request.Play (Command.Open players.now)) }
 {

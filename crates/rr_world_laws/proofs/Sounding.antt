@@ -4,7 +4,7 @@ use Rattle.std.specs.List.{AllByRecursion}
 use Rattle.std.proofs.lemmas.Bool.Decides.{nat_tests}
 use Rattle.indexmap.specs.IndexMap.{insert_entry}
 use Rattle.rr_kit.specs.declared.kit.Kit.{Kit}
-use Rattle.rr_books.specs.Book.{Book}
+use Rattle.rr_rules.specs.State.{GameState}
 use Rattle.rr_game.specs.Play.{play, played_on, players_of}
 use Rattle.rr_game.specs.Verdict.{command_judgement}
 use Rattle.rr_hist.specs.Fault.{of_game}
@@ -40,12 +40,12 @@ game_takes kit t stamp c e =
     (lawful-behind (room_verdict t) (judgement_map of_game (game_judgement kit t.commands c)) (own_passes kit t stamp (Play c) e))
 
 -- the first turns of a table that was played
-front_accepted : (kit : Kit) (ends : List Command → Command → Bool) (players : List (List ℕ)) (book : Book) (before : List Command) (k : ℕ) (cs : List Command)
-    → AreAccepted kit players book cs → AreAccepted kit players book (next_turns ends before k cs)
-front_accepted kit ends players book before k [] all = tt
-front_accepted kit ends players book before zero (c ∷ cs) all = tt
-front_accepted kit ends players book before (suc k) (c ∷ cs) all =
-    (all.0, front_accepted kit ends players (played_on kit players book c) (before ++ c ∷ []) (if ends before c then k else suc k) cs all.1)
+front_accepted : (kit : Kit) (ends : List Command → Command → Bool) (players : List (List ℕ)) (state : GameState) (before : List Command) (k : ℕ) (cs : List Command)
+    → AreAccepted kit players state cs → AreAccepted kit players state (next_turns ends before k cs)
+front_accepted kit ends players state before k [] all = tt
+front_accepted kit ends players state before zero (c ∷ cs) all = tt
+front_accepted kit ends players state before (suc k) (c ∷ cs) all =
+    (all.0, front_accepted kit ends players (played_on kit players state c) (before ++ c ∷ []) (if ends before c then k else suc k) cs all.1)
 
 front_played : (kit : Kit) (ends : List Command → Command → Bool) (k : ℕ) (cs : List Command) → ArePlayed kit cs → ArePlayed kit (first_turns ends k cs)
 front_played kit ends k [] played = absurd played

@@ -13,7 +13,7 @@ use Rattle.rr_store.specs.World.{Follows, TableRequest, World}
 
 -- each table's book is in order
 abbrev pub IsSoundWorld : Kit → World → Type 0
-IsSoundWorld kit tables = AllByRecursion (λ t. IsSoundTable (length (players_of t.1.commands)) (play kit t.1.commands)) tables
+IsSoundWorld kit tables = AllByRecursion (λ t. IsSoundTable (length (players_of t.1.commands)) (play kit t.1.commands).book) tables
 
 -- so it is whatever lawful requests led to the world
 abbrev pub WorldsAreSound : Type 0

@@ -1,6 +1,10 @@
 //! Lines, and records of the journal.
-use super::{check_line, check_no_line, check_record, check_request_written, player, table};
-use rr_code::{Account, Command, Fault, Line, Owner, Query, Request, laws, read_record, unstamped};
+use super::{
+    check_line, check_no_command, check_no_line, check_record, check_request_written, player, table,
+};
+use rr_code::{
+    Account, Command, Fault, Line, Owner, Query, Request, TrainHolder, laws, read_record, unstamped,
+};
 use rr_roster::{Corp, Private};
 use std::process::Abort;
 use std::test::Fail;
@@ -16,6 +20,8 @@ fn reads_each_query(rt: HostRuntime) {
         ("limit t1", Query::Limit { table }),
         ("asked t1", Query::Asked { table }),
         ("order t1", Query::Order { table }),
+        ("phase t1", Query::Phase { table }),
+        ("iou t1", Query::Iou { table }),
     ] {
         check_line(&rt, text, Line::Query(query));
     }
@@ -50,6 +56,64 @@ fn reads_each_query_of_an_owner(rt: HostRuntime) {
         "price t1 C&O",
         Line::Query(Query::Price { table, corp }),
     );
+}
+
+#[test]
+fn reads_queries_of_trains_and_worth(rt: HostRuntime) {
+    let table = table(&rt);
+    for (text, of) in [
+        ("trains t1 pool", TrainHolder::Pool),
+        ("trains t1 B&M", TrainHolder::Corp(Corp::Bm)),
+    ] {
+        check_line(&rt, text, Line::Query(Query::Trains { table, of }));
+    }
+    let player = player(&rt, "ann");
+    check_line(
+        &rt,
+        "worth t1 ann",
+        Line::Query(Query::Worth { table, player }),
+    );
+}
+
+#[test]
+fn reads_that_the_best_run_is_wanted(rt: HostRuntime) {
+    let table = table(&rt);
+    for (text, stamp, corp) in [
+        ("7 t1 best PRR", 7, Corp::Prr),
+        ("9999999999 t1 best B&O", 9_999_999_999, Corp::Bo),
+    ] {
+        check_line(&rt, text, Line::Best { stamp, table, corp });
+    }
+}
+
+#[test]
+fn keeps_no_best_run_to_be_found(rt: HostRuntime) {
+    for text in ["t1 best PRR", "t1 best PRR best"] {
+        let refused = matches!(read_record(text.as_bytes()), Err(Fault::Malformed));
+        assert!(rt; refused, "{text}");
+    }
+    for text in ["best PRR", "best", "best PRR 2=1-2"] {
+        check_no_command(&rt, text);
+    }
+    for text in [
+        "7 t1 best",
+        "7 t1 best ",
+        "7 t1 best XYZ",
+        "7 t1 best SV",
+        "7 t1 best ann",
+        "7 t1 best PRR 2=1-2",
+        "7 t1 best PRR ",
+        "7 t1 Best PRR",
+        "7 t1 best  PRR",
+        "7 T1 best PRR",
+        "07 t1 best PRR",
+        "12345678901 t1 best PRR",
+        "7 best PRR",
+        "best t1 PRR",
+        "t1 best PRR",
+    ] {
+        check_no_line(&rt, text);
+    }
 }
 
 #[test]
@@ -175,6 +239,18 @@ fn refuses_other_queries(rt: HostRuntime) {
         "price t1 PRR NYC",
         "order",
         "order t1 PRR",
+        "phase",
+        "phase t1 PRR",
+        "trains t1",
+        "trains t1 bank",
+        "trains t1 ann",
+        "trains t1 PRR NYC",
+        "iou",
+        "iou t1 bank",
+        "worth t1",
+        "worth t1 PRR",
+        "worth t1 pool",
+        "worth t1 ann bob",
     ] {
         check_no_line(&rt, text);
     }

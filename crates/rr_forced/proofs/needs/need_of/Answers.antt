@@ -5,8 +5,8 @@ use Rattle.rr_forced.specs.Needs.{cheapest_need}
 use Rattle.rr_forced.proofs.NeedsOfBook.{need_of_book}
 use Rattle.rr_forced.proofs.needs.need_of.Goals as goal
 
-pub returns : goal.returns
-returns c book h =
+pub returns-clause-need : goal.returns-clause-need
+returns-clause-need c book h =
     let corp = c.in-Some.corp in
     let owes = (c.in_ok-owes_train.ensures book h).0 c.if-not-branch.false in
     let told = need_of_book c.roster.result.now corp book c.books.result.now c.args.position.now.books c.cheapest_need.result c.books.ensures h.books c.cheapest_need.ensures.shown in

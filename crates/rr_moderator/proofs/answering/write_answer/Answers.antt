@@ -1,7 +1,7 @@
 use Rattle.std.proofs.Common.{refl, Ok}
 use Rattle.std.proofs.lemmas.Result.{err_from_is_err_and}
 use Rattle.rr_store.specs.World.{names}
-use Rattle.rr_moderator.specs.Queries.{asked_answer, cash_answer, due_answer, holds_answer, limit_answer, order_answer, price_answer, privates_answer, stamp_answer, turns_answer}
+use Rattle.rr_moderator.specs.Queries.{asked_answer, cash_answer, due_answer, holds_answer, limit_answer, order_answer, price_answer, privates_answer, stamp_answer, turns_answer, worth_answer}
 use Rattle.rr_hist.specs.Tables.{kept_in}
 use Rattle.rr_store.specs.Holding.{held_of}
 use Rattle.rr_moderator.proofs.Replies.{refuses_at, writes_at, written}
@@ -55,7 +55,7 @@ returns-in_err-table-in-Due-clause-answer g c =
 
 pub returns-in_ok-table-in-Due-clause-answer : goal.returns-in_ok-table-in-Due-clause-answer
 returns-in_ok-table-in-Due-clause-answer g c =
-    rw c.in-Due.is (writes_at (held_of c.args.store.now).tables c.in-Due.table (due_answer (held_of c.args.store.now).kit) (kept_in c.in_ok-table-in-Due.field-0.now) (Ok (tt {0})) c.write_table_due.new.reply c.in_ok-table-in-Due.ensures.found.1 (refl, c.write_table_due.ensures.text _ c.in_ok-table-in-Due.ensures.played))
+    rw (c.in-Due.is, ← c.kit.ensures) (writes_at (held_of c.args.store.now).tables c.in-Due.table (due_answer c.kit.result.now) (kept_in c.in_ok-table-in-Due.field-0.now) (Ok (tt {0})) c.write_table_due.new.reply c.in_ok-table-in-Due.ensures.found.1 (refl, c.write_table_due.ensures.text (rw c.kit.ensures c.in_ok-table-in-Due.ensures.played)))
 
 pub returns-in_err-table-in-Asked-clause-answer : goal.returns-in_err-table-in-Asked-clause-answer
 returns-in_err-table-in-Asked-clause-answer g c =
@@ -64,7 +64,7 @@ returns-in_err-table-in-Asked-clause-answer g c =
 
 pub returns-in_ok-table-in-Asked-clause-answer : goal.returns-in_ok-table-in-Asked-clause-answer
 returns-in_ok-table-in-Asked-clause-answer g c =
-    rw (c.in-Asked.is, ← c.kit.ensures) (writes_at (held_of c.args.store.now).tables c.in-Asked.table (asked_answer c.kit.result.now) (kept_in c.in_ok-table-in-Asked.field-0.now) (Ok (tt {0})) c.write_cheapest.new.reply c.in_ok-table-in-Asked.ensures.found.1 (refl, c.write_cheapest.ensures.text (rw c.kit.ensures c.in_ok-table-in-Asked.ensures.played)))
+    rw (c.in-Asked.is, ← c.kit-in-Asked.ensures) (writes_at (held_of c.args.store.now).tables c.in-Asked.table (asked_answer c.kit-in-Asked.result.now) (kept_in c.in_ok-table-in-Asked.field-0.now) (Ok (tt {0})) c.write_cheapest.new.reply c.in_ok-table-in-Asked.ensures.found.1 (refl, c.write_cheapest.ensures.text (rw c.kit-in-Asked.ensures c.in_ok-table-in-Asked.ensures.played)))
 
 pub returns-in_err-table-in-Privates-clause-answer : goal.returns-in_err-table-in-Privates-clause-answer
 returns-in_err-table-in-Privates-clause-answer g c =
@@ -101,3 +101,7 @@ returns-in_err-table-in-Order-clause-answer g c =
 pub returns-in_ok-table-in-Order-clause-answer : goal.returns-in_ok-table-in-Order-clause-answer
 returns-in_ok-table-in-Order-clause-answer g c =
     rw (c.in-Order.is, ← c.kit-in-Order.ensures) (writes_at (held_of c.args.store.now).tables c.in-Order.table (order_answer c.kit-in-Order.result.now) (kept_in c.in_ok-table-in-Order.field-0.now) (Ok (tt {0})) c.write_order.new.reply c.in_ok-table-in-Order.ensures.found.1 (refl, c.write_order.ensures.text (rw c.kit-in-Order.ensures c.in_ok-table-in-Order.ensures.played)))
+
+pub returns-in_ok-table-in-Worth-clause-answer : goal.returns-in_ok-table-in-Worth-clause-answer
+returns-in_ok-table-in-Worth-clause-answer g c =
+    rw (c.in-Worth.is, ← c.kit-in-Worth.ensures) (writes_at (held_of c.args.store.now).tables c.in-Worth.table (worth_answer c.kit-in-Worth.result.now c.in-Worth.player) (kept_in c.in_ok-table-in-Worth.field-0.now) c.write_worth.result c.write_worth.new.reply c.in_ok-table-in-Worth.ensures.found.1 (c.write_worth.ensures.answer (rw c.kit-in-Worth.ensures c.in_ok-table-in-Worth.ensures.played)))

@@ -9,5 +9,5 @@ use Rattle.rr_moderator.proofs.answering.write_privates.Given as goal
 abbrev pub invariant-loop-private : goal.invariant-loop-private
 invariant-loop-private l = record {
   bounded : length l.reply ≤ 1 + 5 * l.private-index;
-  text : l.reply ≡ codes "=" ++ spaced (map private_name (filter (λ p. is_at (holder_in l.game.position.books (C.Private p)) l.place) (take l.private-index privates)));
+  text : l.reply ≡ codes "=" ++ spaced (map private_name (filter (λ p. is_at (holder_in l.game.standing.position.books (C.Private p)) l.place) (take l.private-index privates)));
 }

@@ -5,6 +5,6 @@ use Rattle.rr_stock.proofs.commands.play_sale.Goals as goal
 pub returns-clause-takes : goal.returns-clause-takes
 returns-clause-takes c =
     takes_sale c.args.chart.now c.args.seat c.args.corp c.args.count c.proceeds-amount.result
-    c.args.desk.now c.push.new.self c.sell_shares.new.desk c.pay_seat.new.desk c.fall.new.desk
+    c.args.desk.now c.push.new.self c.sell_shares.new.desk c.pay_seller.new.desk
     (λ book h. c.proceeds-amount.ensures book (shown c.position.ensures h))
-    c.in_ok-push.ensures.takes c.in_ok-sell_shares.ensures.takes c.in_ok-pay_seat.ensures.takes c.in_ok-fall.ensures.takes
+    c.in_ok-push.ensures.takes c.in_ok-sell_shares.ensures.takes c.in_ok-pay_seller.ensures.takes

@@ -1,4 +1,4 @@
-use Rattle.std.specs.Prelude.{◌≡◌, ◌≤◌, Bool, true, false, cond, refl}
+use Rattle.std.specs.Prelude.{◌≤◌, Bool, true, false, cond, refl}
 use Rattle.std.proofs.Common.{arith}
 use Rattle.rr_books.specs.declared.entries.Entry.TheVariants as E
 use Rattle.rr_books.specs.declared.entries.Marker.TheVariants as M

@@ -14,7 +14,7 @@ returns-in_err-take-clause-err c =
     let p = err_from_is_err_and failed.result failed.ensures.1 in
     let entries = c.args.tables.now.map.entries in
     let at = c.stamp-stamp.ensures ∙ ap present_stamp (sym (named_by kept_in_box c.in_ok-name.name entries)) in
-    rw (p.1, p.2) (refused_record c.args.tables.now.kit (world_of entries) c.args.bytes.now c.in_ok-name.name c.in_ok-name.request c.stamp-stamp.result _
+    rw (p.1, p.2) (refused_record c.requests_have_one_verdict.ensures c.args.tables.now.kit (world_of entries) c.args.bytes.now c.in_ok-name.name c.in_ok-name.request c.stamp-stamp.result _
     c.in_ok-name.ensures.only at c.in_err-take.ensures.verdict)
 
 pub returns-clause-ok : goal.returns-clause-ok

@@ -5,3 +5,6 @@ returns-in_err-append-clause-stops g c = λ honest old new takes carries. c.in_e
 
 pub returns-clause-stops : goal.returns-clause-stops
 returns-clause-stops g c = λ honest old new takes carries. c.in_ok-append.ensures.stops honest old new takes c.args.self.now.checkpoint carries
+
+pub returns-clause-carries : goal.returns-clause-carries
+returns-clause-carries g c = λ honest old new takes carries. c.in_ok-append.ensures.carries honest old new takes c.args.self.now.checkpoint carries

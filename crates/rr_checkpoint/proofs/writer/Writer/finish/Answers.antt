@@ -3,8 +3,8 @@ use Rattle.rr_disk.proofs.MomentLemmas.{started, joins}
 use Rattle.rr_images.specs.Layout.{Keeps}
 use Rattle.rr_pages.specs.declared.choosing.Taken.{Taken}
 use Rattle.rr_pages.specs.declared.root.Root.{Root}
-use Rattle.rr_checkpoint.specs.Writer.{ticks_left_of, taken_of}
-use Rattle.rr_checkpoint.proofs.Writers.{left_some, lowers_one, none_is_left, taken_left, renewed_behind}
+use Rattle.rr_checkpoint.specs.Writer.{place_of, ticks_left_of, taken_of}
+use Rattle.rr_checkpoint.proofs.Writers.{left_some, lowers_one, none_is_left, taken_left, renewed_behind, holds_at_first, holds_more, rests_behind}
 use Rattle.rr_checkpoint.proofs.writer.Writer.finish.Goals as goal
 
 pub loop-self-init : goal.loop-self-init
@@ -13,12 +13,13 @@ loop-self-init g c =
     record {
       honest = λ honest. honest;
       works = λ works. works;
-      carries = λ honest world carries. carries;
+      carries = λ honest world carries. (carries, holds_at_first (ticks_left_of c.args.self.now) carries.layout carries.holding);
       stops = λ honest world carries.
           started (g.D.Disk.past disk) (g.D.Disk.state disk) (λ image. Keeps g.C.Codec.codec image world)
           (λ image is. record { layout = carries.layout; kept = carries.between.each image is });
       taken = λ some. refl;
       renews = λ honest world carries some none. absurd (omega (arith, some, none));
+      rests = λ some none. absurd (omega (arith, some, none));
       number = refl;
       faults = refl;
       writes = omega arith;
@@ -34,18 +35,24 @@ loop-self-preserved g c =
       honest = λ honest. so_far.honest (c.tick.ensures.honest honest);
       works = λ works. so_far.works (c.tick.ensures.works works);
       carries = λ honest world carries.
-          c.in_ok-tick.ensures.carries honest world (so_far.carries (c.tick.ensures.honest honest) world carries);
+          let carried = so_far.carries (c.tick.ensures.honest honest) world carries in
+          let then = c.in_ok-tick.ensures.carries honest world carried.0 in (
+            then.0,
+            holds_more c.in_ok-tick.field-0 (ticks_left_of c.args.self.now) (ticks_left_of c.loop-self.self) (ticks_left_of c.tick.new.self) carries.layout carries.holding carried.0.layout carried.0.holding then.0.layout then.0.holding
+                under_way c.in_ok-tick.ensures.left carried.1 then.1,
+          );
       stops = λ honest world carries.
           let then = c.tick.ensures.honest honest in
-          joins (so_far.stops then world carries) (c.tick.ensures.stops honest world (so_far.carries then world carries));
+          joins (so_far.stops then world carries) (c.tick.ensures.stops honest world (so_far.carries then world carries).0);
       taken = λ some.
           taken_left c.in_ok-tick.field-0 (ticks_left_of c.loop-self.self) (ticks_left_of c.tick.new.self) (taken_of c.loop-self.self) (taken_of c.tick.new.self) c.in_ok-tick.ensures.left c.in_ok-tick.ensures.taken some
           ∙ so_far.taken under_way;
       renews = λ honest world carries some none.
-          let carried = so_far.carries (c.tick.ensures.honest honest) world carries in
+          let carried = (so_far.carries (c.tick.ensures.honest honest) world carries).0 in
           renewed_behind g.C.Codec.codec c.in_ok-tick.field-0 (ticks_left_of c.loop-self.self) (ticks_left_of c.tick.new.self) carried.layout (taken_of c.args.self.now).root.number (g.D.Disk.state c.tick.new.disk) world
           c.in_ok-tick.ensures.left under_way none
           (ap (λ (root : Root). root.number) carried.tells.root ∙ ap (λ (taken : Taken). taken.root.number) (so_far.taken under_way)) (c.in_ok-tick.ensures.renews honest world carried);
+      rests = λ some none. rests_behind c.in_ok-tick.field-0 (ticks_left_of c.loop-self.self) (ticks_left_of c.tick.new.self) (place_of c.tick.new.self).begun c.in_ok-tick.ensures.left under_way none c.in_ok-tick.ensures.rests;
       number = c.tick.ensures.number ∙ so_far.number;
       faults = c.in_ok-tick.ensures.fault ∙ so_far.faults;
       writes = omega (arith, c.tick.ensures.writes, so_far.writes, lowers);
@@ -55,8 +62,16 @@ loop-self-preserved g c =
 pub returns-in_err-tick-clause-stops : goal.returns-in_err-tick-clause-stops
 returns-in_err-tick-clause-stops g c = λ honest world carries.
     let then = c.tick.ensures.honest honest in
-    joins (c.loop-self.invariant.stops then world carries) (c.tick.ensures.stops honest world (c.loop-self.invariant.carries then world carries))
+    joins (c.loop-self.invariant.stops then world carries) (c.tick.ensures.stops honest world (c.loop-self.invariant.carries then world carries).0)
+
+pub returns-clause-carries : goal.returns-clause-carries
+returns-clause-carries g c = λ honest world carries.
+    let then = c.loop-self.invariant.carries honest world carries in
+    (then.0, λ some. then.1.done some (none_is_left c.loop-self.self.checkpoint (sym c.is_some.ensures ∙ c.loop-self-test.false)))
 
 pub returns-clause-renews : goal.returns-clause-renews
 returns-clause-renews g c = λ honest world carries some.
     c.loop-self.invariant.renews honest world carries some (none_is_left c.loop-self.self.checkpoint (sym c.is_some.ensures ∙ c.loop-self-test.false))
+
+pub returns-clause-rests : goal.returns-clause-rests
+returns-clause-rests g c = λ some. c.loop-self.invariant.rests some (none_is_left c.loop-self.self.checkpoint (sym c.is_some.ensures ∙ c.loop-self-test.false))

@@ -1,5 +1,6 @@
-use Rattle.std.proofs.Common.{◌≡◌, ◌+◌, ◌<◌, ◌≤◌}
+use Rattle.std.proofs.Common.{◌≡◌, ◌+◌, ◌<◌, ◌≤◌, None}
 use Rattle.rr_disk.specs.Moments.{EachImage}
+use Rattle.rr_checkpoint.proofs.Writers.{HoldsSoFar}
 use Rattle.rr_checkpoint.specs.Calls.{LeavesKept, TakesRootBehind}
 use Rattle.rr_checkpoint.specs.Writer.{Carries, place_of, taken_of, ticks_left_of}
 use Rattle.rr_checkpoint.proofs.writer.Writer.finish.Given as goal
@@ -9,13 +10,15 @@ invariant-loop-self g l =
     record {
       honest : g.D.Disk.Honest l.disk → g.D.Disk.Honest l.fn.disk;
       works : g.D.Disk.Works l.disk → g.D.Disk.Works l.fn.disk;
-      carries : g.D.Disk.Honest l.disk → (world : g.C.Codec.codec.World) → Carries g.C.Codec.codec l.fn.self (g.D.Disk.state l.fn.disk) world
-          → Carries g.C.Codec.codec l.self (g.D.Disk.state l.disk) world;
+      carries : g.D.Disk.Honest l.disk → (world : g.C.Codec.codec.World) → (carries : Carries g.C.Codec.codec l.fn.self (g.D.Disk.state l.fn.disk) world)
+          → (then : Carries g.C.Codec.codec l.self (g.D.Disk.state l.disk) world)
+          × HoldsSoFar (ticks_left_of l.fn.self) (ticks_left_of l.self) carries.layout carries.holding then.layout then.holding;
       stops : g.D.Disk.Honest l.disk → (world : g.C.Codec.codec.World) → Carries g.C.Codec.codec l.fn.self (g.D.Disk.state l.fn.disk) world
           → LeavesKept g.C.Codec.codec (g.D.Disk.past l.fn.disk) (g.D.Disk.state l.fn.disk) (g.D.Disk.past l.disk) (g.D.Disk.state l.disk) world;
       taken : 0 < ticks_left_of l.self → taken_of l.self ≡ taken_of l.fn.self;
       renews : g.D.Disk.Honest l.disk → (world : g.C.Codec.codec.World) → Carries g.C.Codec.codec l.fn.self (g.D.Disk.state l.fn.disk) world → 0 < ticks_left_of l.fn.self → ticks_left_of l.self ≡ 0
           → EachImage (g.D.Disk.state l.disk) (TakesRootBehind g.C.Codec.codec (taken_of l.fn.self).root.number world);
+      rests : 0 < ticks_left_of l.fn.self → ticks_left_of l.self ≡ 0 → (place_of l.self).begun ≡ None;
       number : (place_of l.self).number ≡ (place_of l.fn.self).number;
       faults : g.D.Disk.fault_count l.disk ≡ g.D.Disk.fault_count l.fn.disk;
       writes : g.D.Disk.write_count l.disk + ticks_left_of l.self ≤ g.D.Disk.write_count l.fn.disk + ticks_left_of l.fn.self;

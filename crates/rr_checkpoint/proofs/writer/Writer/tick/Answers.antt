@@ -1,9 +1,10 @@
-use Rattle.std.proofs.Common.{◌∙◌, Some, sym, subst}
+use Rattle.std.proofs.Common.{◌∙◌, Some, refl, sym, subst}
 use Rattle.rr_disk.proofs.MomentLemmas.{started}
 use Rattle.rr_images.specs.Layout.{Keeps}
 use Rattle.rr_checkpoint.specs.declared.writer.Tick.{Tick}
+use Rattle.rr_checkpoint.specs.Holds.{HoldsAt, RestsAt}
 use Rattle.rr_checkpoint.specs.Writer.{RenewsAt, StaysTakenAt}
-use Rattle.rr_checkpoint.proofs.Writers.{carries_same, renews_told, taken_told}
+use Rattle.rr_checkpoint.proofs.Writers.{carries_same, holds_told, renews_told, rests_told, taken_told}
 use Rattle.rr_checkpoint.proofs.writer.Writer.tick.Goals as goal
 
 pub returns-in-None-clause-stops : goal.returns-in-None-clause-stops
@@ -29,3 +30,32 @@ returns-in_ok-self-in-Some-clause-taken g c =
     let old = c.args.self.now.file.taken in
     let new = c.advance.new.self.taken in
     subst (λ (tick : Tick). StaysTakenAt tick old new) (sym c.told.ensures) (taken_told c.in_ok-self-in-Some.field-0 old new c.in_ok-self-in-Some.ensures.taken)
+
+pub returns-in-None-clause-carries : goal.returns-in-None-clause-carries
+returns-in-None-clause-carries g c = λ honest world carries.
+    let codec = g.C.Codec.codec in
+    let writer = c.args.self.now in
+    let state = g.D.Disk.state c.args.disk.now in
+    let resting = (sym c.take.ensures.value ∙ c.in-None.is) ∙ sym c.take.ensures.after in (
+      carries_same codec writer.file state world writer.checkpoint c.take.new.self resting carries,
+      record { present = refl; coming = refl; middle = refl },
+    )
+
+pub returns-in_ok-self-in-Some-clause-carries : goal.returns-in_ok-self-in-Some-clause-carries
+returns-in_ok-self-in-Some-clause-carries g c = λ honest world carries.
+    let codec = g.C.Codec.codec in
+    let writer = c.args.self.now in
+    let state = g.D.Disk.state c.args.disk.now in
+    let next = c.in_ok-self-in-Some.field-0 in
+    let under_way = sym c.take.ensures.value ∙ c.in-Some.is in
+    let with_it = carries_same codec writer.file state world writer.checkpoint (Some c.in-Some.checkpoint) under_way carries in
+    let then = c.in_ok-self-in-Some.ensures.carries honest world with_it in (
+      then.0,
+      subst (λ (tick : Tick). HoldsAt tick carries.layout carries.holding then.0.layout then.0.holding) (sym c.told.ensures)
+          (holds_told next carries.layout carries.holding then.0.layout then.0.holding then.1),
+    )
+
+pub returns-in_ok-self-in-Some-clause-rests : goal.returns-in_ok-self-in-Some-clause-rests
+returns-in_ok-self-in-Some-clause-rests g c =
+    let begun = c.advance.new.self.place.begun in
+    subst (λ (tick : Tick). RestsAt tick begun) (sym c.told.ensures) (rests_told c.in_ok-self-in-Some.field-0 begun c.in_ok-self-in-Some.ensures.rests)

@@ -5,7 +5,7 @@ use Rattle.rr_store.specs.Holding.{held_of}
 use Rattle.rr_moderator.specs.Queries.{query_answer}
 use Rattle.rr_moderator.specs.Serving.{TooLong, Malformed, Broken, Read, reply_to}
 use Rattle.rr_moderator.proofs.DurabilityLemmas.{request_lasts, lasts_unlawful}
-use Rattle.rr_moderator.proofs.ServingLemmas.{no_query, queried}
+use Rattle.rr_moderator.proofs.ServingLemmas.{no_best, no_query, queried}
 use Rattle.rr_moderator.proofs.Telling.{SaysNeither, malformed_calm, open_again_calm, query_calm, too_long_calm}
 use Rattle.rr_moderator.proofs.moderator.State.respond.Goals as goal
 
@@ -63,4 +63,16 @@ pub returns-in-Request-clause-lasts : goal.returns-in-Request-clause-lasts
 returns-in-Request-clause-lasts g c =
     let short : length c.args.line.now ≤ 8000 = omega arith in
     let spells = subst (SpellsLine c.args.line.now) c.in-Request.is c.in_ok-read.ensures.found in
-    request_lasts _ _ _ _ _ _ _ _ _ _ _ _ _ _ short spells (sym c.is_broken.ensures ∙ c.if-is_broken.false) c.commit.ensures.0 (ap reply_to c.commit.ensures.2) c.commit.ensures.1
+    request_lasts _ _ _ _ _ _ _ _ _ _ _ _ _ _ short spells (sym c.is_broken.ensures ∙ c.if-is_broken.false) c.requests_have_one_verdict.ensures c.commit.ensures.0 (ap reply_to c.commit.ensures.2) c.commit.ensures.1
+
+pub returns-in-Best-clause-responds : goal.returns-in-Best-clause-responds
+returns-in-Best-clause-responds g c =
+    let short : length c.args.line.now ≤ 8000 = omega arith in
+    Read _ _ short (subst (SpellsLine c.args.line.now) c.in-Best.is c.in_ok-read.ensures.found) (sym c.is_broken.ensures ∙ c.if-is_broken.false)
+    (refl, refl)
+
+pub returns-in-Best-clause-lasts : goal.returns-in-Best-clause-lasts
+returns-in-Best-clause-lasts g c =
+    let spells = subst (SpellsLine c.args.line.now) c.in-Best.is c.in_ok-read.ensures.found in
+    lasts_unlawful _ _ _ _ _ _ _ _ _ _ _ refl malformed_calm
+    (λ may. absurd (no_best c.args.line.now _ _ _ _ _ _ spells may.1.spelled))

@@ -1,0 +1,244 @@
+-- What each call on the file leaves of what a log knows.
+use Rattle.std.proofs.Common.{◌≡◌, ℕ, ◌+◌, ◌<◌, List, length, Option, None, Some, Result, Ok, Err, OnOk, refl, sym, ◌∙◌, ap, subst, arith}
+use Rattle.rr_disk.specs.Disk.{DiskState}
+use Rattle.rr_disk.specs.Moments.{EachImage}
+use Rattle.rr_images.specs.Codec.{Codec}
+use Rattle.rr_images.specs.Holding.{Holding}
+use Rattle.rr_images.specs.Layout.{Keeps, Layout}
+use Rattle.rr_reading.specs.Held.{TextChains}
+use Rattle.rr_checkpoint.specs.declared.checkpoint.Plan.{Plan}
+use Rattle.rr_checkpoint.specs.declared.place.Place.{Place}
+use Rattle.rr_checkpoint.specs.declared.writer.Tick.{Tick}
+use Rattle.rr_checkpoint.specs.declared.writer.Tick.TheVariants.{Idle, More, Done}
+use Rattle.rr_checkpoint.specs.declared.writer.Writer.{Writer}
+use Rattle.rr_checkpoint.specs.Holds.{HoldsOn, HoldsWithRecord, HoldsAt, RestsAt}
+use Rattle.rr_checkpoint.specs.OpenFile.{IsBegunAt}
+use Rattle.rr_checkpoint.specs.Planning.{MayBegin}
+use Rattle.rr_checkpoint.specs.Writer as file
+use Rattle.rr_checkpoint.specs.Writer.{Lowers}
+use Rattle.rr_checkpoint.proofs.Writers.{base_is_carried, carried_kept}
+use Rattle.rr_log.specs.declared.fault.Fault.{Fault}
+use Rattle.rr_log.specs.declared.log.Log.{Log}
+use Rattle.rr_log.specs.Calls.{world_behind}
+use Rattle.rr_log.specs.Carrying.{HasTexts, HaveSameTexts, IsBase, Carries, IsPlanned}
+use Rattle.rr_log.specs.Log.{place_of, ticks_left}
+use Rattle.rr_snapshot.specs.declared.snapshot.Snapshot.{Snapshot}
+use Rattle.rr_snapshot.specs.Planning.{IsOfLayout, HoldsTexts, world_of}
+use Rattle.rr_snapshot.specs.Snapshot.{tables_of}
+use Rattle.rr_snapshot.specs.Writing.{OnlyTakes}
+use Rattle.rr_worlds.specs.declared.worlds.Worlds.{Worlds}
+use Rattle.rr_worlds.specs.Spelling.{worlds}
+use Rattle.rr_worlds.specs.World.{Table, World}
+
+-- the tables that a base has, and where there is none
+pub base_has : (begun : Option ℕ) (base : Option Snapshot) (tables : List Table) (snapshot : Snapshot) → IsBase begun base tables → base ≡ Some snapshot → tables_of snapshot ≡ tables
+base_has None base tables snapshot none is = absurd (let never = sym none ∙ is in cc)
+base_has (Some first) base tables snapshot some is =
+    let joined = sym some.1 ∙ is in
+    let same : some.0 ≡ snapshot = cc in
+    ap (λ (s : Snapshot). tables_of s) (sym same) ∙ some.2
+
+pub no_base : (begun : Option ℕ) (base : Option Snapshot) (tables : List Table) → IsBase begun base tables → base ≡ None → begun ≡ None
+no_base None base tables none is = refl
+no_base (Some first) base tables some is = absurd (let never = sym some.1 ∙ is in cc)
+
+-- a world of these texts and tables
+pub whole : (texts : TextChains) (world : World) (tables : List Table) → HasTexts texts world → tables ≡ world.tables → world ≡ world_of texts tables
+whole texts world tables has same =
+    λ i. record { chart = sym has.of_chart i; roster = sym has.of_roster i; tiles = sym has.of_tiles i; board = sym has.of_board i; tables = sym same i }
+
+-- texts stay where worlds and holdings do
+pub texts_in : (texts : TextChains) (old new : World) → new ≡ old → HasTexts texts old → HasTexts texts new
+texts_in texts old new same has = subst (λ (w : World). HasTexts texts w) (sym same) has
+
+pub texts_on : (texts : TextChains) (old new : World) → HaveSameTexts old new → HasTexts texts old → HasTexts texts new
+texts_on texts old new same has =
+    record {
+      of_chart = has.of_chart ∙ sym same.of_chart;
+      of_roster = has.of_roster ∙ sym same.of_roster;
+      of_tiles = has.of_tiles ∙ sym same.of_tiles;
+      of_board = has.of_board ∙ sym same.of_board;
+    }
+
+pub held_in : (texts : TextChains) (old new : Holding) → new ≡ old → HoldsTexts texts old → HoldsTexts texts new
+held_in texts old new same held = subst (λ (h : Holding). HoldsTexts texts h) (sym same) held
+
+-- a log of the same disk and writer
+pub same_carries : {D R : Type 0} (takes : List ℕ → World → World → Type 0) (log : Log D R) (state : D → DiskState) (world : World) (disk : D) (new : Writer (Worlds R)) → disk ≡ log.disk → new ≡ log.writer
+    → Carries takes log (state log.disk) world → Carries takes (record { alloc = log.alloc; disk = disk; writer = new; kit = log.kit; base = log.base; broken = log.broken }) (state disk) world
+same_carries {D} {R} takes log state world disk new is same carries =
+    subst (λ (p : D × Writer (Worlds R)). Carries takes (record { alloc = log.alloc; disk = p.0; writer = p.1; kit = log.kit; base = log.base; broken = log.broken }) (state p.0) world)
+    (λ i. (sym is i, sym same i)) carries
+
+-- the world behind a record that was refused
+pub told_behind : {T : Type 0} (result : Result T Fault) (fault : Fault) (old new : World) → result ≡ Err fault → world_behind result old new ≡ old
+told_behind {T} result fault old new is = ap (λ (r : Result T Fault). world_behind r old new) is
+
+-- what holds of an answer that is ok
+pub ok_so : {T E : Type 0} (result : Result T E) (P Q : Type 0) → (P → Q) → OnOk result P → OnOk result Q
+ok_so (Ok value) P Q so holds = so holds
+ok_so (Err fault) P Q so holds = tt
+
+module _ {D R : Type 0} (takes : List ℕ → World → World → Type 0) (log : Log D R) (state : DiskState) (world : World) (carries : Carries takes log state world) where
+  abbrev codec : Codec
+  codec = worlds takes
+
+  abbrev layout : Layout codec
+  layout = carries.carried.layout
+
+  abbrev texts : TextChains
+  texts = carries.kit.texts
+
+  -- each file that a stop may leave now keeps the world
+  pub kept_now : EachImage state (λ image. Keeps codec image world)
+  kept_now = carried_kept codec log.writer.file log.writer.checkpoint state world carries.carried
+
+  -- the tables from before the first record of the other half, as a snapshot, are those that a checkpoint writes
+  abbrev pub of_layout : (snapshot : Snapshot) → tables_of snapshot ≡ layout.middle.tables → IsOfLayout takes log.kit snapshot layout
+  of_layout snapshot same =
+      record {
+        texts = texts;
+        others = carries.kit.held.others;
+        held = carries.kit.held.held;
+        on_pages = carries.kit.on_pages;
+        world = whole texts layout.middle (tables_of snapshot) carries.kit.of_middle same;
+      }
+
+  -- without a base it is the world itself
+  middle_is : ticks_left log ≡ 0 → log.base ≡ None → layout.middle ≡ world
+  middle_is resting none = base_is_carried codec log.writer.file log.writer.checkpoint state world carries.carried (no_base (place_of log).begun log.base layout.middle.tables (carries.base resting) none)
+
+  pub lent_are : ticks_left log ≡ 0 → log.base ≡ None → (tables : List Table) → world.tables ≡ tables → (snapshot : Snapshot) → tables_of snapshot ≡ tables → tables_of snapshot ≡ layout.middle.tables
+  lent_are resting none tables lent snapshot has = has ∙ (sym lent ∙ ap (λ (w : World). w.tables) (sym (middle_is resting none)))
+
+  pub base_are : ticks_left log ≡ 0 → (base : Snapshot) → log.base ≡ Some base → tables_of base ≡ layout.middle.tables
+  base_are resting base is = base_has (place_of log).begun log.base layout.middle.tables base (carries.base resting) is
+
+  -- pages taken for a coming root, or given back
+  module _ (resting : ticks_left log ≡ 0) (new : Writer (Worlds R)) (only : OnlyTakes codec log.writer new) where
+    abbrev then : (carried : file.Carries codec new state world) × (carried.layout ≡ layout)
+    then = only.carries state world carries.carried
+
+    abbrev pub taken_carries : Carries takes (record { alloc = log.alloc; disk = log.disk; writer = new; kit = log.kit; base = log.base; broken = log.broken }) state world
+    taken_carries =
+        record {
+          carried = then.0;
+          kit = record {
+            texts = texts;
+            held = held_in texts layout.holding then.0.layout.holding (ap (λ (l : Layout codec). l.holding) then.1) carries.kit.held;
+            on_pages = carries.kit.on_pages;
+            of_world = carries.kit.of_world;
+            of_middle = texts_in texts layout.middle then.0.layout.middle (ap (λ (l : Layout codec). l.middle) then.1) carries.kit.of_middle;
+          };
+          coming = λ some. absurd (omega (arith, some, only.resting));
+          no_base = λ some. absurd (omega (arith, some, only.resting));
+          base = λ none.
+              subst (λ (place : Place). IsBase place.begun log.base then.0.layout.middle.tables) (sym only.place)
+              (subst (λ (l : Layout codec). IsBase (place_of log).begun log.base l.middle.tables) (sym then.1) (carries.base resting));
+        }
+
+    pub planned : (plan : Plan) → (may : MayBegin codec layout (file.free_of new) plan) × HoldsTexts texts may.holding
+        → IsPlanned takes (record { alloc = log.alloc; disk = log.disk; writer = new; kit = log.kit; base = log.base; broken = log.broken }) plan state world
+    planned plan may =
+        let moved = subst (λ (l : Layout codec). (m : MayBegin codec l (file.free_of new) plan) × HoldsTexts texts m.holding) (sym then.1) may in
+        record { carries = taken_carries; may = moved.0; texts = moved.1 }
+
+  module _ (disk : D) (new : Writer (Worlds R)) (after : DiskState) where
+    -- the first tick of a checkpoint, whose coming root holds the texts
+    pub begun_carries : (holding : Holding) → HoldsTexts texts holding → 0 < file.ticks_left_of new
+        → (then : file.Carries codec new after world) × HoldsOn layout holding then.layout then.holding
+        → Carries takes (record { alloc = log.alloc; disk = disk; writer = new; kit = log.kit; base = None; broken = log.broken }) after world
+    begun_carries holding holds some then =
+        record {
+          carried = then.0;
+          kit = record {
+            texts = texts;
+            held = held_in texts layout.holding then.0.layout.holding then.1.present carries.kit.held;
+            on_pages = carries.kit.on_pages;
+            of_world = carries.kit.of_world;
+            of_middle = texts_in texts layout.middle then.0.layout.middle then.1.middle carries.kit.of_middle;
+          };
+          coming = λ left. held_in texts holding then.0.holding then.1.coming holds;
+          base = λ none. absurd (omega (arith, some, none));
+          no_base = λ left. refl;
+        }
+
+    -- a later one that isn't the last
+    more_carries : 0 < ticks_left log → 0 < file.ticks_left_of new
+        → (then : file.Carries codec new after world) × HoldsOn layout carries.carried.holding then.layout then.holding
+        → Carries takes (record { alloc = log.alloc; disk = disk; writer = new; kit = log.kit; base = log.base; broken = log.broken }) after world
+    more_carries some left then =
+        record {
+          carried = then.0;
+          kit = record {
+            texts = texts;
+            held = held_in texts layout.holding then.0.layout.holding then.1.present carries.kit.held;
+            on_pages = carries.kit.on_pages;
+            of_world = carries.kit.of_world;
+            of_middle = texts_in texts layout.middle then.0.layout.middle then.1.middle carries.kit.of_middle;
+          };
+          coming = λ more. held_in texts carries.carried.holding then.0.holding then.1.coming (carries.coming some);
+          base = λ none. absurd (omega (arith, left, none));
+          no_base = λ more. carries.no_base some;
+        }
+
+    -- the last one: nothing stands in the other half, and the base of a root to come is the world
+    pub done_carries : 0 < ticks_left log → file.ticks_left_of new ≡ 0 → (file.place_of new).begun ≡ None
+        → (then : file.Carries codec new after world) × (then.layout.holding ≡ carries.carried.holding)
+        → Carries takes (record { alloc = log.alloc; disk = disk; writer = new; kit = log.kit; base = log.base; broken = log.broken }) after world
+    done_carries some none rests then =
+        let middle = base_is_carried codec new.file new.checkpoint after world then.0 rests in
+        record {
+          carried = then.0;
+          kit = record {
+            texts = texts;
+            held = held_in texts carries.carried.holding then.0.layout.holding then.1 (carries.coming some);
+            on_pages = carries.kit.on_pages;
+            of_world = carries.kit.of_world;
+            of_middle = texts_in texts world then.0.layout.middle middle carries.kit.of_world;
+          };
+          coming = λ left. absurd (omega (arith, left, none));
+          base = λ resting. subst (λ (begun : Option ℕ). IsBase begun log.base then.0.layout.middle.tables) (sym rests) (carries.no_base some);
+          no_base = λ left. absurd (omega (arith, left, none));
+        }
+
+    pub ticked_carries : (tick : Tick) → 0 < ticks_left log → Lowers tick (ticks_left log) (file.ticks_left_of new) → RestsAt tick (file.place_of new).begun
+        → (then : file.Carries codec new after world) × HoldsAt tick layout carries.carried.holding then.layout then.holding
+        → Carries takes (record { alloc = log.alloc; disk = disk; writer = new; kit = log.kit; base = log.base; broken = log.broken }) after world
+    ticked_carries Idle some lowers rests then = absurd (omega (arith, some, lowers.0))
+    ticked_carries More some lowers rests then = more_carries some lowers.1 then
+    ticked_carries Done some lowers rests then = done_carries some lowers.1 rests then
+
+    -- a record: one in the root's half leads to another base of a root to come, one in the other half doesn't
+    module _ (next : World) (same : HaveSameTexts world next) (left : file.ticks_left_of new ≡ ticks_left log)
+        (then : (carried : file.Carries codec new after next) × HoldsWithRecord layout carries.carried.holding carried.layout carried.holding) where
+      texts_behind : (begun : Option ℕ) → (place_of log).begun ≡ begun → (file.place_of new).begun ≡ begun → HasTexts texts then.0.layout.middle
+      texts_behind None before behind =
+          texts_in texts next then.0.layout.middle (base_is_carried codec new.file new.checkpoint after next then.0 behind) (texts_on texts world next same carries.kit.of_world)
+      texts_behind (Some first) before behind =
+          let begun : IsBegunAt (Some first) (layout.root.first + length layout.near) layout.far = subst (λ (b : Option ℕ). IsBegunAt b (layout.root.first + length layout.near) layout.far) before carries.carried.tells.begun in
+          texts_in texts layout.middle then.0.layout.middle (then.1.middle begun.0) carries.kit.of_middle
+
+      base_behind : (begun : Option ℕ) → (place_of log).begun ≡ begun → IsBase begun log.base layout.middle.tables → IsBase begun log.base then.0.layout.middle.tables
+      base_behind None before is = is
+      base_behind (Some first) before is =
+          let begun : IsBegunAt (Some first) (layout.root.first + length layout.near) layout.far = subst (λ (b : Option ℕ). IsBegunAt b (layout.root.first + length layout.near) layout.far) before carries.carried.tells.begun in
+          (is.0, is.1, is.2 ∙ ap (λ (w : World). w.tables) (sym (then.1.middle begun.0)))
+
+      pub kept_carries : (file.place_of new).begun ≡ (place_of log).begun
+          → Carries takes (record { alloc = log.alloc; disk = disk; writer = new; kit = log.kit; base = log.base; broken = log.broken }) after next
+      kept_carries begun =
+          record {
+            carried = then.0;
+            kit = record {
+              texts = texts;
+              held = held_in texts layout.holding then.0.layout.holding then.1.present carries.kit.held;
+              on_pages = carries.kit.on_pages;
+              of_world = texts_on texts world next same carries.kit.of_world;
+              of_middle = texts_behind (place_of log).begun refl begun;
+            };
+            coming = λ some. held_in texts carries.carried.holding then.0.holding then.1.coming (carries.coming (omega (arith, some, left)));
+            base = λ resting.
+                subst (λ (b : Option ℕ). IsBase b log.base then.0.layout.middle.tables) (sym begun) (base_behind (place_of log).begun refl (carries.base (omega (arith, resting, left))));
+            no_base = λ some. carries.no_base (omega (arith, some, left));
+          }

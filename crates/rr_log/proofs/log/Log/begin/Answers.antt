@@ -1,0 +1,48 @@
+use Rattle.std.proofs.Common.{sym, ap, subst, arith}
+use Rattle.rr_checkpoint.specs.Calls.{LeavesKept}
+use Rattle.rr_disk.proofs.MomentLemmas.{started, stays}
+use Rattle.rr_images.specs.Layout.{Keeps}
+use Rattle.rr_log.specs.Carrying.{Carries, IsPlanned}
+use Rattle.rr_log.proofs.Carried.{kept_now, begun_carries}
+use Rattle.rr_worlds.specs.Spelling.{worlds}
+use Rattle.rr_log.proofs.log.Log.begin.Goals as goal
+
+pub returns-in_err-plan-clause-stops : goal.returns-in_err-plan-clause-stops
+returns-in_err-plan-clause-stops g c = λ honest world carries.
+    let log = c.args.self.now in
+    let same = c.plan.ensures.unchanged.disk in
+    stays (started (g.D.Disk.past log.disk) (g.D.Disk.state log.disk) (λ image. Keeps (worlds g.R.Rules.takes) image world) (kept_now g.R.Rules.takes log (g.D.Disk.state log.disk) world carries))
+    (ap g.D.Disk.past same) (ap g.D.Disk.state same)
+
+pub returns-in_err-plan-clause-carries : goal.returns-in_err-plan-clause-carries
+returns-in_err-plan-clause-carries g c = λ honest whole world lent carries.
+    let log = c.args.self.now in
+    subst (λ (disk : g.row.D.Denot). Carries g.R.Rules.takes c.plan.new.self (g.D.Disk.state disk) world) (sym c.plan.ensures.unchanged.disk)
+    (c.plan.ensures.carries (g.D.Disk.state log.disk) world carries)
+
+pub returns-in-Ok-clause-stops : goal.returns-in-Ok-clause-stops
+returns-in-Ok-clause-stops g c = λ honest world carries.
+    let log = c.args.self.now in
+    let new = c.begin.new.disk in
+    let there = subst (λ (disk : g.row.D.Denot). Carries g.R.Rules.takes c.plan.new.self (g.D.Disk.state disk) world) (sym c.plan.ensures.unchanged.disk)
+    (c.plan.ensures.carries (g.D.Disk.state log.disk) world carries) in
+    subst (λ (disk : g.row.D.Denot). LeavesKept (worlds g.R.Rules.takes) (g.D.Disk.past disk) (g.D.Disk.state disk) (g.D.Disk.past new) (g.D.Disk.state new) world) c.plan.ensures.unchanged.disk
+    (c.in-Ok.ensures.stops honest world there.carried)
+
+pub returns-in-Err-clause-stops : goal.returns-in-Err-clause-stops
+returns-in-Err-clause-stops g c = λ honest world carries.
+    let log = c.args.self.now in
+    let new = c.begin.new.disk in
+    let there = subst (λ (disk : g.row.D.Denot). Carries g.R.Rules.takes c.plan.new.self (g.D.Disk.state disk) world) (sym c.plan.ensures.unchanged.disk)
+    (c.plan.ensures.carries (g.D.Disk.state log.disk) world carries) in
+    subst (λ (disk : g.row.D.Denot). LeavesKept (worlds g.R.Rules.takes) (g.D.Disk.past disk) (g.D.Disk.state disk) (g.D.Disk.past new) (g.D.Disk.state new) world) c.plan.ensures.unchanged.disk
+    (c.in-Err.ensures.stops honest world there.carried)
+
+pub returns-in-Ok-clause-carries : goal.returns-in-Ok-clause-carries
+returns-in-Ok-clause-carries g c = λ honest whole world lent carries.
+    let log = c.args.self.now in
+    let planned = subst (λ (disk : g.row.D.Denot). IsPlanned g.R.Rules.takes c.plan.new.self c.in_ok-plan.plan (g.D.Disk.state disk) world) (sym c.plan.ensures.unchanged.disk)
+    (c.in_ok-plan.ensures.plan (g.D.Disk.state log.disk) world lent carries) in
+    let left = c.in-Ok.ensures.left in
+    begun_carries g.R.Rules.takes c.plan.new.self (g.D.Disk.state c.plan.new.self.disk) world planned.carries c.begin.new.disk c.begin.new.self (g.D.Disk.state c.begin.new.disk)
+    planned.may.holding planned.texts (omega (arith, left)) (c.in-Ok.ensures.carries honest world planned.carries.carried planned.may)

@@ -1,0 +1,8 @@
+use Rattle.rr_log.proofs.Carried.{ticked_carries}
+use Rattle.rr_log.proofs.log.Log.go_on.Goals as goal
+
+pub returns-in-Ok-clause-carries : goal.returns-in-Ok-clause-carries
+returns-in-Ok-clause-carries g c = λ honest whole world carries.
+    let log = c.args.self.now in
+    ticked_carries g.R.Rules.takes log (g.D.Disk.state log.disk) world carries c.tick.new.disk c.tick.new.self (g.D.Disk.state c.tick.new.disk) c.in-Ok.tick c.requires.under_way
+    c.in-Ok.ensures.left c.in-Ok.ensures.rests (c.in-Ok.ensures.carries honest world carries.carried)

@@ -1,0 +1,54 @@
+use Rattle.std.proofs.Common.{◌⊎◌, inl, sym, subst}
+use Rattle.std.proofs.lemmas.Result.{err_from_is_err_and}
+use Rattle.rr_disk.proofs.MomentLemmas.{started, joins, weaker}
+use Rattle.rr_images.specs.Layout.{Keeps}
+use Rattle.rr_log.specs.Carrying.{Carries}
+use Rattle.rr_log.proofs.Carried.{kept_now, told_behind}
+use Rattle.rr_worlds.specs.Spelling.{worlds}
+use Rattle.rr_worlds.specs.World.{World}
+use Rattle.rr_log.proofs.log.Log.keep.Goals as goal
+
+pub returns-then-self-clause-stops : goal.returns-then-self-clause-stops
+returns-then-self-clause-stops g c = λ honest old new takes same lent carries.
+    let log = c.args.self.now in
+    let codec = worlds g.R.Rules.takes in
+    started (g.D.Disk.past log.disk) (g.D.Disk.state log.disk) (λ image. Keeps codec image old ⊎ Keeps codec image new)
+    (λ image is. inl (kept_now g.R.Rules.takes log (g.D.Disk.state log.disk) old carries image is))
+
+pub returns-then-is_past_last-clause-stops : goal.returns-then-is_past_last-clause-stops
+returns-then-is_past_last-clause-stops g c = λ honest old new takes same lent carries.
+    let log = c.args.self.now in
+    let codec = worlds g.R.Rules.takes in
+    started (g.D.Disk.past log.disk) (g.D.Disk.state log.disk) (λ image. Keeps codec image old ⊎ Keeps codec image new)
+    (λ image is. inl (kept_now g.R.Rules.takes log (g.D.Disk.state log.disk) old carries image is))
+
+pub returns-in_err-full-clause-stops : goal.returns-in_err-full-clause-stops
+returns-in_err-full-clause-stops g c = λ honest old new takes same lent carries.
+    let codec = worlds g.R.Rules.takes in
+    weaker (c.in_err-full.ensures.stops honest old carries) (λ image. Keeps codec image old ⊎ Keeps codec image new) (λ image keeps. inl keeps)
+
+pub returns-in_err-append-clause-stops : goal.returns-in_err-append-clause-stops
+returns-in_err-append-clause-stops g c = λ honest old new takes same lent carries.
+    let codec = worlds g.R.Rules.takes in
+    let then = c.in_err-append.ensures.honest honest in
+    joins (weaker (c.in_ok-full.ensures.stops then old carries) (λ image. Keeps codec image old ⊎ Keeps codec image new) (λ image keeps. inl keeps))
+    (c.in_err-append.ensures.stops honest old new takes (c.in_ok-full.ensures.carries then c.in_ok-full.ensures.broken old lent carries))
+
+pub returns-in_err-append-clause-carries : goal.returns-in_err-append-clause-carries
+returns-in_err-append-clause-carries g c = λ honest whole old new takes same lent carries.
+    let then = c.in_err-append.ensures.honest honest in
+    let told = err_from_is_err_and c.from_residual-in_err-append.result c.from_residual-in_err-append.ensures.1 in
+    subst (λ (world : World). Carries g.R.Rules.takes c.append.new.self (g.D.Disk.state c.append.new.self.disk) world) (sym (told_behind c.from_residual-in_err-append.result told.0 old new told.1))
+    (c.in_err-append.ensures.carries honest whole old new takes same (c.in_ok-full.ensures.carries then c.in_ok-full.ensures.broken old lent carries))
+
+pub returns-clause-stops : goal.returns-clause-stops
+returns-clause-stops g c = λ honest old new takes same lent carries.
+    let codec = worlds g.R.Rules.takes in
+    let then = c.in_ok-append.ensures.honest honest in
+    joins (weaker (c.in_ok-full.ensures.stops then old carries) (λ image. Keeps codec image old ⊎ Keeps codec image new) (λ image keeps. inl keeps))
+    (c.in_ok-append.ensures.stops honest old new takes (c.in_ok-full.ensures.carries then c.in_ok-full.ensures.broken old lent carries))
+
+pub returns-clause-carries : goal.returns-clause-carries
+returns-clause-carries g c = λ honest whole old new takes same lent carries.
+    let then = c.in_ok-append.ensures.honest honest in
+    c.in_ok-append.ensures.carries honest whole old new takes same (c.in_ok-full.ensures.carries then c.in_ok-full.ensures.broken old lent carries)

@@ -1,0 +1,10 @@
+use Rattle.rr_disk.proofs.MomentLemmas.{started}
+use Rattle.rr_images.specs.Layout.{Keeps}
+use Rattle.rr_log.proofs.Carried.{kept_now}
+use Rattle.rr_worlds.specs.Spelling.{worlds}
+use Rattle.rr_log.proofs.log.Log.tick.Goals as goal
+
+pub returns-then-self-clause-stops : goal.returns-then-self-clause-stops
+returns-then-self-clause-stops g c = λ honest world carries.
+    let log = c.args.self.now in
+    started (g.D.Disk.past log.disk) (g.D.Disk.state log.disk) (λ image. Keeps (worlds g.R.Rules.takes) image world) (kept_now g.R.Rules.takes log (g.D.Disk.state log.disk) world carries)

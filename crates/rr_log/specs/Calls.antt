@@ -1,0 +1,72 @@
+-- What the calls on a log do, and when they are refused.
+use Rattle.std.specs.Prelude.{◌≡◌, ◌⊎◌, ℕ, ◌+◌, ◌<◌, ◌≤◌, Bool, List, Option, None, Some, Result, Ok, Err}
+use Rattle.rr_checkpoint.specs.declared.place.Place.{Place}
+use Rattle.rr_checkpoint.specs.declared.writer.Tick.{Tick}
+use Rattle.rr_checkpoint.specs.declared.writer.Tick.TheVariants.{Idle, More, Done}
+use Rattle.rr_checkpoint.specs.Writer as file
+use Rattle.rr_log.specs.declared.fault.Fault.{Fault}
+use Rattle.rr_log.specs.declared.fault.Fault.TheVariants as F
+use Rattle.rr_log.specs.declared.log.Log.{Log}
+use Rattle.rr_log.specs.Log.{disk_of, is_broken, place_of, next_number, root_number, ticks_left, IsPastLast, HasNoRoom}
+use Rattle.rr_pages.specs.FreePages.{present_of}
+use Rattle.rr_pages.specs.Sets.{TooFewFree, all_marked}
+use Rattle.rr_reading.specs.Reading.{NoneReached}
+use Rattle.rr_snapshot.specs.declared.snapshot.Snapshot.{Snapshot}
+use Rattle.rr_snapshot.specs.Kit.{text_pages}
+use Rattle.rr_snapshot.specs.Laying.{needed_pages}
+use Rattle.rr_snapshot.specs.Snapshot.{tables_of}
+use Rattle.rr_worlds.specs.World.{Table, World}
+
+-- the world behind a record whose keeping ended so
+abbrev pub world_behind : {T : Type 0} → Result T Fault → World → World → World
+world_behind (Ok value) old new = new
+world_behind (Err fault) old new = old
+
+-- the number of the next record behind that: one more, or the same; where the device failed it isn't known
+abbrev pub NumberBehind : {T : Type 0} → Result T Fault → ℕ → ℕ → Type 0
+NumberBehind (Ok value) old new = new ≡ old + 1
+NumberBehind (Err F.DeviceFailed) old new = Unit {0}
+NumberBehind (Err F.HalfFull) old new = new ≡ old
+NumberBehind (Err F.FileFull) old new = new ≡ old
+NumberBehind (Err F.OpenAgain) old new = new ≡ old
+NumberBehind (Err F.OutOfMemory) old new = new ≡ old
+
+-- but for pages that were taken for a checkpoint and given back, all is as it was
+pub record IsUnchanged {D R : Type 0} (old new : Log D R) : Type 0 where
+  pub disk : disk_of new ≡ disk_of old
+  pub place : place_of new ≡ place_of old
+  pub root : root_number new ≡ root_number old
+  pub left : ticks_left new ≡ ticks_left old
+  pub broken : is_broken new ≡ is_broken old
+
+-- A tick lowers what is left by one, and `Done` comes exactly with the last one. The first of a checkpoint leaves those of
+-- its pages, at least one, and three more.
+abbrev pub LowersFrom : Tick → ℕ → ℕ → Type 0
+LowersFrom Idle old new = (old ≡ 0) × (new ≡ 0)
+LowersFrom More old new = (0 < new) × (0 < old → old ≡ new + 1) × (old ≡ 0 → 3 ≤ new)
+LowersFrom Done old new = (old ≡ 1) × (new ≡ 0)
+
+-- the tables that a checkpoint begun now writes: those from before the first record of the other half, or those that are lent
+abbrev pub tables_due : Option Snapshot → List Table → List Table
+tables_due None tables = tables
+tables_due (Some base) tables = tables_of base
+
+-- beside those of the texts fewer pages are free than the chains and the directory of these tables take at most
+abbrev pub HasTooFewFree : {D R : Type 0} → Log D R → List Table → Type 0
+HasTooFewFree log tables =
+    (none : List Bool) → NoneReached none
+    → TooFewFree (present_of (file.free_of log.writer)) (all_marked none (text_pages log.kit)) (needed_pages tables)
+
+-- a checkpoint finds too few pages, or the next record's number or its root's would be past the last
+abbrev pub IsFileFull : {D R : Type 0} → Log D R → List Table → Type 0
+IsFileFull log tables =
+    IsPastLast (next_number log) ⊎ IsPastLast (root_number log + 1) ⊎ HasTooFewFree log (tables_due log.base tables)
+
+-- Why a record of so many bytes isn't kept: there is no room for it where it would go, and if a tick was put off for want of
+-- pages or memory, that is told. Or its number would be past the last.
+abbrev pub MayRefuse : Place → ℕ → Fault → Type 0
+MayRefuse place count F.DeviceFailed = Unit {0}
+MayRefuse place count F.HalfFull = HasNoRoom place count
+MayRefuse place count F.FileFull = HasNoRoom place count ⊎ IsPastLast place.number
+MayRefuse place count F.OpenAgain = Unit {0}
+MayRefuse place count F.OutOfMemory = HasNoRoom place count

@@ -1,0 +1,64 @@
+-- What is known of a log between two calls.
+use Rattle.std.specs.Prelude.{◌≡◌, ℕ, ◌<◌, List, Option, None, Some}
+use Rattle.rr_checkpoint.specs.declared.checkpoint.Plan.{Plan}
+use Rattle.rr_checkpoint.specs.Planning.{MayBegin}
+use Rattle.rr_checkpoint.specs.Writer as file
+use Rattle.rr_disk.specs.Disk.{DiskState}
+use Rattle.rr_images.specs.Layout.{Layout}
+use Rattle.rr_log.specs.declared.log.Log.{Log}
+use Rattle.rr_log.specs.Log.{place_of, ticks_left}
+use Rattle.rr_reading.specs.Held.{TextChains}
+use Rattle.rr_snapshot.specs.declared.kit.KitPages.{KitPages}
+use Rattle.rr_snapshot.specs.declared.snapshot.Snapshot.{Snapshot}
+use Rattle.rr_snapshot.specs.Kit.{AreTextChains}
+use Rattle.rr_snapshot.specs.Planning.{HoldsTexts}
+use Rattle.rr_snapshot.specs.Snapshot.{tables_of}
+use Rattle.rr_worlds.specs.Spelling.{worlds}
+use Rattle.rr_worlds.specs.World.{Table, World}
+
+-- the texts of a world are those of these chains
+pub record HasTexts (texts : TextChains) (world : World) : Type 0 where
+  pub of_chart : texts.chart.text ≡ world.chart
+  pub of_roster : texts.roster.text ≡ world.roster
+  pub of_tiles : texts.tiles.text ≡ world.tiles
+  pub of_board : texts.board.text ≡ world.board
+
+-- two worlds have the same texts
+pub record HaveSameTexts (old new : World) : Type 0 where
+  pub of_chart : new.chart ≡ old.chart
+  pub of_roster : new.roster ≡ old.roster
+  pub of_tiles : new.tiles ≡ old.tiles
+  pub of_board : new.board ≡ old.board
+
+-- The root of a layout holds the texts of a kit on these pages, and they are the texts of the world, and of the world before
+-- the first record of the other half.
+pub record HoldsKit {takes : List ℕ → World → World → Type 0} (kit : KitPages) (layout : Layout (worlds takes))
+    (world : World) : Type 0 where
+  pub texts : TextChains
+  pub held : HoldsTexts texts layout.holding
+  pub on_pages : AreTextChains kit texts
+  pub of_world : HasTexts texts world
+  pub of_middle : HasTexts texts layout.middle
+
+-- Where an opening found a checkpoint begun, with its first record in the other half of this number, the tables from before
+-- that record are kept; else none are.
+abbrev pub IsBase : Option ℕ → Option Snapshot → List Table → Type 0
+IsBase None base tables = base ≡ None
+IsBase (Some first) base tables = (snapshot : Snapshot) × (base ≡ Some snapshot) × (tables_of snapshot ≡ tables)
+
+-- What a log knows carries this world: what writes to its file carries it, the kit's texts are where it says, also in the
+-- root that a checkpoint under way writes, and the tables that such a checkpoint will need are there.
+pub record Carries {D R : Type 0} (takes : List ℕ → World → World → Type 0) (log : Log D R) (state : DiskState)
+    (world : World) : Type 0 where
+  pub carried : file.Carries (worlds takes) log.writer state world
+  pub kit : HoldsKit log.kit carried.layout world
+  pub coming : 0 < ticks_left log → HoldsTexts kit.texts carried.holding
+  pub base : ticks_left log ≡ 0 → IsBase (place_of log).begun log.base carried.layout.middle.tables
+  pub no_base : 0 < ticks_left log → log.base ≡ None
+
+-- the plan of a checkpoint is one for the file of this log, and keeps the texts where they stand
+pub record IsPlanned {D R : Type 0} (takes : List ℕ → World → World → Type 0) (log : Log D R) (plan : Plan)
+    (state : DiskState) (world : World) : Type 0 where
+  pub carries : Carries takes log state world
+  pub may : MayBegin (worlds takes) carries.carried.layout (file.free_of log.writer) plan
+  pub texts : HoldsTexts carries.kit.texts may.holding

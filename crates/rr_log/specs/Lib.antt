@@ -1,0 +1,4 @@
+pub mod Fault
+pub mod Log
+pub mod Carrying
+pub mod Calls

@@ -1,0 +1,45 @@
+-- What a log is at.
+use Rattle.std.specs.Prelude.{◌≡◌, ◌⊎◌, ℕ, ◌+◌, ◌^◌, ◌≤◌, Bool, None}
+use Rattle.rr_checkpoint.specs.declared.place.Place.{Place}
+use Rattle.rr_checkpoint.specs.declared.writer.Writer.{Writer}
+use Rattle.rr_checkpoint.specs.Writer as file
+use Rattle.rr_journal.specs.Layout.{HasRoom}
+use Rattle.rr_log.specs.declared.log.Log.{Log}
+use Rattle.rr_worlds.specs.declared.worlds.Worlds.{Worlds}
+
+abbrev pub disk_of : {D R : Type 0} → Log D R → D
+disk_of log = log.disk
+
+abbrev pub writer_of : {D R : Type 0} → Log D R → Writer (Worlds R)
+writer_of log = log.writer
+
+-- a device call of it failed
+abbrev pub is_broken : {D R : Type 0} → Log D R → Bool
+is_broken log = log.broken
+
+-- where the next record goes, and its number
+abbrev pub place_of : {D R : Type 0} → Log D R → Place
+place_of log = file.place_of log.writer
+
+abbrev pub next_number : {D R : Type 0} → Log D R → ℕ
+next_number log = (place_of log).number
+
+-- the number of the root that is taken
+abbrev pub root_number : {D R : Type 0} → Log D R → ℕ
+root_number log = (file.taken_of log.writer).root.number
+
+-- how many ticks the checkpoint under way has left, 0 without one
+abbrev pub ticks_left : {D R : Type 0} → Log D R → ℕ
+ticks_left log = file.ticks_left_of log.writer
+
+-- without a checkpoint under way a tick begins one: an opening found it begun, or at least 128 slots of the half are used
+abbrev pub IsDue : Place → Type 0
+IsDue place = (place.begun ≡ None → ⊥) ⊎ (128 ≤ place.part.next_slot)
+
+-- a number that no record and no root may have, nor a greater one
+abbrev pub IsPastLast : ℕ → Type 0
+IsPastLast number = 2 ^ 63 ≤ number + 1
+
+-- the half in use has no room for a record of so many bytes
+abbrev pub HasNoRoom : Place → ℕ → Type 0
+HasNoRoom place count = HasRoom place.part.next_slot count → ⊥

@@ -1,0 +1,147 @@
+// Records.
+ghost use Rattle.std.specs.Prelude.{◌≡◌, ◌⊎◌, ◌↔◌, ◌+◌, ◌^◌, ◌<◌, ◌≤◌, false, length, IfOk, IfErr, IsErrOf, IsTrue, Ok, Err};
+ghost use Rattle.rr_checkpoint.specs.Calls.{LeavesKept, LeavesEither};
+ghost use Rattle.rr_log.specs.Fault.{CountsFault, IsWant, ends_broken};
+ghost use Rattle.rr_worlds.specs.Spelling.{worlds};
+ghost use Rattle.rr_worlds.specs.World.{World};
+
+use crate::planning::is_past_last;
+use crate::{Fault, Log, TablesInWords};
+use rr_disk::Disk;
+use rr_worlds::Rules;
+
+impl<D: Disk + Drop, R: Rules> Log<D, R> {
+    ghost use Rattle.rr_log.specs.Calls.{MayRefuse, NumberBehind, world_behind};
+    ghost use Rattle.rr_log.specs.Carrying.{Carries, HaveSameTexts};
+    ghost use Rattle.rr_log.specs.Log.{disk_of, is_broken, next_number, place_of, ticks_left, IsDue};
+
+    /// Keeps a record. After `Ok` it is safe. Before it a tick is made, where a checkpoint is under way or is to begin; the
+    /// tables are those of the world before the record. A line has a byte at least.
+    ///
+    /// # Errors
+    /// `OpenAgain`, with nothing changed; `DeviceFailed`, after which the record is on the disk or not, and the log is
+    /// broken; `HalfFull` where the half in use has no room for the record, of which nothing is written then. What refuses
+    /// the tick (`FileFull`, `OutOfMemory`) is put off, and told in place of `HalfFull` alone. `FileFull` also where the
+    /// record's number would be 2^63 - 1 or more.
+    pub fn keep<T: TablesInWords>(&mut self, tables: &T, line: &[u8]) -> Result<(), Fault>
+        requires { 0 < length line.now }
+
+        // Whatever a stop leaves at any moment keeps the world from before the record, or the one behind it, and the log
+        // carries on the one that the answer tells.
+        ensures stops { D.Honest (disk_of self.new) → (old new : World) → R.takes line.now old new
+            → HaveSameTexts old new → old.tables ≡ T.tables tables.now
+            → Carries R.takes self.old (D.state (disk_of self.old)) old
+            → LeavesEither (worlds R.takes) (D.past (disk_of self.old)) (D.state (disk_of self.old))
+            (D.past (disk_of self.new)) (D.state (disk_of self.new)) old new }
+        ensures carries { D.Honest (disk_of self.new) → is_broken self.new ≡ false → (old new : World)
+            → R.takes line.now old new → HaveSameTexts old new → old.tables ≡ T.tables tables.now
+            → Carries R.takes self.old (D.state (disk_of self.old)) old
+            → Carries R.takes self.new (D.state (disk_of self.new)) (world_behind result old new) }
+        ensures number { NumberBehind result (next_number self.old) (next_number self.new) }
+
+        // How far a checkpoint comes.
+        ensures left { is_broken self.new ≡ false → next_number self.old + 1 < 2 ^ 63 → 0 < ticks_left self.old
+            → ticks_left self.old ≡ ticks_left self.new + 1 }
+        ensures rests { ticks_left self.old ≡ 0 → (IsDue (place_of self.old) → ⊥) → ticks_left self.new ≡ 0 }
+
+        // When each refusal comes.
+        ensures again { IsErrOf result Fault.OpenAgain ↔ IsTrue (is_broken self.old) }
+        ensures untouched { IsErrOf result Fault.OpenAgain → self.new ≡ self.old }
+        ensures broken { is_broken self.new ≡ ends_broken result }
+        ensures refused { IfErr result (MayRefuse (place_of self.new) (length line.now)) }
+        ensures fault { CountsFault (D.fault_count (disk_of self.old)) (D.fault_count (disk_of self.new)) result }
+
+        // Two of each are the record's, and one the tick's.
+        ensures writes { D.write_count (disk_of self.new) ≤ D.write_count (disk_of self.old) + 3 }
+        ensures syncs { D.sync_count (disk_of self.new) ≤ D.sync_count (disk_of self.old) + 3 }
+        ensures honest { D.Honest (disk_of self.new) → D.Honest (disk_of self.old) }
+        ensures works { D.Works (disk_of self.new) → D.Works (disk_of self.old) }
+    {
+        if self.broken {
+            return Err(Fault::OpenAgain);
+        }
+        if is_past_last(self.writer.place().number) {
+            return Err(Fault::FileFull);
+        }
+        let full = self.tick_before(tables)?;
+        self.append(line, full)?;
+        Ok(())
+    }
+
+    // Makes the tick that comes before a record, and gives what is told if the record then has no room.
+    fn tick_before<T: TablesInWords>(&mut self, tables: &T) -> Result<Fault, Fault>
+        requires { is_broken self.old ≡ false }
+        ensures stops { D.Honest (disk_of self.new) → (world : World)
+            → Carries R.takes self.old (D.state (disk_of self.old)) world
+            → LeavesKept (worlds R.takes) (D.past (disk_of self.old)) (D.state (disk_of self.old))
+            (D.past (disk_of self.new)) (D.state (disk_of self.new)) world }
+        ensures carries { D.Honest (disk_of self.new) → is_broken self.new ≡ false → (world : World)
+            → world.tables ≡ T.tables tables.now → Carries R.takes self.old (D.state (disk_of self.old)) world
+            → Carries R.takes self.new (D.state (disk_of self.new)) world }
+        ensures full { IfOk result (λ full. IsWant full ⊎ (full ≡ Fault.HalfFull)) }
+        ensures err { IfErr result (λ fault. fault ≡ Fault.DeviceFailed) }
+        ensures left { is_broken self.new ≡ false → 0 < ticks_left self.old
+            → ticks_left self.old ≡ ticks_left self.new + 1 }
+        ensures rests { ticks_left self.old ≡ 0 → (IsDue (place_of self.old) → ⊥) → ticks_left self.new ≡ 0 }
+        ensures number { next_number self.new ≡ next_number self.old }
+        ensures broken { is_broken self.new ≡ ends_broken result }
+        ensures fault { CountsFault (D.fault_count (disk_of self.old)) (D.fault_count (disk_of self.new)) result }
+        ensures writes { D.write_count (disk_of self.new) ≤ D.write_count (disk_of self.old) + 1 }
+        ensures syncs { D.sync_count (disk_of self.new) ≤ D.sync_count (disk_of self.old) + 1 }
+        ensures honest { D.Honest (disk_of self.new) → D.Honest (disk_of self.old) }
+        ensures works { D.Works (disk_of self.new) → D.Works (disk_of self.old) }
+    {
+        match self.step(tables) {
+            Ok(_) => Ok(Fault::HalfFull),
+            Err(fault) => put_off(fault),
+        }
+    }
+
+    // Appends the record. This is told where it has no room.
+    fn append(&mut self, line: &[u8], full: Fault) -> Result<(), Fault>
+        requires some { 0 < length line.now }
+        requires whole { is_broken self.old ≡ false }
+        requires number { next_number self.old < 2 ^ 63 }
+        requires full { IsWant full ⊎ (full ≡ Fault.HalfFull) }
+        ensures stops { D.Honest (disk_of self.new) → (old new : World) → R.takes line.now old new
+            → Carries R.takes self.old (D.state (disk_of self.old)) old
+            → LeavesEither (worlds R.takes) (D.past (disk_of self.old)) (D.state (disk_of self.old))
+            (D.past (disk_of self.new)) (D.state (disk_of self.new)) old new }
+        ensures carries { D.Honest (disk_of self.new) → is_broken self.new ≡ false → (old new : World)
+            → R.takes line.now old new → HaveSameTexts old new
+            → Carries R.takes self.old (D.state (disk_of self.old)) old
+            → Carries R.takes self.new (D.state (disk_of self.new)) (world_behind result old new) }
+        ensures number { NumberBehind result (next_number self.old) (next_number self.new) }
+        ensures left { ticks_left self.new ≡ ticks_left self.old }
+        ensures broken { is_broken self.new ≡ ends_broken result }
+        ensures refused { IfErr result (MayRefuse (place_of self.new) (length line.now)) }
+        ensures err { IfErr result (λ fault. (fault ≡ full) ⊎ (fault ≡ Fault.DeviceFailed)) }
+        ensures fault { CountsFault (D.fault_count (disk_of self.old)) (D.fault_count (disk_of self.new)) result }
+        ensures writes { D.write_count (disk_of self.new) ≤ D.write_count (disk_of self.old) + 2 }
+        ensures syncs { D.sync_count (disk_of self.new) ≤ D.sync_count (disk_of self.old) + 2 }
+        ensures honest { D.Honest (disk_of self.new) → D.Honest (disk_of self.old) }
+        ensures works { D.Works (disk_of self.new) → D.Works (disk_of self.old) }
+    {
+        match self.writer.append(&mut self.disk, line) {
+            Ok(()) => Ok(()),
+            Err(rr_journal::Fault::HalfFull) => Err(full),
+            Err(rr_journal::Fault::Disk(_)) => {
+                self.broken = true;
+                Err(Fault::DeviceFailed)
+            }
+            Err(rr_journal::Fault::OutOfMemory) => Err(Fault::OutOfMemory),
+        }
+    }
+}
+
+// What becomes of the refusal of a tick before a record: that of the device is told, any other put off.
+fn put_off(fault: Fault) -> Result<Fault, Fault>
+    requires { IsWant fault ⊎ (fault ≡ Fault.DeviceFailed) }
+    ensures want { IfOk result (λ full. (full ≡ fault) × IsWant fault) }
+    ensures device { IfErr result (λ told. (told ≡ fault) × (fault ≡ Fault.DeviceFailed)) }
+{
+    match fault {
+        Fault::DeviceFailed => Err(fault),
+        Fault::HalfFull | Fault::FileFull | Fault::OpenAgain | Fault::OutOfMemory => Ok(fault),
+    }
+}

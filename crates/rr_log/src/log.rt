@@ -1,0 +1,84 @@
+ghost use Rattle.std.specs.Prelude.{◌≡◌, ◌-◌, false};
+ghost use Rattle.rr_checkpoint.specs.Writer as file;
+ghost use Rattle.rr_disk.specs.Disk.{DiskState};
+ghost use Rattle.rr_worlds.specs.Spelling.{worlds};
+ghost use Rattle.rr_worlds.specs.World.{World};
+
+use rr_checkpoint::Writer;
+use rr_disk::Disk;
+use rr_snapshot::{KitPages, Snapshot};
+use rr_worlds::{Rules, Worlds};
+use std::alloc::Global;
+
+/// The open file of a store: its disk, what writes to it, and where the texts of its kit stand.
+#[derive(Drop)]
+pub struct Log<D: Drop, R> {
+    pub(crate) alloc: Global,
+    pub(crate) disk: D,
+    pub(crate) writer: Writer<Worlds<R>>,
+    pub(crate) kit: KitPages,
+    // Where an opening found a checkpoint begun, and until its plan is made: the tables from before the first record of the
+    // other half.
+    pub(crate) base: Option<Snapshot>,
+    pub(crate) broken: bool,
+}
+
+impl<D: Disk + Drop, R: Rules> Log<D, R> {
+    ghost use Rattle.rr_log.specs.Carrying.{Carries, HoldsKit, IsBase};
+    ghost use Rattle.rr_log.specs.Log.{disk_of, writer_of, is_broken, next_number, ticks_left};
+
+    /// A log on a disk of which an opening made this writer. `base` is there exactly where that found a checkpoint begun.
+    pub fn new(
+        alloc: Global,
+        disk: D,
+        writer: Writer<Worlds<R>>,
+        kit: KitPages,
+        base: Option<Snapshot>,
+    ) -> Log<D, R>
+        ensures carries { (state : DiskState) (world : World)
+            → (carries : file.Carries (worlds R.takes) writer state world) → file.ticks_left_of writer ≡ 0
+            → HoldsKit kit carries.layout world
+            → IsBase (file.place_of writer).begun base carries.layout.middle.tables
+            → Carries R.takes result state world }
+        ensures disk { disk_of result ≡ disk }
+        ensures writer { writer_of result ≡ writer }
+        ensures whole { is_broken result ≡ false }
+    {
+        Log {
+            alloc,
+            disk,
+            writer,
+            kit,
+            base,
+            broken: false,
+        }
+    }
+
+    /// A device call failed, and each call is refused until the file is opened again.
+    pub fn is_broken(&self) -> bool
+        ensures { result ≡ is_broken self.now }
+    {
+        self.broken
+    }
+
+    /// The number before the next record's: that of the last record, 0 in a new file.
+    pub fn last(&self) -> u64
+        ensures { result ≡ next_number self.now - 1 }
+    {
+        self.writer.place().number.saturating_sub(1)
+    }
+
+    /// How many ticks the checkpoint under way has left, 0 without one.
+    pub fn ticks_left(&self) -> usize
+        ensures { result ≡ ticks_left self.now }
+    {
+        self.writer.ticks_left()
+    }
+
+    /// The disk that the file stood on.
+    pub fn into_disk(self) -> D
+        ensures { result ≡ disk_of self }
+    {
+        self.disk
+    }
+}

@@ -1,0 +1,117 @@
+// The plan of a checkpoint.
+ghost use Rattle.std.specs.Prelude.{◌≡◌, ◌⊎◌, ◌^◌, ◌+◌, ◌<◌, Bool, List, IfOk, IfErr, IsErrOf, IsTrue, ◌↔◌};
+ghost use Rattle.rr_checkpoint.specs.Planning.{MayBegin};
+ghost use Rattle.rr_checkpoint.specs.Writer as file;
+ghost use Rattle.rr_disk.specs.Disk.{DiskState};
+ghost use Rattle.rr_log.specs.Fault.{IsWant};
+ghost use Rattle.rr_log.specs.Log.{IsPastLast};
+ghost use Rattle.rr_pages.specs.FreePages.{present_of};
+ghost use Rattle.rr_pages.specs.Sets.{TooFewFree, all_marked};
+ghost use Rattle.rr_reading.specs.Reading.{NoneReached};
+ghost use Rattle.rr_snapshot.specs.Kit.{text_pages};
+ghost use Rattle.rr_snapshot.specs.Laying.{needed_pages};
+ghost use Rattle.rr_snapshot.specs.Planning.{IsOfLayout, HoldsTexts};
+ghost use Rattle.rr_snapshot.specs.Snapshot.{tables_of};
+ghost use Rattle.rr_snapshot.specs.Writing.{OnlyTakes};
+ghost use Rattle.rr_worlds.specs.Spelling.{worlds};
+ghost use Rattle.rr_worlds.specs.World.{World};
+
+use crate::{Fault, Log, TablesInWords};
+use rr_checkpoint::{Plan, Writer};
+use rr_disk::Disk;
+use rr_snapshot::{KitPages, Snapshot, plan_checkpoint};
+use rr_worlds::{Rules, Worlds};
+use std::alloc::Global;
+
+// No record and no root has this number or a greater one.
+const PAST_LAST: u64 = 9_223_372_036_854_775_807;
+
+// Whether no record and no root may have this number.
+pub(crate) fn is_past_last(number: u64) -> bool
+    ensures { IsTrue result ↔ IsPastLast number }
+{
+    number >= PAST_LAST
+}
+
+// The plan of a checkpoint that writes the tables of a snapshot.
+fn plan_of<R: Rules>(
+    alloc: Global,
+    writer: &mut Writer<Worlds<R>>,
+    kit: &KitPages,
+    snapshot: &Snapshot,
+) -> Result<Plan, Fault>
+    requires resting { file.ticks_left_of writer.old ≡ 0 }
+    requires root { (file.taken_of writer.old).root.number + 1 < 2 ^ 63 }
+    requires number { (file.place_of writer.old).number < 2 ^ 63 }
+    ensures plan { IfOk result (λ plan. (state : DiskState) (world : World)
+        → (carries : file.Carries (worlds R.takes) writer.old state world)
+        → (of : IsOfLayout R.takes kit.now snapshot.now carries.layout)
+        → (may : MayBegin (worlds R.takes) carries.layout (file.free_of writer.new) plan)
+        × HoldsTexts of.texts may.holding) }
+    ensures full { IsErrOf result Fault.FileFull → (none : List Bool) → NoneReached none
+        → TooFewFree (present_of (file.free_of writer.old)) (all_marked none (text_pages kit.now))
+        (needed_pages (tables_of snapshot.now)) }
+    ensures err { IfErr result IsWant }
+    ensures only { OnlyTakes (worlds R.takes) writer.old writer.new }
+{
+    match plan_checkpoint(alloc, writer, kit, snapshot) {
+        Ok(plan) => Ok(plan),
+        Err(rr_pages::Fault::FileFull) => Err(Fault::FileFull),
+        Err(_) => Err(Fault::OutOfMemory),
+    }
+}
+
+impl<D: Disk + Drop, R: Rules> Log<D, R> {
+    ghost use Rattle.rr_log.specs.Calls.{IsFileFull, IsUnchanged};
+    ghost use Rattle.rr_log.specs.Carrying.{Carries, IsPlanned};
+    ghost use Rattle.rr_log.specs.Log.{next_number, root_number, ticks_left};
+
+    // Makes the plan of the checkpoint that is to begin. Where an opening found one begun, it writes the tables from before
+    // the first record of the other half, and else those that are lent.
+    pub(crate) fn plan<T: TablesInWords>(&mut self, tables: &T) -> Result<Plan, Fault>
+        requires { ticks_left self.old ≡ 0 }
+        ensures plan { IfOk result (λ plan. (state : DiskState) (world : World) → world.tables ≡ T.tables tables.now
+            → Carries R.takes self.old state world → IsPlanned R.takes self.new plan state world) }
+        ensures carries { (state : DiskState) (world : World) → Carries R.takes self.old state world
+            → Carries R.takes self.new state world }
+        ensures full { IsErrOf result Fault.FileFull → IsFileFull self.old (T.tables tables.now) }
+        ensures err { IfErr result IsWant }
+        ensures unchanged { IsUnchanged self.old self.new }
+    {
+        if self.has_last_number() {
+            return Err(Fault::FileFull);
+        }
+        match &self.base {
+            Some(base) => {
+                let plan = plan_of(self.alloc, &mut self.writer, &self.kit, base)?;
+                Ok(plan)
+            }
+            None => {
+                let snapshot = lent(self.alloc, tables)?;
+                let plan = plan_of(self.alloc, &mut self.writer, &self.kit, &snapshot)?;
+                Ok(plan)
+            }
+        }
+    }
+
+    // Whether the number of the next record, or of the coming root, would be past the last.
+    fn has_last_number(&self) -> bool
+        ensures { IsTrue result ↔ (IsPastLast (next_number self.now) ⊎ IsPastLast (root_number self.now + 1)) }
+    {
+        if is_past_last(self.writer.place().number) {
+            return true;
+        }
+        self.writer.taken().root.number >= PAST_LAST - 1
+    }
+}
+
+// The tables that are lent, as a snapshot.
+fn lent<T: TablesInWords>(alloc: Global, tables: &T) -> Result<Snapshot, Fault>
+    ensures tables { IfOk result (λ snapshot. tables_of snapshot ≡ T.tables tables.now) }
+    ensures err { IfErr result (λ fault. fault ≡ Fault.OutOfMemory) }
+{
+    match tables.snapshot(alloc) {
+        Ok(snapshot) => Ok(snapshot),
+        Err(_) => Err(Fault::OutOfMemory),
+    }
+}

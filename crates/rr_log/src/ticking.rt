@@ -1,0 +1,267 @@
+// Checkpoints, in ticks.
+ghost use Rattle.std.specs.Prelude.{◌≡◌, ◌⊎◌, ◌↔◌, ◌+◌, ◌<◌, ◌≤◌, false, OnOk, IfOk, IfErr, IsErrOf, IsTrue};
+ghost use Rattle.rr_checkpoint.specs.Calls.{LeavesKept, TakesRootBehind};
+ghost use Rattle.rr_checkpoint.specs.Writer.{RenewsAt, Lowers};
+ghost use Rattle.rr_disk.specs.Moments.{EachImage};
+ghost use Rattle.rr_log.specs.Fault.{CountsFault, IsWant, ends_broken};
+ghost use Rattle.rr_worlds.specs.Spelling.{worlds};
+ghost use Rattle.rr_worlds.specs.World.{World};
+
+use crate::{Fault, Log, TablesInWords};
+use rr_checkpoint::Tick;
+use rr_disk::Disk;
+use rr_worlds::Rules;
+
+// So many slots of a half are used where a checkpoint is to begin.
+const MANY_SLOTS: u8 = 128;
+
+impl<D: Disk + Drop, R: Rules> Log<D, R> {
+    ghost use Rattle.rr_log.specs.Calls.{IsFileFull, IsUnchanged, LowersFrom};
+    ghost use Rattle.rr_log.specs.Carrying.{Carries};
+    ghost use Rattle.rr_log.specs.Log.{disk_of, is_broken, next_number, place_of, root_number, ticks_left, IsDue};
+
+    /// Makes one step of a checkpoint: it goes on with the one under way, or begins one where an opening found it begun or
+    /// at least 128 slots of the half in use are used. The tables are those of the world that the log carries: a first tick
+    /// takes them, and all memory that the later ones need.
+    ///
+    /// # Errors
+    /// `OpenAgain`; `DeviceFailed`, after which the log is broken; in a first tick also `FileFull` and `OutOfMemory`, before
+    /// any device call: then the log goes on, and the next tick begins anew.
+    pub fn tick<T: TablesInWords>(&mut self, tables: &T) -> Result<Tick, Fault>
+        // Whatever a stop leaves at any moment keeps the world, and the log carries it on.
+        ensures stops { D.Honest (disk_of self.new) → (world : World)
+            → Carries R.takes self.old (D.state (disk_of self.old)) world
+            → LeavesKept (worlds R.takes) (D.past (disk_of self.old)) (D.state (disk_of self.old))
+            (D.past (disk_of self.new)) (D.state (disk_of self.new)) world }
+        ensures carries { D.Honest (disk_of self.new) → is_broken self.new ≡ false → (world : World)
+            → world.tables ≡ T.tables tables.now → Carries R.takes self.old (D.state (disk_of self.old)) world
+            → Carries R.takes self.new (D.state (disk_of self.new)) world }
+        ensures renews { IfOk result (λ tick. D.Honest (disk_of self.new) → (world : World)
+            → (carries : Carries R.takes self.old (D.state (disk_of self.old)) world)
+            → RenewsAt (worlds R.takes) tick carries.carried.layout (D.state (disk_of self.new)) world) }
+
+        // How far it comes.
+        ensures left { IfOk result (λ tick. LowersFrom tick (ticks_left self.old) (ticks_left self.new)) }
+        ensures idle { (result ≡ Ok Tick.Idle) ↔ ((is_broken self.old ≡ false) × (ticks_left self.old ≡ 0)
+            × (IsDue (place_of self.old) → ⊥)) }
+        ensures rests { result ≡ Ok Tick.Idle → self.new ≡ self.old }
+        ensures number { next_number self.new ≡ next_number self.old }
+
+        // When each refusal comes, and what it leaves.
+        ensures again { IsErrOf result Fault.OpenAgain ↔ IsTrue (is_broken self.old) }
+        ensures untouched { IsErrOf result Fault.OpenAgain → self.new ≡ self.old }
+        ensures broken { is_broken self.new ≡ ends_broken result }
+        ensures full { IsErrOf result Fault.FileFull → IsFileFull self.old (T.tables tables.now) }
+        ensures first { IfErr result (λ fault. IsWant fault → ticks_left self.old ≡ 0) }
+        ensures unchanged { IfErr result (λ fault. IsWant fault → IsUnchanged self.old self.new) }
+        ensures room { IsErrOf result Fault.HalfFull → ⊥ }
+        ensures fault { CountsFault (D.fault_count (disk_of self.old)) (D.fault_count (disk_of self.new)) result }
+
+        ensures writes { D.write_count (disk_of self.new) ≤ D.write_count (disk_of self.old) + 1 }
+        ensures syncs { D.sync_count (disk_of self.new) ≤ D.sync_count (disk_of self.old) + 1 }
+        ensures honest { D.Honest (disk_of self.new) → D.Honest (disk_of self.old) }
+        ensures works { D.Works (disk_of self.new) → D.Works (disk_of self.old) }
+    {
+        if self.broken {
+            return Err(Fault::OpenAgain);
+        }
+        self.step(tables)
+    }
+
+    // The same of a log that isn't broken.
+    pub(crate) fn step<T: TablesInWords>(&mut self, tables: &T) -> Result<Tick, Fault>
+        requires { is_broken self.old ≡ false }
+        ensures stops { D.Honest (disk_of self.new) → (world : World)
+            → Carries R.takes self.old (D.state (disk_of self.old)) world
+            → LeavesKept (worlds R.takes) (D.past (disk_of self.old)) (D.state (disk_of self.old))
+            (D.past (disk_of self.new)) (D.state (disk_of self.new)) world }
+        ensures carries { D.Honest (disk_of self.new) → is_broken self.new ≡ false → (world : World)
+            → world.tables ≡ T.tables tables.now → Carries R.takes self.old (D.state (disk_of self.old)) world
+            → Carries R.takes self.new (D.state (disk_of self.new)) world }
+        ensures renews { IfOk result (λ tick. D.Honest (disk_of self.new) → (world : World)
+            → (carries : Carries R.takes self.old (D.state (disk_of self.old)) world)
+            → RenewsAt (worlds R.takes) tick carries.carried.layout (D.state (disk_of self.new)) world) }
+        ensures left { IfOk result (λ tick. LowersFrom tick (ticks_left self.old) (ticks_left self.new)) }
+        ensures idle { (result ≡ Ok Tick.Idle) ↔ ((ticks_left self.old ≡ 0) × (IsDue (place_of self.old) → ⊥)) }
+        ensures rests { result ≡ Ok Tick.Idle → self.new ≡ self.old }
+        ensures number { next_number self.new ≡ next_number self.old }
+        ensures broken { is_broken self.new ≡ ends_broken result }
+        ensures err { IfErr result (λ fault. IsWant fault ⊎ (fault ≡ Fault.DeviceFailed)) }
+        ensures full { IsErrOf result Fault.FileFull → IsFileFull self.old (T.tables tables.now) }
+        ensures first { IfErr result (λ fault. IsWant fault → ticks_left self.old ≡ 0) }
+        ensures unchanged { IfErr result (λ fault. IsWant fault → IsUnchanged self.old self.new) }
+        ensures fault { CountsFault (D.fault_count (disk_of self.old)) (D.fault_count (disk_of self.new)) result }
+        ensures writes { D.write_count (disk_of self.new) ≤ D.write_count (disk_of self.old) + 1 }
+        ensures syncs { D.sync_count (disk_of self.new) ≤ D.sync_count (disk_of self.old) + 1 }
+        ensures honest { D.Honest (disk_of self.new) → D.Honest (disk_of self.old) }
+        ensures works { D.Works (disk_of self.new) → D.Works (disk_of self.old) }
+    {
+        if self.writer.ticks_left() > 0 {
+            return self.go_on();
+        }
+        if !self.is_due() {
+            return Ok(Tick::Idle);
+        }
+        self.begin(tables)?;
+        Ok(Tick::More)
+    }
+
+    // Whether a checkpoint is to begin where none is under way.
+    fn is_due(&self) -> bool
+        ensures { IsTrue result ↔ IsDue (place_of self.now) }
+    {
+        let place = self.writer.place();
+        if place.begun.is_some() {
+            return true;
+        }
+        place.part.next_slot >= MANY_SLOTS
+    }
+
+    // The next step of the checkpoint under way.
+    fn go_on(&mut self) -> Result<Tick, Fault>
+        requires whole { is_broken self.old ≡ false }
+        requires under_way { 0 < ticks_left self.old }
+        ensures stops { D.Honest (disk_of self.new) → (world : World)
+            → Carries R.takes self.old (D.state (disk_of self.old)) world
+            → LeavesKept (worlds R.takes) (D.past (disk_of self.old)) (D.state (disk_of self.old))
+            (D.past (disk_of self.new)) (D.state (disk_of self.new)) world }
+        ensures carries { D.Honest (disk_of self.new) → is_broken self.new ≡ false → (world : World)
+            → Carries R.takes self.old (D.state (disk_of self.old)) world
+            → Carries R.takes self.new (D.state (disk_of self.new)) world }
+        ensures renews { IfOk result (λ tick. D.Honest (disk_of self.new) → (world : World)
+            → (carries : Carries R.takes self.old (D.state (disk_of self.old)) world)
+            → RenewsAt (worlds R.takes) tick carries.carried.layout (D.state (disk_of self.new)) world) }
+        ensures left { IfOk result (λ tick. Lowers tick (ticks_left self.old) (ticks_left self.new)) }
+        ensures number { next_number self.new ≡ next_number self.old }
+        ensures broken { is_broken self.new ≡ ends_broken result }
+        ensures err { IfErr result (λ fault. fault ≡ Fault.DeviceFailed) }
+        ensures fault { CountsFault (D.fault_count (disk_of self.old)) (D.fault_count (disk_of self.new)) result }
+        ensures writes { D.write_count (disk_of self.new) ≤ D.write_count (disk_of self.old) + 1 }
+        ensures syncs { D.sync_count (disk_of self.new) ≤ D.sync_count (disk_of self.old) + 1 }
+        ensures honest { D.Honest (disk_of self.new) → D.Honest (disk_of self.old) }
+        ensures works { D.Works (disk_of self.new) → D.Works (disk_of self.old) }
+    {
+        match self.writer.tick(&mut self.disk) {
+            Ok(tick) => Ok(tick),
+            Err(_) => {
+                self.broken = true;
+                Err(Fault::DeviceFailed)
+            }
+        }
+    }
+
+    // The first step of a checkpoint: its plan, and then one device call.
+    fn begin<T: TablesInWords>(&mut self, tables: &T) -> Result<(), Fault>
+        requires whole { is_broken self.old ≡ false }
+        requires resting { ticks_left self.old ≡ 0 }
+        ensures stops { D.Honest (disk_of self.new) → (world : World)
+            → Carries R.takes self.old (D.state (disk_of self.old)) world
+            → LeavesKept (worlds R.takes) (D.past (disk_of self.old)) (D.state (disk_of self.old))
+            (D.past (disk_of self.new)) (D.state (disk_of self.new)) world }
+        ensures carries { D.Honest (disk_of self.new) → is_broken self.new ≡ false → (world : World)
+            → world.tables ≡ T.tables tables.now → Carries R.takes self.old (D.state (disk_of self.old)) world
+            → Carries R.takes self.new (D.state (disk_of self.new)) world }
+        ensures left { OnOk result (3 ≤ ticks_left self.new) }
+        ensures number { next_number self.new ≡ next_number self.old }
+        ensures root { root_number self.new ≡ root_number self.old }
+        ensures broken { is_broken self.new ≡ ends_broken result }
+        ensures err { IfErr result (λ fault. IsWant fault ⊎ (fault ≡ Fault.DeviceFailed)) }
+        ensures full { IsErrOf result Fault.FileFull → IsFileFull self.old (T.tables tables.now) }
+        ensures unchanged { IfErr result (λ fault. IsWant fault → IsUnchanged self.old self.new) }
+        ensures fault { CountsFault (D.fault_count (disk_of self.old)) (D.fault_count (disk_of self.new)) result }
+        ensures writes { D.write_count (disk_of self.new) ≤ D.write_count (disk_of self.old) + 1 }
+        ensures syncs { D.sync_count (disk_of self.new) ≤ D.sync_count (disk_of self.old) + 1 }
+        ensures honest { D.Honest (disk_of self.new) → D.Honest (disk_of self.old) }
+        ensures works { D.Works (disk_of self.new) → D.Works (disk_of self.old) }
+    {
+        let plan = self.plan(tables)?;
+        match self.writer.begin(&mut self.disk, plan) {
+            Ok(()) => {
+                self.base = None;
+                Ok(())
+            }
+            Err(_) => {
+                self.broken = true;
+                Err(Fault::DeviceFailed)
+            }
+        }
+    }
+
+    /// Makes a whole checkpoint: begins one where none is under way, and makes all ticks that are left. The tables are those
+    /// of the world that the log carries.
+    ///
+    /// # Errors
+    /// `OpenAgain`; `DeviceFailed`, after which the log is broken; where it begins one also `FileFull` and `OutOfMemory`,
+    /// before any device call: then the log goes on.
+    pub fn checkpoint<T: TablesInWords>(&mut self, tables: &T) -> Result<(), Fault>
+        // Whatever a stop leaves at any moment keeps the world, and the log carries it on.
+        ensures stops { D.Honest (disk_of self.new) → (world : World) → world.tables ≡ T.tables tables.now
+            → Carries R.takes self.old (D.state (disk_of self.old)) world
+            → LeavesKept (worlds R.takes) (D.past (disk_of self.old)) (D.state (disk_of self.old))
+            (D.past (disk_of self.new)) (D.state (disk_of self.new)) world }
+        ensures carries { D.Honest (disk_of self.new) → is_broken self.new ≡ false → (world : World)
+            → world.tables ≡ T.tables tables.now → Carries R.takes self.old (D.state (disk_of self.old)) world
+            → Carries R.takes self.new (D.state (disk_of self.new)) world }
+
+        // Then each file that a stop may leave takes a root of a greater number.
+        ensures renews { OnOk result (D.Honest (disk_of self.new) → (world : World) → world.tables ≡ T.tables tables.now
+            → Carries R.takes self.old (D.state (disk_of self.old)) world
+            → EachImage (D.state (disk_of self.new)) (TakesRootBehind (worlds R.takes) (root_number self.old) world)) }
+        ensures left { OnOk result (ticks_left self.new ≡ 0) }
+        ensures number { next_number self.new ≡ next_number self.old }
+
+        // When each refusal comes, and what it leaves.
+        ensures again { IsErrOf result Fault.OpenAgain ↔ IsTrue (is_broken self.old) }
+        ensures untouched { IsErrOf result Fault.OpenAgain → self.new ≡ self.old }
+        ensures broken { is_broken self.new ≡ ends_broken result }
+        ensures full { IsErrOf result Fault.FileFull → IsFileFull self.old (T.tables tables.now) }
+        ensures first { IfErr result (λ fault. IsWant fault → ticks_left self.old ≡ 0) }
+        ensures unchanged { IfErr result (λ fault. IsWant fault → IsUnchanged self.old self.new) }
+        ensures room { IsErrOf result Fault.HalfFull → ⊥ }
+        ensures fault { CountsFault (D.fault_count (disk_of self.old)) (D.fault_count (disk_of self.new)) result }
+
+        ensures honest { D.Honest (disk_of self.new) → D.Honest (disk_of self.old) }
+        ensures works { D.Works (disk_of self.new) → D.Works (disk_of self.old) }
+    {
+        if self.broken {
+            return Err(Fault::OpenAgain);
+        }
+        if self.writer.ticks_left() > 0 {
+            return self.finish();
+        }
+        self.begin(tables)?;
+        self.finish()?;
+        Ok(())
+    }
+
+    // All ticks that are left.
+    fn finish(&mut self) -> Result<(), Fault>
+        requires whole { is_broken self.old ≡ false }
+        requires under_way { 0 < ticks_left self.old }
+        ensures stops { D.Honest (disk_of self.new) → (world : World)
+            → Carries R.takes self.old (D.state (disk_of self.old)) world
+            → LeavesKept (worlds R.takes) (D.past (disk_of self.old)) (D.state (disk_of self.old))
+            (D.past (disk_of self.new)) (D.state (disk_of self.new)) world }
+        ensures carries { D.Honest (disk_of self.new) → is_broken self.new ≡ false → (world : World)
+            → Carries R.takes self.old (D.state (disk_of self.old)) world
+            → Carries R.takes self.new (D.state (disk_of self.new)) world }
+        ensures renews { OnOk result (D.Honest (disk_of self.new) → (world : World)
+            → Carries R.takes self.old (D.state (disk_of self.old)) world
+            → EachImage (D.state (disk_of self.new)) (TakesRootBehind (worlds R.takes) (root_number self.old) world)) }
+        ensures left { OnOk result (ticks_left self.new ≡ 0) }
+        ensures number { next_number self.new ≡ next_number self.old }
+        ensures broken { is_broken self.new ≡ ends_broken result }
+        ensures err { IfErr result (λ fault. fault ≡ Fault.DeviceFailed) }
+        ensures fault { CountsFault (D.fault_count (disk_of self.old)) (D.fault_count (disk_of self.new)) result }
+        ensures honest { D.Honest (disk_of self.new) → D.Honest (disk_of self.old) }
+        ensures works { D.Works (disk_of self.new) → D.Works (disk_of self.old) }
+    {
+        match self.writer.finish(&mut self.disk) {
+            Ok(()) => Ok(()),
+            Err(_) => {
+                self.broken = true;
+                Err(Fault::DeviceFailed)
+            }
+        }
+    }
+}

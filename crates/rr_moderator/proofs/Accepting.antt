@@ -1,0 +1,58 @@
+-- The reply to an accepted request: the table's new stamp, and behind a run what the trains earned.
+use Rattle.std.proofs.Common.{◌≡◌, ℕ, ◌++◌, List, [], ◌∷◌, Bool, true, false, Option, Some, Result, Ok, Err, refl, sym, ap, ◌∙◌, codes, append-nil}
+use Rattle.std.specs.Prelude.{decimal}
+use Rattle.std.specs.Fmt.{signed_decimal}
+use Rattle.rr_kit.specs.declared.kit.Kit.{Kit}
+use Rattle.rr_code.specs.declared.command.Command.{Command}
+use Rattle.rr_turns.specs.declared.request.Request.{Request}
+use Rattle.rr_game.specs.Play.{play}
+use Rattle.rr_store.specs.declared.fault.Fault as store
+use Rattle.rr_store.specs.Held.{Held, Takes, Accepted, Refused, Wants, NoRoom, Fails, Again, stamp_after}
+use Rattle.rr_store.specs.World.{TableState, state_after, table_named}
+use Rattle.rr_moderator.specs.Answer.{accepted_text, runs_trains, spaced, earned_words}
+use Rattle.rr_moderator.proofs.AloneLemmas.{named_after}
+
+one_stamp : {r : Result ℕ store.Fault} (a b : ℕ) → r ≡ Ok a → r ≡ Ok b → a ≡ b
+one_stamp a b p q = cc
+
+-- what is held once a request is accepted
+abbrev pub Accepts : Held → Held → List ℕ → Request Command → ℕ → Type 0
+Accepts old new name c n =
+    (table_named new.tables name ≡ Some (state_after old.kit (table_named old.tables name) c)) × (new.kit ≡ old.kit) × (n ≡ stamp_after old.kit old.tables name c)
+
+pub accepts : (old new : Held) (stamp : ℕ) (name : List ℕ) (c : Request Command) (n : ℕ) {taking : Result ℕ store.Fault} → Takes old stamp name c new taking → taking ≡ Ok n
+    → Accepts old new name c n
+accepts old new stamp name c n (Accepted whole lawful after) is = (
+  ap (λ (h : Held). table_named h.tables name) after ∙ named_after old.tables name (state_after old.kit (table_named old.tables name) c),
+  ap (λ (h : Held). h.kit) after,
+  sym (one_stamp (stamp_after old.kit old.tables name c) n refl is),
+)
+accepts old new stamp name c n (Refused fault whole refused same) is = absurd (cc is)
+accepts old new stamp name c n (Wants whole first same) is = absurd (cc is)
+accepts old new stamp name c n (NoRoom whole lawful same) is = absurd (cc is)
+accepts old new stamp name c n (Fails whole lawful after) is = absurd (cc is)
+accepts old new stamp name c n (Again broken same) is = absurd (cc is)
+
+earned_when : (kit : Kit) (t : TableState) (c : Request Command) → runs_trains c ≡ true → earned_words kit t c ≡ signed_decimal (play kit t.commands).revenue.0 ∷ []
+earned_when kit t c runs = rw runs refl
+
+silent_when : (kit : Kit) (t : TableState) (c : Request Command) → runs_trains c ≡ false → earned_words kit t c ≡ []
+silent_when kit t c runs = rw runs refl
+
+pub earned_told : (kit : Kit) (name : List ℕ) (t : TableState) (c : Request Command) (n : ℕ) (ok reply : List ℕ) → n ≡ t.stamp
+    → ok ≡ codes "ok " ++ name ++ codes " " ++ decimal n → runs_trains c ≡ true
+    → reply ≡ ok ++ (codes " " ++ signed_decimal (play kit t.commands).revenue.0)
+    → reply ++ codes "\n" ≡ accepted_text kit name t c
+earned_told kit name t c n ok reply stamp told runs is =
+    let earned = codes " " ++ signed_decimal (play kit t.commands).revenue.0 in
+    let words : spaced (earned_words kit t c) ≡ earned = ap spaced (earned_when kit t c runs) ∙ append-nil earned in
+    ap (λ (l : List ℕ). l ++ codes "\n") (is ∙ ap (λ (l : List ℕ). l ++ earned) (told ∙ ap (λ (m : ℕ). codes "ok " ++ name ++ codes " " ++ decimal m) stamp))
+    ∙ ap (λ (l : List ℕ). codes "ok " ++ name ++ codes " " ++ decimal t.stamp ++ l ++ codes "\n") (sym words)
+
+pub stamp_told : (kit : Kit) (name : List ℕ) (t : TableState) (c : Request Command) (n : ℕ) (ok : List ℕ) → n ≡ t.stamp
+    → ok ≡ codes "ok " ++ name ++ codes " " ++ decimal n → runs_trains c ≡ false
+    → ok ++ codes "\n" ≡ accepted_text kit name t c
+stamp_told kit name t c n ok stamp told runs =
+    let words : spaced (earned_words kit t c) ≡ [] = ap spaced (silent_when kit t c runs) in
+    ap (λ (l : List ℕ). l ++ codes "\n") (told ∙ ap (λ (m : ℕ). codes "ok " ++ name ++ codes " " ++ decimal m) stamp ∙ sym (append-nil (codes "ok " ++ name ++ codes " " ++ decimal t.stamp)))
+    ∙ ap (λ (l : List ℕ). codes "ok " ++ name ++ codes " " ++ decimal t.stamp ++ l ++ codes "\n") (sym words)

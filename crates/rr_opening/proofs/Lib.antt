@@ -1,0 +1,4 @@
+pub mod Layouts
+pub mod Syncs
+pub mod Refusals
+pub mod Places

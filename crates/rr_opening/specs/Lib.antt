@@ -1,0 +1,5 @@
+pub mod Opened
+pub mod Place
+pub mod Carrying
+pub mod Syncing
+pub mod Laws

@@ -1,0 +1,5 @@
+pub mod WorldLemmas
+pub mod WordLemmas
+pub mod TakingLemmas
+pub mod PlayedLemmas
+pub mod Schedules

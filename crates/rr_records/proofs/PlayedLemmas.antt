@@ -1,0 +1,110 @@
+-- Tables that were played, after a lawful request.
+use Rattle.std.proofs.Common.{◌≡◌, ℕ, zero, suc, Bool, true, false, cond, List, [], ◌∷◌, ◌++◌, Option, None, Some, bytes_eq, if◌then◌else◌, length, refl, sym, subst}
+use Rattle.std.proofs.Math.Logic.{∥∥₁_map}
+use Rattle.indexmap.specs.IndexMap.{insert_entry}
+use Rattle.rr_code.specs.declared.command.Command.{Command}
+use Rattle.rr_code.specs.declared.command.Command.TheVariants.{Open}
+use Rattle.rr_hist.specs.Fault.{of_game}
+use Rattle.rr_hist.specs.Playing.{ArePlayed, IsLawfulAfter, ends_turn, game_judgement}
+use Rattle.rr_hist.specs.Verdict.{own_judgement, request_judgement, room_verdict, stamp_verdict}
+use Rattle.rr_kit.specs.declared.kit.Kit.{Kit}
+use Rattle.rr_kit.specs.Kits.{SpellsKit}
+use Rattle.rr_turns.specs.declared.request.Request.{Request}
+use Rattle.rr_turns.specs.declared.request.Request.TheVariants.{Play, Back, Forget}
+use Rattle.rr_turns.specs.Judgement.{IsVerdict, judgement_map}
+use Rattle.rr_turns.specs.Turns.{AreLawful, first_turns, next_turns}
+use Rattle.rr_turns.proofs.JudgementLemmas.{lawful-behind, lawful-map}
+use Rattle.rr_turns.proofs.LawfulLemmas.{lawful-push}
+use Rattle.rr_records.specs.Fault.{of_table}
+use Rattle.rr_records.specs.Laws.{NewWorldsArePlayed, PlayedStayPlayed, ReplayedArePlayed}
+use Rattle.rr_records.specs.Played.{ArePlayedTables, IsPlayedWorld}
+use Rattle.rr_records.specs.Records.{TakesRecord}
+use Rattle.rr_records.specs.World.{TableState, World, present_stamp, state_after, step_judgement, table_named, world_judgement}
+use Rattle.rr_records.proofs.TakingLemmas.{taken_there}
+
+-- a command that no rule refuses at a table
+
+passes_game : (kit : Kit) (t : TableState) (stamp : ℕ) (c : Command) → IsVerdict (step_judgement kit (Some t) stamp (Play c)) None → IsLawfulAfter kit t.commands c
+passes_game kit t stamp c lawful =
+    let by_table = lawful-map of_table (request_judgement kit t stamp (Play c)) lawful in
+    let own = lawful-behind (stamp_verdict t stamp) (own_judgement kit t (Play c)) by_table in
+    let by_game = lawful-behind (room_verdict t) (judgement_map of_game (game_judgement kit t.commands c)) own in
+    lawful-map of_game (game_judgement kit t.commands c) by_game
+
+push_played : (kit : Kit) (commands : List Command) (c : Command) → IsLawfulAfter kit commands c → ArePlayed kit commands → ArePlayed kit (commands ++ c ∷ [])
+push_played kit [] c lawful played = absurd played
+push_played kit (opening ∷ others) c lawful played =
+    (played.0, lawful-push (IsLawfulAfter kit) (opening ∷ []) others c played.1 lawful)
+
+-- the first turns of a table that was played
+
+front_lawful : (IsLawful : List Command → Command → Type 0) (ends : List Command → Command → Bool) (before : List Command) (k : ℕ) (commands : List Command)
+    → AreLawful IsLawful before commands → AreLawful IsLawful before (next_turns ends before k commands)
+front_lawful IsLawful ends before k [] all = tt
+front_lawful IsLawful ends before zero (c ∷ commands) all = tt
+front_lawful IsLawful ends before (suc k) (c ∷ commands) all =
+    (all.0, front_lawful IsLawful ends (before ++ c ∷ []) (if ends before c then k else suc k) commands all.1)
+
+turns_played : (kit : Kit) (k : ℕ) (commands : List Command) → ArePlayed kit commands → ArePlayed kit (first_turns (ends_turn kit) k commands)
+turns_played kit k [] played = absurd played
+turns_played kit k (opening ∷ others) played =
+    (played.0, front_lawful (IsLawfulAfter kit) (ends_turn kit) (opening ∷ []) k others played.1)
+
+-- a table after a lawful request
+
+step_played : (kit : Kit) (t : TableState) (stamp : ℕ) (r : Request Command) → IsVerdict (step_judgement kit (Some t) stamp r) None
+    → ArePlayed kit t.commands → ArePlayed kit (state_after kit (Some t) r).commands
+step_played kit t stamp (Play c) lawful played = push_played kit t.commands c (passes_game kit t stamp c lawful) played
+step_played kit t stamp (Back k) lawful played = turns_played kit k t.commands played
+step_played kit t stamp (Forget k) lawful played = played
+
+state_played : (kit : Kit) (there : Option TableState) (n stamp : ℕ) (r : Request Command) → IsVerdict (world_judgement kit there n stamp r) None
+    → ((t : TableState) → there ≡ Some t → ∥ ArePlayed kit t.commands ∥₁) → ∥ ArePlayed kit (state_after kit there r).commands ∥₁
+state_played kit None n stamp (Play (Open players)) lawful all = ∣ (refl, tt) ∣₁
+state_played kit (Some t) n stamp (Play (Open players)) lawful all = absurd cc
+state_played kit None n stamp r lawful all = absurd cc
+state_played kit (Some t) n stamp r lawful all = ∥∥₁_map (all t refl) (λ played. step_played kit t stamp r lawful played)
+
+named_step : (kit : Kit) (b : Bool) (e : List ℕ × TableState) (rest : Option TableState) (t : TableState) → cond b (Some e.1) rest ≡ Some t
+    → ∥ ArePlayed kit e.1.commands ∥₁ → (rest ≡ Some t → ∥ ArePlayed kit t.commands ∥₁) → ∥ ArePlayed kit t.commands ∥₁
+named_step kit true e rest t is here others = let same : e.1 ≡ t = cc in subst (λ (x : TableState). ∥ ArePlayed kit x.commands ∥₁) same here
+named_step kit false e rest t is here others = others is
+
+named_played : (kit : Kit) (tables : World) (name : List ℕ) (t : TableState) → ArePlayedTables kit tables → table_named tables name ≡ Some t → ∥ ArePlayed kit t.commands ∥₁
+named_played kit [] name t all is = absurd cc
+named_played kit (e ∷ es) name t all is = named_step kit (bytes_eq name e.0) e (table_named es name) t is all.0 (λ found. named_played kit es name t all.1 found)
+
+insert_step : (kit : Kit) (b : Bool) (e : List ℕ × TableState) (es rest : World) (v : TableState) → ∥ ArePlayed kit v.commands ∥₁ → ArePlayedTables kit (e ∷ es)
+    → ArePlayedTables kit rest → ArePlayedTables kit (if b then (e.0, v) ∷ es else e ∷ rest)
+insert_step kit true e es rest v here all more = (here, all.1)
+insert_step kit false e es rest v here all more = (all.0, more)
+
+insert_played : (kit : Kit) (tables : World) (name : List ℕ) (v : TableState) → ∥ ArePlayed kit v.commands ∥₁ → ArePlayedTables kit tables
+    → ArePlayedTables kit (insert_entry bytes_eq tables name v)
+insert_played kit [] name v here all = (here, tt)
+insert_played kit (e ∷ es) name v here all =
+    insert_step kit (bytes_eq name e.0) e es (insert_entry bytes_eq es name v) v here all (insert_played kit es name v here all.1)
+
+record_played : (kit : Kit) (old new : World) (line : List ℕ) → TakesRecord kit old line new → ArePlayedTables kit old → ArePlayedTables kit new
+record_played kit old new line takes all =
+    let there = table_named old takes.name in
+    let here = state_played kit there (length old) (present_stamp there) takes.request takes.lawful (λ t found. named_played kit old takes.name t all found) in
+    subst (λ (w : World). ArePlayedTables kit w) (sym takes.taken) (insert_played kit old takes.name (state_after kit there takes.request) here all)
+
+pub new_worlds_are_played : NewWorldsArePlayed
+new_worlds_are_played texts kit right = record { kit = kit; right = right; tables = []; spelled = tt; played = tt }
+
+pub played_stay_played : PlayedStayPlayed
+played_stay_played line old new takes was =
+    record {
+      kit = was.kit;
+      right = subst (λ texts. SpellsKit texts was.kit) (sym takes.same_texts) was.right;
+      tables = takes.after;
+      spelled = takes.becomes;
+      played = record_played was.kit was.tables takes.after line (taken_there was.kit was.tables old new line was.right was.spelled takes) was.played;
+    }
+
+pub replayed_are_played : ReplayedArePlayed
+replayed_are_played [] old new same was = subst (λ world. IsPlayedWorld world) same was
+replayed_are_played (line ∷ lines) old new replays was =
+    replayed_are_played lines replays.0 new replays.2 (played_stay_played line old replays.0 replays.1 was)

@@ -1,0 +1,21 @@
+-- Worlds whose tables were played: those that a file's chains may spell, if no rule is to be broken in it.
+use Rattle.std.specs.Prelude.{[], ◌∷◌}
+use Rattle.rr_hist.specs.Playing.{ArePlayed}
+use Rattle.rr_kit.specs.declared.kit.Kit.{Kit}
+use Rattle.rr_kit.specs.Kits.{SpellsKit}
+use Rattle.rr_worlds.specs.World as words
+use Rattle.rr_records.specs.Words.{IsInWords, kit_texts}
+use Rattle.rr_records.specs.World.{World}
+
+-- what each table keeps is an opening and then commands that are lawful, each after those before it
+abbrev pub ArePlayedTables : Kit → World → Type 0
+ArePlayedTables kit [] = Unit {0}
+ArePlayedTables kit (table ∷ tables) = ∥ ArePlayed kit table.1.commands ∥₁ × ArePlayedTables kit tables
+
+-- a world in words whose texts spell a kit, by the rules of which its tables were played
+pub record IsPlayedWorld (world : words.World) : Type 0 where
+  pub kit : Kit
+  pub right : SpellsKit (kit_texts world) kit
+  pub tables : World
+  pub spelled : IsInWords tables world
+  pub played : ArePlayedTables kit tables

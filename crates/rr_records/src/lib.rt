@@ -1,0 +1,14 @@
+//! The rules of records: which request the line of a record spells, when its table may take it, and to which world of
+//! tables it leads. A world stands in memory by its commands and in the file by their words, and each tells the other.
+//! The crate has no code but the refusals of a judge, and laws.
+//!
+//! Stands on `rr_hist`, `rr_worlds` and `rr_schedules`. Its promise: `laws::prefix`, the law over all schedules for
+//! tables of the game.
+#![tactic(auto)]
+
+mod fault;
+pub mod laws;
+mod rules;
+
+pub use fault::Fault;
+pub use rules::TableRules;

@@ -1,0 +1,99 @@
+use Rattle.std.proofs.Common.{◌≡◌, List, length, map, Result, Err, refl, sym, ◌∙◌, ap}
+use Rattle.std.proofs.lemmas.Result.{err_from_is_err_and}
+use Rattle.rr_checkpoint.specs.Writer.{free_of}
+use Rattle.rr_checkpoint.specs.declared.checkpoint.Plan.{Plan}
+use Rattle.rr_dir.specs.Directory.{spelling}
+use Rattle.rr_dir.specs.declared.directory.KitChains.{KitChains}
+use Rattle.rr_dir.specs.declared.version.Version.TheVariants.{One}
+use Rattle.rr_images.proofs.Commits.{settled_may_stay}
+use Rattle.rr_pages.specs.declared.fault.Fault.{Fault}
+use Rattle.rr_pages.specs.declared.fault.Fault.TheVariants.{FileFull}
+use Rattle.rr_pages.specs.FreePages.{present_of, coming_of}
+use Rattle.rr_pages.specs.Laying.{pages_for}
+use Rattle.rr_pages.specs.Sets.{all_marked}
+use Rattle.rr_snapshot.specs.declared.table.TableSnapshot.{TableSnapshot}
+use Rattle.rr_snapshot.specs.Kit.{kit_chains, text_pages}
+use Rattle.rr_snapshot.specs.Snapshot.{table_of, tables_of}
+use Rattle.rr_snapshot.proofs.DirectoryLemmas.{entries_within, too_few_all}
+use Rattle.rr_snapshot.proofs.Frames.{onward}
+use Rattle.rr_snapshot.proofs.LaidTables.{laid_same, too_few_same}
+use Rattle.rr_snapshot.proofs.PlanLemmas.{planned}
+use Rattle.rr_worlds.specs.Spelling.{worlds}
+use Rattle.rr_snapshot.proofs.planning.make_plan.Goals as goal
+
+abbrev wrapped : Fault → Result Plan Fault
+wrapped fault = Err fault
+
+pub returns-in_err-entries-clause-only : goal.returns-in_err-entries-clause-only
+returns-in_err-entries-clause-only g c = onward (worlds g.R.Rules.takes) c.args.writer.now c.keep_texts.new.writer c.lay_tables.new.writer c.keep_texts.ensures.only c.lay_tables.ensures.only
+
+pub directory_bytes-requires : goal.directory_bytes-requires
+directory_bytes-requires g c =
+    let kept = c.keep_texts.new.writer in
+    let laid = c.lay_tables.new.writer in
+    let snapshot = c.args.snapshot.now in
+    entries_within (present_of (free_of kept)) (coming_of (free_of kept)) (coming_of (free_of laid)) c.lay_tables.new.fresh.items snapshot.tables.items c.in_ok-entries.entries.items
+    (laid_same (present_of (free_of kept)) (present_of (free_of kept)) (coming_of (free_of kept)) (coming_of (free_of kept)) (coming_of (free_of laid)) c.lay_tables.new.fresh.items (map table_of c.deref.result.now) (tables_of snapshot) c.in_ok-entries.entries.items
+    refl refl (ap (λ (parts : List TableSnapshot). map table_of parts) c.deref.ensures.value) c.in_ok-entries.ensures.laid) snapshot.few
+
+pub returns-in_err-directory-clause-only : goal.returns-in_err-directory-clause-only
+returns-in_err-directory-clause-only g c = onward (worlds g.R.Rules.takes) c.args.writer.now c.keep_texts.new.writer c.lay_tables.new.writer c.keep_texts.ensures.only c.lay_tables.ensures.only
+
+pub returns-in_err-plan-clause-only : goal.returns-in_err-plan-clause-only
+returns-in_err-plan-clause-only g c =
+    let codec = worlds g.R.Rules.takes in
+    let kept = c.keep_texts.new.writer in
+    let laid = c.lay_tables.new.writer in
+    let new = c.plan.new.self in
+    onward codec c.args.writer.now kept new c.keep_texts.ensures.only
+    (onward codec kept laid new c.lay_tables.ensures.only
+    (record { resting = c.plan.ensures.resting; taken = c.plan.ensures.taken; place = c.plan.ensures.place; carries = c.plan.ensures.carries }))
+
+pub returns-clause-only : goal.returns-clause-only
+returns-clause-only g c =
+    let codec = worlds g.R.Rules.takes in
+    let kept = c.keep_texts.new.writer in
+    let laid = c.lay_tables.new.writer in
+    let new = c.plan.new.self in
+    onward codec c.args.writer.now kept new c.keep_texts.ensures.only
+    (onward codec kept laid new c.lay_tables.ensures.only
+    (record { resting = c.plan.ensures.resting; taken = c.plan.ensures.taken; place = c.plan.ensures.place; carries = c.plan.ensures.carries }))
+
+pub returns-in_err-plan-clause-full : goal.returns-in_err-plan-clause-full
+returns-in_err-plan-clause-full g c = λ full.
+    let p = err_from_is_err_and c.from_residual-in_err-plan.result c.from_residual-in_err-plan.ensures.1 in
+    let is : c.in_err-plan.field-0.0 ≡ FileFull = cc (p.1, p.2, full) in
+    let writer = c.args.writer.now in
+    let kept = c.keep_texts.new.writer in
+    let laid = c.lay_tables.new.writer in
+    let kit = c.args.kit.now in
+    let entries = c.in_ok-entries.entries.items in
+    let start = all_marked (coming_of (free_of writer)) (text_pages kit) in
+    let bytes : c.deref-2.result.now ≡ spelling One (record { kit = kit_chains kit; tables = entries }) =
+    c.deref-2.ensures.value ∙ (c.in_ok-directory.ensures.bytes ∙ ap (λ (chains : KitChains). spelling One (record { kit = chains; tables = entries })) c.chains.ensures) in
+    too_few_all (present_of (free_of writer)) start (coming_of (free_of laid)) c.lay_tables.new.fresh.items (tables_of c.args.snapshot.now) entries (kit_chains kit) c.deref-2.result.now
+    (laid_same (present_of (free_of kept)) (present_of (free_of writer)) (coming_of (free_of kept)) start (coming_of (free_of laid)) c.lay_tables.new.fresh.items (map table_of c.deref.result.now) (tables_of c.args.snapshot.now) entries
+    c.keep_texts.ensures.present c.keep_texts.ensures.coming (ap (λ (parts : List TableSnapshot). map table_of parts) c.deref.ensures.value) c.in_ok-entries.ensures.laid)
+    bytes
+    (too_few_same (present_of (free_of laid)) (present_of (free_of writer)) (coming_of (free_of laid)) (coming_of (free_of laid)) (pages_for (length c.deref-2.result.now)) (c.lay_tables.ensures.present ∙ c.keep_texts.ensures.present) refl (c.in_err-plan.ensures.full (ap wrapped is)))
+
+pub returns-clause-plan : goal.returns-clause-plan
+returns-clause-plan g c = λ state world carries of.
+    let takes = g.R.Rules.takes in
+    let codec = worlds takes in
+    let writer = c.args.writer.now in
+    let kept = c.keep_texts.new.writer in
+    let laid = c.lay_tables.new.writer in
+    let kit = c.args.kit.now in
+    let snapshot = c.args.snapshot.now in
+    let entries = c.in_ok-entries.entries.items in
+    let start = all_marked (coming_of (free_of writer)) (text_pages kit) in
+    let bytes : c.deref-2.result.now ≡ spelling One (record { kit = kit_chains kit; tables = entries }) =
+    c.deref-2.ensures.value ∙ (c.in_ok-directory.ensures.bytes ∙ ap (λ (chains : KitChains). spelling One (record { kit = chains; tables = entries })) c.chains.ensures) in
+    let only = onward codec writer kept laid c.keep_texts.ensures.only c.lay_tables.ensures.only in
+    let then = only.carries state world carries in
+    let keeps = carries.between.each state.settled (settled_may_stay state) in
+    planned takes carries.layout kit snapshot of state.settled world keeps (coming_of (free_of writer)) (free_of laid) c.lay_tables.new.fresh.items entries c.deref-2.result.now c.requires.nothing writer.file.free.coming.whole
+    (laid_same (present_of (free_of kept)) (present_of (free_of laid)) (coming_of (free_of kept)) start (coming_of (free_of laid)) c.lay_tables.new.fresh.items (map table_of c.deref.result.now) (tables_of snapshot) entries
+    (sym c.lay_tables.ensures.present) c.keep_texts.ensures.coming (ap (λ (parts : List TableSnapshot). map table_of parts) c.deref.ensures.value) c.in_ok-entries.ensures.laid)
+    bytes then.0.layout (free_of c.plan.new.self) c.in_ok-plan.plan then.1 (c.in_ok-plan.ensures.plan state world then.0)
