@@ -108,14 +108,14 @@ fn a_text_takes_a_page_more_from_4087_bytes_on(rt: HostRuntime) -> Result<(), Fa
     Ok(())
 }
 
-// Four writes and three syncs, and nothing waits for a sync then.
+// Five writes and three syncs, and nothing waits for a sync then.
 #[test]
 fn a_formatted_disk_is_read_back(rt: HostRuntime) -> Result<(), Fail> {
     let alloc = rt.alloc();
     new_files_stand::<NoRecords>();
     let mut disk = in_memory(alloc, ROOM, b"")?;
     format_short(alloc, &mut disk)?;
-    assert_eq!(rt; counts(&disk).as_slice(), [0, 4, 3, 2_125_824].as_slice());
+    assert_eq!(rt; counts(&disk).as_slice(), [0, 5, 3, 2_125_824].as_slice());
     assert!(rt; unsynced(&disk).is_empty());
     let root: [u8; 36] = read(&mut disk, 0)?;
     assert_eq!(rt; root.as_slice(), ROOT);

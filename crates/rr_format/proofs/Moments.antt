@@ -16,20 +16,20 @@ use Rattle.rr_pages.specs.declared.root.Root.{Root}
 use Rattle.rr_pages.proofs.RootSpelling.{length-root}
 use Rattle.rr_worlds.specs.Spelling.{worlds}
 use Rattle.rr_worlds.specs.World.{World}
-use Rattle.rr_format.specs.Formatted.{all_bytes, closed_state, IsFormatted, IsNoneOrFormatted, KeepsNoneOr, IsUnused, NewFilesStand}
+use Rattle.rr_format.specs.Formatted.{all_bytes, closed_state, header_state, header_zeros, IsFormatted, IsNoneOrFormatted, KeepsNoneOr, IsUnused, NewFilesStand}
 use Rattle.rr_format.specs.NewFile.{IsNewFile}
 use Rattle.rr_format.proofs.Blank.{AreGatesShut, shut_is_none, shut_torn, none_torn}
-use Rattle.rr_format.proofs.NewBytes.{HasHeader, HasPages, HasRoot, length-all, header_written, header_shut, pages_written, root_written, gate_opened}
+use Rattle.rr_format.proofs.NewBytes.{HasHeader, HasPages, HasRoot, length-all, length-zeros, header_written, header_shut, zeros_written, pages_written, root_written, gate_opened}
 use Rattle.rr_format.proofs.Kept.{new_file_kept}
 
--- the states behind the first two calls
+-- the states behind the first call, and behind the pages
 abbrev pub with_header : DiskState → DiskState
 with_header state = after_sync (after_write state (4096 * 514 - 1) (0 ∷ []))
 
 abbrev pub with_pages : List ℕ → DiskState → DiskState
-with_pages bytes state = after_write (with_header state) (4096 * 514) bytes
+with_pages bytes state = after_write (header_state state) (4096 * 514) bytes
 
-module _ (root : Root) (bytes : List ℕ) (old : DiskState) (empty : length old.content ≡ 0) where
+module _ (old : DiskState) (empty : length old.content ≡ 0) where
   header_there : HasHeader (with_header old).content
   header_there = header_written old.content 2105343 empty refl
 
@@ -38,14 +38,19 @@ module _ (root : Root) (bytes : List ℕ) (old : DiskState) (empty : length old.
   shut_behind_header image is_image =
       subst (λ (file : List ℕ). AreGatesShut file) (sym (only_content_of (after_write old 2105343 (0 ∷ [])) image is_image)) (header_shut (with_header old).content header_there)
 
-  shut_within_pages : (n : ℕ) (image : List ℕ) → TornFrom (with_header old) (4096 * 514) n image → AreGatesShut image
-  shut_within_pages n image torn =
-      shut_torn 2105344 n torn.earlier image (inr (omega arith)) (shut_behind_header torn.earlier torn.was) torn.torn
+  zeros_there : HasHeader (header_state old).content
+  zeros_there =
+      subst (λ (file : List ℕ). HasHeader file) (sym (content_written (with_header old) 4097 header_zeros (omega (arith, length-zeros))))
+      (zeros_written (with_header old).content header_there)
 
-  shut_within_root : (image : List ℕ) → TornFrom (with_pages bytes old) 1 35 image → AreGatesShut image
-  shut_within_root image torn =
-      shut_torn 1 35 torn.earlier image (inl (omega arith, omega arith))
-      (shut_within_pages (length bytes) torn.earlier (torn_image (with_header old) 2105344 bytes torn.earlier torn.was)) torn.torn
+  shut_within_zeros : (n : ℕ) (image : List ℕ) → TornFrom (with_header old) 4097 n image → AreGatesShut image
+  shut_within_zeros n image torn =
+      shut_torn 4097 n torn.earlier image (inr (omega arith)) (shut_behind_header torn.earlier torn.was) torn.torn
+
+  shut_within_pages : (n : ℕ) (image : List ℕ) → TornFrom (header_state old) (4096 * 514) n image → AreGatesShut image
+  shut_within_pages n image torn =
+      shut_torn 2105344 n torn.earlier image (inr (omega arith))
+      (shut_within_zeros (length header_zeros) torn.earlier (torn_image (with_header old) 4097 header_zeros torn.earlier torn.was)) torn.torn
 
   -- so a stop leaves no store, call by call
   module _ {past_new : List DiskState} {new : DiskState} (past : List DiskState) where
@@ -53,21 +58,31 @@ module _ (root : Root) (bytes : List ℕ) (old : DiskState) (empty : length old.
     header_left none leaves =
         weaker leaves IsNoStore (λ image torn. none_torn 2105343 1 torn.earlier image refl (omega arith) (none torn.earlier torn.was) torn.torn)
 
-    pub pages_left : (n : ℕ) (before : DiskState) → before ≡ with_header old → LeavesOnly past before past_new new (TornFrom before (4096 * 514) n) → LeavesOnly past before past_new new IsNoStore
+    pub zeros_left : (n : ℕ) (before : DiskState) → before ≡ with_header old → LeavesOnly past before past_new new (TornFrom before 4097 n) → LeavesOnly past before past_new new IsNoStore
+    zeros_left n before same leaves =
+        weaker leaves IsNoStore (λ image torn. shut_is_none image (shut_within_zeros n image (subst (λ (state : DiskState). TornFrom state 4097 n image) same torn)))
+
+    pub pages_left : (n : ℕ) (before : DiskState) → before ≡ header_state old → LeavesOnly past before past_new new (TornFrom before (4096 * 514) n) → LeavesOnly past before past_new new IsNoStore
     pages_left n before same leaves =
         weaker leaves IsNoStore (λ image torn. shut_is_none image (shut_within_pages n image (subst (λ (state : DiskState). TornFrom state 2105344 n image) same torn)))
 
-    pub root_left : (before : DiskState) → before ≡ with_pages bytes old → LeavesOnly past before past_new new (TornFrom before 1 35) → LeavesOnly past before past_new new IsNoStore
-    root_left before same leaves =
-        weaker leaves IsNoStore (λ image torn. shut_is_none image (shut_within_root image (subst (λ (state : DiskState). TornFrom state 1 35 image) same torn)))
+module _ (bytes : List ℕ) (old : DiskState) (empty : length old.content ≡ 0) where
+  shut_within_root : (image : List ℕ) → TornFrom (with_pages bytes old) 1 35 image → AreGatesShut image
+  shut_within_root image torn =
+      shut_torn 1 35 torn.earlier image (inl (omega arith, omega arith))
+      (shut_within_pages old empty (length bytes) torn.earlier (torn_image (header_state old) 2105344 bytes torn.earlier torn.was)) torn.torn
 
-  -- what stands there then
-  pub closed_there : 0 < length bytes → HasRoot root bytes (closed_state root bytes old).content
-  closed_there some =
-      let paged : HasPages bytes (with_pages bytes old).content =
-      subst (λ (file : List ℕ). HasPages bytes file) (sym (content_written (with_header old) 2105344 bytes some)) (pages_written (with_header old).content bytes header_there) in
-      subst (λ (file : List ℕ). HasRoot root bytes file) (sym (content_written (with_pages bytes old) 1 (root_bytes root) (omega (arith, length-root root))))
-      (root_written (with_pages bytes old).content bytes root paged)
+  pub root_left : {past_new : List DiskState} {new : DiskState} (past : List DiskState) (before : DiskState) → before ≡ with_pages bytes old → LeavesOnly past before past_new new (TornFrom before 1 35) → LeavesOnly past before past_new new IsNoStore
+  root_left past before same leaves =
+      weaker leaves IsNoStore (λ image torn. shut_is_none image (shut_within_root image (subst (λ (state : DiskState). TornFrom state 1 35 image) same torn)))
+
+-- what stands there then
+pub closed_there : (root : Root) (bytes : List ℕ) (old : DiskState) → length old.content ≡ 0 → 0 < length bytes → HasRoot root bytes (closed_state root bytes old).content
+closed_there root bytes old empty some =
+    let paged : HasPages bytes (with_pages bytes old).content =
+    subst (λ (file : List ℕ). HasPages bytes file) (sym (content_written (header_state old) 2105344 bytes some)) (pages_written (header_state old).content bytes (zeros_there old empty)) in
+    subst (λ (file : List ℕ). HasRoot root bytes file) (sym (content_written (with_pages bytes old) 1 (root_bytes root) (omega (arith, length-root root))))
+    (root_written (with_pages bytes old).content bytes root paged)
 
 module _ (takes : List ℕ → World → World → Type 0) (root : Root) (fresh : List FreshPage) (world : World) (is : IsNewFile takes root fresh world) where
   sound_there : IsSound (replicate (4096 * root.pages) 0) root

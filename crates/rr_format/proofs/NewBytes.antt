@@ -1,7 +1,7 @@
 -- How the bytes of a new file come to stand, write by write.
-use Rattle.std.proofs.Common.{◌≡◌, inl, inr, ℕ, ◌+◌, ◌-◌, ◌*◌, ◌<◌, ◌≤◌, List, [], ◌∷◌, length, map, slice_index, get_or, refl, ◌∙◌, ap, arith, length-append}
+use Rattle.std.proofs.Common.{◌≡◌, inl, inr, ℕ, ◌+◌, ◌-◌, ◌*◌, ◌<◌, ◌≤◌, List, [], ◌∷◌, length, map, slice_index, get_or, replicate, refl, ◌∙◌, ap, arith, length-append}
 use Rattle.std.proofs.lemmas.Bool.{cases_lt}
-use Rattle.std.proofs.lemmas.List.{get_or_past, get_or_append_left, get_or-append_right}
+use Rattle.std.proofs.lemmas.List.{get_or_past, get_or_append_left, get_or-append_right, get_or-replicate, length-replicate}
 use Rattle.rr_disk.specs.Disk.{Torn, written}
 use Rattle.rr_disk.proofs.ImageLemmas.{length-written, written_before, written_inside, written_behind}
 use Rattle.rr_images.specs.Progress.{AreSpare}
@@ -14,7 +14,7 @@ use Rattle.rr_pages.specs.Roots.{root_bytes}
 use Rattle.rr_pages.specs.Writing.{fresh_of}
 use Rattle.rr_pages.proofs.Bytes.{at_same}
 use Rattle.rr_pages.proofs.RootSpelling.{length-root}
-use Rattle.rr_format.specs.Formatted.{bytes_of, all_bytes, HasNewBytes}
+use Rattle.rr_format.specs.Formatted.{bytes_of, all_bytes, header_zeros, HasNewBytes}
 use Rattle.rr_format.specs.InTurn.{pages_from}
 use Rattle.rr_format.specs.NewFile.{page_of}
 use Rattle.rr_format.proofs.Blank.{AreGatesShut}
@@ -61,6 +61,28 @@ header_written file at empty last =
       zeros = λ i h. elim (cases_lt i at) [
         | inl before ↦ written_before file at (0 ∷ []) i before ∙ get_or_past file i 0 (omega (arith, empty))
         | inr behind ↦ written_inside file at (0 ∷ []) i behind (omega (arith, last, h)) ∙ at_same (0 ∷ []) (i - at) 0 (omega (arith, last, h))
+      ];
+    }
+
+-- and the zeros among them written once more, so that no hole is left
+pub length-zeros : length header_zeros ≡ 4096 * 514 - 4097
+unfolding header_zeros
+length-zeros = length-replicate {A = ℕ} (4096 * 514 - 4097) 0
+
+pub zeros_are : header_zeros ≡ replicate 2101247 0
+unfolding header_zeros
+zeros_are = refl
+
+zero_in : (zeros : List ℕ) (n : ℕ) → zeros ≡ replicate n 0 → (i : ℕ) → i < n → get_or zeros i 0 ≡ 0
+zero_in zeros n same i h = ap (λ (bytes : List ℕ). get_or bytes i 0) same ∙ get_or-replicate n i 0 0 h
+
+pub zeros_written : (file : List ℕ) → HasHeader file → HasHeader (written file 4097 header_zeros)
+zeros_written file has =
+    record {
+      ends = omega (arith, length-written file 4097 header_zeros, length-zeros, has.ends);
+      zeros = λ i h. elim (cases_lt i 4097) [
+        | inl before ↦ written_before file 4097 header_zeros i before ∙ has.zeros i h
+        | inr behind ↦ written_inside file 4097 header_zeros i behind (omega (arith, length-zeros, h)) ∙ zero_in header_zeros 2101247 zeros_are (i - 4097) (omega (arith, behind, h))
       ];
     }
 

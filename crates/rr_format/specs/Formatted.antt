@@ -1,5 +1,5 @@
 -- A new file on a device.
-use Rattle.std.specs.Prelude.{◌≡◌, ◌⊎◌, ℕ, ◌-◌, ◌*◌, ◌<◌, ◌≤◌, false, List, [], ◌∷◌, length, map, slice_index}
+use Rattle.std.specs.Prelude.{◌≡◌, ◌⊎◌, ℕ, ◌-◌, ◌*◌, ◌<◌, ◌≤◌, false, List, [], ◌∷◌, length, map, replicate, slice_index}
 use Rattle.std.specs.List.{flat_map}
 use Rattle.rr_disk.specs.Disk.{DiskState, after_write, after_sync}
 use Rattle.rr_disk.specs.Moments.{EachImage}
@@ -24,12 +24,18 @@ bytes_of fresh = fresh.bytes.items
 abbrev pub all_bytes : List FreshPage → List ℕ
 all_bytes fresh = flat_map bytes_of fresh
 
--- A disk behind the calls before the last gate: zeros before the data pages, synced; then the pages; then the root behind
--- its shut gate, synced.
+-- the zeros between the gate of the second root and the data pages
+unfoldable pub header_zeros : List ℕ
+header_zeros = replicate (4096 * 514 - 4097) 0
+
+-- a disk behind the first calls: as many bytes as lie before the data pages, synced, and the zeros among them
+abbrev pub header_state : DiskState → DiskState
+header_state state = after_write (after_sync (after_write state (4096 * 514 - 1) (0 ∷ []))) 4097 header_zeros
+
+-- behind the calls before the last gate: then the pages, and the root behind its shut gate, synced
 abbrev pub closed_state : Root → List ℕ → DiskState → DiskState
 closed_state root pages state =
-    let header = after_sync (after_write state (4096 * 514 - 1) (0 ∷ [])) in
-    after_sync (after_write (after_write header (4096 * 514) pages) 1 (root_bytes root))
+    after_sync (after_write (after_write (header_state state) (4096 * 514) pages) 1 (root_bytes root))
 
 -- The bytes of a new file: on page 0 an open gate and the root behind it, zeros up to the first data page, and then the
 -- fresh pages, up to the last page that the root counts.

@@ -47,8 +47,8 @@ pub fn format<R: Rules, D: Disk>(
     ensures fault { CountsFault (D.fault_count disk.old) (D.fault_count disk.new) result }
     ensures honest { D.Honest disk.new → D.Honest disk.old }
     ensures all_writes { OnOk result
-        (D.write_count disk.new ≡ counted (counted (counted (counted (D.write_count disk.old))))) }
-    ensures writes { D.write_count disk.new ≤ D.write_count disk.old + 4 }
+        (D.write_count disk.new ≡ counted (counted (counted (counted (counted (D.write_count disk.old)))))) }
+    ensures writes { D.write_count disk.new ≤ D.write_count disk.old + 5 }
     ensures syncs { D.sync_count disk.new ≤ D.sync_count disk.old + 3 }
 
     // A disk that works doesn't fail here.

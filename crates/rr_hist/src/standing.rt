@@ -49,4 +49,16 @@ impl Table {
     {
         self.commands.as_slice()
     }
+
+    /// Goes on with a floor and a stamp that a file tells of the table. The stamp is at most 4,000,000,000.
+    pub fn resume(&mut self, floor: u64, stamp: u64)
+        requires { stamp ≤ 4000000000 }
+        ensures commands { (kept_in self.new).commands ≡ (kept_in self.old).commands }
+        ensures floor { (kept_in self.new).floor ≡ floor }
+        ensures stamp { (kept_in self.new).stamp ≡ stamp }
+        ensures played { (kit : AnyKit) → IsPlayed kit self.old → IsPlayed kit self.new }
+    {
+        self.floor = floor;
+        self.stamp = stamp;
+    }
 }

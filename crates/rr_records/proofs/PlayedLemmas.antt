@@ -1,4 +1,4 @@
--- Tables that were played, after a lawful request.
+-- Tables that were played, after a lawful request, and worlds of such tables.
 use Rattle.std.proofs.Common.{◌≡◌, ℕ, zero, suc, Bool, true, false, cond, List, [], ◌∷◌, ◌++◌, Option, None, Some, bytes_eq, if◌then◌else◌, length, refl, sym, subst}
 use Rattle.std.proofs.Math.Logic.{∥∥₁_map}
 use Rattle.indexmap.specs.IndexMap.{insert_entry}
@@ -8,19 +8,24 @@ use Rattle.rr_hist.specs.Fault.{of_game}
 use Rattle.rr_hist.specs.Playing.{ArePlayed, IsLawfulAfter, ends_turn, game_judgement}
 use Rattle.rr_hist.specs.Verdict.{own_judgement, request_judgement, room_verdict, stamp_verdict}
 use Rattle.rr_kit.specs.declared.kit.Kit.{Kit}
-use Rattle.rr_kit.specs.Kits.{SpellsKit}
+use Rattle.rr_images.specs.Layout.{far_lines}
+use Rattle.rr_kit.specs.Kits.{KitTexts, SpellsKit}
+use Rattle.rr_kit.proofs.OneKit.{one_kit}
 use Rattle.rr_turns.specs.declared.request.Request.{Request}
 use Rattle.rr_turns.specs.declared.request.Request.TheVariants.{Play, Back, Forget}
 use Rattle.rr_turns.specs.Judgement.{IsVerdict, judgement_map}
 use Rattle.rr_turns.specs.Turns.{AreLawful, first_turns, next_turns}
 use Rattle.rr_turns.proofs.JudgementLemmas.{lawful-behind, lawful-map}
 use Rattle.rr_turns.proofs.LawfulLemmas.{lawful-push}
+use Rattle.rr_worlds.specs.World as words
 use Rattle.rr_records.specs.Fault.{of_table}
-use Rattle.rr_records.specs.Laws.{NewWorldsArePlayed, PlayedStayPlayed, ReplayedArePlayed}
+use Rattle.rr_records.specs.Laws.{KeptHavePlayedBases, NewWorldsArePlayed, PlayedStayPlayed, ReadHavePlayedBases, ReplayedArePlayed, ReplayedWerePlayed, StandingHavePlayedBases, TablesOfPlayedArePlayed}
 use Rattle.rr_records.specs.Played.{ArePlayedTables, IsPlayedWorld}
-use Rattle.rr_records.specs.Records.{TakesRecord}
-use Rattle.rr_records.specs.World.{TableState, World, present_stamp, state_after, step_judgement, table_named, world_judgement}
-use Rattle.rr_records.proofs.TakingLemmas.{taken_there}
+use Rattle.rr_records.specs.Records.{TakesRecord, record_judgement}
+use Rattle.rr_records.specs.Taking.{Takes}
+use Rattle.rr_records.specs.Words.{kit_texts}
+use Rattle.rr_records.specs.World.{TableState, World, present_stamp, state_after, step_judgement, table_named, world_after, world_judgement}
+use Rattle.rr_records.proofs.WordLemmas.{one_of_commands}
 
 -- a command that no rule refuses at a table
 
@@ -85,26 +90,69 @@ insert_played kit [] name v here all = (here, tt)
 insert_played kit (e ∷ es) name v here all =
     insert_step kit (bytes_eq name e.0) e es (insert_entry bytes_eq es name v) v here all (insert_played kit es name v here all.1)
 
+pub played_after : (kit : Kit) (tables : World) (name : List ℕ) (r : Request Command) → IsVerdict (record_judgement kit tables name r) None
+    → ArePlayedTables kit tables → ArePlayedTables kit (world_after kit tables name r)
+played_after kit tables name r lawful all =
+    let there = table_named tables name in
+    let here = state_played kit there (length tables) (present_stamp there) r lawful (λ t found. named_played kit tables name t all found) in
+    insert_played kit tables name (state_after kit there r) here all
+
 record_played : (kit : Kit) (old new : World) (line : List ℕ) → TakesRecord kit old line new → ArePlayedTables kit old → ArePlayedTables kit new
 record_played kit old new line takes all =
-    let there = table_named old takes.name in
-    let here = state_played kit there (length old) (present_stamp there) takes.request takes.lawful (λ t found. named_played kit old takes.name t all found) in
-    subst (λ (w : World). ArePlayedTables kit w) (sym takes.taken) (insert_played kit old takes.name (state_after kit there takes.request) here all)
+    subst (λ (w : World). ArePlayedTables kit w) (sym takes.taken) (played_after kit old takes.name takes.request takes.lawful all)
+
+-- worlds
 
 pub new_worlds_are_played : NewWorldsArePlayed
 new_worlds_are_played texts kit right = record { kit = kit; right = right; tables = []; spelled = tt; played = tt }
 
-pub played_stay_played : PlayedStayPlayed
-played_stay_played line old new takes was =
+pub tables_of_played_are_played : TablesOfPlayedArePlayed
+tables_of_played_are_played kit tables world right spelled was =
+    let kits = one_kit (kit_texts world) was.kit kit was.right right in
+    let same = one_of_commands was.tables tables world was.spelled spelled in
+    subst (λ (k : Kit). ArePlayedTables k tables) kits (subst (λ (w : World). ArePlayedTables was.kit w) same was.played)
+
+-- from which a line leads, and to which
+
+pub taken_were_played : (line : List ℕ) (old new : words.World) → Takes line old new → IsPlayedWorld old
+taken_were_played line old new takes =
+    record { kit = takes.kit; right = takes.right; tables = takes.before; spelled = takes.was; played = takes.played }
+
+taken_are_played : (line : List ℕ) (old new : words.World) → Takes line old new → IsPlayedWorld new
+taken_are_played line old new takes =
     record {
-      kit = was.kit;
-      right = subst (λ texts. SpellsKit texts was.kit) (sym takes.same_texts) was.right;
+      kit = takes.kit;
+      right = subst (λ (texts : KitTexts). SpellsKit texts takes.kit) (sym takes.same_texts) takes.right;
       tables = takes.after;
       spelled = takes.becomes;
-      played = record_played was.kit was.tables takes.after line (taken_there was.kit was.tables old new line was.right was.spelled takes) was.played;
+      played = record_played takes.kit takes.before takes.after line takes.taken takes.played;
     }
 
+pub played_stay_played : PlayedStayPlayed
+played_stay_played line old new takes = (taken_were_played line old new takes, taken_are_played line old new takes)
+
+-- lines in turn
+
 pub replayed_are_played : ReplayedArePlayed
-replayed_are_played [] old new same was = subst (λ world. IsPlayedWorld world) same was
+replayed_are_played [] old new same was = subst (λ (world : words.World). IsPlayedWorld world) same was
 replayed_are_played (line ∷ lines) old new replays was =
-    replayed_are_played lines replays.0 new replays.2 (played_stay_played line old replays.0 replays.1 was)
+    replayed_are_played lines replays.0 new replays.2 (taken_are_played line old replays.0 replays.1)
+
+pub replayed_were_played : ReplayedWerePlayed
+replayed_were_played [] old new same was = subst (λ (world : words.World). IsPlayedWorld world) (sym same) was
+replayed_were_played (line ∷ lines) old new replays was = taken_were_played line old replays.0 replays.1
+
+-- files
+
+pub read_have_played_bases : ReadHavePlayedBases
+read_have_played_bases near far base middle world leads leads_on was =
+    replayed_were_played near base middle leads (replayed_were_played far middle world leads_on was)
+
+pub kept_have_played_bases : KeptHavePlayedBases
+kept_have_played_bases image world keeps was =
+    let layout = keeps.layout in
+    read_have_played_bases layout.near (far_lines layout.far) layout.base layout.middle world keeps.kept.near_replayed keeps.kept.far_replayed was
+
+pub standing_have_played_bases : StandingHavePlayedBases
+standing_have_played_bases image world stands was =
+    replayed_were_played (stands.near ++ stands.far) stands.base world stands.replayed was

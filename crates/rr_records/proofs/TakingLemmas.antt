@@ -15,6 +15,7 @@ use Rattle.rr_records.specs.Records.{TakesRecord, record_judgement}
 use Rattle.rr_records.specs.Taking.{Takes}
 use Rattle.rr_records.specs.Words.{IsInWords, in_words, kit_texts}
 use Rattle.rr_records.specs.World.{Follows, World, for_table, requests_in, world_after}
+use Rattle.rr_records.proofs.PlayedLemmas.{played_after, taken_were_played, tables_of_played_are_played}
 use Rattle.rr_records.proofs.WordLemmas.{are_in_words, of_form, one_in_words, one_of_commands}
 use Rattle.rr_records.proofs.WorldLemmas.{keep_after, requests_after}
 
@@ -49,7 +50,7 @@ move_on line world takes =
     absurd (omega (arith, stays, rises))
 
 pub lawful_are_taken : LawfulAreTaken
-lawful_are_taken kit tables old asked right was lawful =
+lawful_are_taken kit tables old asked right was played lawful =
     let after = world_after kit tables asked.name asked.request in
     record {
       kit = kit;
@@ -57,6 +58,7 @@ lawful_are_taken kit tables old asked right was lawful =
       before = tables;
       after = after;
       was = was;
+      played = played;
       taken = record {
         name = asked.name;
         request = asked.request;
@@ -78,6 +80,7 @@ taken_are_lawful kit tables old new asked right was is takes =
     let after : takes.after ≡ world_after kit tables asked.name asked.request =
     taken.taken ∙ (λ i. world_after kit tables (same.0 i) (same.1 i)) in
     record {
+      played = tables_of_played_are_played kit tables old right was (taken_were_played line old new takes);
       lawful = (is, subst (λ (r : Request Command). IsVerdict (record_judgement kit tables asked.name r) None) same.1 there);
       spelled = subst (λ (w : World). IsInWords w new) after takes.becomes;
       same_texts = takes.same_texts;
@@ -115,12 +118,13 @@ records_are_of_requests kit tables old new (line ∷ lines) right was replays =
     }
 
 pub requests_are_replayed : RequestsAreReplayed
-requests_are_replayed kit tables after old [] right was same =
+requests_are_replayed kit tables after old [] right was played same =
     one_in_words tables old (in_words (kit_texts old) tables) was (are_in_words (kit_texts old) tables (of_form tables old was)) refl
     ∙ ap (λ (w : World). in_words (kit_texts old) w) (sym same)
-requests_are_replayed kit tables after old (asked ∷ requests) right was follows =
+requests_are_replayed kit tables after old (asked ∷ requests) right was played follows =
     let next = world_after kit tables asked.name asked.request in
     let then : words.World = in_words (kit_texts old) next in
     let keep = keep_after kit tables asked.name asked.request follows.0.0.1 (of_form tables old was) in
-    let more = requests_are_replayed kit next after then requests right (are_in_words (kit_texts old) next keep) follows.1 in
-    (then, lawful_are_taken kit tables old asked right was follows.0, more)
+    let played_then = played_after kit tables asked.name asked.request follows.0.1 played in
+    let more = requests_are_replayed kit next after then requests right (are_in_words (kit_texts old) next keep) played_then follows.1 in
+    (then, lawful_are_taken kit tables old asked right was played follows.0, more)

@@ -5,18 +5,20 @@ use Rattle.rr_kit.specs.declared.kit.Kit.{Kit}
 use Rattle.rr_kit.specs.Kits.{SpellsKit}
 use Rattle.rr_worlds.specs.Spelling.{worlds}
 use Rattle.rr_worlds.specs.World as words
+use Rattle.rr_records.specs.Played.{ArePlayedTables}
 use Rattle.rr_records.specs.Records.{TakesRecord}
 use Rattle.rr_records.specs.Words.{IsInWords, kit_texts}
 use Rattle.rr_records.specs.World.{World}
 
--- The line spells a request that is lawful at its table, by the rules of the kit that the world's texts spell; it leads
--- to the world in which the table has taken it, with the same texts.
+-- The line spells a request that is lawful at its table, by the rules of the kit that the world's texts spell, and the
+-- tables before it were played by these rules; it leads to the world in which the table has taken it, with the same texts.
 pub record Takes (line : List ℕ) (old new : words.World) : Type 0 where
   pub kit : Kit
   pub right : SpellsKit (kit_texts old) kit
   pub before : World
   pub after : World
   pub was : IsInWords before old
+  pub played : ArePlayedTables kit before
   pub taken : TakesRecord kit before line after
   pub becomes : IsInWords after new
   pub same_texts : kit_texts new ≡ kit_texts old

@@ -24,8 +24,8 @@ pub fn records_move_on()
     ensures { laws.MoveOn }
 {}
 
-/// A request that is lawful at its table has a line that is taken: the text of its record. And a line that is taken is
-/// that of a lawful request.
+/// Where the tables were played, a request that is lawful at its table has a line that is taken: the text of its record.
+/// And a line that is taken is that of a lawful request at tables that were played.
 pub fn lawful_requests_are_taken()
     ensures taken { laws.LawfulAreTaken }
     ensures lawful { laws.TakenAreLawful }
@@ -33,7 +33,7 @@ pub fn lawful_requests_are_taken()
 {}
 
 /// The records of a file are those of requests, each lawful in its turn, and lead where the requests lead; and the
-/// records of such requests lead there.
+/// records of such requests lead there from tables that were played.
 pub fn records_are_of_requests()
     ensures of_requests { laws.RecordsAreOfRequests }
     ensures replayed { laws.RequestsAreReplayed }
@@ -45,6 +45,17 @@ pub fn played_worlds_stay_played()
     ensures new { laws.NewWorldsArePlayed }
     ensures stay { laws.PlayedStayPlayed }
     ensures replayed { laws.ReplayedArePlayed }
+{}
+
+/// A file that keeps a world that was played, or stands for one, has a root whose world was played: where records follow,
+/// the first of them was taken from such a world, and where none do, the root's world is the file's. So an opening may
+/// refuse a file whose root spells tables that weren't played.
+pub fn played_worlds_have_played_bases()
+    ensures replayed { laws.ReplayedWerePlayed }
+    ensures read { laws.ReadHavePlayedBases }
+    ensures kept { laws.KeptHavePlayedBases }
+    ensures standing { laws.StandingHavePlayedBases }
+    ensures tables { laws.TablesOfPlayedArePlayed }
 {}
 
 /// Requests for tables, their worlds and their files are such that the law over schedules speaks of them: what is kept

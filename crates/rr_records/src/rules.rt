@@ -4,8 +4,8 @@ ghost use Rattle.rr_records.specs.Taking.{Takes};
 use rr_schedules::Worlds;
 use rr_worlds::Rules;
 
-/// The rules of tables of the game: a record's line is lawful where it spells a request that its table may take, and it
-/// leads to the world in which the table has taken it. It has no code.
+/// The rules of tables of the game: a record's line is lawful where the tables were played and it spells a request that
+/// its table may take, and it leads to the world in which the table has taken it. It has no code.
 pub struct TableRules;
 
 impl Rules for TableRules {
