@@ -1,9 +1,11 @@
 -- The judgement on a command, from what its names stand for and from the rules, and that there is one.
-use Rattle.std.proofs.Common.{◌≡◌, ◌∙◌, ℕ, List, Option, Some, None, inr, refl, sym, subst}
+use Rattle.std.proofs.Common.{◌≡◌, ◌∙◌, ℕ, List, [], Option, Some, None, ap, inr, option_map, refl, sym, subst}
+use Rattle.std.specs.Option.{option_or}
 use Rattle.rr_books.specs.declared.acts.Act.{Act}
 use Rattle.rr_books.specs.declared.acts.Act.TheVariants as A
 use Rattle.rr_code.specs.declared.command.Command.{Command}
-use Rattle.rr_code.specs.declared.command.Command.TheVariants.{Open}
+use Rattle.rr_code.specs.declared.command.Command.TheVariants.{Open, Order}
+use Rattle.rr_orders.specs.declared.order.Order.TheVariants as O
 use Rattle.rr_kit.specs.declared.kit.Kit.{Kit}
 use Rattle.rr_roster.specs.declared.company.Corp.{Corp}
 use Rattle.rr_rules.specs.declared.fault.Fault as rules
@@ -19,6 +21,7 @@ use Rattle.rr_game.specs.declared.fault.Fault.{Fault}
 use Rattle.rr_game.specs.declared.fault.Fault.TheVariants as F
 use Rattle.rr_game.specs.Fault.{of_rules}
 use Rattle.rr_game.specs.Names.{act_of}
+use Rattle.rr_game.specs.Running.{run_verdict as game_run_verdict}
 use Rattle.rr_game.specs.Verdict.{act_judgement, command_judgement, command_judgement_in_play, over_verdict}
 
 -- a command whose names stand for an act is judged as that
@@ -84,6 +87,17 @@ pub best_run_refused : (kit : Kit) (state : GameState) (c : Corp) (sheet certifi
 best_run_refused kit state c sheet certificate fault h =
     act_refused kit state (A.RunBest c sheet certificate) fault
     (first-is-found (judgement kit state (A.RunBest c sheet certificate)) R.OutOfMemory fault (best_run_alike kit state c sheet certificate ∙ h))
+
+-- once the game is over nothing runs
+pub over_unrun : (kit : Kit) (players : List (List ℕ)) (state : GameState) (c : Corp) (fault : Fault) → over_verdict kit state ≡ Some fault
+    → game_run_verdict kit players state c ≡ Some fault
+over_unrun kit players state c fault h = check-refuses (over_verdict kit state) (command_judgement_in_play kit players state (Order (O.Run c []))) fault h
+
+-- else it is refused as the rules refuse it
+pub run_alone : (kit : Kit) (players : List (List ℕ)) (state : GameState) (c : Corp) (verdict : Option rules.Fault) → over_verdict kit state ≡ None
+    → run_verdict kit state c ≡ verdict → game_run_verdict kit players state c ≡ option_map of_rules verdict
+run_alone kit players state c verdict passed h =
+    ap (λ (o : Option Fault). option_or o (option_map of_rules (run_verdict kit state c))) passed ∙ ap (λ (o : Option rules.Fault). option_map of_rules o) h
 
 -- its words want memory, which no check refuses it for
 

@@ -5,3 +5,4 @@ pub mod Play
 pub mod Keeping
 pub mod Queries
 pub mod Laws
+pub mod Running

@@ -73,7 +73,7 @@ impl Game {
     }
 
     // Nothing is played once the game is over.
-    fn judge_end(&self, kit: &Kit) -> Result<(), Fault>
+    pub(crate) fn judge_end(&self, kit: &Kit) -> Result<(), Fault>
         ensures { (state : GameState) → IsStandingOf state self.now.standing → MatchResult result
             (λ _. over_verdict kit.now state ≡ None)
             (λ fault. over_verdict kit.now state ≡ Some fault) }

@@ -11,6 +11,7 @@ mod game;
 pub mod laws;
 mod names;
 mod queries;
+mod running;
 mod wealth;
 
 pub use due::Due;

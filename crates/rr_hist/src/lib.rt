@@ -9,6 +9,7 @@ mod fault;
 pub mod laws;
 mod playing;
 mod replaying;
+mod running;
 mod spelled;
 mod standing;
 mod table;

@@ -18,7 +18,7 @@ use rr_turns::Request;
 use std::alloc::Global;
 
 /// The most commands that a table keeps, the opening among them.
-const MOST_COMMANDS: usize = 4096;
+pub(crate) const MOST_COMMANDS: usize = 4096;
 
 /// The last stamp of a table.
 const LAST_STAMP: u64 = 4_000_000_000;
@@ -194,7 +194,7 @@ impl Table {
         self.stamp += 1;
     }
 
-    fn judge_stamp(&self, stamp: u64) -> Result<(), Fault>
+    pub(crate) fn judge_stamp(&self, stamp: u64) -> Result<(), Fault>
         ensures verdict { MatchResult result
             (λ _. stamp_verdict (kept_in self.now) stamp ≡ None)
             (λ fault. stamp_verdict (kept_in self.now) stamp ≡ Some fault) }

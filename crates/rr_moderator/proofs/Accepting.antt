@@ -6,6 +6,7 @@ use Rattle.rr_kit.specs.declared.kit.Kit.{Kit}
 use Rattle.rr_code.specs.declared.command.Command.{Command}
 use Rattle.rr_turns.specs.declared.request.Request.{Request}
 use Rattle.rr_game.specs.Play.{play}
+use Rattle.rr_orders.specs.Texts.{added}
 use Rattle.rr_store.specs.declared.fault.Fault as store
 use Rattle.rr_store.specs.Held.{Held, Takes, Accepted, Refused, Wants, NoRoom, Fails, Again, stamp_after}
 use Rattle.rr_store.specs.World.{TableState, state_after, table_named}
@@ -39,20 +40,33 @@ earned_when kit t c runs = rw runs refl
 silent_when : (kit : Kit) (t : TableState) (c : Request Command) → runs_trains c ≡ false → earned_words kit t c ≡ []
 silent_when kit t c runs = rw runs refl
 
+-- the reply so far, which a sheet may follow
+abbrev pub told_so_far : Kit → List ℕ → TableState → Request Command → List ℕ
+told_so_far kit name t c = codes "ok " ++ name ++ codes " " ++ decimal t.stamp ++ spaced (earned_words kit t c)
+
 pub earned_told : (kit : Kit) (name : List ℕ) (t : TableState) (c : Request Command) (n : ℕ) (ok reply : List ℕ) → n ≡ t.stamp
     → ok ≡ codes "ok " ++ name ++ codes " " ++ decimal n → runs_trains c ≡ true
     → reply ≡ ok ++ (codes " " ++ signed_decimal (play kit t.commands).revenue.0)
-    → reply ++ codes "\n" ≡ accepted_text kit name t c
+    → reply ≡ told_so_far kit name t c
 earned_told kit name t c n ok reply stamp told runs is =
     let earned = codes " " ++ signed_decimal (play kit t.commands).revenue.0 in
     let words : spaced (earned_words kit t c) ≡ earned = ap spaced (earned_when kit t c runs) ∙ append-nil earned in
-    ap (λ (l : List ℕ). l ++ codes "\n") (is ∙ ap (λ (l : List ℕ). l ++ earned) (told ∙ ap (λ (m : ℕ). codes "ok " ++ name ++ codes " " ++ decimal m) stamp))
-    ∙ ap (λ (l : List ℕ). codes "ok " ++ name ++ codes " " ++ decimal t.stamp ++ l ++ codes "\n") (sym words)
+    is
+    ∙ ap (λ (l : List ℕ). l ++ earned) (told ∙ ap (λ (m : ℕ). codes "ok " ++ name ++ codes " " ++ decimal m) stamp)
+    ∙ ap (λ (l : List ℕ). codes "ok " ++ name ++ codes " " ++ decimal t.stamp ++ l) (sym words)
 
 pub stamp_told : (kit : Kit) (name : List ℕ) (t : TableState) (c : Request Command) (n : ℕ) (ok : List ℕ) → n ≡ t.stamp
     → ok ≡ codes "ok " ++ name ++ codes " " ++ decimal n → runs_trains c ≡ false
-    → ok ++ codes "\n" ≡ accepted_text kit name t c
+    → ok ≡ told_so_far kit name t c
 stamp_told kit name t c n ok stamp told runs =
     let words : spaced (earned_words kit t c) ≡ [] = ap spaced (silent_when kit t c runs) in
-    ap (λ (l : List ℕ). l ++ codes "\n") (told ∙ ap (λ (m : ℕ). codes "ok " ++ name ++ codes " " ++ decimal m) stamp ∙ sym (append-nil (codes "ok " ++ name ++ codes " " ++ decimal t.stamp)))
-    ∙ ap (λ (l : List ℕ). codes "ok " ++ name ++ codes " " ++ decimal t.stamp ++ l ++ codes "\n") (sym words)
+    told
+    ∙ ap (λ (m : ℕ). codes "ok " ++ name ++ codes " " ++ decimal m) stamp
+    ∙ sym (append-nil (codes "ok " ++ name ++ codes " " ++ decimal t.stamp))
+    ∙ ap (λ (l : List ℕ). codes "ok " ++ name ++ codes " " ++ decimal t.stamp ++ l) (sym words)
+
+-- with a sheet and the end of the line behind
+pub whole_told : (kit : Kit) (name : List ℕ) (t : TableState) (c : Request Command) (sheet so_far with_sheet reply : List ℕ) → so_far ≡ told_so_far kit name t c
+    → with_sheet ≡ so_far ++ added sheet → reply ≡ with_sheet ++ codes "\n" → reply ≡ accepted_text kit name t c sheet
+whole_told kit name t c sheet so_far with_sheet reply told behind ends =
+    ends ∙ ap (λ (l : List ℕ). l ++ codes "\n") (behind ∙ ap (λ (l : List ℕ). l ++ added sheet) told)

@@ -17,7 +17,9 @@ use Rattle.rr_moderator.specs.declared.fault.Fault.TheVariants as F
 use Rattle.rr_moderator.specs.Answer.{accepted_text}
 use Rattle.rr_moderator.specs.Fault.{of_store, refusal_of}
 use Rattle.rr_moderator.specs.Queries.{Answer, answer_of_table, asked_answer, cash_answer, due_answer, holds_answer, iou_answer, limit_answer, order_answer, phase_answer, price_answer, privates_answer, query_text, reply_of, stamp_answer, trains_answer, turns_answer, worth_answer}
-use Rattle.rr_moderator.specs.Serving.{Meets, Responds, TooLong, Malformed, Broken, Read, reply_to, text_of}
+use Rattle.rr_roster.specs.declared.company.Corp.{Corp}
+use Rattle.rr_moderator.specs.Best.{LacksRun, MayNotRun, HasNone, LacksMemory, best_run, run_verdict}
+use Rattle.rr_moderator.specs.Serving.{Meets, MeetsBest, Lacks, Finds, Responds, TooLong, Malformed, Broken, Read, reply_to, text_of}
 use Rattle.rr_store.specs.declared.fault.Fault as store
 use Rattle.rr_store.specs.declared.fault.Fault.TheVariants as T
 use Rattle.rr_store.specs.Held.{Held, Takes, Accepted, Refused, Wants, NoRoom, Fails, Again}
@@ -27,7 +29,7 @@ use Rattle.rr_store.proofs.Verdicts.{world_one}
 use Rattle.rr_turns.specs.Judgement.{IsVerdict}
 use Rattle.rr_turns.proofs.JudgementLemmas.{is-settled, settled-is}
 use Rattle.rr_moderator.proofs.ServingLemmas.{one_line}
-use Rattle.rr_moderator.specs.Alone.{Alone, Exchange, IsCalm, IsDisturbed, Names, Picks, Runs, disturbs, line_table, query_table}
+use Rattle.rr_moderator.specs.Alone.{Alone, Exchange, Found, IsCalm, IsDisturbed, Names, Picks, Runs, disturbs, found_best, found_for, found_in, line_table, query_table, sent}
 
 -- a table in the world after another entry
 
@@ -85,38 +87,78 @@ named_alone name (Some t) = let empty : Option TableState = None in ap (λ c. co
 abbrev Outcome : Type 0
 Outcome = List ℕ × Option TableState
 
-abbrev request_alone : Kit → List ℕ → Option TableState → Request Command → Option store.Fault → Outcome
-request_alone kit name t c None = (accepted_text kit name (state_after kit t c) c, Some (state_after kit t c))
-request_alone kit name t c (Some fault) = (refusal_of (of_store fault), t)
+abbrev request_alone : Kit → List ℕ → Option TableState → Request Command → List ℕ → Option store.Fault → Outcome
+request_alone kit name t c sheet None = (accepted_text kit name (state_after kit t c) c sheet, Some (state_after kit t c))
+request_alone kit name t c sheet (Some fault) = (refusal_of (of_store fault), t)
 
 -- the outcome of a request is that of its verdict
-abbrev RequestAlone : Kit → List ℕ → Option TableState → ℕ → Request Command → Outcome → Type 0
-RequestAlone kit name t stamp c outcome =
-    (verdict : Option store.Fault) × IsVerdict (world_judgement kit t 0 stamp c) verdict × (outcome ≡ request_alone kit name t c verdict)
+abbrev RequestAlone : Kit → List ℕ → Option TableState → ℕ → Request Command → List ℕ → Outcome → Type 0
+RequestAlone kit name t stamp c sheet outcome =
+    (verdict : Option store.Fault) × IsVerdict (world_judgement kit t 0 stamp c) verdict × (outcome ≡ request_alone kit name t c sheet verdict)
 
-abbrev LineAlone : Kit → List ℕ → Option TableState → Line → Outcome → Type 0
-LineAlone kit name t (L.Request stamp table c) outcome = RequestAlone kit name t stamp c outcome
-LineAlone kit name t (L.Query query) outcome = outcome ≡ (query_text kit (alone_with name t) query, t)
-LineAlone kit name t (L.Best stamp table corp) outcome = outcome ≡ (refusal_of F.MalformedLine, t)
+-- where no best run is found, the corporation may not run, or it may
+abbrev NoneAlone : Kit → Option TableState → ℕ → Corp → Outcome → Type 0
+NoneAlone kit t stamp c outcome =
+    ((fault : store.Fault) × (run_verdict kit t stamp c ≡ Some fault) × (outcome ≡ (refusal_of (of_store fault), t)))
+    ⊎ ((run_verdict kit t stamp c ≡ None) × (outcome ≡ (refusal_of F.NoCertificate, t)))
 
-one_outcome : RequestsHaveOneVerdict → (kit : Kit) (name : List ℕ) (t : Option TableState) (l : Line) (x y : Outcome) → LineAlone kit name t l x → LineAlone kit name t l y → x ≡ y
-one_outcome one kit name t (L.Request stamp table c) x y a b =
-    a.2 ∙ ap (λ (o : Option store.Fault). request_alone kit name t c o) (world_one one kit t 0 stamp c a.0 b.0 a.1 b.1) ∙ sym b.2
-one_outcome one kit name t (L.Query query) x y a b = a ∙ sym b
-one_outcome one kit name t (L.Best stamp table corp) x y a b = a ∙ sym b
+-- the outcome of asking for a best run is that of the run that was found
+abbrev BestAlone : Kit → List ℕ → Option TableState → ℕ → Corp → Found → Outcome → Type 0
+BestAlone kit name t stamp c None outcome = NoneAlone kit t stamp c outcome
+BestAlone kit name t stamp c (Some run) outcome = RequestAlone kit name t stamp (best_run c run.0 run.1) run.0 outcome
 
-abbrev ReplyAlone : Kit → List ℕ → Option TableState → List ℕ → Line → List ℕ → Option TableState → Type 0
-ReplyAlone kit name t line l reply after =
+abbrev LineAlone : Kit → List ℕ → Option TableState → Line → Found → Outcome → Type 0
+LineAlone kit name t (L.Request stamp table c) found outcome = RequestAlone kit name t stamp c [] outcome
+LineAlone kit name t (L.Query query) found outcome = outcome ≡ (query_text kit (alone_with name t) query, t)
+LineAlone kit name t (L.Best stamp table corp) found outcome = BestAlone kit name t stamp corp found outcome
+
+some_same : {X : Type 0} (x y : X) → Some x ≡ Some y → x ≡ y
+some_same x y e = cc
+
+one_request : RequestsHaveOneVerdict → (kit : Kit) (name : List ℕ) (t : Option TableState) (stamp : ℕ) (c : Request Command) (sheet : List ℕ) (x y : Outcome)
+    → RequestAlone kit name t stamp c sheet x → RequestAlone kit name t stamp c sheet y → x ≡ y
+one_request one kit name t stamp c sheet x y a b =
+    a.2 ∙ ap (λ (o : Option store.Fault). request_alone kit name t c sheet o) (world_one one kit t 0 stamp c a.0 b.0 a.1 b.1) ∙ sym b.2
+
+one_refusal : (t : Option TableState) (verdict : Option store.Fault) (one other : store.Fault) (x y : Outcome) → verdict ≡ Some one → verdict ≡ Some other
+    → x ≡ (refusal_of (of_store one), t) → y ≡ (refusal_of (of_store other), t) → x ≡ y
+one_refusal t verdict one other x y first second a b =
+    let same = some_same one other (sym first ∙ second) in
+    let Refusal : store.Fault → Outcome = λ f. (refusal_of (of_store f), t) in
+    a ∙ ap Refusal same ∙ sym b
+
+refused_and_free : {A : Type 0} (verdict : Option store.Fault) (fault : store.Fault) → verdict ≡ Some fault → verdict ≡ None → A
+refused_and_free verdict fault refused free = let both : Some fault ≡ None = sym refused ∙ free in absurd (cc both)
+
+one_none : (kit : Kit) (t : Option TableState) (stamp : ℕ) (c : Corp) (x y : Outcome) → NoneAlone kit t stamp c x → NoneAlone kit t stamp c y → x ≡ y
+one_none kit t stamp c x y (inl a) (inl b) = one_refusal t (run_verdict kit t stamp c) a.0 b.0 x y a.1 b.1 a.2 b.2
+one_none kit t stamp c x y (inl a) (inr b) = refused_and_free (run_verdict kit t stamp c) a.0 a.1 b.0
+one_none kit t stamp c x y (inr a) (inl b) = refused_and_free (run_verdict kit t stamp c) b.0 b.1 a.0
+one_none kit t stamp c x y (inr a) (inr b) = a.1 ∙ sym b.1
+
+one_best : RequestsHaveOneVerdict → (kit : Kit) (name : List ℕ) (t : Option TableState) (stamp : ℕ) (c : Corp) (found : Found) (x y : Outcome)
+    → BestAlone kit name t stamp c found x → BestAlone kit name t stamp c found y → x ≡ y
+one_best one kit name t stamp c None x y a b = one_none kit t stamp c x y a b
+one_best one kit name t stamp c (Some run) x y a b = one_request one kit name t stamp (best_run c run.0 run.1) run.0 x y a b
+
+one_outcome : RequestsHaveOneVerdict → (kit : Kit) (name : List ℕ) (t : Option TableState) (l : Line) (found : Found) (x y : Outcome)
+    → LineAlone kit name t l found x → LineAlone kit name t l found y → x ≡ y
+one_outcome one kit name t (L.Request stamp table c) found x y a b = one_request one kit name t stamp c [] x y a b
+one_outcome one kit name t (L.Query query) found x y a b = a ∙ sym b
+one_outcome one kit name t (L.Best stamp table corp) found x y a b = one_best one kit name t stamp corp found x y a b
+
+abbrev ReplyAlone : Kit → List ℕ → Option TableState → List ℕ → Line → Found → List ℕ → Option TableState → Type 0
+ReplyAlone kit name t line l found reply after =
     ((8000 < length line) × (reply ≡ refusal_of F.LineTooLong) × (after ≡ t))
-    ⊎ ((length line ≤ 8000) × LineAlone kit name t l (reply, after))
+    ⊎ ((length line ≤ 8000) × LineAlone kit name t l found (reply, after))
 
-one_reply : RequestsHaveOneVerdict → (kit : Kit) (name : List ℕ) (t : Option TableState) (line : List ℕ) (l : Line) (reply other : List ℕ) (after behind : Option TableState)
-    → ReplyAlone kit name t line l reply after → ReplyAlone kit name t line l other behind → (reply ≡ other) × (after ≡ behind)
-one_reply one kit name t line l reply other after behind (inl a) (inl b) = (a.1 ∙ sym b.1, a.2 ∙ sym b.2)
-one_reply one kit name t line l reply other after behind (inl a) (inr b) = absurd (omega (arith, a.0, b.0))
-one_reply one kit name t line l reply other after behind (inr a) (inl b) = absurd (omega (arith, a.0, b.0))
-one_reply one kit name t line l reply other after behind (inr a) (inr b) =
-    let same = one_outcome one kit name t l (reply, after) (other, behind) a.1 b.1 in
+one_reply : RequestsHaveOneVerdict → (kit : Kit) (name : List ℕ) (t : Option TableState) (line : List ℕ) (l : Line) (found : Found) (reply other : List ℕ) (after behind : Option TableState)
+    → ReplyAlone kit name t line l found reply after → ReplyAlone kit name t line l found other behind → (reply ≡ other) × (after ≡ behind)
+one_reply one kit name t line l found reply other after behind (inl a) (inl b) = (a.1 ∙ sym b.1, a.2 ∙ sym b.2)
+one_reply one kit name t line l found reply other after behind (inl a) (inr b) = absurd (omega (arith, a.0, b.0))
+one_reply one kit name t line l found reply other after behind (inr a) (inl b) = absurd (omega (arith, a.0, b.0))
+one_reply one kit name t line l found reply other after behind (inr a) (inr b) =
+    let same = one_outcome one kit name t l found (reply, after) (other, behind) a.1 b.1 in
     (ap (λ (o : Outcome). o.0) same, ap (λ (o : Outcome). o.1) same)
 
 -- a query that names the table
@@ -126,9 +168,6 @@ ask_alone ask tables name table same =
     ap (λ k. answer_of_table ask (table_named tables k)) same
     ∙ ap (answer_of_table ask) (sym (named_alone name (table_named tables name)))
     ∙ ap (λ k. answer_of_table ask (table_named (alone_with name (table_named tables name)) k)) (sym same)
-
-some_same : {X : Type 0} (x y : X) → Some x ≡ Some y → x ≡ y
-some_same x y e = cc
 
 query_alone : (kit : Kit) (tables : World) (name : List ℕ) (query : Query) → query_table query ≡ Some name
     → query_text kit tables query ≡ query_text kit (alone_with name (table_named tables name)) query
@@ -152,21 +191,21 @@ abbrev Same : Held → Held → List ℕ → (Outcome → Type 0) → List ℕ �
 Same old new name Comes reply = Comes (reply, table_named new.tables name) × (new.kit ≡ old.kit)
 
 -- a request that names the table
-takes_alone : (old new : Held) (stamp : ℕ) (name : List ℕ) (c : Request Command) {result : Result ℕ store.Fault} → Takes old stamp name c new result
-    → ¬ IsDisturbed (reply_to (text_of old name c result))
-    → Same old new name (RequestAlone old.kit name (table_named old.tables name) stamp c) (reply_to (text_of old name c result))
-takes_alone old new stamp name c (Accepted whole lawful after) calm =
+takes_alone : (old new : Held) (stamp : ℕ) (name : List ℕ) (c : Request Command) (sheet : List ℕ) {result : Result ℕ store.Fault} → Takes old stamp name c new result
+    → ¬ IsDisturbed (reply_to (text_of old name c sheet result))
+    → Same old new name (RequestAlone old.kit name (table_named old.tables name) stamp c sheet) (reply_to (text_of old name c sheet result))
+takes_alone old new stamp name c sheet (Accepted whole lawful after) calm =
     let t = table_named old.tables name in
     let there : table_named new.tables name ≡ Some (state_after old.kit t c) =
     ap (λ h. table_named h.tables name) after ∙ named_after old.tables name (state_after old.kit t c) in (
       (
         None,
         uncounted old.kit t (length old.tables) stamp c None (λ e. absurd (cc e)) lawful,
-        ap (λ (o : Option TableState). (accepted_text old.kit name (state_after old.kit t c) c, o)) there,
+        ap (λ (o : Option TableState). (accepted_text old.kit name (state_after old.kit t c) c sheet, o)) there,
       ),
       ap (λ h. h.kit) after,
     )
-takes_alone old new stamp name c (Refused fault whole refused same) calm =
+takes_alone old new stamp name c sheet (Refused fault whole refused same) calm =
     let t = table_named old.tables name in
     let few : Some fault ≡ Some T.TooManyTables → ⊥ =
     λ e. calm (F.TooManyTables, refl, ap (λ (f : store.Fault). refusal_of (of_store f)) (some_same fault T.TooManyTables e)) in (
@@ -177,38 +216,58 @@ takes_alone old new stamp name c (Refused fault whole refused same) calm =
       ),
       ap (λ h. h.kit) same,
     )
-takes_alone old new stamp name c (Wants whole first same) calm = absurd (calm (F.OutOfMemory, refl, refl))
-takes_alone old new stamp name c (NoRoom whole lawful same) calm = absurd (calm (F.HalfFull, refl, refl))
-takes_alone old new stamp name c (Fails whole lawful after) calm = absurd (calm (F.DeviceFailed, refl, refl))
-takes_alone old new stamp name c (Again broken same) calm = absurd (calm (F.OpenAgain, refl, refl))
+takes_alone old new stamp name c sheet (Wants whole first same) calm = absurd (calm (F.OutOfMemory, refl, refl))
+takes_alone old new stamp name c sheet (NoRoom whole lawful same) calm = absurd (calm (F.HalfFull, refl, refl))
+takes_alone old new stamp name c sheet (Fails whole lawful after) calm = absurd (calm (F.DeviceFailed, refl, refl))
+takes_alone old new stamp name c sheet (Again broken same) calm = absurd (calm (F.OpenAgain, refl, refl))
 
-meets_alone : (old new : Held) (name : List ℕ) (l : Line) (outcome : Result (List ℕ) Fault) → line_table l ≡ Some name → Meets old l new outcome
-    → ¬ IsDisturbed (reply_to outcome) → Same old new name (LineAlone old.kit name (table_named old.tables name) l) (reply_to outcome)
+-- a corporation for which no best run is found
+lacks_alone : (kit : Kit) (t after : Option TableState) (stamp : ℕ) (name : List ℕ) (c : Corp) {fault : Fault} → LacksRun kit t stamp name c fault
+    → ¬ IsDisturbed (refusal_of fault) → after ≡ t → NoneAlone kit t stamp c (refusal_of fault, after)
+lacks_alone kit t after stamp name c (MayNotRun fault refused) calm same =
+    inl (fault, refused, ap (λ (o : Option TableState). (refusal_of (of_store fault), o)) same)
+lacks_alone kit t after stamp name c (HasNone table is_there free lacks) calm same =
+    inr (free, ap (λ (o : Option TableState). (refusal_of F.NoCertificate, o)) same)
+lacks_alone kit t after stamp name c (LacksMemory free) calm same = absurd (calm (F.OutOfMemory, refl, refl))
+
+best_alone : (old new : Held) (stamp : ℕ) (name : List ℕ) (c : Corp) {outcome : Result (List ℕ) Fault} (meets : MeetsBest old stamp name c new outcome)
+    → ¬ IsDisturbed (reply_to outcome)
+    → Same old new name (BestAlone old.kit name (table_named old.tables name) stamp c (found_best meets)) (reply_to outcome)
+best_alone old new stamp name c (Lacks fault lacks same) calm = (
+  lacks_alone old.kit (table_named old.tables name) (table_named new.tables name) stamp name c lacks calm (ap (λ h. table_named h.tables name) same),
+  ap (λ h. h.kit) same,
+)
+best_alone old new stamp name c (Finds sheet certificate result is takes) calm = takes_alone old new stamp name (best_run c sheet certificate) sheet takes calm
+
+meets_alone : (old new : Held) (name : List ℕ) (l : Line) (outcome : Result (List ℕ) Fault) → line_table l ≡ Some name → (meets : Meets old l new outcome)
+    → ¬ IsDisturbed (reply_to outcome)
+    → Same old new name (LineAlone old.kit name (table_named old.tables name) l (found_for old new l outcome meets)) (reply_to outcome)
 meets_alone old new name (L.Request stamp table c) outcome about meets calm =
     let named = some_same table name about in
     let takes = subst (λ k. Takes old stamp k c new meets.0) named meets.1 in
-    let told : outcome ≡ text_of old name c meets.0 = subst (λ k. outcome ≡ text_of old k c meets.0) named meets.2 in
-    subst (λ (o : Result (List ℕ) Fault). Same old new name (RequestAlone old.kit name (table_named old.tables name) stamp c) (reply_to o)) (sym told)
-    (takes_alone old new stamp name c takes (subst (λ (o : Result (List ℕ) Fault). ¬ IsDisturbed (reply_to o)) told calm))
+    let told : outcome ≡ text_of old name c [] meets.0 = subst (λ k. outcome ≡ text_of old k c [] meets.0) named meets.2 in
+    subst (λ (o : Result (List ℕ) Fault). Same old new name (RequestAlone old.kit name (table_named old.tables name) stamp c []) (reply_to o)) (sym told)
+    (takes_alone old new stamp name c [] takes (subst (λ (o : Result (List ℕ) Fault). ¬ IsDisturbed (reply_to o)) told calm))
 meets_alone old new name (L.Query query) outcome about meets calm =
     let text = meets.1 ∙ query_alone old.kit old.tables name query about in
     let there = ap (λ h. table_named h.tables name) meets.0 in
     (λ i. (text i, there i), ap (λ h. h.kit) meets.0)
 meets_alone old new name (L.Best stamp table corp) outcome about meets calm =
-    let text = ap reply_to meets.1 in
-    let there = ap (λ h. table_named h.tables name) meets.0 in
-    (λ i. (text i, there i), ap (λ h. h.kit) meets.0)
+    let P : List ℕ → Type 0 = λ k. Same old new k (BestAlone old.kit k (table_named old.tables k) stamp corp (found_best meets)) (reply_to outcome) in
+    subst P (some_same table name about) (best_alone old new stamp table corp meets calm)
 
 -- a line that names the table
 responds_alone : (old new : Held) (line name : List ℕ) (l : Line) → SpellsLine line l → line_table l ≡ Some name
-    → {outcome : Result (List ℕ) Fault} → Responds old line new outcome → ¬ IsDisturbed (reply_to outcome)
-    → ReplyAlone old.kit name (table_named old.tables name) line l (reply_to outcome) (table_named new.tables name) × (new.kit ≡ old.kit)
+    → {outcome : Result (List ℕ) Fault} (responds : Responds old line new outcome) → ¬ IsDisturbed (reply_to outcome)
+    → ReplyAlone old.kit name (table_named old.tables name) line l (found_in responds) (reply_to outcome) (table_named new.tables name) × (new.kit ≡ old.kit)
 responds_alone old new line name l spells about (TooLong long same) calm =
     (inl (long, refl, ap (λ h. table_named h.tables name) same), ap (λ h. h.kit) same)
 responds_alone old new line name l spells about (Malformed short none same) calm = absurd (none l spells)
 responds_alone old new line name l spells about (Broken m short other broken same) calm = absurd (calm (F.OpenAgain, refl, refl))
 responds_alone old new line name l spells about (Read m outcome short other whole meets) calm =
-    let r = meets_alone old new name l outcome about (subst (λ x. Meets old x new outcome) (one_line line m l other spells) meets) calm in
+    let e = one_line line m l other spells in
+    let P : Line → Type 0 = λ x. Same old new name (LineAlone old.kit name (table_named old.tables name) x (found_for old new m outcome meets)) (reply_to outcome) in
+    let r = subst P e (meets_alone old new name m outcome (ap line_table e ∙ about) meets calm) in
     (inr (short, r.0), r.1)
 
 -- a line that doesn't
@@ -233,12 +292,18 @@ apart_from : (b : Bool) (name table : List ℕ) → bytes_eq name table ≡ b �
 apart_from true name table is apart = absurd (apart ((bytes_eq-Decides name table).0 is))
 apart_from false name table is apart = is
 
+best_other : (old new : Held) (stamp : ℕ) (name table : List ℕ) (c : Corp) {outcome : Result (List ℕ) Fault} → bytes_eq name table ≡ false
+    → MeetsBest old stamp table c new outcome → Unmoved old new name
+best_other old new stamp name table c apart (Lacks fault lacks same) = unmoved old new name same
+best_other old new stamp name table c apart (Finds sheet certificate result is takes) = takes_other old new stamp name table (best_run c sheet certificate) apart takes
+
 meets_other : (old new : Held) (line name : List ℕ) (l : Line) (outcome : Result (List ℕ) Fault) → SpellsLine line l → ¬ Names name line
     → Meets old l new outcome → Unmoved old new name
 meets_other old new line name (L.Request stamp table c) outcome spells none meets =
     takes_other old new stamp name table c (apart_from (bytes_eq name table) name table refl (λ e. none (L.Request stamp table c, spells, ap Some (sym e)))) meets.1
 meets_other old new line name (L.Query query) outcome spells none meets = unmoved old new name meets.0
-meets_other old new line name (L.Best stamp table corp) outcome spells none meets = unmoved old new name meets.0
+meets_other old new line name (L.Best stamp table corp) outcome spells none meets =
+    best_other old new stamp name table corp (apart_from (bytes_eq name table) name table refl (λ e. none (L.Best stamp table corp, spells, ap Some (sym e)))) meets
 
 responds_other : (old new : Held) (line name : List ℕ) {outcome : Result (List ℕ) Fault} → ¬ Names name line → Responds old line new outcome → Unmoved old new name
 responds_other old new line name none (TooLong long same) = unmoved old new name same
@@ -251,7 +316,7 @@ responds_other old new line name none (Read m outcome short spells whole meets) 
 abbrev RunsAlone : Kit → List ℕ → Option TableState → List Exchange → Type 0
 RunsAlone kit name t [] = Unit {0}
 RunsAlone kit name t (exchange ∷ picked) =
-    (after : Option TableState) × (l : Line) × SpellsLine exchange.0 l × ReplyAlone kit name t exchange.0 l exchange.1 after
+    (after : Option TableState) × (l : Line) × SpellsLine exchange.line l × ReplyAlone kit name t exchange.line l exchange.found exchange.reply after
     × RunsAlone kit name after picked
 
 gathered : (name : List ℕ) (old new : Held) (run picked : List Exchange) → Runs old run new → IsCalm run → Picks name run picked
@@ -259,38 +324,43 @@ gathered : (name : List ℕ) (old new : Held) (run picked : List Exchange) → R
 gathered name old new [] picked runs calm none = subst (λ p. RunsAlone old.kit name (table_named old.tables name) p) (sym none) tt
 gathered name old new (exchange ∷ run) picked runs calm (inl names) =
     let mid = runs.0 in
-    let answers = runs.1 in
+    let answers = runs.1.0 in
     let calm_here = subst (λ r. ¬ IsDisturbed r) answers.2 calm.0 in
-    let r = responds_alone old mid exchange.0 name names.1.0 names.1.1 names.1.2 answers.1 calm_here in
     let l = names.1.0 in
-    let reply = subst (λ x. ReplyAlone old.kit name (table_named old.tables name) exchange.0 l x (table_named mid.tables name)) (sym answers.2) r.0 in
+    let t = table_named old.tables name in
+    let r = responds_alone old mid exchange.line name l names.1.1 names.1.2 answers.1 calm_here in
+    let told = subst (λ x. ReplyAlone old.kit name t exchange.line l (found_in answers.1) x (table_named mid.tables name)) (sym answers.2) r.0 in
+    let reply = subst (λ (x : Found). ReplyAlone old.kit name t exchange.line l x exchange.reply (table_named mid.tables name)) (sym runs.1.1) told in
     let more = subst (λ x. RunsAlone x name (table_named mid.tables name) names.0) r.1 (gathered name mid new run names.0 runs.2 calm.1 names.3) in
-    subst (λ p. RunsAlone old.kit name (table_named old.tables name) p) (sym names.2) (table_named mid.tables name, l, names.1.1, reply, more)
+    subst (λ p. RunsAlone old.kit name t p) (sym names.2) (table_named mid.tables name, l, names.1.1, reply, more)
 gathered name old new (exchange ∷ run) picked runs calm (inr other) =
     let mid = runs.0 in
-    let r = responds_other old mid exchange.0 name other.0 runs.1.1 in
+    let r = responds_other old mid exchange.line name other.0 runs.1.0.1 in
     let more = gathered name mid new run picked runs.2 calm.1 other.1 in
     subst (λ x. RunsAlone x name (table_named old.tables name) picked) r.1 (subst (λ t. RunsAlone mid.kit name t picked) r.0 more)
 
-one_exchange : (a b : Exchange) → a.0 ≡ b.0 → a.1 ≡ b.1 → a ≡ b
-one_exchange a b p q = λ i. (p i, q i)
+one_exchange : (a b : Exchange) → a.line ≡ b.line → a.found ≡ b.found → a.reply ≡ b.reply → a ≡ b
+one_exchange a b p q r = λ i. record { line = p i; found = q i; reply = r i }
 
 one_run : (a b : Exchange) (p q : List Exchange) → a ≡ b → p ≡ q → a ∷ p ≡ b ∷ q
 one_run a b p q e f = cc
 
 agreed : RequestsHaveOneVerdict → (kit : Kit) (name : List ℕ) (t : Option TableState) (picked others : List Exchange) → RunsAlone kit name t picked → RunsAlone kit name t others
-    → map (λ exchange. exchange.0) picked ≡ map (λ exchange. exchange.0) others → picked ≡ others
+    → map sent picked ≡ map sent others → picked ≡ others
 agreed verdicts kit name t [] [] one two same = refl
 agreed verdicts kit name t [] (b ∷ others) one two same = absurd cc
 agreed verdicts kit name t (a ∷ picked) [] one two same = absurd cc
 agreed verdicts kit name t (a ∷ picked) (b ∷ others) one two same =
-    let line : b.0 ≡ a.0 = cc in
-    let lines : map (λ exchange. exchange.0) picked ≡ map (λ exchange. exchange.0) others = cc in
+    let first : sent b ≡ sent a = cc in
+    let line : b.line ≡ a.line = ap (λ (s : List ℕ × Found). s.0) first in
+    let found : b.found ≡ a.found = ap (λ (s : List ℕ × Found). s.1) first in
+    let lines : map sent picked ≡ map sent others = cc in
     let spelled = subst (λ x. SpellsLine x two.1) line two.2 in
-    let again = subst (λ x. ReplyAlone kit name t x two.1 b.1 two.0) line two.3 in
-    let meant = subst (λ x. ReplyAlone kit name t a.0 x b.1 two.0) (one_line a.0 two.1 one.1 spelled one.2) again in
-    let r = one_reply verdicts kit name t a.0 one.1 a.1 b.1 one.0 two.0 one.3 meant in
-    one_run a b picked others (one_exchange a b (sym line) r.0)
+    let again = subst (λ x. ReplyAlone kit name t x two.1 b.found b.reply two.0) line two.3 in
+    let same_run = subst (λ (x : Found). ReplyAlone kit name t a.line two.1 x b.reply two.0) found again in
+    let meant = subst (λ x. ReplyAlone kit name t a.line x a.found b.reply two.0) (one_line a.line two.1 one.1 spelled one.2) same_run in
+    let r = one_reply verdicts kit name t a.line one.1 a.found a.reply b.reply one.0 two.0 one.3 meant in
+    one_run a b picked others (one_exchange a b (sym line) (sym found) r.0)
     (agreed verdicts kit name one.0 picked others one.4 (subst (λ x. RunsAlone kit name x others) (sym r.1) two.4) lines)
 
 pub is_alone : RequestsHaveOneVerdict → Alone

@@ -1,5 +1,7 @@
 pub mod Listing
 pub mod Replies
+pub mod BestLemmas
+pub mod LawfulLemmas
 pub mod ServingLemmas
 pub mod Telling
 pub mod DurabilityLemmas

@@ -1,6 +1,13 @@
 -- What a moderator answers, from what its parts did.
-use Rattle.std.proofs.Common.{◌≡◌, ℕ, List, Option, None, Some, Result, Ok, Err, MatchResult, sym, ap, ◌∙◌}
+use Rattle.std.proofs.Common.{◌≡◌, ℕ, List, Option, None, Some, Result, Ok, Err, MatchResult, sym, ap, subst, ◌∙◌}
+use Rattle.rr_disk.specs.Disk.{DiskState}
 use Rattle.rr_code.specs.declared.command.Command.{Command}
+use Rattle.rr_code.specs.declared.command.Command.TheVariants as C
+use Rattle.rr_orders.specs.declared.order.Order.{Order}
+use Rattle.rr_orders.specs.declared.order.Order.TheVariants as O
+use Rattle.rr_turns.specs.declared.request.Request.TheVariants.{Play}
+use Rattle.rr_store.specs.declared.fault.Fault as store
+use Rattle.rr_store.specs.Committing.{Commits}
 use Rattle.rr_turns.specs.declared.request.Request.{Request}
 use Rattle.rr_code.specs.declared.line.Line.{Line}
 use Rattle.rr_code.specs.declared.line.Line.TheVariants as L
@@ -11,7 +18,14 @@ use Rattle.rr_code.specs.Line.{SpellsLine}
 use Rattle.rr_moderator.specs.declared.fault.Fault.{Fault}
 use Rattle.rr_moderator.specs.Fault.{refusal_of}
 use Rattle.rr_moderator.specs.Queries.{Answer, fault_of, reply_of}
-use Rattle.rr_moderator.specs.Serving.{outcome_of, reply_to}
+use Rattle.rr_store.specs.declared.store.Store.{Store}
+use Rattle.rr_store.specs.Held.{Held}
+use Rattle.rr_store.specs.Holding.{held_of}
+use Rattle.rr_store.specs.World.{TableRequest, for_table, table_named}
+use Rattle.rr_moderator.specs.Best.{IsBestRun}
+use Rattle.rr_moderator.specs.Choosing.{CommitsBest, Stays, Goes_on}
+use Rattle.rr_moderator.specs.Durability.{SpellsRequest}
+use Rattle.rr_moderator.specs.Serving.{AsksFor, Itself, AsBest, MeetsBest, Lacks, Finds, outcome_of, reply_to, text_of}
 
 -- a query that is refused
 pub reply_refused : (answer : Answer) (fault : Fault) → fault_of answer ≡ Some fault → refusal_of fault ≡ reply_of answer
@@ -38,3 +52,66 @@ pub no_best : (line : List ℕ) (at : ℕ) (table : List ℕ) (corp : Corp) (sta
     → SpellsLine line (L.Best at table corp) → SpellsLine line (L.Request stamp name c) → ⊥
 no_best line at table corp stamp name c first second =
     absurd (cc (one_line line (L.Best at table corp) (L.Request stamp name c) first second))
+
+-- what a line asks for, it spells in some way
+pub asks_spelled : {held : Held} {line : List ℕ} {stamp : ℕ} {r : TableRequest} {sheet : List ℕ} → AsksFor held line stamp r sheet → (l : Line) × SpellsLine line l
+asks_spelled {held} {line} {stamp} {r} (Itself spells) = (L.Request stamp r.name r.request, spells)
+asks_spelled {held} {line} {stamp} {r} (AsBest c sheet certificate spells is same) = (L.Best stamp r.name c, spells)
+
+-- a query asks for no request
+pub query_asks_none : (line : List ℕ) (query : Query) {held : Held} {stamp : ℕ} {r : TableRequest} {sheet : List ℕ} → SpellsLine line (L.Query query) → AsksFor held line stamp r sheet → ⊥
+query_asks_none line query {held} {stamp} {r} spells (Itself other) = no_query line query stamp r.name r.request spells other
+query_asks_none line query {held} {stamp} {r} spells (AsBest c sheet certificate other is same) =
+    absurd (cc (one_line line (L.Query query) (L.Best stamp r.name c) spells other))
+
+-- a request of a line, as one line gives it
+abbrev named : Line → Option (ℕ × TableRequest)
+named (L.Request stamp name c) = Some (stamp, for_table name c)
+named (L.Query query) = None
+named (L.Best stamp name corp) = None
+
+same_some : (a b : ℕ × TableRequest) → Some a ≡ Some b → a ≡ b
+same_some a b e = cc
+
+-- a line that spells a request asks for no other
+pub same_asked : (held : Held) (line : List ℕ) (stamp at : ℕ) (r other : TableRequest) {sheet shown : List ℕ} → SpellsRequest line
+    → AsksFor held line stamp r sheet → AsksFor held line at other shown → (at ≡ stamp) × (other ≡ r)
+same_asked held line stamp at r other spelled (Itself first) (Itself second) =
+    let lines = one_line line (L.Request at other.name other.request) (L.Request stamp r.name r.request) second first in
+    let same = same_some (at, for_table other.name other.request) (stamp, for_table r.name r.request) (ap named lines) in
+    (ap (λ (x : ℕ × TableRequest). x.0) same, ap (λ (x : ℕ × TableRequest). x.1) same)
+same_asked held line stamp at r other spelled (Itself first) (AsBest c sheet certificate second is same) =
+    absurd (no_best line at other.name c stamp r.name r.request second first)
+same_asked held line stamp at r other spelled (AsBest c sheet certificate first is same) second =
+    absurd (no_best line stamp r.name c spelled.0 spelled.1 spelled.2 first spelled.3)
+
+-- what comes of asking for a best run, from what it does to the store
+pub best_meets : {D : Type 0} (Honest Works : D → Type 0) (state : D → DiskState) (past : D → List DiskState) (faults writes syncs : D → ℕ)
+    (old : Store D) (name : List ℕ) (stamp : ℕ) (c : Corp) (new : Store D) {outcome : Result (List ℕ) Fault}
+    → CommitsBest Honest Works state past faults writes syncs old name stamp c new outcome
+    → MeetsBest (held_of old) stamp name c (held_of new) outcome
+best_meets {D} Honest Works state past faults writes syncs old name stamp c new (Stays fault lacks same) =
+    Lacks fault lacks (ap (λ (s : Store D). held_of s) same)
+best_meets Honest Works state past faults writes syncs old name stamp c new (Goes_on sheet certificate taking is commits) =
+    Finds sheet certificate taking is commits.takes
+
+some_order : (a b : Order) → Some a ≡ Some b → a ≡ b
+some_order a b e = cc
+
+-- what asking for a best run does to the store, where the request of the run that was found is committed
+pub best_goes_on : {D : Type 0} (Honest Works : D → Type 0) (state : D → DiskState) (past : D → List DiskState) (faults writes syncs : D → ℕ)
+    (old : Store D) (name : List ℕ) (stamp : ℕ) (c : Corp) (new : Store D) (read : Option Order) (order : Order) (sheet certificate shown : List ℕ) (outcome : Result (List ℕ) Fault)
+    → read ≡ Some order → read ≡ Some (O.RunBest c sheet certificate) → shown ≡ sheet
+    → IsBestRun (held_of old).kit (table_named (held_of old).tables name) stamp name c sheet certificate
+    → (taking : Result ℕ store.Fault) × Commits Honest Works state past faults writes syncs old name stamp (Play (C.Order order)) new taking
+    × (outcome ≡ text_of (held_of old) name (Play (C.Order order)) shown taking)
+    → CommitsBest Honest Works state past faults writes syncs old name stamp c new outcome
+best_goes_on {D} Honest Works state past faults writes syncs old name stamp c new read order sheet certificate shown outcome given spelled lent is committed =
+    let Committed : Order → List ℕ → Type 0 = λ o s. (taking : Result ℕ store.Fault)
+    × Commits Honest Works state past faults writes syncs old name stamp (Play (C.Order o)) new taking
+    × (outcome ≡ text_of (held_of old) name (Play (C.Order o)) s taking) in
+    let Own : List ℕ → Type 0 = λ s. Committed order s in
+    let ByOrder : Order → Type 0 = λ o. Committed o sheet in
+    let moved = subst ByOrder (some_order order (O.RunBest c sheet certificate) (sym given ∙ spelled)) (subst Own lent committed) in
+    let So : Result (List ℕ) Fault → Type 0 = λ o. CommitsBest Honest Works state past faults writes syncs old name stamp c new o in
+    subst So (sym moved.2) (Goes_on sheet certificate moved.0 is moved.1)

@@ -12,9 +12,11 @@ use Rattle.rr_hist.specs.declared.fault.Fault as hist
 use Rattle.rr_hist.specs.declared.fault.Fault.TheVariants as H
 use Rattle.rr_hist.specs.Verdict.{request_judgement}
 use Rattle.rr_turns.specs.Judgement.{IsVerdict, Judgement, judgement_map, settled}
-use Rattle.rr_turns.proofs.JudgementLemmas.{is-map, is-settled}
+use Rattle.rr_turns.proofs.JudgementLemmas.{first-is-told, is-map, is-settled}
 use Rattle.rr_code.specs.declared.command.Command.{Command}
-use Rattle.rr_code.specs.declared.command.Command.TheVariants.{Open}
+use Rattle.rr_code.specs.declared.command.Command.TheVariants.{Open, Order}
+use Rattle.rr_orders.specs.declared.order.Order.TheVariants.{Run}
+use Rattle.rr_roster.specs.declared.company.Corp.{Corp}
 use Rattle.rr_turns.specs.declared.request.Request.{Request}
 use Rattle.rr_turns.specs.declared.request.Request.TheVariants.{Play}
 use Rattle.rr_code.specs.declared.query.Query.{Query}
@@ -27,6 +29,7 @@ use Rattle.rr_serve.specs.Serving.{tells_failure}
 use Rattle.rr_moderator.specs.declared.fault.Fault.{Fault}
 use Rattle.rr_moderator.specs.declared.fault.Fault.TheVariants as F
 use Rattle.rr_moderator.specs.Answer.{accepted_text, answer_of}
+use Rattle.rr_moderator.specs.Best.{LacksRun, MayNotRun, HasNone, LacksMemory}
 use Rattle.rr_moderator.specs.Durability.{CountsTold, tells_acceptance, tells_full}
 use Rattle.rr_moderator.specs.Fault.{of_store, refusal_of}
 use Rattle.rr_moderator.specs.Queries.{Answer, answer_of_named, answer_of_table, asked_answer, cash_answer, due_answer, holds_answer, iou_answer, limit_answer, order_answer, phase_answer, price_answer, privates_answer, query_text, reply_of, stamp_answer, trains_answer, turns_answer, worth_answer}
@@ -61,12 +64,12 @@ abbrev pub SaysNeither : List ℕ → Type 0
 SaysNeither reply = (tells_failure reply ≡ false) × (tells_full reply ≡ false) × (tells_acceptance reply ≡ false)
 
 -- an acceptance says the last, and neither of the others
-pub accepted_told : (kit : Kit) (name : List ℕ) (t : TableState) (c : Request Command) → tells_acceptance (accepted_text kit name t c) ≡ true
-accepted_told kit name t c = refl
+pub accepted_told : (kit : Kit) (name : List ℕ) (t : TableState) (c : Request Command) (sheet : List ℕ) → tells_acceptance (accepted_text kit name t c sheet) ≡ true
+accepted_told kit name t c sheet = refl
 
-pub accepted_calm : (kit : Kit) (name : List ℕ) (t : TableState) (c : Request Command)
-    → (tells_failure (accepted_text kit name t c) ≡ false) × (tells_full (accepted_text kit name t c) ≡ false)
-accepted_calm kit name t c = (refl, refl)
+pub accepted_calm : (kit : Kit) (name : List ℕ) (t : TableState) (c : Request Command) (sheet : List ℕ)
+    → (tells_failure (accepted_text kit name t c sheet) ≡ false) × (tells_full (accepted_text kit name t c sheet) ≡ false)
+accepted_calm kit name t c sheet = (refl, refl)
 
 -- no refusal says that a request was taken
 pub refusal_calm : (fault : Fault) → tells_acceptance (refusal_of fault) ≡ false
@@ -151,6 +154,17 @@ lacking_calm = (refl, refl, refl)
 step_calm : (kit : Kit) (t : Option TableState) (stamp : ℕ) (c : Request Command) (verdict : Option store.Fault) → IsVerdict (step_judgement kit t stamp c) verdict → IsCalm verdict
 step_calm kit None stamp c verdict is = settled_calm (Some T.NoSuchTable) verdict lacking_calm is
 step_calm kit (Some t) stamp c verdict is = mapped_calm (request_judgement kit t stamp c) verdict is
+
+-- nor does what a search is refused for
+no_certificate_calm : SaysNeither (refusal_of F.NoCertificate)
+unfolding digits
+no_certificate_calm = (refl, refl, refl)
+
+pub lacks_calm : {kit : Kit} {t : Option TableState} {stamp : ℕ} {name : List ℕ} {c : Corp} {fault : Fault} → LacksRun kit t stamp name c fault → SaysNeither (refusal_of fault)
+lacks_calm {kit} {t} {stamp} {name} {c} (MayNotRun fault h) =
+    step_calm kit t stamp (Play (Order (Run c []))) (Some fault) (first-is-told (step_judgement kit t stamp (Play (Order (Run c [])))) fault h)
+lacks_calm (HasNone table is_there may_run lacks) = no_certificate_calm
+lacks_calm (LacksMemory may_run) = memory_calm
 
 opening_calm : (t : Option TableState) (n stamp : ℕ) → IsCalm (opening_verdict t n stamp)
 unfolding digits

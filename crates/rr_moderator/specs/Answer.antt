@@ -12,6 +12,7 @@ use Rattle.rr_books.specs.Shares.{Holders, is_at, privates}
 use Rattle.rr_code.specs.declared.command.Command.{Command}
 use Rattle.rr_code.specs.declared.command.Command.TheVariants.{Order}
 use Rattle.rr_orders.specs.declared.order.Order.TheVariants as O
+use Rattle.rr_orders.specs.Texts.{added}
 use Rattle.rr_turns.specs.declared.request.Request.{Request}
 use Rattle.rr_turns.specs.declared.request.Request.TheVariants.{Play}
 use Rattle.rr_kit.specs.declared.kit.Kit.{Kit}
@@ -32,10 +33,11 @@ runs_trains request = false
 abbrev pub earned_words : Kit → TableState → Request Command → List (List ℕ)
 earned_words kit t request = if runs_trains request then signed_decimal (play kit t.commands).revenue.0 ∷ [] else []
 
--- the reply to an accepted request to a table: with the table's new stamp, and behind a run what the trains earned
-abbrev pub accepted_text : Kit → List ℕ → TableState → Request Command → List ℕ
-accepted_text kit name t request =
-    codes "ok " ++ name ++ codes " " ++ decimal t.stamp ++ spaced (earned_words kit t request) ++ codes "\n"
+-- the reply to an accepted request to a table: with the table's new stamp, and behind a run what the trains earned; and with
+-- the words of a sheet, where there are any
+abbrev pub accepted_text : Kit → List ℕ → TableState → Request Command → List ℕ → List ℕ
+accepted_text kit name t request sheet =
+    codes "ok " ++ name ++ codes " " ++ decimal t.stamp ++ spaced (earned_words kit t request) ++ added sheet ++ codes "\n"
 
 -- an answer without its LF: the sign and the words, a dash in the place of none
 abbrev pub answer_of : List (List ℕ) → List ℕ

@@ -10,6 +10,10 @@ use Rattle.rr_store.specs.Files.{StandsFor}
 use Rattle.rr_store.specs.Held.{Held, with_tables}
 use Rattle.rr_store.specs.Holding.{Carries, GoesBehind, IsFull, IsUnchanged, disk_of, held_of}
 use Rattle.rr_store.specs.World.{TableRequest, state_after, table_named, world_after}
+use Rattle.rr_code.specs.declared.command.Command.{Command}
+use Rattle.rr_code.specs.declared.line.Line.TheVariants as L
+use Rattle.rr_code.specs.Line.{SpellsLine}
+use Rattle.rr_turns.specs.declared.request.Request.{Request}
 use Rattle.rr_moderator.specs.declared.fault.Fault.TheVariants as F
 use Rattle.rr_moderator.specs.Answer.{accepted_text}
 use Rattle.rr_moderator.specs.Fault.{refusal_of}
@@ -24,17 +28,18 @@ pub record Opens (file : List ℕ) (held : Held) : Type 0 where
   pub stands : StandsFor file texts held.tables
   pub whole : held.broken ≡ false
 
--- what may be pending of a line: nothing, or the one request that it lawfully gives
+-- what may be pending of a line: nothing, or a request that it lawfully gives
 abbrev pub MayPend : Held → List ℕ → Option TableRequest → Type 0
 MayPend held line None = Unit {0}
 MayPend held line (Some c) = Gives held line c
 
--- the request that is pending was taken, and the reply tells its table and the new stamp
-pub record IsTaken (old : Held) (pending : Option TableRequest) (new : Held) (reply : List ℕ) : Type 0 where
+-- the request that is pending was taken, and the reply tells its table and the new stamp, with the sheet that is told of it
+pub record IsTaken (old : Held) (line : List ℕ) (pending : Option TableRequest) (new : Held) (reply : List ℕ) : Type 0 where
   pub asked : TableRequest
   pub pends : pending ≡ Some asked
+  pub gives : Gives old line asked
   pub held : new ≡ with_tables old (world_after old.kit old.tables asked.name asked.request)
-  pub told : reply ≡ accepted_text old.kit asked.name (state_after old.kit (table_named old.tables asked.name) asked.request) asked.request
+  pub told : reply ≡ accepted_text old.kit asked.name (state_after old.kit (table_named old.tables asked.name) asked.request) asked.request gives.sheet
 
 -- a device fault is counted exactly where the reply says that the device failed
 abbrev pub CountsTold : ℕ → ℕ → Bool → Type 0
@@ -49,6 +54,10 @@ tells_acceptance reply = starts_with nat_eq reply (codes "ok ")
 abbrev pub tells_full : List ℕ → Bool
 tells_full reply = starts_with nat_eq reply (codes "no 61 ")
 
+-- the line spells a request: it doesn't leave it to a search
+abbrev pub SpellsRequest : List ℕ → Type 0
+SpellsRequest line = (stamp : ℕ) × (name : List ℕ) × (request : Request Command) × SpellsLine line (L.Request stamp name request)
+
 -- the line gives a lawful request for which the file has no room
 pub record HasNoPlace {D : Type 0} (store : Store D) (line : List ℕ) : Type 0 where
   pub asked : TableRequest
@@ -61,12 +70,13 @@ pub record HasNoPlace {D : Type 0} (store : Store D) (line : List ℕ) : Type 0 
 -- every disk: the next record goes right behind that of a request that was taken; at most two writes and two syncs, and where
 -- the reply neither takes a request nor says that the device failed all is as it was, as it is for a line that gives no lawful
 -- request; the reply says that the device failed exactly where the disk counts a fault, and never on a disk that works; that
--- the file is full, only where it has no room for a lawful request, and there it says so or that memory was wanted.
+-- the file is full, only where it has no room for a lawful request; where a line spells one for which there is none, it says so
+-- or that memory was wanted, and none for which there is none is taken.
 pub record Lasts {D : Type 0} (Honest Works : D → Type 0) (state : D → DiskState) (past : D → List DiskState) (faults writes syncs : D → ℕ)
     (old : Store D) (line : List ℕ) (new : Store D) (reply : List ℕ) : Type 0 where
   pub pending : Option TableRequest
   pub pends : MayPend (held_of old) line pending
-  pub accepted : tells_acceptance reply ≡ true → IsTaken (held_of old) pending (held_of new) reply
+  pub accepted : tells_acceptance reply ≡ true → IsTaken (held_of old) line pending (held_of new) reply
   pub honest : Honest (disk_of new) → Honest (disk_of old)
   pub stops : Honest (disk_of new) → (texts : KitTexts) → Carries state old texts
       → LeavesOnly (past (disk_of old)) (state (disk_of old)) (past (disk_of new)) (state (disk_of new)) (BeforeOrAfter texts (held_of old).kit (held_of old).tables pending)
@@ -80,7 +90,8 @@ pub record Lasts {D : Type 0} (Honest Works : D → Type 0) (state : D → DiskS
   pub few_writes : writes (disk_of new) ≤ writes (disk_of old) + 2
   pub few_syncs : syncs (disk_of new) ≤ syncs (disk_of old) + 2
   pub full : tells_full reply ≡ true → HasNoPlace old line
-  pub in_time : HasNoPlace old line → (reply ≡ refusal_of F.HalfFull) ⊎ (reply ≡ refusal_of F.OutOfMemory)
+  pub fits : (told : tells_acceptance reply ≡ true) → IsFull old (accepted told).asked.name (accepted told).asked.request → ⊥
+  pub in_time : SpellsRequest line → HasNoPlace old line → (reply ≡ refusal_of F.HalfFull) ⊎ (reply ≡ refusal_of F.OutOfMemory)
 
 -- a store, and the reply made last over it
 abbrev pub Told : Type 0 → Type 0

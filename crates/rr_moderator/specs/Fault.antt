@@ -13,6 +13,8 @@ use Rattle.rr_code.specs.declared.fault.Fault as code
 use Rattle.rr_code.specs.declared.fault.Fault.TheVariants as C
 use Rattle.rr_store.specs.declared.fault.Fault as store
 use Rattle.rr_store.specs.declared.fault.Fault.TheVariants as T
+use Rattle.rr_search.specs.declared.fault.Fault as search
+use Rattle.rr_search.specs.declared.fault.Fault.TheVariants as R
 use Rattle.rr_serve.specs.declared.faults.Fault as serve
 use Rattle.rr_serve.specs.declared.faults.Fault.TheVariants as S
 use Rattle.rr_moderator.specs.declared.fault.Fault.{Fault}
@@ -22,6 +24,7 @@ use Rattle.rr_moderator.specs.declared.fault.Fault.TheVariants as F
 abbrev pub number_of : Fault → ℕ
 number_of (F.Kit fault) = kits.number_of fault
 number_of (F.Game fault) = numbers.number_of fault
+number_of F.NoCertificate = 41
 number_of (F.StaleStamp stamp) = 52
 number_of F.TurnNotKept = 53
 number_of F.TooManyCommands = 54
@@ -91,6 +94,7 @@ game_words G.OutOfMemory = codes "out of memory"
 abbrev pub words_of : Fault → List ℕ
 words_of (F.Kit fault) = kit_words fault
 words_of (F.Game fault) = game_words fault
+words_of F.NoCertificate = codes "no certificate found"
 words_of (F.StaleStamp stamp) = codes "stale stamp"
 words_of F.TurnNotKept = codes "turn not kept"
 words_of F.TooManyCommands = codes "too many commands"
@@ -155,6 +159,10 @@ of_store T.OpenAgain = F.OpenAgain
 of_store T.TooManyTables = F.TooManyTables
 of_store T.NoSuchTable = F.NoSuchTable
 of_store T.OutOfMemory = F.OutOfMemory
+
+abbrev pub of_search : search.Fault → Fault
+of_search R.NoCertificate = F.NoCertificate
+of_search R.OutOfMemory = F.OutOfMemory
 
 abbrev pub of_serve : serve.Fault → Fault
 of_serve S.DeviceFailed = F.DeviceFailed

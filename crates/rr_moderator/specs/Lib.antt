@@ -1,7 +1,10 @@
 pub mod Fault
 pub mod Answer
 pub mod Queries
+pub mod Best
+pub mod BestLaws
 pub mod Serving
+pub mod Choosing
 pub mod Durability
 pub mod Holding
 pub mod Alone

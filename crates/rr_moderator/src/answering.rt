@@ -10,6 +10,7 @@ ghost use Rattle.rr_store.specs.Holding.{held_of};
 ghost use Rattle.rr_store.specs.World.{names};
 ghost use Rattle.rr_books.specs.Book.{Book, train_holder};
 ghost use Rattle.rr_position.specs.Position.{IsPositionOf};
+ghost use Rattle.rr_orders.specs.Texts.{added};
 ghost use Rattle.rr_game.specs.Names.{player_word, trains_place};
 ghost use Rattle.rr_moderator.specs.Queries.{Writes, asked_answer, cash_answer, due_answer, due_words, holds_answer, iou_answer, limit_answer, order_answer, phase_answer, price_answer, privates_answer, query_answer, query_text, query_verdict, reply_of, stamp_answer, step_word, trains_answer, trains_words, turns_answer, worth_answer};
 
@@ -37,6 +38,18 @@ impl Reply {
         self.text(table.as_bytes());
         self.text(b" ");
         self.number(stamp);
+    }
+
+    /// The words of a sheet, behind a space; nothing for a sheet without words.
+    pub(crate) fn sheet(&mut self, words: &[u8])
+        requires { length self.old + length words.now + 1 ≤ 8192 }
+        ensures text { self.new ≡ self.old ++ added words.now }
+        ensures bounded { length self.new ≤ length self.old + length words.now + 1 }
+    {
+        if words.is_empty() {
+            return;
+        }
+        self.word(words);
     }
 
     /// The name of a corporation, behind a space.

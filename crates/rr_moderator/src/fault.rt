@@ -1,5 +1,5 @@
 ghost use Rattle.std.specs.Prelude.{◌≡◌, ◌+◌, ◌≤◌, ◌++◌, length};
-ghost use Rattle.rr_moderator.specs.Fault.{data_of, game_data, game_words, kit_data, kit_words, number_of, of_code, of_game, of_store, of_serve, refusal_of, rule_words, words_of};
+ghost use Rattle.rr_moderator.specs.Fault.{data_of, game_data, game_words, kit_data, kit_words, number_of, of_code, of_game, of_search, of_store, of_serve, refusal_of, rule_words, words_of};
 ghost use Rattle.rr_moderator.specs.declared.fault.Fault.TheVariants.{OutOfMemory};
 
 use crate::reply::Reply;
@@ -15,6 +15,9 @@ pub enum Fault {
     /// The rules of the game refuse it. Want of memory isn't told by this, but by `OutOfMemory`.
     #[error("{0}")]
     Game(rr_game::Fault),
+    /// No best run was found whose certificate has at most 1,024 nodes and which a line has room for.
+    #[error("no certificate found")]
+    NoCertificate,
     /// The stamp isn't the table's, which is given.
     #[error("stale stamp {0}")]
     StaleStamp(u64),
@@ -70,6 +73,7 @@ impl Fault {
         match self {
             Fault::Kit(fault) => fault.number(),
             Fault::Game(fault) => fault.number(),
+            Fault::NoCertificate => 41,
             Fault::StaleStamp(_) => 52,
             Fault::TurnNotKept => 53,
             Fault::TooManyCommands => 54,
@@ -130,6 +134,7 @@ impl Fault {
         match self {
             Fault::Kit(fault) => kit_words(*fault),
             Fault::Game(fault) => game_words(*fault),
+            Fault::NoCertificate => "no certificate found",
             Fault::StaleStamp(_) => "stale stamp",
             Fault::TurnNotKept => "turn not kept",
             Fault::TooManyCommands => "too many commands",
@@ -304,6 +309,17 @@ impl From<rr_store::Fault> for Fault {
             rr_store::Fault::TooManyTables => Fault::TooManyTables,
             rr_store::Fault::NoSuchTable => Fault::NoSuchTable,
             rr_store::Fault::OutOfMemory => Fault::OutOfMemory,
+        }
+    }
+}
+
+impl From<rr_best_run::Fault> for Fault {
+    ghost from_gives = { λ fault wrapped. wrapped ≡ of_search fault };
+
+    fn from(fault: rr_best_run::Fault) -> Fault {
+        match fault {
+            rr_best_run::Fault::NoCertificate => Fault::NoCertificate,
+            rr_best_run::Fault::OutOfMemory => Fault::OutOfMemory,
         }
     }
 }

@@ -1,17 +1,31 @@
 //! What the definitions of replies say. The calls do nothing: their contracts hold of all runs.
 ghost use Rattle.rr_moderator.specs.Alone.{Alone};
+ghost use Rattle.rr_moderator.specs.BestLaws.{BestRunsAreLawful, BestRunsEarnAlike};
 ghost use Rattle.rr_moderator.specs.Durability.{NoneFailsWhileWorking};
 
 use rr_disk::Disk;
 
 /// Tables don't know of each other. Of two moderators that agree in a table, take a run each without a refusal that
 /// comes of the device, the file's room, memory or the number of tables: where the lines that name the table are the
-/// same, so are the replies to them, whatever lines for other tables come between.
+/// same, and the runs that are found for those that ask for the best one, so are the replies to them, whatever lines for
+/// other tables come between.
 pub fn alone()
     ensures { Alone }
 {
     rr_hist::laws::requests_have_one_verdict();
 }
+
+/// Whichever best run of a corporation is found at a table, the reply tells the same revenue.
+pub fn best_runs_earn_alike()
+    ensures { BestRunsEarnAlike }
+{
+    rr_running::laws::best_earns_most();
+}
+
+/// No rule refuses a best run that is found: what may still keep it from being taken is want of memory, or the file.
+pub fn best_runs_are_lawful()
+    ensures { BestRunsAreLawful }
+{}
 
 /// However many lines are answered, no reply says that the device failed while the device works: such a failure is never
 /// of the moderator's own making.

@@ -1,6 +1,6 @@
 //! The moderator: the reply to each line, over the store of the tables.
 //!
-//! Stands on `rr_store` and `rr_serve`. Its promise: `answer`, `line` and `serve` give exactly the replies that
+//! Stands on `rr_store`, `rr_best_run` and `rr_serve`. Its promise: `answer`, `line` and `serve` give exactly the replies that
 //! `Answers` says, and lose nothing that was acknowledged (`Lasts`).
 #![tactic(auto)]
 
@@ -9,6 +9,7 @@ mod fault;
 pub mod laws;
 mod moderator;
 mod reply;
+mod searching;
 
 pub use fault::Fault;
 pub use moderator::Moderator;

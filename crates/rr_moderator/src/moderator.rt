@@ -21,6 +21,7 @@ ghost use Rattle.rr_store.specs.Holding as held_in;
 ghost use Rattle.rr_store.specs.World.{Follows, TableRequest, TableState, table_named};
 ghost use Rattle.rr_game.specs.Play.{play};
 ghost use Rattle.std.specs.Fmt.{signed_decimal};
+ghost use Rattle.rr_moderator.specs.Choosing.{CommitsBest};
 ghost use Rattle.rr_moderator.specs.Durability.{Lasts, Opens, SpeaksAndLasts, StandsAlong, told};
 ghost use Rattle.rr_moderator.specs.Holding.{disk_under, held_of, last_reply, spoken_of, store_of, told_of};
 ghost use Rattle.rr_moderator.specs.Serving.{Answers, EndsAs, MayAppend, Responds, Speaks, outcome_of, reply_to, said, text_of};
@@ -29,18 +30,22 @@ ghost use Rattle.rr_moderator.specs.contracts.moderator.Moderator.{the_row};
 use crate::answering::{answer, runs_trains};
 use crate::fault::Fault;
 use crate::reply::Reply;
+use crate::searching::find_best;
 use rr_code::{Command, Line, Request};
 use rr_disk::Disk;
+use rr_orders::Order;
+use rr_roster::Corp;
 use rr_serve::{Input, LONGEST_LINE, LineBuffer, Machine, Output};
 use rr_store::{Refused, Store};
 use rr_words::Name;
 use std::alloc::Global;
 
-/// What answers lines: the store of the tables, and the reply to the line taken last.
+/// What answers lines: the store of the tables, the reply to the line taken last, and where memory for searches is taken.
 #[derive(Drop)]
 struct State<D: Drop> {
     store: Store<D>,
     reply: Reply,
+    alloc: Global,
 }
 
 /// The keeper of many tables in one file.
@@ -100,7 +105,11 @@ impl<D: Disk + Drop> Moderator<D> {
         };
         match rr_store::open(alloc, disk) {
             Ok(store) => Ok(Moderator {
-                state: State { store, reply },
+                state: State {
+                    store,
+                    reply,
+                    alloc,
+                },
                 buffer,
             }),
             Err(refused) => Err(refused),
@@ -112,7 +121,11 @@ impl<D: Disk + Drop> Moderator<D> {
         ensures { result ≡ disk_under self }
     {
         let Moderator { state, buffer: _ } = self;
-        let State { store, reply: _ } = state;
+        let State {
+            store,
+            reply: _,
+            alloc: _,
+        } = state;
         store.into_disk()
     }
 
@@ -230,25 +243,46 @@ impl<D: Disk + Drop> State<D> {
                 stamp,
                 table,
                 request,
-            } => self.commit(stamp, &table, &request),
+            } => self.commit(stamp, &table, &request, b""),
             Line::Query(query) => answer(&self.store, &query, &mut self.reply),
-            Line::Best { .. } => Err(Fault::MalformedLine),
+            Line::Best { stamp, table, corp } => self.run_best(stamp, &table, corp),
         }
     }
 
-    /// Lets the store take a request.
-    fn commit(&mut self, stamp: u64, table: &Name, request: &Request<Command>) -> Result<(), Fault>
+    /// Finds a best run of the corporation, and lets the store take it as the request of its words.
+    fn run_best(&mut self, stamp: u64, table: &Name, corp: Corp) -> Result<(), Fault>
+        requires name { IsTableName table.now }
+        requires whole { (held_in.held_of self.old.store).broken ≡ false }
+        ensures { CommitsBest D.Honest D.Works D.state D.past D.fault_count D.write_count D.sync_count self.old.store table.now stamp corp
+            self.new.store (outcome_of result self.new.reply) }
+    {
+        let run = find_best(self.alloc, &self.store, stamp, table, corp)?;
+        let order = Order::read(run.as_bytes()).unwrap();
+        let request = Request::Play(Command::Order(order));
+        self.commit(stamp, table, &request, run.sheet())
+    }
+
+    /// Lets the store take a request, and tells the words of a sheet behind what it tells of the request.
+    fn commit(
+        &mut self,
+        stamp: u64,
+        table: &Name,
+        request: &Request<Command>,
+        sheet: &[u8],
+    ) -> Result<(), Fault>
         requires name { IsTableName table.now }
         requires request { IsRequest request.now }
+        requires short { length sheet.now ≤ 8000 }
         ensures { (taking : Result ℕ stored.Fault)
             × Commits D.Honest D.Works D.state D.past D.fault_count D.write_count D.sync_count self.old.store table.now stamp request.now self.new.store taking
-            × (outcome_of result self.new.reply ≡ text_of (held_in.held_of self.old.store) table.now request.now taking) }
+            × (outcome_of result self.new.reply ≡ text_of (held_in.held_of self.old.store) table.now request.now sheet.now taking) }
     {
         let stamp = self.store.commit(table, stamp, request)?;
         self.reply.accept(table, stamp);
         if runs_trains(request) {
             self.tell_revenue(table);
         }
+        self.reply.sheet(sheet);
         self.reply.text(b"\n");
         Ok(())
     }

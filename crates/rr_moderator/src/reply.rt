@@ -5,7 +5,8 @@ use itoa::Buffer;
 use std::alloc::{AllocError, Global};
 use std::marker::Model;
 
-/// The bytes of one reply. Its room is taken when it is made, so that writing a reply asks for no memory.
+/// The bytes of one reply. Its room is taken when it is made, so that writing a reply asks for no memory: the longest tells
+/// the sheet of a run that a line has room for.
 #[derive(Drop)]
 pub struct Reply {
     bytes: Vec<u8>,
@@ -18,16 +19,16 @@ impl Model for Reply {
 
     ghost view = { λ reply. reply.bytes.items };
 
-    ghost invariant = { λ reply. 4096 ≤ vec_capacity reply.bytes };
+    ghost invariant = { λ reply. 8192 ≤ vec_capacity reply.bytes };
 }
 
 impl Reply {
-    /// An empty reply with room for 4,096 bytes.
+    /// An empty reply with room for 8,192 bytes.
     pub fn new(alloc: Global) -> Result<Reply, AllocError>
         ensures { IfOk result (λ reply. reply ≡ []) }
     {
         Ok(Reply {
-            bytes: Vec::with_capacity(alloc, 4096)?,
+            bytes: Vec::with_capacity(alloc, 8192)?,
         })
     }
 
@@ -47,7 +48,7 @@ impl Reply {
 
     /// Writes bytes behind the others.
     pub(crate) fn text(&mut self, text: &[u8])
-        requires { length self.old + length text.now ≤ 4096 }
+        requires { length self.old + length text.now ≤ 8192 }
         ensures text { self.new ≡ self.old ++ text.now }
         ensures len { length self.new ≡ length self.old + length text.now }
     {
@@ -56,7 +57,7 @@ impl Reply {
 
     /// A word behind a space.
     pub(crate) fn word(&mut self, word: &[u8])
-        requires { length self.old + length word.now + 1 ≤ 4096 }
+        requires { length self.old + length word.now + 1 ≤ 8192 }
         ensures text { self.new ≡ self.old ++ (codes " " ++ word.now) }
         ensures len { length self.new ≡ length self.old + length word.now + 1 }
     {
@@ -66,7 +67,7 @@ impl Reply {
 
     /// Writes a number, in decimal digits.
     pub(crate) fn number(&mut self, number: u64)
-        requires { length self.old + 20 ≤ 4096 }
+        requires { length self.old + 20 ≤ 8192 }
         ensures digits { self.new ≡ self.old ++ decimal number }
         ensures bounded { length self.new ≤ length self.old + 20 }
     {
@@ -76,7 +77,7 @@ impl Reply {
 
     /// Writes a number in decimal digits, behind a minus sign if it is less than 0.
     pub(crate) fn signed(&mut self, number: i64)
-        requires { length self.old + 20 ≤ 4096 }
+        requires { length self.old + 20 ≤ 8192 }
         ensures digits { self.new ≡ self.old ++ signed_decimal number }
         ensures bounded { length self.new ≤ length self.old + 20 }
     {

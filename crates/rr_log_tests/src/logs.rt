@@ -1,0 +1,278 @@
+use crate::files::{FAR, FIRST, Found, failing_after, found, new_file, open, parts, write};
+use crate::tables::{AnyLine, OneTable, one_table, snapshot_of};
+use rr_checkpoint::Tick;
+use rr_disk::{Disk, FaultyDisk, MemoryDisk};
+use rr_log::{Fault, Log};
+use rr_opening::Opened;
+use rr_snapshot::Snapshot;
+use rr_worlds::Worlds;
+use std::alloc::Global;
+use std::test::Fail;
+
+// The chain of the table that is lent: two commands, each with the length of its words before it.
+const KEPT: &[u8] = b"\0\x08open a b\0\x05buy a";
+
+// The calls below have almost no contracts, so that what a test does costs its proof little.
+
+fn log_on<D: Disk + Drop>(
+    alloc: Global,
+    disk: D,
+    opened: Opened<Worlds<AnyLine>>,
+    base: Option<Snapshot>,
+) -> Log<D, AnyLine> {
+    let (writer, kit) = parts(opened);
+    Log::new(alloc, disk, writer, kit, base)
+}
+
+fn new_log(alloc: Global) -> Result<Log<MemoryDisk, AnyLine>, Fail> {
+    let mut disk = new_file(alloc)?;
+    let opened = open(alloc, &mut disk)?;
+    Ok(log_on(alloc, disk, opened, None))
+}
+
+fn keep<D: Disk + Drop>(
+    log: &mut Log<D, AnyLine>,
+    tables: &OneTable,
+    line: &[u8],
+) -> Result<(), Fault> {
+    if line.is_empty() {
+        return Err(Fault::OutOfMemory);
+    }
+    log.keep(tables, line)
+}
+
+fn tick<D: Disk + Drop>(log: &mut Log<D, AnyLine>, tables: &OneTable) -> Result<Tick, Fault> {
+    log.tick(tables)
+}
+
+fn checkpoint<D: Disk + Drop>(log: &mut Log<D, AnyLine>, tables: &OneTable) -> Result<(), Fault> {
+    log.checkpoint(tables)
+}
+
+// The number of the last record, how many ticks are left, and whether the log is broken.
+type State = (u64, usize, bool);
+
+fn state<D: Disk + Drop>(log: &Log<D, AnyLine>) -> State {
+    (log.last(), log.ticks_left(), log.is_broken())
+}
+
+fn disk_of<D: Disk + Drop>(log: Log<D, AnyLine>) -> D {
+    log.into_disk()
+}
+
+// Keeps so many records of one slot each.
+fn keep_all(log: &mut Log<MemoryDisk, AnyLine>, tables: &OneTable, count: u8) -> Result<(), Fault> {
+    for _ in 0..count {
+        keep(log, tables, b"g1 buy a")?;
+    }
+    Ok(())
+}
+
+// How many ticks are left behind each of the next six records.
+fn left_behind_six(
+    log: &mut Log<MemoryDisk, AnyLine>,
+    tables: &OneTable,
+) -> Result<[usize; 6], Fault> {
+    let mut left = [0; 6];
+    for behind in &mut left {
+        keep(log, tables, b"g1 buy a")?;
+        *behind = log.ticks_left();
+    }
+    Ok(left)
+}
+
+// What an opening finds in the file of a log, and whether its directory has one table, which keeps the two commands.
+fn reopened(alloc: Global, log: Log<MemoryDisk, AnyLine>) -> Result<(Found, bool), Fail> {
+    let mut disk = disk_of(log);
+    let opened = open(alloc, &mut disk)?;
+    Ok((found(&opened), has_the_table(&opened)))
+}
+
+fn has_the_table(opened: &Opened<Worlds<AnyLine>>) -> bool {
+    opened.dir.tables.len() == 1
+        && opened.tables.len() == 1
+        && opened
+            .tables
+            .iter()
+            .all(|table| table.bytes.as_slice() == KEPT)
+}
+
+// The faults of a record, and then of each call, on a log whose device fails behind so many calls; and how many records an
+// opening then reads.
+fn faults(
+    alloc: Global,
+    tables: &OneTable,
+    calls: u64,
+) -> Result<([Option<Fault>; 4], usize), Fail> {
+    let mut disk = new_file(alloc)?;
+    let opened = open(alloc, &mut disk)?;
+    let mut log = log_on(alloc, failing_after(disk, calls), opened, None);
+    let faults = [
+        keep(&mut log, tables, b"g1 buy a").err(),
+        keep(&mut log, tables, b"g1 buy a").err(),
+        tick(&mut log, tables).err(),
+        checkpoint(&mut log, tables).err(),
+    ];
+    let mut left = beneath(disk_of(log));
+    let opened = open(alloc, &mut left)?;
+    Ok((faults, opened.near.records.len()))
+}
+
+fn beneath(disk: FaultyDisk<MemoryDisk>) -> MemoryDisk {
+    disk.into_inner()
+}
+
+// What is told before, during and behind the ticks that 134 records make.
+fn through_a_checkpoint(
+    log: &mut Log<MemoryDisk, AnyLine>,
+    tables: &OneTable,
+) -> Result<(State, [usize; 6], State, Tick), Fault> {
+    keep_all(log, tables, 128)?;
+    let before = state(log);
+    let left = left_behind_six(log, tables)?;
+    let behind = tick(log, tables)?;
+    Ok((before, left, state(log), behind))
+}
+
+// The checkpoint of a table and the directory has six ticks, and begins where 128 slots are used.
+#[test]
+fn records_129_to_134_make_a_tick_each(rt: HostRuntime) -> Result<(), Fail> {
+    let mut log = new_log(rt.alloc())?;
+    let told = through_a_checkpoint(&mut log, &one_table(false)?)?;
+    let whole = (
+        (128, 0, false),
+        [5, 4, 3, 2, 1, 0],
+        (134, 0, false),
+        Tick::Idle,
+    );
+    assert!(rt; told == whole);
+    assert!(rt; reopened(rt.alloc(), log)? == ((2, 135, 6, 0, None), true));
+    Ok(())
+}
+
+// Three records, a checkpoint, and a record more.
+fn around_a_checkpoint(
+    log: &mut Log<MemoryDisk, AnyLine>,
+    tables: &OneTable,
+) -> Result<State, Fault> {
+    keep_all(log, tables, 3)?;
+    checkpoint(log, tables)?;
+    keep_all(log, tables, 1)?;
+    Ok(state(log))
+}
+
+#[test]
+fn a_whole_checkpoint_is_opened_again(rt: HostRuntime) -> Result<(), Fail> {
+    let mut log = new_log(rt.alloc())?;
+    let told = around_a_checkpoint(&mut log, &one_table(false)?)?;
+    assert!(rt; told == (4, 0, false));
+    assert!(rt; reopened(rt.alloc(), log)? == ((2, 5, 1, 0, None), true));
+    Ok(())
+}
+
+// A log on a file with a record in the other half, which tells that a checkpoint was begun before that record.
+fn begun_log(alloc: Global) -> Result<Log<MemoryDisk, AnyLine>, Fail> {
+    let mut disk = new_file(alloc)?;
+    write(&mut disk, FAR, FIRST)?;
+    let opened = open(alloc, &mut disk)?;
+    let base = snapshot_of(alloc, &one_table(false)?)?;
+    Ok(log_on(alloc, disk, opened, Some(base)))
+}
+
+// What is told behind a tick, and behind the whole checkpoint.
+fn tick_and_finish(
+    log: &mut Log<MemoryDisk, AnyLine>,
+    tables: &OneTable,
+) -> Result<(Tick, State, State), Fault> {
+    let answer = tick(log, tables)?;
+    let begun = state(log);
+    checkpoint(log, tables)?;
+    Ok((answer, begun, state(log)))
+}
+
+// It is made of the tables from before the record, and those that are lent aren't asked.
+#[test]
+fn a_checkpoint_that_was_begun_is_made_anew(rt: HostRuntime) -> Result<(), Fail> {
+    let mut log = begun_log(rt.alloc())?;
+    let told = tick_and_finish(&mut log, &one_table(true)?)?;
+    assert!(rt; told == (Tick::More, (1, 5, false), (1, 0, false)));
+    assert!(rt; reopened(rt.alloc(), log)? == ((2, 2, 1, 0, None), true));
+    Ok(())
+}
+
+// Why a record of so many bytes isn't kept in a new file, and what is told then.
+fn kept(alloc: Global, count: usize) -> Result<(Option<Fault>, State), Fail> {
+    let line = vec![in alloc; b'a'; count]?;
+    let mut log = new_log(alloc)?;
+    let fault = keep(&mut log, &one_table(false)?, &line).err();
+    Ok((fault, state(&log)))
+}
+
+// Two slots hold 8,179 bytes behind a record's 13.
+#[test]
+fn a_record_takes_two_slots_at_most(rt: HostRuntime) -> Result<(), Fail> {
+    let full = Some(Fault::HalfFull);
+    assert!(rt; kept(rt.alloc(), 8180)? == (full, (0, 0, false)));
+    assert!(rt; kept(rt.alloc(), 8179)? == (None, (1, 0, false)));
+    Ok(())
+}
+
+// How a record and a tick end where a half is used up and no memory is there for a checkpoint, and what is told then.
+fn without_memory(
+    log: &mut Log<MemoryDisk, AnyLine>,
+    tables: &OneTable,
+) -> Result<(Option<Fault>, Option<Fault>, State), Fault> {
+    keep_all(log, tables, 255)?;
+    let record = keep_all(log, tables, 1).err();
+    let next = tick(log, tables).err();
+    Ok((record, next, state(log)))
+}
+
+// What a tick wants is told where the record has no room, and once it has it the record goes to the other half.
+#[test]
+fn the_want_of_a_tick_is_put_off(rt: HostRuntime) -> Result<(), Fail> {
+    let want = Some(Fault::OutOfMemory);
+    let mut log = new_log(rt.alloc())?;
+    let told = without_memory(&mut log, &one_table(true)?)?;
+    assert!(rt; told == (want, want, (255, 0, false)));
+    keep_all(&mut log, &one_table(false)?, 1)?;
+    assert!(rt; state(&log) == (256, 5, false));
+    Ok(())
+}
+
+// A record is two writes, each with a sync. Only where the last sync alone fails, a read finds it.
+#[test]
+fn a_log_whose_device_failed_is_to_be_opened_again(rt: HostRuntime) -> Result<(), Fail> {
+    let tables = one_table(false)?;
+    let again = Some(Fault::OpenAgain);
+    let told = [Some(Fault::DeviceFailed), again, again, again];
+    for (calls, count) in [(0, 0), (1, 0), (2, 0), (3, 1)] {
+        let left = faults(rt.alloc(), &tables, calls)?;
+        assert!(rt; left == (told, count), "{calls}");
+    }
+    Ok(())
+}
+
+// The number of the first fault that has another number or text than it is to have.
+fn unlike(alloc: Global) -> Result<Option<u8>, Fail> {
+    let rows = [
+        (Fault::DeviceFailed, 60, "device failed"),
+        (Fault::HalfFull, 61, "half full"),
+        (Fault::FileFull, 62, "file full"),
+        (Fault::OpenAgain, 65, "open again"),
+        (Fault::OutOfMemory, 70, "out of memory"),
+    ];
+    for (fault, number, text) in rows {
+        if fault.number() != number || fault.to_string(alloc)?.as_str() != text {
+            return Ok(Some(number));
+        }
+    }
+    Ok(None)
+}
+
+#[test]
+fn faults_have_numbers_and_texts(rt: HostRuntime) -> Result<(), Fail> {
+    let row = unlike(rt.alloc())?;
+    assert_eq!(rt; row, None);
+    Ok(())
+}

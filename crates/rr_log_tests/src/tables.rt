@@ -1,0 +1,59 @@
+//! The tables that are lent to a log, and the rules of its records.
+ghost use Rattle.std.specs.Prelude.{[], ◌∷◌};
+ghost use Rattle.rr_snapshot.specs.Snapshot.{with_command, without_commands};
+
+use rr_log::TablesInWords;
+use rr_pages::Fault;
+use rr_snapshot::{Snapshot, TableSnapshot};
+use rr_words::Name;
+use rr_worlds::Rules;
+use std::alloc::Global;
+use std::test::Fail;
+
+// Rules by which any line leads from any world to any. They have no code.
+pub(crate) struct AnyLine;
+
+impl Rules for AnyLine {
+    ghost takes = { λ line old new. Unit {0} };
+}
+
+// A table of stamp 2 and floor 0 that keeps two commands.
+#[derive(Drop)]
+pub(crate) struct OneTable {
+    name: Name,
+    opening: [u8; 8],
+    purchase: [u8; 5],
+    // Whether it tells that memory was refused.
+    is_refused: bool,
+}
+
+impl TablesInWords for OneTable {
+    ghost tables = { λ lent. with_command (with_command (without_commands lent.name 2 0) lent.opening) lent.purchase ∷ [] };
+
+    fn snapshot(&self, alloc: Global) -> Result<Snapshot, Fault> {
+        if self.is_refused {
+            return Err(Fault::OutOfMemory);
+        }
+        let mut table = TableSnapshot::new(alloc, &self.name, 2, 0);
+        table.add(&self.opening)?;
+        table.add(&self.purchase)?;
+        let mut snapshot = Snapshot::new(alloc);
+        snapshot.push(table)?;
+        Ok(snapshot)
+    }
+}
+
+pub(crate) fn one_table(is_refused: bool) -> Result<OneTable, Fail> {
+    let name = Name::table(b"g1").ok_or("no name")?;
+    Ok(OneTable {
+        name,
+        opening: *b"open a b",
+        purchase: *b"buy a",
+        is_refused,
+    })
+}
+
+// What a checkpoint would write of these tables.
+pub(crate) fn snapshot_of(alloc: Global, tables: &OneTable) -> Result<Snapshot, Fault> {
+    tables.snapshot(alloc)
+}

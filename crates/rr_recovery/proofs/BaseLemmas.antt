@@ -1,0 +1,184 @@
+-- What a reading of a file says of its base: the directory names the chains, and what these tell is what they spell.
+use Rattle.std.proofs.Common.{◌≡◌, ◌↔◌, ℕ, suc, List, [], ◌∷◌, length, map, refl, sym, ap, subst, ◌∙◌}
+use Rattle.rr_dir.specs.declared.directory.ChainRef.{ChainRef}
+use Rattle.rr_dir.specs.declared.directory.TableEntry.{TableEntry}
+use Rattle.rr_dir.specs.declared.version.Version.{Version}
+use Rattle.rr_dir.specs.Directory.{AreTables, Directory}
+use Rattle.rr_dir.specs.Directory as dir
+use Rattle.rr_dir.specs.Heads as named
+use Rattle.rr_dir.proofs.TableLemmas.{one_directory, one_heads}
+use Rattle.rr_images.specs.Codec.{Codec}
+use Rattle.rr_images.specs.Holding.{HeldChain, heads_of, texts_of}
+use Rattle.rr_images.proofs.Following.{read_there}
+use Rattle.rr_kit.specs.Kits.{KitTexts}
+use Rattle.rr_pages.specs.Laying.{head_of}
+use Rattle.rr_reading.specs.Held.{Held, chains_of, holding_of}
+use Rattle.rr_reading.specs.Laws.{NamesChains}
+use Rattle.rr_reading.specs.Reading.{Holds, IsDirectory}
+use Rattle.rr_reading.proofs.Standing.{held_is_read}
+use Rattle.rr_records.specs.Words.{AreInWords, IsTableInWords, SpellCommands, kit_texts}
+use Rattle.rr_records.specs.World.{TableState, World}
+use Rattle.rr_worlds.specs.Spelling.{Spells, SpellsTable, SpellsTables, ref_of, worlds}
+use Rattle.rr_worlds.specs.World.{Table}
+use Rattle.rr_worlds.specs.World as words
+use Rattle.rr_worlds.proofs.Exact.{one_version}
+use Rattle.rr_recovery.specs.Kept.{HoldsCommands}
+use Rattle.rr_recovery.specs.Recovery.{IsBase}
+use Rattle.rr_recovery.specs.Texts.{NameTexts, texts_in}
+use Rattle.rr_recovery.specs.Told.{TellTables, TellsTable}
+
+-- tables that are told are spelled, and what is spelled is told
+
+told_here : (entry : TableEntry) (text : List ℕ) (table : List ℕ × TableState) (written : Table) → SpellsTable entry text written → IsTableInWords table written → TellsTable entry text table
+told_here entry text table written spells is =
+    record {
+      named = spells.named ∙ is.named;
+      stamped = spells.stamped ∙ is.stamped;
+      floored = spells.floored ∙ is.floored;
+      kept = record { words = written.kept.commands; kept = spells.spelled; counted = sym spells.counted; spelled = is.spelled };
+    }
+
+pub spelled_told : (entries : List TableEntry) (chains : List HeldChain) (tables : World) (written : List Table) → SpellsTables entries (texts_of chains) written → AreInWords tables written
+    → TellTables entries chains tables
+spelled_told [] [] [] written spells are = tt
+spelled_told [] [] (table ∷ tables) written spells are =
+    let P : List Table → Type 0 = λ ws. AreInWords (table ∷ tables) ws in subst P spells.1 are
+spelled_told [] (chain ∷ chains) tables written spells are = absurd (cc (spells.0))
+spelled_told (entry ∷ entries) [] tables written spells are = absurd (cc (spells.4))
+spelled_told (entry ∷ entries) (chain ∷ chains) [] written spells are =
+    let P : List Table → Type 0 = λ ws. AreInWords [] ws in subst P spells.5 are
+spelled_told (entry ∷ entries) (chain ∷ chains) (table ∷ tables) written spells are =
+    let text : spells.0 ≡ chain.text = cc (spells.4) in
+    let more : spells.2 ≡ texts_of chains = cc (spells.4) in
+    let here = subst (λ (t : List ℕ). SpellsTable entry t spells.1) text spells.6 in
+    let others = subst (λ (ts : List (List ℕ)). SpellsTables entries ts spells.3) more spells.7 in
+    let all = subst (λ (ws : List Table). AreInWords (table ∷ tables) ws) spells.5 are in
+    (told_here entry chain.text table spells.1 here all.0, spelled_told entries chains tables spells.3 others all.1)
+
+-- the tables of the directory, each with its words
+written_here : (entry : TableEntry) (text : List ℕ) (table : List ℕ × TableState) → TellsTable entry text table → (written : Table) × SpellsTable entry text written × IsTableInWords table written
+written_here entry text table told =
+    let written : Table = record { name = table.0; kept = record { commands = told.kept.words; floor = table.1.floor; stamp = table.1.stamp } } in (
+      written,
+      record { named = told.named; stamped = told.stamped; floored = told.floored; counted = sym told.kept.counted; spelled = told.kept.kept },
+      record { named = refl; floored = refl; stamped = refl; spelled = told.kept.spelled },
+    )
+
+pub record AreWritten (entries : List TableEntry) (chains : List HeldChain) (tables : World) : Type 0 where
+  pub written : List Table
+  pub spells : SpellsTables entries (texts_of chains) written
+  pub are : AreInWords tables written
+
+pub told_spelled : (entries : List TableEntry) (chains : List HeldChain) (tables : World) → TellTables entries chains tables → AreWritten entries chains tables
+told_spelled [] [] [] told = record { written = []; spells = (refl, refl); are = tt }
+told_spelled [] [] (table ∷ tables) told = absurd told
+told_spelled [] (chain ∷ chains) tables told = absurd told
+told_spelled (entry ∷ entries) [] tables told = absurd told
+told_spelled (entry ∷ entries) (chain ∷ chains) [] told = absurd told
+told_spelled (entry ∷ entries) (chain ∷ chains) (table ∷ tables) told =
+    let here = written_here entry chain.text table told.0 in
+    let more = told_spelled entries chains tables told.1 in
+    record {
+      written = here.0 ∷ more.written;
+      spells = (chain.text, here.0, texts_of chains, more.written, refl, refl, here.1, more.spells);
+      are = (here.2, more.are);
+    }
+
+-- files whose records aren't judged
+abbrev unjudged : Codec
+unjudged = worlds (λ line old new. ⊥)
+
+names_chains : NamesChains unjudged
+names_chains = λ version bytes heads. (λ names. names, λ names. names)
+
+ref_is : (ref : ChainRef) (chain : HeldChain) → named.head_of ref ≡ (head_of chain.pages, length chain.text) → ref ≡ ref_of chain
+ref_is ref chain same =
+    let head : ref.head ≡ head_of chain.pages = ap (λ (h : ℕ × ℕ). h.0) same in
+    let long : ref.length ≡ length chain.text = ap (λ (h : ℕ × ℕ). h.1) same in
+    λ i. record { head = head i; length = long i }
+
+as_many_chains : (entries : List TableEntry) (chains : List HeldChain) → map (λ (entry : TableEntry). named.head_of entry.chain) entries ≡ heads_of chains → length entries ≡ length chains
+as_many_chains [] [] same = refl
+as_many_chains [] (chain ∷ chains) same = absurd (cc)
+as_many_chains (entry ∷ entries) [] same = absurd (cc)
+as_many_chains (entry ∷ entries) (chain ∷ chains) same =
+    let rest : map (λ (e : TableEntry). named.head_of e.chain) entries ≡ heads_of chains = cc in ap suc (as_many_chains entries chains rest)
+
+module _ (file : List ℕ) (has : Held) (holds : Holds file has) where
+  form : IsDirectory has.root.version has.chain.text has.directory
+  form = holds.chains.has_directory.form
+
+  heads_are : named.heads_of has.directory ≡ heads_of (chains_of has.texts has.tables)
+  heads_are =
+      let by_form : named.Heads has.root.version has.chain.text (named.heads_of has.directory) =
+      record { version = form.version; numbered = form.numbered; directory = has.directory; spelled = form.spelled; named = refl } in
+      let read = held_is_read unjudged names_chains file has holds in
+      let there = read_there unjudged file has.root (holding_of has) has.reached holds.chains.has_directory.taken.1.sound.pages_high read in
+      one_heads has.root.version has.chain.text (named.heads_of has.directory) (heads_of (chains_of has.texts has.tables)) by_form there.there.named
+
+  pub texts_named : NameTexts has.directory.kit has.texts
+  texts_named =
+      let all = heads_are in
+      let chart : named.head_of has.directory.kit.chart ≡ (head_of has.texts.chart.pages, length has.texts.chart.text) = cc in
+      let roster : named.head_of has.directory.kit.roster ≡ (head_of has.texts.roster.pages, length has.texts.roster.text) = cc in
+      let tiles : named.head_of has.directory.kit.tiles ≡ (head_of has.texts.tiles.pages, length has.texts.tiles.text) = cc in
+      let board : named.head_of has.directory.kit.board ≡ (head_of has.texts.board.pages, length has.texts.board.text) = cc in
+      record {
+        of_chart = ref_is has.directory.kit.chart has.texts.chart chart;
+        of_roster = ref_is has.directory.kit.roster has.texts.roster roster;
+        of_tiles = ref_is has.directory.kit.tiles has.texts.tiles tiles;
+        of_board = ref_is has.directory.kit.board has.texts.board board;
+      }
+
+  pub each_chain : length has.directory.tables ≡ length has.tables
+  each_chain =
+      let all = heads_are in
+      let rest : map (λ (entry : TableEntry). named.head_of entry.chain) has.directory.tables ≡ heads_of has.tables = cc in
+      as_many_chains has.directory.tables has.tables rest
+
+  pub tables_limited : AreTables has.directory.tables
+  tables_limited = form.spelled.is_directory.are_tables
+
+  pub base_told : (base : World) (world : words.World) → IsBase has base world → TellTables has.directory.tables has.tables base
+  base_told base world is =
+      let spells = is.spells in
+      let there : dir.Spells form.version has.chain.text spells.directory =
+      subst (λ (v : Version). dir.Spells v has.chain.text spells.directory) (one_version spells.version form.version) spells.spelled in
+      let same = one_directory form.version has.chain.text has.directory spells.directory form.spelled there in
+      let of_tables : spells.of_tables ≡ texts_of has.tables = cc (spells.of_chains) in
+      let here = subst (λ (d : Directory). SpellsTables d.tables spells.of_tables world.tables) (sym same) spells.tables in
+      spelled_told has.directory.tables has.tables base world.tables
+      (subst (λ (ts : List (List ℕ)). SpellsTables has.directory.tables ts world.tables) of_tables here) is.based
+
+  -- the world of these tables in words, with the texts
+  pub record IsToldBase (base : World) : Type 0 where
+    pub world : words.World
+    pub is_base : IsBase has base world
+    pub texts : kit_texts world ≡ texts_in has.texts
+
+  pub told_base : (base : World) → TellTables has.directory.tables has.tables base → IsToldBase base
+  told_base base told =
+      let all = told_spelled has.directory.tables has.tables base told in
+      let world : words.World = record {
+        chart = has.texts.chart.text;
+        roster = has.texts.roster.text;
+        tiles = has.texts.tiles.text;
+        board = has.texts.board.text;
+        tables = all.written;
+      } in
+      record {
+        world = world;
+        is_base = record {
+          spells = record {
+            version = form.version;
+            numbered = form.numbered;
+            directory = has.directory;
+            spelled = form.spelled;
+            of_tables = texts_of has.tables;
+            of_chains = refl;
+            tables = all.spells;
+          };
+          based = all.are;
+        };
+        texts = refl;
+      }

@@ -1,0 +1,19 @@
+-- What is recovered of a file.
+use Rattle.rr_kit.specs.Kits.{KitTexts}
+use Rattle.rr_reading.specs.Held.{Held}
+use Rattle.rr_records.specs.World.{World}
+use Rattle.rr_snapshot.specs.Kit.{AreTextChains}
+use Rattle.rr_tables.specs.Tables.{world_of}
+use Rattle.rr_recovery.specs.declared.recovery.Recovered.{Recovered}
+use Rattle.rr_recovery.specs.Recovery.{IsRecovered}
+use Rattle.rr_recovery.specs.Replaying.{IsSnapshotBefore}
+
+-- The tables are the world that the file tells, with its kit; the texts of the kit stand where the root has them; and there
+-- is a snapshot just where the other half has records: of the world before these.
+pub record IsRecoveredFrom (has : Held) (recovered : Recovered) : Type 0 where
+  pub texts : KitTexts
+  pub base : World
+  pub middle : World
+  pub told : IsRecovered has texts recovered.tables.kit base middle (world_of recovered.tables)
+  pub on_pages : AreTextChains recovered.kit has.texts
+  pub before : IsSnapshotBefore has.far middle recovered.base

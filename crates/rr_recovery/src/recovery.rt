@@ -1,0 +1,83 @@
+ghost use Rattle.std.specs.Prelude.{◌≡◌, ℕ, List, length, IfOk, IfErr};
+ghost use Rattle.rr_dir.specs.Directory.{AreTables};
+ghost use Rattle.rr_opening.specs.Opened.{held_by};
+ghost use Rattle.rr_reading.specs.Chains.{all_held};
+ghost use Rattle.rr_reading.specs.Held.{chains_held};
+ghost use Rattle.rr_reading.specs.Reading.{Holds};
+ghost use Rattle.rr_recovery.specs.Base.{IsRightBase, RefusesBase};
+ghost use Rattle.rr_recovery.specs.Recovered.{IsRecoveredFrom};
+ghost use Rattle.rr_recovery.specs.Recovery.{Refuses};
+ghost use Rattle.rr_tables.specs.Tables.{world_of};
+
+use crate::records::replay_halves;
+use crate::tables::restore_tables;
+use crate::texts::{kit_pages, read_kit};
+use crate::words::tell_commands;
+use crate::{Damage, Fault};
+use rr_dir::TableEntry;
+use rr_opening::Opened;
+use rr_pages::ReadChain;
+use rr_reading::KitTexts;
+use rr_snapshot::{KitPages, Snapshot};
+use rr_tables::Tables;
+use rr_worlds::{Rules, Worlds};
+use std::alloc::Global;
+
+/// What is recovered of a file.
+#[derive(Drop)]
+pub struct Recovered {
+    /// The tables behind the last record.
+    pub tables: Tables,
+    /// Where the root holds the texts of the kit.
+    pub kit: KitPages,
+    /// The tables from before the records of the half that the root doesn't name, where that has records: a checkpoint was
+    /// begun there, and these are what it is to be made of anew.
+    pub base: Option<Snapshot>,
+}
+
+/// Recovers the tables from what an opening read of a file: the commands that each table keeps are played from its opening,
+/// and then the records are taken. A table's floor and stamp are as the file has them.
+///
+/// # Errors
+/// `Damaged` with the least of the clauses 5 to 8 that is broken: `Words` where kept words spell no command, `Kit` where a
+/// text of the kit is wrong, `Kept` where what a table keeps isn't an opening and then commands that are lawful, `Records`
+/// where a record has no lawful request at its turn, or is damaged. Else `OutOfMemory` alone.
+pub fn recover<R: Rules>(alloc: Global, opened: &Opened<Worlds<R>>) -> Result<Recovered, Fault>
+    // The opened file is what some file holds: an opening ensures that where its disk is honest.
+    ensures recovered { IfOk result (λ recovered. (file : List ℕ) → Holds file (held_by opened.now)
+        → IsRecoveredFrom (held_by opened.now) recovered) }
+    ensures refused { IfErr result (λ fault. (file : List ℕ) → Holds file (held_by opened.now)
+        → Refuses (held_by opened.now) fault) }
+{
+    let mut tables = recover_base(alloc, &opened.dir.tables, &opened.texts, &opened.tables)?;
+    let base = replay_halves(
+        alloc,
+        &mut tables,
+        &opened.near.records,
+        &opened.far.records,
+    )?;
+    if opened.is_damaged() {
+        return Err(Fault::Damaged(Damage::Records));
+    }
+    let kit = kit_pages(alloc, &opened.dir.kit, &opened.texts)?;
+    Ok(Recovered { tables, kit, base })
+}
+
+/// The tables of the root, before its records.
+fn recover_base(
+    alloc: Global,
+    entries: &[TableEntry],
+    texts: &KitTexts,
+    chains: &[ReadChain],
+) -> Result<Tables, Fault>
+    ensures right { IfOk result (λ tables. IsRightBase entries.now (chains_held texts.now) (all_held chains.now) tables.kit (world_of tables)) }
+    ensures refused { IfErr result (λ fault. length entries.now ≡ length chains.now → AreTables entries.now
+        → RefusesBase entries.now (chains_held texts.now) (all_held chains.now) fault) }
+{
+    if !tell_commands(entries, chains) {
+        return Err(Fault::Damaged(Damage::Words));
+    }
+    let kit = read_kit(alloc, texts)?;
+    let tables = restore_tables(alloc, kit, entries, chains)?;
+    Ok(tables)
+}

@@ -1,0 +1,307 @@
+-- What a commit does, from what the tables and the keeping of its record did.
+use Rattle.std.proofs.Common.{◌≡◌, ◌⊎◌, ℕ, ◌+◌, ◌≤◌, Bool, false, true, List, [], ◌∷◌, map, None, Some, Result, Ok, Err, option_map, inl, inr, refl, sym, ap, subst, ◌∙◌, arith}
+use Rattle.rr_disk.specs.Disk.{DiskState}
+use Rattle.rr_disk.proofs.MomentLemmas.{EachImageOf-weaker}
+use Rattle.rr_kit.specs.declared.kit.Kit.{Kit}
+use Rattle.rr_kit.specs.Kits.{KitTexts, SpellsKit}
+use Rattle.rr_code.specs.declared.command.Command.{Command}
+use Rattle.rr_code.specs.Request.{IsRequest, record_text}
+use Rattle.rr_turns.specs.declared.request.Request.{Request}
+use Rattle.rr_turns.specs.Judgement.{IsVerdict, MayFind}
+use Rattle.rr_turns.proofs.JudgementLemmas.{lawful-first, map-is}
+use Rattle.rr_words.specs.Name.{IsTableName}
+use Rattle.rr_log.specs.declared.fault.Fault as log
+use Rattle.rr_log.specs.declared.fault.Fault.TheVariants as L
+use Rattle.rr_log.specs.declared.log.Log.{Log}
+use Rattle.rr_log.specs.Log.{is_broken, next_number}
+use Rattle.rr_log.specs.Log as file
+use Rattle.rr_log.specs.Carrying as carrying
+use Rattle.rr_records.specs.Taking.{Takes as Takes_line}
+use Rattle.rr_records.specs.declared.fault.Fault as rules
+use Rattle.rr_records.specs.declared.fault.Fault.TheVariants as R
+use Rattle.rr_records.specs.declared.rules.TableRules.{TableRules}
+use Rattle.rr_records.specs.Headline.{KeepsTables}
+use Rattle.rr_records.specs.Words.{in_words, table_in_words}
+use Rattle.rr_records.specs.World as ruled
+use Rattle.rr_tables.specs.declared.fault.Fault as table
+use Rattle.rr_tables.specs.declared.fault.Fault.TheVariants.{File, Rules}
+use Rattle.rr_tables.specs.Tables.{world_of}
+use Rattle.rr_tables.specs.Taking.{MayRefuse, Passed}
+use Rattle.rr_table_store.specs.declared.fault.Fault.{Fault}
+use Rattle.rr_table_store.specs.declared.fault.Fault.TheVariants as F
+use Rattle.rr_table_store.specs.declared.journal.FileJournal.{FileJournal}
+use Rattle.rr_table_store.specs.declared.store.Store.{Store}
+use Rattle.rr_table_store.specs.Allowing.{BeforeOrAfter, Between, CommitAllows, CommitEnds, IsLawful, Keeps}
+use Rattle.rr_table_store.specs.Committing.{Commits, NumberBehind, Spares}
+use Rattle.rr_table_store.specs.Fault.{CountsEnd, of_log, of_rules, of_tables}
+use Rattle.rr_table_store.specs.Files.{AreTablesOf}
+use Rattle.rr_table_store.specs.Held.{Accepted, Again, Fails, Held, NoRoom, Refused, Takes, Wants, stamp_after, with_tables}
+use Rattle.rr_table_store.specs.Holding.{Carries, IsUnchanged, disk_of, file_of, held_of, number_of_next}
+use Rattle.rr_table_store.specs.Keeping.{Keeping}
+use Rattle.rr_table_store.specs.World.{World, for_table, judgement_in, world_after}
+use Rattle.rr_table_store.proofs.Standing.{carried_keeps, record_leads, stands_either, tables_after}
+use Rattle.rr_table_store.proofs.Verdicts.{no_failure, no_full}
+
+abbrev held : Kit → World → Bool → Held
+held kit tables broken = record { kit = kit; tables = tables; broken = broken }
+
+held_same : (r r' : Kit) (t t' : World) (b b' : Bool) → r' ≡ r → t' ≡ t → b' ≡ b → held r' t' b' ≡ held r t b
+held_same r r' t t' b b' p q s = cc
+
+-- refusals that aren't of the file leave it alone
+
+spares_same : {D : Type 0} (old new : Store D) (fault : Fault) → IsUnchanged old new → Spares old (Err fault) new
+spares_same old new F.DeviceFailed same = tt
+spares_same old new F.FileFull same = tt
+spares_same old new F.OutOfMemory same = tt
+spares_same old new _ same = same
+
+number_same : (fault : Fault) (old new : ℕ) → new ≡ old → NumberBehind (Err fault) old new
+number_same F.DeviceFailed old new same = tt
+number_same _ old new same = same
+
+counts_same : (fault : Fault) (old new : ℕ) → (fault ≡ F.DeviceFailed → ⊥) → new ≡ old → CountsEnd {T = ℕ} old new (Err fault)
+counts_same F.DeviceFailed old new other same = absurd (other refl)
+counts_same _ old new other same = same
+
+-- how a commit ends that left a disk alone
+ends_same : (texts : KitTexts) (kit : Kit) (tables : World) (stamp : ℕ) (name : List ℕ) (c : Request Command) (new : DiskState) (fault : Fault) → (fault ≡ F.DeviceFailed → ⊥)
+    → Keeps new texts tables → CommitEnds texts kit tables stamp (for_table name c) [] new (Err fault)
+ends_same texts kit tables stamp name c new F.DeviceFailed other keeps = absurd (other refl)
+ends_same texts kit tables stamp name c new F.FileFull other keeps = keeps
+ends_same texts kit tables stamp name c new F.OutOfMemory other keeps = keeps
+ends_same texts kit tables stamp name c new _ other keeps = refl
+
+abbrev Kept : Type 0
+Kept = Result (Unit {0}) log.Fault
+
+module _ {D : Type 0} (Honest Works : D → Type 0) (state : D → DiskState) (past : D → List DiskState) (faults writes syncs : D → ℕ)
+    (old new : Store D) (stamp : ℕ) (name : List ℕ) (c : Request Command) where
+  abbrev bytes_of : List ℕ
+  bytes_of = record_text name c
+
+  abbrev Done : Result ℕ Fault → Type 0
+  Done result = Commits Honest Works state past faults writes syncs old name stamp c new result
+
+  abbrev kit_now : Kit
+  kit_now = (held_of old).kit
+
+  abbrev tables_now : World
+  tables_now = (held_of old).tables
+
+  abbrev behind : World
+  behind = world_after kit_now tables_now name c
+
+  abbrev Lawful : Type 0
+  Lawful = IsVerdict (judgement_in kit_now tables_now stamp name c) None
+
+  abbrev KeptBy : Log D TableRules → Kept → Log D TableRules → Type 0
+  KeptBy before kept after = Keeping Honest Works state past faults writes syncs before (map table_in_words tables_now) bytes_of kept after
+
+  -- all is as it was
+  spared : (fault : Fault) → (fault ≡ F.DeviceFailed → ⊥) → (fault ≡ F.FileFull → ⊥) → Takes (held_of old) stamp name c (held_of new) (Err fault) → IsUnchanged old new → Done (Err fault)
+  spared fault other room takes same =
+      record {
+        takes = takes;
+        honest = λ h. subst Honest same_disk h;
+        allowed = λ h texts s. record {
+          moments = [];
+          passed = λ i. state (same_disk i) ∷ past (same_disk i);
+          allowed = record {
+            pending = None;
+            pends = tt;
+            before = carried_keeps state old texts s;
+            each = tt;
+            ends = ends_same texts kit_now tables_now stamp name c (state (disk_of new)) fault other
+                (subst (λ (d : D). Keeps (state d) texts tables_now) (sym same_disk) (carried_keeps state old texts s));
+          };
+        };
+        carries = λ h whole texts s. carried texts s;
+        number = number_same fault (number_of_next old) (number_of_next new) (ap (λ (f : Log D TableRules). next_number f) same.same_file);
+        spares = spares_same old new fault same;
+        counts = counts_same fault (faults (disk_of old)) (faults (disk_of new)) other (ap faults same_disk);
+        works = λ w. subst Works same_disk w;
+        few_writes = λ rests. at_most writes;
+        few_syncs = λ rests. at_most syncs;
+        full = λ is. absurd (room (let one : fault ≡ F.FileFull = cc is in one));
+      }
+    where
+      same_disk : disk_of new ≡ disk_of old
+      same_disk = ap (λ (f : Log D TableRules). file.disk_of f) same.same_file
+
+      at_most : (count : D → ℕ) → count (disk_of new) ≤ count (disk_of old) + 3
+      at_most count = let e : count (disk_of new) ≡ count (disk_of old) = ap count same_disk in omega arith
+
+      carried : (texts : KitTexts) → Carries state old texts → Carries state new texts
+      carried texts s = record {
+        right = subst (λ (x : Held). SpellsKit texts x.kit) (sym same.same_held) s.right;
+        tables_of_kit = subst (λ (x : Held). AreTablesOf x.kit x.tables) (sym same.same_held) s.tables_of_kit;
+        file = subst (λ (x : Held). carrying.Carries Takes_line (file_of new) (state (disk_of new)) (in_words texts x.tables)) (sym same.same_held)
+            (subst (λ (f : Log D TableRules). carrying.Carries Takes_line f (state (file.disk_of f)) (in_words texts tables_now)) (sym same.same_file) s.file);
+      }
+
+  -- a store whose device failed before
+  pub commits_again : new ≡ old → (held_of old).broken ≡ true → Done (Err F.OpenAgain)
+  commits_again still broken =
+      spared F.OpenAgain (λ is. absurd (cc is)) (λ is. absurd (cc is)) (Again broken (ap held_of still))
+      (record { same_file = ap file_of still; same_held = ap held_of still })
+
+  module _ (form : IsTableName name × IsRequest c) where
+    lawful_in : (texts : KitTexts) → Carries state old texts → Lawful → IsLawful texts kit_now tables_now stamp (for_table name c)
+    lawful_in texts s lawful = record { right = s.right; of_form = form; lawful = lawful }
+
+    -- the moments of a keeping
+    passed_by : (kept : Kept) (result : Result ℕ Fault) → Lawful → KeptBy (file_of old) kept (file_of new) → (h : Honest (disk_of new)) (texts : KitTexts) → Carries state old texts
+        → ((moments : List DiskState) → CommitEnds texts kit_now tables_now stamp (for_table name c) moments (state (disk_of new)) result)
+        → Between (past (disk_of old)) (state (disk_of old)) (past (disk_of new)) (state (disk_of new))
+        (λ moments. CommitAllows texts kit_now tables_now stamp (for_table name c) (state (disk_of old)) moments (state (disk_of new)) result)
+    passed_by kept result lawful k h texts s ends =
+        let is_lawful = lawful_in texts s lawful in
+        let stops = k.stops h (in_words texts tables_now) (in_words texts behind) (record_leads texts kit_now tables_now stamp (for_table name c) is_lawful s.tables_of_kit) refl s.file in
+        record {
+          moments = stops.since;
+          passed = stops.goes_on;
+          allowed = record {
+            pending = Some (for_table name c);
+            pends = (refl, is_lawful);
+            before = carried_keeps state old texts s;
+            each = EachImageOf-weaker stops.since (λ image. KeepsTables texts tables_now image ⊎ KeepsTables texts behind image) (BeforeOrAfter texts kit_now tables_now (Some (for_table name c)))
+                (stands_either texts kit_now tables_now stamp (for_table name c) is_lawful s.tables_of_kit) stops.each;
+            ends = ends stops.since;
+          };
+        }
+
+    -- the request was taken
+    taken : (n : ℕ) → Takes (held_of old) stamp name c (held_of new) (Ok n) → Lawful → held_of new ≡ with_tables (held_of old) behind
+        → KeptBy (file_of old) (Ok tt) (file_of new) → Done (Ok n)
+    taken n takes lawful held_is k =
+        record {
+          takes = takes;
+          honest = k.honest;
+          allowed = λ h texts s. passed_by (Ok tt) (Ok n) lawful k h texts s
+              (λ moments. (lawful_in texts s lawful, subst (λ (w : World). Keeps (state (disk_of new)) texts w) (ap (λ (x : Held). x.tables) held_is) (carried_keeps state new texts (on h texts s))));
+          carries = λ h whole texts s. on h texts s;
+          number = k.number;
+          spares = tt;
+          counts = k.counts;
+          works = k.works;
+          few_writes = k.few_writes;
+          few_syncs = k.few_syncs;
+          full = λ is. absurd (cc is);
+        }
+      where
+        on : Honest (disk_of new) → (texts : KitTexts) → Carries state old texts → Carries state new texts
+        on h texts s =
+            let is_lawful = lawful_in texts s lawful in record {
+              right = subst (λ (x : Held). SpellsKit texts x.kit) (sym held_is) s.right;
+              tables_of_kit = subst (λ (x : Held). AreTablesOf x.kit x.tables) (sym held_is) (tables_after texts kit_now tables_now stamp (for_table name c) is_lawful s.tables_of_kit);
+              file = subst (λ (x : Held). carrying.Carries Takes_line (file_of new) (state (disk_of new)) (in_words texts x.tables)) (sym held_is)
+                  (k.carries h k.broken (in_words texts tables_now) (in_words texts behind) (record_leads texts kit_now tables_now stamp (for_table name c) is_lawful s.tables_of_kit) refl s.file);
+            }
+
+    -- the device failed
+    failed : Takes (held_of old) stamp name c (held_of new) (Err F.DeviceFailed) → Lawful → KeptBy (file_of old) (Err L.DeviceFailed) (file_of new) → Done (Err F.DeviceFailed)
+    failed takes lawful k =
+        record {
+          takes = takes;
+          honest = k.honest;
+          allowed = λ h texts s. passed_by (Err L.DeviceFailed) (Err F.DeviceFailed) lawful k h texts s (λ moments. lawful_in texts s lawful);
+          carries = λ h whole texts s. let both : true ≡ false = sym k.broken ∙ whole in absurd (cc both);
+          number = tt;
+          spares = tt;
+          counts = k.counts;
+          works = k.works;
+          few_writes = k.few_writes;
+          few_syncs = k.few_syncs;
+          full = λ is. absurd (cc is);
+        }
+
+    -- it wasn't taken, and the file carries on what was held
+    module _ (kept : log.Fault) (lawful : Lawful) (k : KeptBy (file_of old) (Err kept) (file_of new)) (whole : is_broken (file_of new) ≡ false) (held_is : held_of new ≡ held_of old) where
+      goes_on : Honest (disk_of new) → (texts : KitTexts) → Carries state old texts → Carries state new texts
+      goes_on h texts s =
+          let is_lawful = lawful_in texts s lawful in record {
+            right = subst (λ (x : Held). SpellsKit texts x.kit) (sym held_is) s.right;
+            tables_of_kit = subst (λ (x : Held). AreTablesOf x.kit x.tables) (sym held_is) s.tables_of_kit;
+            file = subst (λ (x : Held). carrying.Carries Takes_line (file_of new) (state (disk_of new)) (in_words texts x.tables)) (sym held_is)
+                (k.carries h whole (in_words texts tables_now) (in_words texts behind) (record_leads texts kit_now tables_now stamp (for_table name c) is_lawful s.tables_of_kit) refl s.file);
+          }
+
+      keeps_on : Honest (disk_of new) → (texts : KitTexts) → Carries state old texts → Keeps (state (disk_of new)) texts tables_now
+      keeps_on h texts s = subst (λ (w : World). Keeps (state (disk_of new)) texts w) (ap (λ (x : Held). x.tables) held_is) (carried_keeps state new texts (goes_on h texts s))
+
+    file_full : Takes (held_of old) stamp name c (held_of new) (Err F.FileFull) → Lawful → held_of new ≡ held_of old → KeptBy (file_of old) (Err L.FileFull) (file_of new) → Done (Err F.FileFull)
+    file_full takes lawful held_is k =
+        record {
+          takes = takes;
+          honest = k.honest;
+          allowed = λ h texts s. passed_by (Err L.FileFull) (Err F.FileFull) lawful k h texts s (λ moments. keeps_on L.FileFull lawful k k.broken held_is h texts s);
+          carries = λ h whole texts s. goes_on L.FileFull lawful k whole held_is h texts s;
+          number = k.number;
+          spares = tt;
+          counts = k.counts;
+          works = k.works;
+          few_writes = k.few_writes;
+          few_syncs = k.few_syncs;
+          full = λ is. k.full refl;
+        }
+
+    no_memory : Takes (held_of old) stamp name c (held_of new) (Err F.OutOfMemory) → Lawful → held_of new ≡ held_of old → KeptBy (file_of old) (Err L.OutOfMemory) (file_of new) → Done (Err F.OutOfMemory)
+    no_memory takes lawful held_is k =
+        record {
+          takes = takes;
+          honest = k.honest;
+          allowed = λ h texts s. passed_by (Err L.OutOfMemory) (Err F.OutOfMemory) lawful k h texts s (λ moments. keeps_on L.OutOfMemory lawful k k.broken held_is h texts s);
+          carries = λ h whole texts s. goes_on L.OutOfMemory lawful k whole held_is h texts s;
+          number = k.number;
+          spares = tt;
+          counts = k.counts;
+          works = k.works;
+          few_writes = k.few_writes;
+          few_syncs = k.few_syncs;
+          full = λ is. absurd (cc is);
+        }
+
+    module _ (was : is_broken (file_of old) ≡ false) (kit_is : new.tables.kit ≡ old.tables.kit) where
+      pub commits : (n : ℕ) → IsVerdict (ruled.judgement_in kit_now tables_now stamp name c) None
+          → world_of new.tables ≡ behind → n ≡ stamp_after kit_now tables_now name c → KeptBy (file_of old) (Ok tt) (file_of new) → Done (Ok n)
+      commits n by_rules world counted k =
+          let lawful = map-is of_rules (ruled.judgement_in kit_now tables_now stamp name c) None by_rules in
+          let held_is = held_same kit_now new.tables.kit behind (world_of new.tables) (is_broken (file_of old)) (is_broken (file_of new)) kit_is world (k.broken ∙ sym was) in
+          taken n (subst (λ (x : ℕ). Takes (held_of old) stamp name c (held_of new) (Ok x)) (sym counted) (Accepted was lawful held_is)) lawful held_is k
+
+      module _ (world : world_of new.tables ≡ tables_now) where
+        held_is_if : (b : Bool) → is_broken (file_of new) ≡ b → held_of new ≡ held kit_now tables_now b
+        held_is_if b is = held_same kit_now new.tables.kit tables_now (world_of new.tables) b (is_broken (file_of new)) kit_is world is
+
+        by_rule : (fault : rules.Fault) → MayFind (ruled.judgement_in kit_now tables_now stamp name c) R.OutOfMemory fault → file_of new ≡ file_of old → Done (Err (of_rules fault))
+        by_rule fault found still =
+            let same = held_is_if (is_broken (file_of old)) (ap (λ (f : Log D TableRules). is_broken f) still) in
+            spared (of_rules fault) (no_failure fault) (no_full fault) (refused_by found same) (record { same_file = still; same_held = same })
+          where
+            refused_by : MayFind (ruled.judgement_in kit_now tables_now stamp name c) R.OutOfMemory fault → held_of new ≡ held_of old → Takes (held_of old) stamp name c (held_of new) (Err (of_rules fault))
+            refused_by (inl verdict) same = Refused (of_rules fault) was (map-is of_rules (ruled.judgement_in kit_now tables_now stamp name c) (Some fault) verdict) same
+            refused_by (inr wants) same =
+                subst (λ (f : rules.Fault). Takes (held_of old) stamp name c (held_of new) (Err (of_rules f))) (sym wants.1) (Wants was (ap (option_map of_rules) wants.0) same)
+
+        by_file : (fault : log.Fault) → IsVerdict (ruled.judgement_in kit_now tables_now stamp name c) None → KeptBy (file_of old) (Err fault) (file_of new) → Done (Err (of_log fault))
+        by_file L.DeviceFailed by_rules k =
+            let lawful = map-is of_rules (ruled.judgement_in kit_now tables_now stamp name c) None by_rules in
+            failed (Fails was lawful (held_is_if true k.broken)) lawful k
+        by_file L.HalfFull by_rules k = absurd (k.room refl)
+        by_file L.FileFull by_rules k =
+            let lawful = map-is of_rules (ruled.judgement_in kit_now tables_now stamp name c) None by_rules in
+            let same = held_is_if (is_broken (file_of old)) (k.broken ∙ sym was) in
+            file_full (NoRoom was lawful same) lawful same k
+        by_file L.OpenAgain by_rules k = let both : true ≡ false = sym (k.again.0 refl) ∙ was in absurd (cc both)
+        by_file L.OutOfMemory by_rules k =
+            let lawful = map-is of_rules (ruled.judgement_in kit_now tables_now stamp name c) None by_rules in
+            let same = held_is_if (is_broken (file_of old)) (k.broken ∙ sym was) in
+            no_memory (Wants was (lawful-first (judgement_in kit_now tables_now stamp name c) lawful) same) lawful same k
+
+        pub commits_not : (fault : table.Fault) → MayRefuse (ruled.judgement_in kit_now tables_now stamp name c) fault
+            → Passed (λ (before : FileJournal D) (tables : World) (bytes : List ℕ) (kept : Kept) (after : FileJournal D). Keeping Honest Works state past faults writes syncs before.file (map table_in_words tables) bytes kept after.file)
+            old.journal tables_now bytes_of new.journal (Err fault)
+            → Done (Err (of_tables fault))
+        commits_not (Rules fault) verdict passed = by_rule fault verdict (ap (λ (j : FileJournal D). j.file) passed)
+        commits_not (File fault) verdict passed = by_file fault verdict passed

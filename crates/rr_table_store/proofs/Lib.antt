@@ -1,0 +1,10 @@
+pub mod Kits
+pub mod Keepings
+pub mod Verdicts
+pub mod Worlds
+pub mod Formattings
+pub mod Standing
+pub mod Commits
+pub mod Steps
+pub mod Recovering
+pub mod Openings

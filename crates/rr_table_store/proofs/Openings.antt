@@ -1,0 +1,108 @@
+-- What an opening does, from what was found in the file.
+use Rattle.std.proofs.Common.{◌≡◌, ℕ, List, [], ◌∷◌, Ok, Err, inl, inr, refl, sym, subst}
+use Rattle.rr_checkpoint.specs.Writer as writer
+use Rattle.rr_disk.specs.declared.fault.Fault.TheVariants as D
+use Rattle.rr_disk.specs.Disk.{DiskState, after_sync}
+use Rattle.rr_disk.specs.Moments.{SyncsOnce, Not_synced, Synced}
+use Rattle.rr_disk.proofs.ImageLemmas.{each_synced}
+use Rattle.rr_images.specs.Layout.{Keeps as KeepsFile}
+use Rattle.rr_kit.specs.declared.kit.Kit.{Kit}
+use Rattle.rr_kit.specs.Kits.{KitTexts, SpellsKit}
+use Rattle.rr_opening.specs.Carrying.{CarriesRead}
+use Rattle.rr_opening.specs.Opened.{held_by}
+use Rattle.rr_opening.specs.Place.{GoesBehind}
+use Rattle.rr_opening.specs.Syncing.{WasSynced}
+use Rattle.rr_reading.specs.declared.fault.Fault as reading
+use Rattle.rr_reading.specs.declared.fault.Fault.TheVariants as R
+use Rattle.rr_reading.specs.Faults as reading_of
+use Rattle.rr_reading.specs.Held.{Held}
+use Rattle.rr_reading.specs.Reading.{Holds}
+use Rattle.rr_records.specs.Headline.{KeepsTables}
+use Rattle.rr_records.specs.Taking.{table_files}
+use Rattle.rr_records.specs.Words.{in_words}
+use Rattle.rr_recovery.specs.declared.fault.Damage.{Damage}
+use Rattle.rr_recovery.specs.declared.fault.Fault as recovery
+use Rattle.rr_recovery.specs.declared.fault.Fault.TheVariants as C
+use Rattle.rr_recovery.specs.Recovery as recovers
+use Rattle.rr_tables.specs.Tables.{world_of}
+use Rattle.rr_worlds.specs.World as words
+use Rattle.rr_table_store.specs.declared.fault.Fault.{Fault}
+use Rattle.rr_table_store.specs.declared.found.Found.{Found}
+use Rattle.rr_table_store.specs.declared.store.Store.{Store}
+use Rattle.rr_table_store.specs.Allowing.{Between, Keeps}
+use Rattle.rr_table_store.specs.Fault.{of_reading, of_recovery}
+use Rattle.rr_table_store.specs.Files.{StandsFor}
+use Rattle.rr_table_store.specs.Holding.{Carries, disk_of, held_of}
+use Rattle.rr_table_store.specs.Opening.{IsFound, IsNoVerdict, OpenAllows, Refuses}
+use Rattle.rr_table_store.specs.World.{World}
+use Rattle.rr_table_store.proofs.Recovering.{stands_now}
+
+-- refusals of the layers below
+
+pub calm_read : (fault : reading.Fault) → reading_of.IsNoVerdict fault → IsNoVerdict (of_reading fault)
+calm_read (R.Damaged damage) none = absurd none
+calm_read R.NotAStore none = absurd none
+calm_read (R.Disk D.DeviceFailed) none = inl refl
+calm_read (R.Disk D.OutOfMemory) none = inr refl
+calm_read R.OutOfMemory none = inr refl
+
+module _ (file : List ℕ) (has : Held) (holds : Holds file has) where
+  pub refuses_recovered : (fault : recovery.Fault) → recovers.Refuses has fault → Refuses file (of_recovery fault)
+  refuses_recovered (C.Damaged damage) broken = inr (record { has = has; holds = holds; damage = damage; broken = broken; numbered = refl })
+  refuses_recovered C.OutOfMemory broken = tt
+
+pub calm_recovered : (has : Held) → ((damage : Damage) → recovers.IsDamage has damage → ⊥) → (fault : recovery.Fault) → recovers.Refuses has fault → IsNoVerdict (of_recovery fault)
+calm_recovered has never (C.Damaged damage) broken = absurd (never damage broken)
+calm_recovered has never C.OutOfMemory broken = inr refl
+
+-- the moments of an opening
+pub opened_by : (past_old : List DiskState) (old : DiskState) (past_new : List DiskState) (new : DiskState) (texts : KitTexts) (tables : World) → WasSynced past_old old past_new new
+    → StandsFor old.content texts tables → Between past_old old past_new new (λ moments. OpenAllows old moments new (Ok (texts, tables)))
+opened_by past_old old past_new new texts tables was stands =
+    record {
+      moments = after_sync old ∷ [];
+      passed = λ i. was.settled i ∷ was.passed i;
+      allowed = (
+        stands,
+        refl,
+        subst (λ (state : DiskState). Keeps state texts tables) (sym was.settled) (each_synced old (λ image. StandsFor image texts tables) stands),
+      );
+    }
+
+pub left_by : (past_old : List DiskState) (old : DiskState) (past_new : List DiskState) (new : DiskState) (fault : Fault) → SyncsOnce past_old old past_new new → Refuses old.content fault
+    → Between past_old old past_new new (λ moments. OpenAllows old moments new (Err fault))
+left_by past_old old past_new new fault (Not_synced same_past same_state) why =
+    record { moments = []; passed = λ i. same_state i ∷ same_past i; allowed = (inl refl, why) }
+left_by past_old old past_new new fault (Synced passed settled) why =
+    record { moments = after_sync old ∷ []; passed = λ i. settled i ∷ passed i; allowed = (inr refl, why) }
+
+module _ {D : Type 0} (Honest : D → Type 0) (state : D → DiskState) (past : D → List DiskState) (old then : D) (store : Store D) (found : Found)
+    (disk_is : disk_of store ≡ then) (kit_is : (held_of store).kit ≡ found.recovered.tables.kit) (tables_are : (held_of store).tables ≡ world_of found.recovered.tables)
+    (is_found : Honest then → IsFound (state old).content found) where
+  -- the store holds what the file stands for
+  pub opened_store : (Honest then → WasSynced (past old) (state old) (past then) (state then)) → Honest (disk_of store)
+      → (texts : KitTexts) × Between (past old) (state old) (past (disk_of store)) (state (disk_of store))
+      (λ moments. OpenAllows (state old) moments (state (disk_of store)) (Ok (texts, (held_of store).tables))) × SpellsKit texts (held_of store).kit
+  opened_store was h =
+      let honest = subst Honest disk_is h in
+      let r = (is_found honest).recovered in
+      let stands = stands_now (held_by found.opened) found.recovered r (state old).content (is_found honest).holds in
+      let opened = opened_by (past old) (state old) (past then) (state then) r.texts (world_of found.recovered.tables) (was honest) stands in
+      let of_store = subst (λ (w : World). Between (past old) (state old) (past then) (state then) (λ moments. OpenAllows (state old) moments (state then) (Ok (r.texts, w)))) (sym tables_are) opened in (
+        r.texts,
+        subst (λ (d : D). Between (past old) (state old) (past d) (state d) (λ moments. OpenAllows (state old) moments (state d) (Ok (r.texts, (held_of store).tables)))) (sym disk_is) of_store,
+        subst (λ (k : Kit). SpellsKit r.texts k) (sym kit_is) r.told.right,
+      )
+
+  -- and goes on with a file that keeps it
+  pub carries_store : ((file : List ℕ) (texts : KitTexts) → IsFound file found → writer.ticks_left_of found.opened.writer ≡ 0
+      → GoesBehind (held_by found.opened).root (held_by found.opened).near (held_by found.opened).far (writer.place_of found.opened.writer)
+      → CarriesRead table_files found.opened (state then) (in_words texts (world_of found.recovered.tables)) → Carries state store texts)
+      → writer.ticks_left_of found.opened.writer ≡ 0
+      → (Honest then → GoesBehind (held_by found.opened).root (held_by found.opened).near (held_by found.opened).far (writer.place_of found.opened.writer))
+      → (Honest then → (world : words.World) → KeepsFile table_files (state old).content world → CarriesRead table_files found.opened (state then) world)
+      → Honest (disk_of store) → (texts : KitTexts) → KeepsTables texts (held_of store).tables (state old).content → Carries state store texts
+  carries_store begun resting place goes_on h texts keeps =
+      let honest = subst Honest disk_is h in
+      begun (state old).content texts (is_found honest) resting (place honest)
+      (goes_on honest (in_words texts (world_of found.recovered.tables)) (subst (λ (w : World). KeepsTables texts w (state old).content) tables_are keeps))

@@ -1,0 +1,12 @@
+use Rattle.std.proofs.Common.{◌⊎◌, ℕ, List, [], inl}
+use Rattle.rr_disk.proofs.MomentLemmas.{started}
+use Rattle.rr_pages.specs.Choosing.{IsNoStore}
+use Rattle.rr_records.specs.Headline.{KeepsTables}
+use Rattle.rr_table_store.specs.Lent.{lent_texts}
+use Rattle.rr_table_store.proofs.formatting.format.Goals as goal
+
+pub returns-in_err-judge_kit-clause-stops : goal.returns-in_err-judge_kit-clause-stops
+returns-in_err-judge_kit-clause-stops g c = λ honest unused.
+    let disk = c.args.disk.now in
+    started (g.D.Disk.past disk) (g.D.Disk.state disk) (λ (image : List ℕ). IsNoStore image ⊎ KeepsTables (lent_texts c.args.texts) [] image)
+    (λ image is. inl (unused.none image is))

@@ -1,0 +1,18 @@
+use Rattle.rr_table_store.proofs.Openings.{carries_store, left_by, opened_store}
+use Rattle.rr_table_store.proofs.opening.open.Goals as goal
+
+pub returns-in-Ok-clause-opened : goal.returns-in-Ok-clause-opened
+returns-in-Ok-clause-opened g c =
+    opened_store g.D.Disk.Honest g.D.Disk.state g.D.Disk.past c.args.disk c.find.new.disk c.begin.result c.in-Ok.found
+    c.begin.ensures.disk c.begin.ensures.kit c.begin.ensures.tables c.in-Ok.ensures.found c.in-Ok.ensures.synced
+
+pub returns-in-Ok-clause-carries : goal.returns-in-Ok-clause-carries
+returns-in-Ok-clause-carries g c =
+    carries_store g.D.Disk.Honest g.D.Disk.state g.D.Disk.past c.args.disk c.find.new.disk c.begin.result c.in-Ok.found
+    c.begin.ensures.disk c.begin.ensures.kit c.begin.ensures.tables c.in-Ok.ensures.found
+    c.begin.ensures.carries c.in-Ok.ensures.resting c.in-Ok.ensures.place c.in-Ok.ensures.goes_on
+
+pub returns-in-Err-clause-left : goal.returns-in-Err-clause-left
+returns-in-Err-clause-left g c = λ honest.
+    left_by (g.D.Disk.past c.args.disk) (g.D.Disk.state c.args.disk) (g.D.Disk.past c.find.new.disk) (g.D.Disk.state c.find.new.disk) c.in-Err.fault
+    (c.in-Err.ensures.left honest) (c.in-Err.ensures.refused honest)

@@ -1,0 +1,49 @@
+-- What a commit does to a store.
+use Rattle.std.specs.Prelude.{◌≡◌, ℕ, ◌+◌, ◌≤◌, false, List, Result, Ok, Err}
+use Rattle.rr_disk.specs.Disk.{DiskState}
+use Rattle.rr_code.specs.declared.command.Command.{Command}
+use Rattle.rr_turns.specs.declared.request.Request.{Request}
+use Rattle.rr_kit.specs.Kits.{KitTexts}
+use Rattle.rr_table_store.specs.declared.fault.Fault.{Fault}
+use Rattle.rr_table_store.specs.declared.fault.Fault.TheVariants as F
+use Rattle.rr_table_store.specs.declared.store.Store.{Store}
+use Rattle.rr_table_store.specs.Allowing.{Between, CommitAllows}
+use Rattle.rr_table_store.specs.Fault.{CountsEnd}
+use Rattle.rr_table_store.specs.Held.{Takes}
+use Rattle.rr_table_store.specs.Holding.{Carries, IsFull, IsUnchanged, Rests, disk_of, held_of, number_of_next}
+use Rattle.rr_table_store.specs.World.{for_table}
+
+-- the number of the next record: one more behind a request that was taken; where the device failed it isn't known
+abbrev pub NumberBehind : Result ℕ Fault → ℕ → ℕ → Type 0
+NumberBehind (Ok _) old new = new ≡ old + 1
+NumberBehind (Err F.DeviceFailed) old new = Unit {0}
+NumberBehind (Err fault) old new = new ≡ old
+
+-- a refusal by the rules, or of a store that is broken, leaves all as it was; where the file is full or memory was wanted,
+-- steps of a checkpoint may have been made
+abbrev pub Spares : {D : Type 0} → Store D → Result ℕ Fault → Store D → Type 0
+Spares old (Ok _) new = Unit {0}
+Spares old (Err F.DeviceFailed) new = Unit {0}
+Spares old (Err F.FileFull) new = Unit {0}
+Spares old (Err F.OutOfMemory) new = Unit {0}
+Spares old (Err fault) new = IsUnchanged old new
+
+-- What a commit does, by its result: what the store holds then; and, on an honest disk that carries what was held, what the
+-- disk passed through, and that it carries what is held now. Of every disk: the number of the next record; that a refusal by
+-- the rules changes nothing; a device fault is told exactly where the disk counts one; at most three writes and three syncs,
+-- where no checkpoint is under way or due; and that the file is full, only where it has no room for the request or no number.
+pub record Commits {D : Type 0} (Honest Works : D → Type 0) (state : D → DiskState) (past : D → List DiskState) (faults writes syncs : D → ℕ)
+    (old : Store D) (name : List ℕ) (stamp : ℕ) (request : Request Command) (new : Store D) (result : Result ℕ Fault) : Type 0 where
+  pub takes : Takes (held_of old) stamp name request (held_of new) result
+  pub honest : Honest (disk_of new) → Honest (disk_of old)
+  pub allowed : Honest (disk_of new) → (texts : KitTexts) → Carries state old texts
+      → Between (past (disk_of old)) (state (disk_of old)) (past (disk_of new)) (state (disk_of new))
+      (λ moments. CommitAllows texts (held_of old).kit (held_of old).tables stamp (for_table name request) (state (disk_of old)) moments (state (disk_of new)) result)
+  pub carries : Honest (disk_of new) → (held_of new).broken ≡ false → (texts : KitTexts) → Carries state old texts → Carries state new texts
+  pub number : NumberBehind result (number_of_next old) (number_of_next new)
+  pub spares : Spares old result new
+  pub counts : CountsEnd (faults (disk_of old)) (faults (disk_of new)) result
+  pub works : Works (disk_of new) → Works (disk_of old)
+  pub few_writes : Rests old → writes (disk_of new) ≤ writes (disk_of old) + 3
+  pub few_syncs : Rests old → syncs (disk_of new) ≤ syncs (disk_of old) + 3
+  pub full : result ≡ Err F.FileFull → IsFull new name request

@@ -1,0 +1,64 @@
+-- What a store holds, and what is known of it between two calls.
+use Rattle.std.specs.Prelude.{◌≡◌, ℕ, ◌-◌, List}
+use Rattle.rr_code.specs.declared.command.Command.{Command}
+use Rattle.rr_code.specs.Request.{record_text}
+use Rattle.rr_disk.specs.Disk.{DiskState}
+use Rattle.rr_kit.specs.Kits.{KitTexts, SpellsKit}
+use Rattle.rr_log.specs.declared.log.Log.{Log}
+use Rattle.rr_log.specs.Carrying as file
+use Rattle.rr_log.specs.Log as log
+use Rattle.rr_records.specs.declared.rules.TableRules.{TableRules}
+use Rattle.rr_records.specs.Taking.{Takes}
+use Rattle.rr_records.specs.Words.{in_words}
+use Rattle.rr_tables.specs.Tables.{world_of}
+use Rattle.rr_turns.specs.declared.request.Request.{Request}
+use Rattle.rr_table_store.specs.declared.store.Store.{Store}
+use Rattle.rr_table_store.specs.Files.{AreTablesOf}
+use Rattle.rr_table_store.specs.Held.{Held}
+use Rattle.rr_table_store.specs.Keeping as keeping
+
+-- its open file
+abbrev pub file_of : {D : Type 0} → Store D → Log D TableRules
+file_of store = store.journal.file
+
+-- the disk on which the file stands
+abbrev pub disk_of : {D : Type 0} → Store D → D
+disk_of store = log.disk_of store.journal.file
+
+abbrev pub held_of : {D : Type 0} → Store D → Held
+held_of store = record { kit = store.tables.kit; tables = world_of store.tables; broken = log.is_broken store.journal.file }
+
+-- the number of the next record, and of the last one: 0 in a new file
+abbrev pub number_of_next : {D : Type 0} → Store D → ℕ
+number_of_next store = log.next_number store.journal.file
+
+abbrev pub last_of : {D : Type 0} → Store D → ℕ
+last_of store = number_of_next store - 1
+
+-- the number of the root that is taken
+abbrev pub root_of : {D : Type 0} → Store D → ℕ
+root_of store = log.root_number store.journal.file
+
+-- how many ticks the checkpoint under way has left, 0 without one
+abbrev pub ticks_left : {D : Type 0} → Store D → ℕ
+ticks_left store = log.ticks_left store.journal.file
+
+-- the half in use has no room for the record of this request, or the record's number would be past the last
+abbrev pub IsFull : {D : Type 0} → Store D → List ℕ → Request Command → Type 0
+IsFull store name request = keeping.IsFull store.journal.file (record_text name request)
+
+-- no checkpoint is under way, and none is to begin
+abbrev pub Rests : {D : Type 0} → Store D → Type 0
+Rests store = keeping.Rests store.journal.file
+
+-- Whatever a stop leaves now, the file keeps these texts of the kit and what the store holds, and the open file goes on behind
+-- it: on this a call rests, and this it carries on.
+pub record Carries {D : Type 0} (state : D → DiskState) (store : Store D) (texts : KitTexts) : Type 0 where
+  pub right : SpellsKit texts (held_of store).kit
+  pub tables_of_kit : AreTablesOf (held_of store).kit (held_of store).tables
+  pub file : file.Carries Takes (file_of store) (state (disk_of store)) (in_words texts (held_of store).tables)
+
+-- the file, and so the disk, and what is held are as they were
+pub record IsUnchanged {D : Type 0} (old new : Store D) : Type 0 where
+  pub same_file : file_of new ≡ file_of old
+  pub same_held : held_of new ≡ held_of old

@@ -1,0 +1,13 @@
+pub mod Fault
+pub mod World
+pub mod Files
+pub mod Allowing
+pub mod Held
+pub mod Lent
+pub mod Formatting
+pub mod Keeping
+pub mod Holding
+pub mod Committing
+pub mod Ticking
+pub mod Opening
+pub mod Laws

@@ -1,0 +1,12 @@
+use rr_opening::Opened;
+use rr_records::TableRules;
+use rr_recovery::Recovered;
+use rr_worlds::Worlds;
+
+/// What was found in a file: what its bytes hold, the tables that are recovered of that, and room for a record.
+#[derive(Drop)]
+pub(crate) struct Found {
+    pub(crate) opened: Opened<Worlds<TableRules>>,
+    pub(crate) recovered: Recovered,
+    pub(crate) buffer: Vec<u8>,
+}

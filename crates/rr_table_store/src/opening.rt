@@ -1,0 +1,168 @@
+//! Opening a file: after one sync its bytes are read, and its tables are recovered by the rules of the game.
+ghost use Rattle.std.specs.Prelude.{◌≡◌, ◌+◌, ◌≤◌, ℕ, List, false, IfOk, IfErr, Ok, Err};
+ghost use Rattle.std.specs.Str.{IsUtf8};
+ghost use Rattle.rr_checkpoint.specs.Writer as writer;
+ghost use Rattle.rr_disk.specs.Disk.{DiskState, counted};
+ghost use Rattle.rr_disk.specs.Moments.{SyncsOnce};
+ghost use Rattle.rr_images.specs.Layout.{Keeps as KeepsFile};
+ghost use Rattle.rr_kit.specs.declared.kit.Kit.{Kit as AnyKit};
+ghost use Rattle.rr_kit.specs.Kits.{KitTexts, SpellsKit};
+ghost use Rattle.rr_opening.specs.Carrying.{CarriesRead};
+ghost use Rattle.rr_opening.specs.Opened.{held_by};
+ghost use Rattle.rr_opening.specs.Place.{GoesBehind};
+ghost use Rattle.rr_opening.specs.Syncing.{WasSynced};
+ghost use Rattle.rr_records.specs.Headline.{KeepsTables};
+ghost use Rattle.rr_records.specs.Taking.{table_files};
+ghost use Rattle.rr_records.specs.World.{World};
+ghost use Rattle.rr_records.specs.Words.{in_words};
+ghost use Rattle.rr_tables.specs.Tables.{world_of};
+ghost use Rattle.rr_worlds.specs.World as words;
+ghost use Rattle.rr_table_store.specs.Allowing.{Between};
+ghost use Rattle.rr_table_store.specs.Fault.{CountsEnd, CountsFailure};
+ghost use Rattle.rr_table_store.specs.Files.{AreTablesOf};
+ghost use Rattle.rr_table_store.specs.Holding.{Carries, disk_of, held_of};
+ghost use Rattle.rr_table_store.specs.Opening.{IsFound, IsNoVerdict, OpenAllows, Refuses};
+
+use crate::fault::Fault;
+use crate::found::Found;
+use crate::journal::FileJournal;
+use crate::store::Store;
+use rr_disk::Disk;
+use rr_log::Log;
+use rr_opening::{Opened, open_file};
+use rr_records::TableRules;
+use rr_recovery::{Recovered, recover};
+use rr_worlds::Worlds;
+use std::alloc::Global;
+
+/// Room for a record: no line is longer.
+const RECORD_ROOM: usize = 8_000;
+
+/// Why a file couldn't be opened, and the disk, whose bytes are as they were.
+#[derive(Drop)]
+pub struct Refused<D: Drop> {
+    pub fault: Fault,
+    pub disk: D,
+}
+
+/// Opens a file that `format` made. It makes a sync, and no write.
+///
+/// # Errors
+/// `DeviceFailed`; `NotAStore` where the file has no roots of this version; `Damaged` with the least clause that it breaks:
+/// 1 to 5 of its bytes, 5 where kept words spell no command, 6 where a text of the kit is wrong, 7 where a table keeps what
+/// wasn't played, and 8 where a record isn't a request that its table could take; `OutOfMemory`.
+pub fn open<D: Disk + Drop>(alloc: Global, disk: D) -> Result<Store<D>, Refused<D>>
+    // The store holds the world for which the file stands; else the file breaks a clause, or the device failed or memory was
+    // wanted.
+    ensures opened { IfOk result (λ store. D.Honest (disk_of store) → (texts : KitTexts)
+        × Between (D.past disk) (D.state disk) (D.past (disk_of store)) (D.state (disk_of store))
+        (λ moments. OpenAllows (D.state disk) moments (D.state (disk_of store)) (Ok (texts, (held_of store).tables)))
+        × SpellsKit texts (held_of store).kit) }
+    ensures left { IfErr result (λ refused. D.Honest refused.disk
+        → Between (D.past disk) (D.state disk) (D.past refused.disk) (D.state refused.disk)
+        (λ moments. OpenAllows (D.state disk) moments (D.state refused.disk) (Err refused.fault))) }
+
+    // Where the file is one of ours, the store goes on with it.
+    ensures carries { IfOk result (λ store. D.Honest (disk_of store) → (texts : KitTexts)
+        → KeepsTables texts (held_of store).tables (D.state disk).content → Carries D.state store texts) }
+
+    // And then it is refused only where the device failed or memory was wanted.
+    ensures only { IfErr result (λ refused. D.Honest refused.disk → (texts : KitTexts) (kit : AnyKit) (tables : World)
+        → SpellsKit texts kit → IsUtf8 texts.roster → AreTablesOf kit tables
+        → KeepsTables texts tables (D.state disk).content → IsNoVerdict refused.fault) }
+
+    ensures whole { IfOk result (λ store. (held_of store).broken ≡ false) }
+    ensures honest { IfOk result (λ store. D.Honest (disk_of store) → D.Honest disk) }
+    ensures honest_left { IfErr result (λ refused. D.Honest refused.disk → D.Honest disk) }
+    ensures works { IfOk result (λ store. D.Works (disk_of store) → D.Works disk) }
+    ensures works_left { IfErr result (λ refused. D.Works refused.disk → D.Works disk) }
+    ensures writes { IfOk result (λ store. D.write_count (disk_of store) ≡ D.write_count disk) }
+    ensures writes_left { IfErr result (λ refused. D.write_count refused.disk ≡ D.write_count disk) }
+    ensures syncs { IfOk result (λ store. D.sync_count (disk_of store) ≡ counted (D.sync_count disk)) }
+    ensures syncs_left { IfErr result (λ refused. D.sync_count refused.disk ≤ D.sync_count disk + 1) }
+    ensures no_fault { IfOk result (λ store. D.fault_count (disk_of store) ≡ D.fault_count disk) }
+    ensures fault { IfErr result (λ refused.
+        CountsFailure (D.fault_count disk) (D.fault_count refused.disk) refused.fault) }
+{
+    let mut disk = disk;
+    match find(alloc, &mut disk) {
+        Ok(found) => Ok(begin(alloc, disk, found)),
+        Err(fault) => Err(Refused { fault, disk }),
+    }
+}
+
+/// Reads the file behind a sync, and recovers its tables.
+fn find<D: Disk>(alloc: Global, disk: &mut D) -> Result<Found, Fault>
+    ensures found { IfOk result (λ found. D.Honest disk.new → IsFound (D.state disk.old).content found) }
+    ensures goes_on { IfOk result (λ found. D.Honest disk.new → (world : words.World)
+        → KeepsFile table_files (D.state disk.old).content world
+        → CarriesRead table_files found.opened (D.state disk.new) world) }
+    ensures place { IfOk result (λ found. D.Honest disk.new → GoesBehind (held_by found.opened).root
+        (held_by found.opened).near (held_by found.opened).far (writer.place_of found.opened.writer)) }
+    ensures resting { IfOk result (λ found. writer.ticks_left_of found.opened.writer ≡ 0) }
+    ensures synced { IfOk result (λ found. D.Honest disk.new
+        → WasSynced (D.past disk.old) (D.state disk.old) (D.past disk.new) (D.state disk.new)) }
+    ensures left { IfErr result (λ fault. D.Honest disk.new
+        → SyncsOnce (D.past disk.old) (D.state disk.old) (D.past disk.new) (D.state disk.new)) }
+    ensures refused { IfErr result (λ fault. D.Honest disk.new → Refuses (D.state disk.old).content fault) }
+    ensures only { IfErr result (λ fault. D.Honest disk.new → (texts : KitTexts) (kit : AnyKit) (tables : World)
+        → SpellsKit texts kit → IsUtf8 texts.roster → AreTablesOf kit tables
+        → KeepsTables texts tables (D.state disk.old).content → IsNoVerdict fault) }
+    ensures fault { CountsEnd (D.fault_count disk.old) (D.fault_count disk.new) result }
+    ensures writes { D.write_count disk.new ≡ D.write_count disk.old }
+    ensures syncs { IfOk result (λ found. D.sync_count disk.new ≡ counted (D.sync_count disk.old)) }
+    ensures few_syncs { D.sync_count disk.new ≤ D.sync_count disk.old + 1 }
+    ensures honest { D.Honest disk.new → D.Honest disk.old }
+    ensures works { D.Works disk.new → D.Works disk.old }
+{
+    let buffer = make_buffer(alloc)?;
+    let opened = open_file::<D, Worlds<TableRules>>(alloc, disk)?;
+    let recovered = recover::<TableRules>(alloc, &opened)?;
+    Ok(Found {
+        opened,
+        recovered,
+        buffer,
+    })
+}
+
+fn make_buffer(alloc: Global) -> Result<Vec<u8>, Fault>
+    ensures { IfErr result (λ fault. fault ≡ Fault.OutOfMemory) }
+{
+    let buffer = Vec::with_capacity(alloc, RECORD_ROOM)?;
+    Ok(buffer)
+}
+
+/// The store of what was found on this disk.
+fn begin<D: Disk + Drop>(alloc: Global, disk: D, found: Found) -> Store<D>
+    ensures disk { disk_of result ≡ disk }
+    ensures kit { (held_of result).kit ≡ found.recovered.tables.kit }
+    ensures tables { (held_of result).tables ≡ world_of found.recovered.tables }
+    ensures whole { (held_of result).broken ≡ false }
+    ensures carries { (file : List ℕ) (texts : KitTexts) → IsFound file found
+        → writer.ticks_left_of found.opened.writer ≡ 0
+        → GoesBehind (held_by found.opened).root (held_by found.opened).near (held_by found.opened).far (writer.place_of found.opened.writer)
+        → CarriesRead table_files found.opened (D.state disk) (in_words texts (world_of found.recovered.tables))
+        → Carries D.state result texts }
+{
+    let Found {
+        opened,
+        recovered,
+        buffer,
+    } = found;
+    let Recovered { tables, kit, base } = recovered;
+    let Opened {
+        writer,
+        dir: _,
+        directory: _,
+        texts: _,
+        tables: _,
+        near: _,
+        far: _,
+    } = opened;
+    let file = Log::new(alloc, disk, writer, kit, base);
+    Store {
+        alloc,
+        journal: FileJournal { file, buffer },
+        tables,
+    }
+}

@@ -1,0 +1,4 @@
+pub mod Outcomes
+pub mod WorldLemmas
+pub mod WritableLemmas
+pub mod WordLemmas

@@ -1,0 +1,15 @@
+use Rattle.std.proofs.Common.{◌∙◌, Some, ap, option_map, refl, sym}
+use Rattle.rr_hist.specs.declared.table.Table.{Table}
+use Rattle.rr_hist.specs.Tables.{kept_in}
+use Rattle.rr_tables.specs.Tables.{kept_in_box}
+use Rattle.rr_tables.proofs.WorldLemmas.{named_by}
+use Rattle.rr_tables.proofs.tables.Tables.table.Goals as goal
+
+pub returns-in-Some-clause-value : goal.returns-in-Some-clause-value
+returns-in-Some-clause-value c =
+    named_by kept_in_box c.args.name.now c.args.self.now.map.entries ∙ ap (option_map kept_in_box) (sym c.in-Some.ensures.value)
+    ∙ ap (λ (t : Table). Some (kept_in t)) (sym c.deref.ensures)
+
+pub returns-in-None-clause-value : goal.returns-in-None-clause-value
+returns-in-None-clause-value c =
+    (refl, named_by kept_in_box c.args.name.now c.args.self.now.map.entries ∙ ap (option_map kept_in_box) (sym c.in-None.ensures.value))

@@ -1,0 +1,21 @@
+-- A change of a table in memory.
+use Rattle.std.specs.Prelude.{Option, None, Some}
+use Rattle.std.specs.Global.{Box}
+use Rattle.rr_code.specs.declared.command.Command.{Command}
+use Rattle.rr_hist.specs.declared.change.Change.{Change}
+use Rattle.rr_hist.specs.declared.table.Table.{Table}
+use Rattle.rr_hist.specs.Changing.{IsChangeBy, kept_with}
+use Rattle.rr_hist.specs.Tables.{kept_in}
+use Rattle.rr_kit.specs.declared.kit.Kit.{Kit}
+use Rattle.rr_turns.specs.declared.request.Request.{Request}
+use Rattle.rr_tables.specs.Writable.{IsWritable}
+
+-- the change is what this request makes of the table, and a checkpoint can write what it then keeps
+pub record IsWritableChange (kit : Kit) (table : Table) (request : Request Command) (change : Change) : Type 0 where
+  pub by : IsChangeBy kit (kept_in table) request change
+  pub writable : IsWritable (kept_with (kept_in table) change)
+
+-- there is a table, and the change is such a change of it
+abbrev pub IsChangeOf : Kit → Option (Box Table) → Request Command → Change → Type 0
+IsChangeOf kit None request change = ⊥
+IsChangeOf kit (Some table) request change = IsWritableChange kit table.value request change

@@ -1,0 +1,6 @@
+pub mod Fault
+pub mod Writable
+pub mod Tables
+pub mod Changing
+pub mod Taking
+pub mod InWords

@@ -1,0 +1,54 @@
+ghost use Rattle.std.specs.Prelude.{◌≡◌};
+ghost use Rattle.rr_records.specs.declared.fault.Fault.TheVariants as R;
+ghost use Rattle.rr_tables.specs.Fault.{number_of};
+ghost use Rattle.rr_tables.specs.declared.fault.Fault.TheVariants.{File, Rules};
+
+use std::alloc::AllocError;
+use thiserror::Error;
+
+/// Why a request isn't taken.
+#[derive(Clone, Copy, Debug, Drop, PartialEq, Eq, Error)]
+pub enum Fault {
+    /// The rules refuse it. `OutOfMemory` among these: memory was wanted before its record was to be kept.
+    #[error("{0}")]
+    Rules(rr_records::Fault),
+    /// It is lawful, but what keeps its record refused.
+    #[error("{0}")]
+    File(rr_log::Fault),
+}
+
+impl Fault {
+    /// The number that a reply gives.
+    pub fn number(&self) -> u8
+        ensures { result ≡ number_of self.now }
+    {
+        match self {
+            Fault::Rules(fault) => fault.number(),
+            Fault::File(fault) => fault.number(),
+        }
+    }
+}
+
+impl From<rr_records::Fault> for Fault {
+    ghost from_gives = { λ fault wrapped. wrapped ≡ Rules fault };
+
+    fn from(fault: rr_records::Fault) -> Fault {
+        Fault::Rules(fault)
+    }
+}
+
+impl From<rr_log::Fault> for Fault {
+    ghost from_gives = { λ fault wrapped. wrapped ≡ File fault };
+
+    fn from(fault: rr_log::Fault) -> Fault {
+        Fault::File(fault)
+    }
+}
+
+impl From<AllocError> for Fault {
+    ghost from_gives = { λ _ fault. fault ≡ Rules R.OutOfMemory };
+
+    fn from(_error: AllocError) -> Fault {
+        Fault::Rules(rr_records::Fault::OutOfMemory)
+    }
+}

@@ -1,0 +1,155 @@
+ghost use Rattle.std.specs.Prelude.{◌≡◌, ◌+◌, ◌*◌, ◌<◌, ◌≤◌, length, List, ℕ, IfSome, None, Some, [], ◌∷◌, ◌++◌, IfOk, IfErr, MatchResult, bytes_eq, option_map, slice_get, take};
+ghost use Rattle.std.specs.Option.{option_copied};
+ghost use Rattle.std.proofs.Props.{props};
+ghost use Rattle.indexmap.specs.IndexMap.{get, index_map_len, spare};
+ghost use Rattle.rr_hist.specs.Tables.{IsPlayed, kept_in};
+ghost use Rattle.rr_records.specs.declared.fault.Fault.TheVariants as R;
+ghost use Rattle.rr_tables.specs.Writable.{IsWritable};
+
+use crate::Fault;
+use indexmap::IndexMap;
+use rr_hist::Table;
+use rr_kit::Kit;
+use rr_words::Name;
+use std::alloc::Global;
+
+/// The most tables of a store.
+pub(crate) const MOST_TABLES: usize = 64;
+
+/// The tables of a store, in the order of their opening: at most 64, each played by the rules of one kit.
+#[derive(Drop)]
+pub struct Tables {
+    pub(crate) kit: Kit,
+    pub(crate) map: IndexMap<Name, Box<Table>>,
+    ghost room: { 64 ≤ index_map_len map + spare map },
+    ghost few: { index_map_len map ≤ 64 },
+    ghost played: { (name : List ℕ) → IfSome (get bytes_eq map name) (λ table. IsPlayed kit table.value) } by { Prim.hlevel props },
+    ghost writable: { (name : List ℕ) → IfSome (get bytes_eq map name) (λ table. IsWritable (kept_in table.value)) } by { Prim.hlevel props },
+}
+
+impl Tables {
+    ghost use Rattle.rr_records.specs.World.{names, present_stamp, requests_in, table_named};
+    ghost use Rattle.rr_tables.specs.Tables.{kept_in_box, world_of};
+
+    /// No table, with room for as many as there may be.
+    ///
+    /// # Errors
+    /// `OutOfMemory`, as a fault of the rules.
+    pub fn new(alloc: Global, kit: Kit) -> Result<Tables, Fault>
+        ensures kit { IfOk result (λ tables. tables.kit ≡ kit) }
+        ensures empty { IfOk result (λ tables. world_of tables ≡ []) }
+        ensures memory { IfErr result (λ fault. fault ≡ Fault.Rules R.OutOfMemory) }
+    {
+        Ok(Tables {
+            kit,
+            map: IndexMap::with_capacity(alloc, MOST_TABLES)?,
+        })
+    }
+
+    /// What the tables are played with.
+    pub fn kit(&self) -> &Kit
+        ensures { result.now ≡ self.now.kit }
+    {
+        &self.kit
+    }
+
+    /// How many tables there are.
+    pub fn count(&self) -> usize
+        ensures value { result ≡ length (world_of self.now) }
+        ensures few { result ≤ 64 }
+    {
+        self.map.len()
+    }
+
+    /// The name of the table at a place in the order of opening, from 0, if there is one.
+    pub fn name(&self, place: usize) -> Option<&Name>
+        ensures { option_copied result ≡ slice_get (names (world_of self.now)) place }
+    {
+        match self.map.get_index(place) {
+            Some((name, _)) => Some(name),
+            None => None,
+        }
+    }
+
+    /// The table of this name.
+    ///
+    /// # Errors
+    /// `NoSuchTable`, as a fault of the rules.
+    pub fn table(&self, name: &Name) -> Result<&Table, Fault>
+        ensures value { MatchResult result
+            (λ table. table_named (world_of self.now) name.now ≡ Some (kept_in table.now))
+            (λ fault. (fault ≡ Fault.Rules R.NoSuchTable) × (table_named (world_of self.now) name.now ≡ None)) }
+        ensures played { IfOk result (λ table. IsPlayed self.now.kit table.now) }
+    {
+        match self.map.get(name) {
+            Some(table) => Ok(&**table),
+            None => Err(Fault::Rules(rr_records::Fault::NoSuchTable)),
+        }
+    }
+
+    /// The stamp that the next request to the table of this name has to have: 0 without such a table.
+    pub fn stamp(&self, name: &Name) -> u64
+        ensures { result ≡ present_stamp (table_named (world_of self.now) name.now) }
+    {
+        match self.map.get(name) {
+            Some(table) => table.stamp(),
+            None => 0,
+        }
+    }
+
+    /// How many requests all tables have accepted.
+    pub fn requests(&self) -> u64
+        ensures { result ≡ requests_in (world_of self.now) }
+    {
+        let mut requests = 0;
+        for place in 0..self.map.len() {
+            requests += self.stamp_at(place);
+        }
+        requests
+    }
+
+    // The stamp of the table at a place in the order of opening: it has accepted so many requests.
+    fn stamp_at(&self, place: usize) -> u64
+        requires { place < length self.now.map.entries }
+        ensures more { requests_in (take (place + 1) (world_of self.now)) ≡ requests_in (take place (world_of self.now)) + result }
+        ensures few { result ≤ 4000000000 }
+    {
+        match self.map.get_index(place) {
+            Some((_, table)) => stamp_of(table),
+            None => unreachable!(),
+        }
+    }
+
+    /// Puts a table that a file tells behind the others, under a name of its own. A checkpoint can write it: its floor is
+    /// below 2^32, and no command that it keeps has more than 65,535 bytes.
+    pub fn put(&mut self, name: Name, table: Box<Table>)
+        requires few { length (world_of self.old) < 64 }
+        requires own_name { table_named (world_of self.old) name ≡ None }
+        requires played { IsPlayed self.old.kit table.value }
+        requires writable { IsWritable (kept_in table.value) }
+        ensures last { world_of self.new ≡ world_of self.old ++ (name, kept_in_box table) ∷ [] }
+        ensures kit { self.new.kit ≡ self.old.kit }
+    {
+        self.add(name, table);
+    }
+
+    // Puts a table behind the others.
+    pub(crate) fn add(&mut self, name: Name, table: Box<Table>)
+        requires few { index_map_len self.old.map < 64 }
+        requires absent { get bytes_eq self.old.map name ≡ None }
+        requires played { IsPlayed self.old.kit table.value }
+        requires writable { IsWritable (kept_in table.value) }
+        ensures last { self.new.map.entries ≡ self.old.map.entries ++ (name, table) ∷ [] }
+        ensures kit { self.new.kit ≡ self.old.kit }
+    {
+        self.map.insert(name, table).unwrap();
+    }
+}
+
+// The stamp of a table: how many requests it has accepted.
+fn stamp_of(table: &Table) -> u64
+    ensures value { result ≡ (kept_in table.now).stamp }
+    ensures few { result ≤ 4000000000 }
+{
+    table.stamp()
+}

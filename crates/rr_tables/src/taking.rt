@@ -1,0 +1,248 @@
+//! Requests: judged, their records kept, and then taken.
+ghost use Rattle.std.specs.Prelude.{◌≡◌, ◌<◌, ℕ, false, All, List, IfOk, IfErr, OnOk, OnErr, MatchOption, MatchResult, None, Some, bytes_eq, map, option_map, option_to_list};
+ghost use Rattle.indexmap.specs.IndexMap.{get, index_map_len};
+ghost use Rattle.rr_code.specs.Command.{text};
+ghost use Rattle.rr_code.specs.Request.{IsRequest, record_text};
+ghost use Rattle.rr_code.specs.declared.command.Command.{Command as Line};
+ghost use Rattle.rr_dir.specs.Kept.{IsShort};
+ghost use Rattle.rr_hist.specs.Changing.{Fits, IsChangeBy, kept_with};
+ghost use Rattle.rr_hist.specs.Playing.{ends_turn};
+ghost use Rattle.rr_hist.specs.Tables.{IsPlayed, kept_in};
+ghost use Rattle.rr_kit.specs.declared.kit.Kit.{Kit as AnyKit};
+ghost use Rattle.rr_records.specs.World.{judgement_in, opening_verdict, state_after, step_judgement, table_named, world_after};
+ghost use Rattle.rr_records.specs.declared.fault.Fault.TheVariants as R;
+ghost use Rattle.rr_tables.specs.Changing.{IsChangeOf, IsWritableChange};
+ghost use Rattle.rr_tables.specs.Tables.{kept_in_box, world_of};
+ghost use Rattle.rr_tables.specs.Taking.{MayRefuse, Passed};
+ghost use Rattle.rr_tables.specs.Writable.{IsWritable};
+ghost use Rattle.rr_turns.specs.Judgement.{IsVerdict, MayFind, settled};
+ghost use Rattle.rr_turns.specs.Kept.{kept_after};
+ghost use Rattle.rr_turns.specs.declared.request.Request.{Request as AnyRequest};
+
+use crate::tables::MOST_TABLES;
+use crate::{Fault, Journal, Tables};
+use rr_code::{Command, Players};
+use rr_hist::{Change, Request, Table};
+use rr_kit::Kit;
+use rr_records::Fault as Refusal;
+use rr_words::Name;
+use std::alloc::Global;
+
+/// The most bytes of a command's words: a chain holds their number in two bytes.
+const LONGEST_COMMAND: usize = 65_535;
+
+impl Tables {
+    /// Judges a request, has its record kept, and lets it count; gives the table's new stamp. All memory is taken before
+    /// the record is to be kept. A refusal leaves the tables as they were.
+    ///
+    /// # Errors
+    /// As faults of the rules, of which the journal learns nothing: for an opening `StaleStamp` and `TooManyTables`; for
+    /// another request `NoSuchTable`, `StaleStamp`, `TooManyCommands`, and then `TurnNotKept` for one that takes the table
+    /// back or forgets, or what the game refuses; then `OutOfMemory`, also for a command of more than 65,535 bytes, which no
+    /// checkpoint could write. As a fault of the file what the journal refuses.
+    pub fn take<J: Journal>(
+        &mut self,
+        alloc: Global,
+        stamp: u64,
+        name: &Name,
+        request: &Request<Command>,
+        journal: &mut J,
+    ) -> Result<u64, Fault>
+        requires { IsRequest request.now }
+        ensures verdict { MatchResult result
+            (λ _. IsVerdict (judgement_in self.old.kit (world_of self.old) stamp name.now request.now) None)
+            (MayRefuse (judgement_in self.old.kit (world_of self.old) stamp name.now request.now)) }
+        ensures kept { Passed J.Keeps journal.old (world_of self.old) (record_text name.now request.now) journal.new result }
+        ensures world { OnOk result (world_of self.new ≡ world_after self.old.kit (world_of self.old) name.now request.now) }
+        ensures stamp { IfOk result (λ new. new ≡ (state_after self.old.kit (table_named (world_of self.old) name.now) request.now).stamp) }
+        ensures kit { self.new.kit ≡ self.old.kit }
+        ensures err { OnErr result (world_of self.new ≡ world_of self.old) }
+    {
+        match opening_of(request) {
+            Some(players) => self.open(alloc, stamp, name, players, journal),
+            None => self.step(alloc, stamp, name, request, journal),
+        }
+    }
+
+    // Opens a table: judges the request, has its record kept, and adds the table.
+    fn open<J: Journal>(
+        &mut self,
+        alloc: Global,
+        stamp: u64,
+        name: &Name,
+        players: &Players,
+        journal: &mut J,
+    ) -> Result<u64, Fault>
+        requires { IsRequest (Request.Play (Command.Open players.now)) }
+        ensures verdict { MatchResult result
+            (λ _. IsVerdict (settled (opening_verdict (option_map kept_in_box (get bytes_eq self.old.map name.now)) (index_map_len self.old.map) stamp)) None)
+            (MayRefuse (settled (opening_verdict (option_map kept_in_box (get bytes_eq self.old.map name.now)) (index_map_len self.old.map) stamp))) }
+        ensures kept { Passed J.Keeps journal.old (world_of self.old) (record_text name.now (Request.Play (Command.Open players.now))) journal.new result }
+        ensures world { OnOk result (world_of self.new ≡ world_after self.old.kit (world_of self.old) name.now (Request.Play (Command.Open players.now))) }
+        ensures stamp { IfOk result (λ new. (new ≡ 1) × (get bytes_eq self.old.map name.now ≡ None)) }
+        ensures kit { self.new.kit ≡ self.old.kit }
+        ensures err { OnErr result (world_of self.new ≡ world_of self.old) }
+    {
+        self.judge_opening(stamp, name)?;
+        let table = open_table(alloc, players, &self.kit)?;
+        let opening = Request::Play(Command::Open { players: *players });
+        journal.keep(self, name, &opening)?;
+        self.add(*name, table);
+        Ok(1)
+    }
+
+    fn judge_opening(&self, stamp: u64, name: &Name) -> Result<(), Refusal>
+        ensures verdict { MatchResult result
+            (λ _. opening_verdict (option_map kept_in_box (get bytes_eq self.now.map name.now)) (index_map_len self.now.map) stamp ≡ None)
+            (λ fault. opening_verdict (option_map kept_in_box (get bytes_eq self.now.map name.now)) (index_map_len self.now.map) stamp ≡ Some fault) }
+        ensures absent { OnOk result (get bytes_eq self.now.map name.now ≡ None) }
+        ensures few { OnOk result (index_map_len self.now.map < 64) }
+    {
+        if let Some(table) = self.map.get(name) {
+            return Err(Refusal::StaleStamp(table.stamp()));
+        }
+        if stamp != 0 {
+            return Err(Refusal::StaleStamp(0));
+        }
+        if self.map.len() >= MOST_TABLES {
+            return Err(Refusal::TooManyTables);
+        }
+        Ok(())
+    }
+
+    // Lets the table of this name take a request.
+    fn step<J: Journal>(
+        &mut self,
+        alloc: Global,
+        stamp: u64,
+        name: &Name,
+        request: &Request<Command>,
+        journal: &mut J,
+    ) -> Result<u64, Fault>
+        requires { IsRequest request.now }
+        ensures verdict { MatchResult result
+            (λ _. IsVerdict (step_judgement self.old.kit (option_map kept_in_box (get bytes_eq self.old.map name.now)) stamp request.now) None)
+            (MayRefuse (step_judgement self.old.kit (option_map kept_in_box (get bytes_eq self.old.map name.now)) stamp request.now)) }
+        ensures kept { Passed J.Keeps journal.old (world_of self.old) (record_text name.now request.now) journal.new result }
+        ensures world { OnOk result (world_of self.new ≡ world_after self.old.kit (world_of self.old) name.now request.now) }
+        ensures stamp { IfOk result (λ new. new ≡ (state_after self.old.kit (option_map kept_in_box (get bytes_eq self.old.map name.now)) request.now).stamp) }
+        ensures kit { self.new.kit ≡ self.old.kit }
+        ensures err { OnErr result (world_of self.new ≡ world_of self.old) }
+    {
+        let change = self.judge(alloc, stamp, name, request)?;
+        journal.keep(self, name, request)?;
+        Ok(self.change(name, change))
+    }
+
+    // Judges a request to a table that is open, and works out what it makes of it.
+    fn judge(
+        &self,
+        alloc: Global,
+        stamp: u64,
+        name: &Name,
+        request: &Request<Command>,
+    ) -> Result<Change, Refusal>
+        requires { IsRequest request.now }
+        ensures verdict { MatchResult result
+            (λ _. IsVerdict (step_judgement self.now.kit (option_map kept_in_box (get bytes_eq self.now.map name.now)) stamp request.now) None)
+            (MayFind (step_judgement self.now.kit (option_map kept_in_box (get bytes_eq self.now.map name.now)) stamp request.now) R.OutOfMemory) }
+        ensures change { IfOk result (λ change. IsChangeOf self.now.kit (get bytes_eq self.now.map name.now) request.now change) }
+    {
+        match self.map.get(name) {
+            Some(table) => judge_at(alloc, stamp, request, table, &self.kit),
+            None => Err(Refusal::NoSuchTable),
+        }
+    }
+
+    // Makes a change of the table of this name, that was worked out for it as it is; gives its new stamp.
+    fn change(&mut self, name: &Name, change: Change) -> u64
+        requires { (request : AnyRequest Line) × IsChangeOf self.old.kit (get bytes_eq self.old.map name.now) request change }
+        ensures world { (request : AnyRequest Line) → IsChangeOf self.old.kit (get bytes_eq self.old.map name.now) request change →
+            world_of self.new ≡ world_after self.old.kit (world_of self.old) name.now request }
+        ensures stamp { (request : AnyRequest Line) → IsChangeOf self.old.kit (get bytes_eq self.old.map name.now) request change →
+            result ≡ (state_after self.old.kit (option_map kept_in_box (get bytes_eq self.old.map name.now)) request).stamp }
+        ensures kit { self.new.kit ≡ self.old.kit }
+    {
+        match self.map.get_mut(name) {
+            Some(table) => make(table, change),
+            None => unreachable!(),
+        }
+    }
+}
+
+// The players of an opening, if the request is one.
+fn opening_of<'a>(request: &'a Request<Command>) -> Option<&'a Players>
+    ensures { MatchOption result ((players : List (List ℕ)) → request.now ≡ Request.Play (Command.Open players) → ⊥)
+        (λ players. request.now ≡ Request.Play (Command.Open players.now)) }
+{
+    match request {
+        Request::Play(command) => match command {
+            Command::Open { players } => Some(players),
+            _ => None,
+        },
+        Request::Back(_) | Request::Forget(_) => None,
+    }
+}
+
+// The table that these players open, in a box: a map moves its values about.
+fn open_table(alloc: Global, players: &Players, kit: &Kit) -> Result<Box<Table>, Refusal>
+    requires { IsRequest (Request.Play (Command.Open players.now)) }
+    ensures kept { IfOk result (λ table. kept_in_box table ≡ state_after kit.now None (Request.Play (Command.Open players.now))) }
+    ensures played { IfOk result (λ table. IsPlayed kit.now table.value) }
+    ensures writable { IfOk result (λ table. IsWritable (kept_in table.value)) }
+    ensures memory { IfErr result (λ fault. fault ≡ R.OutOfMemory) }
+{
+    let table = Table::open(alloc, players, kit)?;
+    match Box::new(alloc, table) {
+        Ok(table) => Ok(table),
+        Err(_) => Err(Refusal::OutOfMemory),
+    }
+}
+
+// Judges a request to this table, and works out what it makes of it. A command that no chain has room for is told as want
+// of memory.
+fn judge_at(
+    alloc: Global,
+    stamp: u64,
+    request: &Request<Command>,
+    table: &Table,
+    kit: &Kit,
+) -> Result<Change, Refusal>
+    requires request { IsRequest request.now }
+    requires played { IsPlayed kit.now table.now }
+    requires writable { IsWritable (kept_in table.now) }
+    ensures verdict { MatchResult result
+        (λ _. IsVerdict (step_judgement kit.now (Some (kept_in table.now)) stamp request.now) None)
+        (MayFind (step_judgement kit.now (Some (kept_in table.now)) stamp request.now) R.OutOfMemory) }
+    ensures change { IfOk result (λ change. IsWritableChange kit.now table.now request.now change) }
+{
+    rr_hist::laws::accepted_turns_are_kept();
+    let change = table.judge(alloc, stamp, request, kit)?;
+    if adds_long_command(&change) {
+        return Err(Refusal::OutOfMemory);
+    }
+    Ok(change)
+}
+
+// Whether the command that a change adds is too long for a chain.
+fn adds_long_command(change: &Change) -> bool
+    ensures { result ≡ false → All IsShort (map text (option_to_list change.now.added)) }
+{
+    match change.added() {
+        Some(command) => command.as_bytes().len() > LONGEST_COMMAND,
+        None => false,
+    }
+}
+
+// Makes a change of a table; gives its new stamp.
+fn make(table: &mut Box<Table>, change: Change) -> u64
+    requires { Fits (kept_in_box table.old) change }
+    ensures kept { (kit : AnyKit) (request : AnyRequest Line) → IsChangeBy kit (kept_in_box table.old) request change →
+        kept_in_box table.new ≡ kept_after (ends_turn kit) (kept_in_box table.old) request }
+    ensures played { (kit : AnyKit) (request : AnyRequest Line) → IsChangeBy kit (kept_in_box table.old) request change → IsPlayed kit table.new.value }
+    ensures with { kept_in_box table.new ≡ kept_with (kept_in_box table.old) change }
+    ensures stamp { result ≡ (kept_in_box table.new).stamp }
+{
+    table.take(change);
+    table.stamp()
+}
