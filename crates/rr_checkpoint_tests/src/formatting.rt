@@ -12,7 +12,7 @@ use std::process::Abort;
 use std::test::Fail;
 
 // Room for a file of 519 pages, and for the calls of a test.
-const ROOM: usize = 1 << 22;
+const ROOM: usize = 1 << 23;
 
 // A root: its open gate, number 1, its directory on page 518, half 0, first record 1, 519 pages, version 1.
 const ROOT: &[u8] = b"\xa5\0\0\0\0\0\0\0\x01\0\0\0\0\0\0\x02\x06\0\0\0\0\0\0\0\0\x01\
@@ -146,13 +146,13 @@ fn a_new_file_takes_a_record(rt: HostRuntime) -> Result<(), Fail> {
     Ok(())
 }
 
-// The calls are: the header written and synced, the pages written, the root written and synced, its gate written and
-// synced. Only where the last sync alone fails, a read finds the store, and a stop may leave it.
+// The calls are: the header written and synced, its zeros and the pages written, the root written and synced, its gate
+// written and synced. Only where the last sync alone fails, a read finds the store, and a stop may leave it.
 #[test]
 fn a_failing_device_leaves_no_store_or_the_whole_file(rt: HostRuntime) -> Result<(), Fail> {
     let alloc = rt.alloc();
     let no_store = Some(rr_reading::Fault::NotAStore);
-    for calls in 0..7u64 {
+    for calls in 0..8u64 {
         let mut disk = failing_after(in_memory(alloc, ROOM, b"")?, calls);
         let fault = format_short(alloc, &mut disk).err();
         assert_eq!(rt;
@@ -161,7 +161,7 @@ fn a_failing_device_leaves_no_store_or_the_whole_file(rt: HostRuntime) -> Result
             "{calls}"
         );
         let mut left = beneath(disk);
-        let whole = if calls == 6 { None } else { no_store };
+        let whole = if calls == 7 { None } else { no_store };
         assert_eq!(rt; contents(alloc, &mut left).err(), whole, "{calls}");
         assert_eq!(rt; refusal(alloc, &left, Kept::Old)?, no_store, "{calls}");
         assert_eq!(rt; refusal(alloc, &left, Kept::New)?, whole, "{calls}");

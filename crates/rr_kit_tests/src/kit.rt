@@ -27,10 +27,10 @@ train = [
 #[test]
 fn a_kit_has_what_its_texts_spell(rt: HostRuntime) -> Result<(), Fail> {
     let kit = Kit::read(rt.alloc(), CHART, ROSTER.as_bytes(), TILES, BOARD)?;
-    assert_eq!(rt; kit.roster().face(Private::Sv), 20);
-    assert_eq!(rt; kit.chart().par_cells().len(), 1);
-    assert_eq!(rt; kit.tiles().count(7), Some(4));
-    assert_eq!(rt; kit.board().hexes().len(), 1);
+    assert!(rt; kit.roster().face(Private::Sv) == 20);
+    assert!(rt; kit.chart().par_cells().len() == 1);
+    assert!(rt; kit.tiles().count(7) == Some(4));
+    assert!(rt; kit.board().hexes().len() == 1);
     Ok(())
 }
 
@@ -62,9 +62,9 @@ fn the_first_wrong_text_is_told(rt: HostRuntime) {
     ];
     for (chart, roster, tiles, board, fault) in wrong {
         let told = refusal(rt.alloc(), chart, roster, tiles, board);
-        assert_eq!(rt; told, Some(fault));
+        assert!(rt; told == Some(fault));
     }
-    assert_eq!(rt; Fault::BadBoard(2).number(), 7);
+    assert!(rt; Fault::BadBoard(2).number() == 7);
 }
 
 #[test]

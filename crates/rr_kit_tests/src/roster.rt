@@ -50,7 +50,7 @@ fn reads_the_shipped_numbers(rt: HostRuntime) -> Result<(), Fail> {
     assert!(rt; sells(&roster, Kind::Two, 80, 6));
     assert!(rt; sells(&roster, Kind::Five, 450, 3));
     assert!(rt; sells(&roster, Kind::Diesel, 1100, 6));
-    assert_eq!(rt; roster.trade(), 800);
+    assert!(rt; roster.trade() == 800);
     Ok(())
 }
 
@@ -58,9 +58,9 @@ fn reads_the_shipped_numbers(rt: HostRuntime) -> Result<(), Fail> {
 fn keeps_the_order_of_the_roster(rt: HostRuntime) -> Result<(), Fail> {
     let roster = shipped(rt.alloc())?;
     let order = roster.corporations();
-    assert_eq!(rt; order[0], Corp::Prr);
-    assert_eq!(rt; order[3], Corp::Bo);
-    assert_eq!(rt; order[7], Corp::Bm);
+    assert!(rt; order[0] == Corp::Prr);
+    assert!(rt; order[3] == Corp::Bo);
+    assert!(rt; order[7] == Corp::Bm);
     Ok(())
 }
 
@@ -78,27 +78,51 @@ fn fault_with(alloc: Global, old: &str, new: &str) -> Result<Option<Fault>, Fail
     Ok(Roster::read(alloc, changed.as_str()).err())
 }
 
+/// The first of the new parts that doesn't break its rule.
+fn first_other_rule<'a>(
+    alloc: Global,
+    parts: &[(&'a str, &'a str, Rule)],
+) -> Result<Option<&'a str>, Fail> {
+    for (old, new, rule) in parts {
+        if fault_with(alloc, *old, *new)? != Some(Fault::Broken(*rule)) {
+            return Ok(Some(*new));
+        }
+    }
+    Ok(None)
+}
+
 #[test]
 fn names_the_first_broken_rule(rt: HostRuntime) -> Result<(), Fail> {
-    for (old, new, rule) in [
+    let parts = [
         ("C&SL", "D&H", Rule::PrivateNames),
         ("ERIE", "PRR", Rule::CorporationNames),
         ("\"3\"", "\"2\"", Rule::TrainNames),
         ("face=40", "face=20", Rule::PrivateNumbers),
         ("tokens=3", "tokens=7", Rule::TokenNumbers),
         ("trade=800", "trade=1101", Rule::TrainNumbers),
-    ] {
-        let fault = fault_with(rt.alloc(), old, new)?;
-        assert_eq!(rt; fault, Some(Fault::Broken(rule)), "{new}");
-    }
+    ];
+    assert!(rt; first_other_rule(rt.alloc(), &parts)?.is_none());
     let fault = fault_with(rt.alloc(), "trade=800", "trade=1100")?;
-    assert_eq!(rt; fault, None);
+    assert!(rt; fault.is_none());
     Ok(())
+}
+
+/// The first of the new parts that isn't refused for its form.
+fn first_of_other_form<'a>(
+    alloc: Global,
+    parts: &[(&'a str, &'a str)],
+) -> Result<Option<&'a str>, Fail> {
+    for (old, new) in parts {
+        if fault_with(alloc, *old, *new)? != Some(Fault::Shape) {
+            return Ok(Some(*new));
+        }
+    }
+    Ok(None)
 }
 
 #[test]
 fn refuses_other_forms(rt: HostRuntime) -> Result<(), Fail> {
-    for (old, new) in [
+    let parts = [
         ("face=20", "face=20, colour=1"),
         (", income=5", ""),
         ("face=20", "face=20.0"),
@@ -106,10 +130,8 @@ fn refuses_other_forms(rt: HostRuntime) -> Result<(), Fail> {
         ("count=2", "count=2, trade=500"),
         (", trade=800", ""),
         ("ERIE", "ÉRIE"),
-    ] {
-        let fault = fault_with(rt.alloc(), old, new)?;
-        assert_eq!(rt; fault, Some(Fault::Shape), "{old} {new}");
-    }
+    ];
+    assert!(rt; first_of_other_form(rt.alloc(), &parts)?.is_none());
     Ok(())
 }
 
@@ -117,7 +139,7 @@ fn refuses_other_forms(rt: HostRuntime) -> Result<(), Fail> {
 fn refuses_empty_arrays(rt: HostRuntime) {
     let text = "private = []\ncorporation = []\ntrain = []\n";
     let fault = Roster::read(rt.alloc(), text).err();
-    assert_eq!(rt; fault, Some(Fault::Broken(Rule::PrivateNames)));
+    assert!(rt; fault == Some(Fault::Broken(Rule::PrivateNames)));
 }
 
 fn words_of(alloc: Global, fault: Fault) -> Result<String, Fail> {
@@ -132,10 +154,10 @@ fn faults_have_words_and_numbers(rt: HostRuntime) -> Result<(), Fail> {
         (Fault::Broken(Rule::PrivateNumbers), "roster rule 4", 5),
         (Fault::OutOfMemory, "out of memory", 70),
     ] {
-        assert_eq!(rt; fault.number(), number);
-        assert_eq!(rt; words_of(rt.alloc(), fault)?.as_str(), words);
+        assert!(rt; fault.number() == number);
+        assert!(rt; words_of(rt.alloc(), fault)?.as_str() == words);
     }
-    assert_eq!(rt; Rule::TrainNumbers.number(), 6);
+    assert!(rt; Rule::TrainNumbers.number() == 6);
     Ok(())
 }
 

@@ -98,9 +98,9 @@ fn first_unlike(manifest: &Manifest, colour: Colour, counts: &[(u16, u8)]) -> Op
 #[test]
 fn reads_the_shipped_manifest(rt: HostRuntime) -> Result<(), Fail> {
     let manifest = shipped(rt.alloc())?;
-    assert_eq!(rt; manifest.supplies().len(), 31);
+    assert!(rt; manifest.supplies().len() == 31);
     let yellow = [(3, 2), (4, 2), (7, 4), (8, 8), (9, 7), (57, 4), (58, 2)];
-    assert_eq!(rt; first_unlike(&manifest, Colour::Yellow, &yellow), None);
+    assert!(rt; first_unlike(&manifest, Colour::Yellow, &yellow).is_none());
     let green = [
         (14, 3),
         (15, 2),
@@ -116,7 +116,7 @@ fn reads_the_shipped_manifest(rt: HostRuntime) -> Result<(), Fail> {
         (28, 1),
         (29, 1),
     ];
-    assert_eq!(rt; first_unlike(&manifest, Colour::Green, &green), None);
+    assert!(rt; first_unlike(&manifest, Colour::Green, &green).is_none());
     let brown = [
         (39, 1),
         (40, 1),
@@ -130,7 +130,7 @@ fn reads_the_shipped_manifest(rt: HostRuntime) -> Result<(), Fail> {
         (63, 3),
         (70, 1),
     ];
-    assert_eq!(rt; first_unlike(&manifest, Colour::Brown, &brown), None);
+    assert!(rt; first_unlike(&manifest, Colour::Brown, &brown).is_none());
     Ok(())
 }
 
@@ -148,7 +148,7 @@ fn first_known(manifest: &Manifest, numbers: &[u16]) -> Option<u16> {
 fn has_no_other_numbers(rt: HostRuntime) -> Result<(), Fail> {
     let manifest = shipped(rt.alloc())?;
     let others = [0, 1, 2, 5, 17, 64, 999];
-    assert_eq!(rt; first_known(&manifest, &others), None);
+    assert!(rt; first_known(&manifest, &others).is_none());
     Ok(())
 }
 
@@ -185,10 +185,20 @@ fn is_centred(manifest: &Manifest, number: u16, kind: Kind, value: u16, edges: &
     }
 }
 
+/// The first of the tiles that has other tracks.
+fn first_other_tile(manifest: &Manifest, tiles: &[(u16, &[(u8, u8)])]) -> Option<u16> {
+    for (number, tracks) in tiles {
+        if !is_drawn(manifest, *number, *tracks) {
+            return Some(*number);
+        }
+    }
+    None
+}
+
 #[test]
 fn reads_tracks(rt: HostRuntime) -> Result<(), Fail> {
     let manifest = shipped(rt.alloc())?;
-    for (number, tracks) in [
+    let tiles = [
         (7, [(0, 1)].as_slice()),
         (8, [(0, 2)].as_slice()),
         (9, [(0, 3)].as_slice()),
@@ -200,32 +210,20 @@ fn reads_tracks(rt: HostRuntime) -> Result<(), Fail> {
         (44, [(0, 3), (1, 4), (0, 1), (3, 4)].as_slice()),
         (47, [(0, 3), (1, 4), (1, 3), (0, 4)].as_slice()),
         (70, [(0, 1), (0, 2), (1, 3), (2, 3)].as_slice()),
-    ] {
-        assert!(rt; is_drawn(&manifest, number, tracks), "{number}");
-    }
+    ];
+    assert!(rt; first_other_tile(&manifest, &tiles).is_none());
     Ok(())
 }
 
 #[test]
 fn reads_centres(rt: HostRuntime) -> Result<(), Fail> {
     let manifest = shipped(rt.alloc())?;
-    for (number, kind, value, edges) in [
-        (3, Kind::Town, 10, [0, 1].as_slice()),
-        (58, Kind::Town, 10, [0, 2].as_slice()),
-        (57, Kind::City { slots: 1 }, 20, [0, 3].as_slice()),
-        (14, Kind::City { slots: 2 }, 30, [0, 1, 3, 4].as_slice()),
-        (
-            63,
-            Kind::City { slots: 2 },
-            40,
-            [0, 1, 2, 3, 4, 5].as_slice(),
-        ),
-    ] {
-        assert!(rt;
-            is_centred(&manifest, number, kind, value, edges),
-            "{number}"
-        );
-    }
+    let (one, two) = (Kind::City { slots: 1 }, Kind::City { slots: 2 });
+    assert!(rt; is_centred(&manifest, 3, Kind::Town, 10, &[0, 1]));
+    assert!(rt; is_centred(&manifest, 58, Kind::Town, 10, &[0, 2]));
+    assert!(rt; is_centred(&manifest, 57, one, 20, &[0, 3]));
+    assert!(rt; is_centred(&manifest, 14, two, 30, &[0, 1, 3, 4]));
+    assert!(rt; is_centred(&manifest, 63, two, 40, &[0, 1, 2, 3, 4, 5]));
     Ok(())
 }
 
@@ -238,23 +236,37 @@ fn tile_of(alloc: Global, text: &str) -> Result<Tile, Fail> {
 #[test]
 fn reads_a_tile_of_the_board(rt: HostRuntime) -> Result<(), Fail> {
     let tile = tile_of(rt.alloc(), "3-1 L=NY o40/60:2 t0:")?;
-    assert_eq!(rt; track_at(&tile, 0), Some((3, 1)));
+    assert!(rt; track_at(&tile, 0) == Some((3, 1)));
     let area = Kind::OffBoard { later_value: 60 };
     assert!(rt; has_centre(&tile, 1, area, 40, &[2]));
     assert!(rt; has_centre(&tile, 2, Kind::Town, 0, &[]));
-    assert_eq!(rt; tile.parts().len(), 3);
+    assert!(rt; tile.parts().len() == 3);
     let label = Label {
         first: b'N',
         second: Some(b'Y'),
     };
-    assert_eq!(rt; tile.label(), Some(label));
+    assert!(rt; tile.label() == Some(label));
     Ok(())
+}
+
+/// The first of the tiles and their turns that has other tracks.
+fn first_other_turn(
+    manifest: &Manifest,
+    alloc: Global,
+    tiles: &[(u16, u8, &[(u8, u8)])],
+) -> Option<(u16, u8)> {
+    for (number, turn, tracks) in tiles {
+        if !is_tracked(manifest, alloc, *number, *turn, *tracks) {
+            return Some((*number, *turn));
+        }
+    }
+    None
 }
 
 #[test]
 fn turns_tracks(rt: HostRuntime) -> Result<(), Fail> {
     let manifest = shipped(rt.alloc())?;
-    for (number, turn, tracks) in [
+    let tiles = [
         (23, 0, [(0, 3), (0, 4)].as_slice()),
         (23, 1, [(1, 4), (1, 5)].as_slice()),
         (23, 2, [(2, 5), (2, 0)].as_slice()),
@@ -267,12 +279,8 @@ fn turns_tracks(rt: HostRuntime) -> Result<(), Fail> {
         (39, 3, [(3, 5), (3, 4), (4, 5)].as_slice()),
         (39, 4, [(4, 0), (4, 5), (5, 0)].as_slice()),
         (39, 5, [(5, 1), (5, 0), (0, 1)].as_slice()),
-    ] {
-        assert!(rt;
-            is_tracked(&manifest, rt.alloc(), number, turn, tracks),
-            "{number} {turn}"
-        );
-    }
+    ];
+    assert!(rt; first_other_turn(&manifest, rt.alloc(), &tiles).is_none());
     Ok(())
 }
 
@@ -287,29 +295,35 @@ fn is_turned_city(manifest: &Manifest, alloc: Global, turn: u8, edges: &[u8]) ->
     }
 }
 
+/// The first of the turns of tile 57 that has other edges.
+fn first_other_city(manifest: &Manifest, alloc: Global, turns: &[(u8, [u8; 2])]) -> Option<u8> {
+    for (turn, edges) in turns {
+        if !is_turned_city(manifest, alloc, *turn, edges) {
+            return Some(*turn);
+        }
+    }
+    None
+}
+
 #[test]
 fn turns_a_city(rt: HostRuntime) -> Result<(), Fail> {
     let manifest = shipped(rt.alloc())?;
-    for (turn, edges) in [
+    let turns = [
         (0, [0, 3]),
         (1, [1, 4]),
         (2, [2, 5]),
         (3, [3, 0]),
         (4, [4, 1]),
         (5, [5, 2]),
-    ] {
-        assert!(rt;
-            is_turned_city(&manifest, rt.alloc(), turn, &edges),
-            "{turn}"
-        );
-    }
+    ];
+    assert!(rt; first_other_city(&manifest, rt.alloc(), &turns).is_none());
     Ok(())
 }
 
 #[test]
 fn turns_an_edge(rt: HostRuntime) -> Result<(), Fail> {
     let edge = Edge::new(5).ok_or("an edge")?;
-    assert_eq!(rt; edge.turned(3).number(), 2);
+    assert!(rt; edge.turned(3).number() == 2);
     assert!(rt; Edge::new(6).is_none());
     Ok(())
 }
@@ -321,10 +335,23 @@ fn is_kept(manifest: &Manifest, old: u16, new: u16, turn: u8) -> Option<bool> {
     Some(keeps(before, after, turn))
 }
 
+/// The first of the old tiles, the new ones and their turns that is kept otherwise than is said.
+fn first_kept_otherwise(
+    manifest: &Manifest,
+    tiles: &[(u16, u16, u8, bool)],
+) -> Option<(u16, u16, u8)> {
+    for (old, new, turn, kept) in tiles {
+        if is_kept(manifest, *old, *new, *turn) != Some(*kept) {
+            return Some((*old, *new, *turn));
+        }
+    }
+    None
+}
+
 #[test]
 fn keeps_what_lies_there(rt: HostRuntime) -> Result<(), Fail> {
     let manifest = shipped(rt.alloc())?;
-    for (old, new, turn, kept) in [
+    let tiles = [
         (9, 23, 0, true),
         (9, 23, 1, false),
         (9, 23, 3, true),
@@ -340,10 +367,8 @@ fn keeps_what_lies_there(rt: HostRuntime) -> Result<(), Fail> {
         (16, 43, 0, true),
         (16, 43, 1, false),
         (7, 57, 0, false),
-    ] {
-        let is_kept = is_kept(&manifest, old, new, turn);
-        assert_eq!(rt; is_kept, Some(kept), "{old} {new} {turn}");
-    }
+    ];
+    assert!(rt; first_kept_otherwise(&manifest, &tiles).is_none());
     Ok(())
 }
 
@@ -354,9 +379,22 @@ fn is_text_kept(alloc: Global, old: &str, new: &str, turn: u8) -> Result<bool, F
     Ok(keeps(&before, &after, turn))
 }
 
+/// The first of the old tiles whose text is kept by the new one, turned, otherwise than is said.
+fn first_text_kept_otherwise<'a>(
+    alloc: Global,
+    tiles: &[(&'a str, &'a str, u8, bool)],
+) -> Result<Option<&'a str>, Fail> {
+    for (old, new, turn, kept) in tiles {
+        if is_text_kept(alloc, *old, *new, *turn)? != *kept {
+            return Ok(Some(*old));
+        }
+    }
+    Ok(None)
+}
+
 #[test]
 fn keeps_labels_and_centres(rt: HostRuntime) -> Result<(), Fail> {
-    for (old, new, turn, kept) in [
+    let tiles = [
         ("c20/1:0 L=B", "L=B c40/1:0,1", 0, true),
         ("L=B c40/1:0,1", "c20/1:0 L=B", 0, false),
         ("c20/1:0 L=B", "c20/1:0", 0, false),
@@ -368,10 +406,8 @@ fn keeps_labels_and_centres(rt: HostRuntime) -> Result<(), Fail> {
         ("t10:0 t10:3", "t10:3 t10:0", 3, true),
         ("t10:0 t10:3", "t10:0,3", 0, false),
         ("t10:0,3", "t10:0 t10:3", 0, false),
-    ] {
-        let is_kept = is_text_kept(rt.alloc(), old, new, turn)?;
-        assert_eq!(rt; is_kept, kept, "{old} by {new}");
-    }
+    ];
+    assert!(rt; first_text_kept_otherwise(rt.alloc(), &tiles)?.is_none());
     Ok(())
 }
 
@@ -383,47 +419,56 @@ fn wrong_line(alloc: Global, text: &str) -> Option<usize> {
     }
 }
 
+/// The first of the texts, each on a line of its own, that isn't told to be wrong there.
+fn first_right(alloc: Global, texts: &str) -> Option<&str> {
+    texts
+        .lines()
+        .find(|text| wrong_line(alloc, text) != Some(1))
+}
+
 #[test]
 fn refuses_wrong_lines(rt: HostRuntime) {
-    for text in [
-        "yellow 7 x4 0-0",
-        "yellow 7 x4 0-1 1-0",
-        "yellow 7 x4 0-6",
-        "yellow 7 x4 01",
-        "yellow 7 x51 0-1",
-        "yellow 7 x0 0-1",
-        "yellow 7 4 0-1",
-        "yellow 7",
-        "yellow 0 x1",
-        "yellow 1000 x1",
-        "yellow 07 x1",
-        "red 7 x1 0-1",
-        "yellow 7 x4 t15:0",
-        "yellow 7 x4 t1000:0",
-        "yellow 7 x4 t10",
-        "yellow 7 x4 t10:0,0",
-        "yellow 7 x4 t10:0,",
-        "yellow 7 x4 c20:1",
-        "yellow 7 x4 c20/0:1",
-        "yellow 7 x4 c20/5:1",
-        "yellow 7 x4 o40/40:2",
-        "yellow 7 x4 L=b",
-        "yellow 7 x4 L=ABC",
-        "yellow 7 x4 L=A L=A",
-    ] {
-        assert_eq!(rt; wrong_line(rt.alloc(), text), Some(1), "{text}");
-    }
+    let right = first_right(
+        rt.alloc(),
+        "yellow 7 x4 0-0
+yellow 7 x4 0-1 1-0
+yellow 7 x4 0-6
+yellow 7 x4 01
+yellow 7 x51 0-1
+yellow 7 x0 0-1
+yellow 7 4 0-1
+yellow 7
+yellow 0 x1
+yellow 1000 x1
+yellow 07 x1
+red 7 x1 0-1
+yellow 7 x4 t15:0
+yellow 7 x4 t1000:0
+yellow 7 x4 t10
+yellow 7 x4 t10:0,0
+yellow 7 x4 t10:0,
+yellow 7 x4 c20:1
+yellow 7 x4 c20/0:1
+yellow 7 x4 c20/5:1
+yellow 7 x4 o40/40:2
+yellow 7 x4 L=b
+yellow 7 x4 L=ABC
+yellow 7 x4 L=A L=A",
+    );
+    assert!(rt; right.is_none());
 }
 
 #[test]
 fn names_the_first_wrong_line(rt: HostRuntime) {
-    for (text, line) in [
-        ("yellow 7 x4 0-1\nyellow 7 x4 0-2", 2),
-        ("# tiles\n\nyellow 7 x4 0-1\n  \ngreen 8 x1 5-5\nred\n", 5),
-        ("yellow 7 x4 é", 0),
-    ] {
-        assert_eq!(rt; wrong_line(rt.alloc(), text), Some(line), "{text}");
-    }
+    let alloc = rt.alloc();
+    let twice = wrong_line(alloc, "yellow 7 x4 0-1\nyellow 7 x4 0-2");
+    assert!(rt; twice == Some(2));
+    let fifth = wrong_line(
+        alloc,
+        "# tiles\n\nyellow 7 x4 0-1\n  \ngreen 8 x1 5-5\nred\n",
+    );
+    assert!(rt; fifth == Some(5));
+    assert!(rt; wrong_line(alloc, "yellow 7 x4 é") == Some(0));
 }
 
 fn is_read(alloc: Global, text: &str) -> bool {
@@ -432,14 +477,12 @@ fn is_read(alloc: Global, text: &str) -> bool {
 
 #[test]
 fn accepts_other_forms(rt: HostRuntime) {
-    for text in [
-        "",
-        "# none\r\n",
-        "yellow 7 x4",
-        "yellow 7 x4 t10:\r\nbrown  999  x50  5-0 c0/4:5,1 L=Z",
-    ] {
-        assert!(rt; is_read(rt.alloc(), text), "{text}");
-    }
+    let alloc = rt.alloc();
+    assert!(rt; is_read(alloc, ""));
+    assert!(rt; is_read(alloc, "# none\r\n"));
+    assert!(rt; is_read(alloc, "yellow 7 x4"));
+    let two = "yellow 7 x4 t10:\r\nbrown  999  x50  5-0 c0/4:5,1 L=Z";
+    assert!(rt; is_read(alloc, two));
 }
 
 #[test]
@@ -450,18 +493,15 @@ fn refuses_a_text_too_long(rt: HostRuntime) -> Result<(), Fail> {
     }
     assert!(rt; is_read(rt.alloc(), text.as_str()));
     text.push('#')?;
-    assert_eq!(rt; wrong_line(rt.alloc(), text.as_str()), Some(0));
+    assert!(rt; wrong_line(rt.alloc(), text.as_str()) == Some(0));
     Ok(())
 }
 
 #[test]
 fn tells_faults(rt: HostRuntime) -> Result<(), Fail> {
     let fault = Fault::BadManifest { line: 17 };
-    assert_eq!(rt; fault.number(), 6);
-    assert_eq!(rt; Fault::OutOfMemory.number(), 70);
-    assert_eq!(rt;
-        format!(in rt.alloc(); "{fault}")?.as_str(),
-        "bad manifest 17"
-    );
+    assert!(rt; fault.number() == 6);
+    assert!(rt; Fault::OutOfMemory.number() == 70);
+    assert!(rt; format!(in rt.alloc(); "{fault}")?.as_str() == "bad manifest 17");
     Ok(())
 }

@@ -11,23 +11,30 @@ fn is_player(word: &str) -> bool {
     Name::player(word.as_bytes()).is_some()
 }
 
+/// The first of the words that names a table, or a player, otherwise than is said.
+fn first_other_name<'a>(words: &[&'a str], table: bool, player: bool) -> Option<&'a str> {
+    for word in words {
+        if is_table(*word) != table || is_player(*word) != player {
+            return Some(*word);
+        }
+    }
+    None
+}
+
 #[test]
 fn reads_names(rt: HostRuntime) {
-    for word in ["a", "game7", "abcdefghijkl", "banks"] {
-        assert!(rt; is_table(word) && is_player(word), "{word}");
-    }
-    for word in ["abcdefghijklm", "abcdefghijklmnop", "bank", "offer", "pool"] {
-        assert!(rt; is_table(word) && !is_player(word), "{word}");
-    }
-    for word in ["abcdefghijklmnopq", "7a", "Ann", "an-n", ""] {
-        assert!(rt; !is_table(word) && !is_player(word), "{word}");
-    }
+    let both = ["a", "game7", "abcdefghijkl", "banks"];
+    assert!(rt; first_other_name(&both, true, true).is_none());
+    let tables = ["abcdefghijklm", "abcdefghijklmnop", "bank", "offer", "pool"];
+    assert!(rt; first_other_name(&tables, true, false).is_none());
+    let neither = ["abcdefghijklmnopq", "7a", "Ann", "an-n", ""];
+    assert!(rt; first_other_name(&neither, false, false).is_none());
 }
 
 #[test]
 fn compares_names(rt: HostRuntime) -> Result<(), Fail> {
     let name = Name::player(b"ann").ok_or("a name")?;
-    assert_eq!(rt; name.as_bytes(), b"ann".as_slice());
+    assert!(rt; name.as_bytes() == b"ann".as_slice());
     assert!(rt; name == Name::table(b"ann").ok_or("a name")?);
     assert!(rt; name != Name::table(b"anna").ok_or("a name")?);
     Ok(())
@@ -47,21 +54,32 @@ fn is_held_hex(word: &str) -> bool {
 
 #[test]
 fn reads_names_of_hexes(rt: HostRuntime) {
-    for word in ["B10", "H", "7", "ABC4"] {
-        assert!(rt; is_held_hex(word), "{word}");
-    }
-    for word in ["ABCD5", "b10", ""] {
-        assert!(rt; !is_hex(word), "{word}");
-    }
+    assert!(rt; is_held_hex("B10"));
+    assert!(rt; is_held_hex("H"));
+    assert!(rt; is_held_hex("7"));
+    assert!(rt; is_held_hex("ABC4"));
+    assert!(rt; !is_hex("ABCD5"));
+    assert!(rt; !is_hex("b10"));
+    assert!(rt; !is_hex(""));
 }
 
 fn value(word: &str) -> Option<u64> {
     number(word.as_bytes())
 }
 
+/// The first of the words that is read as another number.
+fn first_other_number<'a>(numbers: &[(&'a str, Option<u64>)]) -> Option<&'a str> {
+    for (word, want) in numbers {
+        if value(*word) != *want {
+            return Some(*word);
+        }
+    }
+    None
+}
+
 #[test]
 fn reads_numbers(rt: HostRuntime) {
-    for (word, want) in [
+    let numbers = [
         ("0", Some(0)),
         ("7", Some(7)),
         ("1830", Some(1830)),
@@ -73,9 +91,8 @@ fn reads_numbers(rt: HostRuntime) {
         ("-1", None),
         ("+1", None),
         ("1x", None),
-    ] {
-        assert_eq!(rt; value(word), want, "number {word}");
-    }
+    ];
+    assert!(rt; first_other_number(&numbers).is_none());
 }
 
 fn small_value(word: &str) -> Option<u16> {
@@ -84,15 +101,11 @@ fn small_value(word: &str) -> Option<u16> {
 
 #[test]
 fn reads_small_numbers(rt: HostRuntime) {
-    for (word, want) in [
-        ("5", Some(5)),
-        ("10", Some(10)),
-        ("4", None),
-        ("11", None),
-        ("65546", None),
-    ] {
-        assert_eq!(rt; small_value(word), want, "number {word}");
-    }
+    assert!(rt; small_value("5") == Some(5));
+    assert!(rt; small_value("10") == Some(10));
+    assert!(rt; small_value("4").is_none());
+    assert!(rt; small_value("11").is_none());
+    assert!(rt; small_value("65546").is_none());
 }
 
 /// Adds the words, each behind a bar.
@@ -118,7 +131,7 @@ fn told_words(alloc: Global, line: &str) -> Result<String, Fail> {
 fn cuts_lines(rt: HostRuntime) -> Result<(), Fail> {
     for (line, want) in [("1 t bid  CA", "|1|t|bid||CA"), ("", "|")] {
         let told = told_words(rt.alloc(), line)?;
-        assert_eq!(rt; told.as_str(), want);
+        assert!(rt; told.as_str() == want);
     }
     Ok(())
 }
@@ -126,10 +139,10 @@ fn cuts_lines(rt: HostRuntime) -> Result<(), Fail> {
 #[test]
 fn splits_lines(rt: HostRuntime) -> Result<(), Fail> {
     let (first, rest) = split_word(b"bid CA 45");
-    assert_eq!(rt; first, b"bid".as_slice());
-    assert_eq!(rt; rest.ok_or("a rest")?, b"CA 45".as_slice());
+    assert!(rt; first == b"bid".as_slice());
+    assert!(rt; rest.ok_or("a rest")? == b"CA 45".as_slice());
     let (only, none) = split_word(b"done");
-    assert_eq!(rt; only, b"done".as_slice());
+    assert!(rt; only == b"done".as_slice());
     assert!(rt; none.is_none());
     Ok(())
 }
@@ -152,7 +165,7 @@ fn told_rows(alloc: Global, text: &str) -> Result<Option<String>, Fail> {
 fn reads_rows(rt: HostRuntime) -> Result<(), Fail> {
     let text = "# a board\r\n\nhex A  0,0 white\r\n   \n block CS A";
     let told = told_rows(rt.alloc(), text)?.ok_or("rows")?;
-    assert_eq!(rt; told.as_str(), "3 |hex|A|0,0|white5 |block|CS|A");
+    assert!(rt; told.as_str() == "3 |hex|A|0,0|white5 |block|CS|A");
     assert!(rt; told_rows(rt.alloc(), "hex é")?.is_none());
     Ok(())
 }

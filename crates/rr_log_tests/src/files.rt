@@ -21,7 +21,7 @@ pub(crate) const FAR: u64 = 1_056_768;
 pub(crate) const FIRST: &[u8] = b"\xa5\0\0\0\0\0\0\0\x01\0\0\0\x0bg1 open a b";
 
 // Room for a file of 521 pages, for 256 records, and for the calls of a test.
-const ROOM: usize = 1 << 22;
+const ROOM: usize = 1 << 23;
 
 // A file of four texts, on pages 514 to 517, and an empty directory on page 518.
 pub(crate) fn new_file(alloc: Global) -> Result<MemoryDisk, Fail> {
