@@ -2,3 +2,4 @@ pub mod Steps
 pub mod Records
 pub mod Writers
 pub mod Planning
+pub mod Working

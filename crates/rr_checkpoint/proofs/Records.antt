@@ -3,8 +3,8 @@ use Rattle.std.proofs.Common.{◌≡◌, ◌⊎◌, ℕ, ◌+◌, ◌^◌, ◌<�
 use Rattle.std.specs.Option.{is_some}
 use Rattle.rr_disk.specs.Disk.{DiskState, IsImage, after_write, after_sync}
 use Rattle.rr_journal.specs.declared.buffer.RecordBuffer.{RecordBuffer}
-use Rattle.rr_journal.specs.declared.layout.PartIndex.{PartIndex}
-use Rattle.rr_journal.specs.declared.part.Part.{Part}
+use Rattle.rr_journal.specs.declared.layout.HalfIndex.{HalfIndex}
+use Rattle.rr_journal.specs.declared.half.Half.{Half}
 use Rattle.rr_journal.specs.Layout.{HasRoom, gate_place, spelling}
 use Rattle.rr_journal.specs.Stops.{next_gate, IsReady, MayLeave}
 use Rattle.rr_pages.specs.declared.root.Root.{Root}
@@ -13,7 +13,7 @@ use Rattle.rr_pages.specs.FreePages.{present_of, coming_of}
 use Rattle.rr_pages.specs.Sets.{Has}
 use Rattle.rr_images.specs.Calls.{far_gate, Appends, Begins, part_behind}
 use Rattle.rr_images.specs.Codec.{Codec}
-use Rattle.rr_images.specs.Halves.{half_part}
+use Rattle.rr_images.specs.Halves.{half_index}
 use Rattle.rr_images.specs.Holding.{Holding, reached_of}
 use Rattle.rr_images.specs.Layout.{Layout, FarHalf, Unused, Old, Begun, Keeps}
 use Rattle.rr_images.specs.Progress.{IsPlan, IsBegun, IsNotBegun, IsBetween}
@@ -38,14 +38,14 @@ isnt_begun (Some first) number far none begun = absurd (cc)
 
 -- a record more
 module _ {C : Type 0} (codec : Codec) (file : OpenFile C) (checkpoint : Option Checkpoint) (state : DiskState) (old new : codec.World) (stays : IsImage state state.content) (carries : CarriesWith codec file checkpoint state old)
-    (line : List ℕ) (takes : codec.Takes line old new) (room : HasRoom file.place.part.next_slot (length line)) (low : file.place.number < 2 ^ 63) where
-  record_next : Appends codec carries.layout state (progress_of checkpoint carries.holding) file.place.part file.place.number line old new
-  record_next = appends codec carries.layout state old stays (progress_of checkpoint carries.holding) file.place.part file.place.number line new takes room low carries.tells.goes_on carries.between
+    (line : List ℕ) (takes : codec.Takes line old new) (room : HasRoom file.place.half.next_slot (length line)) (low : file.place.number < 2 ^ 63) where
+  record_next : Appends codec carries.layout state (progress_of checkpoint carries.holding) file.place.half file.place.number line old new
+  record_next = appends codec carries.layout state old stays (progress_of checkpoint carries.holding) file.place.half file.place.number line new takes room low carries.tells.goes_on carries.between
 
-  pub record_ready : IsReady file.place.part state
+  pub record_ready : IsReady file.place.half state
   record_ready = record_next.ready
 
-  pub record_stops : (image : List ℕ) → MayLeave file.place.part state file.place.number line image → Keeps codec image old ⊎ Keeps codec image new
+  pub record_stops : (image : List ℕ) → MayLeave file.place.half state file.place.number line image → Keeps codec image old ⊎ Keeps codec image new
   record_stops = record_next.leaves
 
   same_side : (far : FarHalf) → (with_line_at carries.layout far line new).side ≡ carries.layout.side
@@ -79,19 +79,19 @@ module _ {C : Type 0} (codec : Codec) (file : OpenFile C) (checkpoint : Option C
   begun_still (Some first) Old is some = absurd (cc some.0.1)
   begun_still (Some first) (Begun lines) is some = ((lines ++ line ∷ [], refl), some.1)
 
-  pub record_carries : (part : Part) (buffer : RecordBuffer) (after : DiskState) → part ≡ part_behind file.place.part line
-      → after ≡ after_sync (after_write state (next_gate file.place.part) (spelling file.place.number line))
+  pub record_carries : (half : Half) (buffer : RecordBuffer) (after : DiskState) → half ≡ part_behind file.place.half line
+      → after ≡ after_sync (after_write state (next_gate file.place.half) (spelling file.place.number line))
       → (then : CarriesWith codec
       (record {
         taken = file.taken;
-        place = record { part = part; number = file.place.number + 1; begun = file.place.begun };
+        place = record { half = half; number = file.place.number + 1; begun = file.place.begun };
         free = file.free;
         buffer = buffer;
         codec = file.codec;
       })
       checkpoint after new)
       × HoldsWithRecord carries.layout carries.holding then.layout then.holding
-  record_carries part buffer after behind is =
+  record_carries half buffer after behind is =
       let far = carries.layout.far in (
         record {
           layout = with_line carries.layout line new;
@@ -100,7 +100,7 @@ module _ {C : Type 0} (codec : Codec) (file : OpenFile C) (checkpoint : Option C
             side = same_side far ∙ carries.tells.side;
             root = same_root far ∙ carries.tells.root;
             begun = begun_still file.place.begun far refl carries.tells.begun;
-            goes_on = subst (λ (p : Part). GoesOnAt (with_line carries.layout line new) p (file.place.number + 1)) (sym behind) record_next.goes_on;
+            goes_on = subst (λ (p : Half). GoesOnAt (with_line carries.layout line new) p (file.place.number + 1)) (sym behind) record_next.goes_on;
             reached = subst (λ (held : Holding). Has (present_of file.free) (reached_of held)) (sym (same_holding far)) carries.tells.reached;
           };
           between = subst (λ (s : DiskState). IsBetween codec (with_line carries.layout line new) s (progress_of checkpoint carries.holding) new) (sym is) record_next.done;
@@ -128,15 +128,15 @@ module _ {C : Type 0} (codec : Codec) (file : OpenFile C) (state : DiskState) (w
       record { present = refl; coming = refl; middle = refl },
     )
 
-  module _ (none : IsNotBegun carries.layout.far) (index : PartIndex) (other : index ≡ half_part (not file.taken.root.half)) (at : ℕ) (there : at ≡ next_gate (record { index = index; next_slot = 0 })) where
+  module _ (none : IsNotBegun carries.layout.far) (index : HalfIndex) (other : index ≡ half_index (not file.taken.root.half)) (at : ℕ) (there : at ≡ next_gate (record { index = index; next_slot = 0 })) where
     begin_next : Begins codec carries.layout state world
     begin_next = begins codec carries.layout state world stays carries.between.each none
 
-    other_part : index ≡ half_part (not carries.layout.root.half)
-    other_part = other ∙ ap (λ (root : Root). half_part (not root.half)) (sym carries.tells.root)
+    other_part : index ≡ half_index (not carries.layout.root.half)
+    other_part = other ∙ ap (λ (root : Root). half_index (not root.half)) (sym carries.tells.root)
 
     at_gate : at ≡ far_gate carries.layout
-    at_gate = there ∙ ap (λ (i : PartIndex). gate_place i 0) other_part
+    at_gate = there ∙ ap (λ (i : HalfIndex). gate_place i 0) other_part
 
     pub begin_stops : (image : List ℕ) → MayShut state at image → Keeps codec image world
     begin_stops image may = begin_next.leaves image (subst (λ (n : ℕ). MayShut state n image) at_gate may)
@@ -146,7 +146,7 @@ module _ {C : Type 0} (codec : Codec) (file : OpenFile C) (state : DiskState) (w
           → (then : CarriesWith codec
           (record {
             taken = file.taken;
-            place = record { part = record { index = index; next_slot = 0 }; number = file.place.number; begun = Some file.place.number };
+            place = record { half = record { index = index; next_slot = 0 }; number = file.place.number; begun = Some file.place.number };
             free = file.free;
             buffer = file.buffer;
             codec = file.codec;
@@ -155,7 +155,7 @@ module _ {C : Type 0} (codec : Codec) (file : OpenFile C) (state : DiskState) (w
           × HoldsOn carries.layout holding then.layout then.holding
       begin_carries new shuts =
           let layout = with_far carries.layout (Begun []) in
-          let goes = goes_begun codec carries.layout file.place.part file.place.number carries.tells.goes_on (not_begun carries.layout.far none) in (
+          let goes = goes_begun codec carries.layout file.place.half file.place.number carries.tells.goes_on (not_begun carries.layout.far none) in (
             record {
               layout = layout;
               holding = holding;
@@ -163,7 +163,7 @@ module _ {C : Type 0} (codec : Codec) (file : OpenFile C) (state : DiskState) (w
                 side = carries.tells.side;
                 root = carries.tells.root;
                 begun = (([], refl), omega (arith, goes.numbered));
-                goes_on = subst (λ (i : PartIndex). GoesOnAt layout (record { index = i; next_slot = 0 }) file.place.number) (sym other_part) goes;
+                goes_on = subst (λ (i : HalfIndex). GoesOnAt layout (record { index = i; next_slot = 0 }) file.place.number) (sym other_part) goes;
                 reached = carries.tells.reached;
               };
               between = begin_next.done (plan_of plan holding) new is_plan (subst (λ (n : ℕ). Shuts state n new) at_gate shuts);

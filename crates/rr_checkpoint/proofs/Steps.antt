@@ -83,9 +83,12 @@ module _ {C : Type 0} (codec : Codec) (file : OpenFile C) (checkpoint : Checkpoi
         writes_page codec carries.layout state world stays plan done left (fresh_of fresh)
         (subst (λ (todo : List (ℕ × List ℕ)). IsBetween codec carries.layout state (Writing plan done todo) world) (next_dropped fresh_of checkpoint.plan.fresh.items written fresh found) (at_stage (S.Writing written) writing))
 
+    pub page_long : (bytes : List ℕ) → bytes ≡ fresh.bytes.items → length bytes ≡ 4096
+    page_long bytes same = ap (λ (b : List ℕ). length b) same ∙ page_next.whole
+
     pub page_stops : (bytes : List ℕ) → bytes ≡ fresh.bytes.items → (image : List ℕ) → TornFrom state (4096 * fresh.page) (length bytes) image → Keeps codec image world
     page_stops bytes same image torn =
-        let long : length bytes ≡ 4096 = ap (λ (b : List ℕ). length b) same ∙ page_next.whole in
+        let long : length bytes ≡ 4096 = page_long bytes same in
         record { layout = carries.layout; kept = page_next.leaves image (subst (λ (n : ℕ). TornFrom state (4096 * fresh.page) n image) long torn) }
 
     pub page_carries : (bytes : List ℕ) → bytes ≡ fresh.bytes.items → (new : DiskState) → new ≡ after_write state (4096 * fresh.page) bytes
@@ -130,7 +133,7 @@ module _ {C : Type 0} (codec : Codec) (file : OpenFile C) (checkpoint : Checkpoi
           side = carries.tells.side;
           root = carries.tells.root;
           begun = carries.tells.begun;
-          goes_on = goes_stale codec carries.layout file.place.part file.place.number carries.tells.goes_on Shut;
+          goes_on = goes_stale codec carries.layout file.place.half file.place.number carries.tells.goes_on Shut;
           reached = carries.tells.reached;
         };
         between = shut_next.done new (subst (λ (n : ℕ). Shuts state n new) gate_is shuts);
@@ -184,7 +187,7 @@ module _ {C : Type 0} (codec : Codec) (file : OpenFile C) (checkpoint : Checkpoi
           → (then : CarriesWith codec
           (record {
             taken = record { side = side; root = checkpoint.plan.root };
-            place = record { part = file.place.part; number = file.place.number; begun = None };
+            place = record { half = file.place.half; number = file.place.number; begun = None };
             free = free;
             buffer = file.buffer;
             codec = file.codec;
@@ -200,7 +203,7 @@ module _ {C : Type 0} (codec : Codec) (file : OpenFile C) (checkpoint : Checkpoi
                 side = ap not carries.tells.side ∙ sym other;
                 root = refl;
                 begun = none_behind carries.layout.near;
-                goes_on = goes_flip codec carries.layout file.place.part file.place.number carries.tells.goes_on plan.root plan.holding lines world filling.come.1.1 filling.come.0.next;
+                goes_on = goes_flip codec carries.layout file.place.half file.place.number carries.tells.goes_on plan.root plan.holding lines world filling.come.1.1 filling.come.0.next;
                 reached = subst (λ (marks : List Bool). Has marks (reached_of carries.holding)) (sym reclaimed) carries.coming;
               };
               between = subst (λ (s : DiskState). IsBetween codec (flipped carries.layout plan.root plan.holding lines world) s Resting world) (sym became) open_next.done;

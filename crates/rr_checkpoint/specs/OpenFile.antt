@@ -25,7 +25,7 @@ pub record Tells {codec : Codec} (taken : Taken) (place : Place) (free : FreePag
   pub side : layout.side ≡ taken.side
   pub root : layout.root ≡ taken.root
   pub begun : IsBegunAt place.begun (layout.root.first + length layout.near) layout.far
-  pub goes_on : GoesOnAt layout place.part place.number
+  pub goes_on : GoesOnAt layout place.half place.number
   pub reached : Has (present_of free) (reached_of layout.holding)
 
 -- the pages that were taken for a checkpoint under way are those that its root will reach

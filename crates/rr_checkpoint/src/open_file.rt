@@ -1,7 +1,7 @@
 ghost use Rattle.std.specs.Prelude.{◌≡◌, ◌⊎◌, ◌↔◌, ◌+◌, ◌*◌, ◌^◌, ◌<◌, ◌≤◌, not, length, OnOk, OnErr, IfOk, IsErrOf, None};
 ghost use Rattle.rr_disk.specs.Disk as device;
 ghost use Rattle.rr_disk.specs.Disk.{counted};
-ghost use Rattle.rr_images.specs.Halves.{half_part};
+ghost use Rattle.rr_images.specs.Halves.{half_index};
 ghost use Rattle.rr_images.specs.Holding.{Holding, reached_of};
 ghost use Rattle.rr_images.specs.Progress.{IsPlan};
 ghost use Rattle.rr_journal.specs.Faults.{CountsFault, OnDeviceFault};
@@ -17,7 +17,7 @@ use crate::Place;
 use crate::checkpoint::{Checkpoint, Stage};
 use rr_disk::{Disk, Fault, write};
 use rr_images::Codec;
-use rr_journal::{Part, PartIndex, RecordBuffer};
+use rr_journal::{Half, HalfIndex, RecordBuffer};
 use rr_pages::{FreePages, Roots, Taken, shut};
 use std::marker::PhantomData;
 
@@ -31,14 +31,14 @@ pub(crate) struct OpenFile<C> {
     pub(crate) codec: PhantomData<C>,
 }
 
-// The part of the journal that is a half of it.
-fn half_of(half: bool) -> PartIndex
-    ensures { result ≡ half_part half }
+// The half of the journal that is a half of it.
+fn half_of(half: bool) -> HalfIndex
+    ensures { result ≡ half_index half }
 {
     if half {
-        PartIndex::Second
+        HalfIndex::Second
     } else {
-        PartIndex::First
+        HalfIndex::First
     }
 }
 
@@ -62,7 +62,7 @@ impl<C: Codec> OpenFile<C> {
             → (checkpoint : _) → CarriesWith C.codec self.old checkpoint (D.state disk.old) old
             → LeavesEither C.codec (D.past disk.old) (D.state disk.old) (D.past disk.new) (D.state disk.new) old new }
         ensures full { IsErrOf result journal.HalfFull
-            ↔ (HasRoom self.old.place.part.next_slot (length line.now) → ⊥) }
+            ↔ (HasRoom self.old.place.half.next_slot (length line.now) → ⊥) }
         ensures same { IsErrOf result journal.HalfFull → self.new ≡ self.old }
         ensures no_call { IsErrOf result journal.HalfFull → disk.new ≡ disk.old }
         ensures no_memory { IsErrOf result journal.OutOfMemory → ⊥ }
@@ -78,11 +78,11 @@ impl<C: Codec> OpenFile<C> {
         ensures device { OnDeviceFault result (D.Works disk.new → ⊥) }
         ensures works { D.Works disk.new → D.Works disk.old }
     {
-        if !self.place.part.has_room(line.len()) {
+        if !self.place.half.has_room(line.len()) {
             return Err(rr_journal::Fault::HalfFull);
         }
         self.place
-            .part
+            .half
             .append(disk, &mut self.buffer, self.place.number, line)?;
         self.place.number += 1;
         Ok(())
@@ -98,12 +98,15 @@ impl<C: Codec> OpenFile<C> {
             → (then : CarriesWith C.codec self.new (Some (begun plan)) (D.state disk.new) world)
             × HoldsOn carries.layout holding then.layout then.holding) }
         ensures number { self.new.place.number ≡ self.old.place.number }
+        ensures slots { self.new.place.half.next_slot ≤ self.old.place.half.next_slot }
         ensures taken { self.new.taken ≡ self.old.taken }
         ensures stops { D.Honest disk.new → (world : C.codec.World)
             → CarriesWith C.codec self.old None (D.state disk.old) world
             → LeavesKept C.codec (D.past disk.old) (D.state disk.old) (D.past disk.new) (D.state disk.new) world }
         ensures honest { D.Honest disk.new → D.Honest disk.old }
         ensures fault { device.CountsFault (D.fault_count disk.old) (D.fault_count disk.new) result }
+        ensures device { OnErr result (D.Honest disk.new → (world : C.codec.World)
+            → CarriesWith C.codec self.old None (D.state disk.old) world → D.Works disk.new → ⊥) }
         ensures writes { D.write_count disk.new ≤ D.write_count disk.old + 1 }
         ensures syncs { D.sync_count disk.new ≤ D.sync_count disk.old + 1 }
         ensures works { D.Works disk.new → D.Works disk.old }
@@ -111,13 +114,13 @@ impl<C: Codec> OpenFile<C> {
         if self.place.begun.is_some() {
             return Ok(());
         }
-        let part = Part {
+        let half = Half {
             index: half_of(!self.taken.root.half),
             next_slot: 0,
         };
-        shut(disk, part.next_gate())?;
+        shut(disk, half.next_gate())?;
         self.place = Place {
-            part,
+            half,
             number: self.place.number,
             begun: Some(self.place.number),
         };
@@ -144,8 +147,11 @@ impl<C: Codec> OpenFile<C> {
         ensures taken { IfOk result (λ next. StaysTaken next self.old.taken self.new.taken) }
         ensures rests { IfOk result (λ next. RestsBehind next self.new.place.begun) }
         ensures number { self.new.place.number ≡ self.old.place.number }
+        ensures half { self.new.place.half ≡ self.old.place.half }
         ensures honest { D.Honest disk.new → D.Honest disk.old }
         ensures fault { device.CountsFault (D.fault_count disk.old) (D.fault_count disk.new) result }
+        ensures device { OnErr result (D.Honest disk.new → (world : C.codec.World)
+            → CarriesWith C.codec self.old (Some checkpoint) (D.state disk.old) world → D.Works disk.new → ⊥) }
         ensures writes { D.write_count disk.new ≤ D.write_count disk.old + 1 }
         ensures syncs { D.sync_count disk.new ≤ D.sync_count disk.old + 1 }
         ensures works { D.Works disk.new → D.Works disk.old }
@@ -184,6 +190,8 @@ impl<C: Codec> OpenFile<C> {
         ensures left { IfOk result (λ next. left_of (Some checkpoint) ≡ left_of (Some next) + 1) }
         ensures honest { D.Honest disk.new → D.Honest disk.old }
         ensures fault { device.CountsFault (D.fault_count disk.old) (D.fault_count disk.new) result }
+        ensures device { OnErr result (D.Honest disk.new → (world : C.codec.World)
+            → CarriesWith C.codec self.now (Some checkpoint) (D.state disk.old) world → D.Works disk.new → ⊥) }
         ensures writes { D.write_count disk.new ≤ D.write_count disk.old + 1 }
         ensures syncs { D.sync_count disk.new ≤ D.sync_count disk.old + 1 }
         ensures works { D.Works disk.new → D.Works disk.old }
@@ -216,6 +224,8 @@ impl<C: Codec> OpenFile<C> {
         ensures left { IfOk result (λ next. left_of (Some checkpoint) ≡ left_of (Some next) + 1) }
         ensures honest { D.Honest disk.new → D.Honest disk.old }
         ensures fault { device.CountsFault (D.fault_count disk.old) (D.fault_count disk.new) result }
+        ensures device { OnErr result (D.Honest disk.new → (world : C.codec.World)
+            → CarriesWith C.codec self.now (Some checkpoint) (D.state disk.old) world → D.Works disk.new → ⊥) }
         ensures writes { D.write_count disk.new ≤ D.write_count disk.old + 1 }
         ensures syncs { D.sync_count disk.new ≤ D.sync_count disk.old + 1 }
         ensures works { D.Works disk.new → D.Works disk.old }
@@ -241,6 +251,8 @@ impl<C: Codec> OpenFile<C> {
         ensures left { IfOk result (λ next. left_of (Some checkpoint) ≡ left_of (Some next) + 1) }
         ensures honest { D.Honest disk.new → D.Honest disk.old }
         ensures fault { device.CountsFault (D.fault_count disk.old) (D.fault_count disk.new) result }
+        ensures device { OnErr result (D.Honest disk.new → (world : C.codec.World)
+            → CarriesWith C.codec self.now (Some checkpoint) (D.state disk.old) world → D.Works disk.new → ⊥) }
         ensures writes { D.write_count disk.new ≤ D.write_count disk.old + 1 }
         ensures syncs { D.sync_count disk.new ≤ D.sync_count disk.old + 1 }
         ensures works { D.Works disk.new → D.Works disk.old }
@@ -267,9 +279,12 @@ impl<C: Codec> OpenFile<C> {
             → CarriesWith C.codec self.old (Some checkpoint.now) (D.state disk.old) world
             → LeavesKept C.codec (D.past disk.old) (D.state disk.old) (D.past disk.new) (D.state disk.new) world }
         ensures number { self.new.place.number ≡ self.old.place.number }
+        ensures half { self.new.place.half ≡ self.old.place.half }
         ensures rests { OnOk result (self.new.place.begun ≡ None) }
         ensures honest { D.Honest disk.new → D.Honest disk.old }
         ensures fault { device.CountsFault (D.fault_count disk.old) (D.fault_count disk.new) result }
+        ensures device { OnErr result (D.Honest disk.new → (world : C.codec.World)
+            → CarriesWith C.codec self.old (Some checkpoint.now) (D.state disk.old) world → D.Works disk.new → ⊥) }
         ensures writes { D.write_count disk.new ≤ D.write_count disk.old + 1 }
         ensures syncs { D.sync_count disk.new ≤ D.sync_count disk.old + 1 }
         ensures works { D.Works disk.new → D.Works disk.old }

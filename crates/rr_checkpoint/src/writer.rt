@@ -130,7 +130,7 @@ impl<C: Codec> Writer<C> {
 
         // When each error comes.
         ensures full { IsErrOf result journal.HalfFull
-            ↔ (HasRoom (place_of self.old).part.next_slot (length line.now) → ⊥) }
+            ↔ (HasRoom (place_of self.old).half.next_slot (length line.now) → ⊥) }
         ensures same { IsErrOf result journal.HalfFull → self.new ≡ self.old }
         ensures no_call { IsErrOf result journal.HalfFull → disk.new ≡ disk.old }
         ensures no_memory { IsErrOf result journal.OutOfMemory → ⊥ }
@@ -264,8 +264,12 @@ impl<C: Codec> Writer<C> {
         ensures left { OnOk result (ticks_left_of self.new ≡ length plan.fresh.items + 3) }
         ensures taken { taken_of self.new ≡ taken_of self.old }
         ensures number { (place_of self.new).number ≡ (place_of self.old).number }
+        ensures slots { (place_of self.new).half.next_slot ≤ (place_of self.old).half.next_slot }
 
         ensures fault { device.CountsFault (D.fault_count disk.old) (D.fault_count disk.new) result }
+        // A disk that works doesn't fail here, where its file is one of a store.
+        ensures device { OnErr result (D.Honest disk.new → (world : C.codec.World)
+            → Carries C.codec self.old (D.state disk.old) world → D.Works disk.new → ⊥) }
         ensures writes { D.write_count disk.new ≤ D.write_count disk.old + 1 }
         ensures syncs { D.sync_count disk.new ≤ D.sync_count disk.old + 1 }
         ensures honest { D.Honest disk.new → D.Honest disk.old }
@@ -295,8 +299,11 @@ impl<C: Codec> Writer<C> {
         ensures taken { IfOk result (λ tick. StaysTakenAt tick (taken_of self.old) (taken_of self.new)) }
         ensures rests { IfOk result (λ tick. RestsAt tick (place_of self.new).begun) }
         ensures number { (place_of self.new).number ≡ (place_of self.old).number }
+        ensures half { (place_of self.new).half ≡ (place_of self.old).half }
 
         ensures fault { device.CountsFault (D.fault_count disk.old) (D.fault_count disk.new) result }
+        ensures device { OnErr result (D.Honest disk.new → (world : C.codec.World)
+            → Carries C.codec self.old (D.state disk.old) world → D.Works disk.new → ⊥) }
         ensures writes { D.write_count disk.new ≤ D.write_count disk.old + 1 }
         ensures syncs { D.sync_count disk.new ≤ D.sync_count disk.old + 1 }
         ensures honest { D.Honest disk.new → D.Honest disk.old }
@@ -336,6 +343,8 @@ impl<C: Codec> Writer<C> {
         ensures number { (place_of self.new).number ≡ (place_of self.old).number }
 
         ensures fault { device.CountsFault (D.fault_count disk.old) (D.fault_count disk.new) result }
+        ensures device { OnErr result (D.Honest disk.new → (world : C.codec.World)
+            → Carries C.codec self.old (D.state disk.old) world → D.Works disk.new → ⊥) }
         ensures writes { D.write_count disk.new ≤ D.write_count disk.old + ticks_left_of self.old }
         ensures syncs { D.sync_count disk.new ≤ D.sync_count disk.old + ticks_left_of self.old }
         ensures honest { D.Honest disk.new → D.Honest disk.old }

@@ -91,4 +91,7 @@ pub trait Disk {
 
     /// A stop may leave what a read gives.
     ghost content_may_stay: { (disk : Self) → Honest disk → IsImage (state disk) (state disk).content };
+
+    /// The device tells how many bytes a read gives.
+    ghost length_is_told: { (disk : Self) → Honest disk → file_len disk ≡ length (state disk).content };
 }

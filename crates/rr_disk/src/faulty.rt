@@ -220,4 +220,6 @@ impl<D: Disk + Drop> Disk for FaultyDisk<D> {
     }
 
     ghost content_may_stay = { λ faulty honest. D.content_may_stay faulty.disk honest };
+
+    ghost length_is_told = { λ faulty honest. D.length_is_told faulty.disk honest };
 }

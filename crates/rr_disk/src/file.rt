@@ -228,4 +228,6 @@ impl<S: Start> Disk for FileDisk<S> {
     }
 
     ghost content_may_stay = { λ disk honest. disk.may_stay };
+
+    ghost length_is_told = { λ disk honest. disk.len_is honest };
 }

@@ -166,6 +166,7 @@ fn len_after(len: usize, end: u64, added: usize) -> usize
 }
 
 impl Disk for MemoryDisk {
+    ghost use Rattle.std.proofs.Common.{refl};
     ghost use Rattle.rr_disk.specs.Memory.{memory_state, memory_past, memory_faults, memory_writes, memory_syncs, room_of, used_of_room, is_full};
 
     ghost state = { λ disk. state_of disk.file };
@@ -294,4 +295,6 @@ impl Disk for MemoryDisk {
     }
 
     ghost content_may_stay = { λ disk honest. disk.file.may_stay };
+
+    ghost length_is_told = { λ disk honest. refl };
 }

@@ -1,6 +1,6 @@
 -- A new file that stands whole keeps its world.
 use Rattle.std.proofs.Common.{ℕ, ◌*◌, ◌<◌, Bool, true, false, not, List, [], ◌∷◌, ◌++◌, arith}
-use Rattle.rr_images.specs.Halves.{half_part}
+use Rattle.rr_images.specs.Halves.{half_index}
 use Rattle.rr_images.specs.Holding.{pages_of}
 use Rattle.rr_images.specs.Layout.{Spelled}
 use Rattle.rr_images.proofs.OneWorld.{formatted_keep}
@@ -23,7 +23,7 @@ first_under file head count (page ∷ pages) text more chain in_data = omega (ar
 
 module _ (root : Root) (fresh : List FreshPage) (file : List ℕ) (has : HasNewBytes root fresh file) where
   -- slot 0 of each half is shut
-  half_shut : (half : Bool) → IsOpen file (half_part half) 0 → ⊥
+  half_shut : (half : Bool) → IsOpen file (half_index half) 0 → ⊥
   half_shut false open_gate = omega (arith, has.zeros (4096 * 2) (omega arith) (omega arith), open_gate)
   half_shut true open_gate = omega (arith, has.zeros (4096 * 258) (omega arith) (omega arith), open_gate)
 

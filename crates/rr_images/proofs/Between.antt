@@ -5,7 +5,7 @@ use Rattle.std.proofs.lemmas.List.{append-nil}
 use Rattle.rr_disk.specs.Disk.{DiskState, IsImage, Torn, written, after_write, after_sync}
 use Rattle.rr_disk.specs.Moments.{EachImage}
 use Rattle.rr_disk.proofs.ImageLemmas.{torn_whole}
-use Rattle.rr_journal.specs.declared.part.Part.{Part}
+use Rattle.rr_journal.specs.declared.half.Half.{Half}
 use Rattle.rr_journal.specs.Layout.{HasRoom, spelling, slots_for}
 use Rattle.rr_journal.specs.Stops.{next_gate, MayLeave}
 use Rattle.rr_images.specs.Codec.{Codec}
@@ -21,38 +21,38 @@ use Rattle.rr_images.proofs.Steps.{torn_same, long}
 use Rattle.rr_images.proofs.Commits.{commit_leaves, taken_in, low_end, high_end}
 use Rattle.rr_images.proofs.Ticks.{stand_above, stands_written, only_content_of, plan_on}
 
-module _ (codec : Codec) (layout : Layout codec) (world : codec.World) (line : List ℕ) (after : codec.World) (takes : codec.Takes line world after) (state : DiskState) (stays : IsImage state state.content) (part : Part) (number : ℕ) (goes_on : GoesOnAt layout part number)
-    (room : HasRoom part.next_slot (length line)) (fits : number < 256 ^ 8) where
+module _ (codec : Codec) (layout : Layout codec) (world : codec.World) (line : List ℕ) (after : codec.World) (takes : codec.Takes line world after) (state : DiskState) (stays : IsImage state state.content) (half : Half) (number : ℕ) (goes_on : GoesOnAt layout half number)
+    (room : HasRoom half.next_slot (length line)) (fits : number < 256 ^ 8) where
   -- a stop within the append leaves what was kept, or that with the line
-  pub append_leaves : EachImage state (λ image. KeepsAt codec layout image world) → (image : List ℕ) → MayLeave part state number line image → Keeps codec image world ⊎ Keeps codec image after
+  pub append_leaves : EachImage state (λ image. KeepsAt codec layout image world) → (image : List ℕ) → MayLeave half state number line image → Keeps codec image world ⊎ Keeps codec image after
   append_leaves each image may =
-      elim (commit_leaves codec layout world line after takes state part number goes_on each room fits image may) [
+      elim (commit_leaves codec layout world line after takes state half number goes_on each room fits image may) [
         | inl kept ↦ inl (record { layout = layout; kept = kept })
         | inr kept ↦ inr (record { layout = with_line layout line after; kept = kept })
       ]
 
   abbrev pub taken_file : List ℕ
-  taken_file = written state.content (next_gate part) (spelling number line)
+  taken_file = written state.content (next_gate half) (spelling number line)
 
   abbrev pub taken_state : DiskState
-  taken_state = after_sync (after_write state (next_gate part) (spelling number line))
+  taken_state = after_sync (after_write state (next_gate half) (spelling number line))
 
-  torn_there : Torn (next_gate part) (length (spelling number line)) state.content taken_file
-  torn_there = torn_whole state.content (next_gate part) (spelling number line)
+  torn_there : Torn (next_gate half) (length (spelling number line)) state.content taken_file
+  torn_there = torn_whole state.content (next_gate half) (spelling number line)
 
-  low_there : EachImage state (λ image. KeepsAt codec layout image world) → 8192 ≤ next_gate part
+  low_there : EachImage state (λ image. KeepsAt codec layout image world) → 8192 ≤ next_gate half
   low_there each =
-      let half = half_low (half_at layout.root.half layout.far) in
-      omega (arith, low_end codec layout world line after takes state part number goes_on each room fits)
+      let lowest = half_low (half_at layout.root.half layout.far) in
+      omega (arith, low_end codec layout world line after takes state half number goes_on each room fits)
 
-  high_there : EachImage state (λ image. KeepsAt codec layout image world) → next_gate part + length (spelling number line) ≤ 4096 * 514
+  high_there : EachImage state (λ image. KeepsAt codec layout image world) → next_gate half + length (spelling number line) ≤ 4096 * 514
   high_there each =
-      let half = half_high (half_at layout.root.half layout.far) in
-      omega (arith, high_end codec layout world line after takes state part number goes_on each room fits)
+      let highest = half_high (half_at layout.root.half layout.far) in
+      omega (arith, high_end codec layout world line after takes state half number goes_on each room fits)
 
   stand_still : EachImage state (λ image. KeepsAt codec layout image world) → (reached : List ℕ) (xs ys : List (ℕ × List ℕ)) → AreSpare reached (xs ++ ys) → AllStand state.content xs → AllStand taken_file xs
   stand_still each reached xs ys spare stand =
-      stand_above reached state.content taken_file (next_gate part) (length (spelling number line)) xs ys torn_there (high_there each) spare stand
+      stand_above reached state.content taken_file (next_gate half) (length (spelling number line)) xs ys torn_there (high_there each) spare stand
 
   prepared_still : EachImage state (λ image. KeepsAt codec layout image world) → (far : FarHalf) (plan : Plan) → IsPrepared codec layout plan.root plan.holding state.content → IsPrepared codec (with_far layout far) plan.root plan.holding taken_file
   prepared_still each far plan prepared =
@@ -62,15 +62,15 @@ module _ (codec : Codec) (layout : Layout codec) (world : codec.World) (line : L
       let side = root_low (not layout.side) in
       let enough = long codec layout world state.content state.content there in
       record {
-        fields = fields_same state.content taken_file (not layout.side) plan.root (torn_same (next_gate part) (length (spelling number line)) state.content taken_file (root_gate (not layout.side) + 1) (root_gate (not layout.side) + 36) torn_there (omega arith) (inl (omega arith))) prepared.fields;
+        fields = fields_same state.content taken_file (not layout.side) plan.root (torn_same (next_gate half) (length (spelling number line)) state.content taken_file (root_gate (not layout.side) + 1) (root_gate (not layout.side) + 36) torn_there (omega arith) (inl (omega arith))) prepared.fields;
         sound = sound_longer state.content taken_file plan.root torn_there.no_shorter prepared.sound;
         spelled = spelled_same state.content taken_file codec plan.root plan.holding layout.middle (λ p inside.
             let data_page = reached_in plan.root.pages p (reached_of plan.holding) prepared.spelled.in_data inside in
-            torn_same (next_gate part) (length (spelling number line)) state.content taken_file (4096 * p) (4096 * p + 4096) torn_there (omega (arith, data_page.1, prepared.sound.within)) (inr (omega (arith, data_page.0)))) prepared.spelled;
+            torn_same (next_gate half) (length (spelling number line)) state.content taken_file (4096 * p) (4096 * p + 4096) torn_there (omega (arith, data_page.1, prepared.sound.within)) (inr (omega (arith, data_page.0)))) prepared.spelled;
       }
 
   only_taken : (image : List ℕ) → IsImage taken_state image → image ≡ taken_file
-  only_taken image is = only_content_of (after_write state (next_gate part) (spelling number line)) image is
+  only_taken image is = only_content_of (after_write state (next_gate half) (spelling number line)) image is
 
   still_begun : (progress : Progress) → EachImage state (λ image. KeepsAt codec layout image world) → IsBegun layout.far → HasCome codec layout state progress → (lines : List (List ℕ)) → HasCome codec (with_far layout (Begun lines)) taken_state progress
   still_begun Resting each begun come lines = tt
@@ -106,12 +106,12 @@ module _ (codec : Codec) (layout : Layout codec) (world : codec.World) (line : L
 
   -- after the append the store is between two calls again, the checkpoint where it was
   pub append_done : (progress : Progress) → IsBetween codec layout state progress world
-      → journal.Keeps (record { index = part.index; next_slot = part.next_slot + slots_for (length line) }) taken_state (first_at layout.root.first layout.near layout.far) (lines_at layout.near layout.far ++ line ∷ [])
+      → journal.Keeps (record { index = half.index; next_slot = half.next_slot + slots_for (length line) }) taken_state (first_at layout.root.first layout.near layout.far) (lines_at layout.near layout.far ++ line ∷ [])
       → IsBetween codec (with_line layout line after) taken_state progress after
   append_done progress between keeps =
-      let may : MayLeave part state number line taken_file = record { earlier = state.content; was = stays; elsewhere = torn_there; whole = inr (stands_written state.content (next_gate part) (spelling number line)) } in
+      let may : MayLeave half state number line taken_file = record { earlier = state.content; was = stays; elsewhere = torn_there; whole = inr (stands_written state.content (next_gate half) (spelling number line)) } in
       record {
-        each = λ image is. taken_in codec layout world line after takes state part number goes_on between.each room fits image
-            (subst (λ (f : List ℕ). MayLeave part state number line f) (sym (only_taken image is)) may) (keeps.each image is);
+        each = λ image is. taken_in codec layout world line after takes state half number goes_on between.each room fits image
+            (subst (λ (f : List ℕ). MayLeave half state number line f) (sym (only_taken image is)) may) (keeps.each image is);
         come = still progress between.each between.come;
       }

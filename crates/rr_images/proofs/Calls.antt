@@ -3,7 +3,7 @@ use Rattle.std.proofs.Common.{◌≡◌, ◌≢◌, ◌⊎◌, inl, inr, ℕ, �
 use Rattle.rr_disk.specs.Disk.{DiskState, IsImage, after_write, after_sync}
 use Rattle.rr_disk.specs.Moments.{EachImage, TornFrom}
 use Rattle.rr_disk.proofs.ImageLemmas.{synced_may_stay}
-use Rattle.rr_journal.specs.declared.part.Part.{Part}
+use Rattle.rr_journal.specs.declared.half.Half.{Half}
 use Rattle.rr_journal.specs.Layout.{HasRoom, slots_for, spelling}
 use Rattle.rr_journal.specs.Stops as journal
 use Rattle.rr_journal.specs.Stops.{next_gate, MayLeave}
@@ -15,7 +15,7 @@ use Rattle.rr_pages.specs.Device.{Shuts, By_write, By_sync, MayShut, MayFlip, Wh
 use Rattle.rr_pages.specs.Roots.{Stale, Shut, Older, root_gate, root_bytes, HasFields, IsStale, FitsFields}
 use Rattle.rr_pages.proofs.RootSpelling.{length-root, root_stands}
 use Rattle.rr_images.specs.Codec.{Codec}
-use Rattle.rr_images.specs.Halves.{half_part}
+use Rattle.rr_images.specs.Halves.{half_index}
 use Rattle.rr_images.specs.Holding.{pages_of}
 use Rattle.rr_images.specs.Layout.{Layout, FarHalf, Unused, Old, Begun, KeepsFar, KeepsAt, far_lines}
 use Rattle.rr_images.specs.Steps.{with_stale, with_far, flipped, behind_flip, lines_at, first_at, GoesOnAt}
@@ -44,19 +44,19 @@ nothing_in (line ∷ near) = refl
 module _ (codec : Codec) (layout : Layout codec) (state : DiskState) (world : codec.World) (stays : IsImage state state.content) where
   -- the other half's gate, as a read tells it
   module _ (each : EachImage state (λ image. KeepsAt codec layout image world)) (none : IsNotBegun layout.far) where
-    far_there : KeepsFar state.content (half_part (not layout.root.half)) (layout.root.first + length layout.near) layout.far
+    far_there : KeepsFar state.content (half_index (not layout.root.half)) (layout.root.first + length layout.near) layout.far
     far_there = (each state.content stays).far_kept
 
     is_old : slice_index state.content (far_gate layout) ≡ 0xa5 → layout.far ≡ Old
     is_old open_gate = elim (not_begun layout.far none) [
-      | inl is ↦ absurd ((subst (λ (far : FarHalf). KeepsFar state.content (half_part (not layout.root.half)) (layout.root.first + length layout.near) far) is far_there) (omega arith) open_gate)
+      | inl is ↦ absurd ((subst (λ (far : FarHalf). KeepsFar state.content (half_index (not layout.root.half)) (layout.root.first + length layout.near) far) is far_there) (omega arith) open_gate)
       | inr is ↦ is
     ]
 
     is_unused : slice_index state.content (far_gate layout) ≢ 0xa5 → layout.far ≡ Unused
     is_unused shut = elim (not_begun layout.far none) [
       | inl is ↦ is
-      | inr is ↦ absurd (shut (subst (λ (far : FarHalf). KeepsFar state.content (half_part (not layout.root.half)) (layout.root.first + length layout.near) far) is far_there).0)
+      | inr is ↦ absurd (shut (subst (λ (far : FarHalf). KeepsFar state.content (half_index (not layout.root.half)) (layout.root.first + length layout.near) far) is far_there).0)
     ]
 
     begin_leaves : LeaveKept codec world (MayShut state (far_gate layout))
@@ -171,23 +171,23 @@ module _ (codec : Codec) (layout : Layout codec) (state : DiskState) (world : co
           }
 
   -- a record is appended
-  module _ (progress : Progress) (part : Part) (number : ℕ) (line : List ℕ) (after : codec.World) (takes : codec.Takes line world after) (room : HasRoom part.next_slot (length line)) (low : number < 2 ^ 63)
-      (goes_on : GoesOnAt layout part number) (between : IsBetween codec layout state progress world) where
-    kept_there : journal.Keeps part state (first_at layout.root.first layout.near layout.far) (lines_at layout.near layout.far)
-    kept_there = journal_keeps codec layout world state part number goes_on between.each
+  module _ (progress : Progress) (half : Half) (number : ℕ) (line : List ℕ) (after : codec.World) (takes : codec.Takes line world after) (room : HasRoom half.next_slot (length line)) (low : number < 2 ^ 63)
+      (goes_on : GoesOnAt layout half number) (between : IsBetween codec layout state progress world) where
+    kept_there : journal.Keeps half state (first_at layout.root.first layout.near layout.far) (lines_at layout.near layout.far)
+    kept_there = journal_keeps codec layout world state half number goes_on between.each
 
-    pub appends : Appends codec layout state progress part number line world after
+    pub appends : Appends codec layout state progress half number line world after
     appends =
         let fits_number : number < 256 ^ 8 = omega (arith, low) in
         let first = first_at layout.root.first layout.near layout.far in
         let lines = lines_at layout.near layout.far in
-        let taken = after_sync (after_write state (next_gate part) (spelling number line)) in
+        let taken = after_sync (after_write state (next_gate half) (spelling number line)) in
         record {
-          ready = keeps_ready part state first (length line) lines room kept_there;
-          leaves = append_leaves codec layout world line after takes state stays part number goes_on room fits_number between.each;
-          done = append_done codec layout world line after takes state stays part number goes_on room fits_number progress between
-              (kept_after part number first lines line goes_on.numbered goes_on.slot state taken (slots_for (length line)) kept_there room fits_number stays refl refl);
-          goes_on = goes_line codec layout part number goes_on line after;
+          ready = keeps_ready half state first (length line) lines room kept_there;
+          leaves = append_leaves codec layout world line after takes state stays half number goes_on room fits_number between.each;
+          done = append_done codec layout world line after takes state stays half number goes_on room fits_number progress between
+              (kept_after half number first lines line goes_on.numbered goes_on.slot state taken (slots_for (length line)) kept_there room fits_number stays refl refl);
+          goes_on = goes_line codec layout half number goes_on line after;
         }
 
 -- the last three steps of a checkpoint in one call

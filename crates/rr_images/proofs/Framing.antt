@@ -1,6 +1,6 @@
 -- On which bytes what a file keeps depends.
 use Rattle.std.proofs.Common.{◌≡◌, inl, inr, ℕ, ◌+◌, ◌*◌, ◌<◌, ◌≤◌, Bool, not, List, [], ◌∷◌, slice_index, length, refl, sym, ◌∙◌, subst, arith}
-use Rattle.rr_journal.specs.declared.layout.PartIndex.{PartIndex}
+use Rattle.rr_journal.specs.declared.layout.HalfIndex.{HalfIndex}
 use Rattle.rr_journal.specs.declared.reading.RunEnd.TheVariants.{Closed}
 use Rattle.rr_journal.specs.Layout.{gate_place, number_at}
 use Rattle.rr_journal.proofs.Bytes.{big_from-same}
@@ -9,14 +9,14 @@ use Rattle.rr_pages.proofs.SetLemmas.{in_front, in_back}
 use Rattle.rr_images.specs.Codec.{Codec}
 use Rattle.rr_pages.specs.declared.root.Root.{Root}
 use Rattle.rr_pages.specs.Roots.{Stale, Shut, Older, root_gate, field, HasFields, IsSound, IsStale}
-use Rattle.rr_images.specs.Halves.{half_part}
+use Rattle.rr_images.specs.Halves.{half_index}
 use Rattle.rr_pages.specs.Pages.{number_in, IsIn, AreData}
 use Rattle.rr_pages.specs.Chains.{IsPage, Links, Chain}
 use Rattle.rr_pages.specs.Laying.{head_of}
 use Rattle.rr_images.specs.Holding.{HeldChain, Holding, pages_of, reached_of, AllHeld}
 use Rattle.rr_images.specs.Layout.{Spelled, Layout, FarHalf, Unused, Old, Begun, KeepsFar, KeepsAt}
 use Rattle.rr_images.specs.Steps.{with_stale}
-use Rattle.rr_images.specs.Framing.{Same, SamePages, SamePart, IsReadTheSame}
+use Rattle.rr_images.specs.Framing.{Same, SamePages, SameHalf, IsReadTheSame}
 
 module _ (a b : List ℕ) where
   -- roots
@@ -105,13 +105,13 @@ module _ (a b : List ℕ) where
       }
 
   -- a half of the journal
-  pub far_same : (part : PartIndex) (number : ℕ) (far : FarHalf) → SamePart a b part → KeepsFar a part number far → KeepsFar b part number far
+  pub far_same : (half : HalfIndex) (number : ℕ) (far : FarHalf) → SameHalf a b half → KeepsFar a half number far → KeepsFar b half number far
   unfolding number_at
-  far_same part number Unused same is = run_same a b part number [] Closed same is
-  far_same part number Old same is =
-      let numbers : number_at b part 0 ≡ number_at a part 0 = big_from-same (gate_place part 0 + 1) (gate_place part 0 + 1) 8 b a (λ j h. same (gate_place part 0 + 1 + j) (omega arith) (omega arith)) in
-      (same (gate_place part 0) (omega arith) (omega arith) ∙ is.0, subst (λ (n : ℕ). n < number) (sym numbers) is.1)
-  far_same part number (Begun lines) same is = run_same a b part number lines Closed same is
+  far_same half number Unused same is = run_same a b half number [] Closed same is
+  far_same half number Old same is =
+      let numbers : number_at b half 0 ≡ number_at a half 0 = big_from-same (gate_place half 0 + 1) (gate_place half 0 + 1) 8 b a (λ j h. same (gate_place half 0 + 1 + j) (omega arith) (omega arith)) in
+      (same (gate_place half 0) (omega arith) (omega arith) ∙ is.0, subst (λ (n : ℕ). n < number) (sym numbers) is.1)
+  far_same half number (Begun lines) same is = run_same a b half number lines Closed same is
 
 -- reached pages are data pages under the page count
 pub reached_in : (count p : ℕ) (pages : List ℕ) → AreData count pages → IsIn p pages → (514 ≤ p) × (p < count)
@@ -122,15 +122,15 @@ reached_in count p (page ∷ pages) data_pages (inr inside) = reached_in count p
 -- a file that has all these bytes keeps the same
 pub keeps_same : (codec : Codec) (layout : Layout codec) (stale : Stale) (world : codec.World) (a b : List ℕ) → length a ≤ length b
     → Same a b (root_gate layout.side) (root_gate layout.side + 36) → IsStale b (not layout.side) layout.root.number stale
-    → SamePart a b (half_part layout.root.half) → SamePart a b (half_part (not layout.root.half)) → SamePages a b (reached_of layout.holding)
+    → SameHalf a b (half_index layout.root.half) → SameHalf a b (half_index (not layout.root.half)) → SamePages a b (reached_of layout.holding)
     → KeepsAt codec layout a world → KeepsAt codec (with_stale layout stale) b world
 keeps_same codec layout stale world a b longer root other near far pages keeps =
     record {
       taken = record { open_gate = (open_same a b layout.side root) ∙ keeps.taken.open_gate; fields = fields_same a b layout.side layout.root (λ i low high. root i (omega arith) (omega arith)) keeps.taken.fields; sound = sound_longer a b layout.root longer keeps.taken.sound; other = other };
       spelled = spelled_same a b codec layout.root layout.holding layout.base pages keeps.spelled;
-      near_run = run_same a b (half_part layout.root.half) layout.root.first layout.near Closed near keeps.near_run;
+      near_run = run_same a b (half_index layout.root.half) layout.root.first layout.near Closed near keeps.near_run;
       near_replayed = keeps.near_replayed;
-      far_kept = far_same a b (half_part (not layout.root.half)) (layout.root.first + length layout.near) layout.far far keeps.far_kept;
+      far_kept = far_same a b (half_index (not layout.root.half)) (layout.root.first + length layout.near) layout.far far keeps.far_kept;
       far_replayed = keeps.far_replayed;
     }
 

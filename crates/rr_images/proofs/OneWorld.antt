@@ -3,7 +3,7 @@ use Rattle.std.proofs.Common.{◌≡◌, ◌≢◌, ℕ, ◌+◌, Bool, not, Lis
 use Rattle.std.proofs.lemmas.List.{ext_get_or}
 use Rattle.rr_disk.specs.Disk.{DiskState, after_sync}
 use Rattle.rr_disk.proofs.ImageLemmas.{each_synced}
-use Rattle.rr_journal.specs.declared.layout.PartIndex.{PartIndex}
+use Rattle.rr_journal.specs.declared.layout.HalfIndex.{HalfIndex}
 use Rattle.rr_journal.specs.declared.reading.RunEnd.{RunEnd}
 use Rattle.rr_journal.specs.declared.reading.RunEnd.TheVariants.{Closed, OtherNumber, Damaged}
 use Rattle.rr_journal.specs.Layout.{IsOpen}
@@ -14,7 +14,7 @@ use Rattle.rr_images.specs.Codec.{Codec, Replays, IsExact}
 use Rattle.rr_pages.specs.declared.root.Root.{Root}
 use Rattle.rr_pages.specs.Roots.{Shut, IsTaken}
 use Rattle.rr_pages.specs.Laying.{head_of}
-use Rattle.rr_images.specs.Halves.{half_part}
+use Rattle.rr_images.specs.Halves.{half_index}
 use Rattle.rr_pages.specs.Pages.{AreData}
 use Rattle.rr_pages.specs.Chains.{IsPage, Links, Chain}
 use Rattle.rr_images.specs.Holding.{HeldChain, Holding, heads_of, texts_of, pages_of, AllHeld, reached_of}
@@ -45,15 +45,15 @@ end_of Unused = Closed
 end_of Old = OtherNumber
 end_of (Begun lines) = Closed
 
-pub far_stands : (file : List ℕ) (part : PartIndex) (number : ℕ) (far : FarHalf) → KeepsFar file part number far → Run file part 0 number (far_lines far) (end_of far) × (end_of far ≢ Damaged)
+pub far_stands : (file : List ℕ) (half : HalfIndex) (number : ℕ) (far : FarHalf) → KeepsFar file half number far → Run file half 0 number (far_lines far) (end_of far) × (end_of far ≢ Damaged)
 unfolding end_of
-far_stands file part number Unused kept = (kept, closed_whole)
-far_stands file part number Old kept = ((omega arith, kept.0, λ is. absurd (omega (arith, kept.1, is))), other_whole)
-far_stands file part number (Begun lines) kept = (kept, closed_whole)
+far_stands file half number Unused kept = (kept, closed_whole)
+far_stands file half number Old kept = ((omega arith, kept.0, λ is. absurd (omega (arith, kept.1, is))), other_whole)
+far_stands file half number (Begun lines) kept = (kept, closed_whole)
 
 unfoldable pub kept_stands : (codec : Codec) (layout : Layout codec) (file : List ℕ) (world : codec.World) → KeepsAt codec layout file world → Stands codec file world
 kept_stands codec layout file world keeps =
-    let far = far_stands file (half_part (not layout.root.half)) (layout.root.first + length layout.near) layout.far keeps.far_kept in
+    let far = far_stands file (half_index (not layout.root.half)) (layout.root.first + length layout.near) layout.far keeps.far_kept in
     record {
       side = layout.side;
       root = layout.root;
@@ -159,10 +159,10 @@ module _ (codec : Codec) (exact : IsExact codec) where
   one_reading file after world a b =
       let taken = one_taken file a.side b.side a.root b.root a.stale b.stale a.taken b.taken in
       let spelled = one_spelled file a.root a.holding b.holding a.base b.base a.spelled (subst (λ (r : Root). Spelled codec file r b.holding b.base) (sym taken.1) b.spelled) in
-      let near = one_run file (half_part a.root.half) 0 a.root.first a.near b.near a.near_end b.near_end a.near_run (subst (λ (r : Root). Run file (half_part r.half) 0 r.first b.near b.near_end) (sym taken.1) b.near_run) in
-      let other : Run file (half_part (not a.root.half)) 0 (a.root.first + length a.near) b.far b.far_end = subst (λ (lines : List (List ℕ)). Run file (half_part (not a.root.half)) 0 (a.root.first + length lines) b.far b.far_end) near.0
-      (subst (λ (r : Root). Run file (half_part (not r.half)) 0 (r.first + length b.near) b.far b.far_end) (sym taken.1) b.far_run) in
-      let far = one_run file (half_part (not a.root.half)) 0 (a.root.first + length a.near) a.far b.far a.far_end b.far_end a.far_run other in
+      let near = one_run file (half_index a.root.half) 0 a.root.first a.near b.near a.near_end b.near_end a.near_run (subst (λ (r : Root). Run file (half_index r.half) 0 r.first b.near b.near_end) (sym taken.1) b.near_run) in
+      let other : Run file (half_index (not a.root.half)) 0 (a.root.first + length a.near) b.far b.far_end = subst (λ (lines : List (List ℕ)). Run file (half_index (not a.root.half)) 0 (a.root.first + length lines) b.far b.far_end) near.0
+      (subst (λ (r : Root). Run file (half_index (not r.half)) 0 (r.first + length b.near) b.far b.far_end) (sym taken.1) b.far_run) in
+      let far = one_run file (half_index (not a.root.half)) 0 (a.root.first + length a.near) a.far b.far a.far_end b.far_end a.far_run other in
       λ i. record { side = sym taken.0 i; root = sym taken.1 i; holding = sym spelled.0 i; base = sym spelled.1 i; near = near.0 i; far = far.0 i }
 
   pub one_world : (file : List ℕ) (after world : codec.World) → Stands codec file after → Stands codec file world → after ≡ world
@@ -184,7 +184,7 @@ kept_opened codec layout file world (Begun (line ∷ lines)) is keeps = subst (�
 
 -- a file without records
 pub formatted_keep : (codec : Codec) (file : List ℕ) (side : Bool) (root : Root) (holding : Holding) (world : codec.World) → IsTaken file side root Shut → Spelled codec file root holding world
-    → (IsOpen file (half_part root.half) 0 → ⊥) → (IsOpen file (half_part (not root.half)) 0 → ⊥) → KeepsAt codec (formatted side root holding world) file world
+    → (IsOpen file (half_index root.half) 0 → ⊥) → (IsOpen file (half_index (not root.half)) 0 → ⊥) → KeepsAt codec (formatted side root holding world) file world
 formatted_keep codec file side root holding world taken spelled near far =
     record {
       taken = taken;

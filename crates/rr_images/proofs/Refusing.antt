@@ -9,7 +9,7 @@ use Rattle.rr_pages.specs.Roots.{Stale, IsTaken}
 use Rattle.rr_pages.proofs.ChoosingLemmas.{one_taken, taken_store, taken_good}
 use Rattle.rr_pages.proofs.SetLemmas.{empty_has}
 use Rattle.rr_images.specs.Codec.{Codec, IsExact, Replays}
-use Rattle.rr_images.specs.Halves.{half_part}
+use Rattle.rr_images.specs.Halves.{half_index}
 use Rattle.rr_images.specs.Holding.{Holding, heads_of, texts_of, pages_of}
 use Rattle.rr_images.specs.Layout.{Stands}
 use Rattle.rr_images.specs.Following.{IsRead, ToldBroken}
@@ -41,14 +41,14 @@ module _ (codec : Codec) (exact : IsExact codec) (file : List ℕ) (world : code
       let same = same_holding none.holding none.after none.read in
       none.nothing stands.base (subst (λ (holding : Holding). codec.Spells stands.root.version holding.directory.text (texts_of holding.chains) stands.base) (sym same) stands.spelled.spells)
 
-  same_near : (near : List (List ℕ)) (end : RunEnd) → Run file (half_part stands.root.half) 0 stands.root.first near end → (near ≡ stands.near) × (end ≡ stands.near_end)
-  same_near near end run = one_run file (half_part stands.root.half) 0 stands.root.first stands.near near stands.near_end end stands.near_run run
+  same_near : (near : List (List ℕ)) (end : RunEnd) → Run file (half_index stands.root.half) 0 stands.root.first near end → (near ≡ stands.near) × (end ≡ stands.near_end)
+  same_near near end run = one_run file (half_index stands.root.half) 0 stands.root.first stands.near near stands.near_end end stands.near_run run
 
-  same_far : (near far : List (List ℕ)) (near_end far_end : RunEnd) → Run file (half_part stands.root.half) 0 stands.root.first near near_end → Run file (half_part (not stands.root.half)) 0 (stands.root.first + length near) far far_end
+  same_far : (near far : List (List ℕ)) (near_end far_end : RunEnd) → Run file (half_index stands.root.half) 0 stands.root.first near near_end → Run file (half_index (not stands.root.half)) 0 (stands.root.first + length near) far far_end
       → (far ≡ stands.far) × (far_end ≡ stands.far_end)
   same_far near far near_end far_end near_run far_run =
-      one_run file (half_part (not stands.root.half)) 0 (stands.root.first + length stands.near) stands.far far stands.far_end far_end stands.far_run
-      (subst (λ (lines : List (List ℕ)). Run file (half_part (not stands.root.half)) 0 (stands.root.first + length lines) far far_end) (same_near near near_end near_run).0 far_run)
+      one_run file (half_index (not stands.root.half)) 0 (stands.root.first + length stands.near) stands.far far stands.far_end far_end stands.far_run
+      (subst (λ (lines : List (List ℕ)). Run file (half_index (not stands.root.half)) 0 (stands.root.first + length lines) far far_end) (same_near near near_end near_run).0 far_run)
 
   none_damaged : HasDamagedRecord file stands.root → ⊥
   none_damaged (Near near run) = stands.near_whole (sym (same_near near Damaged run).1)

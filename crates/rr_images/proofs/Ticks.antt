@@ -12,7 +12,7 @@ use Rattle.rr_journal.proofs.Bytes.{at_same}
 use Rattle.rr_images.specs.Codec.{Codec}
 use Rattle.rr_pages.specs.declared.root.Root.{Root}
 use Rattle.rr_pages.specs.Roots.{Stale, Shut, Older, root_gate, HasFields}
-use Rattle.rr_images.specs.Halves.{half_part}
+use Rattle.rr_images.specs.Halves.{half_index}
 use Rattle.rr_pages.specs.Pages.{IsIn}
 use Rattle.rr_images.specs.Holding.{Holding, reached_of, AllHeld}
 use Rattle.rr_images.specs.Layout.{Spelled, Layout, Unused, Old, Begun, KeepsAt, Keeps}
@@ -223,7 +223,7 @@ module _ (codec : Codec) (layout : Layout codec) (state : DiskState) (world : co
   -- the other half's slot 0 is shut, and records go there
   module _ (each : EachImage state (λ image. KeepsAt codec layout image world)) where
     abbrev pub far_gate_of : ℕ
-    far_gate_of = gate_place (half_part (not layout.root.half)) 0
+    far_gate_of = gate_place (half_index (not layout.root.half)) 0
 
     pub begin_leaves : layout.far ≡ Old → (image : List ℕ) → TornFrom state far_gate_of 1 image → Keeps codec image world
     begin_leaves is image torn =

@@ -3,27 +3,27 @@
 use Rattle.std.specs.Prelude.{◌≡◌, ◌⊎◌, ℕ, ◌+◌, ◌*◌, ◌<◌, not, List, [], ◌∷◌, ◌++◌, length}
 use Rattle.rr_disk.specs.Disk.{DiskState, after_write, after_sync}
 use Rattle.rr_disk.specs.Moments.{EachImage, TornFrom}
-use Rattle.rr_journal.specs.declared.part.Part.{Part}
+use Rattle.rr_journal.specs.declared.half.Half.{Half}
 use Rattle.rr_journal.specs.Layout.{gate_place, slots_for, spelling}
 use Rattle.rr_journal.specs.Stops.{next_gate, IsReady, MayLeave}
 use Rattle.rr_pages.specs.Device.{Shuts, MayShut, Flips, MayFlip}
 use Rattle.rr_pages.specs.Roots.{root_gate, root_bytes, Shut}
 use Rattle.rr_images.specs.Codec.{Codec}
-use Rattle.rr_images.specs.Halves.{half_part}
+use Rattle.rr_images.specs.Halves.{half_index}
 use Rattle.rr_images.specs.Layout.{Stands, Layout, Begun, KeepsAt, Keeps}
 use Rattle.rr_images.specs.Progress.{Plan, IsPlan, Progress, Resting, Writing, Shutting, Filling, IsBetween}
 use Rattle.rr_images.specs.Steps.{with_stale, with_far, with_line, flipped, GoesOnAt}
 
 -- the gate of slot 0 in the half that the root doesn't name, and that of the root that isn't taken
 abbrev pub far_gate : {codec : Codec} → Layout codec → ℕ
-far_gate layout = gate_place (half_part (not layout.root.half)) 0
+far_gate layout = gate_place (half_index (not layout.root.half)) 0
 
 abbrev pub stale_gate : {codec : Codec} → Layout codec → ℕ
 stale_gate layout = root_gate (not layout.side)
 
--- the part of the journal behind a record
-abbrev pub part_behind : Part → List ℕ → Part
-part_behind part line = record { index = part.index; next_slot = part.next_slot + slots_for (length line) }
+-- the half of the journal behind a record
+abbrev pub part_behind : Half → List ℕ → Half
+part_behind half line = record { index = half.index; next_slot = half.next_slot + slots_for (length line) }
 
 -- what may be left keeps the world
 abbrev pub LeaveKept : (codec : Codec) → codec.World → (List ℕ → Type 0) → Type 0
@@ -84,13 +84,13 @@ module _ (codec : Codec) (layout : Layout codec) (state : DiskState) where
         → EachImage new (TakesNewer codec layout world)
 
   -- a record is appended, wherever a checkpoint is
-  abbrev pub appended_state : Part → ℕ → List ℕ → DiskState
-  appended_state part number line = after_sync (after_write state (next_gate part) (spelling number line))
+  abbrev pub appended_state : Half → ℕ → List ℕ → DiskState
+  appended_state half number line = after_sync (after_write state (next_gate half) (spelling number line))
 
-  pub record Appends (progress : Progress) (part : Part) (number : ℕ) (line : List ℕ)
+  pub record Appends (progress : Progress) (half : Half) (number : ℕ) (line : List ℕ)
       (old new : codec.World) : Type 0 where
-    pub ready : IsReady part state
-    pub leaves : (image : List ℕ) → MayLeave part state number line image
+    pub ready : IsReady half state
+    pub leaves : (image : List ℕ) → MayLeave half state number line image
         → Keeps codec image old ⊎ Keeps codec image new
-    pub done : IsBetween codec (with_line layout line new) (appended_state part number line) progress new
-    pub goes_on : GoesOnAt (with_line layout line new) (part_behind part line) (number + 1)
+    pub done : IsBetween codec (with_line layout line new) (appended_state half number line) progress new
+    pub goes_on : GoesOnAt (with_line layout line new) (part_behind half line) (number + 1)

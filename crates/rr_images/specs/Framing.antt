@@ -1,11 +1,11 @@
 -- On which bytes of a file it depends what the file keeps.
 use Rattle.std.specs.Prelude.{◌≡◌, ℕ, ◌+◌, ◌*◌, ◌<◌, ◌≤◌, not, List, length, slice_index}
-use Rattle.rr_journal.specs.declared.layout.PartIndex.{PartIndex}
+use Rattle.rr_journal.specs.declared.layout.HalfIndex.{HalfIndex}
 use Rattle.rr_journal.specs.Layout.{gate_place}
 use Rattle.rr_pages.specs.Pages.{IsIn}
 use Rattle.rr_pages.specs.Roots.{root_gate, Stale, IsStale}
 use Rattle.rr_images.specs.Codec.{Codec}
-use Rattle.rr_images.specs.Halves.{half_part}
+use Rattle.rr_images.specs.Halves.{half_index}
 use Rattle.rr_images.specs.Holding.{reached_of}
 use Rattle.rr_images.specs.Layout.{Layout}
 
@@ -16,8 +16,8 @@ Same old new low high = (i : ℕ) → low ≤ i → i < high → slice_index new
 abbrev pub SamePages : List ℕ → List ℕ → List ℕ → Type 0
 SamePages old new pages = (page : ℕ) → IsIn page pages → Same old new (4096 * page) (4096 * page + 4096)
 
-abbrev pub SamePart : List ℕ → List ℕ → PartIndex → Type 0
-SamePart old new part = Same old new (gate_place part 0) (gate_place part 256)
+abbrev pub SameHalf : List ℕ → List ℕ → HalfIndex → Type 0
+SameHalf old new half = Same old new (gate_place half 0) (gate_place half 256)
 
 -- The new file is no shorter and has the old one's bytes where a layout looks at them: the 36 bytes of the root that is
 -- taken, both halves, and the pages that the root reaches. Of the other root it has this.
@@ -25,6 +25,6 @@ pub record IsReadTheSame {codec : Codec} (layout : Layout codec) (other : Stale)
   pub no_shorter : length old ≤ length new
   pub root : Same old new (root_gate layout.side) (root_gate layout.side + 36)
   pub stale_root : IsStale new (not layout.side) layout.root.number other
-  pub near : SamePart old new (half_part layout.root.half)
-  pub far : SamePart old new (half_part (not layout.root.half))
+  pub near : SameHalf old new (half_index layout.root.half)
+  pub far : SameHalf old new (half_index (not layout.root.half))
   pub pages : SamePages old new (reached_of layout.holding)

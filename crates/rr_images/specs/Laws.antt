@@ -2,7 +2,7 @@
 use Rattle.std.specs.Prelude.{◌≡◌, ℕ, ◌+◌, ◌^◌, ◌<◌, ◌≤◌, Bool, not, List, [], ◌∷◌, ◌++◌, length}
 use Rattle.rr_disk.specs.Disk.{DiskState, IsImage, after_sync}
 use Rattle.rr_disk.specs.Moments.{EachImage}
-use Rattle.rr_journal.specs.declared.part.Part.{Part}
+use Rattle.rr_journal.specs.declared.half.Half.{Half}
 use Rattle.rr_journal.specs.Layout.{IsOpen, HasRoom}
 use Rattle.rr_journal.specs.Run.{slots_of}
 use Rattle.rr_journal.specs.Stops as journal
@@ -17,7 +17,7 @@ use Rattle.rr_images.specs.Codec.{Codec, IsExact}
 use Rattle.rr_images.specs.Calls.{Begins, WritesPage, ShutsStale, FillsRoot, OpensRoot, FlipsRoots, Appends}
 use Rattle.rr_images.specs.Following.{IsRead}
 use Rattle.rr_images.specs.Framing.{IsReadTheSame}
-use Rattle.rr_images.specs.Halves.{half_part}
+use Rattle.rr_images.specs.Halves.{half_index}
 use Rattle.rr_images.specs.Holding.{Holding, texts_of, pages_of, reached_of}
 use Rattle.rr_images.specs.Layout.{Spelled, Stands, Layout, Begun, far_lines, KeepsAt, formatted, reading_of, reading_at, opened_far}
 use Rattle.rr_images.specs.Plans.{LaidChain, Draft, kept_of, laid_pages, AreLaid, written_chains, plan_made, IsMade}
@@ -79,18 +79,18 @@ module _ (codec : Codec) where
   -- with no record in the other half the next one goes in the root's half, else behind those
   abbrev pub GoOnOpened : Type 0
   GoOnOpened =
-      (layout : Layout codec) (part : Part) (number : ℕ)
-      → part.index ≡ half_part (read_half layout.root.half (far_lines layout.far))
-      → part.next_slot ≡ slots_of (read_lines layout.near (far_lines layout.far))
+      (layout : Layout codec) (half : Half) (number : ℕ)
+      → half.index ≡ half_index (read_half layout.root.half (far_lines layout.far))
+      → half.next_slot ≡ slots_of (read_lines layout.near (far_lines layout.far))
       → number ≡ layout.root.first + length layout.near + length (far_lines layout.far)
-      → GoesOnAt (with_far layout (opened_far layout.far)) part number
+      → GoesOnAt (with_far layout (opened_far layout.far)) half number
 
   -- a file with one root, and both halves shut, keeps the world that the root's chains spell
   abbrev pub FormattedKeep : Type 0
   FormattedKeep =
       (file : List ℕ) (side : Bool) (root : Root) (holding : Holding) (world : codec.World)
       → IsTaken file side root Shut → Spelled codec file root holding world
-      → (IsOpen file (half_part root.half) 0 → ⊥) → (IsOpen file (half_part (not root.half)) 0 → ⊥)
+      → (IsOpen file (half_index root.half) 0 → ⊥) → (IsOpen file (half_index (not root.half)) 0 → ⊥)
       → KeepsAt codec (formatted side root holding world) file world
 
   -- a file keeps the same where it has the same bytes in the places at which its layout looks
@@ -147,35 +147,35 @@ module _ (codec : Codec) where
   -- a record whose line is lawful is appended
   abbrev pub RecordsAreAppended : Type 0
   RecordsAreAppended =
-      (layout : Layout codec) (state : DiskState) (progress : Progress) (part : Part) (number : ℕ) (line : List ℕ)
+      (layout : Layout codec) (state : DiskState) (progress : Progress) (half : Half) (number : ℕ) (line : List ℕ)
       → (old new : codec.World) → IsImage state state.content → codec.Takes line old new
-      → HasRoom part.next_slot (length line) → number < 2 ^ 63 → GoesOnAt layout part number
-      → IsBetween codec layout state progress old → Appends codec layout state progress part number line old new
+      → HasRoom half.next_slot (length line) → number < 2 ^ 63 → GoesOnAt layout half number
+      → IsBetween codec layout state progress old → Appends codec layout state progress half number line old new
 
-  -- what the journal asks of the part, at any time
+  -- what the journal asks of the half, at any time
   abbrev pub PartsAreKept : Type 0
   PartsAreKept =
-      (layout : Layout codec) (state : DiskState) (world : codec.World) (part : Part) (number : ℕ)
-      → GoesOnAt layout part number → EachImage state (λ image. KeepsAt codec layout image world)
-      → journal.Keeps part state (first_at layout.root.first layout.near layout.far) (lines_at layout.near layout.far)
+      (layout : Layout codec) (state : DiskState) (world : codec.World) (half : Half) (number : ℕ)
+      → GoesOnAt layout half number → EachImage state (λ image. KeepsAt codec layout image world)
+      → journal.Keeps half state (first_at layout.root.first layout.near layout.far) (lines_at layout.near layout.far)
 
   -- where records go on after the steps of a checkpoint
   abbrev pub GoOnBegun : Type 0
   GoOnBegun =
-      (layout : Layout codec) (part : Part) (number : ℕ) → IsNotBegun layout.far → GoesOnAt layout part number
+      (layout : Layout codec) (half : Half) (number : ℕ) → IsNotBegun layout.far → GoesOnAt layout half number
       → GoesOnAt (with_far layout (Begun []))
-      (record { index = half_part (not layout.root.half); next_slot = 0 }) number
+      (record { index = half_index (not layout.root.half); next_slot = 0 }) number
 
   abbrev pub GoOnShut : Type 0
   GoOnShut =
-      (layout : Layout codec) (part : Part) (number : ℕ) → GoesOnAt layout part number
-      → GoesOnAt (with_stale layout Shut) part number
+      (layout : Layout codec) (half : Half) (number : ℕ) → GoesOnAt layout half number
+      → GoesOnAt (with_stale layout Shut) half number
 
   abbrev pub GoOnFlipped : Type 0
   GoOnFlipped =
-      (layout : Layout codec) (part : Part) (number : ℕ) (plan : Plan) (lines : List (List ℕ)) (world : codec.World)
-      → layout.far ≡ Begun lines → ComesNext layout plan.root → GoesOnAt layout part number
-      → GoesOnAt (flipped layout plan.root plan.holding lines world) part number
+      (layout : Layout codec) (half : Half) (number : ℕ) (plan : Plan) (lines : List (List ℕ)) (world : codec.World)
+      → layout.far ≡ Begun lines → ComesNext layout plan.root → GoesOnAt layout half number
+      → GoesOnAt (flipped layout plan.root plan.holding lines world) half number
 
   -- chains that were laid into free pages, beside chains that are kept, are a plan
   abbrev pub MadeArePlans : Type 0

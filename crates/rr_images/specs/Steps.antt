@@ -1,11 +1,11 @@
 -- The layouts that the steps of a commit and of a checkpoint lead to, and where the next record goes.
 use Rattle.std.specs.Prelude.{◌≡◌, ℕ, ◌+◌, ◌<◌, Bool, not, List, [], ◌∷◌, ◌++◌, length}
-use Rattle.rr_journal.specs.declared.part.Part.{Part}
+use Rattle.rr_journal.specs.declared.half.Half.{Half}
 use Rattle.rr_journal.specs.Run.{slots_of}
 use Rattle.rr_pages.specs.declared.root.Root.{Root}
 use Rattle.rr_pages.specs.Roots.{Stale, Older, HasFields, IsSound}
 use Rattle.rr_images.specs.Codec.{Codec}
-use Rattle.rr_images.specs.Halves.{half_part}
+use Rattle.rr_images.specs.Halves.{half_index}
 use Rattle.rr_images.specs.Holding.{Holding}
 use Rattle.rr_images.specs.Layout.{Spelled, Layout, FarHalf, Unused, Old, Begun}
 
@@ -106,9 +106,9 @@ first_at first near Old = first
 first_at first near (Begun lines) = first + length near
 
 -- the next record, of this number, goes where the layout's records end
-pub record GoesOnAt {codec : Codec} (layout : Layout codec) (part : Part) (number : ℕ) : Type 0 where
-  pub index : part.index ≡ half_part (half_at layout.root.half layout.far)
-  pub slot : part.next_slot ≡ slots_of (lines_at layout.near layout.far)
+pub record GoesOnAt {codec : Codec} (layout : Layout codec) (half : Half) (number : ℕ) : Type 0 where
+  pub index : half.index ≡ half_index (half_at layout.root.half layout.far)
+  pub slot : half.next_slot ≡ slots_of (lines_at layout.near layout.far)
   pub numbered : number
       ≡ first_at layout.root.first layout.near layout.far + length (lines_at layout.near layout.far)
 

@@ -5,7 +5,7 @@ use Rattle.std.proofs.lemmas.List.{ext_get_or}
 use Rattle.rr_disk.specs.Disk.{DiskState, IsImage, written, after_write, after_failed_write, after_sync, Torn}
 use Rattle.rr_disk.specs.Moments.{EachImage}
 use Rattle.rr_disk.proofs.ImageLemmas.{length-written, written_before, written_inside, written_behind, torn_whole, torn_same, each_torn, each_failed, each_synced}
-use Rattle.rr_journal.specs.declared.part.Part.{Part}
+use Rattle.rr_journal.specs.declared.half.Half.{Half}
 use Rattle.rr_journal.specs.Layout.{IsOpen, StandsAt, spelling_behind_gate, spelling}
 use Rattle.rr_journal.specs.Stops.{next_gate, IsReady, MayLeave}
 use Rattle.rr_journal.proofs.Bytes.{at_same}
@@ -53,12 +53,12 @@ torn_again at n a m old mid new low high first then =
           ∙ first.same i h apart;
     }
 
-module _ (part : Part) (before : DiskState) (number : ℕ) (bytes : List ℕ) (ready : IsReady part before) where
+module _ (half : Half) (before : DiskState) (number : ℕ) (bytes : List ℕ) (ready : IsReady half before) where
   abbrev pub body : List ℕ
   body = spelling_behind_gate number bytes
 
   abbrev pub gate : ℕ
-  gate = next_gate part
+  gate = next_gate half
 
   some_body : 0 < length body
   some_body = omega (arith, length_behind number bytes, some_slot (length bytes))
@@ -68,7 +68,7 @@ module _ (part : Part) (before : DiskState) (number : ℕ) (bytes : List ℕ) (r
     pub earlier : List ℕ
     pub was : IsImage before earlier
     pub elsewhere : Torn gate (suc (length body)) earlier image
-    pub shut : IsOpen image part.index part.next_slot → ⊥
+    pub shut : IsOpen image half.index half.next_slot → ⊥
 
   pub at_first : EachImage before Shut
   at_first image is = record { earlier = image; was = is; elsewhere = torn_same gate (suc (length body)) image; shut = ready.shut image is }
@@ -83,7 +83,7 @@ module _ (part : Part) (before : DiskState) (number : ℕ) (bytes : List ℕ) (r
         shut = λ open_gate. had.shut (sym (torn.same gate there (inl (omega arith))) ∙ open_gate);
       }
 
-  pub shut_may : (image : List ℕ) → Shut image → MayLeave part before number bytes image
+  pub shut_may : (image : List ℕ) → Shut image → MayLeave half before number bytes image
   shut_may image had = record { earlier = had.earlier; was = had.was; elsewhere = had.elsewhere; whole = inl had.shut }
 
   -- from then on the body stands behind it
@@ -108,7 +108,7 @@ module _ (part : Part) (before : DiskState) (number : ℕ) (bytes : List ℕ) (r
   whole_record image open_gate stands zero h = at_same image (gate + 0) gate (omega arith) ∙ open_gate
   whole_record image open_gate stands (suc i) h = at_same image (gate + suc i) (gate + 1 + i) (omega arith) ∙ stands i (omega arith)
 
-  staged_may : (image : List ℕ) → Staged image → MayLeave part before number bytes image
+  staged_may : (image : List ℕ) → Staged image → MayLeave half before number bytes image
   staged_may image had =
       record {
         earlier = had.earlier;
@@ -121,10 +121,10 @@ module _ (part : Part) (before : DiskState) (number : ℕ) (bytes : List ℕ) (r
       }
 
   -- after the first write, and where it failed
-  pub first : EachImage (after_write before (gate + 1) body) (MayLeave part before number bytes)
+  pub first : EachImage (after_write before (gate + 1) body) (MayLeave half before number bytes)
   first image is = shut_may image (each_torn before (gate + 1) body Shut at_first shut_torn image is)
 
-  pub first_failed : (upto : ℕ) (front : List ℕ) → upto ≤ length body → EachImage (after_failed_write before (gate + 1) upto front) (MayLeave part before number bytes)
+  pub first_failed : (upto : ℕ) (front : List ℕ) → upto ≤ length body → EachImage (after_failed_write before (gate + 1) upto front) (MayLeave half before number bytes)
   first_failed upto front no_more image is = shut_may image (each_failed before (gate + 1) (length body) Shut at_first shut_torn upto front no_more image is)
 
   module _ (stays : IsImage before before.content) where
@@ -147,27 +147,27 @@ module _ (part : Part) (before : DiskState) (number : ℕ) (bytes : List ℕ) (r
     each_staged : EachImage middle Staged
     each_staged = each_synced (after_write before (gate + 1) body) Staged staged
 
-    pub middle_may : EachImage middle (MayLeave part before number bytes)
+    pub middle_may : EachImage middle (MayLeave half before number bytes)
     middle_may image is = staged_may image (each_staged image is)
 
     -- after the second, and where it failed
-    pub second : EachImage (after_write middle gate (165 ∷ [])) (MayLeave part before number bytes)
+    pub second : EachImage (after_write middle gate (165 ∷ [])) (MayLeave half before number bytes)
     second image is = staged_may image (each_torn middle gate (165 ∷ []) Staged each_staged staged_torn image is)
 
-    pub second_failed : (upto : ℕ) (front : List ℕ) → upto ≤ 1 → EachImage (after_failed_write middle gate upto front) (MayLeave part before number bytes)
+    pub second_failed : (upto : ℕ) (front : List ℕ) → upto ≤ 1 → EachImage (after_failed_write middle gate upto front) (MayLeave half before number bytes)
     second_failed upto front no_more image is = staged_may image (each_failed middle gate 1 Staged each_staged staged_torn upto front no_more image is)
 
-    pub last : EachImage (after_sync (after_write middle gate (165 ∷ []))) (MayLeave part before number bytes)
+    pub last : EachImage (after_sync (after_write middle gate (165 ∷ []))) (MayLeave half before number bytes)
     last =
-        each_synced (after_write middle gate (165 ∷ [])) (MayLeave part before number bytes)
+        each_synced (after_write middle gate (165 ∷ [])) (MayLeave half before number bytes)
         (staged_may (written middle.content gate (165 ∷ [])) (staged_torn middle.content (written middle.content gate (165 ∷ [])) staged (torn_whole middle.content gate (165 ∷ []))))
 
 -- the state in the end is that after one write of the whole record, and a sync
-pub whole_written : (before : DiskState) (part : Part) (number : ℕ) (bytes : List ℕ)
-    → after_sync (after_write (after_sync (after_write before (next_gate part + 1) (spelling_behind_gate number bytes))) (next_gate part) (165 ∷ [])) ≡ after_sync (after_write before (next_gate part) (spelling number bytes))
-whole_written before part number bytes =
+pub whole_written : (before : DiskState) (half : Half) (number : ℕ) (bytes : List ℕ)
+    → after_sync (after_write (after_sync (after_write before (next_gate half + 1) (spelling_behind_gate number bytes))) (next_gate half) (165 ∷ [])) ≡ after_sync (after_write before (next_gate half) (spelling number bytes))
+whole_written before half number bytes =
     let body = spelling_behind_gate number bytes in
     let some : 0 < length body = omega (arith, length_behind number bytes, some_slot (length bytes)) in
-    let same : written (after_write before (next_gate part + 1) body).content (next_gate part) (165 ∷ []) ≡ written before.content (next_gate part) (165 ∷ body) =
-    ap (λ (file : List ℕ). written file (next_gate part) (165 ∷ [])) (content_written before (next_gate part + 1) body some) ∙ written_twice before.content (next_gate part) 165 body in
+    let same : written (after_write before (next_gate half + 1) body).content (next_gate half) (165 ∷ []) ≡ written before.content (next_gate half) (165 ∷ body) =
+    ap (λ (file : List ℕ). written file (next_gate half) (165 ∷ [])) (content_written before (next_gate half + 1) body some) ∙ written_twice before.content (next_gate half) 165 body in
     λ i. record { content = same i; settled = same i; ranges = [] }

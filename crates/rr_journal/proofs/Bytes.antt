@@ -2,7 +2,7 @@
 use Rattle.std.proofs.Common.{◌≡◌, ℕ, zero, suc, ◌+◌, ◌<◌, List, length, drop, slice_index, refl, sym, ap, ◌∙◌, arith, get_or-take, get_or-drop}
 use Rattle.byteorder.specs.Endian.{big_from, big_number}
 use Rattle.rr_disk.specs.Disk.{IsAt}
-use Rattle.rr_journal.specs.declared.layout.PartIndex.{PartIndex}
+use Rattle.rr_journal.specs.declared.layout.HalfIndex.{HalfIndex}
 use Rattle.rr_journal.specs.Layout.{gate_place, number_at, length_at, StandsAt}
 
 -- the byte at one place, by another word for the place
@@ -27,20 +27,20 @@ pub stands : (file : List ℕ) (at : ℕ) (bytes : List ℕ) → IsAt file at by
 stands file at bytes is i h = sym (at_index file at bytes is i h)
 
 -- the header of a slot, as it was read
-module _ (file : List ℕ) (part : PartIndex) (slot : ℕ) (header : List ℕ) (is : IsAt file (gate_place part slot) header) (whole : length header ≡ 13) where
-  pub gate_read : slice_index header 0 ≡ slice_index file (gate_place part slot)
-  gate_read = at_index file (gate_place part slot) header is 0 (omega arith) ∙ at_same file (gate_place part slot + 0) (gate_place part slot) (omega arith)
+module _ (file : List ℕ) (half : HalfIndex) (slot : ℕ) (header : List ℕ) (is : IsAt file (gate_place half slot) header) (whole : length header ≡ 13) where
+  pub gate_read : slice_index header 0 ≡ slice_index file (gate_place half slot)
+  gate_read = at_index file (gate_place half slot) header is 0 (omega arith) ∙ at_same file (gate_place half slot + 0) (gate_place half slot) (omega arith)
 
-  pub number_read : big_number 8 (drop 1 header) ≡ number_at file part slot
+  pub number_read : big_number 8 (drop 1 header) ≡ number_at file half slot
   unfolding number_at
   number_read =
-      big_from-same 0 (gate_place part slot + 1) 8 (drop 1 header) file
-      (λ k h. get_or-drop 1 header (0 + k) 0 ∙ (at_same header (1 + (0 + k)) (1 + k) (omega arith) ∙ (at_index file (gate_place part slot) header is (1 + k) (omega arith)
-      ∙ at_same file (gate_place part slot + (1 + k)) (gate_place part slot + 1 + k) (omega arith))))
+      big_from-same 0 (gate_place half slot + 1) 8 (drop 1 header) file
+      (λ k h. get_or-drop 1 header (0 + k) 0 ∙ (at_same header (1 + (0 + k)) (1 + k) (omega arith) ∙ (at_index file (gate_place half slot) header is (1 + k) (omega arith)
+      ∙ at_same file (gate_place half slot + (1 + k)) (gate_place half slot + 1 + k) (omega arith))))
 
-  pub length_read : big_number 4 (drop 9 header) ≡ length_at file part slot
+  pub length_read : big_number 4 (drop 9 header) ≡ length_at file half slot
   unfolding length_at
   length_read =
-      big_from-same 0 (gate_place part slot + 9) 4 (drop 9 header) file
-      (λ k h. get_or-drop 9 header (0 + k) 0 ∙ (at_same header (9 + (0 + k)) (9 + k) (omega arith) ∙ (at_index file (gate_place part slot) header is (9 + k) (omega arith)
-      ∙ at_same file (gate_place part slot + (9 + k)) (gate_place part slot + 9 + k) (omega arith))))
+      big_from-same 0 (gate_place half slot + 9) 4 (drop 9 header) file
+      (λ k h. get_or-drop 9 header (0 + k) 0 ∙ (at_same header (9 + (0 + k)) (9 + k) (omega arith) ∙ (at_index file (gate_place half slot) header is (9 + k) (omega arith)
+      ∙ at_same file (gate_place half slot + (9 + k)) (gate_place half slot + 9 + k) (omega arith))))

@@ -1,4 +1,4 @@
--- Slices written in part.
+-- Slices written in half.
 use Rattle.std.proofs.Common.{◌≡◌, ℕ, ◌+◌, ◌-◌, ◌<◌, ◌≤◌, Result, Ok, Err, OnErr, List, [], ◌∷◌, ◌++◌, length, take, drop, ap, ◌∙◌, arith, length-drop}
 use Rattle.std.proofs.lemmas.List.{drop_all, take_all, append-nil}
 use Rattle.std.proofs.Math.ListN.{set}
@@ -20,7 +20,7 @@ pub put_first : (k : ℕ) (xs ys : List ℕ) (y : ℕ) → 0 < length xs → len
 put_first k [] ys y some all = absurd (omega arith)
 put_first k (x ∷ xs) ys y some all = put_mid-behind 1 k (y ∷ xs) ys (omega arith)
 
--- the part of a list behind its first item, and that item alone
+-- the half of a list behind its first item, and that item alone
 pub behind_first : (xs ys : List ℕ) (y : ℕ) → xs ≡ y ∷ ys → take (length xs - 1) (drop 1 xs) ≡ ys
 behind_first xs ys y is =
     let count : length xs - 1 ≡ length ys = omega (arith, ap length is) in

@@ -3,7 +3,7 @@ use Rattle.std.proofs.Common.{◌≡◌, ◌⊎◌, inl, inr, ℕ, zero, suc, �
 use Rattle.std.specs.List.{range_with_len}
 use Rattle.std.proofs.lemmas.Bool.{cases_lt, cases_eq}
 use Rattle.std.proofs.lemmas.List.FromFn.{length-map-range_with_len, get_or-map-range_with_len}
-use Rattle.rr_journal.specs.declared.layout.PartIndex.{PartIndex}
+use Rattle.rr_journal.specs.declared.layout.HalfIndex.{HalfIndex}
 use Rattle.rr_journal.specs.declared.reading.RunEnd.{RunEnd}
 use Rattle.rr_journal.specs.declared.reading.RunEnd.TheVariants.{Closed, OtherNumber, Damaged}
 use Rattle.rr_journal.specs.Layout.{gate_place, number_at, length_at, StandsAt, slots_for, HasRoom}
@@ -36,28 +36,28 @@ length-cut : (file : List ℕ) (place count : ℕ) → length (cut file place co
 unfolding cut
 length-cut file place count = length-map-range_with_len (λ k. slice_index file (place + k)) 0 count
 
-pub run_found : (slots : ℕ) (file : List ℕ) (part : PartIndex) (slot number : ℕ) → 255 ≤ slot + slots → (lines : List (List ℕ)) × (end : RunEnd) × Run file part slot number lines end
-run_found zero file part slot number enough = ([], Closed, λ in_part. absurd (omega arith))
-run_found (suc slots) file part slot number enough = elim (cases_lt slot 255) [
+pub run_found : (slots : ℕ) (file : List ℕ) (half : HalfIndex) (slot number : ℕ) → 255 ≤ slot + slots → (lines : List (List ℕ)) × (end : RunEnd) × Run file half slot number lines end
+run_found zero file half slot number enough = ([], Closed, λ in_part. absurd (omega arith))
+run_found (suc slots) file half slot number enough = elim (cases_lt slot 255) [
   | inr last ↦ ([], Closed, λ in_part. absurd (omega arith))
-  | inl below ↦ elim (cases_eq (slice_index file (gate_place part slot)) 165) [
+  | inl below ↦ elim (cases_eq (slice_index file (gate_place half slot)) 165) [
     | inr shut ↦ ([], Closed, λ in_part. shut)
-    | inl open_gate ↦ elim (cases_eq (number_at file part slot) number) [
+    | inl open_gate ↦ elim (cases_eq (number_at file half slot) number) [
       | inr apart ↦ ([], OtherNumber, (below, open_gate, apart))
-      | inl same ↦ elim (cases_room slot (length_at file part slot)) [
+      | inl same ↦ elim (cases_room slot (length_at file half slot)) [
         | inr none ↦ ([], Damaged, (below, open_gate, same, none))
         | inl room ↦
-            let count = length_at file part slot in
-            let bytes = cut file (gate_place part slot + 13) count in
-            let counted : length bytes ≡ count = length-cut file (gate_place part slot + 13) count in
-            let is : IsRecord file part slot number bytes = record {
+            let count = length_at file half slot in
+            let bytes = cut file (gate_place half slot + 13) count in
+            let counted : length bytes ≡ count = length-cut file (gate_place half slot + 13) count in
+            let is : IsRecord file half slot number bytes = record {
               open_gate = open_gate;
               numbered = same;
               count = sym counted;
               room = subst (λ (n : ℕ). HasRoom slot n) (sym counted) room;
-              standing = cut_stands file (gate_place part slot + 13) count;
+              standing = cut_stands file (gate_place half slot + 13) count;
             } in
-            let rest = run_found slots file part (slot + slots_for (length bytes)) (suc number) (omega (arith, some_slot (length bytes))) in
+            let rest = run_found slots file half (slot + slots_for (length bytes)) (suc number) (omega (arith, some_slot (length bytes))) in
             (bytes ∷ rest.0, rest.1, (is, rest.2))
       ]
     ]

@@ -2,7 +2,7 @@
 use Rattle.std.specs.Prelude.{◌≡◌, ◌≢◌, ℕ, List, length, drop, map, slice_index, Vec, Result, Ok, Err}
 use Rattle.std.specs.declared.alloc.Global.{Global}
 use Rattle.byteorder.specs.Endian.{big_number}
-use Rattle.rr_journal.specs.declared.part.Part.{Part}
+use Rattle.rr_journal.specs.declared.half.Half.{Half}
 use Rattle.rr_journal.specs.declared.reading.RunEnd.{RunEnd}
 use Rattle.rr_journal.specs.declared.reading.RunEnd.TheVariants.{Closed, OtherNumber, Damaged}
 use Rattle.rr_journal.specs.declared.reading.Found.{Found}
@@ -23,12 +23,12 @@ Tells header slot number (Err OtherNumber) = (slice_index header 0 ≡ 0xa5) × 
 Tells header slot number (Err Damaged) =
     (slice_index header 0 ≡ 0xa5) × (big_number 8 (drop 1 header) ≡ number) × (HasRoom slot (big_number 4 (drop 9 header)) → ⊥)
 
--- what begins in the part's next slot
-abbrev pub Begins : List ℕ → Part → ℕ → Found → Type 0
-Begins file part number (Record bytes) = IsRecord file part.index part.next_slot number bytes.items
-Begins file part number (End end) = Ends file part.index part.next_slot number end
+-- what begins in the half's next slot
+abbrev pub Begins : List ℕ → Half → ℕ → Found → Type 0
+Begins file half number (Record bytes) = IsRecord file half.index half.next_slot number bytes.items
+Begins file half number (End end) = Ends file half.index half.next_slot number end
 
 -- a record that was found has room there
-abbrev pub FitsThere : Part → Found → Type 0
-FitsThere part (Record bytes) = HasRoom part.next_slot (length bytes.items)
-FitsThere part (End end) = Unit {0}
+abbrev pub FitsThere : Half → Found → Type 0
+FitsThere half (Record bytes) = HasRoom half.next_slot (length bytes.items)
+FitsThere half (End end) = Unit {0}

@@ -4,7 +4,7 @@ use thiserror::Error;
 /// Why a call failed.
 #[derive(Clone, Copy, Debug, Drop, PartialEq, Eq, Error)]
 pub enum Fault {
-    /// The slots left in the part don't suffice for the record.
+    /// The slots left in the half don't suffice for the record.
     #[error("half full")]
     HalfFull,
     /// A device call failed.

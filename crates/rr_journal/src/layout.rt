@@ -1,4 +1,4 @@
-// Where a part's slots lie, and how many of them a record takes.
+// Where a half's slots lie, and how many of them a record takes.
 ghost use Rattle.std.specs.Prelude.{◌≡◌, ◌↔◌, ◌*◌, ◌≤◌, IsTrue};
 ghost use Rattle.rr_journal.specs.Layout as layout;
 
@@ -17,61 +17,42 @@ pub(crate) const LAST_SLOT: u8 = 255;
 /// The most bytes that a record may have: it then takes two slots.
 pub(crate) const MOST_BYTES: usize = 2 * PAGE_BYTES - HEADER_BYTES;
 
-/// Which of the journal's four parts, in the order in which they are used.
+/// Which of the journal's two halves.
 #[derive(Clone, Copy, Debug, PartialEq, Eq)]
-pub enum PartIndex {
+pub enum HalfIndex {
     /// Pages 2 to 257 of the file.
     First,
     /// Pages 258 to 513.
     Second,
-    /// Pages 580 to 835.
-    Third,
-    /// Pages 836 to 1091.
-    Fourth,
 }
 
-impl PartIndex {
-    ghost use Rattle.std.specs.Prelude.{◌≡◌, ◌+◌, ◌*◌, ◌<◌, ◌≤◌, IfSome};
+impl HalfIndex {
+    ghost use Rattle.std.specs.Prelude.{◌≡◌, ◌*◌, ◌<◌};
     ghost use Rattle.rr_journal.specs.Layout as layout;
 
-    /// The part in which records go on where this one is used up.
-    pub fn next(self) -> Option<PartIndex>
-        ensures part { result ≡ layout.next_part self }
-        ensures behind { IfSome result (λ next. layout.start_page self + 256 ≤ layout.start_page next) }
-    {
-        match self {
-            PartIndex::First => Some(PartIndex::Second),
-            PartIndex::Second => Some(PartIndex::Third),
-            PartIndex::Third => Some(PartIndex::Fourth),
-            PartIndex::Fourth => None,
-        }
-    }
-
-    /// The byte of the file at which the part's slot 0 begins: its gate. While that is shut the part has no records.
+    /// The byte of the file at which the half's slot 0 begins: its gate. While that is shut the half has no records.
     pub fn first_gate(self) -> u64
         ensures place { result ≡ layout.gate_place self 0 }
-        ensures small { result < 4096 * 837 }
+        ensures small { result < 4096 * 259 }
     {
         gate_place(self, 0)
     }
 }
 
-// The page of a part's slot 0.
-fn start_page(index: PartIndex) -> u64
+// The page of a half's slot 0.
+fn start_page(index: HalfIndex) -> u64
     ensures { result ≡ layout.start_page index }
 {
     match index {
-        PartIndex::First => 2,
-        PartIndex::Second => 258,
-        PartIndex::Third => 580,
-        PartIndex::Fourth => 836,
+        HalfIndex::First => 2,
+        HalfIndex::Second => 258,
     }
 }
 
 // The byte at which a slot begins.
-pub(crate) fn gate_place(index: PartIndex, slot: u8) -> u64
+pub(crate) fn gate_place(index: HalfIndex, slot: u8) -> u64
     ensures place { result ≡ layout.gate_place index slot }
-    ensures small { result ≤ 4096 * 1091 }
+    ensures small { result ≤ 4096 * 513 }
 {
     4096 * (start_page(index) + u64::from(slot))
 }

@@ -1,4 +1,4 @@
-//! The journal of a store: numbered records in four parts of a file, each record made durable by two writes and two
+//! The journal of a store: numbered records in two halves of a file, each record made durable by two writes and two
 //! syncs, and read again up to the first slot that holds no record of the expected number.
 //!
 //! Stands on `rr_disk`. Its promise: `append` leaves each image with the records from before, or with the new one
@@ -7,14 +7,14 @@
 
 mod buffer;
 mod fault;
+mod half;
 mod law;
 mod layout;
-mod part;
 mod reading;
 
 pub use buffer::RecordBuffer;
 pub use fault::Fault;
-pub use law::parts_have_one_run;
-pub use layout::PartIndex;
-pub use part::Part;
+pub use half::Half;
+pub use law::halves_have_one_run;
+pub use layout::HalfIndex;
 pub use reading::{RunEnd, Scanned, scan};

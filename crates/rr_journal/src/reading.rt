@@ -6,8 +6,8 @@ ghost use Rattle.rr_journal.specs.Reading.{lines, Tells, Begins, FitsThere};
 ghost use Rattle.rr_journal.specs.Run.{Run, slots_of};
 ghost use Rattle.rr_journal.specs.Stops.{next_gate, IsAtRest, Keeps};
 
-use crate::layout::{HEADER_BYTES, LAST_SLOT, OPEN, PartIndex, fits_slots, gate_place, slots_for};
-use crate::{Fault, Part};
+use crate::layout::{HEADER_BYTES, HalfIndex, LAST_SLOT, OPEN, fits_slots, gate_place, slots_for};
+use crate::{Fault, Half};
 use byteorder::{BigEndian, ByteOrder};
 use rr_disk::Disk;
 use std::alloc::Global;
@@ -15,7 +15,7 @@ use std::alloc::Global;
 /// Why a run of records ended.
 #[derive(Clone, Copy, Debug, PartialEq, Eq)]
 pub enum RunEnd {
-    /// The slot behind the last record is shut, or the part's slots are used up.
+    /// The slot behind the last record is shut, or the half's slots are used up.
     Closed,
     /// The slot behind the last record is open, and its number isn't the one expected: an older record was left there.
     /// The run ends as at a shut slot, but nothing may be appended there before that slot's gate is shut.
@@ -24,11 +24,11 @@ pub enum RunEnd {
     Damaged,
 }
 
-/// The records that stand in a part.
+/// The records that stand in a half.
 #[derive(Debug, Drop)]
 pub struct Scanned {
-    /// The part, its next slot behind the last record.
-    pub part: Part,
+    /// The half, its next slot behind the last record.
+    pub half: Half,
     /// The bytes of each record, in order.
     pub records: Vec<Vec<u8>>,
     pub end: RunEnd,
@@ -41,33 +41,33 @@ enum Found {
     End(RunEnd),
 }
 
-/// Reads the records of a part from its slot 0 on: those of the first number and one more each, up to the first slot
-/// where no such record begins. Slot 255 is never looked at. It writes nothing. A part has at most 255 records, so that
+/// Reads the records of a half from its slot 0 on: those of the first number and one more each, up to the first slot
+/// where no such record begins. Slot 255 is never looked at. It writes nothing. A half has at most 255 records, so that
 /// their numbers are counted up to 2^64 - 1.
 ///
-/// `Disk` where a device call failed, as where the file ends within the part; `OutOfMemory` where the records don't fit.
+/// `Disk` where a device call failed, as where the file ends within the half; `OutOfMemory` where the records don't fit.
 pub fn scan<D: Disk>(
     alloc: Global,
     disk: &mut D,
-    index: PartIndex,
+    index: HalfIndex,
     first_number: u64,
 ) -> Result<Scanned, Fault>
     requires { first_number + 255 < 2 ^ 64 }
 
     ensures found { IfOk result (λ scanned. D.Honest disk.new
         → Run (D.state disk.old).content index 0 first_number (lines scanned.records.items) scanned.end) }
-    // No other records are in the part, and no other end.
+    // No other records are in the half, and no other end.
     ensures only { IfOk result (λ scanned. D.Honest disk.new → (others : List (List ℕ)) (end : _)
         → Run (D.state disk.old).content index 0 first_number others end
         → (others ≡ lines scanned.records.items) × (end ≡ scanned.end)) }
-    ensures index { IfOk result (λ scanned. scanned.part.index ≡ index) }
-    ensures next { IfOk result (λ scanned. scanned.part.next_slot ≡ slots_of (lines scanned.records.items)) }
+    ensures index { IfOk result (λ scanned. scanned.half.index ≡ index) }
+    ensures next { IfOk result (λ scanned. scanned.half.next_slot ≡ slots_of (lines scanned.records.items)) }
     ensures few { IfOk result (λ scanned. length scanned.records.items ≤ 255) }
 
-    // On a disk at rest the part then keeps these records, and is ready for the next.
+    // On a disk at rest the half then keeps these records, and is ready for the next.
     ensures keeps { IfOk result (λ scanned. D.Honest disk.new → IsAtRest (D.state disk.new)
-        → scanned.end ≡ RunEnd.Closed → next_gate scanned.part < length (D.state disk.new).content
-        → Keeps scanned.part (D.state disk.new) first_number (lines scanned.records.items)) }
+        → scanned.end ≡ RunEnd.Closed → next_gate scanned.half < length (D.state disk.new).content
+        → Keeps scanned.half (D.state disk.new) first_number (lines scanned.records.items)) }
 
     ensures fault { CountsFault (D.fault_count disk.old) (D.fault_count disk.new) result }
     ensures never_full { IsErrOf result Fault.HalfFull → ⊥ }
@@ -83,41 +83,41 @@ pub fn scan<D: Disk>(
     ensures works { D.Works disk.new → D.Works disk.old }
     ensures same_len { D.file_len disk.new ≡ D.file_len disk.old }
 {
-    let mut part = Part {
+    let mut half = Half {
         index,
         next_slot: 0,
     };
     let mut records = Vec::new(alloc);
     let mut number = first_number;
-    while part.next_slot < LAST_SLOT {
-        match read_record(alloc, disk, part, number)? {
+    while half.next_slot < LAST_SLOT {
+        match read_record(alloc, disk, half, number)? {
             Found::Record(bytes) => {
-                part.next_slot += slots_for(bytes.len());
+                half.next_slot += slots_for(bytes.len());
                 records.push(bytes)?;
                 number += 1;
             }
-            Found::End(end) => return Ok(Scanned { part, records, end }),
+            Found::End(end) => return Ok(Scanned { half, records, end }),
         }
     }
     Ok(Scanned {
-        part,
+        half,
         records,
         end: RunEnd::Closed,
     })
 }
 
-// Reads what begins in the part's next slot.
+// Reads what begins in the half's next slot.
 fn read_record<D: Disk>(
     alloc: Global,
     disk: &mut D,
-    part: Part,
+    half: Half,
     number: u64,
 ) -> Result<Found, Fault>
-    requires { part.next_slot < 255 }
+    requires { half.next_slot < 255 }
 
     ensures found { IfOk result (λ found. D.Honest disk.new
-        → Begins (D.state disk.old).content part number found) }
-    ensures fits { IfOk result (λ found. FitsThere part found) }
+        → Begins (D.state disk.old).content half number found) }
+    ensures fits { IfOk result (λ found. FitsThere half found) }
 
     ensures fault { CountsFault (D.fault_count disk.old) (D.fault_count disk.new) result }
     ensures never_full { IsErrOf result Fault.HalfFull → ⊥ }
@@ -127,14 +127,14 @@ fn read_record<D: Disk>(
     ensures same_past { D.Honest disk.new → D.past disk.new ≡ D.past disk.old }
     ensures writes { D.write_count disk.new ≡ D.write_count disk.old }
     ensures syncs { D.sync_count disk.new ≡ D.sync_count disk.old }
-    ensures device { OnDeviceFault result (D.Works disk.new → D.file_len disk.old < gate_place part.index 255) }
+    ensures device { OnDeviceFault result (D.Works disk.new → D.file_len disk.old < gate_place half.index 255) }
     ensures works { D.Works disk.new → D.Works disk.old }
     ensures same_len { D.file_len disk.new ≡ D.file_len disk.old }
 {
-    let gate = gate_place(part.index, part.next_slot);
+    let gate = gate_place(half.index, half.next_slot);
     let mut header = [0u8; HEADER_BYTES];
     disk.read_at(gate, &mut header)?;
-    match count_in(&header, part.next_slot, number) {
+    match count_in(&header, half.next_slot, number) {
         Err(end) => Ok(Found::End(end)),
         Ok(count) => {
             let bytes = read_bytes(alloc, disk, gate + HEADER_BYTES as u64, count)?;

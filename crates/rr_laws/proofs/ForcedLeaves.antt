@@ -1,6 +1,5 @@
 -- A forced purchase, and a sale for it, leave an auction that is over as it is.
-use Rattle.std.specs.Prelude.{◌≡◌, ℕ, true, List, [], ◌∷◌, Option, None, Some, refl}
-use Rattle.std.specs.List.{list_all}
+use Rattle.std.specs.Prelude.{ℕ, List, [], ◌∷◌, Option, None, Some, refl}
 use Rattle.rr_roster.specs.declared.company.Corp.{Corp}
 use Rattle.rr_books.specs.declared.acts.Act.TheVariants as A
 use Rattle.rr_books.specs.declared.entries.Entry.TheVariants as E

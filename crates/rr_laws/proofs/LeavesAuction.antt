@@ -1,5 +1,7 @@
--- Which entries leave an auction that is over as it is.
-use Rattle.std.specs.Prelude.{Bool, true, false}
+-- Which entries leave an auction that is over as it is, and which of them have no run as best.
+use Rattle.std.specs.Prelude.{◌≡◌, Bool, true, false, ◌&&◌}
+use Rattle.std.specs.List.{list_all}
+use Rattle.std.proofs.lemmas.Bool.{and_parts}
 use Rattle.rr_books.specs.declared.parties.Place.{Place}
 use Rattle.rr_books.specs.declared.parties.Place.TheVariants as L
 use Rattle.rr_books.specs.declared.certificates.Cert.TheVariants as C
@@ -9,6 +11,8 @@ use Rattle.rr_books.specs.declared.entries.Marker.{Marker}
 use Rattle.rr_books.specs.declared.entries.Marker.TheVariants as M
 use Rattle.rr_books.specs.declared.acts.Act.{Act}
 use Rattle.rr_books.specs.declared.acts.Act.TheVariants as A
+use Rattle.rr_books.specs.Book.{Book}
+use Rattle.rr_laws.proofs.Adding.{all_weaker}
 
 -- the act is none that counts in the auction alone
 abbrev pub leaves_turns : Act → Bool
@@ -32,3 +36,18 @@ abbrev pub leaves_auction : Entry → Bool
 leaves_auction (E.Step marker) = leaves_step marker
 leaves_auction (E.Move (C.Private p) to) = leaves_sales to
 leaves_auction _ = true
+
+-- the entry has no run as best
+abbrev pub has_no_best : Entry → Bool
+has_no_best (E.Best c sheet certificate) = false
+has_no_best _ = true
+
+-- both
+abbrev pub is_plain : Entry → Bool
+is_plain e = has_no_best e && leaves_auction e
+
+pub plain_leave : (es : Book) → list_all is_plain es ≡ true → list_all leaves_auction es ≡ true
+plain_leave es all = all_weaker is_plain leaves_auction (λ e h. (and_parts (has_no_best e) (leaves_auction e) h).1) es all
+
+pub plain_have_none : (es : Book) → list_all is_plain es ≡ true → list_all has_no_best es ≡ true
+plain_have_none es all = all_weaker is_plain has_no_best (λ e h. (and_parts (has_no_best e) (leaves_auction e) h).0) es all

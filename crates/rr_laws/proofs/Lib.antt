@@ -1,3 +1,4 @@
+pub mod Adding
 pub mod LeavesAuction
 pub mod Leaving
 pub mod StockLeaves
@@ -9,3 +10,6 @@ pub mod ForcedOrder
 pub mod MaySell
 pub mod RaiseOrder
 mod Soundness
+mod AuctionAdds
+mod BestCommands
+mod BestEntries

@@ -42,11 +42,12 @@ use Rattle.rr_code.specs.declared.command.Command.TheVariants.{Open}
 use Rattle.rr_kit.specs.declared.kit.Kit.{Kit}
 use Rattle.rr_depot.specs.Situation.{situation_of}
 use Rattle.rr_forced.specs.declared.fault.Fault as forced
+use Rattle.rr_forced.specs.Effects.{forces_if, raises}
 use Rattle.rr_forced.specs.Needs.{cheapest_need}
 use Rattle.rr_forced.specs.Rules as force
 use Rattle.rr_rules.specs.declared.fault.Fault as rules
 use Rattle.rr_rules.specs.Judging.{judgement, judgement_in, force_judgement, name_verdict, operating_judgement, stage, stage_once, turn_judgement}
-use Rattle.rr_rules.specs.Playing.{operating_entries, state_after, state_in}
+use Rattle.rr_rules.specs.Playing.{operating_entries, state_after, state_in, stock_entries}
 use Rattle.rr_rules.specs.State.{GameState}
 use Rattle.rr_rules.specs.Fault.{of_auction, of_forced, of_stock, of_turn}
 use Rattle.rr_rules.proofs.Judging.{at_stage}
@@ -60,7 +61,7 @@ use Rattle.rr_laws.specs.Sound.{AreAccepted, ArePlayed, IsSoundTable, NamesCorpo
 use Rattle.rr_laws.proofs.ForcedLeaves.{forced_leaves, raise_leaves}
 use Rattle.rr_laws.proofs.ForcedOrder.{order_by_bankruptcy, order_by_force}
 use Rattle.rr_laws.proofs.RaiseOrder.{order_by_raise}
-use Rattle.rr_laws.proofs.LeavesAuction.{leaves_auction}
+use Rattle.rr_laws.proofs.LeavesAuction.{leaves_auction, plain_leave}
 use Rattle.rr_laws.proofs.Leaving.{auction_left}
 use Rattle.rr_laws.proofs.RoundLeaves.{stock_leaves}
 use Rattle.rr_laws.proofs.StockOrder.{StockLaws, order_by_stock}
@@ -117,7 +118,7 @@ stands_over n book es revenue over leaves order earned =
 by_trade : StockLaws → (n : ℕ) → 0 < n → n ≤ 6 → (kit : Kit) (state : GameState) (act : Act) → auction_is_over state.book ≡ true → trading.verdict kit.chart state.book act ≡ None
     → Stands n state → Stands n (state_in G.Stock kit state act)
 by_trade laws n some few kit state act over lawful h =
-    stands_over n state.book _ state.revenue over (stock_leaves kit state.book act) (order_by_stock laws n some few kit state.book act lawful h.order) h.earned
+    stands_over n state.book _ state.revenue over (plain_leave (stock_entries kit state.book act) (stock_leaves kit state.book act)) (order_by_stock laws n some few kit state.book act lawful h.order) h.earned
 
 -- a command of a corporation's turn
 by_turn : (n : ℕ) (kit : Kit) (state : GameState) (act : Act) → auction_is_over state.book ≡ true → force.is_forced act ≡ false → rows.IsVerdict kit state.book state.revenue act None
@@ -134,9 +135,9 @@ by_turn n kit state act over plain lawful h =
 by_need : StockLaws → (n : ℕ) → 0 < n → n ≤ 6 → (kit : Kit) (state : GameState) (act : Act) → auction_is_over state.book ≡ true → force.is_forced act ≡ true → force.IsRowVerdict kit state.book act None
     → Stands n state → Stands n (state_in G.Operating kit state act)
 by_need laws n some few kit state (A.Force c) over is lawful h =
-    stands_over n state.book _ state.revenue over (forced_leaves (cheapest_need kit.roster (situation_of state.book) c) state.book) (order_by_force n kit state.book c lawful h.order) h.earned
+    stands_over n state.book _ state.revenue over (plain_leave (forces_if (cheapest_need kit.roster (situation_of state.book) c) state.book) (forced_leaves (cheapest_need kit.roster (situation_of state.book) c) state.book)) (order_by_force n kit state.book c lawful h.order) h.earned
 by_need laws n some few kit state (A.Raise s c m) over is lawful h =
-    stands_over n state.book _ state.revenue over (raise_leaves kit.chart (stock.situation_of kit.chart state.book) s c m state.book)
+    stands_over n state.book _ state.revenue over (plain_leave (raises kit.chart (stock.situation_of kit.chart state.book) s c m state.book) (raise_leaves kit.chart (stock.situation_of kit.chart state.book) s c m state.book))
     (order_by_raise laws.shares n some few kit state.book s c m lawful h.order) h.earned
 by_need laws n some few kit state (A.Bankrupt s) over is lawful h =
     stands_over n state.book _ state.revenue over refl (order_by_bankruptcy n state.book s h.order) h.earned
@@ -203,7 +204,7 @@ by_named : StockLaws → (n : ℕ) → 0 < n → n ≤ 6 → (kit : Kit) (state 
 by_named laws n some few kit state None lawful h = h
 by_named laws n some few kit state (Some act) lawful h = by_act laws n some few kit state act (lawful-map of_rules (judgement kit state act) lawful) h
 
-in_play : (kit : Kit) (players : List (List ℕ)) (state : GameState) (command : Command) → IsVerdict (command_judgement_in_play kit players state command) None
+pub in_play : (kit : Kit) (players : List (List ℕ)) (state : GameState) (command : Command) → IsVerdict (command_judgement_in_play kit players state command) None
     → IsVerdict (act_judgement kit state (act_of players command)) None
 in_play kit players state (Open others) lawful = absurd cc
 in_play kit players state command lawful = lawful

@@ -1,8 +1,6 @@
 -- What a command of a stock round adds of itself leaves an auction that is over as it is.
-use Rattle.std.specs.Prelude.{◌≡◌, ℕ, zero, suc, ◌*◌, Bool, true, false, cond, List, [], ◌∷◌, ◌++◌, ◌&&◌, Option, None, Some, find, map, option_and_then, option_map, refl, if◌then◌else◌}
-use Rattle.std.proofs.Common.{◌∙◌, ap}
+use Rattle.std.specs.Prelude.{◌≡◌, ℕ, zero, suc, ◌*◌, Bool, true, false, cond, List, [], ◌∷◌, Option, None, Some, find, map, option_and_then, option_map, refl, if◌then◌else◌}
 use Rattle.std.specs.List.{list_all}
-use Rattle.std.proofs.lemmas.List.Folds.{list_all-append}
 use Rattle.rr_roster.specs.declared.company.Private.{Private}
 use Rattle.rr_roster.specs.declared.company.Corp.{Corp}
 use Rattle.rr_roster.specs.Terms.{Terms, income_of}
@@ -22,9 +20,9 @@ use Rattle.rr_books.specs.declared.entries.Marker.TheVariants as M
 use Rattle.rr_books.specs.declared.acts.Act.{Act}
 use Rattle.rr_books.specs.declared.acts.Act.TheVariants as A
 use Rattle.rr_books.specs.declared.acts.ShareSource.{ShareSource}
-use Rattle.rr_books.specs.Book.{Book, holder, players}
-use Rattle.rr_books.specs.Shares.{is_at, privates, share_numbers}
-use Rattle.rr_desk.specs.Effects.{Effect, adds, in_turn, lowest_share, moves_if, moves_lowest_share}
+use Rattle.rr_books.specs.Book.{holder, players}
+use Rattle.rr_books.specs.Shares.{is_at, share_numbers}
+use Rattle.rr_desk.specs.Effects.{Effect, adds, in_turn, moves_if, moves_lowest_share}
 use Rattle.rr_shares.specs.declared.succession.Handover.{Handover}
 use Rattle.rr_shares.specs.Succession.{handover_after_sale, handover_due}
 use Rattle.rr_shares.specs.Effects.{float, float_if_due, float_of, floats_now, hands_over, hands_over_if, moves_lowest_shares, presidency, presidency_after_sale, sale_shares}
@@ -36,44 +34,42 @@ use Rattle.rr_desk.specs.Incomes.{dollars, owner, pay_incomes_of, pays_if, pays_
 use Rattle.rr_stock.specs.Situation.{Situation, situation_of}
 use Rattle.rr_stock.specs.Rules.{place_of_source, share_price}
 use Rattle.rr_stock.specs.Effects.{buys_share, ends_if, ends_stock_round, ends_turn, entries_of, gets_share, gives_up_private, is_sold_out, pays_bank, pays_seller, proceeds, rises, rises_among, rises_if_sold_out, row, sells, sets_par, settles_corporation, settles_in, swaps, takes_presidency}
-use Rattle.rr_laws.proofs.LeavesAuction.{leaves_auction}
+use Rattle.rr_laws.proofs.Adding.{Adds, none_adds, one_adds, then_adds, three_add, two_add}
+use Rattle.rr_laws.proofs.LeavesAuction.{is_plain}
 
--- whatever the book, the effect leaves the auction alone
+-- whatever the book, the effect leaves the auction alone and has no run as best
 abbrev pub Leaves : Effect → Type 0
-Leaves f = (book : Book) → list_all leaves_auction (f book) ≡ true
-
-pub both_leave : (xs ys : Book) → list_all leaves_auction xs ≡ true → list_all leaves_auction ys ≡ true → list_all leaves_auction (xs ++ ys) ≡ true
-both_leave xs ys h k = list_all-append leaves_auction xs ys ∙ ap (λ (b : Bool). b && list_all leaves_auction ys) h ∙ k
+Leaves f = Adds is_plain f
 
 pub none_leaves : Leaves (in_turn [])
-none_leaves book = refl
+none_leaves = none_adds is_plain
 
 pub then_leaves : (f : Effect) (fs : List Effect) → Leaves f → Leaves (in_turn fs) → Leaves (in_turn (f ∷ fs))
-then_leaves f fs h k book = both_leave (f book) (in_turn fs (book ++ f book)) (h book) (k (book ++ f book))
+then_leaves f fs h k = then_adds is_plain f fs h k
 
 pub two_leave : (f g : Effect) → Leaves f → Leaves g → Leaves (in_turn (f ∷ g ∷ []))
-two_leave f g h k = then_leaves f (g ∷ []) h (then_leaves g [] k none_leaves)
+two_leave f g h k = two_add is_plain f g h k
 
 pub three_leave : (f g i : Effect) → Leaves f → Leaves g → Leaves i → Leaves (in_turn (f ∷ g ∷ i ∷ []))
-three_leave f g i h k l = then_leaves f (g ∷ i ∷ []) h (two_leave g i k l)
+three_leave f g i h k l = three_add is_plain f g i h k l
 
-pub one_leaves : (e : Entry) → leaves_auction e ≡ true → Leaves (adds e)
-one_leaves e h book = ap (λ (b : Bool). b && true) h
+pub one_leaves : (e : Entry) → is_plain e ≡ true → Leaves (adds e)
+one_leaves e h = one_adds is_plain e h
 
 pub test_leaves : (b : Bool) (f : Effect) → Leaves f → Leaves (λ book. (if b then f else in_turn []) book)
 test_leaves true f h book = h book
 test_leaves false f h book = refl
 
 -- of the certificates of a corporation the lowest that meets a test
-share_leaves : (test : Cert → Bool) (c : Corp) (to : Place) (ns : List ShareNumber) → list_all leaves_auction (moves_if (find test (map (λ n. C.Share c n) ns)) to) ≡ true
+share_leaves : (test : Cert → Bool) (c : Corp) (to : Place) (ns : List ShareNumber) → list_all is_plain (moves_if (find test (map (λ n. C.Share c n) ns)) to) ≡ true
 share_leaves test c to [] = refl
 share_leaves test c to (n ∷ ns) = by_test (test (C.Share c n)) n _ (share_leaves test c to ns)
   where
-    by_test : (b : Bool) (n : ShareNumber) (others : Option Cert) → list_all leaves_auction (moves_if others to) ≡ true → list_all leaves_auction (moves_if (cond b (Some (C.Share c n)) others) to) ≡ true
+    by_test : (b : Bool) (n : ShareNumber) (others : Option Cert) → list_all is_plain (moves_if others to) ≡ true → list_all is_plain (moves_if (cond b (Some (C.Share c n)) others) to) ≡ true
     by_test true n others h = refl
     by_test false n others h = h
 
-lowest_leaves : (c : Corp) (from to : Place) → Leaves (moves_lowest_share c from to)
+pub lowest_leaves : (c : Corp) (from to : Place) → Leaves (moves_lowest_share c from to)
 lowest_leaves c from to book = share_leaves (λ cert. is_at (holder book cert) from) c to share_numbers
 
 several_leave : (c : Corp) (n : ℕ) (from to : Place) → Leaves (moves_lowest_shares c n from to)
@@ -120,7 +116,7 @@ incomes_leave roster [] = none_leaves
 incomes_leave roster (x ∷ xs) =
     then_leaves (pays_income roster x) (map (pays_income roster) xs) (λ book. pays_if_leaves (owner (players book) (holder book (C.Private x))) (income_of roster x) book) (incomes_leave roster xs)
 
-pub mark_leaves : (c : Corp) (cell : Option Cell) → list_all leaves_auction (mark_at c cell) ≡ true
+pub mark_leaves : (c : Corp) (cell : Option Cell) → list_all is_plain (mark_at c cell) ≡ true
 mark_leaves c None = refl
 mark_leaves c (Some cell) = refl
 

@@ -1,6 +1,7 @@
 -- What a command of a corporation's turn adds leaves an auction that is over as it is.
 use Rattle.std.specs.Prelude.{◌≡◌, ℕ, Bool, true, false, List, [], ◌∷◌, Option, None, Some, map, option_and_then, refl, if◌then◌else◌}
-use Rattle.std.specs.List.{list_all, range_with_len}
+use Rattle.std.specs.List.{list_all}
+use Rattle.std.proofs.lemmas.Bool.{true≢false}
 use Rattle.rr_roster.specs.Company as company
 use Rattle.rr_roster.specs.declared.company.Private.{Private}
 use Rattle.rr_roster.specs.declared.company.Private.TheVariants as V
@@ -45,23 +46,22 @@ use Rattle.rr_depot.specs.Effects as depot
 use Rattle.rr_depot.specs.Rules.{deal, owner}
 use Rattle.rr_depot.specs.Situation.{Situation, situation_of}
 use Rattle.rr_operate.specs.Effects.{ends_turn, entries_of, runs_best}
-use Rattle.rr_operate.specs.Rows.{lay_of, station_of}
+use Rattle.rr_operate.specs.Rows.{lay_of}
 use Rattle.rr_sets.specs.Following.{goes_on_in_operating_round}
-use Rattle.rr_laws.proofs.LeavesAuction.{leaves_auction}
+use Rattle.rr_laws.proofs.Adding.{each_adds}
+use Rattle.rr_laws.proofs.LeavesAuction.{is_plain, leaves_auction, plain_leave}
 use Rattle.rr_laws.proofs.RoundLeaves.{round_goes_on}
 use Rattle.rr_laws.proofs.StockLeaves.{Leaves, mark_leaves, none_leaves, then_leaves, three_leave, two_leave}
 
--- one for each of a list
 each_leaves : {X : Type 0} (f : X → Effect) (xs : List X) → ((x : X) → Leaves (f x)) → Leaves (in_turn (map f xs))
-each_leaves f [] h = none_leaves
-each_leaves f (x ∷ xs) h = then_leaves (f x) (map f xs) (h x) (each_leaves f xs h)
+each_leaves f xs h = each_adds is_plain f xs h
 
-one_if : (b : Bool) (e : Entry) → leaves_auction e ≡ true → list_all leaves_auction (if b then e ∷ [] else []) ≡ true
+one_if : (b : Bool) (e : Entry) → is_plain e ≡ true → list_all is_plain (if b then e ∷ [] else []) ≡ true
 one_if true e h = rw h refl
 one_if false e h = refl
 
 -- trains that change hands
-train_leaves : (t : Option Train) (to : Place) → list_all leaves_auction (moves_train_if t to) ≡ true
+train_leaves : (t : Option Train) (to : Place) → list_all is_plain (moves_train_if t to) ≡ true
 train_leaves None to = refl
 train_leaves (Some t) to = refl
 
@@ -183,26 +183,36 @@ unfolding withholds
 withheld_leaves rows c revenue =
     three_leave (adds (E.Step (M.Act (A.Hold c)))) (adds (E.Pay P.Bank (P.Corp c) revenue)) (withholding_marks rows c) (λ book. refl) (λ book. refl) (marks_leave _ c)
 
-best_leaves : (c : Corp) (sheet certificate : List ℕ) → Leaves (runs_best c sheet certificate)
-unfolding runs_best
-best_leaves c sheet certificate = two_leave (adds (E.Best c sheet certificate)) (adds (E.Step (M.Act (A.RunBest c sheet certificate)))) (λ book. refl) (λ book. refl)
-
 end_leaves : (kit : Kit) (c : Corp) → Leaves (ends_turn kit c)
 unfolding ends_turn
 end_leaves kit c = two_leave (adds (E.Step (M.Act (A.End c)))) (goes_on_in_operating_round kit) (λ book. refl) (round_goes_on kit)
 
-pub turn_leaves : (kit : Kit) (revenue : Money) (book : Book) (act : Act) → list_all leaves_auction (entries_of kit revenue book act) ≡ true
-turn_leaves kit revenue book (A.Lay c hex tile turn) =
+-- a run that is paid as best
+abbrev pub is_best_run : Act → Bool
+is_best_run (A.RunBest c sheet certificate) = true
+is_best_run _ = false
+
+-- any other command adds entries that leave the auction alone and have no run as best
+pub turn_plain : (kit : Kit) (revenue : Money) (book : Book) (act : Act) → is_best_run act ≡ false → list_all is_plain (entries_of kit revenue book act) ≡ true
+turn_plain kit revenue book (A.Lay c hex tile turn) other =
     let l = lay_of hex tile turn in lay_leaves c hex tile turn (cost_at (lays book) (hex_named kit.board.hexes hex)) book
-turn_leaves kit revenue book (A.Station c hex centre) = station_leaves c hex centre (Some (token_cost (placed_by (stations book) c))) book
-turn_leaves kit revenue book (A.Run c sheet) = refl
+turn_plain kit revenue book (A.Station c hex centre) other = station_leaves c hex centre (Some (token_cost (placed_by (stations book) c))) book
+turn_plain kit revenue book (A.Run c sheet) other = refl
+turn_plain kit revenue book (A.RunBest c sheet certificate) other = absurd (true≢false other)
+turn_plain kit revenue book (A.PayOut c) other = paid_out_leaves kit.chart c revenue book
+turn_plain kit revenue book (A.Hold c) other = withheld_leaves kit.chart c revenue book
+turn_plain kit revenue book (A.BuyTrain c kind source) other = bought_leaves kit.roster (A.BuyTrain c kind source) book
+turn_plain kit revenue book (A.BuyTrainFrom c kind seller price s s2) other = bought_leaves kit.roster (A.BuyTrainFrom c kind seller price s s2) book
+turn_plain kit revenue book (A.Trade c kind) other = bought_leaves kit.roster (A.Trade c kind) book
+turn_plain kit revenue book (A.Discard c kind) other = bought_leaves kit.roster (A.Discard c kind) book
+turn_plain kit revenue book (A.TakePrivate c p price) other = bought_leaves kit.roster (A.TakePrivate c p price) book
+turn_plain kit revenue book (A.End c) other = end_leaves kit c book
+turn_plain kit revenue book _ other = refl
+
+best_leaves : (c : Corp) (sheet certificate : List ℕ) (book : Book) → list_all leaves_auction (runs_best c sheet certificate book) ≡ true
+unfolding runs_best
+best_leaves c sheet certificate book = refl
+
+pub turn_leaves : (kit : Kit) (revenue : Money) (book : Book) (act : Act) → list_all leaves_auction (entries_of kit revenue book act) ≡ true
 turn_leaves kit revenue book (A.RunBest c sheet certificate) = best_leaves c sheet certificate book
-turn_leaves kit revenue book (A.PayOut c) = paid_out_leaves kit.chart c revenue book
-turn_leaves kit revenue book (A.Hold c) = withheld_leaves kit.chart c revenue book
-turn_leaves kit revenue book (A.BuyTrain c kind source) = bought_leaves kit.roster (A.BuyTrain c kind source) book
-turn_leaves kit revenue book (A.BuyTrainFrom c kind seller price s s2) = bought_leaves kit.roster (A.BuyTrainFrom c kind seller price s s2) book
-turn_leaves kit revenue book (A.Trade c kind) = bought_leaves kit.roster (A.Trade c kind) book
-turn_leaves kit revenue book (A.Discard c kind) = bought_leaves kit.roster (A.Discard c kind) book
-turn_leaves kit revenue book (A.TakePrivate c p price) = bought_leaves kit.roster (A.TakePrivate c p price) book
-turn_leaves kit revenue book (A.End c) = end_leaves kit c book
-turn_leaves kit revenue book _ = refl
+turn_leaves kit revenue book act = plain_leave (entries_of kit revenue book act) (turn_plain kit revenue book act refl)

@@ -1,8 +1,10 @@
-//! The law that every table is sound, whatever commands it accepted.
+//! The laws that every table is sound, whatever commands it accepted, and that each run paid as best was best.
 //!
-//! Stands on `rr_sound`, `rr_sound_turns` and `rr_game`; nothing stands on it. Its promise: `sound`.
+//! Stands on `rr_sound`, `rr_sound_turns`, `rr_runs` and `rr_game`; only laws stand on it. Its promises: `sound` and
+//! `best_runs_were_best`.
 #![tactic(auto)]
 
+ghost use Rattle.rr_laws.specs.Best.{BestCommandsWereBest, BestRunsWereBest};
 ghost use Rattle.rr_laws.specs.Sound.{KitsNameCorporations, PlaysGoOn, TablesStaySound};
 
 /// Whatever two to six players open a table, with a kit whose roster names each corporation, and whatever commands it
@@ -16,6 +18,15 @@ pub fn sound()
     rr_sequence::laws::pool_stays_within_half();
     rr_sequence::laws::lawful_sales_move_shares();
     rr_shares::laws::sales_move_shares();
+}
+
+/// Whatever commands a table accepts, no run of a corporation's trains earns more than one paid as best, over the board
+/// as it lay then: a run that the book has as best, and so one whose command said so.
+pub fn best_runs_were_best()
+    ensures entries { BestRunsWereBest }
+    ensures commands { BestCommandsWereBest }
+{
+    rr_runs::laws::optimal();
 }
 
 /// The roster of each right kit names each corporation.

@@ -1,5 +1,5 @@
 -- What each call on the file leaves of what a log knows.
-use Rattle.std.proofs.Common.{◌≡◌, ℕ, ◌+◌, ◌<◌, List, length, Option, None, Some, Result, Ok, Err, OnOk, refl, sym, ◌∙◌, ap, subst, arith}
+use Rattle.std.proofs.Common.{◌≡◌, ℕ, ◌+◌, ◌<◌, ◌≤◌, List, length, Option, None, Some, Result, Ok, Err, OnOk, refl, sym, ◌∙◌, ap, subst, arith}
 use Rattle.rr_disk.specs.Disk.{DiskState}
 use Rattle.rr_disk.specs.Moments.{EachImage}
 use Rattle.rr_images.specs.Codec.{Codec}
@@ -17,7 +17,10 @@ use Rattle.rr_checkpoint.specs.Planning.{MayBegin}
 use Rattle.rr_checkpoint.specs.Writer as file
 use Rattle.rr_checkpoint.specs.Writer.{Lowers}
 use Rattle.rr_checkpoint.proofs.Writers.{base_is_carried, carried_kept}
+use Rattle.rr_journal.specs.Layout.{HasRoom}
 use Rattle.rr_log.specs.declared.fault.Fault.{Fault}
+use Rattle.rr_log.specs.declared.fault.Fault.TheVariants as F
+use Rattle.rr_log.specs.Fault.{OnDeviceFault}
 use Rattle.rr_log.specs.declared.log.Log.{Log}
 use Rattle.rr_log.specs.Calls.{world_behind}
 use Rattle.rr_log.specs.Carrying.{HasTexts, HaveSameTexts, IsBase, Carries, IsPlanned}
@@ -242,3 +245,27 @@ module _ {D R : Type 0} (takes : List ℕ → World → World → Type 0) (log :
                 subst (λ (b : Option ℕ). IsBase b log.base then.0.layout.middle.tables) (sym begun) (base_behind (place_of log).begun refl (carries.base (omega (arith, resting, left))));
             no_base = λ some. carries.no_base (omega (arith, some, left));
           }
+
+-- where the device failed more is so
+pub device_more : {T P Q : Type 0} (result : Result T Fault) → (P → Q) → OnDeviceFault result P → OnDeviceFault result Q
+device_more (Ok value) so given = tt
+device_more (Err F.DeviceFailed) so given = so given
+device_more (Err F.HalfFull) so given = tt
+device_more (Err F.FileFull) so given = tt
+device_more (Err F.OpenAgain) so given = tt
+device_more (Err F.OutOfMemory) so given = tt
+
+-- and so it is where a call ends as one below it did
+device_by : (T U : Type 0) {P Q : Type 0} (fault : Fault) → (P → Q) → OnDeviceFault {T = T} (Err fault) P → OnDeviceFault {T = U} (Err fault) Q
+device_by T U F.DeviceFailed so given = so given
+device_by T U F.HalfFull so given = tt
+device_by T U F.FileFull so given = tt
+device_by T U F.OpenAgain so given = tt
+device_by T U F.OutOfMemory so given = tt
+
+pub device_so : (T : Type 0) {U P Q : Type 0} (result : Result U Fault) (fault : Fault) → result ≡ Err fault → (P → Q) → OnDeviceFault {T = T} (Err fault) P → OnDeviceFault result Q
+device_so T {U = U} {Q = Q} result fault is so given = subst (λ (r : Result U Fault). OnDeviceFault r Q) (sym is) (device_by T U fault so given)
+
+-- a half has no more room where fewer slots of it are left
+pub no_more_room : (new old count : ℕ) → new ≤ old → (HasRoom new count → ⊥) → HasRoom old count → ⊥
+no_more_room new old count below none room = none (record { not_empty = room.not_empty; not_long = room.not_long; fits = omega (arith, below, room.fits) })

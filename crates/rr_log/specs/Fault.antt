@@ -41,3 +41,16 @@ ends_broken (Err fault) = breaks fault
 -- the refusals of a checkpoint that want pages, numbers or memory
 abbrev pub IsWant : Fault → Type 0
 IsWant fault = (fault ≡ F.FileFull) ⊎ (fault ≡ F.OutOfMemory)
+
+-- where the device failed, so
+abbrev pub OnDevice : Fault → Type 0 → Type 0
+OnDevice F.DeviceFailed P = P
+OnDevice F.HalfFull P = Unit {0}
+OnDevice F.FileFull P = Unit {0}
+OnDevice F.OpenAgain P = Unit {0}
+OnDevice F.OutOfMemory P = Unit {0}
+
+-- where a call ends so that the device failed, so
+abbrev pub OnDeviceFault : {T : Type 0} → Result T Fault → Type 0 → Type 0
+OnDeviceFault (Ok value) P = Unit {0}
+OnDeviceFault (Err fault) P = OnDevice fault P

@@ -34,7 +34,7 @@ ticks_left log = file.ticks_left_of log.writer
 
 -- without a checkpoint under way a tick begins one: an opening found it begun, or at least 128 slots of the half are used
 abbrev pub IsDue : Place → Type 0
-IsDue place = (place.begun ≡ None → ⊥) ⊎ (128 ≤ place.part.next_slot)
+IsDue place = (place.begun ≡ None → ⊥) ⊎ (128 ≤ place.half.next_slot)
 
 -- a number that no record and no root may have, nor a greater one
 abbrev pub IsPastLast : ℕ → Type 0
@@ -42,4 +42,4 @@ IsPastLast number = 2 ^ 63 ≤ number + 1
 
 -- the half in use has no room for a record of so many bytes
 abbrev pub HasNoRoom : Place → ℕ → Type 0
-HasNoRoom place count = HasRoom place.part.next_slot count → ⊥
+HasNoRoom place count = HasRoom place.half.next_slot count → ⊥

@@ -1,7 +1,7 @@
 // Records.
 ghost use Rattle.std.specs.Prelude.{◌≡◌, ◌⊎◌, ◌↔◌, ◌+◌, ◌^◌, ◌<◌, ◌≤◌, false, length, IfOk, IfErr, IsErrOf, IsTrue, Ok, Err};
 ghost use Rattle.rr_checkpoint.specs.Calls.{LeavesKept, LeavesEither};
-ghost use Rattle.rr_log.specs.Fault.{CountsFault, IsWant, ends_broken};
+ghost use Rattle.rr_log.specs.Fault.{CountsFault, IsWant, OnDeviceFault, ends_broken};
 ghost use Rattle.rr_worlds.specs.Spelling.{worlds};
 ghost use Rattle.rr_worlds.specs.World.{World};
 
@@ -13,7 +13,7 @@ use rr_worlds::Rules;
 impl<D: Disk + Drop, R: Rules> Log<D, R> {
     ghost use Rattle.rr_log.specs.Calls.{MayRefuse, NumberBehind, world_behind};
     ghost use Rattle.rr_log.specs.Carrying.{Carries, HaveSameTexts};
-    ghost use Rattle.rr_log.specs.Log.{disk_of, is_broken, next_number, place_of, ticks_left, IsDue};
+    ghost use Rattle.rr_log.specs.Log.{disk_of, is_broken, next_number, place_of, ticks_left, HasNoRoom, IsDue};
 
     /// Keeps a record. After `Ok` it is safe. Before it a tick is made, where a checkpoint is under way or is to begin; the
     /// tables are those of the world before the record. A line has a byte at least.
@@ -49,7 +49,10 @@ impl<D: Disk + Drop, R: Rules> Log<D, R> {
         ensures untouched { IsErrOf result Fault.OpenAgain → self.new ≡ self.old }
         ensures broken { is_broken self.new ≡ ends_broken result }
         ensures refused { IfErr result (MayRefuse (place_of self.new) (length line.now)) }
+        ensures full { IsErrOf result Fault.HalfFull → HasNoRoom (place_of self.old) (length line.now) }
         ensures fault { CountsFault (D.fault_count (disk_of self.old)) (D.fault_count (disk_of self.new)) result }
+        ensures device { OnDeviceFault result (D.Honest (disk_of self.new) → (world : World)
+            → Carries R.takes self.old (D.state (disk_of self.old)) world → D.Works (disk_of self.new) → ⊥) }
 
         // Two of each are the record's, and one the tick's.
         ensures writes { D.write_count (disk_of self.new) ≤ D.write_count (disk_of self.old) + 3 }
@@ -84,8 +87,11 @@ impl<D: Disk + Drop, R: Rules> Log<D, R> {
             → ticks_left self.old ≡ ticks_left self.new + 1 }
         ensures rests { ticks_left self.old ≡ 0 → (IsDue (place_of self.old) → ⊥) → ticks_left self.new ≡ 0 }
         ensures number { next_number self.new ≡ next_number self.old }
+        ensures slots { (place_of self.new).half.next_slot ≤ (place_of self.old).half.next_slot }
         ensures broken { is_broken self.new ≡ ends_broken result }
         ensures fault { CountsFault (D.fault_count (disk_of self.old)) (D.fault_count (disk_of self.new)) result }
+        ensures device { OnDeviceFault result (D.Honest (disk_of self.new) → (world : World)
+            → Carries R.takes self.old (D.state (disk_of self.old)) world → D.Works (disk_of self.new) → ⊥) }
         ensures writes { D.write_count (disk_of self.new) ≤ D.write_count (disk_of self.old) + 1 }
         ensures syncs { D.sync_count (disk_of self.new) ≤ D.sync_count (disk_of self.old) + 1 }
         ensures honest { D.Honest (disk_of self.new) → D.Honest (disk_of self.old) }
@@ -115,8 +121,10 @@ impl<D: Disk + Drop, R: Rules> Log<D, R> {
         ensures left { ticks_left self.new ≡ ticks_left self.old }
         ensures broken { is_broken self.new ≡ ends_broken result }
         ensures refused { IfErr result (MayRefuse (place_of self.new) (length line.now)) }
+        ensures full { IsErrOf result Fault.HalfFull → HasNoRoom (place_of self.old) (length line.now) }
         ensures err { IfErr result (λ fault. (fault ≡ full) ⊎ (fault ≡ Fault.DeviceFailed)) }
         ensures fault { CountsFault (D.fault_count (disk_of self.old)) (D.fault_count (disk_of self.new)) result }
+        ensures device { OnDeviceFault result (D.Works (disk_of self.new) → ⊥) }
         ensures writes { D.write_count (disk_of self.new) ≤ D.write_count (disk_of self.old) + 2 }
         ensures syncs { D.sync_count (disk_of self.new) ≤ D.sync_count (disk_of self.old) + 2 }
         ensures honest { D.Honest (disk_of self.new) → D.Honest (disk_of self.old) }

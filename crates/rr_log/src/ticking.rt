@@ -3,7 +3,7 @@ ghost use Rattle.std.specs.Prelude.{◌≡◌, ◌⊎◌, ◌↔◌, ◌+◌, �
 ghost use Rattle.rr_checkpoint.specs.Calls.{LeavesKept, TakesRootBehind};
 ghost use Rattle.rr_checkpoint.specs.Writer.{RenewsAt, Lowers};
 ghost use Rattle.rr_disk.specs.Moments.{EachImage};
-ghost use Rattle.rr_log.specs.Fault.{CountsFault, IsWant, ends_broken};
+ghost use Rattle.rr_log.specs.Fault.{CountsFault, IsWant, OnDeviceFault, ends_broken};
 ghost use Rattle.rr_worlds.specs.Spelling.{worlds};
 ghost use Rattle.rr_worlds.specs.World.{World};
 
@@ -56,6 +56,8 @@ impl<D: Disk + Drop, R: Rules> Log<D, R> {
         ensures unchanged { IfErr result (λ fault. IsWant fault → IsUnchanged self.old self.new) }
         ensures room { IsErrOf result Fault.HalfFull → ⊥ }
         ensures fault { CountsFault (D.fault_count (disk_of self.old)) (D.fault_count (disk_of self.new)) result }
+        ensures device { OnDeviceFault result (D.Honest (disk_of self.new) → (world : World)
+            → Carries R.takes self.old (D.state (disk_of self.old)) world → D.Works (disk_of self.new) → ⊥) }
 
         ensures writes { D.write_count (disk_of self.new) ≤ D.write_count (disk_of self.old) + 1 }
         ensures syncs { D.sync_count (disk_of self.new) ≤ D.sync_count (disk_of self.old) + 1 }
@@ -85,12 +87,15 @@ impl<D: Disk + Drop, R: Rules> Log<D, R> {
         ensures idle { (result ≡ Ok Tick.Idle) ↔ ((ticks_left self.old ≡ 0) × (IsDue (place_of self.old) → ⊥)) }
         ensures rests { result ≡ Ok Tick.Idle → self.new ≡ self.old }
         ensures number { next_number self.new ≡ next_number self.old }
+        ensures slots { (place_of self.new).half.next_slot ≤ (place_of self.old).half.next_slot }
         ensures broken { is_broken self.new ≡ ends_broken result }
         ensures err { IfErr result (λ fault. IsWant fault ⊎ (fault ≡ Fault.DeviceFailed)) }
         ensures full { IsErrOf result Fault.FileFull → IsFileFull self.old (T.tables tables.now) }
         ensures first { IfErr result (λ fault. IsWant fault → ticks_left self.old ≡ 0) }
         ensures unchanged { IfErr result (λ fault. IsWant fault → IsUnchanged self.old self.new) }
         ensures fault { CountsFault (D.fault_count (disk_of self.old)) (D.fault_count (disk_of self.new)) result }
+        ensures device { OnDeviceFault result (D.Honest (disk_of self.new) → (world : World)
+            → Carries R.takes self.old (D.state (disk_of self.old)) world → D.Works (disk_of self.new) → ⊥) }
         ensures writes { D.write_count (disk_of self.new) ≤ D.write_count (disk_of self.old) + 1 }
         ensures syncs { D.sync_count (disk_of self.new) ≤ D.sync_count (disk_of self.old) + 1 }
         ensures honest { D.Honest (disk_of self.new) → D.Honest (disk_of self.old) }
@@ -114,7 +119,7 @@ impl<D: Disk + Drop, R: Rules> Log<D, R> {
         if place.begun.is_some() {
             return true;
         }
-        place.part.next_slot >= MANY_SLOTS
+        place.half.next_slot >= MANY_SLOTS
     }
 
     // The next step of the checkpoint under way.
@@ -133,9 +138,12 @@ impl<D: Disk + Drop, R: Rules> Log<D, R> {
             → RenewsAt (worlds R.takes) tick carries.carried.layout (D.state (disk_of self.new)) world) }
         ensures left { IfOk result (λ tick. Lowers tick (ticks_left self.old) (ticks_left self.new)) }
         ensures number { next_number self.new ≡ next_number self.old }
+        ensures slots { (place_of self.new).half.next_slot ≤ (place_of self.old).half.next_slot }
         ensures broken { is_broken self.new ≡ ends_broken result }
         ensures err { IfErr result (λ fault. fault ≡ Fault.DeviceFailed) }
         ensures fault { CountsFault (D.fault_count (disk_of self.old)) (D.fault_count (disk_of self.new)) result }
+        ensures device { OnDeviceFault result (D.Honest (disk_of self.new) → (world : World)
+            → Carries R.takes self.old (D.state (disk_of self.old)) world → D.Works (disk_of self.new) → ⊥) }
         ensures writes { D.write_count (disk_of self.new) ≤ D.write_count (disk_of self.old) + 1 }
         ensures syncs { D.sync_count (disk_of self.new) ≤ D.sync_count (disk_of self.old) + 1 }
         ensures honest { D.Honest (disk_of self.new) → D.Honest (disk_of self.old) }
@@ -163,12 +171,15 @@ impl<D: Disk + Drop, R: Rules> Log<D, R> {
             → Carries R.takes self.new (D.state (disk_of self.new)) world }
         ensures left { OnOk result (3 ≤ ticks_left self.new) }
         ensures number { next_number self.new ≡ next_number self.old }
+        ensures slots { (place_of self.new).half.next_slot ≤ (place_of self.old).half.next_slot }
         ensures root { root_number self.new ≡ root_number self.old }
         ensures broken { is_broken self.new ≡ ends_broken result }
         ensures err { IfErr result (λ fault. IsWant fault ⊎ (fault ≡ Fault.DeviceFailed)) }
         ensures full { IsErrOf result Fault.FileFull → IsFileFull self.old (T.tables tables.now) }
         ensures unchanged { IfErr result (λ fault. IsWant fault → IsUnchanged self.old self.new) }
         ensures fault { CountsFault (D.fault_count (disk_of self.old)) (D.fault_count (disk_of self.new)) result }
+        ensures device { OnDeviceFault result (D.Honest (disk_of self.new) → (world : World)
+            → Carries R.takes self.old (D.state (disk_of self.old)) world → D.Works (disk_of self.new) → ⊥) }
         ensures writes { D.write_count (disk_of self.new) ≤ D.write_count (disk_of self.old) + 1 }
         ensures syncs { D.sync_count (disk_of self.new) ≤ D.sync_count (disk_of self.old) + 1 }
         ensures honest { D.Honest (disk_of self.new) → D.Honest (disk_of self.old) }
@@ -219,6 +230,8 @@ impl<D: Disk + Drop, R: Rules> Log<D, R> {
         ensures unchanged { IfErr result (λ fault. IsWant fault → IsUnchanged self.old self.new) }
         ensures room { IsErrOf result Fault.HalfFull → ⊥ }
         ensures fault { CountsFault (D.fault_count (disk_of self.old)) (D.fault_count (disk_of self.new)) result }
+        ensures device { OnDeviceFault result (D.Honest (disk_of self.new) → (world : World) → world.tables ≡ T.tables tables.now
+            → Carries R.takes self.old (D.state (disk_of self.old)) world → D.Works (disk_of self.new) → ⊥) }
 
         ensures honest { D.Honest (disk_of self.new) → D.Honest (disk_of self.old) }
         ensures works { D.Works (disk_of self.new) → D.Works (disk_of self.old) }
@@ -253,6 +266,8 @@ impl<D: Disk + Drop, R: Rules> Log<D, R> {
         ensures broken { is_broken self.new ≡ ends_broken result }
         ensures err { IfErr result (λ fault. fault ≡ Fault.DeviceFailed) }
         ensures fault { CountsFault (D.fault_count (disk_of self.old)) (D.fault_count (disk_of self.new)) result }
+        ensures device { OnDeviceFault result (D.Honest (disk_of self.new) → (world : World)
+            → Carries R.takes self.old (D.state (disk_of self.old)) world → D.Works (disk_of self.new) → ⊥) }
         ensures honest { D.Honest (disk_of self.new) → D.Honest (disk_of self.old) }
         ensures works { D.Works (disk_of self.new) → D.Works (disk_of self.old) }
     {

@@ -8,7 +8,7 @@ use Rattle.rr_checkpoint.specs.Writer.{place_of, taken_of, free_of, ticks_left_o
 use Rattle.rr_checkpoint.proofs.Writers.{none_left}
 use Rattle.rr_disk.specs.Disk.{DiskState, after_sync}
 use Rattle.rr_images.specs.Codec.{Codec, Replays, IsExact}
-use Rattle.rr_images.specs.Halves.{half_part}
+use Rattle.rr_images.specs.Halves.{half_index}
 use Rattle.rr_images.specs.Holding.{Holding, texts_of, reached_of}
 use Rattle.rr_images.specs.Layout.{Layout, FarHalf, Unused, Old, Begun, far_lines, KeepsAt, Keeps, opened_far}
 use Rattle.rr_images.specs.Progress.{IsBetween}
@@ -60,17 +60,17 @@ module _ (codec : Codec) (exact : IsExact codec) (names : NamesChains codec) (fi
   -- the records of both halves
   same_near : (has.near ≡ layout.near) × (has.near_end ≡ Closed)
   same_near =
-      one_run file (half_part has.root.half) 0 has.root.first layout.near has.near Closed has.near_end
-      (subst (λ (root : Root). Run file (half_part root.half) 0 root.first layout.near Closed) (sym same_taken.1) keeps.near_run) holds.near_run
+      one_run file (half_index has.root.half) 0 has.root.first layout.near has.near Closed has.near_end
+      (subst (λ (root : Root). Run file (half_index root.half) 0 root.first layout.near Closed) (sym same_taken.1) keeps.near_run) holds.near_run
 
   same_far : (has.far ≡ far_lines layout.far) × (has.far_end ≡ end_of layout.far) × (has.far_end ≢ Damaged)
   same_far =
-      let far = far_stands file (half_part (not layout.root.half)) (layout.root.first + length layout.near) layout.far keeps.far_kept in
+      let far = far_stands file (half_index (not layout.root.half)) (layout.root.first + length layout.near) layout.far keeps.far_kept in
       let number : has.root.first + length has.near ≡ layout.root.first + length layout.near = λ i. (same_taken.1 i).first + length (same_near.0 i) in
-      let here : Run file (half_part (not has.root.half)) 0 (has.root.first + length has.near) (far_lines layout.far) (end_of layout.far) =
-      subst (λ (root : Root). Run file (half_part (not root.half)) 0 (has.root.first + length has.near) (far_lines layout.far) (end_of layout.far)) (sym same_taken.1)
-      (subst (λ (first : ℕ). Run file (half_part (not layout.root.half)) 0 first (far_lines layout.far) (end_of layout.far)) (sym number) far.0) in
-      let same = one_run file (half_part (not has.root.half)) 0 (has.root.first + length has.near) (far_lines layout.far) has.far (end_of layout.far) has.far_end here holds.far_run in
+      let here : Run file (half_index (not has.root.half)) 0 (has.root.first + length has.near) (far_lines layout.far) (end_of layout.far) =
+      subst (λ (root : Root). Run file (half_index (not root.half)) 0 (has.root.first + length has.near) (far_lines layout.far) (end_of layout.far)) (sym same_taken.1)
+      (subst (λ (first : ℕ). Run file (half_index (not layout.root.half)) 0 first (far_lines layout.far) (end_of layout.far)) (sym number) far.0) in
+      let same = one_run file (half_index (not has.root.half)) 0 (has.root.first + length has.near) (far_lines layout.far) has.far (end_of layout.far) has.far_end here holds.far_run in
       (same.0, same.1, λ is. far.1 (sym same.1 ∙ is))
 
   pub is_read_as : IsReadAs layout has world
@@ -111,7 +111,7 @@ tells_opened codec exact names opened file holds layout world keeps goes =
       side = sym same.0;
       root = sym same.1;
       begun = begun_there codec exact names file has holds layout world keeps place goes;
-      goes_on = goes_opened codec layout place.part place.number there.index there.slot there.number;
+      goes_on = goes_opened codec layout place.half place.number there.index there.slot there.number;
       reached = reaches codec exact names file has holds layout world keeps;
     }
 

@@ -1,7 +1,7 @@
 -- Why a file isn't opened.
 use Rattle.std.proofs.Common.{inl, inr, ℕ, ◌+◌, not, List, length, subst}
 use Rattle.rr_images.specs.Codec.{Codec, IsExact}
-use Rattle.rr_images.specs.Halves.{half_part}
+use Rattle.rr_images.specs.Halves.{half_index}
 use Rattle.rr_images.specs.Layout.{Stands}
 use Rattle.rr_images.specs.Refusing.{IsRefused, No_store, Damaged_record, Near, Far}
 use Rattle.rr_images.proofs.Refusing.{stands_is_not_refused}
@@ -32,8 +32,8 @@ stands_no_verdict codec file OutOfMemory refused exact names forms world stands 
 pub damaged_record_refused : (codec : Codec) (file : List ℕ) (has : Held) → Holds file has → HasDamagedRecord has → IsRefused codec file
 damaged_record_refused codec file has holds (inl is) =
     let taken = holds.chains.has_directory.taken in
-    Damaged_record has.side has.root taken.0 taken.1 (Near has.near (subst (λ (end : RunEnd). Run file (half_part has.root.half) 0 has.root.first has.near end) is holds.near_run))
+    Damaged_record has.side has.root taken.0 taken.1 (Near has.near (subst (λ (end : RunEnd). Run file (half_index has.root.half) 0 has.root.first has.near end) is holds.near_run))
 damaged_record_refused codec file has holds (inr is) =
     let taken = holds.chains.has_directory.taken in
     Damaged_record has.side has.root taken.0 taken.1
-    (Far has.near has.far has.near_end holds.near_run (subst (λ (end : RunEnd). Run file (half_part (not has.root.half)) 0 (has.root.first + length has.near) has.far end) is holds.far_run))
+    (Far has.near has.far has.near_end holds.near_run (subst (λ (end : RunEnd). Run file (half_index (not has.root.half)) 0 (has.root.first + length has.near) has.far end) is holds.far_run))

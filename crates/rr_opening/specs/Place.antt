@@ -1,7 +1,7 @@
 -- Where the next record goes, by what is read of both halves.
 use Rattle.std.specs.Prelude.{◌≡◌, ℕ, ◌+◌, List, [], ◌∷◌, length, Option, None, Some}
 use Rattle.rr_checkpoint.specs.declared.place.Place.{Place}
-use Rattle.rr_images.specs.Halves.{half_part}
+use Rattle.rr_images.specs.Halves.{half_index}
 use Rattle.rr_images.specs.Steps.{read_half, read_lines}
 use Rattle.rr_journal.specs.Run.{slots_of}
 use Rattle.rr_pages.specs.declared.root.Root.{Root}
@@ -13,7 +13,7 @@ begun_at number (line ∷ lines) = Some number
 
 -- The next record goes behind the far ones, where there are some, and else behind the near ones. It is numbered on.
 pub record GoesBehind (root : Root) (near far : List (List ℕ)) (place : Place) : Type 0 where
-  pub index : place.part.index ≡ half_part (read_half root.half far)
-  pub slot : place.part.next_slot ≡ slots_of (read_lines near far)
+  pub index : place.half.index ≡ half_index (read_half root.half far)
+  pub slot : place.half.next_slot ≡ slots_of (read_lines near far)
   pub number : place.number ≡ root.first + length near + length far
   pub begun : place.begun ≡ begun_at (root.first + length near) far

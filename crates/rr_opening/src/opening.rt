@@ -10,7 +10,7 @@ ghost use Rattle.rr_opening.specs.Place.{GoesBehind};
 ghost use Rattle.rr_opening.specs.Syncing.{IsSynced};
 ghost use Rattle.rr_pages.specs.FreePages.{coming_of};
 ghost use Rattle.rr_pages.specs.Sets.{IsEmpty};
-ghost use Rattle.rr_reading.specs.Faults.{CountsFault, IsNoVerdict};
+ghost use Rattle.rr_reading.specs.Faults.{CountsFault, IsNoVerdict, OnDeviceFault};
 ghost use Rattle.rr_reading.specs.Held.{GoesOn, held_of};
 ghost use Rattle.rr_reading.specs.Laws.{NamesChains, SpellsForms};
 ghost use Rattle.rr_reading.specs.Reading.{Holds, Refuses};
@@ -36,9 +36,9 @@ use std::alloc::Global;
 /// them, and the checkpoint is to be made anew. Without one the next record goes on in the root's half.
 ///
 /// # Errors
-/// `Disk` where the sync failed, before anything was read, or a read did. `NotAStore` and `Damaged` as `read_file` tells
-/// them, with the least of the clauses 1 to 5 that is broken. Else `OutOfMemory` alone. After each of them the bytes are
-/// as they were.
+/// `Disk` where the sync failed, before anything was read, or a read did; where the disk works, neither does. `NotAStore`
+/// and `Damaged` as `read_file` tells them, with the least of the clauses 1 to 5 that is broken. Else `OutOfMemory` alone.
+/// After each of them the bytes are as they were.
 pub fn open_file<D: Disk, C: Codec>(alloc: Global, disk: &mut D) -> Result<Opened<C>, Fault>
     // What is given is what the file holds, and the next record goes behind it.
     ensures holds { IfOk result (λ opened. D.Honest disk.new → Holds (D.state disk.old).content (held_by opened)) }
@@ -70,6 +70,7 @@ pub fn open_file<D: Disk, C: Codec>(alloc: Global, disk: &mut D) -> Result<Opene
 
     ensures fault { CountsFault (D.fault_count disk.old) (D.fault_count disk.new) result }
     ensures honest { D.Honest disk.new → D.Honest disk.old }
+    ensures device { OnDeviceFault result (D.Works disk.new → ⊥) }
     ensures works { D.Works disk.new → D.Works disk.old }
     ensures same_len { D.file_len disk.new ≡ D.file_len disk.old }
 {
@@ -87,6 +88,7 @@ fn sync<D: Disk>(disk: &mut D) -> Result<(), Fault>
     ensures writes { D.write_count disk.new ≡ D.write_count disk.old }
     ensures syncs { D.sync_count disk.new ≡ counted (D.sync_count disk.old) }
     ensures honest { D.Honest disk.new → D.Honest disk.old }
+    ensures device { OnDeviceFault result (D.Works disk.new → ⊥) }
     ensures works { D.Works disk.new → D.Works disk.old }
     ensures same_len { D.file_len disk.new ≡ D.file_len disk.old }
 {

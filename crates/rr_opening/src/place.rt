@@ -23,13 +23,13 @@ pub(crate) fn next_place(root: &Root, near: &Scanned, far: &Scanned) -> Place
     let behind_near = first_number(root.first) + count(near);
     if far.records.is_empty() {
         return Place {
-            part: near.part,
+            half: near.half,
             number: behind_near,
             begun: None,
         };
     }
     Place {
-        part: far.part,
+        half: far.half,
         number: behind_near + count(far),
         begun: Some(behind_near),
     }
@@ -45,9 +45,9 @@ fn first_number(first: u64) -> u64
 
 // How many records were read of a half: each takes a slot at least.
 fn count(scanned: &Scanned) -> u64
-    requires { scanned.now.part.next_slot ≡ slots_of (lines scanned.now.records.items) }
+    requires { scanned.now.half.next_slot ≡ slots_of (lines scanned.now.records.items) }
     ensures same { result ≡ length (lines scanned.now.records.items) }
     ensures few { result ≤ 255 }
 {
-    (scanned.records.len() as u64).min(u64::from(scanned.part.next_slot))
+    (scanned.records.len() as u64).min(u64::from(scanned.half.next_slot))
 }

@@ -1,4 +1,5 @@
 -- The moments of shutting a gate, and of a flip.
+use Rattle.std.specs.Prelude.{Result, Ok, Err, OnOk}
 use Rattle.std.proofs.Common.{◌≡◌, inl, inr, ℕ, ◌+◌, List, [], ◌∷◌, slice_index, ◌∙◌, subst}
 use Rattle.rr_disk.specs.Disk.{DiskState, IsImage, after_write, after_sync}
 use Rattle.rr_disk.specs.Moments.{LeavesOnly, TornFrom}
@@ -54,3 +55,7 @@ module _ (past : List DiskState) (old : DiskState) (gate : ℕ) (bytes : List �
   pub flipped : {mid then new : DiskState} → Shuts old gate mid → then ≡ after_sync (after_write mid (gate + 1) bytes) → new ≡ after_sync (after_write then gate (0xa5 ∷ [])) → Flips old gate bytes new
   flipped {mid} {then} {new} shuts is opens =
       record { closed = mid; closes = shuts; opens = opens ∙ (λ i. after_sync (after_write (is i) gate (0xa5 ∷ []))) }
+
+pub ok_so : {T E : Type 0} (result : Result T E) (P Q : Type 0) → (P → Q) → OnOk result P → OnOk result Q
+ok_so (Ok value) P Q so holds = so holds
+ok_so (Err fault) P Q so holds = tt

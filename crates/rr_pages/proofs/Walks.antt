@@ -1,5 +1,5 @@
 -- Following a chain from page to page.
-use Rattle.std.proofs.Common.{◌≡◌, ◌≢◌, ◌⊎◌, inl, inr, ℕ, ◌+◌, ◌≤◌, Bool, true, false, ◌||◌, List, [], ◌∷◌, ◌++◌, length, get_or, sum_by, nat_lt, ◌==◌, if◌then◌else◌, Option, Some, None, Err, refl, sym, ◌∙◌, ap, subst, arith, length-append}
+use Rattle.std.proofs.Common.{◌≡◌, ◌≢◌, ◌⊎◌, inl, inr, ℕ, zero, suc, ◌+◌, ◌*◌, ◌<◌, ◌≤◌, Bool, true, false, ◌||◌, List, [], ◌∷◌, ◌++◌, length, get_or, sum_by, nat_lt, ◌==◌, if◌then◌else◌, Option, Some, None, Result, Err, refl, sym, ◌∙◌, ap, subst, arith, length-append}
 use Rattle.std.specs.List.{list_any}
 use Rattle.std.proofs.lemmas.Bool.{or_parts, or_from, ltb-false, le-ltb, eq-eqb, cond-true, cond-false, cases_eq}
 use Rattle.std.proofs.lemmas.List.{map-append, append_assoc, append-nil, length-set}
@@ -13,9 +13,14 @@ use Rattle.rr_pages.specs.Pages.{IsData, IsIn, AllApart, AreData}
 use Rattle.rr_pages.specs.Chains.{next_of, used_of, Links, Chain}
 use Rattle.rr_pages.specs.Sets.{IsMarked, marked, all_marked, Has}
 use Rattle.rr_pages.specs.Walk.{Walk, length_damage, damage_of}
-use Rattle.rr_pages.specs.Links.{pages_of, AreLinks, Gathers, AddsPiece, links_damage, judged, NoVerdict}
+use Rattle.rr_pages.specs.Faults.{OnDeviceFault}
+use Rattle.rr_pages.specs.Links.{pages_of, AreLinks, AreBelow, EndsPast, Gathers, AddsPiece, links_damage, judged, NoVerdict}
 use Rattle.rr_pages.specs.Reading.{IsWhole, IsBroken, Reads}
 use Rattle.rr_pages.proofs.SetLemmas.{not_both, in_last, has_more}
+
+few_of : (over : Bool) (other : Option Damage) → (if over then Some UsedBytes else other) ≡ None → over ≡ false
+few_of true other none = absurd (cc)
+few_of false other none = refl
 
 module _ (file : List ℕ) where
   -- a page more behind those that were followed
@@ -119,10 +124,6 @@ module _ (file : List ℕ) where
   judged_end links (Some damage) stated none = absurd (cc)
   judged_end links None stated none = refl
 
-  few_of : (over : Bool) (other : Option Damage) → (if over then Some UsedBytes else other) ≡ None → over ≡ false
-  few_of true other none = absurd (cc)
-  few_of false other none = refl
-
   -- what was followed, judged and read, is what reading the chain answers
   pub read_broken : (count : ℕ) (reached : List Bool) (head : ℕ) (stated : Option ℕ) (after : List Bool) (links : List Link) (end : Option Damage) (damage : Damage) → Walk file count reached head (pages_of links) end → AreLinks file links
       → Some damage ≡ judged links end stated → after ≡ all_marked reached (pages_of links) → IsBroken file count reached head stated after damage
@@ -158,6 +159,34 @@ module _ (file : List ℕ) where
         | inr a_more ↦ elim there [ inl b_ends ↦ absurd (a_more.0 b_ends.0) | inr b_more ↦ walk_only count (marked reached p) (next_of file p) pages others end other a_more.1 b_more.1 ]
       ] in
       (λ i. sym same i ∷ behind.0 i, behind.1)
+
+-- a page below the page count more
+pub are_below_last : (count : ℕ) (links : List Link) (link : Link) → AreBelow count links → link.page < count → AreBelow count (links ++ link ∷ [])
+are_below_last count [] link are below = (below, tt)
+are_below_last count (first ∷ links) link are below = (are.0, are_below_last count links link are.1 below)
+
+-- a page whose used bytes end past this many is one of them
+pub ends_past : (len : ℕ) (links : List Link) (index : ℕ) (blank : Link) → index < length links
+    → len < 4096 * (get_or links index blank).page + 10 + (get_or links index blank).used → EndsPast len links
+ends_past len [] index blank within past = absurd (omega arith)
+ends_past len (link ∷ links) zero blank within past = inl past
+ends_past len (link ∷ links) (suc index) blank within past = inr (ends_past len links index blank (omega (arith, within)) past)
+
+past_count : (len count : ℕ) (links : List Link) → AreBelow count links → list_any (λ (link : Link). nat_lt 4086 link.used) links ≡ false → EndsPast len links → len < 4096 * count
+past_count len count [] below few past = absurd past
+past_count len count (link ∷ links) below few (inl past) =
+    let parts = or_parts (nat_lt 4086 link.used) (list_any (λ (l : Link). nat_lt 4086 l.used) links) few in
+    omega (arith, past, below.0, ltb-false 4086 link.used parts.0)
+past_count len count (link ∷ links) below few (inr past) =
+    let parts = or_parts (nat_lt 4086 link.used) (list_any (λ (l : Link). nat_lt 4086 l.used) links) few in
+    past_count len count links below.1 parts.1 past
+
+-- a chain that breaks no clause lies below the page count
+pub past_whole : (len count : ℕ) (links : List Link) (end : Option Damage) (stated : Option ℕ) → AreBelow count links → None ≡ judged links end stated → EndsPast len links → len < 4096 * count
+past_whole len count links (Some damage) stated below is past = absurd (cc)
+past_whole len count links None stated below is past =
+    past_count len count links below
+    (few_of (list_any (λ (link : Link). nat_lt 4086 link.used) links) (length_damage (sum_by (λ (link : Link). link.used) links) stated) (sym is)) past
 
 -- a fault of the device or for want of memory says nothing of the file
 pub reads_nothing : (file : List ℕ) (count : ℕ) (reached : List Bool) (head : ℕ) (stated : Option ℕ) (after : List Bool) (fault : Fault) → NoVerdict {T = ℕ} (Err fault) → Reads file count reached head stated after (Err fault)
@@ -226,3 +255,14 @@ module _ (file : List ℕ) (count : ℕ) (low : count ≤ 65536) where
 -- one link more
 pub pages_push : (links grown : List Link) (link : Link) (page : ℕ) → grown ≡ links ++ link ∷ [] → link.page ≡ page → pages_of grown ≡ pages_of links ++ page ∷ []
 pages_push links grown link page pushed there = ap (λ (ls : List Link). pages_of ls) pushed ∙ (map-append (λ (l : Link). l.page) links (link ∷ []) ∙ (λ i. pages_of links ++ there i ∷ []))
+
+-- where a call ends as one below it did, what is so where the device failed there is so here
+device_by : (T U : Type 0) {P Q : Type 0} (fault : Fault) → (P → Q) → OnDeviceFault {T = T} (Err fault) P → OnDeviceFault {T = U} (Err fault) Q
+device_by T U FileFull so given = tt
+device_by T U (Damaged damage) so given = tt
+device_by T U NotAStore so given = tt
+device_by T U (Disk cause) so given = so given
+device_by T U OutOfMemory so given = tt
+
+pub device_so : (T : Type 0) {U P Q : Type 0} (result : Result U Fault) (fault : Fault) → result ≡ Err fault → (P → Q) → OnDeviceFault {T = T} (Err fault) P → OnDeviceFault result Q
+device_so T {U = U} {Q = Q} result fault is so given = subst (λ (r : Result U Fault). OnDeviceFault r Q) (sym is) (device_by T U fault so given)

@@ -1,5 +1,5 @@
 -- What following a chain gathers.
-use Rattle.std.specs.Prelude.{◌≡◌, ℕ, ◌+◌, ◌*◌, nat_lt, if◌then◌else◌, List, [], ◌∷◌, ◌++◌, length, map, sum_by, Option, None, Some, Result, Ok, Err}
+use Rattle.std.specs.Prelude.{◌≡◌, ◌⊎◌, ℕ, ◌+◌, ◌*◌, ◌<◌, nat_lt, if◌then◌else◌, List, [], ◌∷◌, ◌++◌, length, map, sum_by, Option, None, Some, Result, Ok, Err}
 use Rattle.std.specs.List.{list_any}
 use Rattle.rr_pages.specs.declared.fault.Damage.{Damage}
 use Rattle.rr_pages.specs.declared.fault.Damage.TheVariants.{UsedBytes}
@@ -17,6 +17,16 @@ pages_of links = map (λ link. link.page) links
 abbrev pub AreLinks : List ℕ → List Link → Type 0
 AreLinks file [] = Unit {0}
 AreLinks file (link ∷ links) = (link.used ≡ used_of file link.page) × AreLinks file links
+
+-- each lies on a page below the page count
+abbrev pub AreBelow : ℕ → List Link → Type 0
+AreBelow count [] = Unit {0}
+AreBelow count (link ∷ links) = (link.page < count) × AreBelow count links
+
+-- the used bytes of one of them end past this many bytes
+abbrev pub EndsPast : ℕ → List Link → Type 0
+EndsPast len [] = ⊥
+EndsPast len (link ∷ links) = (len < 4096 * link.page + 10 + link.used) ⊎ EndsPast len links
 
 -- the bytes of these pages, one after another
 abbrev pub Gathers : List ℕ → List Link → List ℕ → Type 0

@@ -43,6 +43,12 @@ pub record IsSound (file : List ℕ) (root : Root) : Type 0 where
   pub within : 4096 * root.pages ≤ length file
   pub version : root.version ≡ 1
 
+-- the pages of a root lie in a file of this length
+pub record LiesWithin (len : ℕ) (root : Root) : Type 0 where
+  pub pages_low : 515 ≤ root.pages
+  pub pages_high : root.pages ≤ 65536
+  pub within : 4096 * root.pages ≤ len
+
 -- the root that isn't taken: its gate is shut, or it is an older one
 pub data Stale : Type 0 where
   Shut : Stale

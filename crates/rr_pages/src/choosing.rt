@@ -1,7 +1,8 @@
-ghost use Rattle.std.specs.Prelude.{◌≡◌, ◌*◌, ◌≤◌, ◌↔◌, true, false, not, ℕ, List, length, IfOk, IsTrue};
+ghost use Rattle.std.specs.Prelude.{◌≡◌, ◌*◌, ◌<◌, ◌≤◌, ◌↔◌, true, false, not, ℕ, List, length, IfOk, IsTrue};
 ghost use Rattle.rr_pages.specs.Choosing.{Chooses, StandsBehind, AreFieldsIn, IsInBounds, IsRootOf};
 ghost use Rattle.rr_pages.specs.Choosing.{OnlyDevice, IsJudged};
-ghost use Rattle.rr_pages.specs.Faults.{CountsFault};
+ghost use Rattle.rr_pages.specs.Faults.{CountsFault, OnDeviceFault};
+ghost use Rattle.rr_pages.specs.Roots.{LiesWithin};
 
 use crate::page::OPEN;
 use crate::root::gate_of;
@@ -34,12 +35,14 @@ struct Fields {
 /// `Damaged` where a field of an open root is out of bounds, or both are open with one number.
 pub fn take_root<D: Disk>(disk: &mut D) -> Result<Taken, Fault>
     ensures chosen { D.Honest disk.new → Chooses (D.state disk.old).content result }
+    ensures within { IfOk result (λ taken. LiesWithin (D.file_len disk.old) taken.root) }
     ensures fault { CountsFault (D.fault_count disk.old) (D.fault_count disk.new) result }
     ensures honest { D.Honest disk.new → D.Honest disk.old }
     ensures same_state { D.Honest disk.new → D.state disk.new ≡ D.state disk.old }
     ensures same_past { D.Honest disk.new → D.past disk.new ≡ D.past disk.old }
     ensures writes { D.write_count disk.new ≡ D.write_count disk.old }
     ensures syncs { D.sync_count disk.new ≡ D.sync_count disk.old }
+    ensures device { OnDeviceFault result (D.Works disk.new → ⊥) }
     ensures works { D.Works disk.new → D.Works disk.old }
     ensures same_len { D.file_len disk.new ≡ D.file_len disk.old }
 {
@@ -63,6 +66,7 @@ fn read_fields<D: Disk>(disk: &mut D, side: bool) -> Result<Option<Fields>, Faul
     ensures same_past { D.Honest disk.new → D.past disk.new ≡ D.past disk.old }
     ensures writes { D.write_count disk.new ≡ D.write_count disk.old }
     ensures syncs { D.sync_count disk.new ≡ D.sync_count disk.old }
+    ensures device { OnDeviceFault result (D.Works disk.new → D.file_len disk.old < 4096 * 2) }
     ensures works { D.Works disk.new → D.Works disk.old }
     ensures same_len { D.file_len disk.new ≡ D.file_len disk.old }
 {
@@ -92,6 +96,7 @@ fn fields_in(bytes: &[u8]) -> Fields
 fn choose(len: u64, first: Option<Fields>, second: Option<Fields>) -> Result<Taken, Fault>
     requires { 4096 * 515 ≤ len }
     ensures judged { IsJudged result }
+    ensures within { IfOk result (λ taken. LiesWithin len taken.root) }
     ensures chosen { (file : List ℕ) → length file ≡ len
         → StandsBehind file false first → StandsBehind file true second → Chooses file result }
 {
@@ -111,6 +116,7 @@ fn choose(len: u64, first: Option<Fields>, second: Option<Fields>) -> Result<Tak
 fn choose_alone(len: u64, side: bool, fields: Fields) -> Result<Taken, Fault>
     requires { 4096 * 515 ≤ len }
     ensures judged { IsJudged result }
+    ensures within { IfOk result (λ taken. LiesWithin len taken.root) }
     ensures chosen { (file : List ℕ) → length file ≡ len
         → StandsBehind file side (Some fields) → StandsBehind file (not side) None → Chooses file result }
 {
@@ -130,6 +136,7 @@ fn choose_alone(len: u64, side: bool, fields: Fields) -> Result<Taken, Fault>
 fn choose_greater(len: u64, first: Fields, second: Fields) -> Result<Taken, Fault>
     requires { 4096 * 515 ≤ len }
     ensures judged { IsJudged result }
+    ensures within { IfOk result (λ taken. LiesWithin len taken.root) }
     ensures chosen { (file : List ℕ) → length file ≡ len
         → StandsBehind file false (Some first) → StandsBehind file true (Some second) → Chooses file result }
 {

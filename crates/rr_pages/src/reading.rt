@@ -1,9 +1,9 @@
-ghost use Rattle.std.specs.Prelude.{◌≡◌, ◌≤◌, length, nat_lt, sum_by, IfOk, OnOk};
+ghost use Rattle.std.specs.Prelude.{◌≡◌, ◌+◌, ◌*◌, ◌<◌, ◌≤◌, length, nat_lt, sum_by, IfOk, OnOk};
 ghost use Rattle.rr_pages.specs.Chains.{next_of, used_of};
-ghost use Rattle.rr_pages.specs.Faults.{CountsFault};
+ghost use Rattle.rr_pages.specs.Faults.{CountsFault, OnDeviceFault};
 ghost use Rattle.rr_pages.specs.PageSet.{marks_of};
 ghost use Rattle.rr_pages.specs.Reading.{Reads};
-ghost use Rattle.rr_pages.specs.Links.{pages_of, AreLinks, Gathers, AddsPiece, links_damage, judged, NoVerdict};
+ghost use Rattle.rr_pages.specs.Links.{pages_of, AreLinks, AreBelow, EndsPast, Gathers, AddsPiece, links_damage, judged, NoVerdict};
 ghost use Rattle.rr_pages.specs.Sets.{all_marked};
 ghost use Rattle.rr_pages.specs.Walk.{Walk};
 ghost use Rattle.rr_pages.specs.Walk as walk;
@@ -61,6 +61,7 @@ pub fn chain_read<D: Disk>(
     ensures same_past { D.Honest disk.new → D.past disk.new ≡ D.past disk.old }
     ensures writes { D.write_count disk.new ≡ D.write_count disk.old }
     ensures syncs { D.sync_count disk.new ≡ D.sync_count disk.old }
+    ensures device { OnDeviceFault result (D.Works disk.new → D.file_len disk.old < 4096 * count) }
     ensures works { D.Works disk.new → D.Works disk.old }
     ensures same_len { D.file_len disk.new ≡ D.file_len disk.old }
 {
@@ -86,6 +87,7 @@ fn walk<D: Disk>(
     ensures walk { IfOk result (λ walked. D.Honest disk.new
         → Walk (D.state disk.old).content count (marks_of reached.old) head (pages_of walked.links.items) walked.end) }
     ensures links { IfOk result (λ walked. D.Honest disk.new → AreLinks (D.state disk.old).content walked.links.items) }
+    ensures below { IfOk result (λ walked. AreBelow count walked.links.items) }
     ensures marks { IfOk result (λ walked. marks_of reached.new
         ≡ all_marked (marks_of reached.old) (pages_of walked.links.items)) }
     ensures few { IfOk result (λ walked. length walked.links.items ≤ 65536) }
@@ -96,6 +98,7 @@ fn walk<D: Disk>(
     ensures same_past { D.Honest disk.new → D.past disk.new ≡ D.past disk.old }
     ensures writes { D.write_count disk.new ≡ D.write_count disk.old }
     ensures syncs { D.sync_count disk.new ≡ D.sync_count disk.old }
+    ensures device { OnDeviceFault result (D.Works disk.new → D.file_len disk.old < 4096 * count) }
     ensures works { D.Works disk.new → D.Works disk.old }
     ensures same_len { D.file_len disk.new ≡ D.file_len disk.old }
 {
@@ -138,6 +141,7 @@ fn read_link<D: Disk>(disk: &mut D, page: u32) -> Result<Link, Fault>
     ensures same_past { D.Honest disk.new → D.past disk.new ≡ D.past disk.old }
     ensures writes { D.write_count disk.new ≡ D.write_count disk.old }
     ensures syncs { D.sync_count disk.new ≡ D.sync_count disk.old }
+    ensures device { OnDeviceFault result (D.Works disk.new → D.file_len disk.old < 4096 * page + 10) }
     ensures works { D.Works disk.new → D.Works disk.old }
     ensures same_len { D.file_len disk.new ≡ D.file_len disk.old }
 {
@@ -218,6 +222,7 @@ fn read_pieces<D: Disk>(alloc: Global, disk: &mut D, links: &[Link]) -> Result<R
     ensures same_past { D.Honest disk.new → D.past disk.new ≡ D.past disk.old }
     ensures writes { D.write_count disk.new ≡ D.write_count disk.old }
     ensures syncs { D.sync_count disk.new ≡ D.sync_count disk.old }
+    ensures device { OnDeviceFault result (D.Works disk.new → EndsPast (D.file_len disk.old) links.now) }
     ensures works { D.Works disk.new → D.Works disk.old }
     ensures same_len { D.file_len disk.new ≡ D.file_len disk.old }
 {
@@ -247,6 +252,7 @@ fn read_piece<D: Disk>(
     ensures same_past { D.Honest disk.new → D.past disk.new ≡ D.past disk.old }
     ensures writes { D.write_count disk.new ≡ D.write_count disk.old }
     ensures syncs { D.sync_count disk.new ≡ D.sync_count disk.old }
+    ensures device { OnDeviceFault result (D.Works disk.new → D.file_len disk.old < 4096 * page + 10 + used) }
     ensures works { D.Works disk.new → D.Works disk.old }
     ensures same_len { D.file_len disk.new ≡ D.file_len disk.old }
 {
@@ -265,6 +271,7 @@ fn read_bytes<D: Disk>(alloc: Global, disk: &mut D, at: u64, count: usize) -> Re
     ensures same_past { D.Honest disk.new → D.past disk.new ≡ D.past disk.old }
     ensures writes { D.write_count disk.new ≡ D.write_count disk.old }
     ensures syncs { D.sync_count disk.new ≡ D.sync_count disk.old }
+    ensures device { OnDeviceFault result (D.Works disk.new → D.file_len disk.old < at + count) }
     ensures works { D.Works disk.new → D.Works disk.old }
     ensures same_len { D.file_len disk.new ≡ D.file_len disk.old }
 {

@@ -47,12 +47,12 @@ module _ (file : List ℕ) (count : ℕ) (within : 4096 * count ≤ length file)
   links_there reached head [] (inl outside) few = absurd (cc (outside.1))
   links_there reached head [] (inr twice) few = absurd (cc (twice.2))
   links_there reached head (page ∷ pages) walk few =
-      let parts = or_parts (nat_lt 4086 (used_of file page)) (list_any (λ (p : ℕ). nat_lt 4086 (used_of file p)) pages) few in
-      let short : used_of file page ≤ 4086 = ltb-false 4086 (used_of file page) parts.0 in
+      let halves = or_parts (nat_lt 4086 (used_of file page)) (list_any (λ (p : ℕ). nat_lt 4086 (used_of file p)) pages) few in
+      let short : used_of file page ≤ 4086 = ltb-false 4086 (used_of file page) halves.0 in
       let long : length (bytes_at page (used_of file page)) ≡ used_of file page = bytes_long page (used_of file page) walk.1.1 short in
       let rest : (text : List ℕ) × Links file (next_of file page) pages text = elim walk.3 [
         | inl ends ↦ ([], links_end (next_of file page) pages ends.1 ends.0)
-        | inr goes ↦ links_there (marked reached page) (next_of file page) pages goes.1 parts.1
+        | inr goes ↦ links_there (marked reached page) (next_of file page) pages goes.1 halves.1
       ] in (
         bytes_at page (used_of file page) ++ rest.0,
         (

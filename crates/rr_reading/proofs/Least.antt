@@ -97,8 +97,8 @@ module _ (file : List ℕ) where
   over_any : (pages : List ℕ) → HasOne (λ page. 4086 < used_of file page) pages → list_any (λ page. nat_lt 4086 (used_of file page)) pages ≡ false → ⊥
   over_any [] one none = one
   over_any (page ∷ pages) (inl first) none =
-      let parts = or_parts (nat_lt 4086 (used_of file page)) (list_any (λ (p : ℕ). nat_lt 4086 (used_of file p)) pages) none in
-      let few : used_of file page ≤ 4086 = ltb-false 4086 (used_of file page) parts.0 in
+      let halves = or_parts (nat_lt 4086 (used_of file page)) (list_any (λ (p : ℕ). nat_lt 4086 (used_of file p)) pages) none in
+      let few : used_of file page ≤ 4086 = ltb-false 4086 (used_of file page) halves.0 in
       omega arith
   over_any (page ∷ pages) (inr rest) none =
       over_any pages rest (or_parts (nat_lt 4086 (used_of file page)) (list_any (λ (p : ℕ). nat_lt 4086 (used_of file p)) pages) none).1

@@ -6,7 +6,7 @@ use Rattle.rr_dir.specs.Directory.{Directory, Spells}
 use Rattle.rr_dir.specs.Heads.{heads_of}
 use Rattle.rr_dir.proofs.TableLemmas.{one_directory}
 use Rattle.rr_images.specs.Following.{AllRead}
-use Rattle.rr_images.specs.Halves.{half_part}
+use Rattle.rr_images.specs.Halves.{half_index}
 use Rattle.rr_images.specs.Holding.{HeldChain}
 use Rattle.rr_images.proofs.OneWorld.{one_chain}
 use Rattle.rr_journal.specs.Run.{Run}
@@ -176,12 +176,12 @@ module _ (file : List ℕ) where
       let all = one_all file first.root.pages (heads_of first.directory) a.chains.of_directory first.reached second.reached (chains_of first.texts first.tables) (chains_of second.texts second.tables) a.chains.whole there in
       let texts = same_texts first.texts second.texts first.tables second.tables all.1 in
       let tables = tables_of first.texts second.texts first.tables second.tables all.1 in
-      let near = one_run file (half_part first.root.half) 0 first.root.first first.near second.near first.near_end second.near_end a.near_run
-      (subst (λ (r : Root). Run file (half_part r.half) 0 r.first second.near second.near_end) (sym root.1) b.near_run) in
-      let behind : Run file (half_part (not first.root.half)) 0 (first.root.first + length first.near) second.far second.far_end =
-      subst (λ (lines : List (List ℕ)). Run file (half_part (not first.root.half)) 0 (first.root.first + length lines) second.far second.far_end) near.0
-      (subst (λ (r : Root). Run file (half_part (not r.half)) 0 (r.first + length second.near) second.far second.far_end) (sym root.1) b.far_run) in
-      let far = one_run file (half_part (not first.root.half)) 0 (first.root.first + length first.near) first.far second.far first.far_end second.far_end a.far_run behind in
+      let near = one_run file (half_index first.root.half) 0 first.root.first first.near second.near first.near_end second.near_end a.near_run
+      (subst (λ (r : Root). Run file (half_index r.half) 0 r.first second.near second.near_end) (sym root.1) b.near_run) in
+      let behind : Run file (half_index (not first.root.half)) 0 (first.root.first + length first.near) second.far second.far_end =
+      subst (λ (lines : List (List ℕ)). Run file (half_index (not first.root.half)) 0 (first.root.first + length lines) second.far second.far_end) near.0
+      (subst (λ (r : Root). Run file (half_index (not r.half)) 0 (r.first + length second.near) second.far second.far_end) (sym root.1) b.far_run) in
+      let far = one_run file (half_index (not first.root.half)) 0 (first.root.first + length first.near) first.far second.far first.far_end second.far_end a.far_run behind in
       λ i. record {
         side = root.0 i;
         root = root.1 i;

@@ -271,8 +271,8 @@ module _ (file : List ℕ) where
           chains_told fault (subst (λ (hs : List (ℕ × ℕ)). IsToldBroken file count reached hs fault) heads_are (subst (λ (f : List ℕ). IsToldBroken f count reached heads fault) same told))
 
       pub read_later : (after : List Bool) (chains tables : List HeldChain) (texts : TextChains) → chains ≡ chains_of texts tables → AllRead now count reached heads after chains → AllRead file count reached (heads_of directory) after (chains_of texts tables)
-      read_later after chains tables texts parts read =
-          subst (λ (cs : List HeldChain). AllRead file count reached (heads_of directory) after cs) parts
+      read_later after chains tables texts halves read =
+          subst (λ (cs : List HeldChain). AllRead file count reached (heads_of directory) after cs) halves
           (subst (λ (hs : List (ℕ × ℕ)). AllRead file count reached hs after chains) heads_are (subst (λ (f : List ℕ). AllRead f count reached heads after chains) same read))
 
   -- what holds something isn't damaged

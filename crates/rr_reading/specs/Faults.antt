@@ -70,3 +70,11 @@ CountsFault old new (Err (Damaged damage)) = new ≡ old
 CountsFault old new (Err NotAStore) = new ≡ old
 CountsFault old new (Err (Disk fault)) = (fault ≡ DeviceFailed) × (new ≡ counted old)
 CountsFault old new (Err OutOfMemory) = new ≡ old
+
+-- where a call failed by the disk, so
+abbrev pub OnDeviceFault : {T : Type 0} → Result T Fault → Type 0 → Type 0
+OnDeviceFault (Ok value) P = Unit {0}
+OnDeviceFault (Err (Damaged damage)) P = Unit {0}
+OnDeviceFault (Err NotAStore) P = Unit {0}
+OnDeviceFault (Err (Disk fault)) P = P
+OnDeviceFault (Err OutOfMemory) P = Unit {0}

@@ -1,7 +1,7 @@
 -- What an opening reads of a file.
 use Rattle.std.specs.Prelude.{◌≡◌, ℕ, Bool, List, ◌∷◌}
 use Rattle.rr_dir.specs.Directory.{Directory, directory_of}
-use Rattle.rr_images.specs.Halves.{half_part}
+use Rattle.rr_images.specs.Halves.{half_index}
 use Rattle.rr_images.specs.Holding.{HeldChain, Holding}
 use Rattle.rr_journal.specs.declared.reading.RunEnd.{RunEnd}
 use Rattle.rr_journal.specs.declared.reading.Scanned.{Scanned}
@@ -71,4 +71,4 @@ held_of contents =
 -- the next record of a half goes behind those that were read of it
 abbrev pub GoesOn : Bool → Scanned → Type 0
 GoesOn half scanned =
-    (scanned.part.index ≡ half_part half) × (scanned.part.next_slot ≡ slots_of (lines scanned.records.items))
+    (scanned.half.index ≡ half_index half) × (scanned.half.next_slot ≡ slots_of (lines scanned.records.items))

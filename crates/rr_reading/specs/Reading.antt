@@ -8,7 +8,7 @@ use Rattle.rr_dir.specs.Heads.{heads_of}
 use Rattle.rr_dir.specs.Version.{version_number}
 use Rattle.rr_dir.specs.declared.version.Version.{Version}
 use Rattle.rr_images.specs.Following.{AllRead}
-use Rattle.rr_images.specs.Halves.{half_part}
+use Rattle.rr_images.specs.Halves.{half_index}
 use Rattle.rr_images.specs.Holding.{HeldChain}
 use Rattle.rr_journal.specs.Run.{Run}
 use Rattle.rr_pages.specs.Choosing.{IsNoStore, HasBadField}
@@ -76,8 +76,8 @@ pub record HoldsChains (file : List ℕ) (side : Bool) (root : Root) (directory 
 -- the file holds this
 pub record Holds (file : List ℕ) (has : Held) : Type 0 where
   pub chains : HoldsChains file has.side has.root has.directory has.chain has.texts has.tables has.reached
-  pub near_run : Run file (half_part has.root.half) 0 has.root.first has.near has.near_end
-  pub far_run : Run file (half_part (not has.root.half)) 0 (has.root.first + length has.near) has.far has.far_end
+  pub near_run : Run file (half_index has.root.half) 0 has.root.first has.near has.near_end
+  pub far_run : Run file (half_index (not has.root.half)) 0 (has.root.first + length has.near) has.far has.far_end
 
 -- all chains that a directory names are whole, and those of the tables aren't all of their form
 pub record HasBadTable (file : List ℕ) : Type 0 where

@@ -1,10 +1,10 @@
 // The chains that a directory names, read one after another. A page that two of them reach is reached twice.
-ghost use Rattle.std.specs.Prelude.{◌≡◌, ◌≢◌, ◌≤◌, ◌++◌, None, Some, length, map, IfOk, IfErr, OnOk};
+ghost use Rattle.std.specs.Prelude.{◌≡◌, ◌≢◌, ◌*◌, ◌<◌, ◌≤◌, ◌++◌, None, Some, length, map, IfOk, IfErr, OnOk};
 ghost use Rattle.rr_dir.specs.Heads.{head_of};
 ghost use Rattle.rr_images.specs.Following.{AllRead};
 ghost use Rattle.rr_pages.specs.PageSet.{marks_of};
 ghost use Rattle.rr_reading.specs.Chains.{all_held, lower, lower_of, IsFollowed, damage_told, read_of};
-ghost use Rattle.rr_reading.specs.Faults.{CountsFault, IsNoVerdict};
+ghost use Rattle.rr_reading.specs.Faults.{CountsFault, IsNoVerdict, OnDeviceFault};
 ghost use Rattle.rr_reading.specs.Told.{IsToldBroken, told_broken, told_least};
 
 use crate::{Damage, Fault};
@@ -52,6 +52,7 @@ pub(crate) fn read_chains<D: Disk>(
     ensures same_past { D.Honest disk.new → D.past disk.new ≡ D.past disk.old }
     ensures writes { D.write_count disk.new ≡ D.write_count disk.old }
     ensures syncs { D.sync_count disk.new ≡ D.sync_count disk.old }
+    ensures device { OnDeviceFault result (D.Works disk.new → D.file_len disk.old < 4096 * count) }
     ensures works { D.Works disk.new → D.Works disk.old }
     ensures same_len { D.file_len disk.new ≡ D.file_len disk.old }
 {
@@ -131,6 +132,7 @@ fn follow<D: Disk>(
     ensures same_past { D.Honest disk.new → D.past disk.new ≡ D.past disk.old }
     ensures writes { D.write_count disk.new ≡ D.write_count disk.old }
     ensures syncs { D.sync_count disk.new ≡ D.sync_count disk.old }
+    ensures device { OnDeviceFault result (D.Works disk.new → D.file_len disk.old < 4096 * count) }
     ensures works { D.Works disk.new → D.Works disk.old }
     ensures same_len { D.file_len disk.new ≡ D.file_len disk.old }
 {

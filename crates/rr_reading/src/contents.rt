@@ -1,8 +1,8 @@
-ghost use Rattle.std.specs.Prelude.{◌≡◌, Bool, not, length, IfOk, IfErr};
+ghost use Rattle.std.specs.Prelude.{◌≡◌, ◌*◌, ◌<◌, Bool, not, length, IfOk, IfErr};
 ghost use Rattle.rr_dir.specs.Directory.{directory_of};
 ghost use Rattle.rr_pages.specs.PageSet.{marks_of};
 ghost use Rattle.rr_reading.specs.Chains.{held, all_held};
-ghost use Rattle.rr_reading.specs.Faults.{CountsFault};
+ghost use Rattle.rr_reading.specs.Faults.{CountsFault, OnDeviceFault};
 ghost use Rattle.rr_reading.specs.Held.{GoesOn, chains_held};
 ghost use Rattle.rr_reading.specs.Reading.{TakesRoot, HoldsChains, Reads, Refuses};
 
@@ -61,8 +61,8 @@ struct FoundChains {
 /// `NotAStore` where the file has fewer than 515 pages, no open root, or an open root of another version than 1; else
 /// `Damaged` with the least clause that it breaks: of each open root, and then over all chains that can be found, those of
 /// the directory and, where that can be read, of the texts and tables that it names. A chain that breaks off is judged as
-/// far as it goes. Else `Disk` or `OutOfMemory` alone. A record that is damaged is told by the end of its half: texts that
-/// are refused and commands that aren't lawful come before it.
+/// far as it goes. Else `Disk` or `OutOfMemory` alone, and `Disk` never where the disk works. A record that is damaged is
+/// told by the end of its half: texts that are refused and commands that aren't lawful come before it.
 pub fn read_file<D: Disk>(alloc: Global, disk: &mut D) -> Result<Contents, Fault>
     ensures read { D.Honest disk.new → Reads (D.state disk.old).content result }
     ensures near { IfOk result (λ contents. GoesOn contents.taken.root.half contents.near) }
@@ -73,6 +73,7 @@ pub fn read_file<D: Disk>(alloc: Global, disk: &mut D) -> Result<Contents, Fault
     ensures same_past { D.Honest disk.new → D.past disk.new ≡ D.past disk.old }
     ensures writes { D.write_count disk.new ≡ D.write_count disk.old }
     ensures syncs { D.sync_count disk.new ≡ D.sync_count disk.old }
+    ensures device { OnDeviceFault result (D.Works disk.new → ⊥) }
     ensures works { D.Works disk.new → D.Works disk.old }
     ensures same_len { D.file_len disk.new ≡ D.file_len disk.old }
 {
@@ -112,6 +113,7 @@ fn read_found<D: Disk>(alloc: Global, disk: &mut D, root: &Root) -> Result<Found
     ensures same_past { D.Honest disk.new → D.past disk.new ≡ D.past disk.old }
     ensures writes { D.write_count disk.new ≡ D.write_count disk.old }
     ensures syncs { D.sync_count disk.new ≡ D.sync_count disk.old }
+    ensures device { OnDeviceFault result (D.Works disk.new → D.file_len disk.old < 4096 * root.now.pages) }
     ensures works { D.Works disk.new → D.Works disk.old }
     ensures same_len { D.file_len disk.new ≡ D.file_len disk.old }
 {

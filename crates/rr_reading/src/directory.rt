@@ -1,9 +1,9 @@
 // The directory of a root.
-ghost use Rattle.std.specs.Prelude.{◌≡◌, Bool, IfOk, IfErr};
+ghost use Rattle.std.specs.Prelude.{◌≡◌, ◌*◌, ◌<◌, Bool, IfOk, IfErr};
 ghost use Rattle.rr_dir.specs.Directory.{directory_of};
 ghost use Rattle.rr_pages.specs.PageSet.{marks_of};
 ghost use Rattle.rr_reading.specs.Chains.{held};
-ghost use Rattle.rr_reading.specs.Faults.{CountsFault};
+ghost use Rattle.rr_reading.specs.Faults.{CountsFault, OnDeviceFault};
 ghost use Rattle.rr_reading.specs.Reading.{TakesRoot, HasDirectory, ReadsDirectory, Refuses};
 
 use crate::Fault;
@@ -44,6 +44,7 @@ pub(crate) fn read_directory<D: Disk>(
     ensures same_past { D.Honest disk.new → D.past disk.new ≡ D.past disk.old }
     ensures writes { D.write_count disk.new ≡ D.write_count disk.old }
     ensures syncs { D.sync_count disk.new ≡ D.sync_count disk.old }
+    ensures device { OnDeviceFault result (D.Works disk.new → D.file_len disk.old < 4096 * root.now.pages) }
     ensures works { D.Works disk.new → D.Works disk.old }
     ensures same_len { D.file_len disk.new ≡ D.file_len disk.old }
 {
@@ -71,6 +72,7 @@ fn read_chain_of<D: Disk>(alloc: Global, disk: &mut D, root: &Root) -> Result<Fo
     ensures same_past { D.Honest disk.new → D.past disk.new ≡ D.past disk.old }
     ensures writes { D.write_count disk.new ≡ D.write_count disk.old }
     ensures syncs { D.sync_count disk.new ≡ D.sync_count disk.old }
+    ensures device { OnDeviceFault result (D.Works disk.new → D.file_len disk.old < 4096 * root.now.pages) }
     ensures works { D.Works disk.new → D.Works disk.old }
     ensures same_len { D.file_len disk.new ≡ D.file_len disk.old }
 {

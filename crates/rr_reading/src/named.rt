@@ -27,7 +27,7 @@ pub(crate) fn named_chains(alloc: Global, dir: &Dir) -> Result<Vec<ChainRef>, Fa
 // Takes the texts' chains from the front of all, and leaves the tables'.
 pub(crate) fn take_texts(chains: &mut Vec<ReadChain>) -> KitTexts
     requires { 4 ≤ length chains.old.items }
-    ensures parts { all_held chains.old.items ≡ chains_of (chains_held result) (all_held chains.new.items) }
+    ensures halves { all_held chains.old.items ≡ chains_of (chains_held result) (all_held chains.new.items) }
     ensures each { length chains.new.items + 4 ≡ length chains.old.items }
 {
     let chart = chains.remove(0);

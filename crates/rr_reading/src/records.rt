@@ -1,15 +1,15 @@
 // The records of both halves.
-ghost use Rattle.std.specs.Prelude.{◌≡◌, ◌+◌, ◌≤◌, ◌<◌, ◌^◌, not, length, IfOk, IfErr};
-ghost use Rattle.rr_images.specs.Halves.{half_part};
+ghost use Rattle.std.specs.Prelude.{◌≡◌, ◌+◌, ◌*◌, ◌≤◌, ◌<◌, ◌^◌, not, length, IfOk, IfErr};
+ghost use Rattle.rr_images.specs.Halves.{half_index};
 ghost use Rattle.rr_journal.specs.Reading.{lines};
 ghost use Rattle.rr_journal.specs.Run.{Run};
-ghost use Rattle.rr_reading.specs.Faults.{CountsFault, IsNoVerdict};
+ghost use Rattle.rr_reading.specs.Faults.{CountsFault, IsNoVerdict, OnDeviceFault};
 ghost use Rattle.rr_reading.specs.Held.{GoesOn};
 
 use crate::Fault;
 use crate::root::first_number;
 use rr_disk::Disk;
-use rr_journal::{PartIndex, Scanned, scan};
+use rr_journal::{HalfIndex, Scanned, scan};
 use rr_pages::Root;
 use std::alloc::Global;
 
@@ -27,10 +27,10 @@ pub(crate) fn read_records<D: Disk>(
     root: &Root,
 ) -> Result<FoundRecords, Fault>
     ensures near { IfOk result (λ found. D.Honest disk.new → root.now.first < 2 ^ 63
-        → Run (D.state disk.old).content (half_part root.now.half) 0 root.now.first
+        → Run (D.state disk.old).content (half_index root.now.half) 0 root.now.first
         (lines found.near.records.items) found.near.end) }
     ensures far { IfOk result (λ found. D.Honest disk.new → root.now.first < 2 ^ 63
-        → Run (D.state disk.old).content (half_part (not root.now.half)) 0 (root.now.first + length (lines found.near.records.items))
+        → Run (D.state disk.old).content (half_index (not root.now.half)) 0 (root.now.first + length (lines found.near.records.items))
         (lines found.far.records.items) found.far.end) }
     ensures near_part { IfOk result (λ found. GoesOn root.now.half found.near) }
     ensures far_part { IfOk result (λ found. GoesOn (not root.now.half) found.far) }
@@ -41,6 +41,7 @@ pub(crate) fn read_records<D: Disk>(
     ensures same_past { D.Honest disk.new → D.past disk.new ≡ D.past disk.old }
     ensures writes { D.write_count disk.new ≡ D.write_count disk.old }
     ensures syncs { D.sync_count disk.new ≡ D.sync_count disk.old }
+    ensures device { OnDeviceFault result (D.Works disk.new → D.file_len disk.old < 4096 * 514) }
     ensures works { D.Works disk.new → D.Works disk.old }
     ensures same_len { D.file_len disk.new ≡ D.file_len disk.old }
 {
@@ -54,8 +55,8 @@ pub(crate) fn read_records<D: Disk>(
 fn read_half<D: Disk>(alloc: Global, disk: &mut D, half: bool, first: u64) -> Result<Scanned, Fault>
     requires { first + 255 < 2 ^ 64 }
     ensures run { IfOk result (λ scanned. D.Honest disk.new
-        → Run (D.state disk.old).content (half_part half) 0 first (lines scanned.records.items) scanned.end) }
-    ensures part { IfOk result (λ scanned. GoesOn half scanned) }
+        → Run (D.state disk.old).content (half_index half) 0 first (lines scanned.records.items) scanned.end) }
+    ensures half { IfOk result (λ scanned. GoesOn half scanned) }
     ensures few { IfOk result (λ scanned. length scanned.records.items ≤ 255) }
     ensures only { IfErr result IsNoVerdict }
     ensures fault { CountsFault (D.fault_count disk.old) (D.fault_count disk.new) result }
@@ -64,6 +65,7 @@ fn read_half<D: Disk>(alloc: Global, disk: &mut D, half: bool, first: u64) -> Re
     ensures same_past { D.Honest disk.new → D.past disk.new ≡ D.past disk.old }
     ensures writes { D.write_count disk.new ≡ D.write_count disk.old }
     ensures syncs { D.sync_count disk.new ≡ D.sync_count disk.old }
+    ensures device { OnDeviceFault result (D.Works disk.new → D.file_len disk.old < 4096 * 514) }
     ensures works { D.Works disk.new → D.Works disk.old }
     ensures same_len { D.file_len disk.new ≡ D.file_len disk.old }
 {
@@ -71,12 +73,12 @@ fn read_half<D: Disk>(alloc: Global, disk: &mut D, half: bool, first: u64) -> Re
     Ok(scanned)
 }
 
-fn part_of(half: bool) -> PartIndex
-    ensures { result ≡ half_part half }
+fn part_of(half: bool) -> HalfIndex
+    ensures { result ≡ half_index half }
 {
     if half {
-        PartIndex::Second
+        HalfIndex::Second
     } else {
-        PartIndex::First
+        HalfIndex::First
     }
 }

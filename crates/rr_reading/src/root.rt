@@ -1,6 +1,7 @@
 // The root that is taken, and the numbers that a reading takes of it.
 ghost use Rattle.std.specs.Prelude.{◌≡◌, ◌≤◌, ◌<◌, ◌^◌, IfOk, IfErr};
-ghost use Rattle.rr_reading.specs.Faults.{CountsFault};
+ghost use Rattle.rr_pages.specs.Roots.{LiesWithin};
+ghost use Rattle.rr_reading.specs.Faults.{CountsFault, OnDeviceFault};
 ghost use Rattle.rr_reading.specs.Reading.{TakesRoot, Refuses};
 
 use crate::Fault;
@@ -16,12 +17,14 @@ const FIRST_END: u64 = 1 << 63;
 pub(crate) fn read_root<D: Disk>(disk: &mut D) -> Result<Taken, Fault>
     ensures taken { IfOk result (λ taken. D.Honest disk.new → TakesRoot (D.state disk.old).content taken.side taken.root) }
     ensures refused { IfErr result (λ fault. D.Honest disk.new → Refuses (D.state disk.old).content fault) }
+    ensures within { IfOk result (λ taken. LiesWithin (D.file_len disk.old) taken.root) }
     ensures fault { CountsFault (D.fault_count disk.old) (D.fault_count disk.new) result }
     ensures honest { D.Honest disk.new → D.Honest disk.old }
     ensures same_state { D.Honest disk.new → D.state disk.new ≡ D.state disk.old }
     ensures same_past { D.Honest disk.new → D.past disk.new ≡ D.past disk.old }
     ensures writes { D.write_count disk.new ≡ D.write_count disk.old }
     ensures syncs { D.sync_count disk.new ≡ D.sync_count disk.old }
+    ensures device { OnDeviceFault result (D.Works disk.new → ⊥) }
     ensures works { D.Works disk.new → D.Works disk.old }
     ensures same_len { D.file_len disk.new ≡ D.file_len disk.old }
 {

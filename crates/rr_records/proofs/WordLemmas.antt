@@ -34,7 +34,7 @@ one_by_words (c ∷ cs) (v ∷ vs) (w ∷ ws) a b =
     let more = one_by_words cs vs ws a.1 b.1 in
     λ i. here i ∷ more i
 
-spelled_are_commands : (bytes : List (List ℕ)) (commands : List Command) → SpellCommands bytes commands → AreCommands commands
+pub spelled_are_commands : (bytes : List (List ℕ)) (commands : List Command) → SpellCommands bytes commands → AreCommands commands
 spelled_are_commands [] [] a = tt
 spelled_are_commands [] (c ∷ cs) a = absurd a
 spelled_are_commands (w ∷ ws) [] a = absurd a

@@ -5,4 +5,5 @@ pub mod BaseLemmas
 pub mod ReplayLemmas
 pub mod VerdictLemmas
 pub mod RestoringLemmas
+pub mod PlayedLemmas
 pub mod RecoveryLemmas

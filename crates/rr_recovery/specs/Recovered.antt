@@ -1,6 +1,8 @@
 -- What is recovered of a file.
-use Rattle.rr_kit.specs.Kits.{KitTexts}
+use Rattle.rr_kit.specs.Kits.{KitTexts, SpellsKit}
 use Rattle.rr_reading.specs.Held.{Held}
+use Rattle.rr_records.specs.Played.{ArePlayedTables}
+use Rattle.rr_records.specs.Words.{KeepCommands}
 use Rattle.rr_records.specs.World.{World}
 use Rattle.rr_snapshot.specs.Kit.{AreTextChains}
 use Rattle.rr_tables.specs.Tables.{world_of}
@@ -17,3 +19,11 @@ pub record IsRecoveredFrom (has : Held) (recovered : Recovered) : Type 0 where
   pub told : IsRecovered has texts recovered.tables.kit base middle (world_of recovered.tables)
   pub on_pages : AreTextChains recovered.kit has.texts
   pub before : IsSnapshotBefore has.far middle recovered.base
+
+-- Texts spell the kit, and by its rules the tables were played: what each keeps is an opening and then commands that are
+-- lawful, each after those before it.
+pub record HoldsPlayedTables (recovered : Recovered) : Type 0 where
+  pub texts : KitTexts
+  pub right : SpellsKit texts recovered.tables.kit
+  pub spelled : KeepCommands (world_of recovered.tables)
+  pub played : ArePlayedTables recovered.tables.kit (world_of recovered.tables)

@@ -5,7 +5,7 @@ ghost use Rattle.rr_reading.specs.Chains.{all_held};
 ghost use Rattle.rr_reading.specs.Held.{chains_held};
 ghost use Rattle.rr_reading.specs.Reading.{Holds};
 ghost use Rattle.rr_recovery.specs.Base.{IsRightBase, RefusesBase};
-ghost use Rattle.rr_recovery.specs.Recovered.{IsRecoveredFrom};
+ghost use Rattle.rr_recovery.specs.Recovered.{HoldsPlayedTables, IsRecoveredFrom};
 ghost use Rattle.rr_recovery.specs.Recovery.{Refuses};
 ghost use Rattle.rr_tables.specs.Tables.{world_of};
 
@@ -48,6 +48,9 @@ pub fn recover<R: Rules>(alloc: Global, opened: &Opened<Worlds<R>>) -> Result<Re
         → IsRecoveredFrom (held_by opened.now) recovered) }
     ensures refused { IfErr result (λ fault. (file : List ℕ) → Holds file (held_by opened.now)
         → Refuses (held_by opened.now) fault) }
+
+    // Whatever was read, nothing is recovered that the rules don't allow.
+    ensures played { IfOk result HoldsPlayedTables }
 {
     let mut tables = recover_base(alloc, &opened.dir.tables, &opened.texts, &opened.tables)?;
     let base = replay_halves(

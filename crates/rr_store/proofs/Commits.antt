@@ -1,34 +1,47 @@
 -- What a commit does, from what the tables and the keeping of its record did.
-use Rattle.std.proofs.Common.{◌≡◌, ◌⊎◌, ℕ, ◌+◌, ◌≤◌, Bool, false, true, List, [], ◌∷◌, ◌++◌, None, Some, Result, Ok, Err, OnOk, OnErr, IfOk, MatchResult, inl, inr, refl, sym, ap, subst, ◌∙◌, arith}
+use Rattle.std.proofs.Common.{◌≡◌, ◌⊎◌, ℕ, ◌+◌, ◌≤◌, Bool, false, true, List, [], ◌∷◌, map, None, Some, Result, Ok, Err, option_map, inl, inr, refl, sym, ap, subst, ◌∙◌, arith}
 use Rattle.rr_disk.specs.Disk.{DiskState}
-use Rattle.rr_disk.specs.Moments.{EachImageOf, LeavesOnly}
-use Rattle.rr_disk.proofs.MomentLemmas.{EachImageOf-weaker}
+use Rattle.rr_disk.specs.Moments.{LeavesOnly}
+use Rattle.rr_disk.proofs.MomentLemmas.{EachImageOf-weaker, weaker}
 use Rattle.rr_kit.specs.declared.kit.Kit.{Kit}
-use Rattle.rr_kit.specs.Kits.{KitTexts}
+use Rattle.rr_kit.specs.Kits.{KitTexts, SpellsKit}
 use Rattle.rr_code.specs.declared.command.Command.{Command}
-use Rattle.rr_code.specs.Request.{SpellsRecord, record_text}
+use Rattle.rr_code.specs.Request.{IsRequest, record_text}
 use Rattle.rr_turns.specs.declared.request.Request.{Request}
 use Rattle.rr_turns.specs.Judgement.{IsVerdict, MayFind}
-use Rattle.rr_turns.proofs.JudgementLemmas.{lawful-first}
-use Rattle.rr_keeper.specs.declared.keeper.Keeper.{Keeper}
-use Rattle.rr_keeper.specs.Keeper.{IsUnchanged as IsSame, Keeps as KeepsLines, is_broken, number_of_next, part_of}
-use Rattle.rr_keeper.specs.Keeper as file
+use Rattle.rr_turns.proofs.JudgementLemmas.{lawful-first, map-is}
+use Rattle.rr_words.specs.Name.{IsTableName}
+use Rattle.rr_log.specs.declared.fault.Fault as log
+use Rattle.rr_log.specs.declared.fault.Fault.TheVariants as L
+use Rattle.rr_log.specs.declared.log.Log.{Log}
+use Rattle.rr_log.specs.Log.{is_broken, next_number}
+use Rattle.rr_log.specs.Log as file
+use Rattle.rr_log.specs.Carrying as carrying
+use Rattle.rr_records.specs.Taking.{Takes as Takes_line}
+use Rattle.rr_records.specs.declared.fault.Fault as rules
+use Rattle.rr_records.specs.declared.fault.Fault.TheVariants as R
+use Rattle.rr_records.specs.declared.rules.TableRules.{TableRules}
+use Rattle.rr_records.specs.Headline.{KeepsTables, KeepsTablesOr}
+use Rattle.rr_records.specs.Words.{in_words, table_in_words}
+use Rattle.rr_records.specs.World as ruled
+use Rattle.rr_tables.specs.declared.fault.Fault as table
+use Rattle.rr_tables.specs.declared.fault.Fault.TheVariants.{File, Rules}
+use Rattle.rr_tables.specs.Tables.{world_of}
+use Rattle.rr_tables.specs.Taking.{MayRefuse, Passed}
 use Rattle.rr_store.specs.declared.fault.Fault.{Fault}
 use Rattle.rr_store.specs.declared.fault.Fault.TheVariants as F
-use Rattle.rr_store.specs.declared.log.Log.{Log}
+use Rattle.rr_store.specs.declared.journal.FileJournal.{FileJournal}
 use Rattle.rr_store.specs.declared.store.Store.{Store}
 use Rattle.rr_store.specs.Allowing.{BeforeOrAfter, Between, CommitAllows, CommitEnds, IsLawful, Keeps}
-use Rattle.rr_store.specs.Committing.{Commits, Spares}
-use Rattle.rr_store.specs.Fault.{CountsEnd, OnDevice}
-use Rattle.rr_store.specs.Held.{Accepted, Again, Fails, Held, NoRoom, Refused, Takes, Wants, stamp_after, with_failure, with_tables}
-use Rattle.rr_store.specs.Holding.{Carries, IsFull, IsUnchanged, disk_of, held_of, keeper_of, world_of}
-use Rattle.rr_store.specs.Lent.{in_file}
-use Rattle.rr_store.specs.Logging.{HasNoRoom, Keeping, Passed, Stays}
-use Rattle.rr_store.specs.Replaying.{Replayed}
-use Rattle.rr_store.specs.World.{MayRefuse, World, for_table, judgement_in, world_after}
-use Rattle.rr_store.proofs.Standing.{carried_keeps, replayed_more, stands_either}
-use Rattle.rr_hist.specs.Laws.{RequestsHaveOneVerdict}
-use Rattle.rr_store.proofs.Verdicts.{no_failure, not_both, refused_full}
+use Rattle.rr_store.specs.Committing.{Commits, NumberBehind, Spares}
+use Rattle.rr_store.specs.Fault.{CountsEnd, OnDeviceFault, of_log, of_rules, of_tables}
+use Rattle.rr_store.specs.Files.{AreTablesOf}
+use Rattle.rr_store.specs.Held.{Accepted, Again, Fails, Held, NoRoom, Refused, Takes, Wants, stamp_after, with_tables}
+use Rattle.rr_store.specs.Holding.{Carries, IsUnchanged, disk_of, file_of, held_of, number_of_next}
+use Rattle.rr_store.specs.Keeping.{Keeping}
+use Rattle.rr_store.specs.World.{World, for_table, judgement_in, world_after}
+use Rattle.rr_store.proofs.Standing.{carried_keeps, carried_now, keeps_either, record_leads, stands_either, tables_after}
+use Rattle.rr_store.proofs.Verdicts.{no_failure, no_full}
 
 abbrev held : Kit → World → Bool → Held
 held kit tables broken = record { kit = kit; tables = tables; broken = broken }
@@ -36,81 +49,44 @@ held kit tables broken = record { kit = kit; tables = tables; broken = broken }
 held_same : (r r' : Kit) (t t' : World) (b b' : Bool) → r' ≡ r → t' ≡ t → b' ≡ b → held r' t' b' ≡ held r t b
 held_same r r' t t' b b' p q s = cc
 
-takes_accepted : (r r' : Kit) (t t' : World) (b b' : Bool) (stamp n : ℕ) (name : List ℕ) (c : Request Command)
-    → b ≡ false → b' ≡ false → r' ≡ r → t' ≡ world_after r t name c → IsVerdict (judgement_in r t stamp name c) None → n ≡ stamp_after r t name c
-    → Takes (held r t b) stamp name c (held r' t' b') (Ok n)
-takes_accepted r r' t t' b b' stamp n name c whole whole' p q lawful counted =
-    subst (λ (x : ℕ). Takes (held r t b) stamp name c (held r' t' b') (Ok x)) (sym counted)
-    (Accepted whole lawful (held_same r r' (world_after r t name c) t' b b' p q (whole' ∙ sym whole)))
+-- refusals that aren't of the file leave it alone
 
-takes_found : (r r' : Kit) (t t' : World) (b b' : Bool) (stamp : ℕ) (name : List ℕ) (c : Request Command) (fault : Fault)
-    → b ≡ false → held r' t' b' ≡ held r t b → MayFind (judgement_in r t stamp name c) F.OutOfMemory fault
-    → Takes (held r t b) stamp name c (held r' t' b') (Err fault)
-takes_found r r' t t' b b' stamp name c fault whole same (inl by_rule) = Refused fault whole by_rule same
-takes_found r r' t t' b b' stamp name c fault whole same (inr wants) =
-    subst (λ (f : Fault). Takes (held r t b) stamp name c (held r' t' b') (Err f)) (sym wants.1) (Wants whole wants.0 same)
+spares_same : {D : Type 0} (old new : Store D) (fault : Fault) → IsUnchanged old new → Spares old (Err fault) new
+spares_same old new F.DeviceFailed same = tt
+spares_same old new F.FileFull same = tt
+spares_same old new F.OutOfMemory same = tt
+spares_same old new _ same = same
 
-takes_refused : (Full : Type 0) (r r' : Kit) (t t' : World) (b b' : Bool) (stamp : ℕ) (name : List ℕ) (c : Request Command) (fault : Fault)
-    → b ≡ false → r' ≡ r → t' ≡ t → MayRefuse (judgement_in r t stamp name c) Full b fault b'
-    → Takes (held r t b) stamp name c (held r' t' b') (Err fault)
-takes_refused Full r r' t t' b b' stamp name c fault whole p q (inl found) =
-    takes_found r r' t t' b b' stamp name c fault whole (held_same r r' t t' b b' p q found.1) found.0
-takes_refused Full r r' t t' b b' stamp name c F.OutOfMemory whole p q (inr out) =
-    Wants whole (lawful-first (judgement_in r t stamp name c) out.0) (held_same r r' t t' b b' p q out.1)
-takes_refused Full r r' t t' b b' stamp name c F.HalfFull whole p q (inr out) =
-    NoRoom whole out.0 (held_same r r' t t' b b' p q out.1.0)
-takes_refused Full r r' t t' b b' stamp name c F.DeviceFailed whole p q (inr out) =
-    Fails whole out.0 (held_same r r' t t' true b' p q out.1)
-takes_refused Full r r' t t' b b' stamp name c F.OpenAgain whole p q (inr out) =
-    let both : true ≡ false = sym out.1 ∙ whole in cc
-takes_refused Full r r' t t' b b' stamp name c fault whole p q (inr out) = absurd out.1
+number_same : (fault : Fault) (old new : ℕ) → new ≡ old → NumberBehind (Err fault) old new
+number_same F.DeviceFailed old new same = tt
+number_same _ old new same = same
 
-no_ok : {A : Type 0} (n : ℕ) (fault : Fault) → let r : Result ℕ Fault = Ok n in r ≡ Err fault → A
-no_ok n fault e = absurd (cc)
+counts_same : (fault : Fault) (old new : ℕ) → (fault ≡ F.DeviceFailed → ⊥) → new ≡ old → CountsEnd {T = ℕ} old new (Err fault)
+counts_same F.DeviceFailed old new other same = absurd (other refl)
+counts_same _ old new other same = same
 
-one_fault : (a b : Fault) → let r : Result ℕ Fault = Err a in r ≡ Err b → a ≡ b
-one_fault a b e = cc
+-- nor do they say that the device failed
+device_same : (P : Type 0) (fault : Fault) → (fault ≡ F.DeviceFailed → ⊥) → OnDeviceFault {T = ℕ} (Err fault) P
+device_same P F.DeviceFailed other = absurd (other refl)
+device_same P _ other = tt
+
+-- how a commit ends that left a disk alone
+ends_same : (texts : KitTexts) (kit : Kit) (tables : World) (stamp : ℕ) (name : List ℕ) (c : Request Command) (new : DiskState) (fault : Fault) → (fault ≡ F.DeviceFailed → ⊥)
+    → Keeps new texts tables → CommitEnds texts kit tables stamp (for_table name c) [] new (Err fault)
+ends_same texts kit tables stamp name c new F.DeviceFailed other keeps = absurd (other refl)
+ends_same texts kit tables stamp name c new F.FileFull other keeps = keeps
+ends_same texts kit tables stamp name c new F.OutOfMemory other keeps = keeps
+ends_same texts kit tables stamp name c new _ other keeps = refl
 
 abbrev Kept : Type 0
-Kept = Result (Unit {0}) Fault
-
-one_end : (a b : Fault) → let r : Kept = Err a in r ≡ Err b → a ≡ b
-one_end a b e = cc
-
-not_ok : {A : Type 0} (fault : Fault) → let r : Kept = Ok tt in r ≡ Err fault → A
-not_ok fault e = absurd (cc)
-
--- a refusal other than a device fault
-counts_calm : (n m : ℕ) (fault : Fault) → (fault ≡ F.DeviceFailed → ⊥) → m ≡ n → CountsEnd {T = ℕ} n m (Err fault)
-counts_calm n m F.DeviceFailed other same = absurd (other refl)
-counts_calm n m _ other same = same
-
-device_calm : (P : Type 0) (fault : Fault) → (fault ≡ F.DeviceFailed → ⊥) → OnDevice fault P
-device_calm P F.DeviceFailed other = absurd (other refl)
-device_calm P _ other = tt
-
-spares_by : {D : Type 0} (old new : Store D) (fault : Fault) → (fault ≡ F.DeviceFailed → ⊥) → IsUnchanged old new → Spares old (Err fault) new
-spares_by old new F.DeviceFailed other same = absurd (other refl)
-spares_by old new _ other same = same
-
-ends_calm : (texts : KitTexts) (kit : Kit) (tables : World) (stamp : ℕ) (name : List ℕ) (c : Request Command) (moments : List DiskState) (new : DiskState) (fault : Fault) → (fault ≡ F.DeviceFailed → ⊥) → moments ≡ []
-    → CommitEnds texts kit tables stamp (for_table name c) moments new (Err fault)
-ends_calm texts kit tables stamp name c moments new F.DeviceFailed other none = absurd (other refl)
-ends_calm texts kit tables stamp name c moments new _ other none = none
-
-stays_same : {D : Type 0} (old new : Keeper D) (fault : Fault) → (fault ≡ F.DeviceFailed → ⊥) → Stays old (Err fault) new → IsSame old new
-stays_same old new F.DeviceFailed other h = absurd (other refl)
-stays_same old new _ other h = h
+Kept = Result (Unit {0}) log.Fault
 
 module _ {D : Type 0} (Honest Works : D → Type 0) (state : D → DiskState) (past : D → List DiskState) (faults writes syncs : D → ℕ)
     (old new : Store D) (stamp : ℕ) (name : List ℕ) (c : Request Command) where
-  abbrev pub bytes_of : List ℕ
+  abbrev bytes_of : List ℕ
   bytes_of = record_text name c
 
-  abbrev pub Keeps_record : Log D → List ℕ → Kept → Log D → Type 0
-  Keeps_record = λ before bytes result after. Keeping Honest Works state past faults writes syncs before.keeper bytes result after.keeper
-
-  abbrev pub Done : Result ℕ Fault → Type 0
+  abbrev Done : Result ℕ Fault → Type 0
   Done result = Commits Honest Works state past faults writes syncs old name stamp c new result
 
   abbrev kit_now : Kit
@@ -119,200 +95,247 @@ module _ {D : Type 0} (Honest Works : D → Type 0) (state : D → DiskState) (p
   abbrev tables_now : World
   tables_now = (held_of old).tables
 
+  abbrev behind : World
+  behind = world_after kit_now tables_now name c
+
   abbrev Lawful : Type 0
   Lawful = IsVerdict (judgement_in kit_now tables_now stamp name c) None
 
-  -- the file goes on with the lines that it had
-  abbrev GoesOn : Type 0
-  GoesOn = Honest (disk_of new) → is_broken (keeper_of new) ≡ false → (texts : KitTexts) (records : List (List ℕ))
-      → KeepsLines (keeper_of old) (state (disk_of old)) (in_file texts) records → KeepsLines (keeper_of new) (state (disk_of new)) (in_file texts) records
+  abbrev KeptBy : Log D TableRules → Kept → Log D TableRules → Type 0
+  KeptBy before kept after = Keeping Honest Works state past faults writes syncs before (map table_in_words tables_now) bytes_of kept after
 
   -- all is as it was
-  spared : (fault : Fault) → (fault ≡ F.DeviceFailed → ⊥) → Takes (held_of old) stamp name c (held_of new) (Err fault) → held_of new ≡ held_of old
-      → IsSame (keeper_of old) (keeper_of new) → GoesOn
-      → (fault ≡ F.HalfFull → IsFull old name c)
-      → ((held_of old).broken ≡ false → Lawful → IsFull old name c → (fault ≡ F.HalfFull) ⊎ (fault ≡ F.OutOfMemory))
-      → Done (Err fault)
-  spared fault other takes held_is same goes_on full in_time =
+  spared : (fault : Fault) → (fault ≡ F.DeviceFailed → ⊥) → (fault ≡ F.FileFull → ⊥) → Takes (held_of old) stamp name c (held_of new) (Err fault) → IsUnchanged old new → Done (Err fault)
+  spared fault other room takes same =
       record {
         takes = takes;
-        honest = λ h. subst Honest same.disk h;
+        honest = λ h. subst Honest same_disk h;
         allowed = λ h texts s. record {
           moments = [];
-          passed = λ i. state (same.disk i) ∷ past (same.disk i);
+          passed = λ i. state (same_disk i) ∷ past (same_disk i);
           allowed = record {
             pending = None;
             pends = tt;
             before = carried_keeps state old texts s;
             each = tt;
-            ends = ends_calm texts kit_now tables_now stamp name c [] (state (disk_of new)) fault other refl;
+            ends = ends_same texts kit_now tables_now stamp name c (state (disk_of new)) fault other
+                (subst (λ (d : D). Keeps (state d) texts tables_now) (sym same_disk) (carried_keeps state old texts s));
           };
         };
-        carries = λ h whole texts s. record {
-          records = s.records;
-          keeps = goes_on h whole texts s.records s.keeps;
-          replayed = subst (λ (x : Held). Replayed texts s.records x.kit x.tables) (sym held_is) s.replayed;
+        keeps = λ h texts s. record {
+          since = [];
+          goes_on = λ i. state (same_disk i) ∷ past (same_disk i);
+          first = λ image is. inl (carried_now (file_of old) (state (disk_of old)) texts tables_now s.file image is);
+          each = tt;
         };
-        place = tt;
-        spares = spares_by old new fault other (record { disk = same.disk; held = held_is; part = same.part; number = same.number });
-        counts = counts_calm (faults (disk_of old)) (faults (disk_of new)) fault other (ap faults same.disk);
-        device = device_calm (Works (disk_of new) → ⊥) fault other;
-        works = λ w. subst Works same.disk w;
-        few_writes = at_most writes same.disk;
-        few_syncs = at_most syncs same.disk;
-        full = λ is. full (one_fault fault F.HalfFull is);
-        in_time = λ whole lawful none. told (in_time whole lawful none);
+        carries = λ h whole texts s. carried texts s;
+        number = number_same fault (number_of_next old) (number_of_next new) (ap (λ (f : Log D TableRules). next_number f) same.same_file);
+        spares = spares_same old new fault same;
+        wanting = λ is. inl same;
+        counts = counts_same fault (faults (disk_of old)) (faults (disk_of new)) other (ap faults same_disk);
+        works = λ w. subst Works same_disk w;
+        few_writes = λ room. at_most writes;
+        few_syncs = λ room. at_most syncs;
+        full = λ is. absurd (room (let one : fault ≡ F.FileFull = cc is in one));
+        device = device_same _ fault other;
       }
     where
-      at_most : (count : D → ℕ) → disk_of new ≡ disk_of old → count (disk_of new) ≤ count (disk_of old) + 2
-      at_most count is = let e : count (disk_of new) ≡ count (disk_of old) = ap count is in omega arith
+      same_disk : disk_of new ≡ disk_of old
+      same_disk = ap (λ (f : Log D TableRules). file.disk_of f) same.same_file
 
-      told : (fault ≡ F.HalfFull) ⊎ (fault ≡ F.OutOfMemory) → let r : Result ℕ Fault = Err fault in (r ≡ Err F.HalfFull) ⊎ (r ≡ Err F.OutOfMemory)
-      told (inl is) = inl (ap (λ (f : Fault). Err f) is)
-      told (inr is) = inr (ap (λ (f : Fault). Err f) is)
+      at_most : (count : D → ℕ) → count (disk_of new) ≤ count (disk_of old) + 3
+      at_most count = let e : count (disk_of new) ≡ count (disk_of old) = ap count same_disk in omega arith
+
+      carried : (texts : KitTexts) → Carries state old texts → Carries state new texts
+      carried texts s = record {
+        right = subst (λ (x : Held). SpellsKit texts x.kit) (sym same.same_held) s.right;
+        tables_of_kit = subst (λ (x : Held). AreTablesOf x.kit x.tables) (sym same.same_held) s.tables_of_kit;
+        file = subst (λ (x : Held). carrying.Carries Takes_line (file_of new) (state (disk_of new)) (in_words texts x.tables)) (sym same.same_held)
+            (subst (λ (f : Log D TableRules). carrying.Carries Takes_line f (state (file.disk_of f)) (in_words texts tables_now)) (sym same.same_file) s.file);
+      }
 
   -- a store whose device failed before
   pub commits_again : new ≡ old → (held_of old).broken ≡ true → Done (Err F.OpenAgain)
   commits_again still broken =
-      spared F.OpenAgain (λ is. absurd (cc is)) (Again broken held_is) held_is
-      (record { disk = ap disk_of still; part = ap (λ (x : Store D). part_of (keeper_of x)) still; number = ap (λ (x : Store D). number_of_next (keeper_of x)) still; broken = ap (λ (x : Store D). is_broken (keeper_of x)) still })
-      (λ h whole texts records kept. subst (λ (x : Store D). KeepsLines (keeper_of x) (state (disk_of x)) (in_file texts) records) (sym still) kept)
-      (λ is. absurd (cc is)) (λ whole lawful none. let both : true ≡ false = sym broken ∙ whole in absurd (cc both))
-    where
-      held_is : held_of new ≡ held_of old
-      held_is = ap held_of still
+      spared F.OpenAgain (λ is. absurd (cc is)) (λ is. absurd (cc is)) (Again broken (ap held_of still))
+      (record { same_file = ap file_of still; same_held = ap held_of still })
 
-  module _ (spelled : SpellsRecord bytes_of name c) (was : is_broken (keeper_of old) ≡ false) where
+  module _ (form : IsTableName name × IsRequest c) where
     lawful_in : (texts : KitTexts) → Carries state old texts → Lawful → IsLawful texts kit_now tables_now stamp (for_table name c)
-    lawful_in texts s lawful = record { right = s.replayed.right; of_form = (spelled.name, spelled.request); lawful = lawful }
+    lawful_in texts s lawful = record { right = s.right; of_form = form; lawful = lawful }
 
     -- the moments of a keeping
-    passed_by : (kept : Kept) (result : Result ℕ Fault) → Lawful → Keeping Honest Works state past faults writes syncs (keeper_of old) bytes_of kept (keeper_of new)
-        → (h : Honest (disk_of new)) (texts : KitTexts) → Carries state old texts
+    passed_by : (kept : Kept) (result : Result ℕ Fault) → Lawful → KeptBy (file_of old) kept (file_of new) → (h : Honest (disk_of new)) (texts : KitTexts) → Carries state old texts
         → ((moments : List DiskState) → CommitEnds texts kit_now tables_now stamp (for_table name c) moments (state (disk_of new)) result)
         → Between (past (disk_of old)) (state (disk_of old)) (past (disk_of new)) (state (disk_of new))
         (λ moments. CommitAllows texts kit_now tables_now stamp (for_table name c) (state (disk_of old)) moments (state (disk_of new)) result)
     passed_by kept result lawful k h texts s ends =
-        let stops = k.stops h (in_file texts) s.records s.keeps in
+        let is_lawful = lawful_in texts s lawful in
+        let stops = k.stops h (in_words texts tables_now) (in_words texts behind) (record_leads texts kit_now tables_now stamp (for_table name c) is_lawful s.tables_of_kit) refl s.file in
         record {
           moments = stops.since;
           passed = stops.goes_on;
           allowed = record {
             pending = Some (for_table name c);
-            pends = (refl, lawful_in texts s lawful);
+            pends = (refl, is_lawful);
             before = carried_keeps state old texts s;
-            each = EachImageOf-weaker stops.since _ (BeforeOrAfter texts kit_now tables_now (Some (for_table name c)))
-                (stands_either texts s.records kit_now tables_now stamp name bytes_of c spelled lawful s.replayed) stops.each;
+            each = EachImageOf-weaker stops.since (λ image. KeepsTables texts tables_now image ⊎ KeepsTables texts behind image) (BeforeOrAfter texts kit_now tables_now (Some (for_table name c)))
+                (stands_either texts kit_now tables_now stamp (for_table name c) is_lawful s.tables_of_kit) stops.each;
             ends = ends stops.since;
           };
         }
 
-    -- the command was taken
-    taken : (n : ℕ) → Takes (held_of old) stamp name c (held_of new) (Ok n) → Lawful → held_of new ≡ with_tables (held_of old) (world_after kit_now tables_now name c)
-        → Keeping Honest Works state past faults writes syncs (keeper_of old) bytes_of (Ok tt) (keeper_of new) → Done (Ok n)
+    kept_by : (kept : Kept) → Lawful → KeptBy (file_of old) kept (file_of new) → Honest (disk_of new) → (texts : KitTexts) → Carries state old texts
+        → LeavesOnly (past (disk_of old)) (state (disk_of old)) (past (disk_of new)) (state (disk_of new)) (KeepsTablesOr texts kit_now tables_now (Some (for_table name c)))
+    kept_by kept lawful k h texts s =
+        let is_lawful = lawful_in texts s lawful in
+        weaker (k.stops h (in_words texts tables_now) (in_words texts behind) (record_leads texts kit_now tables_now stamp (for_table name c) is_lawful s.tables_of_kit) refl s.file)
+        (KeepsTablesOr texts kit_now tables_now (Some (for_table name c))) (keeps_either texts kit_now tables_now stamp (for_table name c) is_lawful s.tables_of_kit)
+
+    -- the request was taken
+    taken : (n : ℕ) → Takes (held_of old) stamp name c (held_of new) (Ok n) → Lawful → held_of new ≡ with_tables (held_of old) behind
+        → KeptBy (file_of old) (Ok tt) (file_of new) → Done (Ok n)
     taken n takes lawful held_is k =
         record {
           takes = takes;
           honest = k.honest;
           allowed = λ h texts s. passed_by (Ok tt) (Ok n) lawful k h texts s
               (λ moments. (lawful_in texts s lawful, subst (λ (w : World). Keeps (state (disk_of new)) texts w) (ap (λ (x : Held). x.tables) held_is) (carried_keeps state new texts (on h texts s))));
-          carries = λ h unbroken texts s. on h texts s;
-          place = k.goes_on;
+          keeps = kept_by (Ok tt) lawful k;
+          carries = λ h whole texts s. on h texts s;
+          number = k.number;
           spares = tt;
+          wanting = λ is. absurd (cc is);
           counts = k.counts;
-          device = tt;
           works = k.works;
           few_writes = k.few_writes;
           few_syncs = k.few_syncs;
-          full = λ is. no_ok n F.HalfFull is;
-          in_time = λ whole _ none. nothing_else (k.full was none);
+          full = λ is. absurd (cc is);
+          device = tt;
         }
       where
-        still_whole : is_broken (keeper_of new) ≡ false
-        still_whole = ap (λ (x : Held). x.broken) held_is ∙ was
-
         on : Honest (disk_of new) → (texts : KitTexts) → Carries state old texts → Carries state new texts
-        on h texts s = record {
-          records = s.records ++ bytes_of ∷ [];
-          keeps = k.keeps h still_whole (in_file texts) s.records s.keeps;
-          replayed = subst (λ (x : Held). Replayed texts (s.records ++ bytes_of ∷ []) x.kit x.tables) (sym held_is)
-              (replayed_more texts s.records kit_now tables_now stamp name bytes_of c spelled lawful s.replayed);
-        }
-
-        nothing_else : {A : Type 0} → (let r : Kept = Ok tt in (r ≡ Err F.HalfFull) ⊎ (r ≡ Err F.OutOfMemory)) → A
-        nothing_else (inl e) = not_ok F.HalfFull e
-        nothing_else (inr e) = not_ok F.OutOfMemory e
+        on h texts s =
+            let is_lawful = lawful_in texts s lawful in record {
+              right = subst (λ (x : Held). SpellsKit texts x.kit) (sym held_is) s.right;
+              tables_of_kit = subst (λ (x : Held). AreTablesOf x.kit x.tables) (sym held_is) (tables_after texts kit_now tables_now stamp (for_table name c) is_lawful s.tables_of_kit);
+              file = subst (λ (x : Held). carrying.Carries Takes_line (file_of new) (state (disk_of new)) (in_words texts x.tables)) (sym held_is)
+                  (k.carries h k.broken (in_words texts tables_now) (in_words texts behind) (record_leads texts kit_now tables_now stamp (for_table name c) is_lawful s.tables_of_kit) refl s.file);
+            }
 
     -- the device failed
-    failed : Takes (held_of old) stamp name c (held_of new) (Err F.DeviceFailed) → Lawful → held_of new ≡ with_failure (held_of old)
-        → Keeping Honest Works state past faults writes syncs (keeper_of old) bytes_of (Err F.DeviceFailed) (keeper_of new) → Done (Err F.DeviceFailed)
-    failed takes lawful held_is k =
+    failed : Takes (held_of old) stamp name c (held_of new) (Err F.DeviceFailed) → Lawful → KeptBy (file_of old) (Err L.DeviceFailed) (file_of new) → Done (Err F.DeviceFailed)
+    failed takes lawful k =
         record {
           takes = takes;
           honest = k.honest;
-          allowed = λ h texts s. passed_by (Err F.DeviceFailed) (Err F.DeviceFailed) lawful k h texts s (λ moments. lawful_in texts s lawful);
-          carries = λ h unbroken texts s. let both : true ≡ false = sym (ap (λ (x : Held). x.broken) held_is) ∙ unbroken in absurd (cc both);
-          place = tt;
+          allowed = λ h texts s. passed_by (Err L.DeviceFailed) (Err F.DeviceFailed) lawful k h texts s (λ moments. lawful_in texts s lawful);
+          keeps = kept_by (Err L.DeviceFailed) lawful k;
+          carries = λ h whole texts s. let both : true ≡ false = sym k.broken ∙ whole in absurd (cc both);
+          number = tt;
           spares = tt;
+          wanting = λ is. absurd (cc is);
           counts = k.counts;
-          device = k.device;
           works = k.works;
           few_writes = k.few_writes;
           few_syncs = k.few_syncs;
-          full = λ is. let e = one_fault F.DeviceFailed F.HalfFull is in absurd (cc e);
-          in_time = λ whole _ none. nothing_else (k.full was none);
+          full = λ is. absurd (cc is);
+          device = λ h texts s.
+              k.device h (in_words texts tables_now) (in_words texts behind) (record_leads texts kit_now tables_now stamp (for_table name c) (lawful_in texts s lawful) s.tables_of_kit) refl s.file;
         }
-      where
-        nothing_else : {A : Type 0} → (let r : Kept = Err F.DeviceFailed in (r ≡ Err F.HalfFull) ⊎ (r ≡ Err F.OutOfMemory)) → A
-        nothing_else (inl e) = let same = one_end F.DeviceFailed F.HalfFull e in absurd (cc same)
-        nothing_else (inr e) = let same = one_end F.DeviceFailed F.OutOfMemory e in absurd (cc same)
 
-    same_log : new.log ≡ old.log → IsSame (keeper_of old) (keeper_of new)
-    same_log still = record {
-      disk = ap (λ (l : Log D). file.disk_of l.keeper) still;
-      part = ap (λ (l : Log D). part_of l.keeper) still;
-      number = ap (λ (l : Log D). number_of_next l.keeper) still;
-      broken = ap (λ (l : Log D). is_broken l.keeper) still;
-    }
+    -- it wasn't taken, and the file carries on what was held
+    module _ (kept : log.Fault) (lawful : Lawful) (k : KeptBy (file_of old) (Err kept) (file_of new)) (whole : is_broken (file_of new) ≡ false) (held_is : held_of new ≡ held_of old) where
+      goes_on : Honest (disk_of new) → (texts : KitTexts) → Carries state old texts → Carries state new texts
+      goes_on h texts s =
+          let is_lawful = lawful_in texts s lawful in record {
+            right = subst (λ (x : Held). SpellsKit texts x.kit) (sym held_is) s.right;
+            tables_of_kit = subst (λ (x : Held). AreTablesOf x.kit x.tables) (sym held_is) s.tables_of_kit;
+            file = subst (λ (x : Held). carrying.Carries Takes_line (file_of new) (state (disk_of new)) (in_words texts x.tables)) (sym held_is)
+                (k.carries h whole (in_words texts tables_now) (in_words texts behind) (record_leads texts kit_now tables_now stamp (for_table name c) is_lawful s.tables_of_kit) refl s.file);
+          }
 
-    same_goes_on : new.log ≡ old.log → GoesOn
-    same_goes_on still h whole texts records kept = subst (λ (l : Log D). KeepsLines l.keeper (state (file.disk_of l.keeper)) (in_file texts) records) (sym still) kept
+      keeps_on : Honest (disk_of new) → (texts : KitTexts) → Carries state old texts → Keeps (state (disk_of new)) texts tables_now
+      keeps_on h texts s = subst (λ (w : World). Keeps (state (disk_of new)) texts w) (ap (λ (x : Held). x.tables) held_is) (carried_keeps state new texts (goes_on h texts s))
 
-    refused : RequestsHaveOneVerdict → (fault : Fault) → Takes (held_of old) stamp name c (held_of new) (Err fault) → ((f : Fault) → IsVerdict (judgement_in kit_now tables_now stamp name c) (Some f) → new.log ≡ old.log)
-        → (fault ≡ F.HalfFull → IsFull old name c)
-        → (new.log ≡ old.log) ⊎ Keeps_record old.log bytes_of (Err fault) new.log → Done (Err fault)
-    refused law fault (Refused f whole verdict held_is) untouched full passed =
-        spared f (no_failure kit_now tables_now stamp name c f verdict) (Refused f whole verdict held_is) held_is (same_log (untouched f verdict)) (same_goes_on (untouched f verdict)) full
-        (λ _ lawful none. absurd (not_both law kit_now tables_now stamp name c f lawful verdict))
-    refused law fault (Wants whole first held_is) untouched full (inl still) =
-        spared F.OutOfMemory (λ is. absurd (cc is)) (Wants whole first held_is) held_is (same_log still) (same_goes_on still) full (λ _ _ none. inr refl)
-    refused law fault (Wants whole first held_is) untouched full (inr k) =
-        spared F.OutOfMemory (λ is. absurd (cc is)) (Wants whole first held_is) held_is (stays_same (keeper_of old) (keeper_of new) F.OutOfMemory (λ is. absurd (cc is)) k.stays)
-        (λ h unbroken texts records kept. k.keeps h unbroken (in_file texts) records kept) full (λ _ _ none. inr refl)
-    refused law fault (NoRoom whole lawful held_is) untouched full (inl still) =
-        spared F.HalfFull (λ is. absurd (cc is)) (NoRoom whole lawful held_is) held_is (same_log still) (same_goes_on still) full (λ _ _ none. inl refl)
-    refused law fault (NoRoom whole lawful held_is) untouched full (inr k) =
-        spared F.HalfFull (λ is. absurd (cc is)) (NoRoom whole lawful held_is) held_is (stays_same (keeper_of old) (keeper_of new) F.HalfFull (λ is. absurd (cc is)) k.stays)
-        (λ h unbroken texts records kept. k.keeps h unbroken (in_file texts) records kept) full (λ _ _ none. inl refl)
-    refused law fault (Fails whole lawful held_is) untouched full (inl still) =
-        let both : true ≡ false = sym (ap (λ (x : Held). x.broken) held_is) ∙ ap (λ (l : Log D). is_broken l.keeper) still ∙ was in absurd (cc both)
-    refused law fault (Fails whole lawful held_is) untouched full (inr k) = failed (Fails whole lawful held_is) lawful held_is k
-    refused law fault (Again broken held_is) untouched full passed = let both : true ≡ false = sym broken ∙ was in absurd (cc both)
+    file_full : Takes (held_of old) stamp name c (held_of new) (Err F.FileFull) → Lawful → held_of new ≡ held_of old → KeptBy (file_of old) (Err L.FileFull) (file_of new) → Done (Err F.FileFull)
+    file_full takes lawful held_is k =
+        record {
+          takes = takes;
+          honest = k.honest;
+          allowed = λ h texts s. passed_by (Err L.FileFull) (Err F.FileFull) lawful k h texts s (λ moments. keeps_on L.FileFull lawful k k.broken held_is h texts s);
+          keeps = kept_by (Err L.FileFull) lawful k;
+          carries = λ h whole texts s. goes_on L.FileFull lawful k whole held_is h texts s;
+          number = k.number;
+          spares = tt;
+          wanting = λ is. absurd (cc is);
+          counts = k.counts;
+          works = k.works;
+          few_writes = k.few_writes;
+          few_syncs = k.few_syncs;
+          full = λ is. k.full refl;
+          device = tt;
+        }
 
-    pub commits : RequestsHaveOneVerdict → (result : Result ℕ Fault)
-        → MatchResult result (λ _. IsVerdict (judgement_in kit_now tables_now stamp name c) None)
-        (λ fault. MayRefuse (judgement_in kit_now tables_now stamp name c) (HasNoRoom (keeper_of old) bytes_of) (is_broken (keeper_of old)) fault (is_broken (keeper_of new)))
-        → OnOk result (world_of new.tables.map.entries ≡ world_after kit_now tables_now name c)
-        → IfOk result (λ n. n ≡ stamp_after kit_now tables_now name c)
-        → OnOk result (is_broken (keeper_of new) ≡ false)
-        → Passed Keeps_record old.log bytes_of new.log result
-        → new.tables.kit ≡ old.tables.kit
-        → OnErr result (new.tables.map.entries ≡ old.tables.map.entries)
-        → ((f : Fault) → IsVerdict (judgement_in kit_now tables_now stamp name c) (Some f) → new.log ≡ old.log)
-        → Done result
-    commits law (Ok n) lawful world counted whole k kit_is entries untouched =
-        taken n (takes_accepted _ _ _ _ _ _ stamp n name c was whole kit_is world lawful counted) lawful
-        (held_same _ _ _ _ _ _ kit_is world (whole ∙ sym was)) k
-    commits law (Err fault) verdict world counted whole passed kit_is entries untouched =
-        refused law fault (takes_refused _ _ _ _ _ _ _ stamp name c fault was kit_is (ap world_of entries) verdict) untouched
-        (refused_full _ kit_now tables_now _ _ stamp name c fault verdict) passed
+    no_memory : Takes (held_of old) stamp name c (held_of new) (Err F.OutOfMemory) → Lawful → held_of new ≡ held_of old → KeptBy (file_of old) (Err L.OutOfMemory) (file_of new) → Done (Err F.OutOfMemory)
+    no_memory takes lawful held_is k =
+        record {
+          takes = takes;
+          honest = k.honest;
+          allowed = λ h texts s. passed_by (Err L.OutOfMemory) (Err F.OutOfMemory) lawful k h texts s (λ moments. keeps_on L.OutOfMemory lawful k k.broken held_is h texts s);
+          keeps = kept_by (Err L.OutOfMemory) lawful k;
+          carries = λ h whole texts s. goes_on L.OutOfMemory lawful k whole held_is h texts s;
+          number = k.number;
+          spares = tt;
+          wanting = λ is. inr lawful;
+          counts = k.counts;
+          works = k.works;
+          few_writes = k.few_writes;
+          few_syncs = k.few_syncs;
+          full = λ is. absurd (cc is);
+          device = tt;
+        }
+
+    module _ (was : is_broken (file_of old) ≡ false) (kit_is : new.tables.kit ≡ old.tables.kit) where
+      pub commits : (n : ℕ) → IsVerdict (ruled.judgement_in kit_now tables_now stamp name c) None
+          → world_of new.tables ≡ behind → n ≡ stamp_after kit_now tables_now name c → KeptBy (file_of old) (Ok tt) (file_of new) → Done (Ok n)
+      commits n by_rules world counted k =
+          let lawful = map-is of_rules (ruled.judgement_in kit_now tables_now stamp name c) None by_rules in
+          let held_is = held_same kit_now new.tables.kit behind (world_of new.tables) (is_broken (file_of old)) (is_broken (file_of new)) kit_is world (k.broken ∙ sym was) in
+          taken n (subst (λ (x : ℕ). Takes (held_of old) stamp name c (held_of new) (Ok x)) (sym counted) (Accepted was lawful held_is)) lawful held_is k
+
+      module _ (world : world_of new.tables ≡ tables_now) where
+        held_is_if : (b : Bool) → is_broken (file_of new) ≡ b → held_of new ≡ held kit_now tables_now b
+        held_is_if b is = held_same kit_now new.tables.kit tables_now (world_of new.tables) b (is_broken (file_of new)) kit_is world is
+
+        by_rule : (fault : rules.Fault) → MayFind (ruled.judgement_in kit_now tables_now stamp name c) R.OutOfMemory fault → file_of new ≡ file_of old → Done (Err (of_rules fault))
+        by_rule fault found still =
+            let same = held_is_if (is_broken (file_of old)) (ap (λ (f : Log D TableRules). is_broken f) still) in
+            spared (of_rules fault) (no_failure fault) (no_full fault) (refused_by found same) (record { same_file = still; same_held = same })
+          where
+            refused_by : MayFind (ruled.judgement_in kit_now tables_now stamp name c) R.OutOfMemory fault → held_of new ≡ held_of old → Takes (held_of old) stamp name c (held_of new) (Err (of_rules fault))
+            refused_by (inl verdict) same = Refused (of_rules fault) was (map-is of_rules (ruled.judgement_in kit_now tables_now stamp name c) (Some fault) verdict) same
+            refused_by (inr wants) same =
+                subst (λ (f : rules.Fault). Takes (held_of old) stamp name c (held_of new) (Err (of_rules f))) (sym wants.1) (Wants was (ap (option_map of_rules) wants.0) same)
+
+        by_file : (fault : log.Fault) → IsVerdict (ruled.judgement_in kit_now tables_now stamp name c) None → KeptBy (file_of old) (Err fault) (file_of new) → Done (Err (of_log fault))
+        by_file L.DeviceFailed by_rules k =
+            let lawful = map-is of_rules (ruled.judgement_in kit_now tables_now stamp name c) None by_rules in
+            failed (Fails was lawful (held_is_if true k.broken)) lawful k
+        by_file L.HalfFull by_rules k = absurd (k.room refl)
+        by_file L.FileFull by_rules k =
+            let lawful = map-is of_rules (ruled.judgement_in kit_now tables_now stamp name c) None by_rules in
+            let same = held_is_if (is_broken (file_of old)) (k.broken ∙ sym was) in
+            file_full (NoRoom was lawful same) lawful same k
+        by_file L.OpenAgain by_rules k = let both : true ≡ false = sym (k.again.0 refl) ∙ was in absurd (cc both)
+        by_file L.OutOfMemory by_rules k =
+            let lawful = map-is of_rules (ruled.judgement_in kit_now tables_now stamp name c) None by_rules in
+            let same = held_is_if (is_broken (file_of old)) (k.broken ∙ sym was) in
+            no_memory (Wants was (lawful-first (judgement_in kit_now tables_now stamp name c) lawful) same) lawful same k
+
+        pub commits_not : (fault : table.Fault) → MayRefuse (ruled.judgement_in kit_now tables_now stamp name c) fault
+            → Passed (λ (before : FileJournal D) (tables : World) (bytes : List ℕ) (kept : Kept) (after : FileJournal D). Keeping Honest Works state past faults writes syncs before.file (map table_in_words tables) bytes kept after.file)
+            old.journal tables_now bytes_of new.journal (Err fault)
+            → Done (Err (of_tables fault))
+        commits_not (Rules fault) verdict passed = by_rule fault verdict (ap (λ (j : FileJournal D). j.file) passed)
+        commits_not (File fault) verdict passed = by_file fault verdict passed

@@ -1,72 +1,328 @@
--- What keeping a record does, from what the file's keeper does.
-use Rattle.std.proofs.Common.{◌≡◌, ◌⊎◌, ℕ, ◌+◌, ◌≤◌, Bool, false, List, Result, Ok, Err, inl, inr, refl, ap, arith}
+-- What keeping a record does, from what the open file does.
+use Rattle.std.proofs.Common.{◌≡◌, ◌⊎◌, ◌↔◌, ℕ, ◌+◌, ◌≤◌, true, false, List, length, Result, Ok, Err, IfErr, IsErrOf, IsTrue, inl, refl, sym, ap, subst, ◌∙◌, arith}
+use Rattle.rr_checkpoint.specs.declared.place.Place.{Place}
+use Rattle.rr_checkpoint.specs.Calls.{LeavesEither, LeavesKept}
+use Rattle.rr_checkpoint.proofs.Writers.{carried_kept}
 use Rattle.rr_disk.specs.Disk.{DiskState}
-use Rattle.rr_disk.proofs.MomentLemmas.{started}
-use Rattle.rr_keeper.specs.declared.keeper.Keeper.{Keeper}
-use Rattle.rr_keeper.specs.declared.fault.Fault as keeper
-use Rattle.rr_keeper.specs.declared.fault.Fault.TheVariants as K
-use Rattle.rr_keeper.specs.Fault.{Counts}
-use Rattle.rr_keeper.specs.Fault.{OnDevice as OnKeeper}
-use Rattle.rr_keeper.specs.File.{Kit as FileKit}
-use Rattle.rr_keeper.specs.Keeper.{IsUnchanged as IsSame, disk_of, part_of}
-use Rattle.rr_keeper.proofs.Parts.{is_store}
-use Rattle.rr_store.specs.declared.fault.Fault.{Fault}
-use Rattle.rr_store.specs.declared.fault.Fault.TheVariants as F
-use Rattle.rr_store.specs.Fault.{CountsFailure, OnDevice, of_keeper}
-use Rattle.rr_store.specs.Logging.{IsStoreWith, Keeping, Stays}
+use Rattle.rr_disk.proofs.MomentLemmas.{joins, started, weaker}
+use Rattle.rr_images.specs.Layout.{Keeps}
+use Rattle.rr_log.specs.declared.fault.Fault.{Fault}
+use Rattle.rr_log.specs.declared.fault.Fault.TheVariants as F
+use Rattle.rr_log.specs.declared.log.Log.{Log}
+use Rattle.rr_log.specs.Calls.{IsUnchanged, MayRefuse, NumberBehind, world_behind}
+use Rattle.rr_log.specs.Carrying.{Carries, HaveSameTexts}
+use Rattle.rr_log.specs.Fault.{CountsFault, IsWant, OnDeviceFault, ends_broken}
+use Rattle.rr_log.specs.Log.{HasNoRoom, disk_of, is_broken, next_number, place_of}
+use Rattle.rr_log.proofs.Carried.{device_more}
+use Rattle.rr_records.specs.declared.rules.TableRules.{TableRules}
+use Rattle.rr_records.specs.Taking.{Takes, table_files}
+use Rattle.rr_kit.specs.Kits.{KitTexts}
+use Rattle.rr_worlds.specs.World.{Table}
+use Rattle.rr_worlds.specs.World as words
+use Rattle.rr_store.specs.Keeping.{IsFull, Keeping, told_of}
 
--- the count that follows a fault of the keeper
-pub counts_kept : (old new : ℕ) (fault : keeper.Fault) → Counts old new fault → CountsFailure old new (of_keeper fault)
-counts_kept old new K.DeviceFailed h = h
-counts_kept old new _ h = h
+abbrev Kept : Type 0
+Kept = Result (Unit {0}) Fault
 
--- what a device fault of the keeper tells
-pub device_kept : (P : Type 0) (fault : keeper.Fault) → OnKeeper fault P → OnDevice (of_keeper fault) P
-device_kept P K.DeviceFailed h = h
-device_kept P K.HalfFull h = tt
-device_kept P (K.Damaged clause) h = tt
-device_kept P K.NotAStore h = tt
-device_kept P K.NotEmpty h = tt
-device_kept P K.OpenAgain h = tt
-device_kept P K.OutOfMemory h = tt
+-- a record leads to a world of the same texts
+pub same_texts : (bytes : List ℕ) (before behind : words.World) → Takes bytes before behind → HaveSameTexts before behind
+same_texts bytes before behind takes =
+    record {
+      of_chart = ap (λ (t : KitTexts). t.chart) takes.same_texts;
+      of_roster = ap (λ (t : KitTexts). t.roster) takes.same_texts;
+      of_tiles = ap (λ (t : KitTexts). t.tiles) takes.same_texts;
+      of_board = ap (λ (t : KitTexts). t.board) takes.same_texts;
+    }
 
-abbrev Refusal : Type 0
-Refusal = Result (Unit {0}) keeper.Fault
+-- the next record has the same number
+number_same : (fault : Fault) (old new : ℕ) → new ≡ old → NumberBehind {T = Unit {0}} (Err fault) old new
+number_same F.DeviceFailed old new same = tt
+number_same F.HalfFull old new same = same
+number_same F.FileFull old new same = same
+number_same F.OpenAgain old new same = same
+number_same F.OutOfMemory old new same = same
 
--- what a refusal of the keeper leaves
-pub stays_kept : {D : Type 0} (old new : Keeper D) (fault : keeper.Fault)
-    → (fault ≡ K.OpenAgain) ⊎ (fault ≡ K.HalfFull) ⊎ (fault ≡ K.DeviceFailed)
-    → (let r : Refusal = Err fault in (r ≡ Err K.OpenAgain) ⊎ (r ≡ Err K.HalfFull) → IsSame old new) → Stays old (Err (of_keeper fault)) new
-stays_kept old new K.DeviceFailed why same = tt
-stays_kept old new K.HalfFull why same = same (inr refl)
-stays_kept old new K.OpenAgain why same = same (inl refl)
-stays_kept old new (K.Damaged clause) (inl is) same = same (inl (ap (λ (f : keeper.Fault). Err f) is))
-stays_kept old new (K.Damaged clause) (inr (inl is)) same = same (inr (ap (λ (f : keeper.Fault). Err f) is))
-stays_kept old new (K.Damaged clause) (inr (inr is)) same = absurd (cc is)
-stays_kept old new K.NotAStore (inl is) same = same (inl (ap (λ (f : keeper.Fault). Err f) is))
-stays_kept old new K.NotAStore (inr (inl is)) same = same (inr (ap (λ (f : keeper.Fault). Err f) is))
-stays_kept old new K.NotAStore (inr (inr is)) same = absurd (cc is)
-stays_kept old new K.NotEmpty (inl is) same = same (inl (ap (λ (f : keeper.Fault). Err f) is))
-stays_kept old new K.NotEmpty (inr (inl is)) same = same (inr (ap (λ (f : keeper.Fault). Err f) is))
-stays_kept old new K.NotEmpty (inr (inr is)) same = absurd (cc is)
-stays_kept old new K.OutOfMemory (inl is) same = same (inl (ap (λ (f : keeper.Fault). Err f) is))
-stays_kept old new K.OutOfMemory (inr (inl is)) same = same (inr (ap (λ (f : keeper.Fault). Err f) is))
-stays_kept old new K.OutOfMemory (inr (inr is)) same = absurd (cc is)
+-- why a record isn't kept, that is told
+full_by : {D R : Type 0} (log : Log D R) (bytes : List ℕ) (result : Kept) → IfErr result (MayRefuse (place_of log) (length bytes))
+    → IsErrOf result F.FileFull → IsFull log bytes
+full_by log bytes (Ok value) refused is = absurd (cc)
+full_by log bytes (Err F.DeviceFailed) refused is = absurd (cc)
+full_by log bytes (Err F.HalfFull) refused is = absurd (cc)
+full_by log bytes (Err F.FileFull) refused is = refused
+full_by log bytes (Err F.OpenAgain) refused is = absurd (cc)
+full_by log bytes (Err F.OutOfMemory) refused is = absurd (cc)
 
--- nothing was kept, for want of memory
-pub keeps_nothing : {D : Type 0} (Honest Works : D → Type 0) (state : D → DiskState) (past : D → List DiskState) (faults writes syncs : D → ℕ) (old : Keeper D) (bytes : List ℕ)
-    → Keeping Honest Works state past faults writes syncs old bytes (Err F.OutOfMemory) old
-keeps_nothing Honest Works state past faults writes syncs old bytes = record {
-  honest = λ h. h;
-  stops = λ h texts records kept. started (past (disk_of old)) (state (disk_of old)) (IsStoreWith texts records bytes)
-      (λ image is. inl (is_store image texts (part_of old).index records kept.front kept.own kept.joined (kept.each image is)));
-  keeps = λ h whole texts records kept. kept;
-  goes_on = tt;
-  counts = refl;
-  device = tt;
-  works = λ h. h;
-  few_writes = omega arith;
-  few_syncs = omega arith;
-  stays = record { disk = refl; part = refl; number = refl; broken = refl };
-  full = λ whole none. inr refl;
-}
+-- no room is told where there is none
+no_room_by : {D R : Type 0} (log : Log D R) (bytes : List ℕ) (result : Kept) → IfErr result (MayRefuse (place_of log) (length bytes))
+    → IsErrOf result F.HalfFull → HasNoRoom (place_of log) (length bytes)
+no_room_by log bytes (Ok value) refused is = absurd (cc)
+no_room_by log bytes (Err F.DeviceFailed) refused is = absurd (cc)
+no_room_by log bytes (Err F.HalfFull) refused is = refused
+no_room_by log bytes (Err F.FileFull) refused is = absurd (cc)
+no_room_by log bytes (Err F.OpenAgain) refused is = absurd (cc)
+no_room_by log bytes (Err F.OutOfMemory) refused is = absurd (cc)
+
+-- what is so where the device failed is so where that is told
+device_told : {P Q : Type 0} (fault : Fault) → (P → Q) → OnDeviceFault {T = Unit {0}} (Err fault) P → OnDeviceFault {T = Unit {0}} (Err (told_of fault)) Q
+device_told F.DeviceFailed so given = so given
+device_told F.HalfFull so given = tt
+device_told F.FileFull so given = tt
+device_told F.OpenAgain so given = tt
+device_told F.OutOfMemory so given = tt
+
+module _ {D : Type 0} (Honest Works : D → Type 0) (state : D → DiskState) (past : D → List DiskState) (faults writes syncs : D → ℕ)
+    (tables : List Table) (bytes : List ℕ) where
+  abbrev Logs : Type 0
+  Logs = Log D TableRules
+
+  -- what one attempt to keep the record does
+  pub record Tried (old : Logs) (result : Kept) (new : Logs) : Type 0 where
+    pub stops : Honest (disk_of new) → (before behind : words.World) → Takes bytes before behind → HaveSameTexts before behind → before.tables ≡ tables
+        → Carries Takes old (state (disk_of old)) before
+        → LeavesEither table_files (past (disk_of old)) (state (disk_of old)) (past (disk_of new)) (state (disk_of new)) before behind
+    pub carries : Honest (disk_of new) → is_broken new ≡ false → (before behind : words.World) → Takes bytes before behind → HaveSameTexts before behind → before.tables ≡ tables
+        → Carries Takes old (state (disk_of old)) before → Carries Takes new (state (disk_of new)) (world_behind result before behind)
+    pub number : NumberBehind result (next_number old) (next_number new)
+    pub again : IsErrOf result F.OpenAgain ↔ IsTrue (is_broken old)
+    pub untouched : IsErrOf result F.OpenAgain → new ≡ old
+    pub broken : is_broken new ≡ ends_broken result
+    pub refused : IfErr result (MayRefuse (place_of new) (length bytes))
+    pub full_half : IsErrOf result F.HalfFull → HasNoRoom (place_of old) (length bytes)
+    pub device : OnDeviceFault result (Honest (disk_of new) → (world : words.World) → Carries Takes old (state (disk_of old)) world → Works (disk_of new) → ⊥)
+    pub fault : CountsFault (faults (disk_of old)) (faults (disk_of new)) result
+    pub few_writes : writes (disk_of new) ≤ writes (disk_of old) + 3
+    pub few_syncs : syncs (disk_of new) ≤ syncs (disk_of old) + 3
+    pub honest : Honest (disk_of new) → Honest (disk_of old)
+    pub works : Works (disk_of new) → Works (disk_of old)
+
+  -- what a checkpoint does
+  pub record Made (old : Logs) (result : Kept) (new : Logs) : Type 0 where
+    pub stops : Honest (disk_of new) → (world : words.World) → world.tables ≡ tables → Carries Takes old (state (disk_of old)) world
+        → LeavesKept table_files (past (disk_of old)) (state (disk_of old)) (past (disk_of new)) (state (disk_of new)) world
+    pub carries : Honest (disk_of new) → is_broken new ≡ false → (world : words.World) → world.tables ≡ tables
+        → Carries Takes old (state (disk_of old)) world → Carries Takes new (state (disk_of new)) world
+    pub number : next_number new ≡ next_number old
+    pub again : IsErrOf result F.OpenAgain ↔ IsTrue (is_broken old)
+    pub broken : is_broken new ≡ ends_broken result
+    pub unchanged : IfErr result (λ fault. IsWant fault → IsUnchanged old new)
+    pub room : IsErrOf result F.HalfFull → ⊥
+    pub fault : CountsFault (faults (disk_of old)) (faults (disk_of new)) result
+    pub honest : Honest (disk_of new) → Honest (disk_of old)
+    pub works : Works (disk_of new) → Works (disk_of old)
+    pub device : OnDeviceFault result (Honest (disk_of new) → (world : words.World) → world.tables ≡ tables → Carries Takes old (state (disk_of old)) world
+        → Works (disk_of new) → ⊥)
+
+  abbrev pub Done : Logs → Kept → Logs → Type 0
+  Done old result new = Keeping Honest Works state past faults writes syncs old tables bytes result new
+
+  kept_now : (log : Logs) (before behind : words.World) → Carries Takes log (state (disk_of log)) before
+      → LeavesEither table_files (past (disk_of log)) (state (disk_of log)) (past (disk_of log)) (state (disk_of log)) before behind
+  kept_now log before behind carries =
+      started (past (disk_of log)) (state (disk_of log)) (λ image. Keeps table_files image before ⊎ Keeps table_files image behind)
+      (λ image is. inl (carried_kept table_files log.writer.file log.writer.checkpoint (state (disk_of log)) before carries.carried image is))
+
+  -- nothing is tried for want of memory, or on a broken file
+  pub keeps_nothing : (log : Logs) → is_broken log ≡ false → Done log (Err F.OutOfMemory) log
+  keeps_nothing log whole =
+      record {
+        honest = λ h. h;
+        stops = λ h before behind takes lent carries. kept_now log before behind carries;
+        carries = λ h still before behind takes lent carries. carries;
+        number = refl;
+        again = (λ is. absurd (cc is), λ broken. let both : true ≡ false = sym broken ∙ whole in absurd (cc both));
+        untouched = λ is. absurd (cc is);
+        broken = whole;
+        full = λ is. absurd (cc is);
+        room = λ is. absurd (cc is);
+        counts = refl;
+        works = λ w. w;
+        device = tt;
+        few_writes = λ room. omega arith;
+        few_syncs = λ room. omega arith;
+      }
+
+  pub keeps_again : (log : Logs) → is_broken log ≡ true → Done log (Err F.OpenAgain) log
+  keeps_again log broken =
+      record {
+        honest = λ h. h;
+        stops = λ h before behind takes lent carries. kept_now log before behind carries;
+        carries = λ h still before behind takes lent carries. carries;
+        number = refl;
+        again = (λ is. broken, λ was. refl);
+        untouched = λ is. refl;
+        broken = broken;
+        full = λ is. absurd (cc is);
+        room = λ is. absurd (cc is);
+        counts = refl;
+        works = λ w. w;
+        device = tt;
+        few_writes = λ room. omega arith;
+        few_syncs = λ room. omega arith;
+      }
+
+  -- one attempt that isn't told of a full half
+  pub kept_once : (old new : Logs) (result : Kept) → (IsErrOf result F.HalfFull → ⊥) → Tried old result new → Done old result new
+  kept_once old new result room t =
+      record {
+        honest = t.honest;
+        stops = λ h before behind takes lent carries. t.stops h before behind takes (same_texts bytes before behind takes) lent carries;
+        carries = λ h whole before behind takes lent carries. t.carries h whole before behind takes (same_texts bytes before behind takes) lent carries;
+        number = t.number;
+        again = t.again;
+        untouched = t.untouched;
+        broken = t.broken;
+        full = full_by new bytes result t.refused;
+        room = room;
+        counts = t.fault;
+        works = t.works;
+        device = device_more result (λ device h before behind takes lent carries. device h before carries) t.device;
+        few_writes = λ room. t.few_writes;
+        few_syncs = λ room. t.few_syncs;
+      }
+
+  -- no room, and no checkpoint under way
+  pub kept_full : (old new : Logs) → Tried old (Err F.HalfFull) new → Done old (Err F.FileFull) new
+  kept_full old new t =
+      record {
+        honest = t.honest;
+        stops = λ h before behind takes lent carries. t.stops h before behind takes (same_texts bytes before behind takes) lent carries;
+        carries = λ h whole before behind takes lent carries. t.carries h whole before behind takes (same_texts bytes before behind takes) lent carries;
+        number = t.number;
+        again = (λ is. absurd (cc is), λ broken. let never : Kept = Err F.HalfFull in absurd (let is = t.again.1 broken in cc is));
+        untouched = λ is. absurd (cc is);
+        broken = t.broken;
+        full = λ is. inl t.refused;
+        room = λ is. absurd (cc is);
+        counts = t.fault;
+        works = t.works;
+        device = tt;
+        few_writes = λ room. t.few_writes;
+        few_syncs = λ room. t.few_syncs;
+      }
+
+  module _ (old mid : Logs) (t : Tried old (Err F.HalfFull) mid) where
+    never_again : {A : Type 0} → IsTrue (is_broken old) → A
+    never_again broken = absurd (let is = t.again.1 broken in cc is)
+
+    has_none : {A : Type 0} → (IsFull old bytes → ⊥) → A
+    has_none room = absurd (room (inl (t.full_half refl)))
+
+    carried : Honest (disk_of mid) → (before behind : words.World) → Takes bytes before behind → before.tables ≡ tables
+        → Carries Takes old (state (disk_of old)) before → Carries Takes mid (state (disk_of mid)) before
+    carried h before behind takes lent carries = t.carries h t.broken before behind takes (same_texts bytes before behind takes) lent carries
+
+    told : (fault : Fault) (new : Logs) → Made mid (Err fault) new → (fault ≡ F.OpenAgain → ⊥) × (IsErrOf {T = Unit {0}} (Err fault) F.FileFull → IsFull new bytes)
+    told F.DeviceFailed new m = (λ is. cc is, λ is. absurd (cc is))
+    told F.HalfFull new m = (λ is. cc is, λ is. absurd (cc is))
+    told F.FileFull new m = (
+      λ is. cc is,
+      λ is. inl (subst (λ (p : Place). HasNoRoom p (length bytes)) (sym (m.unchanged (inl refl)).place) t.refused),
+    )
+    told F.OpenAgain new m = (λ is. let both : true ≡ false = sym (m.again.0 refl) ∙ t.broken in cc both, λ is. absurd (cc is))
+    told F.OutOfMemory new m = (λ is. cc is, λ is. absurd (cc is))
+
+    -- a checkpoint that failed
+    pub kept_without : (fault : Fault) (new : Logs) → Made mid (Err fault) new → Done old (Err fault) new
+    kept_without fault new m =
+        record {
+          honest = λ h. t.honest (m.honest h);
+          stops = λ h before behind takes lent carries.
+              joins (t.stops (m.honest h) before behind takes (same_texts bytes before behind takes) lent carries)
+              (weaker (m.stops h before lent (carried (m.honest h) before behind takes lent carries)) (λ image. Keeps table_files image before ⊎ Keeps table_files image behind) (λ image keeps. inl keeps));
+          carries = λ h whole before behind takes lent carries. m.carries h whole before lent (carried (m.honest h) before behind takes lent carries);
+          number = number_same fault (next_number old) (next_number new) (m.number ∙ t.number);
+          again = (λ is. absurd (same_fault is), λ broken. never_again broken);
+          untouched = λ is. absurd (same_fault is);
+          broken = m.broken;
+          full = (told fault new m).1;
+          room = m.room;
+          counts = subst (λ (n : ℕ). CountsFault {T = Unit {0}} n (faults (disk_of new)) (Err fault)) t.fault m.fault;
+          works = λ w. t.works (m.works w);
+          device = device_more {T = Unit {0}} (Err fault) (λ device h before behind takes lent carries. device h before lent (carried (m.honest h) before behind takes lent carries)) m.device;
+          few_writes = λ room. has_none room;
+          few_syncs = λ room. has_none room;
+        }
+      where
+        same_fault : IsErrOf {T = Unit {0}} (Err fault) F.OpenAgain → ⊥
+        same_fault is = (told fault new m).0 (let same : fault ≡ F.OpenAgain = cc is in same)
+
+    module _ (made new : Logs) (m : Made mid (Ok tt) made) where
+      stops_by : (result : Kept) → Tried made result new → Honest (disk_of new) → (before behind : words.World) → Takes bytes before behind → before.tables ≡ tables
+          → Carries Takes old (state (disk_of old)) before
+          → LeavesEither table_files (past (disk_of old)) (state (disk_of old)) (past (disk_of new)) (state (disk_of new)) before behind
+      stops_by result again h before behind takes lent carries =
+          let then = again.honest h in
+          let there = carried (m.honest then) before behind takes lent carries in
+          joins
+          (joins (t.stops (m.honest then) before behind takes (same_texts bytes before behind takes) lent carries)
+          (weaker (m.stops then before lent there) (λ image. Keeps table_files image before ⊎ Keeps table_files image behind) (λ image keeps. inl keeps)))
+          (again.stops h before behind takes (same_texts bytes before behind takes) lent (m.carries then m.broken before lent there))
+
+      carries_by : (result : Kept) → Tried made result new → Honest (disk_of new) → is_broken new ≡ false → (before behind : words.World) → Takes bytes before behind → before.tables ≡ tables
+          → Carries Takes old (state (disk_of old)) before → Carries Takes new (state (disk_of new)) (world_behind result before behind)
+      carries_by result again h whole before behind takes lent carries =
+          let then = again.honest h in
+          again.carries h whole before behind takes (same_texts bytes before behind takes) lent
+          (m.carries then m.broken before lent (carried (m.honest then) before behind takes lent carries))
+
+      same_number : next_number made ≡ next_number old
+      same_number = m.number ∙ t.number
+
+      same_count : faults (disk_of made) ≡ faults (disk_of old)
+      same_count = m.fault ∙ t.fault
+
+      -- a second attempt
+      pub kept_twice : Tried made (Ok tt) new → Done old (Ok tt) new
+      kept_twice again =
+          record {
+            honest = λ h. t.honest (m.honest (again.honest h));
+            stops = stops_by (Ok tt) again;
+            carries = carries_by (Ok tt) again;
+            number = subst (λ (n : ℕ). next_number new ≡ n + 1) same_number again.number;
+            again = (λ is. absurd (cc is), λ broken. never_again broken);
+            untouched = λ is. absurd (cc is);
+            broken = again.broken;
+            full = λ is. absurd (cc is);
+            room = λ is. absurd (cc is);
+            counts = again.fault ∙ same_count;
+            works = λ w. t.works (m.works (again.works w));
+            device = tt;
+            few_writes = λ room. has_none room;
+            few_syncs = λ room. has_none room;
+          }
+
+      -- one that isn't kept either
+      refused_by : (fault : Fault) → Tried made (Err fault) new
+          → ((told_of fault ≡ F.OpenAgain) → ⊥) × ((told_of fault ≡ F.HalfFull) → ⊥) × (told_of fault ≡ F.FileFull → IsFull new bytes)
+          × (ends_broken {T = Unit {0}} (Err fault) ≡ ends_broken {T = Unit {0}} (Err (told_of fault)))
+          × NumberBehind {T = Unit {0}} (Err (told_of fault)) (next_number made) (next_number new)
+          × CountsFault {T = Unit {0}} (faults (disk_of made)) (faults (disk_of new)) (Err (told_of fault))
+      refused_by F.DeviceFailed again = (λ is. cc is, λ is. cc is, λ is. absurd (cc is), refl, again.number, again.fault)
+      refused_by F.HalfFull again = (λ is. cc is, λ is. cc is, λ is. inl again.refused, refl, again.number, again.fault)
+      refused_by F.FileFull again = (λ is. cc is, λ is. cc is, λ is. again.refused, refl, again.number, again.fault)
+      refused_by F.OpenAgain again = (λ is. let both : true ≡ false = sym (again.again.0 refl) ∙ m.broken in cc both, λ is. cc is, λ is. absurd (cc is), refl, again.number, again.fault)
+      refused_by F.OutOfMemory again = (λ is. cc is, λ is. cc is, λ is. absurd (cc is), refl, again.number, again.fault)
+
+      pub kept_never : (fault : Fault) → Tried made (Err fault) new → Done old (Err (told_of fault)) new
+      kept_never fault again =
+          let so = refused_by fault again in
+          record {
+            honest = λ h. t.honest (m.honest (again.honest h));
+            stops = stops_by (Err fault) again;
+            carries = carries_by (Err fault) again;
+            number = subst (λ (n : ℕ). NumberBehind {T = Unit {0}} (Err (told_of fault)) n (next_number new)) same_number so.4;
+            again = (λ is. absurd (so.0 (let same : told_of fault ≡ F.OpenAgain = cc is in same)), λ broken. never_again broken);
+            untouched = λ is. absurd (so.0 (let same : told_of fault ≡ F.OpenAgain = cc is in same));
+            broken = again.broken ∙ so.3;
+            full = λ is. so.2 (let same : told_of fault ≡ F.FileFull = cc is in same);
+            room = λ is. so.1 (let same : told_of fault ≡ F.HalfFull = cc is in same);
+            counts = subst (λ (n : ℕ). CountsFault {T = Unit {0}} n (faults (disk_of new)) (Err (told_of fault))) same_count so.5;
+            works = λ w. t.works (m.works (again.works w));
+            device = device_told fault
+                (λ device h before behind takes lent carries.
+                let then = again.honest h in
+                device h before (m.carries then m.broken before lent (carried (m.honest then) before behind takes lent carries)))
+                again.device;
+            few_writes = λ room. has_none room;
+            few_syncs = λ room. has_none room;
+          }

@@ -1,14 +1,15 @@
 -- What the calls of a store may do to its disk, as relations on the disk's states, the kit's texts and worlds alone.
 -- The moments of a call are the disk's states since its start, newest first: none where the disk is as it was.
 use Rattle.std.specs.Prelude.{◌≡◌, ◌⊎◌, ℕ, List, [], ◌∷◌, ◌++◌, Option, Some, None, Result, Ok, Err}
-use Rattle.rr_disk.specs.Disk.{DiskState, after_sync}
+use Rattle.rr_disk.specs.Disk.{DiskState}
 use Rattle.rr_disk.specs.Moments.{EachImage, EachImageOf}
 use Rattle.rr_kit.specs.declared.kit.Kit.{Kit}
 use Rattle.rr_kit.specs.Kits.{IsRightKit, KitTexts, SpellsKit}
+use Rattle.rr_records.specs.Headline.{KeepsTables}
 use Rattle.rr_turns.specs.Judgement.{IsVerdict}
 use Rattle.rr_store.specs.declared.fault.Fault.{Fault}
 use Rattle.rr_store.specs.declared.fault.Fault.TheVariants as F
-use Rattle.rr_store.specs.Files.{IsDamagedFile, IsNewFile, IsNoFile, StandsFor}
+use Rattle.rr_store.specs.Files.{StandsFor}
 use Rattle.rr_store.specs.World.{IsOfForm, TableRequest, World, judgement_in, with_pending, world_after}
 
 -- a stop in this state leaves only files that stand for this world
@@ -36,11 +37,14 @@ abbrev pub MayPend : KitTexts → Kit → World → ℕ → TableRequest → Opt
 MayPend texts kit tables stamp r None = Unit {0}
 MayPend texts kit tables stamp r (Some given) = (given ≡ r) × IsLawful texts kit tables stamp r
 
--- how the disk is left where a commit ends so: with the request; after a device fault nothing more is known; any other
--- refusal has left it alone
+-- How the disk is left where a commit ends so: with the request; after a device fault nothing more is known. Where the file is
+-- full or memory was wanted, steps of a checkpoint may have been made, and the disk keeps the world from before. Any other
+-- refusal has left it alone.
 abbrev pub CommitEnds : KitTexts → Kit → World → ℕ → TableRequest → List DiskState → DiskState → Result ℕ Fault → Type 0
 CommitEnds texts kit tables stamp r moments new (Ok _) = IsLawful texts kit tables stamp r × Keeps new texts (world_after kit tables r.name r.request)
 CommitEnds texts kit tables stamp r moments new (Err F.DeviceFailed) = IsLawful texts kit tables stamp r
+CommitEnds texts kit tables stamp r moments new (Err F.FileFull) = Keeps new texts tables
+CommitEnds texts kit tables stamp r moments new (Err F.OutOfMemory) = Keeps new texts tables
 CommitEnds texts kit tables stamp r moments new (Err fault) = moments ≡ []
 
 -- What a commit may do to a disk that keeps a world: at each moment every image stands for the world, or for the world with
@@ -52,30 +56,17 @@ pub record CommitAllows (texts : KitTexts) (kit : Kit) (tables : World) (stamp :
   pub each : EachImageOf moments (BeforeOrAfter texts kit tables pending)
   pub ends : CommitEnds texts kit tables stamp r moments new result
 
--- a sync at most, and no write
-abbrev pub SyncsAtMost : DiskState → List DiskState → Type 0
-SyncsAtMost old moments = (moments ≡ []) ⊎ (moments ≡ after_sync old ∷ [])
+-- What a step of a checkpoint, or a whole one, may do to a disk that keeps a world: at each moment, and at the end, every image
+-- stands for it.
+pub record TickAllows (texts : KitTexts) (tables : World) (old : DiskState) (moments : List DiskState) (new : DiskState) : Type 0 where
+  pub before : Keeps old texts tables
+  pub each : EachImageOf moments (λ image. StandsFor image texts tables)
+  pub ends : Keeps new texts tables
 
--- why a file isn't opened
-abbrev pub Refuses : List ℕ → Fault → Type 0
-Refuses file F.DeviceFailed = Unit {0}
-Refuses file F.OutOfMemory = Unit {0}
-Refuses file F.NotAStore = IsNoFile file
-Refuses file (F.Damaged clause) = (clause ≡ 8) × IsDamagedFile file
-Refuses file _ = ⊥
-
--- What an opening may do, and what it may answer: the texts and the world for which the file stands, behind a sync; or why
--- it stands for none, or that the device failed or memory was wanted.
-abbrev pub OpenAllows : DiskState → List DiskState → DiskState → Result (KitTexts × World) Fault → Type 0
-OpenAllows old moments new (Ok found) =
-    StandsFor old.content found.0 found.1 × (moments ≡ after_sync old ∷ []) × Keeps new found.0 found.1
-OpenAllows old moments new (Err fault) = SyncsAtMost old moments × Refuses old.content fault
-
--- What a formatting may do: where it is done, the texts are a right kit, and what a read gives and whatever a stop leaves
--- from then on is a new file of them, which stands for no table. A device fault may leave anything; any other refusal
--- leaves the disk alone.
+-- What a formatting may do: where it is done, the texts are a right kit, and whatever a stop leaves from then on keeps them, and
+-- no table. A device fault may leave anything; any other refusal leaves the disk alone.
 abbrev pub FormatAllows : KitTexts → DiskState → DiskState → Result (Unit {0}) Fault → Type 0
 FormatAllows texts old new (Ok _) =
-    IsRightKit texts × IsNewFile new.content texts × EachImage new (λ image. IsNewFile image texts) × Keeps new texts []
+    IsRightKit texts × EachImage new (KeepsTables texts []) × Keeps new texts []
 FormatAllows texts old new (Err F.DeviceFailed) = Unit {0}
 FormatAllows texts old new (Err fault) = new ≡ old

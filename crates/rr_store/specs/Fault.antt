@@ -1,16 +1,27 @@
 -- The refusals of a store, and those of the layers below as refusals of a store.
 use Rattle.std.specs.Prelude.{◌≡◌, ℕ, Result, Ok, Err}
+use Rattle.rr_disk.specs.declared.fault.Fault as disk
+use Rattle.rr_disk.specs.declared.fault.Fault.TheVariants as D
 use Rattle.rr_disk.specs.Disk.{counted}
-use Rattle.rr_kit.specs.declared.fault.Fault as kit
-use Rattle.rr_kit.specs.declared.fault.Fault.TheVariants as I
-use Rattle.rr_kit.specs.Fault as kits
-use Rattle.rr_hist.specs.declared.fault.Fault as table
-use Rattle.rr_hist.specs.declared.fault.Fault.TheVariants as H
 use Rattle.rr_game.specs.Fault as numbers
-use Rattle.rr_code.specs.declared.fault.Fault as code
-use Rattle.rr_code.specs.declared.fault.Fault.TheVariants as C
-use Rattle.rr_keeper.specs.declared.fault.Fault as keeper
-use Rattle.rr_keeper.specs.declared.fault.Fault.TheVariants as K
+use Rattle.rr_kit.specs.declared.fault.Fault as kit
+use Rattle.rr_kit.specs.declared.fault.Fault.TheVariants as K
+use Rattle.rr_kit.specs.Fault as kits
+use Rattle.rr_log.specs.declared.fault.Fault as log
+use Rattle.rr_log.specs.declared.fault.Fault.TheVariants as L
+use Rattle.rr_pages.specs.declared.fault.Fault as pages
+use Rattle.rr_pages.specs.declared.fault.Fault.TheVariants as P
+use Rattle.rr_pages.specs.Faults as page_clauses
+use Rattle.rr_reading.specs.declared.fault.Fault as reading
+use Rattle.rr_reading.specs.declared.fault.Fault.TheVariants as R
+use Rattle.rr_reading.specs.Faults.{clause_of}
+use Rattle.rr_recovery.specs.declared.fault.Fault as recovery
+use Rattle.rr_recovery.specs.declared.fault.Fault.TheVariants as V
+use Rattle.rr_recovery.specs.Fault as recovery_clauses
+use Rattle.rr_records.specs.declared.fault.Fault as rules
+use Rattle.rr_records.specs.declared.fault.Fault.TheVariants as G
+use Rattle.rr_tables.specs.declared.fault.Fault as tables
+use Rattle.rr_tables.specs.declared.fault.Fault.TheVariants as T
 use Rattle.rr_store.specs.declared.fault.Fault.{Fault}
 use Rattle.rr_store.specs.declared.fault.Fault.TheVariants as F
 
@@ -22,7 +33,7 @@ number_of (F.StaleStamp stamp) = 52
 number_of F.TurnNotKept = 53
 number_of F.TooManyCommands = 54
 number_of F.DeviceFailed = 60
-number_of F.HalfFull = 61
+number_of F.FileFull = 62
 number_of (F.Damaged clause) = 63
 number_of F.NotAStore = 64
 number_of F.NotEmpty = 64
@@ -32,29 +43,55 @@ number_of F.NoSuchTable = 68
 number_of F.OutOfMemory = 70
 
 abbrev pub of_kit : kit.Fault → Fault
-of_kit I.OutOfMemory = F.OutOfMemory
+of_kit K.OutOfMemory = F.OutOfMemory
 of_kit fault = F.Kit fault
 
-abbrev pub of_table : table.Fault → Fault
-of_table (H.Game fault) = F.Game fault
-of_table (H.StaleStamp stamp) = F.StaleStamp stamp
-of_table H.TurnNotKept = F.TurnNotKept
-of_table H.TooManyCommands = F.TooManyCommands
-of_table H.OutOfMemory = F.OutOfMemory
+-- a request that isn't lawful at its table
+abbrev pub of_rules : rules.Fault → Fault
+of_rules (G.Game fault) = F.Game fault
+of_rules (G.StaleStamp stamp) = F.StaleStamp stamp
+of_rules G.TurnNotKept = F.TurnNotKept
+of_rules G.TooManyCommands = F.TooManyCommands
+of_rules G.TooManyTables = F.TooManyTables
+of_rules G.NoSuchTable = F.NoSuchTable
+of_rules G.OutOfMemory = F.OutOfMemory
 
--- a record that spells no request is clause 8 of a damaged file
-abbrev pub of_code : code.Fault → Fault
-of_code C.Malformed = F.Damaged 8
-of_code C.OutOfMemory = F.OutOfMemory
+-- the open file; a half without room is told as a full file
+abbrev pub of_log : log.Fault → Fault
+of_log L.DeviceFailed = F.DeviceFailed
+of_log L.HalfFull = F.FileFull
+of_log L.FileFull = F.FileFull
+of_log L.OpenAgain = F.OpenAgain
+of_log L.OutOfMemory = F.OutOfMemory
 
-abbrev pub of_keeper : keeper.Fault → Fault
-of_keeper K.DeviceFailed = F.DeviceFailed
-of_keeper K.HalfFull = F.HalfFull
-of_keeper (K.Damaged clause) = F.Damaged clause
-of_keeper K.NotAStore = F.NotAStore
-of_keeper K.NotEmpty = F.NotEmpty
-of_keeper K.OpenAgain = F.OpenAgain
-of_keeper K.OutOfMemory = F.OutOfMemory
+-- tables that don't take a request
+abbrev pub of_tables : tables.Fault → Fault
+of_tables (T.Rules fault) = of_rules fault
+of_tables (T.File fault) = of_log fault
+
+abbrev pub of_disk : disk.Fault → Fault
+of_disk D.DeviceFailed = F.DeviceFailed
+of_disk D.OutOfMemory = F.OutOfMemory
+
+-- the pages of a new file
+abbrev pub of_pages : pages.Fault → Fault
+of_pages P.FileFull = F.FileFull
+of_pages (P.Damaged damage) = F.Damaged (page_clauses.clause_of damage)
+of_pages P.NotAStore = F.NotAStore
+of_pages (P.Disk fault) = of_disk fault
+of_pages P.OutOfMemory = F.OutOfMemory
+
+-- the bytes of a file
+abbrev pub of_reading : reading.Fault → Fault
+of_reading (R.Damaged damage) = F.Damaged (clause_of damage)
+of_reading R.NotAStore = F.NotAStore
+of_reading (R.Disk fault) = of_disk fault
+of_reading R.OutOfMemory = F.OutOfMemory
+
+-- what the rules of the game say of a file
+abbrev pub of_recovery : recovery.Fault → Fault
+of_recovery (V.Damaged damage) = F.Damaged (recovery_clauses.clause_of damage)
+of_recovery V.OutOfMemory = F.OutOfMemory
 
 -- what a refusal says of the disk's count of faults: one more exactly where the device failed
 abbrev pub CountsFailure : ℕ → ℕ → Fault → Type 0

@@ -36,9 +36,9 @@ pub data Takes (old : Held) (stamp : ℕ) (name : List ℕ) (request : Request C
   -- no rule that takes no memory to judge refuses it, but memory is wanted
   Wants : old.broken ≡ false → (judgement_in old.kit old.tables stamp name request).first ≡ None
       → new ≡ old → Takes old stamp name request new (Err F.OutOfMemory)
-  -- no rule refuses it, but there is no room for it in the file
+  -- no rule refuses it, but there is no room for it in the file, or a number would be past the last
   NoRoom : old.broken ≡ false → IsVerdict (judgement_in old.kit old.tables stamp name request) None
-      → new ≡ old → Takes old stamp name request new (Err F.HalfFull)
+      → new ≡ old → Takes old stamp name request new (Err F.FileFull)
   -- no rule refuses it, but the device failed
   Fails : old.broken ≡ false → IsVerdict (judgement_in old.kit old.tables stamp name request) None
       → new ≡ with_failure old → Takes old stamp name request new (Err F.DeviceFailed)

@@ -1,5 +1,5 @@
 ghost use Rattle.std.specs.Prelude.{◌≡◌};
-ghost use Rattle.rr_store.specs.Fault.{number_of, of_code, of_keeper, of_kit, of_table};
+ghost use Rattle.rr_store.specs.Fault.{number_of, of_kit, of_log, of_pages, of_reading, of_recovery, of_rules, of_tables};
 ghost use Rattle.rr_store.specs.declared.fault.Fault.TheVariants.{OutOfMemory};
 
 use std::alloc::{AllocError, AllocFailed};
@@ -26,10 +26,10 @@ pub enum Fault {
     /// The device failed. Whether the request under way was taken is known when the file is opened again.
     #[error("device failed")]
     DeviceFailed,
-    /// The journal has no room for the request.
-    #[error("half full")]
-    HalfFull,
-    /// The file holds what no store of ours holds; the first clause that it breaks.
+    /// Fewer pages are free than a checkpoint needs, or a number would be the last one.
+    #[error("file full")]
+    FileFull,
+    /// The file holds what no store of ours holds; the first clause that it breaks, from 1 to 8.
     #[error("damaged {0}")]
     Damaged(u8),
     /// The file is no store.
@@ -64,7 +64,7 @@ impl Fault {
             Fault::TurnNotKept => 53,
             Fault::TooManyCommands => 54,
             Fault::DeviceFailed => 60,
-            Fault::HalfFull => 61,
+            Fault::FileFull => 62,
             Fault::Damaged(_) => 63,
             Fault::NotAStore | Fault::NotEmpty => 64,
             Fault::OpenAgain => 65,
@@ -86,44 +86,88 @@ impl From<rr_kit::Fault> for Fault {
     }
 }
 
-impl From<rr_hist::Fault> for Fault {
-    ghost from_gives = { λ fault wrapped. wrapped ≡ of_table fault };
+/// Of a request that isn't lawful at its table.
+impl From<rr_records::Fault> for Fault {
+    ghost from_gives = { λ fault wrapped. wrapped ≡ of_rules fault };
 
-    fn from(fault: rr_hist::Fault) -> Fault {
+    fn from(fault: rr_records::Fault) -> Fault {
         match fault {
-            rr_hist::Fault::Game(fault) => Fault::Game(fault),
-            rr_hist::Fault::StaleStamp(stamp) => Fault::StaleStamp(stamp),
-            rr_hist::Fault::TurnNotKept => Fault::TurnNotKept,
-            rr_hist::Fault::TooManyCommands => Fault::TooManyCommands,
-            rr_hist::Fault::OutOfMemory => Fault::OutOfMemory,
+            rr_records::Fault::Game(fault) => Fault::Game(fault),
+            rr_records::Fault::StaleStamp(stamp) => Fault::StaleStamp(stamp),
+            rr_records::Fault::TurnNotKept => Fault::TurnNotKept,
+            rr_records::Fault::TooManyCommands => Fault::TooManyCommands,
+            rr_records::Fault::TooManyTables => Fault::TooManyTables,
+            rr_records::Fault::NoSuchTable => Fault::NoSuchTable,
+            rr_records::Fault::OutOfMemory => Fault::OutOfMemory,
         }
     }
 }
 
-/// Of a record: one that spells no request is clause 8 of a damaged file.
-impl From<rr_code::Fault> for Fault {
-    ghost from_gives = { λ fault wrapped. wrapped ≡ of_code fault };
+/// Of the open file. A half without room is told as a full file: where a checkpoint makes room, one is made instead.
+impl From<rr_log::Fault> for Fault {
+    ghost from_gives = { λ fault wrapped. wrapped ≡ of_log fault };
 
-    fn from(fault: rr_code::Fault) -> Fault {
+    fn from(fault: rr_log::Fault) -> Fault {
         match fault {
-            rr_code::Fault::Malformed => Fault::Damaged(8),
-            rr_code::Fault::OutOfMemory => Fault::OutOfMemory,
+            rr_log::Fault::DeviceFailed => Fault::DeviceFailed,
+            rr_log::Fault::HalfFull | rr_log::Fault::FileFull => Fault::FileFull,
+            rr_log::Fault::OpenAgain => Fault::OpenAgain,
+            rr_log::Fault::OutOfMemory => Fault::OutOfMemory,
         }
     }
 }
 
-impl From<rr_keeper::Fault> for Fault {
-    ghost from_gives = { λ fault wrapped. wrapped ≡ of_keeper fault };
+/// Of tables that don't take a request.
+impl From<rr_tables::Fault> for Fault {
+    ghost from_gives = { λ fault wrapped. wrapped ≡ of_tables fault };
 
-    fn from(fault: rr_keeper::Fault) -> Fault {
+    fn from(fault: rr_tables::Fault) -> Fault {
         match fault {
-            rr_keeper::Fault::DeviceFailed => Fault::DeviceFailed,
-            rr_keeper::Fault::HalfFull => Fault::HalfFull,
-            rr_keeper::Fault::Damaged(clause) => Fault::Damaged(clause),
-            rr_keeper::Fault::NotAStore => Fault::NotAStore,
-            rr_keeper::Fault::NotEmpty => Fault::NotEmpty,
-            rr_keeper::Fault::OpenAgain => Fault::OpenAgain,
-            rr_keeper::Fault::OutOfMemory => Fault::OutOfMemory,
+            rr_tables::Fault::Rules(fault) => Fault::from(fault),
+            rr_tables::Fault::File(fault) => Fault::from(fault),
+        }
+    }
+}
+
+/// Of the pages of a new file.
+impl From<rr_pages::Fault> for Fault {
+    ghost from_gives = { λ fault wrapped. wrapped ≡ of_pages fault };
+
+    fn from(fault: rr_pages::Fault) -> Fault {
+        match fault {
+            rr_pages::Fault::FileFull => Fault::FileFull,
+            rr_pages::Fault::Damaged(damage) => Fault::Damaged(damage.clause()),
+            rr_pages::Fault::NotAStore => Fault::NotAStore,
+            rr_pages::Fault::Disk(rr_disk::Fault::DeviceFailed) => Fault::DeviceFailed,
+            rr_pages::Fault::Disk(rr_disk::Fault::OutOfMemory) => Fault::OutOfMemory,
+            rr_pages::Fault::OutOfMemory => Fault::OutOfMemory,
+        }
+    }
+}
+
+/// Of the bytes of a file.
+impl From<rr_reading::Fault> for Fault {
+    ghost from_gives = { λ fault wrapped. wrapped ≡ of_reading fault };
+
+    fn from(fault: rr_reading::Fault) -> Fault {
+        match fault {
+            rr_reading::Fault::Damaged(damage) => Fault::Damaged(damage.clause()),
+            rr_reading::Fault::NotAStore => Fault::NotAStore,
+            rr_reading::Fault::Disk(rr_disk::Fault::DeviceFailed) => Fault::DeviceFailed,
+            rr_reading::Fault::Disk(rr_disk::Fault::OutOfMemory) => Fault::OutOfMemory,
+            rr_reading::Fault::OutOfMemory => Fault::OutOfMemory,
+        }
+    }
+}
+
+/// Of what the rules of the game say of a file.
+impl From<rr_recovery::Fault> for Fault {
+    ghost from_gives = { λ fault wrapped. wrapped ≡ of_recovery fault };
+
+    fn from(fault: rr_recovery::Fault) -> Fault {
+        match fault {
+            rr_recovery::Fault::Damaged(damage) => Fault::Damaged(damage.clause()),
+            rr_recovery::Fault::OutOfMemory => Fault::OutOfMemory,
         }
     }
 }

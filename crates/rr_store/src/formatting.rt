@@ -1,6 +1,10 @@
-ghost use Rattle.std.specs.Prelude.{◌≡◌, ◌⊎◌, ◌+◌, ◌<◌, ◌≤◌, length, MatchResult, OnOk, IfErr};
+ghost use Rattle.std.specs.Prelude.{◌≡◌, ◌⊎◌, ◌+◌, ◌<◌, ◌≤◌, [], length, MatchResult, OnOk, IfErr, Err};
 ghost use Rattle.rr_disk.specs.Disk.{counted};
+ghost use Rattle.rr_disk.specs.Moments.{LeavesOnly};
+ghost use Rattle.rr_format.specs.Formatted.{IsUnused};
 ghost use Rattle.rr_kit.specs.Kits.{IsRightKit};
+ghost use Rattle.rr_pages.specs.Choosing.{IsNoStore};
+ghost use Rattle.rr_records.specs.Headline.{KeepsTables};
 ghost use Rattle.rr_store.specs.Allowing.{FormatAllows};
 ghost use Rattle.rr_store.specs.Fault.{CountsFailure, OnDeviceFault};
 ghost use Rattle.rr_store.specs.Formatting.{RefusesFormat, RefusesTexts};
@@ -10,18 +14,23 @@ use crate::fault::Fault;
 use crate::texts::Texts;
 use rr_disk::Disk;
 use rr_kit::Kit;
+use rr_records::TableRules;
 use std::alloc::Global;
 
-/// Makes a store of an empty file, from the texts of a kit.
+/// Makes a store of an empty file, from the texts of a kit. Wherever the device stops, the file is no store yet, or keeps
+/// these texts and no table.
 ///
 /// # Errors
 /// `NotEmpty` first; then the first text that is refused, in the order chart, roster, tiles, board: a chart at its
 /// first wrong word, a roster that isn't right, a manifest or a board at its first wrong line, and any text of more
 /// than 65,536 bytes at line 0; then `DeviceFailed`. `OutOfMemory` may come at any text.
 pub fn format<D: Disk>(alloc: Global, disk: &mut D, texts: Texts<'_>) -> Result<(), Fault>
-    // Where it is done a new file stands, with these texts and no table, whatever a stop leaves.
+    // Where it is done, the file keeps these texts and no table, whatever a stop leaves; and before, whatever it left.
     ensures allowed { D.Honest disk.new
         → FormatAllows (lent_texts texts.entry) (D.state disk.old) (D.state disk.new) result }
+    ensures stops { D.Honest disk.new → IsUnused (D.state disk.old)
+        → LeavesOnly (D.past disk.old) (D.state disk.old) (D.past disk.new) (D.state disk.new)
+        (λ image. IsNoStore image ⊎ KeepsTables (lent_texts texts.entry) [] image) }
     ensures right { OnOk result (IsRightKit (lent_texts texts.entry)) }
 
     // When each refusal comes.
@@ -32,10 +41,10 @@ pub fn format<D: Disk>(alloc: Global, disk: &mut D, texts: Texts<'_>) -> Result<
     ensures honest { D.Honest disk.new → D.Honest disk.old }
     ensures fault { IfErr result (CountsFailure (D.fault_count disk.old) (D.fault_count disk.new)) }
     ensures no_fault { OnOk result (D.fault_count disk.new ≡ D.fault_count disk.old) }
-    ensures writes { OnOk result (D.write_count disk.new ≡ counted (counted (D.write_count disk.old))) }
-    ensures syncs { OnOk result (D.sync_count disk.new ≡ counted (counted (D.sync_count disk.old))) }
-    ensures few_writes { D.write_count disk.new ≤ D.write_count disk.old + 2 }
-    ensures few_syncs { D.sync_count disk.new ≤ D.sync_count disk.old + 2 }
+    ensures writes { OnOk result
+        (D.write_count disk.new ≡ counted (counted (counted (counted (counted (D.write_count disk.old)))))) }
+    ensures few_writes { D.write_count disk.new ≤ D.write_count disk.old + 5 }
+    ensures few_syncs { D.sync_count disk.new ≤ D.sync_count disk.old + 3 }
 
     // A disk that works doesn't fail here.
     ensures device { OnDeviceFault result (D.Works disk.new → ⊥) }
@@ -45,13 +54,7 @@ pub fn format<D: Disk>(alloc: Global, disk: &mut D, texts: Texts<'_>) -> Result<
         return Err(Fault::NotEmpty);
     }
     judge_kit(alloc, texts)?;
-    let in_file = rr_keeper::Texts {
-        chart: texts.chart,
-        roster: texts.roster,
-        tiles: texts.tiles,
-        board: texts.board,
-    };
-    rr_keeper::format(alloc, disk, in_file)?;
+    put_texts(alloc, disk, texts)?;
     Ok(())
 }
 
@@ -62,5 +65,37 @@ fn judge_kit(alloc: Global, texts: Texts<'_>) -> Result<(), Fault>
         (λ fault. RefusesTexts (lent_texts texts.entry) fault) }
 {
     let _kit = Kit::read(alloc, texts.chart, texts.roster, texts.tiles, texts.board)?;
+    Ok(())
+}
+
+/// Puts the texts of a right kit on an empty disk.
+fn put_texts<D: Disk>(alloc: Global, disk: &mut D, texts: Texts<'_>) -> Result<(), Fault>
+    requires empty { D.file_len disk.old ≡ 0 }
+    requires nothing { D.Honest disk.old → length (D.state disk.old).content ≡ 0 }
+    requires right { IsRightKit (lent_texts texts) }
+    ensures allowed { OnOk result (D.Honest disk.new
+        → FormatAllows (lent_texts texts.entry) (D.state disk.old) (D.state disk.new) result) }
+    ensures stops { D.Honest disk.new → IsUnused (D.state disk.old)
+        → LeavesOnly (D.past disk.old) (D.state disk.old) (D.past disk.new) (D.state disk.new)
+        (λ image. IsNoStore image ⊎ KeepsTables (lent_texts texts.entry) [] image) }
+    ensures err { IfErr result (λ fault. (fault ≡ Fault.DeviceFailed) ⊎ ((fault ≡ Fault.OutOfMemory) × (disk.new ≡ disk.old))) }
+    ensures honest { D.Honest disk.new → D.Honest disk.old }
+    ensures fault { IfErr result (CountsFailure (D.fault_count disk.old) (D.fault_count disk.new)) }
+    ensures no_fault { OnOk result (D.fault_count disk.new ≡ D.fault_count disk.old) }
+    ensures writes { OnOk result
+        (D.write_count disk.new ≡ counted (counted (counted (counted (counted (D.write_count disk.old)))))) }
+    ensures few_writes { D.write_count disk.new ≤ D.write_count disk.old + 5 }
+    ensures few_syncs { D.sync_count disk.new ≤ D.sync_count disk.old + 3 }
+    ensures device { OnDeviceFault result (D.Works disk.new → ⊥) }
+    ensures works { D.Works disk.new → D.Works disk.old }
+{
+    rr_format::format::<TableRules, D>(
+        alloc,
+        disk,
+        texts.chart,
+        texts.roster,
+        texts.tiles,
+        texts.board,
+    )?;
     Ok(())
 }

@@ -1,31 +1,39 @@
-//! Opening a file: its records are played again from the first.
-ghost use Rattle.std.specs.Prelude.{◌≡◌, ◌≢◌, ◌⊎◌, ◌+◌, ◌≤◌, [], List, ℕ, MatchResult, OnOk, IfErr, IfOk, Ok, Err, false};
-ghost use Rattle.rr_disk.specs.Disk.{counted};
-ghost use Rattle.rr_kit.specs.declared.fault.Fault.TheVariants as Reading;
-ghost use Rattle.rr_kit.specs.Kits.{IsWrongKit, KitTexts as TextsOfKit, SpellsKit};
-ghost use Rattle.rr_keeper.specs.Keeper.{is_broken};
-ghost use Rattle.rr_keeper.specs.Keeper as file;
-ghost use Rattle.rr_keeper.specs.Opening.{kit_of};
-ghost use Rattle.rr_store.specs.Allowing.{Between, OpenAllows};
-ghost use Rattle.rr_store.specs.Fault.{CountsFailure, OnDevice};
-ghost use Rattle.rr_store.specs.Files.{RefusesOpening};
-ghost use Rattle.rr_store.specs.Holding.{Carries, disk_of, held_by, held_of, keeper_of, world_of};
-ghost use Rattle.rr_store.specs.Lent.{from_file};
-ghost use Rattle.rr_store.specs.Replaying.{BreaksOff, IsUnlawful, RefusesReplay, Replayed, Replays, TakesRecord, damage_of, records_of};
-ghost use Rattle.rr_store.specs.World.{Follows, TableRequest};
+//! Opening a file: after one sync its bytes are read, and its tables are recovered by the rules of the game.
+ghost use Rattle.std.specs.Prelude.{◌≡◌, ◌+◌, ◌≤◌, ℕ, List, false, IfOk, IfErr, Ok, Err};
+ghost use Rattle.rr_checkpoint.specs.Writer as writer;
+ghost use Rattle.rr_disk.specs.Disk.{DiskState, counted};
+ghost use Rattle.rr_disk.specs.Moments.{SyncsOnce};
+ghost use Rattle.rr_images.specs.Layout.{Keeps as KeepsFile};
+ghost use Rattle.rr_kit.specs.declared.kit.Kit.{Kit as AnyKit};
+ghost use Rattle.rr_kit.specs.Kits.{KitTexts, SpellsKit};
+ghost use Rattle.rr_opening.specs.Carrying.{CarriesRead};
+ghost use Rattle.rr_opening.specs.Opened.{held_by};
+ghost use Rattle.rr_opening.specs.Place.{GoesBehind};
+ghost use Rattle.rr_opening.specs.Syncing.{WasSynced};
+ghost use Rattle.rr_records.specs.Headline.{KeepsTables};
+ghost use Rattle.rr_recovery.specs.Recovered.{HoldsPlayedTables};
+ghost use Rattle.rr_records.specs.Taking.{table_files};
+ghost use Rattle.rr_records.specs.World.{World};
+ghost use Rattle.rr_records.specs.Words.{in_words};
+ghost use Rattle.rr_tables.specs.Tables.{world_of};
+ghost use Rattle.rr_worlds.specs.World as words;
+ghost use Rattle.rr_store.specs.Allowing.{Between};
+ghost use Rattle.rr_store.specs.Fault.{CountsEnd, CountsFailure, OnDevice, OnDeviceFault};
+ghost use Rattle.rr_store.specs.Files.{AreTablesOf};
+ghost use Rattle.rr_store.specs.Holding.{Carries, disk_of, held_of};
+ghost use Rattle.rr_store.specs.Opening.{IsFound, IsNoVerdict, OpenAllows, Refuses};
 
 use crate::fault::Fault;
-use crate::log::Log;
+use crate::found::Found;
+use crate::journal::FileJournal;
 use crate::store::Store;
-use crate::tables::{Standing, Tables};
-use rr_code::read_record;
 use rr_disk::Disk;
-use rr_keeper::{KitTexts, Opened};
-use rr_kit::Kit;
-use std::alloc::{AllocError, Global};
-
-/// The clause of a damaged file that speaks of records.
-const RECORDS: u8 = 8;
+use rr_log::Log;
+use rr_opening::{Opened, open_file};
+use rr_records::TableRules;
+use rr_recovery::{Recovered, recover};
+use rr_worlds::Worlds;
+use std::alloc::Global;
 
 /// Room for a record: no line is longer.
 const RECORD_ROOM: usize = 8_000;
@@ -37,58 +45,91 @@ pub struct Refused<D: Drop> {
     pub disk: D,
 }
 
-/// Opens a file that `format` made, and plays what was accepted into it again. It makes a sync, and no write.
+/// Opens a file that `format` made. It makes a sync, and no write.
 ///
 /// # Errors
-/// `DeviceFailed`; `NotAStore` where the file isn't of the form that `format` gives it, or a text of its kit is refused;
-/// `Damaged` where a record isn't a request that its table could take; `OutOfMemory`.
+/// `DeviceFailed`; `NotAStore` where the file has no roots of this version; `Damaged` with the least clause that it breaks:
+/// 1 to 5 of its bytes, 5 where kept words spell no command, 6 where a text of the kit is wrong, 7 where a table keeps what
+/// wasn't played, and 8 where a record isn't a request that its table could take; `OutOfMemory`.
 pub fn open<D: Disk + Drop>(alloc: Global, disk: D) -> Result<Store<D>, Refused<D>>
-    // The store holds the world for which the file stands, and goes on with it; else the file stands for none, or the
-    // device failed or memory was wanted.
-    ensures opened { IfOk result (λ store. D.Honest (disk_of store) → (texts : TextsOfKit)
+    // The store holds the world for which the file stands; else the file breaks a clause, or the device failed or memory was
+    // wanted.
+    ensures opened { IfOk result (λ store. D.Honest (disk_of store) → (texts : KitTexts)
         × Between (D.past disk) (D.state disk) (D.past (disk_of store)) (D.state (disk_of store))
         (λ moments. OpenAllows (D.state disk) moments (D.state (disk_of store)) (Ok (texts, (held_of store).tables)))
-        × SpellsKit texts (held_of store).kit × Carries D.state store texts) }
+        × SpellsKit texts (held_of store).kit) }
     ensures left { IfErr result (λ refused. D.Honest refused.disk
         → Between (D.past disk) (D.state disk) (D.past refused.disk) (D.state refused.disk)
         (λ moments. OpenAllows (D.state disk) moments (D.state refused.disk) (Err refused.fault))) }
 
-    // Of every disk: what the store holds came of requests that the rules of a right kit allow, and its device hasn't failed.
-    ensures lawful { IfOk result (λ store. (texts : TextsOfKit) × SpellsKit texts (held_of store).kit
-        × (requests : List TableRequest) × Follows (held_of store).kit [] requests (held_of store).tables) }
-    ensures whole { IfOk result (λ store. (held_of store).broken ≡ false) }
-    ensures refused { IfErr result (λ refused.
-        RefusesOpening (D.Honest refused.disk) (D.state disk).content refused.fault) }
+    // Where the file is one of ours, the store goes on with it.
+    ensures carries { IfOk result (λ store. D.Honest (disk_of store) → (texts : KitTexts)
+        → KeepsTables texts (held_of store).tables (D.state disk).content → Carries D.state store texts) }
 
+    // And then it is refused only where the device failed or memory was wanted.
+    ensures only { IfErr result (λ refused. D.Honest refused.disk → (texts : KitTexts) (kit : AnyKit) (tables : World)
+        → SpellsKit texts kit → AreTablesOf kit tables
+        → KeepsTables texts tables (D.state disk).content → IsNoVerdict refused.fault) }
+
+    // Whatever the disk gave, nothing is held that the rules of a right kit don't allow.
+    ensures played { IfOk result (λ store. (texts : KitTexts)
+        × SpellsKit texts (held_of store).kit × AreTablesOf (held_of store).kit (held_of store).tables) }
+
+    ensures whole { IfOk result (λ store. (held_of store).broken ≡ false) }
     ensures honest { IfOk result (λ store. D.Honest (disk_of store) → D.Honest disk) }
     ensures honest_left { IfErr result (λ refused. D.Honest refused.disk → D.Honest disk) }
-    ensures writes { IfOk result (λ store. D.write_count (disk_of store) ≡ D.write_count disk) }
-    ensures writes_left { IfErr result (λ refused. D.write_count refused.disk ≡ D.write_count disk) }
-    ensures no_fault { IfOk result (λ store. D.fault_count (disk_of store) ≡ D.fault_count disk) }
-    ensures fault { IfErr result (λ refused.
-        CountsFailure (D.fault_count disk) (D.fault_count refused.disk) refused.fault) }
-    ensures syncs { IfOk result (λ store. D.sync_count (disk_of store) ≡ counted (D.sync_count disk)) }
-    ensures syncs_left { IfErr result (λ refused. D.sync_count refused.disk ≤ D.sync_count disk + 1) }
-
-    // Whatever the file holds, a disk that works doesn't fail here.
-    ensures device { IfErr result (λ refused. OnDevice refused.fault (D.Works refused.disk → ⊥)) }
     ensures works { IfOk result (λ store. D.Works (disk_of store) → D.Works disk) }
     ensures works_left { IfErr result (λ refused. D.Works refused.disk → D.Works disk) }
+    ensures writes { IfOk result (λ store. D.write_count (disk_of store) ≡ D.write_count disk) }
+    ensures writes_left { IfErr result (λ refused. D.write_count refused.disk ≡ D.write_count disk) }
+    ensures syncs { IfOk result (λ store. D.sync_count (disk_of store) ≡ counted (D.sync_count disk)) }
+    ensures syncs_left { IfErr result (λ refused. D.sync_count refused.disk ≤ D.sync_count disk + 1) }
+    ensures no_fault { IfOk result (λ store. D.fault_count (disk_of store) ≡ D.fault_count disk) }
+    ensures device { IfErr result (λ refused. OnDevice refused.fault (D.Works refused.disk → ⊥)) }
+    ensures fault { IfErr result (λ refused.
+        CountsFailure (D.fault_count disk) (D.fault_count refused.disk) refused.fault) }
 {
-    let buffer = match make_buffer(alloc) {
-        Ok(buffer) => buffer,
-        Err(fault) => return Err(Refused { fault, disk }),
-    };
-    match rr_keeper::open(alloc, disk) {
-        Ok(opened) => begin(alloc, opened, buffer),
-        Err(refused) => {
-            let rr_keeper::Refused { fault, disk } = refused;
-            Err(Refused {
-                fault: Fault::from(fault),
-                disk,
-            })
-        }
+    let mut disk = disk;
+    match find(alloc, &mut disk) {
+        Ok(found) => Ok(begin(alloc, disk, found)),
+        Err(fault) => Err(Refused { fault, disk }),
     }
+}
+
+/// Reads the file behind a sync, and recovers its tables.
+fn find<D: Disk>(alloc: Global, disk: &mut D) -> Result<Found, Fault>
+    ensures found { IfOk result (λ found. D.Honest disk.new → IsFound (D.state disk.old).content found) }
+    ensures played { IfOk result (λ found. HoldsPlayedTables found.recovered) }
+    ensures goes_on { IfOk result (λ found. D.Honest disk.new → (world : words.World)
+        → KeepsFile table_files (D.state disk.old).content world
+        → CarriesRead table_files found.opened (D.state disk.new) world) }
+    ensures place { IfOk result (λ found. D.Honest disk.new → GoesBehind (held_by found.opened).root
+        (held_by found.opened).near (held_by found.opened).far (writer.place_of found.opened.writer)) }
+    ensures resting { IfOk result (λ found. writer.ticks_left_of found.opened.writer ≡ 0) }
+    ensures synced { IfOk result (λ found. D.Honest disk.new
+        → WasSynced (D.past disk.old) (D.state disk.old) (D.past disk.new) (D.state disk.new)) }
+    ensures left { IfErr result (λ fault. D.Honest disk.new
+        → SyncsOnce (D.past disk.old) (D.state disk.old) (D.past disk.new) (D.state disk.new)) }
+    ensures refused { IfErr result (λ fault. D.Honest disk.new → Refuses (D.state disk.old).content fault) }
+    ensures only { IfErr result (λ fault. D.Honest disk.new → (texts : KitTexts) (kit : AnyKit) (tables : World)
+        → SpellsKit texts kit → AreTablesOf kit tables
+        → KeepsTables texts tables (D.state disk.old).content → IsNoVerdict fault) }
+    ensures device { OnDeviceFault result (D.Works disk.new → ⊥) }
+    ensures fault { CountsEnd (D.fault_count disk.old) (D.fault_count disk.new) result }
+    ensures writes { D.write_count disk.new ≡ D.write_count disk.old }
+    ensures syncs { IfOk result (λ found. D.sync_count disk.new ≡ counted (D.sync_count disk.old)) }
+    ensures few_syncs { D.sync_count disk.new ≤ D.sync_count disk.old + 1 }
+    ensures honest { D.Honest disk.new → D.Honest disk.old }
+    ensures works { D.Works disk.new → D.Works disk.old }
+{
+    let buffer = make_buffer(alloc)?;
+    let opened = open_file::<D, Worlds<TableRules>>(alloc, disk)?;
+    let recovered = recover::<TableRules>(alloc, &opened)?;
+    Ok(Found {
+        opened,
+        recovered,
+        buffer,
+    })
 }
 
 fn make_buffer(alloc: Global) -> Result<Vec<u8>, Fault>
@@ -98,106 +139,37 @@ fn make_buffer(alloc: Global) -> Result<Vec<u8>, Fault>
     Ok(buffer)
 }
 
-/// The store of a file that was read.
-fn begin<D: Disk + Drop>(
-    alloc: Global,
-    opened: Opened<D>,
-    buffer: Vec<u8>,
-) -> Result<Store<D>, Refused<D>>
-    ensures ok { IfOk result (λ store. (keeper_of store ≡ opened.keeper)
-        × Replayed (from_file (kit_of opened.texts)) (records_of opened.lines.items)
-        (held_of store).kit (held_of store).tables) }
-    ensures err { IfErr result (λ refused. (refused.disk ≡ file.disk_of opened.keeper)
-        × RefusesReplay (from_file (kit_of opened.texts)) (records_of opened.lines.items) refused.fault) }
+/// The store of what was found on this disk.
+fn begin<D: Disk + Drop>(alloc: Global, disk: D, found: Found) -> Store<D>
+    ensures disk { disk_of result ≡ disk }
+    ensures kit { (held_of result).kit ≡ found.recovered.tables.kit }
+    ensures tables { (held_of result).tables ≡ world_of found.recovered.tables }
+    ensures whole { (held_of result).broken ≡ false }
+    ensures carries { (file : List ℕ) (texts : KitTexts) → IsFound file found
+        → writer.ticks_left_of found.opened.writer ≡ 0
+        → GoesBehind (held_by found.opened).root (held_by found.opened).near (held_by found.opened).far (writer.place_of found.opened.writer)
+        → CarriesRead table_files found.opened (D.state disk) (in_words texts (world_of found.recovered.tables))
+        → Carries D.state result texts }
 {
+    let Found {
+        opened,
+        recovered,
+        buffer,
+    } = found;
+    let Recovered { tables, kit, base } = recovered;
     let Opened {
-        keeper,
-        texts,
-        lines,
+        writer,
+        dir: _,
+        directory: _,
+        texts: _,
+        tables: _,
+        near: _,
+        far: _,
     } = opened;
-    match replay(alloc, &texts, lines.as_slice()) {
-        Ok(tables) => Ok(Store::new(alloc, Log { keeper, buffer }, tables)),
-        Err(fault) => Err(Refused {
-            fault,
-            disk: keeper.into_disk(),
-        }),
+    let file = Log::new(alloc, disk, writer, kit, base);
+    Store {
+        alloc,
+        journal: FileJournal { file, buffer },
+        tables,
     }
-}
-
-/// Reads the kit of a file.
-fn read_kit(alloc: Global, texts: &KitTexts) -> Result<Kit, Fault>
-    ensures { MatchResult result
-        (λ kit. SpellsKit (from_file (kit_of texts.now)) kit)
-        (λ fault. (fault ≡ Fault.OutOfMemory) ⊎ ((fault ≡ Fault.NotAStore) × IsWrongKit (from_file (kit_of texts.now)))) }
-{
-    let chart = texts.chart.as_slice();
-    let roster = texts.roster.as_slice();
-    let tiles = texts.tiles.as_slice();
-    match Kit::read(alloc, chart, roster, tiles, texts.board.as_slice()) {
-        Ok(kit) => Ok(kit),
-        Err(fault) => Err(opening_refusal(fault)),
-    }
-}
-
-/// Why a file with a kit of this fault isn't opened.
-fn opening_refusal(fault: rr_kit::Fault) -> Fault
-    ensures { ((result ≡ Fault.OutOfMemory) × (fault ≡ Reading.OutOfMemory))
-        ⊎ ((result ≡ Fault.NotAStore) × (fault ≢ Reading.OutOfMemory)) }
-{
-    match fault {
-        rr_kit::Fault::OutOfMemory => Fault::OutOfMemory,
-        _ => Fault::NotAStore,
-    }
-}
-
-/// The tables that the records of a file make, played from the first.
-fn replay(alloc: Global, texts: &KitTexts, records: &[Vec<u8>]) -> Result<Tables, Fault>
-    ensures { MatchResult result
-        (λ tables. Replayed (from_file (kit_of texts.now)) (records_of records.now) tables.kit (world_of tables.map.entries))
-        (λ fault. RefusesReplay (from_file (kit_of texts.now)) (records_of records.now) fault) }
-{
-    let kit = read_kit(alloc, texts)?;
-    let mut tables = Tables::new(alloc, kit)?;
-    replay_records(alloc, &mut tables, records)?;
-    Ok(tables)
-}
-
-/// Plays the records in turn.
-fn replay_records(alloc: Global, tables: &mut Tables, records: &[Vec<u8>]) -> Result<(), Fault>
-    ensures ok { OnOk result (Replays tables.old.kit (world_of tables.old.map.entries) (records_of records.now) (world_of tables.new.map.entries)) }
-    ensures err { IfErr result (λ fault. (fault ≡ Fault.OutOfMemory)
-        ⊎ ((fault ≡ Fault.Damaged 8) × BreaksOff tables.old.kit (world_of tables.old.map.entries) (records_of records.now))) }
-    ensures kit { tables.new.kit ≡ tables.old.kit }
-{
-    for bytes in records {
-        match replay_record(alloc, tables, bytes.as_slice()) {
-            Ok(()) => {}
-            Err(fault) => return Err(damage(fault)),
-        }
-    }
-    Ok(())
-}
-
-/// Why a file is refused where a record is.
-fn damage(fault: Fault) -> Fault
-    ensures { result ≡ damage_of fault }
-{
-    match fault {
-        Fault::OutOfMemory => Fault::OutOfMemory,
-        _ => Fault::Damaged(RECORDS),
-    }
-}
-
-/// Plays one record.
-fn replay_record(alloc: Global, tables: &mut Tables, bytes: &[u8]) -> Result<(), Fault>
-    ensures ok { OnOk result (TakesRecord tables.old.kit (world_of tables.old.map.entries) bytes.now (world_of tables.new.map.entries)) }
-    ensures err { IfErr result (λ fault. (fault ≡ Fault.OutOfMemory)
-        ⊎ IsUnlawful tables.old.kit (world_of tables.old.map.entries) bytes.now) }
-    ensures kit { tables.new.kit ≡ tables.old.kit }
-{
-    rr_hist::laws::requests_have_one_verdict();
-    let (name, request) = read_record(bytes)?;
-    let stamp = tables.stamp(&name);
-    tables.take(alloc, stamp, &name, &request, &mut Standing)?;
-    Ok(())
 }

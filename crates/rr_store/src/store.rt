@@ -1,39 +1,41 @@
-ghost use Rattle.std.specs.Prelude.{◌≡◌, ◌≢◌, ◌+◌, ◌≤◌, true, false, IfOk, IfErr, MatchResult, Some, None, slice_get, length};
+ghost use Rattle.std.specs.Prelude.{◌≡◌, ◌↔◌, ◌+◌, ◌≤◌, true, false, IfOk, MatchResult, OnOk, Some, slice_get, length};
 ghost use Rattle.std.specs.Option.{option_copied};
-ghost use Rattle.rr_code.specs.Request.{IsRequest, record_text};
+ghost use Rattle.rr_checkpoint.specs.Calls.{TakesRootBehind};
+ghost use Rattle.rr_checkpoint.specs.Writer.{RenewsAt};
+ghost use Rattle.rr_code.specs.Request.{IsRequest};
+ghost use Rattle.rr_disk.specs.Moments.{EachImage};
 ghost use Rattle.rr_hist.specs.Tables.{IsPlayed, kept_in};
-ghost use Rattle.rr_words.specs.Name.{IsTableName};
+ghost use Rattle.rr_kit.specs.Kits.{KitTexts};
+ghost use Rattle.rr_log.specs.Calls.{LowersFrom};
+ghost use Rattle.rr_records.specs.Taking.{table_files};
+ghost use Rattle.rr_records.specs.Words.{in_words};
 ghost use Rattle.rr_store.specs.Held.{LacksTable};
-ghost use Rattle.rr_store.specs.World.{names, requests_in, table_named};
+ghost use Rattle.rr_store.specs.World.{names, table_named};
+ghost use Rattle.rr_words.specs.Name.{IsTableName};
 
 use crate::fault::Fault;
-use crate::log::Log;
-use crate::tables::Tables;
+use crate::journal::FileJournal;
+use rr_checkpoint::Tick;
 use rr_code::{Command, Request};
 use rr_disk::Disk;
 use rr_hist::Table;
 use rr_kit::Kit;
+use rr_tables::Tables;
 use rr_words::Name;
 use std::alloc::Global;
 
 /// An open file, and the tables that it keeps.
 #[derive(Drop)]
 pub struct Store<D: Drop> {
-    alloc: Global,
-    log: Log<D>,
-    tables: Tables,
+    pub(crate) alloc: Global,
+    pub(crate) journal: FileJournal<D>,
+    pub(crate) tables: Tables,
 }
 
 impl<D: Disk + Drop> Store<D> {
     ghost use Rattle.rr_store.specs.Committing.{Commits};
-    ghost use Rattle.rr_store.specs.Holding.{disk_of, held_of};
-
-    pub(crate) fn new(alloc: Global, log: Log<D>, tables: Tables) -> Store<D>
-        ensures log { result.log ≡ log }
-        ensures tables { result.tables ≡ tables }
-    {
-        Store { alloc, log, tables }
-    }
+    ghost use Rattle.rr_store.specs.Holding.{Carries, IsUnchanged, Rests, disk_of, held_of, last_of, root_of, ticks_left};
+    ghost use Rattle.rr_store.specs.Ticking.{Steps};
 
     /// The disk on which the file stands, with all that it went through.
     pub fn into_disk(self) -> D
@@ -41,21 +43,23 @@ impl<D: Disk + Drop> Store<D> {
     {
         let Store {
             alloc: _,
-            log,
+            journal,
             tables: _,
         } = self;
-        let Log { keeper, buffer: _ } = log;
-        keeper.into_disk()
+        let FileJournal { file, buffer: _ } = journal;
+        file.into_disk()
     }
 
-    /// Lets a table take a request with this stamp, and keeps it in the file; gives the table's new stamp. All memory is
-    /// taken before the first write. From `Ok` on the request is safe.
+    /// Lets a table take a request with this stamp, and keeps it in the file; gives the table's new stamp. From `Ok` on the
+    /// request is safe. Before it a step of a checkpoint is made, where one is under way or due; where the half in use has no
+    /// room meanwhile, the checkpoint is ended first.
     ///
     /// # Errors
     /// `OpenAgain` first, where the device failed before. Then what refuses the request: for an opening `StaleStamp` and
     /// `TooManyTables`; for another request `NoSuchTable`, `StaleStamp`, `TooManyCommands`, and then `TurnNotKept` for one
-    /// that takes the table back or forgets, or what the game refuses. Then `OutOfMemory`, and `HalfFull` where the journal
-    /// has no room. After `DeviceFailed` the request may be in the file or not, and the store is broken.
+    /// that takes the table back or forgets, or what the game refuses. Then `OutOfMemory`, and `FileFull` where the file has
+    /// no room for the request, or its number would be 2^63 - 1 or more. After `DeviceFailed` the request may be in the file
+    /// or not, and the store is broken.
     pub fn commit(
         &mut self,
         name: &Name,
@@ -66,19 +70,20 @@ impl<D: Disk + Drop> Store<D> {
         requires request { IsRequest request.now }
         ensures { Commits D.Honest D.Works D.state D.past D.fault_count D.write_count D.sync_count self.old name.now stamp request.now self.new result }
     {
-        if self.log.keeper.is_broken() {
+        if self.journal.file.is_broken() {
             return Err(Fault::OpenAgain);
         }
-        rr_hist::laws::requests_have_one_verdict();
-        self.tables
-            .take(self.alloc, stamp, name, request, &mut self.log)
+        let taken = self
+            .tables
+            .take(self.alloc, stamp, name, request, &mut self.journal)?;
+        Ok(taken)
     }
 
     /// A device call failed: each call but `into_disk` is refused until the file is opened again.
     pub fn is_broken(&self) -> bool
         ensures { result ≡ (held_of self.now).broken }
     {
-        self.log.keeper.is_broken()
+        self.journal.file.is_broken()
     }
 
     /// What the tables are played with.
@@ -98,7 +103,7 @@ impl<D: Disk + Drop> Store<D> {
             (λ fault. ((held_of self.now).broken ≡ true) × (fault ≡ Fault.OpenAgain)) }
         ensures few { IfOk result (λ count. count ≤ 64) }
     {
-        if self.log.keeper.is_broken() {
+        if self.journal.file.is_broken() {
             return Err(Fault::OpenAgain);
         }
         Ok(self.tables.count())
@@ -113,7 +118,7 @@ impl<D: Disk + Drop> Store<D> {
             (λ found. ((held_of self.now).broken ≡ false) × (option_copied found ≡ slice_get (names (held_of self.now).tables) place))
             (λ fault. ((held_of self.now).broken ≡ true) × (fault ≡ Fault.OpenAgain)) }
     {
-        if self.log.keeper.is_broken() {
+        if self.journal.file.is_broken() {
             return Err(Fault::OpenAgain);
         }
         Ok(self.tables.name(place))
@@ -129,12 +134,12 @@ impl<D: Disk + Drop> Store<D> {
             (λ fault. LacksTable (held_of self.now) name.now fault) }
         ensures played { IfOk result (λ table. IsPlayed (held_of self.now).kit table.now) }
     {
-        if self.log.keeper.is_broken() {
+        if self.journal.file.is_broken() {
             return Err(Fault::OpenAgain);
         }
         match self.tables.table(name) {
-            Ok(table) => Ok(&**table),
-            Err(fault) => Err(fault),
+            Ok(table) => Ok(table),
+            Err(_) => Err(Fault::NoSuchTable),
         }
     }
 
@@ -144,12 +149,57 @@ impl<D: Disk + Drop> Store<D> {
     /// `OpenAgain`.
     pub fn last(&self) -> Result<u64, Fault>
         ensures { MatchResult result
-            (λ last. ((held_of self.now).broken ≡ false) × (last ≡ requests_in (held_of self.now).tables))
+            (λ last. ((held_of self.now).broken ≡ false) × (last ≡ last_of self.now))
             (λ fault. ((held_of self.now).broken ≡ true) × (fault ≡ Fault.OpenAgain)) }
     {
-        if self.log.keeper.is_broken() {
+        if self.journal.file.is_broken() {
             return Err(Fault::OpenAgain);
         }
-        Ok(self.tables.requests())
+        Ok(self.journal.file.last())
+    }
+
+    /// Makes one step of a checkpoint: it goes on with the one under way, or begins one where an opening found it begun or at
+    /// least 128 slots of the half in use are used. The first step takes all memory and pages that the later ones need.
+    ///
+    /// # Errors
+    /// `OpenAgain`; `DeviceFailed`, after which the store is broken; in a first step also `FileFull` and `OutOfMemory`, before
+    /// any device call: then the store goes on, and the next tick begins anew.
+    pub fn tick(&mut self) -> Result<Tick, Fault>
+        ensures steps { Steps D.Honest D.Works D.state D.past D.fault_count self.old result self.new }
+        ensures left { IfOk result (λ tick. LowersFrom tick (ticks_left self.old) (ticks_left self.new)) }
+        ensures idle { (result ≡ Ok Tick.Idle) ↔ (((held_of self.old).broken ≡ false) × Rests self.old) }
+        ensures rests { result ≡ Ok Tick.Idle → IsUnchanged self.old self.new }
+
+        // Behind the last step each file that a stop may leave takes a root of a greater number.
+        ensures renews { IfOk result (λ tick. D.Honest (disk_of self.new) → (texts : KitTexts) → (carries : Carries D.state self.old texts)
+            → RenewsAt table_files tick carries.file.carried.layout (D.state (disk_of self.new)) (in_words texts (held_of self.old).tables)) }
+        ensures writes { D.write_count (disk_of self.new) ≤ D.write_count (disk_of self.old) + 1 }
+        ensures syncs { D.sync_count (disk_of self.new) ≤ D.sync_count (disk_of self.old) + 1 }
+    {
+        let tick = self.journal.file.tick(&self.tables)?;
+        Ok(tick)
+    }
+
+    /// Makes a whole checkpoint: all steps of the one under way that are left, or those of a new one.
+    ///
+    /// # Errors
+    /// As of `tick`; `FileFull` and `OutOfMemory` before any device call.
+    pub fn checkpoint(&mut self) -> Result<(), Fault>
+        ensures steps { Steps D.Honest D.Works D.state D.past D.fault_count self.old result self.new }
+        ensures left { OnOk result (ticks_left self.new ≡ 0) }
+
+        // Then each file that a stop may leave takes a root of a greater number.
+        ensures renews { OnOk result (D.Honest (disk_of self.new) → (texts : KitTexts) → Carries D.state self.old texts
+            → EachImage (D.state (disk_of self.new)) (TakesRootBehind table_files (root_of self.old) (in_words texts (held_of self.old).tables))) }
+    {
+        self.journal.file.checkpoint(&self.tables)?;
+        Ok(())
+    }
+
+    /// How many ticks the checkpoint under way has left, 0 without one.
+    pub fn ticks_left(&self) -> usize
+        ensures { result ≡ ticks_left self.now }
+    {
+        self.journal.file.ticks_left()
     }
 }

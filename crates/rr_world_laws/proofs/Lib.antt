@@ -1,3 +1,4 @@
 pub mod Sounding
 pub mod Telling
 pub mod Stamps
+pub mod Sessions

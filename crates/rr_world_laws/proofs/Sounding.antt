@@ -1,30 +1,45 @@
--- Every table that requests lead to keeps commands that were played.
-use Rattle.std.proofs.Common.{◌≡◌, ℕ, ◌≤◌, Bool, true, false, cond, zero, suc, List, [], ◌∷◌, ◌++◌, length, Option, None, Some, bytes_eq, if◌then◌else◌, nat_le, refl, sym, ap, subst, ◌∙◌, arith}
+-- Every table that requests lead to keeps commands that were played, and so is sound.
+use Rattle.std.proofs.Common.{◌≡◌, ◌⊎◌, ◌∙◌, ℕ, ◌<◌, ◌≤◌, Bool, true, false, cond, zero, suc, List, [], ◌∷◌, ◌++◌, length, Option, None, Some, bytes_eq, if◌then◌else◌, nat_le, inl, inr, refl, sym, subst, arith}
 use Rattle.std.specs.List.{AllByRecursion}
 use Rattle.std.proofs.lemmas.Bool.Decides.{nat_tests}
+use Rattle.std.proofs.lemmas.List.Sums.{fold-append}
+use Rattle.std.proofs.Math.Logic.{∥∥₁_elim, ∥∥₁_map, ∥∥₁_map₂}
+use Rattle.std.proofs.Props.{props}
+use mathlib.Core.HLevel.{⊥_prop}
 use Rattle.indexmap.specs.IndexMap.{insert_entry}
+use Rattle.rr_roster.specs.declared.company.Corp.{Corp}
+use Rattle.rr_books.specs.declared.certificates.Cert.TheVariants as C
+use Rattle.rr_books.specs.declared.parties.Place.{Place}
+use Rattle.rr_books.specs.declared.parties.Place.TheVariants as L
+use Rattle.rr_books.specs.declared.parties.Seat.{Seat}
+use Rattle.rr_books.specs.Book.{Book, holder}
+use Rattle.rr_shares.specs.Presidents.{NobodyHasMore}
+use Rattle.rr_sound.specs.Presidencies.{HasGreatestPresidents, IsLed, IsOffered}
 use Rattle.rr_kit.specs.declared.kit.Kit.{Kit}
 use Rattle.rr_rules.specs.State.{GameState}
-use Rattle.rr_game.specs.Play.{play, played_on, players_of}
+use Rattle.rr_game.specs.Play.{opened_state, play, played_on, players_of}
 use Rattle.rr_game.specs.Verdict.{command_judgement}
 use Rattle.rr_hist.specs.Fault.{of_game}
-use Rattle.rr_hist.specs.Playing.{ends_turn, game_judgement}
+use Rattle.rr_hist.specs.Playing as hist
+use Rattle.rr_hist.specs.Playing.{IsLawfulAfter, ends_turn, game_judgement}
 use Rattle.rr_hist.specs.Verdict.{own_judgement, request_judgement, room_verdict, stamp_verdict}
 use Rattle.rr_turns.specs.declared.request.Request.{Request}
 use Rattle.rr_turns.specs.declared.request.Request.TheVariants.{Play, Back, Forget}
 use Rattle.rr_turns.specs.Judgement.{IsVerdict, judgement_map}
-use Rattle.rr_turns.specs.Turns.{first_turns, next_turns}
+use Rattle.rr_turns.specs.Turns.{AreLawful, first_turns, next_turns}
 use Rattle.rr_turns.proofs.JudgementLemmas.{lawful-behind, lawful-map}
 use Rattle.rr_code.specs.declared.command.Command.{Command}
 use Rattle.rr_code.specs.declared.command.Command.TheVariants.{Open}
 use Rattle.rr_code.specs.Request.{IsRequest}
 use Rattle.rr_code.specs.Players.{ArePlayers}
+use Rattle.rr_laws.specs.Best.{BestRunsWereBest}
 use Rattle.rr_laws.specs.Sound.{AreAccepted, ArePlayed, IsSoundTable, KitsNameCorporations, NamesCorporations, PlaysGoOn, TablesStaySound}
-use Rattle.rr_store.specs.Fault.{of_table}
-use Rattle.rr_store.specs.Files.{StandsFor}
-use Rattle.rr_store.specs.World.{Follows, IsLawfulIn, TableRequest, TableState, World, present_stamp, state_after, step_judgement, table_named, world_after, world_judgement}
-use Rattle.rr_store.proofs.Worlds.{replays_follow}
-use Rattle.rr_world_laws.specs.Worlds.{FilesAreSound, IsSoundWorld, WorldsAreSound}
+use Rattle.rr_records.specs.Fault.{of_table}
+use Rattle.rr_records.specs.Headline.{WhateverComes}
+use Rattle.rr_records.specs.Played.{ArePlayedTables}
+use Rattle.rr_records.specs.Words.{AreCommands, KeepCommands}
+use Rattle.rr_records.specs.World.{Follows, IsLawfulIn, TableRequest, TableState, World, present_stamp, state_after, step_judgement, table_named, world_after, world_judgement}
+use Rattle.rr_world_laws.specs.Worlds.{AreInOrder, FilesAreSound, HaveBestRuns, IsSoundWorld, WhateverComesIsSound, WorldsAreSound}
 
 abbrev HasPlayed : Kit → World → Type 0
 HasPlayed kit tables = AllByRecursion (λ t. ArePlayed kit t.1.commands) tables
@@ -104,14 +119,109 @@ played_follow : PlaysGoOn → (kit : Kit) (old new : World) (cs : List TableRequ
 played_follow goes_on kit old new [] same all = subst (λ (w : World). HasPlayed kit w) (sym same) all
 played_follow goes_on kit old new (c ∷ cs) follows all = played_follow goes_on kit (world_after kit old c.name c.request) new cs follows.1 (played_step goes_on kit old c follows.0 all)
 
-sound_all : TablesStaySound → (kit : Kit) (tables : World) → NamesCorporations kit → HasPlayed kit tables → IsSoundWorld kit tables
-sound_all laws kit [] order all = tt
-sound_all laws kit (t ∷ ts) order all = (laws kit t.1.commands order all.0, sound_all laws kit ts order all.1)
+-- tables of a file: by what each keeps, and by its words
 
-pub worlds_are_sound : PlaysGoOn → TablesStaySound → WorldsAreSound
-worlds_are_sound goes_on laws kit requests tables order follows = sound_all laws kit tables order (played_follow goes_on kit [] tables requests follows tt)
+accepted_behind : (kit : Kit) (players : List (List ℕ)) (before commands : List Command) → AreLawful (IsLawfulAfter kit) (Open players ∷ before) commands
+    → AreAccepted kit players (play kit (Open players ∷ before)) commands
+accepted_behind kit players before [] lawful = tt
+accepted_behind kit players before (c ∷ commands) lawful =
+    let later : play kit (Open players ∷ before ++ c ∷ []) ≡ played_on kit players (play kit (Open players ∷ before)) c =
+    fold-append (played_on kit players) (opened_state players kit.roster) before (c ∷ []) in
+    (lawful.0, subst (λ (state : GameState). AreAccepted kit players state commands) later (accepted_behind kit players (before ++ c ∷ []) commands lawful.1))
 
-pub files_are_sound : PlaysGoOn → TablesStaySound → KitsNameCorporations → FilesAreSound
-files_are_sound goes_on laws kits file texts tables stands =
-    let follows = replays_follow stands.kit [] tables stands.records stands.replayed in
-    (stands.kit, stands.right, worlds_are_sound goes_on laws stands.kit follows.0 tables (kits texts stands.kit stands.right) follows.1)
+played_of : (kit : Kit) (commands : List Command) → AreCommands commands → hist.ArePlayed kit commands → ArePlayed kit commands
+played_of kit [] spelled played = absurd played
+played_of kit (Open players ∷ commands) spelled played =
+    let count = few_players players spelled.0 in (count.0, count.1, accepted_behind kit players [] commands played.1)
+played_of kit (c ∷ commands) spelled played = absurd cc
+
+has_played : (kit : Kit) (tables : World) → KeepCommands tables → ArePlayedTables kit tables → ∥ HasPlayed kit tables ∥₁
+has_played kit [] spelled all = ∣ tt ∣₁
+has_played kit (t ∷ ts) spelled all =
+    ∥∥₁_map₂ all.0 (has_played kit ts spelled.1 all.1) (λ here more. (played_of kit t.1.commands spelled.0 here, more))
+
+-- a table that is sound, where it is known that some proof says so
+
+module _ (n : ℕ) (book : Book) where
+  leads_from : (c : Corp) (s : Seat) → holder book (C.President c) ≡ Some (L.Seat s) → IsOffered book c ⊎ IsLed n book c → (s.0 < n) × NobodyHasMore book c n s
+  leads_from c s is (inl offered) = absurd (cc (sym offered ∙ is))
+  leads_from c s is (inr led) =
+      let same : led.seat ≡ s = cc (sym led.presides ∙ is) in
+      subst (λ (t : Seat). (t.0 < n) × NobodyHasMore book c n t) same (led.at_table, led.leads)
+
+  presided : (c : Corp) (place : Option Place) → holder book (C.President c) ≡ place → ∥ HasGreatestPresidents n book ∥₁ → IsOffered book c ⊎ IsLed n book c
+  presided c (Some L.Offer) is some = inl is
+  presided c (Some (L.Seat s)) is some =
+      let leads = λ (all : HasGreatestPresidents n book). leads_from c s is (all c) in
+      inr (record {
+        seat = s;
+        at_table = ∥∥₁_elim some (hlevel props) (λ all. (leads all).0);
+        presides = is;
+        leads = ∥∥₁_elim some (hlevel props) (λ all. (leads all).1);
+      })
+  presided c place is some = absurd (∥∥₁_elim some ⊥_prop (λ all. elsewhere (all c)))
+    where
+      elsewhere : IsOffered book c ⊎ IsLed n book c → ⊥
+      elsewhere (inl offered) = cc (sym offered ∙ is)
+      elsewhere (inr led) = cc (sym led.presides ∙ is)
+
+  settled : ∥ IsSoundTable n book ∥₁ → IsSoundTable n book
+  settled some =
+      record {
+        money = record {
+          together = ∥∥₁_elim some (hlevel props) (λ sound. sound.money.together);
+          seats = λ s. ∥∥₁_elim some (hlevel props) (λ sound. sound.money.seats s);
+          corporations = λ c. ∥∥₁_elim some (hlevel props) (λ sound. sound.money.corporations c);
+        };
+        dealt = λ cert. ∥∥₁_elim some (hlevel props) (λ sound. sound.dealt cert);
+        presidents = λ c. presided c (holder book (C.President c)) refl (∥∥₁_map some (λ sound. sound.presidents));
+        pool = λ c. ∥∥₁_elim some (hlevel props) (λ sound. sound.pool c);
+      }
+
+-- worlds
+
+module _ (sound : TablesStaySound) (best : BestRunsWereBest) where
+  in_order : (kit : Kit) (tables : World) → NamesCorporations kit → HasPlayed kit tables → AreInOrder kit tables
+  in_order kit [] order all = tt
+  in_order kit (t ∷ ts) order all = (sound kit t.1.commands order all.0, in_order kit ts order all.1)
+
+  best_runs : (kit : Kit) (tables : World) → HasPlayed kit tables → HaveBestRuns kit tables
+  best_runs kit [] all = tt
+  best_runs kit (t ∷ ts) all = (best kit t.1.commands all.0, best_runs kit ts all.1)
+
+  sound_all : (kit : Kit) (tables : World) → NamesCorporations kit → HasPlayed kit tables → IsSoundWorld kit tables
+  sound_all kit tables order all = (in_order kit tables order all, best_runs kit tables all)
+
+  pub worlds_are_sound : PlaysGoOn → WorldsAreSound
+  worlds_are_sound goes_on kit requests tables order follows = sound_all kit tables order (played_follow goes_on kit [] tables requests follows tt)
+
+  -- whatever comes to a new file
+  pub whatever_comes : PlaysGoOn → KitsNameCorporations → WhateverComes → WhateverComesIsSound
+  whatever_comes goes_on kits comes texts kit disk events system right each runs =
+      let safe = comes texts kit [] disk events system right tt each runs in
+      let order = kits texts kit right in
+      let played = played_follow goes_on kit [] safe.tables system.acknowledged safe.followed tt in
+      record {
+        safe = safe;
+        sound = sound_all kit safe.tables order played;
+        sound_with = λ asked pending lawful. sound_all kit (world_after kit safe.tables asked.name asked.request) order (played_step goes_on kit safe.tables asked lawful played);
+      }
+
+  -- files
+
+  kept_in_order : (kit : Kit) (tables : World) → NamesCorporations kit → KeepCommands tables → ArePlayedTables kit tables → AreInOrder kit tables
+  kept_in_order kit [] order spelled all = tt
+  kept_in_order kit (t ∷ ts) order spelled all = (
+    settled (length (players_of t.1.commands)) (play kit t.1.commands).book (∥∥₁_map all.0 (λ played. sound kit t.1.commands order (played_of kit t.1.commands spelled.0 played))),
+    kept_in_order kit ts order spelled.1 all.1,
+  )
+
+  pub files_are_sound : KitsNameCorporations → FilesAreSound
+  files_are_sound kits file texts tables stands =
+      let kit = stands.kit in
+      let of_kit = stands.tables_of_kit in (
+        kit,
+        stands.right,
+        kept_in_order kit tables (kits texts kit stands.right) of_kit.spelled of_kit.played,
+        ∥∥₁_map (has_played kit tables of_kit.spelled of_kit.played) (λ all. best_runs kit tables all),
+      )

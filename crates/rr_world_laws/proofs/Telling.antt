@@ -1,126 +1,145 @@
--- What is right isn't wrong as well.
-use Rattle.std.proofs.Common.{◌≡◌, ◌≢◌, ◌⊎◌, ℕ, ◌<◌, ◌≤◌, List, [], ◌∷◌, ◌++◌, length, Err, inl, inr, refl, sym, ap, subst, ◌∙◌, arith}
-use Rattle.std.proofs.lemmas.Str.{IsUtf8-from_ascii}
-use Rattle.rr_chart.specs.Reading as chart_texts
-use Rattle.rr_tiles.specs.Manifest as manifests
-use Rattle.rr_board.specs.Reading as boards
-use Rattle.rr_chart.specs.declared.fault.Fault as chart
-use Rattle.rr_chart.specs.declared.fault.Fault.TheVariants as C
-use Rattle.rr_roster.specs.declared.fault.Fault as roster
-use Rattle.rr_roster.specs.declared.fault.Fault.TheVariants as R
-use Rattle.rr_roster.specs.Reading.{IsAnswer, lines_of}
-use Rattle.rr_roster.specs.Rules.{KeepsAll}
-use Rattle.rr_roster.specs.Spelled.{Lines}
-use Rattle.rr_roster.specs.Terms.{Terms}
-use Rattle.rr_roster.proofs.UniqueLines.{spelled_once}
-use Rattle.rr_tiles.specs.declared.fault.Fault as manifest
-use Rattle.rr_tiles.specs.declared.fault.Fault.TheVariants as M
-use Rattle.rr_board.specs.declared.fault.Fault as board
-use Rattle.rr_board.specs.declared.fault.Fault.TheVariants as B
+-- What is right isn't wrong as well: a kit, and a file that stands for a world.
+use Rattle.std.proofs.Common.{◌≡◌, ◌⊎◌, ℕ, List, [], ◌∷◌, ◌++◌, inl, inr, refl, sym, ap, subst, ◌∙◌}
+use Rattle.rr_images.specs.Codec.{Replays}
+use Rattle.rr_images.specs.Holding.{Holding, texts_of}
+use Rattle.rr_images.specs.Layout.{Stands}
+use Rattle.rr_images.specs.Refusing.{Unlawful_record}
+use Rattle.rr_images.proofs.Following.{read_there}
+use Rattle.rr_images.proofs.OneWorld.{IsThere, one_holding_there, there_of}
+use Rattle.rr_images.proofs.Refusing.{stands_is_not_refused}
 use Rattle.rr_kit.specs.declared.kit.Kit.{Kit}
-use Rattle.rr_kit.specs.declared.fault.Fault.{Fault}
-use Rattle.rr_kit.specs.declared.fault.Fault.TheVariants as F
-use Rattle.rr_kit.specs.Fault.{of_board, of_chart, of_manifest, of_roster}
-use Rattle.rr_kit.specs.Kits.{IsBoardText, IsChartText, IsManifestText, IsRosterText, IsWrongKit, KitTexts, RefusesBoard, RefusesChart, RefusesKit, RefusesManifest, RefusesRoster, SpellsKit}
-use Rattle.rr_kit.proofs.OneKit.{one_kit}
-use Rattle.rr_journal.specs.declared.reading.RunEnd.TheVariants.{Closed, OtherNumber, Damaged}
-use Rattle.rr_keeper.specs.File.{IsStore, kit_place}
-use Rattle.rr_keeper.proofs.Kits as texts_of_files
-use Rattle.rr_keeper.proofs.Parts.{one_reading}
-use Rattle.rr_store.specs.declared.fault.Fault as store
+use Rattle.rr_kit.specs.Kits.{IsWrongKit, KitTexts, SpellsKit}
+use Rattle.rr_opening.specs.Opened.{HasDamagedRecord}
+use Rattle.rr_opening.proofs.Refusals.{damaged_record_refused, stands_no_verdict}
+use Rattle.rr_pages.specs.declared.root.Root.{Root}
+use Rattle.rr_pages.proofs.ChoosingLemmas.{one_taken, taken_store}
+use Rattle.rr_reading.specs.declared.fault.Fault.TheVariants as R
+use Rattle.rr_reading.specs.Held.{Held, chains_of, holding_of}
+use Rattle.rr_reading.specs.Laws.{NamesChains}
+use Rattle.rr_reading.specs.Reading.{Holds}
+use Rattle.rr_reading.proofs.Standing.{held_is_read}
+use Rattle.rr_records.specs.Played.{ArePlayedTables, IsPlayedWorld}
+use Rattle.rr_records.specs.Taking.{table_files}
+use Rattle.rr_records.specs.Words.{IsInWords, in_words, kit_texts}
+use Rattle.rr_records.specs.World.{World}
+use Rattle.rr_records.proofs.PlayedLemmas.{standing_have_played_bases, tables_of_played_are_played}
+use Rattle.rr_records.proofs.TakingLemmas.{files_are_exact}
+use Rattle.rr_records.proofs.WordLemmas.{are_in_words, of_form, one_in_words}
+use Rattle.rr_recovery.specs.declared.fault.Damage.{Damage}
+use Rattle.rr_recovery.specs.declared.fault.Damage.TheVariants as D
+use Rattle.rr_recovery.specs.Recovery.{HasBadRecord, IsBase, IsDamage}
+use Rattle.rr_recovery.specs.Replaying.{BreaksOff}
+use Rattle.rr_recovery.specs.Texts.{texts_in}
 use Rattle.rr_store.specs.declared.fault.Fault.TheVariants as S
-use Rattle.rr_store.specs.Allowing.{Refuses}
-use Rattle.rr_store.specs.Files.{IsDamagedFile, IsNoFile, StandsFor}
-use Rattle.rr_store.specs.Lent.{from_file, in_file}
-use Rattle.rr_store.specs.Replaying.{BreaksOff, IsBroken, IsUnlawful, Replays, TakesRecord}
-use Rattle.rr_store.specs.World.{World}
-use Rattle.rr_store.proofs.Worlds.{same_step}
+use Rattle.rr_store.specs.Files.{AreTablesOf}
+use Rattle.rr_store.proofs.Kits.{right_is_not_wrong}
+use Rattle.rr_store.proofs.Recovering.{broken_off, spelled_texts}
+use Rattle.rr_worlds.specs.Spelling.{Spells}
+use Rattle.rr_worlds.specs.World as words
+use Rattle.rr_worlds.proofs.Exact.{forms_spelled, one_world}
 use Rattle.rr_world_laws.specs.Worlds.{RightKitsAreNotWrong, StandingFilesOpen}
 
--- each text of the kit
-
-chart_cause : (text : List ℕ) (fault : Fault) (cause : chart.Fault) → fault ≢ F.OutOfMemory → IsChartText text → fault ≡ of_chart cause → chart_texts.IsRefusal text cause → ⊥
-chart_cause text fault (C.BadChart line word) known spelled is why = why.1 spelled.0 spelled.1
-chart_cause text fault C.OutOfMemory known spelled is why = known is
-
-manifest_cause : (text : List ℕ) (fault : Fault) (cause : manifest.Fault) → fault ≢ F.OutOfMemory → IsManifestText text → fault ≡ of_manifest cause → manifests.IsRefusal text cause → ⊥
-manifest_cause text fault (M.BadManifest line) known spelled is why = why.1 spelled.0 spelled.1
-manifest_cause text fault M.OutOfMemory known spelled is why = known is
-
-board_cause : (text : List ℕ) (fault : Fault) (cause : board.Fault) → fault ≢ F.OutOfMemory → IsBoardText text → fault ≡ of_board cause → boards.IsRefusal text cause → ⊥
-board_cause text fault (B.BadBoard line) known spelled is why = why.1 spelled.0 spelled.1
-board_cause text fault B.OutOfMemory known spelled is why = known is
-
-roster_cause : (text : List ℕ) (terms : Terms) (fault : Fault) (cause : roster.Fault) → fault ≢ F.OutOfMemory → IsRosterText text terms → fault ≡ of_roster cause → IsAnswer text (Err cause) → ⊥
-roster_cause text terms fault R.Shape known h is why = why (lines_of terms) h.spelled.lines_spelled
-roster_cause text terms fault (R.Broken rule) known h is why =
-    let same : why.0 ≡ lines_of terms = spelled_once text why.0 (lines_of terms) why.1 h.spelled.lines_spelled in
-    why.2.breaks (subst (λ (s : Lines). KeepsAll s) (sym same) h.spelled.keeps_all rule)
-roster_cause text terms fault R.OutOfMemory known h is why = known is
-
-roster_refused : (text : List ℕ) (terms : Terms) (fault : Fault) → fault ≢ F.OutOfMemory → IsRosterText text terms → ¬ RefusesRoster text fault
-roster_refused text terms fault known h (inl long) = let short = h.short in omega (arith, long.0, short)
-roster_refused text terms fault known h (inr (inl no_text)) = no_text.0 (IsUtf8-from_ascii text h.spelled.lines_spelled.ascii)
-roster_refused text terms fault known h (inr (inr why)) = roster_cause text terms fault why.1 known h why.2 why.3
-
-refused_kit : (texts : KitTexts) (kit : Kit) (fault : Fault) → fault ≢ F.OutOfMemory → SpellsKit texts kit → ¬ RefusesKit texts fault
-refused_kit texts kit fault known right (inl why) = chart_cause texts.chart fault why.0 known (kit.chart, right.chart) why.1 why.2
-refused_kit texts kit fault known right (inr (inl why)) = roster_refused texts.roster kit.roster fault known right.roster why.1
-refused_kit texts kit fault known right (inr (inr (inl why))) = manifest_cause texts.tiles fault why.1.0 known (kit.tiles, right.tiles) why.1.1 why.1.2
-refused_kit texts kit fault known right (inr (inr (inr why))) = board_cause texts.board fault why.2.0 known (kit.board, right.board) why.2.1 why.2.2
-
 pub right_kits_are_not_wrong : RightKitsAreNotWrong
-right_kits_are_not_wrong texts kit right wrong = refused_kit texts kit wrong.0 wrong.1 right wrong.2
+right_kits_are_not_wrong texts kit right wrong =
+    right_is_not_wrong texts kit right wrong
 
--- the records of a file
+names_chains : NamesChains table_files
+names_chains version bytes heads = (λ named. named, λ named. named)
 
--- records that are all taken don't break off
-breaks_nowhere : (kit : Kit) (old mid new : World) (front : List (List ℕ)) (next : List ℕ) (rest : List (List ℕ)) → Replays kit old (front ++ next ∷ rest) new → Replays kit old front mid → ¬ IsUnlawful kit mid next
-breaks_nowhere kit old mid new [] next rest all before unlawful =
-    let takes : TakesRecord kit mid next all.0 = subst (λ (w : World). TakesRecord kit w next all.0) (sym before) all.1 in
-    unlawful takes.name takes.request takes.spelled takes.lawful
-breaks_nowhere kit old mid new (bytes ∷ front) next rest all before unlawful =
-    let same = same_step kit old all.0 before.0 bytes all.1 before.1 in
-    breaks_nowhere kit before.0 mid new front next rest (subst (λ (w : World). Replays kit w (front ++ next ∷ rest) new) same all.2) before.2 unlawful
+-- no record changes the texts of the kit
+replay_texts : (lines : List (List ℕ)) (old new : words.World) → Replays table_files old lines new → kit_texts new ≡ kit_texts old
+replay_texts [] old new same = ap kit_texts (sym same)
+replay_texts (line ∷ lines) old new replays = replay_texts lines replays.0 new replays.2 ∙ replays.1.same_texts
 
-not_broken : (texts : KitTexts) (kit : Kit) (records : List (List ℕ)) (tables : World) → SpellsKit texts kit → Replays kit [] records tables → ¬ IsBroken texts records
-not_broken texts kit records tables right replayed broken =
-    let same : broken.kit ≡ kit = one_kit texts broken.kit kit broken.right right in
-    let off : BreaksOff kit [] records = subst (λ (k : Kit). BreaksOff k [] records) same broken.broken in
-    breaks_nowhere kit [] off.mid tables off.front off.next off.rest (subst (λ (rs : List (List ℕ)). Replays kit [] rs tables) off.split replayed) off.before off.unlawful
+-- a file that stands for tables of a kit breaks no clause by the rules of the game
+module _ (file : List ℕ) (texts : KitTexts) (kit : Kit) (tables : World) (right : SpellsKit texts kit) (of_kit : AreTablesOf kit tables)
+    (stands : Stands table_files file (in_words texts tables)) (has : Held) (holds : Holds file has) where
+  -- what it holds stands
+  same_root : has.root ≡ stands.root
+  same_root =
+      let taken = holds.chains.has_directory.taken in
+      (one_taken file has.side stands.side has.root stands.root taken.0 stands.stale taken.1 stands.taken).1
 
-same_texts : (file : List ℕ) (texts others : KitTexts) (records more : List (List ℕ)) → IsStore file (in_file texts) records → IsStore file (in_file others) more → (others ≡ texts) × (more ≡ records)
-same_texts file texts others records more one other = (
-  ap from_file (texts_of_files.one_kit file kit_place (in_file texts) (in_file others) one.texts other.texts),
-  (one_reading file records more _ _ one.records other.records).0,
-)
+  same_holding : holding_of has ≡ stands.holding
+  same_holding =
+      let pages = holds.chains.has_directory.taken.1.sound.pages_high in
+      let there = read_there table_files file has.root (holding_of has) has.reached pages (held_is_read table_files names_chains file has holds) in
+      one_holding_there table_files files_are_exact file has.root (holding_of has) stands.holding there.there
+      (subst (λ (root : Root). IsThere table_files file root stands.holding) (sym same_root) (there_of table_files file stands.root stands.holding stands.base stands.spelled))
 
-no_file : (file : List ℕ) (texts : KitTexts) (tables : World) → StandsFor file texts tables → ¬ IsNoFile file
-no_file file texts tables stands (inl none) =
-    let both : Closed ≡ OtherNumber = none (in_file texts) stands.records Closed stands.store in cc both
-no_file file texts tables stands (inr wrong) =
-    let same = same_texts file texts wrong.0 stands.records wrong.1 stands.store wrong.2 in
-    right_kits_are_not_wrong texts stands.kit stands.right (subst (λ (t : KitTexts). IsWrongKit t) same.0 wrong.3)
+  spells_base : Spells has.root.version has.chain.text (texts_of (chains_of has.texts has.tables)) stands.base
+  spells_base =
+      subst (λ (root : Root). Spells root.version has.chain.text (texts_of (chains_of has.texts has.tables)) stands.base) (sym same_root)
+      (subst (λ (holding : Holding). Spells stands.root.version holding.directory.text (texts_of holding.chains) stands.base) (sym same_holding) stands.spelled.spells)
 
-no_damage : (file : List ℕ) (texts : KitTexts) (tables : World) → StandsFor file texts tables → ¬ IsDamagedFile file
-no_damage file texts tables stands (inl damaged) =
-    let ends : Damaged ≡ Closed = (one_reading file stands.records damaged.1 Closed Damaged stands.store.records damaged.2.records).1 in cc ends
-no_damage file texts tables stands (inr broken) =
-    let same = same_texts file texts broken.0 stands.records broken.1 stands.store broken.2 in
-    not_broken texts stands.kit stands.records tables stands.right stands.replayed
-    (subst (λ (rs : List (List ℕ)). IsBroken texts rs) same.1 (subst (λ (t : KitTexts). IsBroken t broken.1) same.0 broken.3))
+  was_played : IsPlayedWorld stands.base
+  was_played =
+      standing_have_played_bases file (in_words texts tables) stands
+      (record { kit = kit; right = right; tables = tables; spelled = are_in_words texts tables of_kit.spelled; played = of_kit.played })
+
+  base_texts : kit_texts stands.base ≡ texts_in has.texts
+  base_texts = spelled_texts has.root.version has.chain.text has.texts has.tables stands.base spells_base
+
+  same_texts : texts_in has.texts ≡ texts
+  same_texts = sym base_texts ∙ sym (replay_texts (stands.near ++ stands.far) stands.base (in_words texts tables) stands.replayed)
+
+  is_based : (base : World) (world : words.World) → IsBase has base world → IsInWords base stands.base
+  is_based base world is =
+      let same = one_world has.root.version has.chain.text (texts_of (chains_of has.texts has.tables)) world stands.base is.spells spells_base in
+      subst (λ (w : words.World). IsInWords base w) same is.based
+
+  all_played : (other : Kit) (base : World) (world : words.World) → IsBase has base world → SpellsKit (texts_in has.texts) other → ArePlayedTables other base
+  all_played other base world is right_too =
+      tables_of_played_are_played other base stands.base (subst (λ (t : KitTexts). SpellsKit t other) (sym base_texts) right_too) (is_based base world is) was_played
+
+  all_taken : (bad : HasBadRecord has) → BreaksOff bad.kit bad.base (has.near ++ has.far) ⊎ HasDamagedRecord has → ⊥
+  all_taken bad (inl off) =
+      let texts_there = texts_in has.texts in
+      let spelled = of_form bad.base bad.world bad.is_base.based in
+      let same : bad.world ≡ in_words texts_there bad.base =
+      one_in_words bad.base bad.world (in_words texts_there bad.base) bad.is_base.based (are_in_words texts_there bad.base spelled)
+      (spelled_texts has.root.version has.chain.text has.texts has.tables bad.world bad.is_base.spells) in
+      let taken = holds.chains.has_directory.taken in
+      stands_is_not_refused table_files files_are_exact file (in_words texts tables) stands
+      (Unlawful_record has.side has.root taken.0 taken.1 (record {
+        holding = holding_of has;
+        after = has.reached;
+        base = bad.world;
+        read = held_is_read table_files names_chains file has holds;
+        spells = bad.is_base.spells;
+        near = has.near;
+        near_end = has.near_end;
+        far = has.far;
+        far_end = has.far_end;
+        near_run = holds.near_run;
+        far_run = holds.far_run;
+        unlawful = λ world replays.
+            broken_off texts_there bad.kit bad.right (has.near ++ has.far) bad.base world (record { spelled = spelled; played = bad.played }) off
+            (subst (λ (w : words.World). Replays table_files w (has.near ++ has.far) world) same replays);
+      }))
+  all_taken bad (inr damaged) =
+      stands_is_not_refused table_files files_are_exact file (in_words texts tables) stands (damaged_record_refused table_files file has holds damaged)
+
+  keeps_rules : (damage : Damage) → IsDamage has damage → ⊥
+  keeps_rules D.Words bad = bad was_played.tables stands.base (record { spells = spells_base; based = was_played.spelled })
+  keeps_rules D.Kit bad = right_kits_are_not_wrong texts kit right (subst (λ (t : KitTexts). IsWrongKit t) same_texts bad.wrong)
+  keeps_rules D.Kept bad = bad.unplayed (all_played bad.kit bad.base bad.world bad.is_base bad.right)
+  keeps_rules D.Records bad = all_taken bad bad.bad
 
 pub standing_files_open : StandingFilesOpen
 standing_files_open file texts tables S.DeviceFailed stands refused = inl refl
 standing_files_open file texts tables S.OutOfMemory stands refused = inr refl
-standing_files_open file texts tables S.NotAStore stands refused = absurd (no_file file texts tables stands refused)
-standing_files_open file texts tables (S.Damaged clause) stands refused = absurd (no_damage file texts tables stands refused.1)
+standing_files_open file texts tables S.NotAStore stands refused = absurd (taken_store file stands.stands.side stands.stands.root stands.stands.stale stands.stands.taken refused)
+standing_files_open file texts tables (S.Damaged clause) stands (inl form) =
+    absurd (stands_no_verdict table_files file (R.Damaged form.0) form.1 files_are_exact names_chains forms_spelled (in_words texts tables) stands.stands)
+standing_files_open file texts tables (S.Damaged clause) stands (inr rules) =
+    absurd (keeps_rules file texts stands.kit tables stands.right stands.tables_of_kit stands.stands rules.has rules.holds rules.damage rules.broken)
 standing_files_open file texts tables (S.Kit fault) stands refused = absurd refused
 standing_files_open file texts tables (S.Game fault) stands refused = absurd refused
 standing_files_open file texts tables (S.StaleStamp stamp) stands refused = absurd refused
 standing_files_open file texts tables S.TurnNotKept stands refused = absurd refused
 standing_files_open file texts tables S.TooManyCommands stands refused = absurd refused
-standing_files_open file texts tables S.HalfFull stands refused = absurd refused
+standing_files_open file texts tables S.FileFull stands refused = absurd refused
 standing_files_open file texts tables S.NotEmpty stands refused = absurd refused
 standing_files_open file texts tables S.OpenAgain stands refused = absurd refused
 standing_files_open file texts tables S.TooManyTables stands refused = absurd refused

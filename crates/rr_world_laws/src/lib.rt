@@ -1,32 +1,69 @@
-//! Laws on files and worlds: every world that is served is sound, a file opens or is refused and never both, and two fronts
-//! of the accepted requests never have one world. The calls do nothing: their contracts hold of all files and worlds.
+//! Laws on files and worlds: whatever comes to a store's file, each world that it keeps is sound; a file opens or is
+//! refused and never both; and two fronts of the accepted requests never have one world. The calls do nothing: their
+//! contracts hold of all files, worlds and schedules.
 //!
-//! Stands on `rr_store` and `rr_laws`; nothing stands on it. Its promise: `files_are_sound`.
+//! Stands on `rr_store`, `rr_records` and `rr_laws`; nothing stands on it. Its promise: `whatever_comes_is_sound`.
 #![tactic(auto)]
 
 ghost use Rattle.rr_kit.specs.Kits.{KitTexts};
 ghost use Rattle.rr_store.specs.Allowing.{Keeps};
 ghost use Rattle.rr_store.specs.Holding.{Carries, disk_of, held_of};
-ghost use Rattle.rr_world_laws.specs.Worlds.{FilesAreSound, RightKitsAreNotWrong, StandingFilesOpen, WorldsAreSound, WorldsDiffer};
+ghost use Rattle.rr_world_laws.specs.Sessions.{SafeSessionsGoOn, SessionsAreSound, SessionsGoOn};
+ghost use Rattle.rr_world_laws.specs.Worlds.{FilesAreSound, RightKitsAreNotWrong, StandingFilesOpen, WhateverComesIsSound, WorldsAreSound, WorldsDiffer};
 
 use rr_disk::Disk;
 use rr_store::Store;
 
-/// Whatever lawful requests led to a world, each of its tables is in order, with a kit whose roster names each
-/// corporation.
+/// Whatever commits, steps of checkpoints, faults, stops and openings come to a new file: each image keeps the world of
+/// the acknowledged requests, or that with the pending one. In it each table is in order, and no run of a corporation's
+/// trains earned more than one paid as best.
+pub fn whatever_comes_is_sound()
+    ensures { WhateverComesIsSound }
+{
+    rr_records::laws::prefix();
+    rr_laws::plays_go_on();
+    rr_laws::sound();
+    rr_laws::best_runs_were_best();
+    rr_laws::kits_name_corporations();
+}
+
+/// Whatever calls are made one after another on a new file, with stops within them and between them and openings behind these:
+/// what they say is what the law over sessions says, and each world that a stop may leave is sound, and so is what a store
+/// holds that isn't broken.
+pub fn sessions_are_sound<D: Disk>()
+    ensures { SessionsAreSound D.Honest D.Works D.state D.past D.fault_count D.write_count D.sync_count }
+{
+    whatever_comes_is_sound();
+}
+
+/// Behind a session that leaves its disk lying, a session on a disk of another type goes on: what both do, one behind the
+/// other, is one schedule from the first tables, and it is safe over all acknowledged requests of both. So it is however many
+/// go before, and a program may make a new disk value, of whatever type, each time it is started.
+pub fn sessions_go_on<D: Disk, E: Disk>()
+    ensures two { SessionsGoOn D.Honest D.Works D.state D.past D.fault_count D.write_count D.sync_count
+        E.Honest E.Works E.state E.past E.fault_count E.write_count E.sync_count }
+    ensures all { SafeSessionsGoOn D.Honest D.Works D.state D.past D.fault_count D.write_count D.sync_count
+        E.Honest E.Works E.state E.past E.fault_count E.write_count E.sync_count }
+{
+    rr_store::laws::sessions_are_safe::<D>();
+}
+
+/// Whatever lawful requests led to a world, each of its tables is in order and had no run as best but one that was, with a
+/// kit whose roster names each corporation.
 pub fn worlds_are_sound()
     ensures { WorldsAreSound }
 {
     rr_laws::plays_go_on();
     rr_laws::sound();
+    rr_laws::best_runs_were_best();
 }
 
-/// Each file that stands for a world stands for one whose tables are in order.
+/// Each file that stands for a world stands for one whose tables are so.
 pub fn files_are_sound()
     ensures { FilesAreSound }
 {
-    rr_laws::plays_go_on();
     rr_laws::sound();
+    rr_laws::best_runs_were_best();
     rr_laws::kits_name_corporations();
 }
 

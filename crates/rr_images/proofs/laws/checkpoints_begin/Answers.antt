@@ -8,5 +8,5 @@ returns g c =
     record {
       begun = λ layout state world stays none each. begins codec layout state world stays each none;
       found = λ layout state world plan is_plan begun each. record { each = each; come = (is_plan, begun, (λ i. plan.fresh), tt) };
-      goes_on = λ layout part number none goes_on. goes_begun codec layout part number goes_on (not_begun layout.far none);
+      goes_on = λ layout half number none goes_on. goes_begun codec layout half number goes_on (not_begun layout.far none);
     }

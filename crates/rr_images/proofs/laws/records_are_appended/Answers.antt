@@ -6,6 +6,6 @@ pub returns : goal.returns
 returns g c =
     let codec = g.C.Codec.codec in
     record {
-      appended = λ layout state progress part number line old new stays takes room low goes_on between. appends codec layout state old stays progress part number line new takes room low goes_on between;
-      kept = λ layout state world part number goes_on each. journal_keeps codec layout world state part number goes_on each;
+      appended = λ layout state progress half number line old new stays takes room low goes_on between. appends codec layout state old stays progress half number line new takes room low goes_on between;
+      kept = λ layout state world half number goes_on each. journal_keeps codec layout world state half number goes_on each;
     }

@@ -11,6 +11,6 @@ returns g c =
       filled = λ layout state world plan stays between. fills_root codec layout state world stays plan between;
       opened = λ layout state world plan lines stays begun between. opens_root codec layout state world stays plan lines begun between;
       flipped = λ layout state world plan lines stays begun between. flips_roots codec layout state world stays plan lines begun between;
-      goes_on_shut = λ layout part number goes_on. goes_stale codec layout part number goes_on Shut;
-      goes_on_flipped = λ layout part number plan lines world begun next goes_on. goes_flip codec layout part number goes_on plan.root plan.holding lines world begun next;
+      goes_on_shut = λ layout half number goes_on. goes_stale codec layout half number goes_on Shut;
+      goes_on_flipped = λ layout half number plan lines world begun next goes_on. goes_flip codec layout half number goes_on plan.root plan.holding lines world begun next;
     }

@@ -1,6 +1,6 @@
 use Rattle.std.proofs.Common.{◌≡◌, List, [], ◌∷◌, length, ◌∙◌, ap, subst, arith, rules, length-append}
 use Rattle.rr_disk.specs.Disk.{DiskState}
-use Rattle.rr_journal.specs.declared.layout.PartIndex.{PartIndex}
+use Rattle.rr_journal.specs.declared.layout.HalfIndex.{HalfIndex}
 use Rattle.rr_journal.specs.declared.reading.RunEnd.TheVariants.{Closed}
 use Rattle.rr_journal.specs.declared.reading.Found.{Found}
 use Rattle.rr_journal.specs.declared.reading.Found.TheVariants.{Record, End}
@@ -11,9 +11,9 @@ use Rattle.rr_journal.proofs.Moments.{keeps_at_rest}
 use Rattle.rr_journal.proofs.Runs.{slots_more, some_slot, one_run, stepped, all_found}
 use Rattle.rr_journal.proofs.reading.scan.Goals as goal
 
-pub loop-part-preserved : goal.loop-part-preserved
-loop-part-preserved g c =
-    let inv = c.loop-part.invariant in
+pub loop-half-preserved : goal.loop-half-preserved
+loop-half-preserved g c =
+    let inv = c.loop-half.invariant in
     let file = (g.D.Disk.state c.args.disk.now).content in
     let x = c.in-Record.bytes in
     let pushed = c.in_ok-push-in-Record.ensures.items in
@@ -21,16 +21,16 @@ loop-part-preserved g c =
     let some = some_slot (length x.items) in
     record {
       index = inv.index;
-      next = omega (arith, takes, inv.next, slots_more c.loop-part.records.items x, ap (λ (r : List _). slots_of (lines r)) pushed);
-      few = omega (arith, takes, inv.few, ap length pushed, length-append c.loop-part.records.items (x ∷ []));
-      number = omega (arith, inv.number, ap length pushed, length-append c.loop-part.records.items (x ∷ []));
+      next = omega (arith, takes, inv.next, slots_more c.loop-half.records.items x, ap (λ (r : List _). slots_of (lines r)) pushed);
+      few = omega (arith, takes, inv.few, ap length pushed, length-append c.loop-half.records.items (x ∷ []));
+      number = omega (arith, inv.number, ap length pushed, length-append c.loop-half.records.items (x ∷ []));
       rest = λ honest.
           let before = c.in_ok-bytes.ensures.honest honest in
-          let found : Begins file c.loop-part.part c.loop-part.number (Record x) =
-          subst (λ (what : Found). Begins file c.loop-part.part c.loop-part.number what) c.in-Record.is
-          (subst (λ (state : DiskState). Begins state.content c.loop-part.part c.loop-part.number c.in_ok-bytes.field-0) (inv.same_state before) (c.in_ok-bytes.ensures.found honest)) in
-          let is : IsRecord file c.args.index c.loop-part.part.next_slot c.loop-part.number x.items = subst (λ (part : PartIndex). IsRecord file part c.loop-part.part.next_slot c.loop-part.number x.items) inv.index found in
-          stepped file c.args.index c.loop-part.part.next_slot c.loop-part.number c.args.first_number c.slots_for.result c.loop-part.records.items _ x pushed takes is (inv.rest before);
+          let found : Begins file c.loop-half.half c.loop-half.number (Record x) =
+          subst (λ (what : Found). Begins file c.loop-half.half c.loop-half.number what) c.in-Record.is
+          (subst (λ (state : DiskState). Begins state.content c.loop-half.half c.loop-half.number c.in_ok-bytes.field-0) (inv.same_state before) (c.in_ok-bytes.ensures.found honest)) in
+          let is : IsRecord file c.args.index c.loop-half.half.next_slot c.loop-half.number x.items = subst (λ (half : HalfIndex). IsRecord file half c.loop-half.half.next_slot c.loop-half.number x.items) inv.index found in
+          stepped file c.args.index c.loop-half.half.next_slot c.loop-half.number c.args.first_number c.slots_for.result c.loop-half.records.items _ x pushed takes is (inv.rest before);
       honest = search rules;
       same_state = search rules;
       same_past = search rules;
@@ -43,37 +43,37 @@ loop-part-preserved g c =
 
 pub returns-in-End-clause-found : goal.returns-in-End-clause-found
 returns-in-End-clause-found g c = λ honest.
-    let inv = c.loop-part.invariant in
+    let inv = c.loop-half.invariant in
     let file = (g.D.Disk.state c.args.disk.now).content in
     let before = c.in_ok-bytes.ensures.honest honest in
-    let found : Begins file c.loop-part.part c.loop-part.number (End c.in-End.end) =
-    subst (λ (what : Found). Begins file c.loop-part.part c.loop-part.number what) c.in-End.is
-    (subst (λ (state : DiskState). Begins state.content c.loop-part.part c.loop-part.number c.in_ok-bytes.field-0) (inv.same_state before) (c.in_ok-bytes.ensures.found honest)) in
-    let ends : Ends file c.args.index c.loop-part.part.next_slot c.loop-part.number c.in-End.end = subst (λ (part : PartIndex). Ends file part c.loop-part.part.next_slot c.loop-part.number c.in-End.end) inv.index found in
-    all_found file c.args.index c.loop-part.part.next_slot c.loop-part.number c.args.first_number c.loop-part.records.items c.in-End.end ends (inv.rest before)
+    let found : Begins file c.loop-half.half c.loop-half.number (End c.in-End.end) =
+    subst (λ (what : Found). Begins file c.loop-half.half c.loop-half.number what) c.in-End.is
+    (subst (λ (state : DiskState). Begins state.content c.loop-half.half c.loop-half.number c.in_ok-bytes.field-0) (inv.same_state before) (c.in_ok-bytes.ensures.found honest)) in
+    let ends : Ends file c.args.index c.loop-half.half.next_slot c.loop-half.number c.in-End.end = subst (λ (half : HalfIndex). Ends file half c.loop-half.half.next_slot c.loop-half.number c.in-End.end) inv.index found in
+    all_found file c.args.index c.loop-half.half.next_slot c.loop-half.number c.args.first_number c.loop-half.records.items c.in-End.end ends (inv.rest before)
 
 pub returns-in-End-clause-only : goal.returns-in-End-clause-only
 returns-in-End-clause-only g c = λ honest others end run.
-    one_run (g.D.Disk.state c.args.disk.now).content c.args.index 0 c.args.first_number (lines c.loop-part.records.items) others c.in-End.end end (returns-in-End-clause-found g c honest) run
+    one_run (g.D.Disk.state c.args.disk.now).content c.args.index 0 c.args.first_number (lines c.loop-half.records.items) others c.in-End.end end (returns-in-End-clause-found g c honest) run
 
 pub returns-clause-found : goal.returns-clause-found
 returns-clause-found g c = λ honest.
-    let inv = c.loop-part.invariant in
+    let inv = c.loop-half.invariant in
     let file = (g.D.Disk.state c.args.disk.now).content in
-    let ends : Ends file c.args.index c.loop-part.part.next_slot c.loop-part.number Closed = λ in_part. absurd (omega (arith, in_part, c.loop-part-test.false)) in
-    all_found file c.args.index c.loop-part.part.next_slot c.loop-part.number c.args.first_number c.loop-part.records.items Closed ends (inv.rest honest)
+    let ends : Ends file c.args.index c.loop-half.half.next_slot c.loop-half.number Closed = λ in_part. absurd (omega (arith, in_part, c.loop-half-test.false)) in
+    all_found file c.args.index c.loop-half.half.next_slot c.loop-half.number c.args.first_number c.loop-half.records.items Closed ends (inv.rest honest)
 
 pub returns-clause-only : goal.returns-clause-only
 returns-clause-only g c = λ honest others end run.
-    one_run (g.D.Disk.state c.args.disk.now).content c.args.index 0 c.args.first_number (lines c.loop-part.records.items) others Closed end (returns-clause-found g c honest) run
+    one_run (g.D.Disk.state c.args.disk.now).content c.args.index 0 c.args.first_number (lines c.loop-half.records.items) others Closed end (returns-clause-found g c honest) run
 
 pub returns-in-End-clause-keeps : goal.returns-in-End-clause-keeps
 returns-in-End-clause-keeps g c = λ honest rest closed within.
-    let inv = c.loop-part.invariant in
+    let inv = c.loop-half.invariant in
     let same : g.D.Disk.state c.read_record.new.disk ≡ g.D.Disk.state c.args.disk.now = c.in_ok-bytes.ensures.same_state honest ∙ inv.same_state (c.in_ok-bytes.ensures.honest honest) in
-    keeps_at_rest c.loop-part.part (g.D.Disk.state c.read_record.new.disk) (g.D.Disk.state c.args.disk.now) c.args.index c.args.first_number (lines c.loop-part.records.items) c.in-End.end rest closed within inv.index inv.next same (returns-in-End-clause-found g c honest)
+    keeps_at_rest c.loop-half.half (g.D.Disk.state c.read_record.new.disk) (g.D.Disk.state c.args.disk.now) c.args.index c.args.first_number (lines c.loop-half.records.items) c.in-End.end rest closed within inv.index inv.next same (returns-in-End-clause-found g c honest)
 
 pub returns-clause-keeps : goal.returns-clause-keeps
 returns-clause-keeps g c = λ honest rest closed within.
-    let inv = c.loop-part.invariant in
-    keeps_at_rest c.loop-part.part (g.D.Disk.state c.loop-part.disk) (g.D.Disk.state c.args.disk.now) c.args.index c.args.first_number (lines c.loop-part.records.items) Closed rest closed within inv.index inv.next (inv.same_state honest) (returns-clause-found g c honest)
+    let inv = c.loop-half.invariant in
+    keeps_at_rest c.loop-half.half (g.D.Disk.state c.loop-half.disk) (g.D.Disk.state c.args.disk.now) c.args.index c.args.first_number (lines c.loop-half.records.items) Closed rest closed within inv.index inv.next (inv.same_state honest) (returns-clause-found g c honest)

@@ -4,15 +4,15 @@ use Rattle.rr_journal.specs.Reading.{lines}
 use Rattle.rr_journal.specs.Run.{Run, slots_of}
 use Rattle.rr_journal.proofs.reading.scan.Given as goal
 
--- the records so far, and those from the next slot on, are those of the part
-abbrev pub invariant-loop-part : goal.invariant-loop-part
-invariant-loop-part g l =
+-- the records so far, and those from the next slot on, are those of the half
+abbrev pub invariant-loop-half : goal.invariant-loop-half
+invariant-loop-half g l =
     record {
-      index : l.part.index ≡ l.fn.index;
-      next : l.part.next_slot ≡ slots_of (lines l.records.items);
-      few : length l.records.items ≤ l.part.next_slot;
+      index : l.half.index ≡ l.fn.index;
+      next : l.half.next_slot ≡ slots_of (lines l.records.items);
+      few : length l.records.items ≤ l.half.next_slot;
       number : l.number ≡ l.fn.first_number + length l.records.items;
-      rest : g.D.Disk.Honest l.disk → (more : List (List ℕ)) (end : RunEnd) → Run (g.D.Disk.state l.fn.disk).content l.fn.index l.part.next_slot l.number more end
+      rest : g.D.Disk.Honest l.disk → (more : List (List ℕ)) (end : RunEnd) → Run (g.D.Disk.state l.fn.disk).content l.fn.index l.half.next_slot l.number more end
           → Run (g.D.Disk.state l.fn.disk).content l.fn.index 0 l.fn.first_number (lines l.records.items ++ more) end;
       honest : g.D.Disk.Honest l.disk → g.D.Disk.Honest l.fn.disk;
       same_state : g.D.Disk.Honest l.disk → g.D.Disk.state l.disk ≡ g.D.Disk.state l.fn.disk;
@@ -24,5 +24,5 @@ invariant-loop-part g l =
       same_len : g.D.Disk.file_len l.disk ≡ g.D.Disk.file_len l.fn.disk;
     }
 
-abbrev pub decreases-loop-part : goal.decreases-loop-part
-decreases-loop-part g l = 255 - l.part.next_slot
+abbrev pub decreases-loop-half : goal.decreases-loop-half
+decreases-loop-half g l = 255 - l.half.next_slot

@@ -1,9 +1,10 @@
-use Rattle.std.proofs.Common.{List, ◌∙◌, ap, subst}
+use Rattle.std.proofs.Common.{◌≡◌, ℕ, List, Err, ◌∙◌, ap, subst}
+use Rattle.std.proofs.lemmas.Result.{err_from_is_err_and}
 use Rattle.rr_disk.specs.Disk.{DiskState}
 use Rattle.rr_pages.specs.declared.reading.Link.{Link}
 use Rattle.rr_pages.specs.PageSet.{marks_of}
-use Rattle.rr_pages.specs.Links.{Gathers, judged, pages_of}
-use Rattle.rr_pages.proofs.Walks.{read_broken, read_whole}
+use Rattle.rr_pages.specs.Links.{EndsPast, Gathers, judged, pages_of}
+use Rattle.rr_pages.proofs.Walks.{device_so, past_whole, read_broken, read_whole}
 use Rattle.rr_pages.proofs.reading.chain_read.Goals as goal
 
 pub returns-in-Some-clause-read : goal.returns-in-Some-clause-read
@@ -26,3 +27,15 @@ returns-clause-read g c = λ honest.
     (c.in_ok-walked.ensures.walk before) (c.in_ok-walked.ensures.links before)
     (c.in-None.ensures ∙ ap (λ (ls : List Link). judged ls walked.end c.args.stated) c.deref.ensures.value) c.in_ok-walked.ensures.marks there
     (c.in_ok-chain-in-None.ensures.pages ∙ ap (λ (ls : List Link). pages_of ls) c.deref-in-None.ensures.value)
+
+pub returns-in_err-chain-in-None-clause-device : goal.returns-in_err-chain-in-None-clause-device
+returns-in_err-chain-in-None-clause-device g c =
+    let walked = c.in_ok-walked.walked in
+    let told = err_from_is_err_and c.from_residual-in_err-chain-in-None.result c.from_residual-in_err-chain-in-None.ensures.1 in
+    let len = g.D.Disk.file_len c.args.disk.now in
+    let same : g.D.Disk.file_len c.walk.new.disk ≡ len = c.in_ok-walked.ensures.same_len in
+    device_so (Unit {0}) c.from_residual-in_err-chain-in-None.result c.in_err-chain-in-None.field-0.0 (told.1 ∙ ap (λ f. Err f) told.2)
+    (λ past works. past_whole len c.args.count walked.links.items walked.end c.args.stated c.in_ok-walked.ensures.below
+    (c.in-None.ensures ∙ ap (λ (ls : List Link). judged ls walked.end c.args.stated) c.deref.ensures.value)
+    (subst (λ (ls : List Link). EndsPast len ls) c.deref-in-None.ensures.value (subst (λ (n : ℕ). EndsPast n c.deref-in-None.result.now) same (past works))))
+    c.in_err-chain-in-None.ensures.device

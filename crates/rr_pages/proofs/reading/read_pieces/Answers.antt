@@ -1,9 +1,10 @@
-use Rattle.std.proofs.Common.{◌≡◌, ℕ, ◌+◌, List, [], ◌∷◌, ◌++◌, get_or, take, refl, sym, ◌∙◌, ap, subst, rules}
+use Rattle.std.proofs.Common.{◌≡◌, ℕ, ◌+◌, ◌*◌, ◌<◌, List, [], ◌∷◌, ◌++◌, get_or, take, Err, refl, sym, ◌∙◌, ap, subst, rules}
 use Rattle.std.proofs.lemmas.List.{take_more}
 use Rattle.rr_disk.specs.Disk.{DiskState}
 use Rattle.rr_pages.specs.declared.reading.Link.{Link}
 use Rattle.rr_pages.specs.Links.{Gathers, AddsPiece}
-use Rattle.rr_pages.proofs.Walks.{gathers_last, pages_push}
+use Rattle.rr_pages.proofs.Walks.{device_so, ends_past, gathers_last, pages_push}
+use Rattle.std.proofs.lemmas.Result.{err_from_is_err_and}
 use Rattle.rr_pages.proofs.reading.read_pieces.Goals as goal
 
 pub loop-link-preserved : goal.loop-link-preserved
@@ -31,3 +32,14 @@ loop-link-preserved g c =
       works = search rules;
       same_len = search rules;
     }
+
+pub returns-in_err-read_piece-clause-device : goal.returns-in_err-read_piece-clause-device
+returns-in_err-read_piece-clause-device g c =
+    let told = err_from_is_err_and c.from_residual.result c.from_residual.ensures.1 in
+    let len = g.D.Disk.file_len c.args.disk.now in
+    let same : g.D.Disk.file_len c.loop-link.disk ≡ len = c.loop-link.invariant.same_len in
+    let blank : Link = record { page = 0; next = 0; used = 0 } in
+    let link : Link = get_or c.args.links.now c.loop-link.link-index blank in
+    device_so (Unit {0}) c.from_residual.result c.in_err-read_piece.field-0.0 (told.1 ∙ ap (λ f. Err f) told.2)
+    (λ past works. ends_past len c.args.links.now c.loop-link.link-index blank c.loop-link-test.true (subst (λ (n : ℕ). n < 4096 * link.page + 10 + link.used) same (past works)))
+    c.in_err-read_piece.ensures.device

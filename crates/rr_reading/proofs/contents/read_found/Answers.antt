@@ -64,7 +64,7 @@ returns-then-not-are_of_form-clause-refused g c = λ honest side taken.
     c.page_count-count.result c.page_count-count.ensures.same
     (g.D.Disk.state c.read_directory.new.disk).content (map head_of c.deref.result.now) (ap content (c.in_ok-dir.ensures.same_state first))
     (ap (λ (chains : List ChainRef). map head_of chains) c.deref.ensures.value ∙ c.in_ok-named.ensures.heads)
-    (marks_of c.read_chains.new.reached) (all_held c.in_ok-tables.tables.items) (all_held tables) (chains_held c.take_texts-texts.result) c.take_texts-texts.ensures.parts (c.in_ok-tables.ensures.whole honest) in
+    (marks_of c.read_chains.new.reached) (all_held c.in_ok-tables.tables.items) (all_held tables) (chains_held c.take_texts-texts.result) c.take_texts-texts.ensures.halves (c.in_ok-tables.ensures.whole honest) in
     table_told
     (g.D.Disk.state c.args.disk.now).content side c.args.root.now (marks_of found.reached) (held found.chain) (directory_of found.dir) (c.in_ok-dir.ensures.found first side taken)
     c.page_count-count.result c.page_count-count.ensures.same
@@ -83,7 +83,7 @@ returns-clause-found g c = λ honest side taken.
     c.page_count-count.result c.page_count-count.ensures.same
     (g.D.Disk.state c.read_directory.new.disk).content (map head_of c.deref.result.now) (ap content (c.in_ok-dir.ensures.same_state first))
     (ap (λ (chains : List ChainRef). map head_of chains) c.deref.ensures.value ∙ c.in_ok-named.ensures.heads)
-    (marks_of c.read_chains.new.reached) (all_held c.in_ok-tables.tables.items) (all_held tables) (chains_held c.take_texts-texts.result) c.take_texts-texts.ensures.parts (c.in_ok-tables.ensures.whole honest) in
+    (marks_of c.read_chains.new.reached) (all_held c.in_ok-tables.tables.items) (all_held tables) (chains_held c.take_texts-texts.result) c.take_texts-texts.ensures.halves (c.in_ok-tables.ensures.whole honest) in
     all_held_there
     (g.D.Disk.state c.args.disk.now).content side c.args.root.now (marks_of found.reached) (held found.chain) (directory_of found.dir) (c.in_ok-dir.ensures.found first side taken)
     c.page_count-count.result c.page_count-count.ensures.same

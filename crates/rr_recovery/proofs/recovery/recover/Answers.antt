@@ -4,6 +4,7 @@ use Rattle.rr_journal.specs.Reading.{lines}
 use Rattle.rr_opening.specs.Opened.{held_by}
 use Rattle.rr_reading.specs.Chains.{all_held}
 use Rattle.rr_tables.specs.Tables.{world_of}
+use Rattle.rr_recovery.proofs.PlayedLemmas.{played_from}
 use Rattle.rr_recovery.proofs.RecoveryLemmas.{bad_record, recovered_from, refuses_memory, refuses_read, refuses_records, right_read}
 use Rattle.rr_recovery.proofs.recovery.recover.Goals as goal
 
@@ -43,3 +44,8 @@ returns-clause-recovered g c = λ file holds.
     recovered_from file (held_by c.args.opened.now) holds c.in_ok-tables.tables c.replay_halves.new.tables c.in_ok-kit.kit c.in_ok-base.base
     (lines c.deref-3.result.now) (lines c.deref-4.result.now) (ap lines c.deref-3.ensures.value) (ap lines c.deref-4.ensures.value) right
     c.in_ok-base.ensures.replayed c.replay_halves.ensures.kit (λ damaged. absurd (cc (c.if-is_damaged.ensures.1 damaged))) c.in_ok-kit.ensures.pages
+
+pub returns-clause-played : goal.returns-clause-played
+returns-clause-played g c =
+    played_from _ _ _ c.in_ok-tables.tables c.replay_halves.new.tables _ _ c.in_ok-base.base c.in_ok-kit.kit
+    c.in_ok-tables.ensures.right c.in_ok-base.ensures.replayed c.replay_halves.ensures.kit

@@ -1,39 +1,21 @@
-use Rattle.std.proofs.Common.{subst, sym}
-use Rattle.rr_store.specs.declared.fault.Fault.{Fault}
-use Rattle.rr_store.specs.Fault.{OnDevice}
-use Rattle.rr_store.proofs.Keepings.{device_kept}
-use Rattle.rr_store.proofs.Openings.{calm_by, lawful_by, left_by, opened_by, refused_by, synced_by_keeper}
-use Rattle.rr_store.proofs.ReplayLemmas.{refused_file}
+use Rattle.rr_store.proofs.Openings.{carries_store, left_by, opened_store, played_store}
 use Rattle.rr_store.proofs.opening.open.Goals as goal
 
-pub returns-in-Ok-open-clause-opened : goal.returns-in-Ok-open-clause-opened
-returns-in-Ok-open-clause-opened g c =
-    opened_by g.D.Disk.Honest g.D.Disk.state g.D.Disk.past c.args.disk c.in-Ok-open.opened.keeper _ _ c.begin.result
-    c.begin.ensures.ok c.in-Ok-open.ensures.store c.in-Ok-open.ensures.keeps c.in-Ok-open.ensures.synced
+pub returns-in-Ok-clause-opened : goal.returns-in-Ok-clause-opened
+returns-in-Ok-clause-opened g c =
+    opened_store g.D.Disk.Honest g.D.Disk.state g.D.Disk.past c.args.disk c.find.new.disk c.begin.result c.in-Ok.found
+    c.begin.ensures.disk c.begin.ensures.kit c.begin.ensures.tables c.in-Ok.ensures.found c.in-Ok.ensures.synced
 
-pub returns-in-Ok-open-clause-left : goal.returns-in-Ok-open-clause-left
-returns-in-Ok-open-clause-left g c =
-    left_by g.D.Disk.Honest g.D.Disk.state g.D.Disk.past c.args.disk c.in-Ok-open.opened.keeper _ _ c.begin.result
-    c.begin.ensures.err c.in-Ok-open.ensures.store c.in-Ok-open.ensures.synced
+pub returns-in-Ok-clause-carries : goal.returns-in-Ok-clause-carries
+returns-in-Ok-clause-carries g c =
+    carries_store g.D.Disk.Honest g.D.Disk.state g.D.Disk.past c.args.disk c.find.new.disk c.begin.result c.in-Ok.found
+    c.begin.ensures.disk c.begin.ensures.kit c.begin.ensures.tables c.in-Ok.ensures.found
+    c.begin.ensures.carries c.in-Ok.ensures.resting c.in-Ok.ensures.place c.in-Ok.ensures.goes_on
 
-pub returns-in-Ok-open-clause-lawful : goal.returns-in-Ok-open-clause-lawful
-returns-in-Ok-open-clause-lawful g c =
-    lawful_by g.D.Disk.Honest g.D.Disk.state g.D.Disk.past c.args.disk c.in-Ok-open.opened.keeper _ _ c.begin.result c.begin.ensures.ok
+pub returns-in-Err-clause-left : goal.returns-in-Err-clause-left
+returns-in-Err-clause-left g c = λ honest.
+    left_by (g.D.Disk.past c.args.disk) (g.D.Disk.state c.args.disk) (g.D.Disk.past c.find.new.disk) (g.D.Disk.state c.find.new.disk) c.in-Err.fault
+    (c.in-Err.ensures.left honest) (c.in-Err.ensures.refused honest)
 
-pub returns-in-Ok-open-clause-refused : goal.returns-in-Ok-open-clause-refused
-returns-in-Ok-open-clause-refused g c =
-    refused_by g.D.Disk.Honest g.D.Disk.state g.D.Disk.past c.args.disk c.in-Ok-open.opened.keeper _ _ c.begin.result
-    c.begin.ensures.err c.in-Ok-open.ensures.store
-
-pub returns-in-Err-open-clause-left : goal.returns-in-Err-open-clause-left
-returns-in-Err-open-clause-left g c = λ honest.
-    synced_by_keeper (g.D.Disk.Honest c.in-Err-open.refused.disk) _ _ _ _ c.in-Err-open.refused.fault _ c.from.ensures (c.in-Err-open.ensures.left honest)
-    (refused_file _ _ c.in-Err-open.refused.fault c.in-Err-open.ensures.refused) honest
-
-pub returns-in-Ok-open-clause-device : goal.returns-in-Ok-open-clause-device
-returns-in-Ok-open-clause-device g c = calm_by g.D.Disk.Works c.in-Ok-open.opened.keeper _ _ c.begin.result c.begin.ensures.err
-
-pub returns-in-Err-open-clause-device : goal.returns-in-Err-open-clause-device
-returns-in-Err-open-clause-device g c =
-    subst (λ (f : Fault). OnDevice f (g.D.Disk.Works c.in-Err-open.refused.disk → ⊥)) (sym c.from.ensures)
-    (device_kept _ c.in-Err-open.refused.fault c.in-Err-open.ensures.device)
+pub returns-in-Ok-clause-played : goal.returns-in-Ok-clause-played
+returns-in-Ok-clause-played g c = played_store c.begin.result c.in-Ok.found c.begin.ensures.kit c.begin.ensures.tables c.in-Ok.ensures.played

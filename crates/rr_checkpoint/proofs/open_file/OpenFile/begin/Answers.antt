@@ -1,7 +1,8 @@
-use Rattle.std.proofs.Common.{◌∙◌, ◌+◌, length, sym}
+use Rattle.std.proofs.Common.{◌∙◌, ◌+◌, length, None, sym}
 use Rattle.rr_disk.proofs.MomentLemmas.{started, weaker}
 use Rattle.rr_images.specs.Layout.{Keeps}
 use Rattle.rr_checkpoint.proofs.Records.{isnt_begun, found_carries, begin_stops, begin_carries}
+use Rattle.rr_checkpoint.proofs.Working.{on_err, is_long, no_short_half}
 use Rattle.rr_checkpoint.proofs.open_file.OpenFile.begin.Goals as goal
 
 pub returns-then-is_some-clause-stops : goal.returns-then-is_some-clause-stops
@@ -39,3 +40,12 @@ returns-clause-carries g c = λ honest world carries plan holding is_plan coming
     let none = isnt_begun file.place.begun (carries.layout.root.first + length carries.layout.near) carries.layout.far (sym c.is_some.ensures ∙ c.if-is_some.false) carries.tells.begun in
     begin_carries g.C.Codec.codec file (g.D.Disk.state c.args.disk.now) world stays carries none c.half_of.result c.half_of.ensures c.next_gate.result c.next_gate.ensures.place
     plan holding is_plan coming (g.D.Disk.state c.shut.new.disk) (c.in_ok-shut.ensures.done honest)
+
+pub returns-in_err-shut-clause-device : goal.returns-in_err-shut-clause-device
+returns-in_err-shut-clause-device g c =
+    on_err c.from_residual.result
+    (λ honest world carries works.
+    let disk = c.args.disk.now in
+    let before = c.in_err-shut.ensures.honest honest in
+    let enough = is_long g.C.Codec.codec c.args.self.now None (g.D.Disk.state disk) world (g.met.D.Disk.content_may_stay disk before) carries (g.D.Disk.file_len disk) (g.met.D.Disk.length_is_told disk before) in
+    no_short_half (g.D.Disk.file_len disk) c.next_gate.result enough c.next_gate.ensures.small (c.in_err-shut.ensures.refused works))

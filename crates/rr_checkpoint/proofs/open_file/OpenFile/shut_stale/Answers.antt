@@ -1,6 +1,8 @@
+use Rattle.std.proofs.Common.{Some, not}
 use Rattle.rr_disk.proofs.MomentLemmas.{weaker}
 use Rattle.rr_images.specs.Layout.{Keeps}
 use Rattle.rr_checkpoint.proofs.Steps.{shut_stops, shut_carries}
+use Rattle.rr_checkpoint.proofs.Working.{on_err, is_long, no_short_root}
 use Rattle.rr_checkpoint.proofs.open_file.OpenFile.shut_stale.Goals as goal
 
 pub returns-in_err-close-clause-stops : goal.returns-in_err-close-clause-stops
@@ -20,3 +22,12 @@ returns-clause-carries g c = λ honest world carries.
     let stays = g.met.D.Disk.content_may_stay c.args.disk.now (c.in_ok-close.ensures.honest honest) in
     shut_carries g.C.Codec.codec c.args.self.now c.args.checkpoint (g.D.Disk.state c.args.disk.now) world stays carries c.args.written c.requires.stage c.requires.all
     (g.D.Disk.state c.close.new.disk) (c.in_ok-close.ensures.done honest)
+
+pub returns-in_err-close-clause-device : goal.returns-in_err-close-clause-device
+returns-in_err-close-clause-device g c =
+    on_err c.from_residual.result
+    (λ honest world carries works.
+    let disk = c.args.disk.now in
+    let before = c.in_err-close.ensures.honest honest in
+    let enough = is_long g.C.Codec.codec c.args.self.now (Some c.args.checkpoint) (g.D.Disk.state disk) world (g.met.D.Disk.content_may_stay disk before) carries (g.D.Disk.file_len disk) (g.met.D.Disk.length_is_told disk before) in
+    no_short_root (g.D.Disk.file_len disk) (not c.args.self.now.taken.side) enough (c.in_err-close.ensures.refused works))

@@ -5,6 +5,7 @@ use Rattle.rr_pages.specs.declared.choosing.Taken.{Taken}
 use Rattle.rr_pages.specs.declared.root.Root.{Root}
 use Rattle.rr_checkpoint.specs.Writer.{place_of, ticks_left_of, taken_of}
 use Rattle.rr_checkpoint.proofs.Writers.{left_some, lowers_one, none_is_left, taken_left, renewed_behind, holds_at_first, holds_more, rests_behind}
+use Rattle.rr_checkpoint.proofs.Working.{on_err}
 use Rattle.rr_checkpoint.proofs.writer.Writer.finish.Goals as goal
 
 pub loop-self-init : goal.loop-self-init
@@ -75,3 +76,10 @@ returns-clause-renews g c = λ honest world carries some.
 
 pub returns-clause-rests : goal.returns-clause-rests
 returns-clause-rests g c = λ some. c.loop-self.invariant.rests some (none_is_left c.loop-self.self.checkpoint (sym c.is_some.ensures ∙ c.loop-self-test.false))
+
+pub returns-in_err-tick-clause-device : goal.returns-in_err-tick-clause-device
+returns-in_err-tick-clause-device g c =
+    on_err c.from_residual.result
+    (λ honest world carries.
+    let then = c.tick.ensures.honest honest in
+    c.in_err-tick.ensures.device honest world (c.loop-self.invariant.carries then world carries).0)

@@ -5,6 +5,7 @@ use Rattle.rr_checkpoint.specs.declared.writer.Tick.{Tick}
 use Rattle.rr_checkpoint.specs.Holds.{HoldsAt, RestsAt}
 use Rattle.rr_checkpoint.specs.Writer.{RenewsAt, StaysTakenAt}
 use Rattle.rr_checkpoint.proofs.Writers.{carries_same, holds_told, renews_told, rests_told, taken_told}
+use Rattle.rr_checkpoint.proofs.Working.{on_err}
 use Rattle.rr_checkpoint.proofs.writer.Writer.tick.Goals as goal
 
 pub returns-in-None-clause-stops : goal.returns-in-None-clause-stops
@@ -59,3 +60,12 @@ pub returns-in_ok-self-in-Some-clause-rests : goal.returns-in_ok-self-in-Some-cl
 returns-in_ok-self-in-Some-clause-rests g c =
     let begun = c.advance.new.self.place.begun in
     subst (λ (tick : Tick). RestsAt tick begun) (sym c.told.ensures) (rests_told c.in_ok-self-in-Some.field-0 begun c.in_ok-self-in-Some.ensures.rests)
+
+pub returns-in_err-self-in-Some-clause-device : goal.returns-in_err-self-in-Some-clause-device
+returns-in_err-self-in-Some-clause-device g c =
+    on_err c.from_residual.result
+    (λ honest world carries.
+    let writer = c.args.self.now in
+    let under_way = sym c.take.ensures.value ∙ c.in-Some.is in
+    c.in_err-self-in-Some.ensures.device honest world
+    (carries_same g.C.Codec.codec writer.file (g.D.Disk.state c.args.disk.now) world writer.checkpoint (Some c.in-Some.checkpoint) under_way carries))

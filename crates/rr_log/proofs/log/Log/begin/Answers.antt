@@ -46,3 +46,10 @@ returns-in-Ok-clause-carries g c = λ honest whole world lent carries.
     let left = c.in-Ok.ensures.left in
     begun_carries g.R.Rules.takes c.plan.new.self (g.D.Disk.state c.plan.new.self.disk) world planned.carries c.begin.new.disk c.begin.new.self (g.D.Disk.state c.begin.new.disk)
     planned.may.holding planned.texts (omega (arith, left)) (c.in-Ok.ensures.carries honest world planned.carries.carried planned.may)
+
+pub returns-in-Err-clause-device : goal.returns-in-Err-clause-device
+returns-in-Err-clause-device g c = λ honest world carries.
+    let log = c.args.self.now in
+    let there = subst (λ (disk : g.row.D.Denot). Carries g.R.Rules.takes c.plan.new.self (g.D.Disk.state disk) world) (sym c.plan.ensures.unchanged.disk)
+    (c.plan.ensures.carries (g.D.Disk.state log.disk) world carries) in
+    c.in-Err.ensures.device honest world there.carried

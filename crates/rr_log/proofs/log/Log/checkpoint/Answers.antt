@@ -1,10 +1,11 @@
-use Rattle.std.proofs.Common.{ℕ, subst}
+use Rattle.std.proofs.Common.{◌∙◌, ℕ, Err, ap, subst}
 use Rattle.rr_checkpoint.specs.Calls.{TakesRootBehind}
 use Rattle.rr_disk.proofs.MomentLemmas.{started, joins}
 use Rattle.rr_disk.specs.Moments.{EachImage}
 use Rattle.rr_images.specs.Layout.{Keeps}
-use Rattle.rr_log.proofs.Carried.{kept_now, ok_so}
+use Rattle.rr_log.proofs.Carried.{device_more, device_so, kept_now, ok_so}
 use Rattle.rr_worlds.specs.Spelling.{worlds}
+use Rattle.std.proofs.lemmas.Result.{err_from_is_err_and}
 use Rattle.rr_log.proofs.log.Log.checkpoint.Goals as goal
 
 pub returns-then-self-clause-stops : goal.returns-then-self-clause-stops
@@ -39,3 +40,21 @@ returns-clause-renews g c = λ honest world lent carries.
     let after = g.D.Disk.state c.finish-2.new.self.disk in
     subst (λ (number : ℕ). EachImage after (TakesRootBehind (worlds g.R.Rules.takes) number world)) c.in_ok-begin.ensures.root
     (c.in_ok-finish.ensures.renews honest world (c.in_ok-begin.ensures.carries then c.in_ok-begin.ensures.broken world lent carries))
+
+pub returns-then-ticks_left-gt0-clause-device : goal.returns-then-ticks_left-gt0-clause-device
+returns-then-ticks_left-gt0-clause-device g c =
+    device_more c.finish.result (λ device honest world lent carries. device honest world carries) c.finish.ensures.device
+
+pub returns-in_err-begin-clause-device : goal.returns-in_err-begin-clause-device
+returns-in_err-begin-clause-device g c =
+    let told = err_from_is_err_and c.from_residual.result c.from_residual.ensures.1 in
+    device_so (Unit {0}) c.from_residual.result c.in_err-begin.field-0.0 (told.1 ∙ ap (λ f. Err f) told.2)
+    (λ device honest world lent carries. device honest world carries) c.in_err-begin.ensures.device
+
+pub returns-in_err-finish-clause-device : goal.returns-in_err-finish-clause-device
+returns-in_err-finish-clause-device g c =
+    let told = err_from_is_err_and c.from_residual-in_err-finish.result c.from_residual-in_err-finish.ensures.1 in
+    device_so (Unit {0}) c.from_residual-in_err-finish.result c.in_err-finish.field-0.0 (told.1 ∙ ap (λ f. Err f) told.2)
+    (λ device honest world lent carries.
+    device honest world (c.in_ok-begin.ensures.carries (c.in_err-finish.ensures.honest honest) c.in_ok-begin.ensures.broken world lent carries))
+    c.in_err-finish.ensures.device

@@ -11,3 +11,6 @@ returns-in-Ok-clause-carries g c = λ honest whole world carries.
 
 pub returns-in-Ok-clause-renews : goal.returns-in-Ok-clause-renews
 returns-in-Ok-clause-renews g c = λ honest world carries. c.in-Ok.ensures.renews honest world carries.carried c.requires.under_way
+
+pub returns-in-Err-clause-device : goal.returns-in-Err-clause-device
+returns-in-Err-clause-device g c = λ honest world carries. c.in-Err.ensures.device honest world carries.carried

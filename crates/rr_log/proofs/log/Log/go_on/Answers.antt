@@ -6,3 +6,6 @@ returns-in-Ok-clause-carries g c = λ honest whole world carries.
     let log = c.args.self.now in
     ticked_carries g.R.Rules.takes log (g.D.Disk.state log.disk) world carries c.tick.new.disk c.tick.new.self (g.D.Disk.state c.tick.new.disk) c.in-Ok.tick c.requires.under_way
     c.in-Ok.ensures.left c.in-Ok.ensures.rests (c.in-Ok.ensures.carries honest world carries.carried)
+
+pub returns-in-Err-clause-device : goal.returns-in-Err-clause-device
+returns-in-Err-clause-device g c = λ honest world carries. c.in-Err.ensures.device honest world carries.carried

@@ -1,11 +1,12 @@
-use Rattle.std.proofs.Common.{◌⊎◌, inl, sym, subst}
+use Rattle.std.proofs.Common.{◌⊎◌, inl, ◌∙◌, Err, length, sym, ap, subst}
 use Rattle.std.proofs.lemmas.Result.{err_from_is_err_and}
 use Rattle.rr_disk.proofs.MomentLemmas.{started, joins, weaker}
 use Rattle.rr_images.specs.Layout.{Keeps}
 use Rattle.rr_log.specs.Carrying.{Carries}
-use Rattle.rr_log.proofs.Carried.{kept_now, told_behind}
+use Rattle.rr_log.proofs.Carried.{kept_now, no_more_room, told_behind}
 use Rattle.rr_worlds.specs.Spelling.{worlds}
 use Rattle.rr_worlds.specs.World.{World}
+use Rattle.rr_log.specs.Log.{place_of}
 use Rattle.rr_log.proofs.log.Log.keep.Goals as goal
 
 pub returns-then-self-clause-stops : goal.returns-then-self-clause-stops
@@ -52,3 +53,9 @@ pub returns-clause-carries : goal.returns-clause-carries
 returns-clause-carries g c = λ honest whole old new takes same lent carries.
     let then = c.in_ok-append.ensures.honest honest in
     c.in_ok-append.ensures.carries honest whole old new takes same (c.in_ok-full.ensures.carries then c.in_ok-full.ensures.broken old lent carries)
+
+pub returns-in_err-append-clause-full : goal.returns-in_err-append-clause-full
+returns-in_err-append-clause-full g c = λ half.
+    let told = err_from_is_err_and c.from_residual-in_err-append.result c.from_residual-in_err-append.ensures.1 in
+    no_more_room (place_of c.tick_before.new.self).half.next_slot (place_of c.args.self.now).half.next_slot (length c.args.line.now) c.tick_before.ensures.slots
+    (c.in_err-append.ensures.full (sym (told.1 ∙ ap (λ f. Err f) told.2) ∙ half))

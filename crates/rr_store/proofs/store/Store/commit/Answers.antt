@@ -1,6 +1,6 @@
 use Rattle.std.proofs.Common.{◌∙◌, sym, refl}
-use Rattle.rr_code.specs.Request.{SpellsRecord, record_text}
-use Rattle.rr_store.proofs.Commits.{commits, commits_again}
+use Rattle.std.proofs.lemmas.Result.{err_from_is_err_and}
+use Rattle.rr_store.proofs.Commits.{commits, commits_again, commits_not}
 use Rattle.rr_store.proofs.store.Store.commit.Goals as goal
 
 pub returns-then-is_broken : goal.returns-then-is_broken
@@ -8,10 +8,15 @@ returns-then-is_broken g c =
     commits_again g.D.Disk.Honest g.D.Disk.Works g.D.Disk.state g.D.Disk.past g.D.Disk.fault_count g.D.Disk.write_count g.D.Disk.sync_count
     c.args.self.now _ c.args.stamp c.args.name.now c.args.request.now refl (sym c.is_broken.ensures ∙ c.if-is_broken.true)
 
+pub returns-in_err-taken : goal.returns-in_err-taken
+returns-in_err-taken g c =
+    let p = err_from_is_err_and c.from_residual.result c.from_residual.ensures.1 in
+    rw (p.1, p.2) (commits_not g.D.Disk.Honest g.D.Disk.Works g.D.Disk.state g.D.Disk.past g.D.Disk.fault_count g.D.Disk.write_count g.D.Disk.sync_count
+    c.args.self.now _ c.args.stamp c.args.name.now c.args.request.now (c.requires.name, c.requires.request) (sym c.is_broken.ensures ∙ c.if-is_broken.false)
+    c.in_err-taken.ensures.kit c.in_err-taken.ensures.err c.in_err-taken.field-0.0 c.in_err-taken.ensures.verdict c.in_err-taken.ensures.kept)
+
 pub returns : goal.returns
 returns g c =
-    let spelled : SpellsRecord (record_text c.args.name.now c.args.request.now) c.args.name.now c.args.request.now =
-    record { name = c.requires.name; request = c.requires.request; spelled = refl } in
     commits g.D.Disk.Honest g.D.Disk.Works g.D.Disk.state g.D.Disk.past g.D.Disk.fault_count g.D.Disk.write_count g.D.Disk.sync_count
-    c.args.self.now _ c.args.stamp c.args.name.now c.args.request.now spelled (sym c.is_broken.ensures ∙ c.if-is_broken.false)
-    c.requests_have_one_verdict.ensures c.take.result c.take.ensures.verdict c.take.ensures.world c.take.ensures.stamp c.take.ensures.whole c.take.ensures.kept c.take.ensures.kit c.take.ensures.err c.take.ensures.untouched
+    c.args.self.now _ c.args.stamp c.args.name.now c.args.request.now (c.requires.name, c.requires.request) (sym c.is_broken.ensures ∙ c.if-is_broken.false)
+    c.in_ok-taken.ensures.kit c.in_ok-taken.taken c.in_ok-taken.ensures.verdict c.in_ok-taken.ensures.world c.in_ok-taken.ensures.stamp c.in_ok-taken.ensures.kept

@@ -1,5 +1,0 @@
-pub mod Parts
-pub mod Kits
-pub mod Places
-pub mod Slots
-pub mod Stores

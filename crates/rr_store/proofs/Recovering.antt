@@ -1,0 +1,239 @@
+-- What a file stands for by what was recovered of it.
+use Rattle.std.proofs.Common.{◌≡◌, ◌⊎◌, ℕ, ◌+◌, List, [], ◌∷◌, ◌++◌, length, map, Option, None, Some, inl, inr, refl, sym, ap, subst, ◌∙◌}
+use Rattle.rr_images.specs.Codec.{Replays}
+use Rattle.rr_images.specs.Holding.{HeldChain, Holding, texts_of}
+use Rattle.rr_images.specs.Layout.{Layout}
+use Rattle.rr_images.proofs.OneWorld.{closed_whole, one_replay, replays_on}
+use Rattle.rr_kit.specs.declared.kit.Kit.{Kit}
+use Rattle.rr_kit.specs.Kits.{IsWrongKit, KitTexts, SpellsKit}
+use Rattle.rr_log.specs.Carrying.{HasTexts, HoldsKit, IsBase as IsLogBase}
+use Rattle.rr_opening.specs.Carrying.{IsReadAs}
+use Rattle.rr_opening.specs.Opened.{HasDamagedRecord}
+use Rattle.rr_opening.specs.Place.{begun_at}
+use Rattle.rr_reading.specs.Held.{Held, TextChains, chains_of}
+use Rattle.rr_reading.specs.Reading.{Holds}
+use Rattle.rr_reading.proofs.Standing.{held_stands}
+use Rattle.rr_records.specs.Played.{ArePlayedTables, IsPlayedWorld}
+use Rattle.rr_records.specs.Records.{TakesRecord}
+use Rattle.rr_records.specs.Taking.{Takes, table_files}
+use Rattle.rr_records.specs.Words.{IsInWords, in_words, kit_texts, table_in_words}
+use Rattle.rr_records.proofs.PlayedLemmas.{played_after, read_have_played_bases, tables_of_played_are_played}
+use Rattle.rr_records.proofs.TakingLemmas.{files_are_exact, unlawful_lead_nowhere}
+use Rattle.rr_records.proofs.WordLemmas.{are_in_words, of_form, one_in_words}
+use Rattle.rr_records.proofs.WorldLemmas.{keep_after}
+use Rattle.rr_recovery.specs.declared.fault.Damage.{Damage}
+use Rattle.rr_recovery.specs.declared.fault.Damage.TheVariants as D
+use Rattle.rr_recovery.specs.declared.recovery.Recovered.{Recovered}
+use Rattle.rr_recovery.specs.Recovered.{IsRecoveredFrom}
+use Rattle.rr_recovery.specs.Recovery.{IsBase, IsDamage}
+use Rattle.rr_recovery.specs.Replaying as recovery
+use Rattle.rr_recovery.specs.Replaying.{BreaksOff, IsSnapshotBefore}
+use Rattle.rr_recovery.specs.Texts.{texts_in}
+use Rattle.rr_snapshot.specs.declared.snapshot.Snapshot.{Snapshot}
+use Rattle.rr_tables.specs.Tables.{world_of}
+use Rattle.rr_worlds.specs.Spelling.{Spells}
+use Rattle.rr_worlds.specs.World.{Table}
+use Rattle.rr_worlds.specs.World as words
+use Rattle.rr_worlds.proofs.Exact.{one_world}
+use Rattle.rr_store.specs.Files.{AreTablesOf, StandsFor}
+use Rattle.rr_store.specs.World.{World}
+use Rattle.rr_store.proofs.Kits.{right_is_not_wrong}
+
+-- lines lead from a world to one world
+same_replay : (lines : List (List ℕ)) (old a b : words.World) → Replays table_files old lines a → Replays table_files old lines b → a ≡ b
+same_replay lines old a b ra rb = one_replay table_files files_are_exact lines old a b ra rb
+
+-- what lines lead to, in two parts
+split_replays : (front lines : List (List ℕ)) (old new : words.World) → Replays table_files old (front ++ lines) new
+    → (mid : words.World) × Replays table_files old front mid × Replays table_files mid lines new
+split_replays [] lines old new replays = (old, refl, replays)
+split_replays (line ∷ front) lines old new replays =
+    let more = split_replays front lines replays.0 new replays.2 in
+    (more.0, (replays.0, replays.1, more.1), more.2)
+
+-- the texts stay
+replay_texts : (lines : List (List ℕ)) (old new : words.World) → Replays table_files old lines new → kit_texts new ≡ kit_texts old
+replay_texts [] old new same = ap kit_texts (sym same)
+replay_texts (line ∷ lines) old new replays = replay_texts lines replays.0 new replays.2 ∙ replays.1.same_texts
+
+-- the snapshot that a file's far records ask for
+base_before : (far : List (List ℕ)) (middle : World) (base : Option Snapshot) (begun : Option ℕ) (number : ℕ) (tables : List Table) → begun ≡ begun_at number far
+    → IsSnapshotBefore far middle base → tables ≡ map table_in_words middle → IsLogBase begun base tables
+base_before [] middle base begun number tables is before same = subst (λ (b : Option ℕ). IsLogBase b base tables) (sym is) before
+base_before (line ∷ far) middle None begun number tables is before same = absurd before
+base_before (line ∷ far) middle (Some snapshot) begun number tables is before same =
+    subst (λ (b : Option ℕ). IsLogBase b (Some snapshot) tables) (sym is) (snapshot, refl, before ∙ sym same)
+
+-- the texts that chains hold are those of the world that they spell
+pub spelled_texts : (number : ℕ) (bytes : List ℕ) (texts : TextChains) (tables : List HeldChain) (world : words.World)
+    → Spells number bytes (texts_of (chains_of texts tables)) world → kit_texts world ≡ texts_in texts
+spelled_texts number bytes texts tables world spells =
+    let all = spells.of_chains in
+    let chart : world.chart ≡ texts.chart.text = cc in
+    let roster : world.roster ≡ texts.roster.text = cc in
+    let tiles : world.tiles ≡ texts.tiles.text = cc in
+    let board : world.board ≡ texts.board.text = cc in
+    λ i. record { chart = chart i; roster = roster i; tiles = tiles i; board = board i }
+
+module _ (texts : KitTexts) (kit : Kit) (right : SpellsKit texts kit) where
+  after_record : (old new : World) (line : List ℕ) → AreTablesOf kit old → TakesRecord kit old line new → AreTablesOf kit new
+  after_record old new line of_kit takes =
+      subst (λ (w : World). AreTablesOf kit w) (sym takes.taken)
+      (record {
+        spelled = keep_after kit old takes.name takes.request takes.spelled.request of_kit.spelled;
+        played = played_after kit old takes.name takes.request takes.lawful of_kit.played;
+      })
+
+  -- records that are replayed lead on in words
+  pub replayed : (lines : List (List ℕ)) (old new : World) → AreTablesOf kit old → recovery.Replays kit old lines new
+      → AreTablesOf kit new × Replays table_files (in_words texts old) lines (in_words texts new)
+  replayed [] old new of_kit same = (subst (λ (w : World). AreTablesOf kit w) (sym same) of_kit, ap (in_words texts) (sym same))
+  replayed (line ∷ lines) old new of_kit replays =
+      let then = after_record old replays.0 line of_kit replays.1 in
+      let more = replayed lines replays.0 new then replays.2 in
+      let takes : Takes line (in_words texts old) (in_words texts replays.0) = record {
+        kit = kit;
+        right = right;
+        before = old;
+        after = replays.0;
+        was = are_in_words texts old of_kit.spelled;
+        played = of_kit.played;
+        taken = replays.1;
+        becomes = are_in_words texts replays.0 then.spelled;
+        same_texts = refl;
+      } in
+      (more.0, (in_words texts replays.0, takes, more.1))
+
+  -- records that break off lead nowhere
+  pub broken_off : (lines : List (List ℕ)) (tables : World) (new : words.World) → AreTablesOf kit tables → BreaksOff kit tables lines
+      → Replays table_files (in_words texts tables) lines new → ⊥
+  broken_off lines tables new of_kit broken replays =
+      let whole = subst (λ (ls : List (List ℕ)). Replays table_files (in_words texts tables) ls new) broken.split replays in
+      let halves = split_replays broken.front (broken.next ∷ broken.rest) (in_words texts tables) new whole in
+      let front = replayed broken.front tables broken.mid of_kit broken.before in
+      let same = same_replay broken.front (in_words texts tables) halves.0 (in_words texts broken.mid) halves.1 front.1 in
+      let on = subst (λ (w : words.World). Replays table_files w (broken.next ∷ broken.rest) new) same halves.2 in
+      unlawful_lead_nowhere kit broken.mid (in_words texts broken.mid) on.0 broken.next right (are_in_words texts broken.mid front.0.spelled) broken.unlawful on.1
+
+-- the world that an opening reads, as what was recovered of it
+module _ (has : Held) (recovered : Recovered) (r : IsRecoveredFrom has recovered) where
+  abbrev kit : Kit
+  kit = recovered.tables.kit
+
+  abbrev now : World
+  now = world_of recovered.tables
+
+  of_base : AreTablesOf kit r.base
+  of_base = record { spelled = of_form r.base r.told.world r.told.based; played = r.told.played }
+
+  base_is : r.told.world ≡ in_words r.texts r.base
+  base_is = one_in_words r.base r.told.world (in_words r.texts r.base) r.told.based (are_in_words r.texts r.base of_base.spelled) r.told.of_kit
+
+  near_on : AreTablesOf kit r.middle × Replays table_files (in_words r.texts r.base) has.near (in_words r.texts r.middle)
+  near_on = replayed r.texts kit r.told.right has.near r.base r.middle of_base r.told.near
+
+  far_on : AreTablesOf kit now × Replays table_files (in_words r.texts r.middle) has.far (in_words r.texts now)
+  far_on = replayed r.texts kit r.told.right has.far r.middle now near_on.0 r.told.far
+
+  pub of_now : AreTablesOf kit now
+  of_now = far_on.0
+
+  -- the file stands for it
+  pub stands_now : (file : List ℕ) → Holds file has → StandsFor file r.texts now
+  stands_now file holds =
+      record {
+        kit = kit;
+        right = r.told.right;
+        tables_of_kit = of_now;
+        stands = held_stands table_files (λ version bytes heads. (λ named. named, λ named. named)) file has (in_words r.texts r.base) (in_words r.texts now) holds
+            (subst (λ (w : words.World). Spells has.root.version has.chain.text (texts_of (chains_of has.texts has.tables)) w) base_is r.told.spells)
+            (λ is. r.told.whole (inl is)) (λ is. r.told.whole (inr is))
+            (replays_on table_files has.near has.far (in_words r.texts r.base) (in_words r.texts r.middle) (in_words r.texts now) near_on.1 far_on.1);
+      }
+
+  -- and where the file keeps it, what writes to it goes on by a layout of it
+  module _ (texts : KitTexts) (layout : Layout table_files) (is_read : IsReadAs layout has (in_words texts now)) where
+    base_same : layout.base ≡ in_words r.texts r.base
+    base_same = one_world has.root.version has.chain.text (texts_of (chains_of has.texts has.tables)) layout.base r.told.world is_read.spells r.told.spells ∙ base_is
+
+    middle_same : layout.middle ≡ in_words r.texts r.middle
+    middle_same = same_replay has.near (in_words r.texts r.base) layout.middle (in_words r.texts r.middle)
+        (subst (λ (w : words.World). Replays table_files w has.near layout.middle) base_same is_read.leads) near_on.1
+
+    now_same : in_words texts now ≡ in_words r.texts now
+    now_same = same_replay has.far (in_words r.texts r.middle) (in_words texts now) (in_words r.texts now)
+        (subst (λ (w : words.World). Replays table_files w has.far (in_words texts now)) middle_same is_read.leads_on) far_on.1
+
+    pub texts_same : texts ≡ r.texts
+    texts_same = ap kit_texts now_same
+
+    held_texts : texts_in has.texts ≡ r.texts
+    held_texts = sym (spelled_texts has.root.version has.chain.text has.texts has.tables r.told.world r.told.spells) ∙ r.told.of_kit
+
+    texts_of_world : (world : words.World) → kit_texts world ≡ r.texts → HasTexts has.texts world
+    texts_of_world world same =
+        let all = held_texts ∙ sym same in
+        record {
+          of_chart = ap (λ (t : KitTexts). t.chart) all;
+          of_roster = ap (λ (t : KitTexts). t.roster) all;
+          of_tiles = ap (λ (t : KitTexts). t.tiles) all;
+          of_board = ap (λ (t : KitTexts). t.board) all;
+        }
+
+    pub holds_kit : HoldsKit recovered.kit layout (in_words texts now)
+    holds_kit =
+        record {
+          texts = has.texts;
+          held = record { others = has.tables; held = ap (λ (h : Holding). h.chains) is_read.holding };
+          on_pages = r.on_pages;
+          of_world = texts_of_world (in_words texts now) texts_same;
+          of_middle = texts_of_world layout.middle (ap kit_texts middle_same);
+        }
+
+    pub is_base : (begun : Option ℕ) → begun ≡ begun_at (has.root.first + length has.near) has.far → IsLogBase begun recovered.base layout.middle.tables
+    is_base begun is = base_before has.far r.middle recovered.base begun (has.root.first + length has.near) layout.middle.tables is r.before (ap (λ (w : words.World). w.tables) middle_same)
+
+-- a file that keeps tables which were played breaks no clause by the rules of the game
+module _ (texts : KitTexts) (kit : Kit) (tables : World) (right : SpellsKit texts kit) (of_kit : AreTablesOf kit tables)
+    (has : Held) (layout : Layout table_files) (is_read : IsReadAs layout has (in_words texts tables)) where
+  was_played : IsPlayedWorld layout.base
+  was_played =
+      read_have_played_bases has.near has.far layout.base layout.middle (in_words texts tables) is_read.leads is_read.leads_on
+      (record { kit = kit; right = right; tables = tables; spelled = are_in_words texts tables of_kit.spelled; played = of_kit.played })
+
+  -- the texts stay from the base on
+  same_texts : texts_in has.texts ≡ texts
+  same_texts =
+      sym (spelled_texts has.root.version has.chain.text has.texts has.tables layout.base is_read.spells)
+      ∙ sym (replay_texts has.far layout.middle (in_words texts tables) is_read.leads_on ∙ replay_texts has.near layout.base layout.middle is_read.leads)
+
+  base_texts : kit_texts layout.base ≡ texts_in has.texts
+  base_texts = spelled_texts has.root.version has.chain.text has.texts has.tables layout.base is_read.spells
+
+  of_one_kit : (other : Kit) (base : World) (world : words.World) → IsBase has base world → SpellsKit (texts_in has.texts) other → ArePlayedTables other base
+  of_one_kit other base world is right_too =
+      let worlds_same = one_world has.root.version has.chain.text (texts_of (chains_of has.texts has.tables)) world layout.base is.spells is_read.spells in
+      let based = subst (λ (w : words.World). IsInWords base w) worlds_same is.based in
+      tables_of_played_are_played other base layout.base (subst (λ (t : KitTexts). SpellsKit t other) (sym base_texts) right_too) based was_played
+
+  pub no_damage : (damage : Damage) → IsDamage has damage → ⊥
+  no_damage D.Words bad = bad was_played.tables layout.base (record { spells = is_read.spells; based = was_played.spelled })
+  no_damage D.Kit bad =
+      right_is_not_wrong texts kit right (subst (λ (t : KitTexts). IsWrongKit t) same_texts bad.wrong)
+  no_damage D.Kept bad = bad.unplayed (of_one_kit bad.kit bad.base bad.world bad.is_base bad.right)
+  no_damage D.Records bad = no_bad bad.bad
+    where
+      base_is : layout.base ≡ in_words (texts_in has.texts) bad.base
+      base_is =
+          let worlds_same = one_world has.root.version has.chain.text (texts_of (chains_of has.texts has.tables)) bad.world layout.base bad.is_base.spells is_read.spells in
+          let based = subst (λ (w : words.World). IsInWords bad.base w) worlds_same bad.is_base.based in
+          one_in_words bad.base layout.base (in_words (texts_in has.texts) bad.base) based (are_in_words (texts_in has.texts) bad.base (of_form bad.base layout.base based)) base_texts
+
+      no_bad : BreaksOff bad.kit bad.base (has.near ++ has.far) ⊎ HasDamagedRecord has → ⊥
+      no_bad (inl broken) =
+          broken_off (texts_in has.texts) bad.kit bad.right (has.near ++ has.far) bad.base (in_words texts tables)
+          (record { spelled = of_form bad.base bad.world bad.is_base.based; played = bad.played }) broken
+          (subst (λ (w : words.World). Replays table_files w (has.near ++ has.far) (in_words texts tables)) base_is
+          (replays_on table_files has.near has.far layout.base layout.middle (in_words texts tables) is_read.leads is_read.leads_on))
+      no_bad (inr (inl near)) = closed_whole (sym is_read.near_whole ∙ near)
+      no_bad (inr (inr far)) = is_read.far_whole far

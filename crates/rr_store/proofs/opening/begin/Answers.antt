@@ -1,0 +1,23 @@
+use Rattle.std.proofs.Common.{sym, subst}
+use Rattle.rr_kit.specs.Kits.{KitTexts, SpellsKit}
+use Rattle.rr_log.specs.Carrying.{Carries}
+use Rattle.rr_opening.specs.Opened.{held_by}
+use Rattle.rr_records.specs.Taking.{Takes}
+use Rattle.rr_records.specs.Words.{in_words}
+use Rattle.rr_tables.specs.Tables.{world_of}
+use Rattle.rr_store.proofs.Recovering.{holds_kit, is_base, of_now, texts_same}
+use Rattle.rr_store.proofs.opening.begin.Goals as goal
+
+pub returns-clause-carries : goal.returns-clause-carries
+returns-clause-carries g c = λ file texts found resting place read.
+    let has = held_by c.args.found.opened in
+    let recovered = c.args.found.recovered in
+    let r = found.recovered in
+    let layout = read.carries.layout in
+    record {
+      right = subst (λ (t : KitTexts). SpellsKit t recovered.tables.kit) (sym (texts_same has recovered r texts layout read.is_read)) r.told.right;
+      tables_of_kit = of_now has recovered r;
+      file = subst (λ (d : g.row.D.Denot). Carries Takes c.new-file.result (g.D.Disk.state d) (in_words texts (world_of recovered.tables))) (sym c.new-file.ensures.disk)
+          (c.new-file.ensures.carries (g.D.Disk.state c.args.disk) (in_words texts (world_of recovered.tables)) read.carries resting
+          (holds_kit has recovered r texts layout read.is_read) (is_base has recovered r texts layout read.is_read _ place.begun));
+    }

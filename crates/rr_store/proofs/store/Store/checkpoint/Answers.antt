@@ -1,0 +1,21 @@
+use Rattle.std.proofs.Common.{refl}
+use Rattle.std.proofs.lemmas.Result.{err_from_is_err_and}
+use Rattle.rr_records.specs.Words.{in_words}
+use Rattle.rr_store.specs.Holding.{held_of}
+use Rattle.rr_store.proofs.Steps.{steps_done, steps_refused}
+use Rattle.rr_store.proofs.store.Store.checkpoint.Goals as goal
+
+pub returns-in_err-checkpoint-clause-steps : goal.returns-in_err-checkpoint-clause-steps
+returns-in_err-checkpoint-clause-steps g c =
+    let p = err_from_is_err_and c.from_residual.result c.from_residual.ensures.1 in
+    rw (p.1, p.2) (steps_refused g.D.Disk.Honest g.D.Disk.Works g.D.Disk.state g.D.Disk.past g.D.Disk.fault_count c.args.self.now _ refl _ c.in_err-checkpoint.field-0.0
+    (record { stops = c.in_err-checkpoint.ensures.stops; carries = c.in_err-checkpoint.ensures.carries; number = c.in_err-checkpoint.ensures.number; again = c.in_err-checkpoint.ensures.again; untouched = c.in_err-checkpoint.ensures.untouched; broken = c.in_err-checkpoint.ensures.broken; full = c.in_err-checkpoint.ensures.full; first = c.in_err-checkpoint.ensures.first; unchanged = c.in_err-checkpoint.ensures.unchanged; room = c.in_err-checkpoint.ensures.room; fault = c.in_err-checkpoint.ensures.fault; honest = c.in_err-checkpoint.ensures.honest; works = c.in_err-checkpoint.ensures.works; device = c.in_err-checkpoint.ensures.device }))
+
+pub returns-clause-steps : goal.returns-clause-steps
+returns-clause-steps g c =
+    steps_done g.D.Disk.Honest g.D.Disk.Works g.D.Disk.state g.D.Disk.past g.D.Disk.fault_count c.args.self.now _ refl tt
+    (record { stops = c.in_ok-checkpoint.ensures.stops; carries = c.in_ok-checkpoint.ensures.carries; number = c.in_ok-checkpoint.ensures.number; again = c.in_ok-checkpoint.ensures.again; untouched = c.in_ok-checkpoint.ensures.untouched; broken = c.in_ok-checkpoint.ensures.broken; full = c.in_ok-checkpoint.ensures.full; first = c.in_ok-checkpoint.ensures.first; unchanged = c.in_ok-checkpoint.ensures.unchanged; room = c.in_ok-checkpoint.ensures.room; fault = c.in_ok-checkpoint.ensures.fault; honest = c.in_ok-checkpoint.ensures.honest; works = c.in_ok-checkpoint.ensures.works; device = tt })
+
+pub returns-clause-renews : goal.returns-clause-renews
+returns-clause-renews g c = λ honest texts carries.
+    c.in_ok-checkpoint.ensures.renews honest (in_words texts (held_of c.args.self.now).tables) refl carries.file

@@ -1,0 +1,59 @@
+-- What keeping the record of a request does to the open file.
+use Rattle.std.specs.Prelude.{◌≡◌, ◌⊎◌, ◌↔◌, ℕ, ◌+◌, ◌≤◌, false, List, length, Result, IsErrOf, IsTrue}
+use Rattle.rr_checkpoint.specs.Calls.{LeavesEither}
+use Rattle.rr_disk.specs.Disk.{DiskState}
+use Rattle.rr_log.specs.declared.fault.Fault.{Fault}
+use Rattle.rr_log.specs.declared.fault.Fault.TheVariants as F
+use Rattle.rr_log.specs.declared.log.Log.{Log}
+use Rattle.rr_log.specs.Calls.{NumberBehind, world_behind}
+use Rattle.rr_log.specs.Carrying.{Carries}
+use Rattle.rr_log.specs.Fault.{CountsFault, OnDeviceFault, ends_broken}
+use Rattle.rr_log.specs.Log.{HasNoRoom, IsDue, IsPastLast, disk_of, is_broken, next_number, place_of, ticks_left}
+use Rattle.rr_records.specs.declared.rules.TableRules.{TableRules}
+use Rattle.rr_records.specs.Taking.{Takes, table_files}
+use Rattle.rr_worlds.specs.World.{Table}
+use Rattle.rr_worlds.specs.World as words
+
+-- the half in use has no room for a record of these bytes, or the record's number would be past the last
+abbrev pub IsFull : {D R : Type 0} → Log D R → List ℕ → Type 0
+IsFull log bytes = HasNoRoom (place_of log) (length bytes) ⊎ IsPastLast (next_number log)
+
+-- what is told where a record isn't kept behind a checkpoint: a half without room is a full file then
+abbrev pub told_of : Fault → Fault
+told_of F.HalfFull = F.FileFull
+told_of F.DeviceFailed = F.DeviceFailed
+told_of F.FileFull = F.FileFull
+told_of F.OpenAgain = F.OpenAgain
+told_of F.OutOfMemory = F.OutOfMemory
+
+-- no checkpoint is under way, and none is to begin
+pub record Rests {D R : Type 0} (log : Log D R) : Type 0 where
+  pub none_left : ticks_left log ≡ 0
+  pub none_due : IsDue (place_of log) → ⊥
+
+-- What keeping a record does to an honest disk that carries a world of these tables: a stop at any moment leaves a file that
+-- keeps this world, or the one to which the record leads; and behind it the file carries the one that the answer tells. Of
+-- every disk: the next record's number is one more behind a record that was kept; the log is broken exactly where the device
+-- failed; a broken one refuses and stays as it is; that a half is full is never told, and that the file is, only where there
+-- is no room or no number. Where there was room, three writes and three syncs are made at most; else a whole checkpoint may be
+-- made. And an honest disk that works, and carries such a world, is never told to have failed.
+pub record Keeping {D : Type 0} (Honest Works : D → Type 0) (state : D → DiskState) (past : D → List DiskState) (faults writes syncs : D → ℕ)
+    (old : Log D TableRules) (tables : List Table) (bytes : List ℕ) (result : Result (Unit {0}) Fault) (new : Log D TableRules) : Type 0 where
+  pub honest : Honest (disk_of new) → Honest (disk_of old)
+  pub stops : Honest (disk_of new) → (before behind : words.World) → Takes bytes before behind → before.tables ≡ tables
+      → Carries Takes old (state (disk_of old)) before
+      → LeavesEither table_files (past (disk_of old)) (state (disk_of old)) (past (disk_of new)) (state (disk_of new)) before behind
+  pub carries : Honest (disk_of new) → is_broken new ≡ false → (before behind : words.World) → Takes bytes before behind → before.tables ≡ tables
+      → Carries Takes old (state (disk_of old)) before → Carries Takes new (state (disk_of new)) (world_behind result before behind)
+  pub number : NumberBehind result (next_number old) (next_number new)
+  pub again : IsErrOf result F.OpenAgain ↔ IsTrue (is_broken old)
+  pub untouched : IsErrOf result F.OpenAgain → new ≡ old
+  pub broken : is_broken new ≡ ends_broken result
+  pub full : IsErrOf result F.FileFull → IsFull new bytes
+  pub room : IsErrOf result F.HalfFull → ⊥
+  pub counts : CountsFault (faults (disk_of old)) (faults (disk_of new)) result
+  pub works : Works (disk_of new) → Works (disk_of old)
+  pub device : OnDeviceFault result (Honest (disk_of new) → (before behind : words.World) → Takes bytes before behind → before.tables ≡ tables
+      → Carries Takes old (state (disk_of old)) before → Works (disk_of new) → ⊥)
+  pub few_writes : (IsFull old bytes → ⊥) → writes (disk_of new) ≤ writes (disk_of old) + 3
+  pub few_syncs : (IsFull old bytes → ⊥) → syncs (disk_of new) ≤ syncs (disk_of old) + 3

@@ -1,0 +1,64 @@
+-- What an opening may do to a disk, and when it refuses its file.
+use Rattle.std.specs.Prelude.{◌≡◌, ◌⊎◌, ℕ, List, [], ◌∷◌, Result, Ok, Err}
+use Rattle.rr_disk.specs.Disk.{DiskState, after_sync}
+use Rattle.rr_kit.specs.Kits.{KitTexts}
+use Rattle.rr_opening.specs.Opened.{held_by}
+use Rattle.rr_pages.specs.Choosing.{IsNoStore}
+use Rattle.rr_reading.specs.declared.fault.Damage as bytes
+use Rattle.rr_reading.specs.Faults as bytes_of
+use Rattle.rr_reading.specs.Held.{Held}
+use Rattle.rr_reading.specs.Reading as reading
+use Rattle.rr_reading.specs.Reading.{Holds}
+use Rattle.rr_recovery.specs.declared.fault.Damage as rules
+use Rattle.rr_recovery.specs.Fault as rules_of
+use Rattle.rr_recovery.specs.Recovered.{IsRecoveredFrom}
+use Rattle.rr_recovery.specs.Recovery as recovery
+use Rattle.rr_store.specs.declared.fault.Fault.{Fault}
+use Rattle.rr_store.specs.declared.fault.Fault.TheVariants as F
+use Rattle.rr_store.specs.declared.found.Found.{Found}
+use Rattle.rr_store.specs.Allowing.{Keeps}
+use Rattle.rr_store.specs.Files.{StandsFor}
+use Rattle.rr_store.specs.World.{World}
+
+-- this clause, 1 to 5, is the least that the bytes of the file break
+abbrev pub BreaksForm : List ℕ → ℕ → Type 0
+BreaksForm file clause = (damage : bytes.Damage) × reading.IsDamage file damage × (clause ≡ bytes_of.clause_of damage)
+
+-- the bytes break none, and this clause, 5 to 8, is the least that they break by the rules of the game
+pub record BreaksRules (file : List ℕ) (clause : ℕ) : Type 0 where
+  pub has : Held
+  pub holds : Holds file has
+  pub damage : rules.Damage
+  pub broken : recovery.IsDamage has damage
+  pub numbered : clause ≡ rules_of.clause_of damage
+
+abbrev pub IsDamagedFile : List ℕ → ℕ → Type 0
+IsDamagedFile file clause = BreaksForm file clause ⊎ BreaksRules file clause
+
+-- why a file isn't opened. Memory may be wanted and the device may fail at any file
+abbrev pub Refuses : List ℕ → Fault → Type 0
+Refuses file F.DeviceFailed = Unit {0}
+Refuses file F.OutOfMemory = Unit {0}
+Refuses file F.NotAStore = IsNoStore file
+Refuses file (F.Damaged clause) = IsDamagedFile file clause
+Refuses file _ = ⊥
+
+-- the device failed, or memory was wanted
+abbrev pub IsNoVerdict : Fault → Type 0
+IsNoVerdict fault = (fault ≡ F.DeviceFailed) ⊎ (fault ≡ F.OutOfMemory)
+
+-- a sync at most, and no write
+abbrev pub SyncsAtMost : DiskState → List DiskState → Type 0
+SyncsAtMost old moments = (moments ≡ []) ⊎ (moments ≡ after_sync old ∷ [])
+
+-- What an opening may do, and what it may answer: the texts and the world for which the file stands, behind a sync; or why
+-- it stands for none, or that the device failed or memory was wanted.
+abbrev pub OpenAllows : DiskState → List DiskState → DiskState → Result (KitTexts × World) Fault → Type 0
+OpenAllows old moments new (Ok found) =
+    StandsFor old.content found.0 found.1 × (moments ≡ after_sync old ∷ []) × Keeps new found.0 found.1
+OpenAllows old moments new (Err fault) = SyncsAtMost old moments × Refuses old.content fault
+
+-- what was found is what the file holds, and what is recovered of that
+pub record IsFound (file : List ℕ) (found : Found) : Type 0 where
+  pub holds : Holds file (held_by found.opened)
+  pub recovered : IsRecoveredFrom (held_by found.opened) found.recovered

@@ -1,8 +1,0 @@
-use Rattle.rr_table_store.specs.Lent.{lent_texts}
-use Rattle.rr_table_store.proofs.Formattings.{format_done}
-use Rattle.rr_table_store.proofs.formatting.put_texts.Goals as goal
-
-pub returns-clause-allowed : goal.returns-clause-allowed
-returns-clause-allowed g c = λ honest.
-    format_done (lent_texts c.args.texts) (g.D.Disk.state c.args.disk.now) (g.D.Disk.state c.format.new.disk) c.requires.right
-    (c.in_ok-format.ensures.each honest (c.requires.nothing (c.in_ok-format.ensures.honest honest)))

@@ -1,0 +1,12 @@
+use Rattle.rr_world_laws.proofs.Sessions.{safe_sessions_go_on, sessions_go_on as proved}
+use Rattle.rr_world_laws.proofs.sessions_go_on.Goals as goal
+
+pub returns : goal.returns
+returns g c =
+    record {
+      two = proved g.D.Disk.Honest g.D.Disk.Works g.D.Disk.state g.D.Disk.past g.D.Disk.fault_count g.D.Disk.write_count g.D.Disk.sync_count
+          g.E.Disk.Honest g.E.Disk.Works g.E.Disk.state g.E.Disk.past g.E.Disk.fault_count g.E.Disk.write_count g.E.Disk.sync_count g.met.E.Disk.content_may_stay
+          c.sessions_are_safe.ensures.safe;
+      all = safe_sessions_go_on g.D.Disk.Honest g.D.Disk.Works g.D.Disk.state g.D.Disk.past g.D.Disk.fault_count g.D.Disk.write_count g.D.Disk.sync_count
+          g.E.Disk.Honest g.E.Disk.Works g.E.Disk.state g.E.Disk.past g.E.Disk.fault_count g.E.Disk.write_count g.E.Disk.sync_count g.met.E.Disk.content_may_stay;
+    }
