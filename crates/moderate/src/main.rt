@@ -77,7 +77,7 @@ fn do_plan(rt: &HostRuntime, plan: &Plan) -> u8 {
             }
             Err(fault) => end(rt, fault),
         },
-        Plan::Serve { file } => {
+        Plan::Serve { file } | Plan::Check { file } => {
             let texts = Texts {
                 chart: &[],
                 roster: &[],

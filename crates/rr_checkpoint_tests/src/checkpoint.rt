@@ -4,7 +4,7 @@ use crate::calls::{counts, failing_after, in_memory, read, unsynced, write};
 use rr_checkpoint::{Place, Plan, Tick, Writer};
 use rr_disk::{Disk, MemoryDisk};
 use rr_images::Codec;
-use rr_journal::{Part, PartIndex, RecordBuffer};
+use rr_journal::{Half, HalfIndex, RecordBuffer};
 use rr_pages::{FreePages, FreshPage, PageSet, Root, Roots, Taken, take_root};
 use std::alloc::Global;
 use std::process::Abort;
@@ -54,8 +54,8 @@ pub(crate) fn opened(alloc: Global, taken: Taken) -> Result<Writer<Lists>, Fail>
     reached.take(514);
     let free = FreePages::new(alloc, reached)?;
     let place = Place {
-        part: Part {
-            index: PartIndex::First,
+        half: Half {
+            index: HalfIndex::First,
             next_slot: 0,
         },
         number: 1,
@@ -223,7 +223,7 @@ fn records_go_to_the_other_half_meanwhile(rt: HostRuntime) -> Result<(), Fail> {
     assert_eq!(rt; left(&writer), 0);
     append(&mut disk, &mut writer, b"two")?;
     assert_eq!(rt; place(&writer).number, 3);
-    assert_eq!(rt; place(&writer).part.next_slot, 2);
+    assert_eq!(rt; place(&writer).half.next_slot, 2);
     let near = record_at(&mut disk, 2)?;
     assert_eq!(rt; near.0, 0);
     for (page, number) in [(258u16, 1), (259, 2)] {

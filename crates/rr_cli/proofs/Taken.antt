@@ -6,17 +6,17 @@ use Rattle.clap.specs.Simple.{Shape, built, built_leaf, entered, filled, help_ru
 use Rattle.clap.specs.Faults.{check_fault, entered_fault, level_fault}
 use Rattle.clap.specs.Takes.{is_given}
 use Rattle.clap.specs.declared.error.kind.ErrorKind.{ErrorKind}
-use Rattle.rr_cli.specs.CommandLine.{file_argument, file_option, format_command, moderate, serve_command}
+use Rattle.rr_cli.specs.CommandLine.{file_argument, file_option, format_command, moderate}
 use Rattle.rr_cli.specs.Plan.{HasKitFiles, IsGiven, IsPlannable, IsTaken}
-use Rattle.clap.specs.Words.{subcommand_of}
+use Rattle.clap.specs.Words.{new_app, subcommand_of, with_rule}
 use Rattle.rr_cli.proofs.Presence.{EachKeeps, Filled, given_there, help_keeps, level-below, level-checks, level-filled, set_keeps, some_fault}
 
--- the two subcommands as they are built
+-- the subcommands as they are built: `format`, and one of another name that takes the file alone
 abbrev format_built : Shape
 format_built = built_leaf (inherited moderate.top format_command.top)
 
-abbrev serve_built : Shape
-serve_built = built_leaf (inherited moderate.top serve_command.top)
+abbrev file_built : Text → Shape
+file_built name = built_leaf (inherited moderate.top (with_rule (new_app name) file_argument).top)
 
 no_fault : (b : Bool) (k : ErrorKind) → cond b (k ∷ []) [] ≡ [] → b ≡ false
 no_fault true k e = absurd (some_fault k [] e)
@@ -40,8 +40,8 @@ format_files rows f e =
       given_there (codes "board") rows f board.0,
     )
 
-serve_file : (rows : List Row) → Filled rows → check_fault serve_built rows false ≡ [] → IsGiven rows (codes "file")
-serve_file rows f e = given_there (codes "file") rows f (none_missing (is_given (codes "file") rows) _ (no_fault _ _ e)).0
+file_alone : (name : Text) (rows : List Row) → Filled rows → check_fault (file_built name) rows false ≡ [] → IsGiven rows (codes "file")
+file_alone name rows f e = given_there (codes "file") rows f (none_missing (is_given (codes "file") rows) _ (no_fault _ _ e)).0
 
 format_keeps : EachKeeps format_built.rules
 format_keeps = (
@@ -61,29 +61,35 @@ format_keeps = (
   ),
 )
 
-serve_keeps : EachKeeps serve_built.rules
-serve_keeps = (set_keeps (with_index 1 (filled file_argument)), (help_keeps (filled help_rule), tt))
+file_keeps : (name : Text) → EachKeeps (file_built name).rules
+file_keeps name = (set_keeps (with_index 1 (filled file_argument)), (help_keeps (filled help_rule), tt))
 
 format_taken : (words : List Text) → level_fault format_built [] nothing_held words false [] ≡ [] → HasKitFiles (rows_after format_built.rules [] words)
 format_taken words e =
     format_files (rows_after format_built.rules [] words) (level-filled format_built format_keeps [] words false [] e) (level-checks format_built [] words false [] e)
 
-serve_taken : (words : List Text) → level_fault serve_built [] nothing_held words false [] ≡ [] → IsGiven (rows_after serve_built.rules [] words) (codes "file")
-serve_taken words e =
-    serve_file (rows_after serve_built.rules [] words) (level-filled serve_built serve_keeps [] words false [] e) (level-checks serve_built [] words false [] e)
+file_taken : (name : Text) (words : List Text) → level_fault (file_built name) [] nothing_held words false [] ≡ []
+    → IsGiven (rows_after (file_built name).rules [] words) (codes "file")
+file_taken name words e =
+    let shape = file_built name in
+    file_alone name (rows_after shape.rules [] words) (level-filled shape (file_keeps name) [] words false [] e) (level-checks shape [] words false [] e)
 
 entered_taken : (rows : List Row) (stop : Option (Text × List Text)) → entered_fault (built moderate) stop ≡ []
     → check_fault (built moderate).top rows (is_some (entered (built moderate) stop)) ≡ [] → IsPlannable (entered (built moderate) stop)
 entered_taken rows None below check = absurd (some_fault _ _ check)
 entered_taken rows (Some p) below check =
-    pick (answers_to p.0 (label_of format_built)) (answers_to p.0 (label_of serve_built)) below check
+    pick (answers_to p.0 (label_of format_built)) (answers_to p.0 (label_of (file_built (codes "serve")))) (answers_to p.0 (label_of (file_built (codes "check")))) below check
   where
-    pick : (a b : Bool) → option_map_or (λ s. level_fault s [] nothing_held p.1 false []) (cond a (Some format_built) (cond b (Some serve_built) None)) [] ≡ []
-        → check_fault (built moderate).top rows (is_some (option_map (λ s. rows_at s p.1) (cond a (Some format_built) (cond b (Some serve_built) None)))) ≡ []
-        → IsPlannable (option_map (λ s. rows_at s p.1) (cond a (Some format_built) (cond b (Some serve_built) None)))
-    pick true b below check = inl (refl, format_taken p.1 below)
-    pick false true below check = inr (refl, serve_taken p.1 below)
-    pick false false below check = absurd (some_fault _ _ check)
+    met : (a b c : Bool) → Option Shape
+    met a b c = cond a (Some format_built) (cond b (Some (file_built (codes "serve"))) (cond c (Some (file_built (codes "check"))) None))
+
+    pick : (a b c : Bool) → option_map_or (λ s. level_fault s [] nothing_held p.1 false []) (met a b c) [] ≡ []
+        → check_fault (built moderate).top rows (is_some (option_map (λ s. rows_at s p.1) (met a b c))) ≡ []
+        → IsPlannable (option_map (λ s. rows_at s p.1) (met a b c))
+    pick true b c below check = inl (refl, format_taken p.1 below)
+    pick false true c below check = inr (inl (refl, file_taken (codes "serve") p.1 below))
+    pick false false true below check = inr (inr (refl, file_taken (codes "check") p.1 below))
+    pick false false false below check = absurd (some_fault _ _ check)
 
 -- words in which no fault is found can be planned
 pub taken : (words : List Text) → IsTaken words → IsPlannable (subcommand_of moderate words)

@@ -25,6 +25,10 @@ format_command = with_rule (with_rule (with_rule (with_rule
 abbrev pub serve_command : App
 serve_command = with_rule (new_app (codes "serve")) file_argument
 
+-- `check FILE`
+abbrev pub check_command : App
+check_command = with_rule (new_app (codes "check")) file_argument
+
 -- the program wants a subcommand, and has none called `help`; the words begin behind its name
 abbrev pub moderate_alone : App
 moderate_alone = on_top (λ shape. record shape {
@@ -33,6 +37,7 @@ moderate_alone = on_top (λ shape. record shape {
   subcommand_required = true;
 }) (new_app (codes "moderate"))
 
--- `moderate format ..` and `moderate serve ..`
+-- `moderate format ..`, `moderate serve ..` and `moderate check ..`
 abbrev pub moderate : App
-moderate = with_subcommand (with_subcommand moderate_alone format_command.top) serve_command.top
+moderate =
+    with_subcommand (with_subcommand (with_subcommand moderate_alone format_command.top) serve_command.top) check_command.top

@@ -4,7 +4,7 @@ use Rattle.std.specs.Prelude.{string_bytes}
 use Rattle.clap.specs.Words.{Row, Text, fault_of, first_of, subcommand_of}
 use Rattle.rr_cli.specs.CommandLine.{moderate}
 use Rattle.rr_cli.specs.declared.plans.Plan.{Plan}
-use Rattle.rr_cli.specs.declared.plans.Plan.TheVariants.{Format, Serve}
+use Rattle.rr_cli.specs.declared.plans.Plan.TheVariants.{Check, Format, Serve}
 
 -- the plan has the name of the subcommand that was met, and the value of each of its arguments
 abbrev pub PlanAt : Plan → Option (Text × List Row) → Type 0
@@ -16,6 +16,8 @@ PlanAt (Format file chart roster tiles board) (Some met) = (met.0 ≡ codes "for
     × (first_of (codes "tiles") met.1 ≡ Some (string_bytes tiles))
     × (first_of (codes "board") met.1 ≡ Some (string_bytes board))
 PlanAt (Serve file) (Some met) = (met.0 ≡ codes "serve")
+    × (first_of (codes "file") met.1 ≡ Some (string_bytes file))
+PlanAt (Check file) (Some met) = (met.0 ≡ codes "check")
     × (first_of (codes "file") met.1 ≡ Some (string_bytes file))
 
 -- the plan is what `clap` matches in the words
@@ -43,3 +45,4 @@ abbrev pub IsPlannable : Option (Text × List Row) → Type 0
 IsPlannable None = ⊥
 IsPlannable (Some met) = ((met.0 ≡ codes "format") × HasKitFiles met.1)
     ⊎ ((met.0 ≡ codes "serve") × IsGiven met.1 (codes "file"))
+    ⊎ ((met.0 ≡ codes "check") × IsGiven met.1 (codes "file"))

@@ -1,12 +1,14 @@
 //! What the program does with a plan, over a disk, a reader and a writer.
-ghost use Rattle.std.specs.Prelude.{◌≡◌};
+ghost use Rattle.std.specs.Prelude.{◌≡◌, false, MatchResult};
 ghost use Rattle.rr_store.specs.Lent.{lent_texts};
 ghost use Rattle.rr_moderator.specs.Fault.{refusal_of};
-ghost use Rattle.rr_cli.specs.Acting.{Acts, Formats, IsAcknowledged, IsRefused, IsRefusedOr70, Serves, ending_of};
+ghost use Rattle.rr_moderator.specs.Holding.{IsSummary, held_of};
+ghost use Rattle.rr_cli.specs.Acting.{Acts, Begins, Checks, Formats, IsAcknowledged, IsRefused, IsRefusedFile};
+ghost use Rattle.rr_cli.specs.Acting.{IsRefusedOr70, IsTold, Serves, ending_of};
 
 use crate::{Ending, Plan, status};
 use rr_disk::Disk;
-use rr_moderator::{Fault, Moderator, Refused, Reply, Texts};
+use rr_moderator::{Fault, Moderator, Refused, Reply, Summary, Texts};
 use rr_serve::{Input, Output, send};
 use std::alloc::Global;
 
@@ -15,8 +17,9 @@ const OUT_OF_MEMORY: &[u8] = b"no 70 out of memory\n";
 
 /// Does what the plan asks, and gives the status with which the program ends, and the disk.
 ///
-/// `format` writes `ok` or its refusal. `serve` writes a refusal where the file can't be opened; once it has begun it
-/// writes replies alone. The texts are used by `format` alone.
+/// `format` writes `ok` or its refusal. `serve` and `check` write a refusal where the file can't be opened; once it is open,
+/// `serve` writes replies alone, and `check` one line that tells how much the file holds. The texts are used by `format`
+/// alone, and the reader by `serve` alone.
 pub fn act<D: Disk + Drop, I: Input, O: Output>(
     alloc: Global,
     plan: &Plan,
@@ -31,6 +34,7 @@ pub fn act<D: Disk + Drop, I: Input, O: Output>(
     match plan {
         Plan::Format { .. } => format(alloc, texts, disk, writer),
         Plan::Serve { .. } => serve(alloc, disk, reader, writer),
+        Plan::Check { .. } => check(alloc, disk, writer),
     }
 }
 
@@ -40,12 +44,12 @@ fn format<D: Disk + Drop, O: Output>(
     mut disk: D,
     writer: &mut O,
 ) -> (u8, D)
-    ensures { Formats D.Honest D.Works D.state D.fault_count D.write_count D.sync_count (lent_texts texts.entry) disk result.1
+    ensures { Formats D.Honest D.Works D.state D.past D.fault_count D.write_count D.sync_count (lent_texts texts.entry) disk result.1
         (O.state writer.old) (O.state writer.new) result.0 }
 {
     match rr_moderator::format(alloc, &mut disk, texts) {
         Ok(()) => {
-            let ending = acknowledge(writer);
+            let ending = acknowledge(b"ok\n", writer);
             (status(ending), disk)
         }
         Err(fault) => {
@@ -64,15 +68,46 @@ fn serve<D: Disk + Drop, I: Input, O: Output>(
     ensures { Serves D.Honest D.Works D.state D.past D.fault_count D.write_count D.sync_count disk result.1 (I.state reader.old) (I.state reader.new)
         (O.state writer.old) (O.state writer.new) result.0 }
 {
-    match Moderator::open(alloc, disk) {
+    match open(alloc, disk, writer) {
         Ok(mut moderator) => {
             let ending = ending_of(moderator.serve(reader, writer));
             (status(ending), moderator.into_disk())
         }
+        Err(refused) => refused,
+    }
+}
+
+fn check<D: Disk + Drop, O: Output>(alloc: Global, disk: D, writer: &mut O) -> (u8, D)
+    ensures { Checks D.Honest D.Works D.state D.past D.fault_count D.write_count D.sync_count disk result.1
+        (O.state writer.old) (O.state writer.new) result.0 }
+{
+    match open(alloc, disk, writer) {
+        Ok(moderator) => {
+            let ending = tell(alloc, summary_of(&moderator), writer);
+            (status(ending), moderator.into_disk())
+        }
+        Err(refused) => refused,
+    }
+}
+
+/// Opens the file, or writes why it is refused, and gives the status with which the program ends then, and the disk.
+fn open<D: Disk + Drop, O: Output>(
+    alloc: Global,
+    disk: D,
+    writer: &mut O,
+) -> Result<Moderator<D>, (u8, D)>
+    ensures { MatchResult result
+        (λ moderator. Begins D.Honest D.Works D.state D.past D.fault_count D.write_count D.sync_count disk moderator
+        × (O.state writer.new ≡ O.state writer.old))
+        (λ refused. IsRefusedFile D.Honest D.Works D.state D.past D.fault_count D.write_count D.sync_count disk refused.1
+        (O.state writer.old) (O.state writer.new) refused.0) }
+{
+    match Moderator::open(alloc, disk) {
+        Ok(moderator) => Ok(moderator),
         Err(refused) => {
             let Refused { fault, disk } = refused;
             let ending = refuse(alloc, Fault::from(fault), writer);
-            (status(ending), disk)
+            Err((status(ending), disk))
         }
     }
 }
@@ -87,11 +122,32 @@ fn ending_of(served: Result<(), Fault>) -> Ending
     }
 }
 
-/// Writes `ok` and flushes it.
-fn acknowledge<O: Output>(writer: &mut O) -> Ending
-    ensures { IsAcknowledged (O.state writer.old) (O.state writer.new) result }
+/// How much a file holds whose device hasn't failed.
+fn summary_of<D: Disk + Drop>(moderator: &Moderator<D>) -> Summary
+    requires { (held_of moderator.now).broken ≡ false }
+    ensures { IsSummary moderator.now result }
 {
-    match send(writer, b"ok\n") {
+    moderator.summary().unwrap()
+}
+
+/// Writes how much a file holds, or that no memory is left to make the line.
+fn tell<O: Output>(alloc: Global, summary: Summary, writer: &mut O) -> Ending
+    ensures { IsTold summary (O.state writer.old) (O.state writer.new) result }
+{
+    match Reply::new(alloc) {
+        Ok(mut reply) => {
+            summary.write(&mut reply);
+            acknowledge(reply.as_bytes(), writer)
+        }
+        Err(_) => tell_want_of_memory(writer),
+    }
+}
+
+/// Writes the line of what was done and flushes it.
+fn acknowledge<O: Output>(line: &[u8], writer: &mut O) -> Ending
+    ensures { IsAcknowledged line.now (O.state writer.old) (O.state writer.new) result }
+{
+    match send(writer, line) {
         Ok(()) => Ending::Done,
         Err(_) => Ending::Faulted(69),
     }
@@ -107,15 +163,21 @@ pub fn refuse<O: Output>(alloc: Global, fault: Fault, writer: &mut O) -> Ending
             fault.write(&mut reply);
             write_refusal(fault, reply.as_bytes(), writer)
         }
-        Err(_) => write_refusal(Fault::OutOfMemory, OUT_OF_MEMORY, writer),
+        Err(_) => tell_want_of_memory(writer),
     }
 }
 
-fn write_refusal<O: Output>(fault: Fault, line: &[u8], writer: &mut O) -> Ending
-    requires { line.now ≡ refusal_of fault }
+fn tell_want_of_memory<O: Output>(writer: &mut O) -> Ending
+    ensures { IsRefused Fault.OutOfMemory (O.state writer.old) (O.state writer.new) result }
+{
+    write_refusal(Fault::OutOfMemory, OUT_OF_MEMORY, writer)
+}
+
+fn write_refusal<O: Output>(fault: Fault, refusal: &[u8], writer: &mut O) -> Ending
+    requires { refusal.now ≡ refusal_of fault }
     ensures { IsRefused fault (O.state writer.old) (O.state writer.new) result }
 {
-    match send(writer, line) {
+    match send(writer, refusal) {
         Ok(()) => Ending::Faulted(fault.number()),
         Err(_) => Ending::Faulted(69),
     }

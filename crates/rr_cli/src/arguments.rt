@@ -4,8 +4,8 @@ ghost use Rattle.clap.specs.Walk.{texts};
 ghost use Rattle.clap.specs.Words.{app_of, first_of, found_of, kind_of, rows_of, rule_of};
 ghost use Rattle.clap.specs.Words.{subcommand_rows_of, with_rule};
 ghost use Rattle.clap.specs.declared.builder.command.Command.TheViews.{out-Command as fields_of};
-ghost use Rattle.rr_cli.specs.CommandLine.{file_argument, file_option, format_command, moderate};
-ghost use Rattle.rr_cli.specs.CommandLine.{serve_command, moderate_alone};
+ghost use Rattle.rr_cli.specs.CommandLine.{check_command, file_argument, file_option, format_command};
+ghost use Rattle.rr_cli.specs.CommandLine.{moderate, moderate_alone, serve_command};
 ghost use Rattle.rr_cli.specs.Plan.{HasKitFiles, IsGiven, IsPlanOf, IsPlannable, IsRefused};
 ghost use Rattle.rr_cli.specs.Plan.{IsTaken, PlanAt};
 
@@ -82,6 +82,15 @@ fn serve_subcommand<'a>(alloc: Global) -> Result<Command<'a>, AllocError>
         .arg(store_argument(alloc))
 }
 
+fn check_subcommand<'a>(alloc: Global) -> Result<Command<'a>, AllocError>
+    ensures app { IfOk result (λ c. app_of c ≡ check_command) }
+    ensures local { IfOk result (λ c. (fields_of c).has_globals ≡ false) }
+{
+    Command::new(alloc, "check")
+        .about("Checks a file, and tells how much it holds")
+        .arg(store_argument(alloc))
+}
+
 // The program without its subcommands. Its name is none of the words, so usage lines take it from
 // `bin_name`.
 fn program_alone<'a>(alloc: Global) -> Result<Command<'a>, AllocError>
@@ -100,7 +109,8 @@ fn program<'a>(alloc: Global) -> Result<Command<'a>, AllocError>
 {
     program_alone(alloc)?
         .subcommand(format_subcommand(alloc)?)?
-        .subcommand(serve_subcommand(alloc)?)
+        .subcommand(serve_subcommand(alloc)?)?
+        .subcommand(check_subcommand(alloc)?)
 }
 
 // The text of a parse's error, or that memory ran out.
@@ -154,6 +164,15 @@ fn serve_plan(alloc: Global, matches: &ArgMatches<'_>) -> Result<Plan, AllocErro
     Ok(Plan::Serve { file })
 }
 
+fn check_plan(alloc: Global, matches: &ArgMatches<'_>) -> Result<Plan, AllocError>
+    requires { IsGiven (rows_of (found_of matches.now)) (codes "file") }
+    ensures { IfOk result (λ plan.
+        PlanAt plan (Some (codes "check", rows_of (found_of matches.now)))) }
+{
+    let file = value_of(alloc, matches, "file")?;
+    Ok(Plan::Check { file })
+}
+
 fn plan_of(alloc: Global, matches: &ArgMatches<'_>) -> Result<Plan, AllocError>
     requires { IsPlannable (subcommand_rows_of matches.now) }
     ensures { IfOk result (λ plan. PlanAt plan (subcommand_rows_of matches.now)) }
@@ -161,6 +180,7 @@ fn plan_of(alloc: Global, matches: &ArgMatches<'_>) -> Result<Plan, AllocError>
     match matches.subcommand() {
         Some(("format", inner)) => format_plan(alloc, inner),
         Some(("serve", inner)) => serve_plan(alloc, inner),
+        Some(("check", inner)) => check_plan(alloc, inner),
         _ => unreachable!(),
     }
 }

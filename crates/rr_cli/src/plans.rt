@@ -16,4 +16,8 @@ pub enum Plan {
     Serve {
         file: String,
     },
+    /// Check the store `file`, and tell how much it holds.
+    Check {
+        file: String,
+    },
 }

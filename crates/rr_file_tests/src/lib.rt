@@ -1,4 +1,4 @@
-//! Tests of the disks, of the journal, of the keeper and of the parts of a store's file.
+//! Tests of the disks, of the journal and of the parts of a store's file.
 #![tactic(auto)]
 
 #[cfg(test)]
@@ -9,7 +9,5 @@ mod directory;
 mod disks;
 #[cfg(test)]
 mod journal;
-#[cfg(test)]
-mod keeper;
 #[cfg(test)]
 mod pages;

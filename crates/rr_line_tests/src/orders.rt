@@ -62,7 +62,7 @@ raise ann NYC 0
 raise bob B&O 9999999999
 bankrupt ann",
     )?;
-    assert!(rt; unlike.is_none(), "an order is read or written otherwise");
+    assert!(rt; unlike.is_none());
     Ok(())
 }
 
@@ -82,7 +82,7 @@ run PRR 2=1-2 best b best
 end PRR now
 best PRR",
     );
-    assert!(rt; taken.is_none(), "a line that is no order is read");
+    assert!(rt; taken.is_none());
 }
 
 #[test]
@@ -108,7 +108,7 @@ bankrupt bank
 bankrupt ann bob
 bankrupt  ann",
     );
-    assert!(rt; taken.is_none(), "a line that forces no train is read");
+    assert!(rt; taken.is_none());
 }
 
 #[test]
@@ -119,6 +119,6 @@ fn tells_whose_order_it_is(rt: HostRuntime) {
         ("raise ann NYC 1", None),
         ("bankrupt ann", None),
     ] {
-        assert!(rt; is_order_of(text, corp), "{text}");
+        assert!(rt; is_order_of(text, corp));
     }
 }

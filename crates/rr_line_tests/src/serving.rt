@@ -7,7 +7,6 @@ use std::cell::Cell;
 use std::io;
 use std::io::{ErrorKind, Read, Write};
 use std::process::Abort;
-use std::test::Fail;
 
 /// Replies with the line itself, and says which lines are too long.
 #[derive(Drop)]
@@ -149,19 +148,19 @@ fn check_served(
     buffer: &mut LineBuffer,
     input: &[u8],
     output: &[u8],
-) -> Result<usize, Fail> {
+) -> usize {
     let mut reader = input;
     let mut written = Vec::new(alloc);
-    let served = serve_lines(alloc, buffer, &mut reader, &mut written)?;
-    assert_eq!(rt; served.result, Ok(()));
-    assert_eq!(rt; (served.failed_reads, served.failed_writes), (0, 0));
+    let served = serve_lines(alloc, buffer, &mut reader, &mut written).expect(rt, "memory");
+    assert!(rt; served.result == Ok(()));
+    assert!(rt; (served.failed_reads, served.failed_writes) == (0, 0));
     assert!(rt; written.as_slice() == output);
-    Ok(served.lines)
+    served.lines
 }
 
 #[test]
-fn answers_each_line(rt: HostRuntime) -> Result<(), Fail> {
-    let mut buffer = make_buffer(rt.alloc())?;
+fn answers_each_line(rt: HostRuntime) {
+    let mut buffer = make_buffer(rt.alloc()).expect(&rt, "memory");
     for (input, output) in [
         ("", ""),
         ("\n", "\n"),
@@ -171,56 +170,54 @@ fn answers_each_line(rt: HostRuntime) -> Result<(), Fail> {
         ("\r", "no 55 malformed line\n"),
     ] {
         let (input, output) = (input.as_bytes(), output.as_bytes());
-        check_served(&rt, rt.alloc(), &mut buffer, input, output)?;
+        check_served(&rt, rt.alloc(), &mut buffer, input, output);
     }
-    Ok(())
 }
 
 #[test]
-fn tells_lines_too_long(rt: HostRuntime) -> Result<(), Fail> {
-    let mut buffer = make_buffer(rt.alloc())?;
+fn tells_lines_too_long(rt: HostRuntime) {
+    let mut buffer = make_buffer(rt.alloc()).expect(&rt, "memory");
     for (length, refused) in [(8_000, false), (8_001, true), (20_000, true)] {
-        let mut input = vec![in rt.alloc(); b'x'; length]?;
-        input.extend_from_slice(b"\nnext\n")?;
+        let mut input = vec![in rt.alloc(); b'x'; length].expect(&rt, "memory");
+        input.extend_from_slice(b"\nnext\n").expect(&rt, "memory");
         let input = input.as_slice();
         let output = if refused {
             b"no 67 line too long\nnext\n".as_slice()
         } else {
             input
         };
-        check_served(&rt, rt.alloc(), &mut buffer, input, output)?;
+        check_served(&rt, rt.alloc(), &mut buffer, input, output);
     }
-    Ok(())
 }
 
 #[test]
-fn a_long_rest_is_malformed(rt: HostRuntime) -> Result<(), Fail> {
-    let input = vec![in rt.alloc(); b'x'; 8_001]?;
-    let mut buffer = make_buffer(rt.alloc())?;
+fn a_long_rest_is_malformed(rt: HostRuntime) {
+    let input = vec![in rt.alloc(); b'x'; 8_001].expect(&rt, "memory");
+    let mut buffer = make_buffer(rt.alloc()).expect(&rt, "memory");
     let output = b"no 55 malformed line\n".as_slice();
-    let lines = check_served(&rt, rt.alloc(), &mut buffer, &input, output)?;
-    assert_eq!(rt; lines, 0);
-    Ok(())
+    let lines = check_served(&rt, rt.alloc(), &mut buffer, &input, output);
+    assert!(rt; lines == 0);
 }
 
 #[test]
-fn ends_where_the_device_fails(rt: HostRuntime) -> Result<(), Fail> {
-    let mut buffer = make_buffer(rt.alloc())?;
+fn ends_where_the_device_fails(rt: HostRuntime) {
+    let mut buffer = make_buffer(rt.alloc()).expect(&rt, "memory");
     let mut reader = b"no 6\nno 60 device failed\nmore\n".as_slice();
     let mut written = Vec::new(rt.alloc());
-    let served = serve_lines(rt.alloc(), &mut buffer, &mut reader, &mut written)?;
-    assert_eq!(rt; served.result, Err(Fault::DeviceFailed));
-    assert_eq!(rt; (served.failed_reads, served.failed_writes), (0, 0));
-    assert_eq!(rt; served.lines, 2);
+    let served = serve_lines(rt.alloc(), &mut buffer, &mut reader, &mut written).expect(
+        &rt, "memory",
+    );
+    assert!(rt; served.result == Err(Fault::DeviceFailed));
+    assert!(rt; (served.failed_reads, served.failed_writes) == (0, 0));
+    assert!(rt; served.lines == 2);
     assert!(rt; written.as_slice() == b"no 6\nno 60 device failed\n".as_slice());
     assert!(rt; reader == b"more\n".as_slice());
-    Ok(())
 }
 
 #[test]
-fn answers_before_it_reads_on(rt: HostRuntime) -> Result<(), Fail> {
+fn answers_before_it_reads_on(rt: HostRuntime) {
     let flushed = Cell::new(0);
-    let mut buffer = make_buffer(rt.alloc())?;
+    let mut buffer = make_buffer(rt.alloc()).expect(&rt, "memory");
     let mut reader = Torn {
         rest: b"one\n\nthree\nfo",
         begins: true,
@@ -232,18 +229,19 @@ fn answers_before_it_reads_on(rt: HostRuntime) -> Result<(), Fail> {
         room: usize::MAX,
         flushed: &flushed,
     };
-    let served = serve_lines(rt.alloc(), &mut buffer, &mut reader, &mut writer)?;
-    assert_eq!(rt; served.result, Err(Fault::StreamFailed));
-    assert_eq!(rt; (served.failed_reads, served.failed_writes), (1, 0));
+    let served = serve_lines(rt.alloc(), &mut buffer, &mut reader, &mut writer).expect(
+        &rt, "memory",
+    );
+    assert!(rt; served.result == Err(Fault::StreamFailed));
+    assert!(rt; (served.failed_reads, served.failed_writes) == (1, 0));
     assert!(rt; writer.bytes.as_slice() == b"one\n\nthree\n".as_slice());
     assert!(rt; reader.seen.as_slice() == [0, 4, 5, 11].as_slice());
-    Ok(())
 }
 
 #[test]
-fn ends_where_the_writer_fails(rt: HostRuntime) -> Result<(), Fail> {
+fn ends_where_the_writer_fails(rt: HostRuntime) {
     let flushed = Cell::new(0);
-    let mut buffer = make_buffer(rt.alloc())?;
+    let mut buffer = make_buffer(rt.alloc()).expect(&rt, "memory");
     for (input, room, output) in [
         ("one\ntwo\nthree\n", 6, "one\ntw"),
         ("one\nthree", 9, "one\nno 55"),
@@ -254,13 +252,14 @@ fn ends_where_the_writer_fails(rt: HostRuntime) -> Result<(), Fail> {
             room,
             flushed: &flushed,
         };
-        let served = serve_lines(rt.alloc(), &mut buffer, &mut reader, &mut writer)?;
-        assert_eq!(rt; served.result, Err(Fault::StreamFailed));
-        assert_eq!(rt; (served.failed_reads, served.failed_writes), (0, 1));
+        let served = serve_lines(rt.alloc(), &mut buffer, &mut reader, &mut writer).expect(
+            &rt, "memory",
+        );
+        assert!(rt; served.result == Err(Fault::StreamFailed));
+        assert!(rt; (served.failed_reads, served.failed_writes) == (0, 1));
         assert!(rt; writer.bytes.as_slice() == output.as_bytes());
-        assert_eq!(rt; flushed.get(), 4);
+        assert!(rt; flushed.get() == 4);
     }
-    Ok(())
 }
 
 fn answered<W: Write>(machine: &mut Echo, bytes: &[u8], writer: &mut W) -> Result<(), Fault> {
@@ -268,17 +267,16 @@ fn answered<W: Write>(machine: &mut Echo, bytes: &[u8], writer: &mut W) -> Resul
 }
 
 #[test]
-fn a_line_is_taken_whatever_the_writer_does(rt: HostRuntime) -> Result<(), Fail> {
-    let mut machine = make_echo(rt.alloc())?;
+fn a_line_is_taken_whatever_the_writer_does(rt: HostRuntime) {
+    let mut machine = make_echo(rt.alloc()).expect(&rt, "memory");
     for takes in [false, true] {
         let result = answered(&mut machine, b"pay", &mut Stuck { takes });
-        assert_eq!(rt; result, Err(Fault::StreamFailed));
+        assert!(rt; result == Err(Fault::StreamFailed));
     }
     let mut written = Vec::new(rt.alloc());
-    assert_eq!(rt; answered(&mut machine, b"give", &mut written), Ok(()));
+    assert!(rt; answered(&mut machine, b"give", &mut written) == Ok(()));
     assert!(rt; written.as_slice() == b"give\n".as_slice());
-    assert_eq!(rt; machine.lines, 3);
-    Ok(())
+    assert!(rt; machine.lines == 3);
 }
 
 /// A reader that tells its end once, and then goes on.
@@ -301,38 +299,41 @@ impl Read for Typed {
 #[test]
 fn an_ended_reader_is_not_read_again(rt: HostRuntime) {
     let mut input = CountingReader::new(Typed { reads: 0 });
-    assert_eq!(rt; input.next_byte(), Ok(Some(b'x')));
-    assert_eq!(rt; input.next_byte(), Ok(None));
-    assert_eq!(rt; input.next_byte(), Ok(None));
-    assert_eq!(rt; input.failures(), 0);
-    assert_eq!(rt; input.into_inner().reads, 2);
+    assert!(rt; input.next_byte() == Ok(Some(b'x')));
+    assert!(rt; input.next_byte() == Ok(None));
+    assert!(rt; input.next_byte() == Ok(None));
+    assert!(rt; input.failures() == 0);
+    assert!(rt; input.into_inner().reads == 2);
 }
 
 #[test]
-fn each_failure_is_counted(rt: HostRuntime) -> Result<(), Fail> {
+fn each_failure_is_counted(rt: HostRuntime) {
     let mut output = CountingWriter::new(Stuck { takes: true });
-    assert_eq!(rt; send(&mut output, b"ok\n"), Err(Fault::StreamFailed));
-    assert_eq!(rt; output.write_all(b"ok\n"), Ok(()));
-    assert_eq!(rt; output.flush(), Err(Fault::StreamFailed));
-    assert_eq!(rt; output.failures(), 2);
+    assert!(rt; send(&mut output, b"ok\n") == Err(Fault::StreamFailed));
+    assert!(rt; output.write_all(b"ok\n") == Ok(()));
+    assert!(rt; output.flush() == Err(Fault::StreamFailed));
+    assert!(rt; output.failures() == 2);
     let mut output = CountingWriter::new(Vec::new(rt.alloc()));
-    assert_eq!(rt; send(&mut output, b"ok\n"), Ok(()));
-    assert_eq!(rt; output.failures(), 0);
+    assert!(rt; send(&mut output, b"ok\n") == Ok(()));
+    assert!(rt; output.failures() == 0);
     assert!(rt; output.into_inner().as_slice() == b"ok\n".as_slice());
-    Ok(())
 }
 
 #[test]
-fn faults_have_numbers_and_texts(rt: HostRuntime) -> Result<(), Fail> {
+fn faults_have_numbers_and_texts(rt: HostRuntime) {
     for (fault, number, text) in [
         (Fault::DeviceFailed, 60, "device failed"),
         (Fault::StreamFailed, 69, "stream failed"),
     ] {
-        assert_eq!(rt; fault.number(), number);
-        assert_eq!(rt; format!(in rt.alloc(); "{fault}")?.as_str(), text);
+        assert!(rt; fault.number() == number);
+        assert!(rt;
+            format!(in rt.alloc(); "{fault}")
+                .expect(&rt, "memory")
+                .as_str()
+                == text
+        );
     }
     laws::splitting();
     laws::taking();
     laws::sending();
-    Ok(())
 }

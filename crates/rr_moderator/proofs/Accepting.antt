@@ -1,5 +1,5 @@
 -- The reply to an accepted request: the table's new stamp, and behind a run what the trains earned.
-use Rattle.std.proofs.Common.{◌≡◌, ℕ, ◌++◌, List, [], ◌∷◌, Bool, true, false, Option, Some, Result, Ok, Err, refl, sym, ap, ◌∙◌, codes, append-nil}
+use Rattle.std.proofs.Common.{◌≡◌, ℕ, ◌++◌, List, [], ◌∷◌, true, false, Some, Result, Ok, refl, sym, ap, ◌∙◌, codes, append-nil}
 use Rattle.std.specs.Prelude.{decimal}
 use Rattle.std.specs.Fmt.{signed_decimal}
 use Rattle.rr_kit.specs.declared.kit.Kit.{Kit}

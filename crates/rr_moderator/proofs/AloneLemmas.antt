@@ -15,21 +15,25 @@ use Rattle.rr_code.specs.Line.{SpellsLine}
 use Rattle.rr_moderator.specs.declared.fault.Fault.{Fault}
 use Rattle.rr_moderator.specs.declared.fault.Fault.TheVariants as F
 use Rattle.rr_moderator.specs.Answer.{accepted_text}
-use Rattle.rr_moderator.specs.Fault.{of_store, refusal_of}
+use Rattle.rr_moderator.specs.Fault.{of_rules, of_store, refusal_of}
 use Rattle.rr_moderator.specs.Queries.{Answer, answer_of_table, asked_answer, cash_answer, due_answer, holds_answer, iou_answer, limit_answer, order_answer, phase_answer, price_answer, privates_answer, query_text, reply_of, stamp_answer, trains_answer, turns_answer, worth_answer}
 use Rattle.rr_roster.specs.declared.company.Corp.{Corp}
 use Rattle.rr_moderator.specs.Best.{LacksRun, MayNotRun, HasNone, LacksMemory, best_run, run_verdict}
 use Rattle.rr_moderator.specs.Serving.{Meets, MeetsBest, Lacks, Finds, Responds, TooLong, Malformed, Broken, Read, reply_to, text_of}
 use Rattle.rr_store.specs.declared.fault.Fault as store
-use Rattle.rr_store.specs.declared.fault.Fault.TheVariants as T
+use Rattle.rr_records.specs.declared.fault.Fault as judge
+use Rattle.rr_records.specs.declared.fault.Fault.TheVariants as J
+use Rattle.rr_records.specs.World as rules
+use Rattle.rr_records.specs.World.{opening_verdict, world_judgement}
+use Rattle.rr_store.specs.Fault as stored
 use Rattle.rr_store.specs.Held.{Held, Takes, Accepted, Refused, Wants, NoRoom, Fails, Again}
-use Rattle.rr_store.specs.World.{TableState, World, opening_verdict, state_after, table_named, world_judgement}
+use Rattle.rr_store.specs.World.{TableState, World, state_after, table_named}
 use Rattle.rr_hist.specs.Laws.{RequestsHaveOneVerdict}
-use Rattle.rr_store.proofs.Verdicts.{world_one}
 use Rattle.rr_turns.specs.Judgement.{IsVerdict}
-use Rattle.rr_turns.proofs.JudgementLemmas.{is-settled, settled-is}
+use Rattle.rr_turns.proofs.JudgementLemmas.{is-settled, lawful-map, settled-is}
 use Rattle.rr_moderator.proofs.ServingLemmas.{one_line}
-use Rattle.rr_moderator.specs.Alone.{Alone, Exchange, Found, IsCalm, IsDisturbed, Names, Picks, Runs, disturbs, found_best, found_for, found_in, line_table, query_table, sent}
+use Rattle.rr_moderator.proofs.Verdicts.{refused_by_rules, world_one}
+use Rattle.rr_moderator.specs.Alone.{Alone, Exchange, Found, IsCalm, IsDisturbed, Names, Picks, Runs, found_best, found_for, found_in, line_table, query_table, sent}
 
 -- a table in the world after another entry
 
@@ -60,13 +64,13 @@ named_other (e ∷ es) name other v apart =
 
 -- a verdict doesn't depend on the number of tables, unless it tells of it
 
-opening_step : (first room : Bool) → let v : Option store.Fault = if first then Some (T.StaleStamp 0) else if room then Some T.TooManyTables else None in
-    (v ≡ Some T.TooManyTables → ⊥) → v ≡ (if first then Some (T.StaleStamp 0) else None)
+opening_step : (first room : Bool) → let v : Option judge.Fault = if first then Some (J.StaleStamp 0) else if room then Some J.TooManyTables else None in
+    (v ≡ Some J.TooManyTables → ⊥) → v ≡ (if first then Some (J.StaleStamp 0) else None)
 opening_step true room few = refl
 opening_step false true few = absurd (few refl)
 opening_step false false few = refl
 
-uncounted : (kit : Kit) (t : Option TableState) (n stamp : ℕ) (c : Request Command) (verdict : Option store.Fault) → (verdict ≡ Some T.TooManyTables → ⊥)
+uncounted : (kit : Kit) (t : Option TableState) (n stamp : ℕ) (c : Request Command) (verdict : Option judge.Fault) → (verdict ≡ Some J.TooManyTables → ⊥)
     → IsVerdict (world_judgement kit t n stamp c) verdict → IsVerdict (world_judgement kit t 0 stamp c) verdict
 uncounted kit (Some t) n stamp (Play (Open players)) verdict few is = is
 uncounted kit None n stamp (Play (Open players)) verdict few is =
@@ -87,19 +91,19 @@ named_alone name (Some t) = let empty : Option TableState = None in ap (λ c. co
 abbrev Outcome : Type 0
 Outcome = List ℕ × Option TableState
 
-abbrev request_alone : Kit → List ℕ → Option TableState → Request Command → List ℕ → Option store.Fault → Outcome
+abbrev request_alone : Kit → List ℕ → Option TableState → Request Command → List ℕ → Option judge.Fault → Outcome
 request_alone kit name t c sheet None = (accepted_text kit name (state_after kit t c) c sheet, Some (state_after kit t c))
-request_alone kit name t c sheet (Some fault) = (refusal_of (of_store fault), t)
+request_alone kit name t c sheet (Some fault) = (refusal_of (of_rules fault), t)
 
 -- the outcome of a request is that of its verdict
 abbrev RequestAlone : Kit → List ℕ → Option TableState → ℕ → Request Command → List ℕ → Outcome → Type 0
 RequestAlone kit name t stamp c sheet outcome =
-    (verdict : Option store.Fault) × IsVerdict (world_judgement kit t 0 stamp c) verdict × (outcome ≡ request_alone kit name t c sheet verdict)
+    (verdict : Option judge.Fault) × IsVerdict (world_judgement kit t 0 stamp c) verdict × (outcome ≡ request_alone kit name t c sheet verdict)
 
 -- where no best run is found, the corporation may not run, or it may
 abbrev NoneAlone : Kit → Option TableState → ℕ → Corp → Outcome → Type 0
 NoneAlone kit t stamp c outcome =
-    ((fault : store.Fault) × (run_verdict kit t stamp c ≡ Some fault) × (outcome ≡ (refusal_of (of_store fault), t)))
+    ((fault : judge.Fault) × (run_verdict kit t stamp c ≡ Some fault) × (outcome ≡ (refusal_of (of_rules fault), t)))
     ⊎ ((run_verdict kit t stamp c ≡ None) × (outcome ≡ (refusal_of F.NoCertificate, t)))
 
 -- the outcome of asking for a best run is that of the run that was found
@@ -118,16 +122,16 @@ some_same x y e = cc
 one_request : RequestsHaveOneVerdict → (kit : Kit) (name : List ℕ) (t : Option TableState) (stamp : ℕ) (c : Request Command) (sheet : List ℕ) (x y : Outcome)
     → RequestAlone kit name t stamp c sheet x → RequestAlone kit name t stamp c sheet y → x ≡ y
 one_request one kit name t stamp c sheet x y a b =
-    a.2 ∙ ap (λ (o : Option store.Fault). request_alone kit name t c sheet o) (world_one one kit t 0 stamp c a.0 b.0 a.1 b.1) ∙ sym b.2
+    a.2 ∙ ap (λ (o : Option judge.Fault). request_alone kit name t c sheet o) (world_one one kit t 0 stamp c a.0 b.0 a.1 b.1) ∙ sym b.2
 
-one_refusal : (t : Option TableState) (verdict : Option store.Fault) (one other : store.Fault) (x y : Outcome) → verdict ≡ Some one → verdict ≡ Some other
-    → x ≡ (refusal_of (of_store one), t) → y ≡ (refusal_of (of_store other), t) → x ≡ y
+one_refusal : (t : Option TableState) (verdict : Option judge.Fault) (one other : judge.Fault) (x y : Outcome) → verdict ≡ Some one → verdict ≡ Some other
+    → x ≡ (refusal_of (of_rules one), t) → y ≡ (refusal_of (of_rules other), t) → x ≡ y
 one_refusal t verdict one other x y first second a b =
     let same = some_same one other (sym first ∙ second) in
-    let Refusal : store.Fault → Outcome = λ f. (refusal_of (of_store f), t) in
+    let Refusal : judge.Fault → Outcome = λ f. (refusal_of (of_rules f), t) in
     a ∙ ap Refusal same ∙ sym b
 
-refused_and_free : {A : Type 0} (verdict : Option store.Fault) (fault : store.Fault) → verdict ≡ Some fault → verdict ≡ None → A
+refused_and_free : {A : Type 0} (verdict : Option judge.Fault) (fault : judge.Fault) → verdict ≡ Some fault → verdict ≡ None → A
 refused_and_free verdict fault refused free = let both : Some fault ≡ None = sym refused ∙ free in absurd (cc both)
 
 one_none : (kit : Kit) (t : Option TableState) (stamp : ℕ) (c : Corp) (x y : Outcome) → NoneAlone kit t stamp c x → NoneAlone kit t stamp c y → x ≡ y
@@ -200,24 +204,27 @@ takes_alone old new stamp name c sheet (Accepted whole lawful after) calm =
     ap (λ h. table_named h.tables name) after ∙ named_after old.tables name (state_after old.kit t c) in (
       (
         None,
-        uncounted old.kit t (length old.tables) stamp c None (λ e. absurd (cc e)) lawful,
+        uncounted old.kit t (length old.tables) stamp c None (λ e. absurd (cc e)) (lawful-map stored.of_rules (rules.judgement_in old.kit old.tables stamp name c) lawful),
         ap (λ (o : Option TableState). (accepted_text old.kit name (state_after old.kit t c) c sheet, o)) there,
       ),
       ap (λ h. h.kit) after,
     )
 takes_alone old new stamp name c sheet (Refused fault whole refused same) calm =
     let t = table_named old.tables name in
-    let few : Some fault ≡ Some T.TooManyTables → ⊥ =
-    λ e. calm (F.TooManyTables, refl, ap (λ (f : store.Fault). refusal_of (of_store f)) (some_same fault T.TooManyTables e)) in (
+    let by_rule = refused_by_rules old.kit old.tables stamp name c fault refused in
+    let told : refusal_of (of_store fault) ≡ refusal_of (of_rules by_rule.0) = ap (λ (f : store.Fault). refusal_of (of_store f)) by_rule.2 in
+    let few : Some by_rule.0 ≡ Some J.TooManyTables → ⊥ =
+    λ e. calm (F.TooManyTables, refl, told ∙ ap (λ (f : judge.Fault). refusal_of (of_rules f)) (some_same by_rule.0 J.TooManyTables e)) in (
       (
-        Some fault,
-        uncounted old.kit t (length old.tables) stamp c (Some fault) few refused,
-        ap (λ (o : Option TableState). (refusal_of (of_store fault), o)) (ap (λ h. table_named h.tables name) same),
+        Some by_rule.0,
+        uncounted old.kit t (length old.tables) stamp c (Some by_rule.0) few by_rule.1,
+        ap (λ (r : List ℕ). (r, table_named new.tables name)) told
+            ∙ ap (λ (o : Option TableState). (refusal_of (of_rules by_rule.0), o)) (ap (λ h. table_named h.tables name) same),
       ),
       ap (λ h. h.kit) same,
     )
 takes_alone old new stamp name c sheet (Wants whole first same) calm = absurd (calm (F.OutOfMemory, refl, refl))
-takes_alone old new stamp name c sheet (NoRoom whole lawful same) calm = absurd (calm (F.HalfFull, refl, refl))
+takes_alone old new stamp name c sheet (NoRoom whole lawful same) calm = absurd (calm (F.FileFull, refl, refl))
 takes_alone old new stamp name c sheet (Fails whole lawful after) calm = absurd (calm (F.DeviceFailed, refl, refl))
 takes_alone old new stamp name c sheet (Again broken same) calm = absurd (calm (F.OpenAgain, refl, refl))
 
@@ -225,7 +232,7 @@ takes_alone old new stamp name c sheet (Again broken same) calm = absurd (calm (
 lacks_alone : (kit : Kit) (t after : Option TableState) (stamp : ℕ) (name : List ℕ) (c : Corp) {fault : Fault} → LacksRun kit t stamp name c fault
     → ¬ IsDisturbed (refusal_of fault) → after ≡ t → NoneAlone kit t stamp c (refusal_of fault, after)
 lacks_alone kit t after stamp name c (MayNotRun fault refused) calm same =
-    inl (fault, refused, ap (λ (o : Option TableState). (refusal_of (of_store fault), o)) same)
+    inl (fault, refused, ap (λ (o : Option TableState). (refusal_of (of_rules fault), o)) same)
 lacks_alone kit t after stamp name c (HasNone table is_there free lacks) calm same =
     inr (free, ap (λ (o : Option TableState). (refusal_of F.NoCertificate, o)) same)
 lacks_alone kit t after stamp name c (LacksMemory free) calm same = absurd (calm (F.OutOfMemory, refl, refl))

@@ -4,6 +4,9 @@ use Rattle.rr_disk.specs.Disk.{DiskState}
 use Rattle.rr_disk.specs.Moments.{LeavesOnly}
 use Rattle.rr_disk.proofs.MomentLemmas.{started, stays, joins, weaker}
 use Rattle.rr_kit.specs.Kits.{KitTexts}
+use Rattle.rr_log.specs.declared.log.Log.{Log}
+use Rattle.rr_log.specs.Log as log
+use Rattle.rr_records.specs.declared.rules.TableRules.{TableRules}
 use Rattle.rr_store.specs.Held.{Held}
 use Rattle.rr_store.specs.Holding.{Carries, disk_of, held_of}
 use Rattle.rr_store.proofs.Standing.{carried_keeps}
@@ -41,13 +44,19 @@ module _ {D : Type 0} (Honest Works : D → Type 0) (state : D → DiskState) (p
   works_before s [] (reply ∷ replies) t served w = absurd served
   works_before s (line ∷ lines) [] t served w = absurd served
 
-  pub none_fails : (s : Told D) (lines replies : List (List ℕ)) (t : Told D) → Served Both told s lines replies t → Works (disk t) → NoneFails replies
-  none_fails s [] [] t served w = tt
-  none_fails s (line ∷ lines) (reply ∷ replies) t served w =
-      let calm : tells_failure reply ≡ false = not_true (tells_failure reply) (λ failed. served.1.1.device (sym (ap tells_failure served.2) ∙ failed) (works_before served.0 lines replies t served.3 w)) in
-      (calm, none_fails served.0 lines replies t served.3 w)
-  none_fails s [] (reply ∷ replies) t served w = absurd served
-  none_fails s (line ∷ lines) [] t served w = absurd served
+  pub none_fails : (s : Told D) (lines replies : List (List ℕ)) (t : Told D) (texts : KitTexts) → Served Both told s lines replies t → (held_of s.0).broken ≡ false
+      → Carries state s.0 texts → Honest (disk t) → Works (disk t) → NoneFails replies
+  none_fails s [] [] t texts served whole carried h w = tt
+  none_fails s (line ∷ lines) (reply ∷ replies) t texts served whole carried h w =
+      let mid = served.0 in
+      let honest = honest_before mid lines replies t served.3 h in
+      let works = works_before mid lines replies t served.3 w in
+      let lasts = served.1.1 in
+      let calm : tells_failure (told mid) ≡ false = not_true (tells_failure (told mid)) (λ failed. lasts.device failed honest texts carried works) in
+      let still_whole = lasts.breaks calm ∙ whole in
+      (ap tells_failure served.2 ∙ calm, none_fails mid lines replies t texts served.3 still_whole (lasts.carries honest still_whole texts carried) h w)
+  none_fails s [] (reply ∷ replies) t texts served whole carried h w = absurd served
+  none_fails s (line ∷ lines) [] t texts served whole carried h w = absurd served
 
   not_while_broken : (s : Told D) (line : List ℕ) → (held_of s.0).broken ≡ true → ¬ MayAppend (held_of s.0) line
   not_while_broken s line broken may = let both : true ≡ false = sym broken ∙ may.1.whole in absurd cc
@@ -57,7 +66,7 @@ module _ {D : Type 0} (Honest Works : D → Type 0) (state : D → DiskState) (p
   still s [] [] t served broken = ap disk served
   still s (line ∷ lines) (reply ∷ replies) t served broken =
       let here = served.1.1.untouched (not_while_broken s (taken line) broken) in
-      still served.0 lines replies t served.3 (ap (λ (x : Held). x.broken) here.held ∙ broken) ∙ here.disk
+      still served.0 lines replies t served.3 (ap (λ (x : Held). x.broken) here.same_held ∙ broken) ∙ ap (λ (l : Log D TableRules). log.disk_of l) here.same_file
   still s [] (reply ∷ replies) t served broken = absurd served
   still s (line ∷ lines) [] t served broken = absurd served
 

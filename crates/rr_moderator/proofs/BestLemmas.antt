@@ -32,7 +32,8 @@ use Rattle.rr_search.specs.declared.fault.Fault as search
 use Rattle.rr_search.specs.declared.fault.Fault.TheVariants as R
 use Rattle.rr_store.specs.declared.fault.Fault as store
 use Rattle.rr_store.specs.declared.fault.Fault.TheVariants as T
-use Rattle.rr_store.specs.Fault.{of_table}
+use Rattle.rr_records.specs.declared.fault.Fault.TheVariants as J
+use Rattle.rr_records.specs.Fault.{of_table}
 use Rattle.rr_store.specs.Held.{Held, LacksTable}
 use Rattle.rr_store.specs.World.{TableState, state_after, table_named}
 use Rattle.rr_moderator.specs.declared.fault.Fault.{Fault}
@@ -138,7 +139,7 @@ search_lacks own kit t table stamp name c most fault lent there free room (inr (
 -- a table that there isn't, and one that judges a run
 
 pub no_table : (held : Held) (name : List ℕ) (stamp : ℕ) (c : Corp) (fault : store.Fault) → held.broken ≡ false → LacksTable held name fault
-    → run_verdict held.kit (table_named held.tables name) stamp c ≡ Some fault
+    → run_verdict held.kit (table_named held.tables name) stamp c ≡ Some J.NoSuchTable
 no_table held name stamp c T.NoSuchTable whole h = ap (λ (o : Option TableState). run_verdict held.kit o stamp c) h.1
 no_table held name stamp c T.OpenAgain whole h = let both : true ≡ false = sym h ∙ whole in absurd (cc both)
 no_table held name stamp c (T.Kit fault) whole h = absurd h
@@ -147,7 +148,7 @@ no_table held name stamp c (T.StaleStamp other) whole h = absurd h
 no_table held name stamp c T.TurnNotKept whole h = absurd h
 no_table held name stamp c T.TooManyCommands whole h = absurd h
 no_table held name stamp c T.DeviceFailed whole h = absurd h
-no_table held name stamp c T.HalfFull whole h = absurd h
+no_table held name stamp c T.FileFull whole h = absurd h
 no_table held name stamp c (T.Damaged clause) whole h = absurd h
 no_table held name stamp c T.NotAStore whole h = absurd h
 no_table held name stamp c T.NotEmpty whole h = absurd h

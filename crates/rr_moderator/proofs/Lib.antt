@@ -1,4 +1,5 @@
 pub mod Listing
+pub mod Verdicts
 pub mod Replies
 pub mod BestLemmas
 pub mod LawfulLemmas

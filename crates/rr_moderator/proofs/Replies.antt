@@ -1,12 +1,9 @@
 -- What the tables in memory say, as the answers that the accepted commands make.
-use Rattle.std.proofs.Common.{◌≡◌, ℕ, ◌+◌, ◌≤◌, List, [], ◌∷◌, ◌++◌, Option, None, Some, Bool, true, false, Result, Ok, Err, length, option_map, take, get_or, slice_get, codes, bytes_eq, refl, sym, ap, subst, ◌∙◌, inl, inr, arith}
-use Rattle.std.specs.Map.{keys_of, lookup}
+use Rattle.std.proofs.Common.{◌≡◌, ℕ, ◌+◌, ◌≤◌, List, [], ◌∷◌, ◌++◌, Option, None, Some, true, false, Result, Ok, Err, length, take, get_or, slice_get, codes, sym, ap, subst, ◌∙◌, inl, inr, arith}
 use Rattle.std.proofs.lemmas.Bool.{cases_lt}
 use Rattle.std.proofs.lemmas.List.{flat_map_more, take_all, take_more}
 use Rattle.std.proofs.lemmas.Option.{get_or_from_slice_get, none-some, slice_get-get_or, slice_get_within}
-use Rattle.std.proofs.lemmas.Map.Made.{lookup-map_values}
 use Rattle.rr_moderator.specs.declared.fault.Fault.{Fault}
-use Rattle.rr_moderator.specs.declared.fault.Fault.TheVariants as F
 use Rattle.rr_moderator.specs.Answer.{answer_of, spaced}
 use Rattle.rr_moderator.specs.Queries.{Answer, Writes, answer_of_table, fault_of, reply_of}
 use Rattle.rr_store.specs.declared.fault.Fault as store
@@ -63,7 +60,7 @@ refuses_at held name answer (T.StaleStamp stamp) whole h = absurd h
 refuses_at held name answer T.TurnNotKept whole h = absurd h
 refuses_at held name answer T.TooManyCommands whole h = absurd h
 refuses_at held name answer T.DeviceFailed whole h = absurd h
-refuses_at held name answer T.HalfFull whole h = absurd h
+refuses_at held name answer T.FileFull whole h = absurd h
 refuses_at held name answer (T.Damaged clause) whole h = absurd h
 refuses_at held name answer T.NotAStore whole h = absurd h
 refuses_at held name answer T.NotEmpty whole h = absurd h

@@ -1,17 +1,13 @@
 -- What a moderator answers, from what its parts did.
 use Rattle.std.proofs.Common.{◌≡◌, ℕ, List, Option, None, Some, Result, Ok, Err, MatchResult, sym, ap, subst, ◌∙◌}
 use Rattle.rr_disk.specs.Disk.{DiskState}
-use Rattle.rr_code.specs.declared.command.Command.{Command}
 use Rattle.rr_code.specs.declared.command.Command.TheVariants as C
 use Rattle.rr_orders.specs.declared.order.Order.{Order}
 use Rattle.rr_orders.specs.declared.order.Order.TheVariants as O
 use Rattle.rr_turns.specs.declared.request.Request.TheVariants.{Play}
 use Rattle.rr_store.specs.declared.fault.Fault as store
 use Rattle.rr_store.specs.Committing.{Commits}
-use Rattle.rr_turns.specs.declared.request.Request.{Request}
 use Rattle.rr_code.specs.declared.line.Line.{Line}
-use Rattle.rr_code.specs.declared.line.Line.TheVariants as L
-use Rattle.rr_code.specs.declared.query.Query.{Query}
 use Rattle.rr_code.proofs.TextLemmas.{line-unique}
 use Rattle.rr_roster.specs.declared.company.Corp.{Corp}
 use Rattle.rr_code.specs.Line.{SpellsLine}
@@ -19,13 +15,11 @@ use Rattle.rr_moderator.specs.declared.fault.Fault.{Fault}
 use Rattle.rr_moderator.specs.Fault.{refusal_of}
 use Rattle.rr_moderator.specs.Queries.{Answer, fault_of, reply_of}
 use Rattle.rr_store.specs.declared.store.Store.{Store}
-use Rattle.rr_store.specs.Held.{Held}
 use Rattle.rr_store.specs.Holding.{held_of}
-use Rattle.rr_store.specs.World.{TableRequest, for_table, table_named}
+use Rattle.rr_store.specs.World.{table_named}
 use Rattle.rr_moderator.specs.Best.{IsBestRun}
 use Rattle.rr_moderator.specs.Choosing.{CommitsBest, Stays, Goes_on}
-use Rattle.rr_moderator.specs.Durability.{SpellsRequest}
-use Rattle.rr_moderator.specs.Serving.{AsksFor, Itself, AsBest, MeetsBest, Lacks, Finds, outcome_of, reply_to, text_of}
+use Rattle.rr_moderator.specs.Serving.{MeetsBest, Lacks, Finds, outcome_of, reply_to, text_of}
 
 -- a query that is refused
 pub reply_refused : (answer : Answer) (fault : Fault) → fault_of answer ≡ Some fault → refusal_of fault ≡ reply_of answer
@@ -42,48 +36,6 @@ queried answer (Err fault) reply h = reply_refused answer fault h
 -- a line has one meaning
 pub one_line : (line : List ℕ) (l m : Line) → SpellsLine line l → SpellsLine line m → l ≡ m
 one_line line l m first second = line-unique l m first.is_line second.is_line (sym first.spelled ∙ second.spelled)
-
--- a query is no request
-pub no_query : (line : List ℕ) (query : Query) (stamp : ℕ) (name : List ℕ) (c : Request Command) → SpellsLine line (L.Query query) → SpellsLine line (L.Request stamp name c) → ⊥
-no_query line query stamp name c first second = absurd (cc (one_line line (L.Query query) (L.Request stamp name c) first second))
-
--- nor is a line that asks for the best run
-pub no_best : (line : List ℕ) (at : ℕ) (table : List ℕ) (corp : Corp) (stamp : ℕ) (name : List ℕ) (c : Request Command)
-    → SpellsLine line (L.Best at table corp) → SpellsLine line (L.Request stamp name c) → ⊥
-no_best line at table corp stamp name c first second =
-    absurd (cc (one_line line (L.Best at table corp) (L.Request stamp name c) first second))
-
--- what a line asks for, it spells in some way
-pub asks_spelled : {held : Held} {line : List ℕ} {stamp : ℕ} {r : TableRequest} {sheet : List ℕ} → AsksFor held line stamp r sheet → (l : Line) × SpellsLine line l
-asks_spelled {held} {line} {stamp} {r} (Itself spells) = (L.Request stamp r.name r.request, spells)
-asks_spelled {held} {line} {stamp} {r} (AsBest c sheet certificate spells is same) = (L.Best stamp r.name c, spells)
-
--- a query asks for no request
-pub query_asks_none : (line : List ℕ) (query : Query) {held : Held} {stamp : ℕ} {r : TableRequest} {sheet : List ℕ} → SpellsLine line (L.Query query) → AsksFor held line stamp r sheet → ⊥
-query_asks_none line query {held} {stamp} {r} spells (Itself other) = no_query line query stamp r.name r.request spells other
-query_asks_none line query {held} {stamp} {r} spells (AsBest c sheet certificate other is same) =
-    absurd (cc (one_line line (L.Query query) (L.Best stamp r.name c) spells other))
-
--- a request of a line, as one line gives it
-abbrev named : Line → Option (ℕ × TableRequest)
-named (L.Request stamp name c) = Some (stamp, for_table name c)
-named (L.Query query) = None
-named (L.Best stamp name corp) = None
-
-same_some : (a b : ℕ × TableRequest) → Some a ≡ Some b → a ≡ b
-same_some a b e = cc
-
--- a line that spells a request asks for no other
-pub same_asked : (held : Held) (line : List ℕ) (stamp at : ℕ) (r other : TableRequest) {sheet shown : List ℕ} → SpellsRequest line
-    → AsksFor held line stamp r sheet → AsksFor held line at other shown → (at ≡ stamp) × (other ≡ r)
-same_asked held line stamp at r other spelled (Itself first) (Itself second) =
-    let lines = one_line line (L.Request at other.name other.request) (L.Request stamp r.name r.request) second first in
-    let same = same_some (at, for_table other.name other.request) (stamp, for_table r.name r.request) (ap named lines) in
-    (ap (λ (x : ℕ × TableRequest). x.0) same, ap (λ (x : ℕ × TableRequest). x.1) same)
-same_asked held line stamp at r other spelled (Itself first) (AsBest c sheet certificate second is same) =
-    absurd (no_best line at other.name c stamp r.name r.request second first)
-same_asked held line stamp at r other spelled (AsBest c sheet certificate first is same) second =
-    absurd (no_best line stamp r.name c spelled.0 spelled.1 spelled.2 first spelled.3)
 
 -- what comes of asking for a best run, from what it does to the store
 pub best_meets : {D : Type 0} (Honest Works : D → Type 0) (state : D → DiskState) (past : D → List DiskState) (faults writes syncs : D → ℕ)

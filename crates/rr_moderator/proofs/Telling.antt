@@ -21,17 +21,20 @@ use Rattle.rr_turns.specs.declared.request.Request.{Request}
 use Rattle.rr_turns.specs.declared.request.Request.TheVariants.{Play}
 use Rattle.rr_code.specs.declared.query.Query.{Query}
 use Rattle.rr_code.specs.declared.query.Query.TheVariants as Q
+use Rattle.rr_records.specs.declared.fault.Fault as judge
+use Rattle.rr_records.specs.declared.fault.Fault.TheVariants as J
+use Rattle.rr_records.specs.Fault.{of_table}
+use Rattle.rr_records.specs.World.{TableState, World, opening_verdict, step_judgement, table_named, world_judgement}
 use Rattle.rr_store.specs.declared.fault.Fault as store
 use Rattle.rr_store.specs.declared.fault.Fault.TheVariants as T
-use Rattle.rr_store.specs.Fault.{CountsFailure, of_table}
-use Rattle.rr_store.specs.World.{TableState, World, opening_verdict, step_judgement, table_named, world_judgement}
+use Rattle.rr_store.specs.Fault.{CountsFailure}
 use Rattle.rr_serve.specs.Serving.{tells_failure}
 use Rattle.rr_moderator.specs.declared.fault.Fault.{Fault}
 use Rattle.rr_moderator.specs.declared.fault.Fault.TheVariants as F
 use Rattle.rr_moderator.specs.Answer.{accepted_text, answer_of}
 use Rattle.rr_moderator.specs.Best.{LacksRun, MayNotRun, HasNone, LacksMemory}
-use Rattle.rr_moderator.specs.Durability.{CountsTold, tells_acceptance, tells_full}
-use Rattle.rr_moderator.specs.Fault.{of_store, refusal_of}
+use Rattle.rr_moderator.specs.Durability.{CountsTold, reaches_file, tells_acceptance, tells_full}
+use Rattle.rr_moderator.specs.Fault.{of_rules, of_store, refusal_of}
 use Rattle.rr_moderator.specs.Queries.{Answer, answer_of_named, answer_of_table, asked_answer, cash_answer, due_answer, holds_answer, iou_answer, limit_answer, order_answer, phase_answer, price_answer, privates_answer, query_text, reply_of, stamp_answer, trains_answer, turns_answer, worth_answer}
 
 counts_kit : (old new : ℕ) (fault : kit.Fault) → new ≡ old → CountsTold old new (tells_failure (refusal_of (F.Kit fault)))
@@ -88,13 +91,9 @@ pub open_again_calm : SaysNeither (refusal_of F.OpenAgain)
 unfolding digits
 open_again_calm = (refl, refl, refl)
 
-pub half_full_calm : tells_failure (refusal_of F.HalfFull) ≡ false
+pub full_calm : tells_failure (refusal_of F.FileFull) ≡ false
 unfolding digits
-half_full_calm = refl
-
-pub full_told : tells_full (refusal_of F.HalfFull) ≡ true
-unfolding digits
-full_told = refl
+full_calm = refl
 
 pub failure_told : tells_failure (refusal_of F.DeviceFailed) ≡ true
 unfolding digits
@@ -104,17 +103,33 @@ pub failure_calm : tells_full (refusal_of F.DeviceFailed) ≡ false
 unfolding digits
 failure_calm = refl
 
+-- what a request that reached the file may be told
+pub accepted_reaches : (kit : Kit) (name : List ℕ) (t : TableState) (c : Request Command) (sheet : List ℕ) → reaches_file (accepted_text kit name t c sheet) ≡ true
+accepted_reaches kit name t c sheet = refl
+
+pub failure_reaches : reaches_file (refusal_of F.DeviceFailed) ≡ true
+unfolding digits
+failure_reaches = refl
+
+pub full_reaches : reaches_file (refusal_of F.FileFull) ≡ true
+unfolding digits
+full_reaches = refl
+
+pub memory_reaches : reaches_file (refusal_of F.OutOfMemory) ≡ true
+unfolding digits
+memory_reaches = refl
+
 pub memory_calm : SaysNeither (refusal_of F.OutOfMemory)
 unfolding digits
 memory_calm = (refl, refl, refl)
 
 -- no rule says it
 
-abbrev IsCalm : Option store.Fault → Type 0
+abbrev IsCalm : Option judge.Fault → Type 0
 IsCalm None = Unit {0}
-IsCalm (Some fault) = SaysNeither (refusal_of (of_store fault))
+IsCalm (Some fault) = SaysNeither (refusal_of (of_rules fault))
 
-calm_if : (b : Bool) (o p : Option store.Fault) → IsCalm o → IsCalm p → IsCalm (if b then o else p)
+calm_if : (b : Bool) (o p : Option judge.Fault) → IsCalm o → IsCalm p → IsCalm (if b then o else p)
 calm_if true o p h k = h
 calm_if false o p h k = k
 
@@ -139,20 +154,20 @@ table_calm (Some H.TurnNotKept) = (refl, refl, refl)
 table_calm (Some H.TooManyCommands) = (refl, refl, refl)
 table_calm (Some H.OutOfMemory) = (refl, refl, refl)
 
-settled_calm : (o verdict : Option store.Fault) → IsCalm o → IsVerdict (settled o) verdict → IsCalm verdict
-settled_calm o verdict h is = let P : Option store.Fault → Type 0 = IsCalm in subst P (sym (is-settled o verdict is)) h
+settled_calm : (o verdict : Option judge.Fault) → IsCalm o → IsVerdict (settled o) verdict → IsCalm verdict
+settled_calm o verdict h is = let P : Option judge.Fault → Type 0 = IsCalm in subst P (sym (is-settled o verdict is)) h
 
-mapped_calm : (j : Judgement hist.Fault) (verdict : Option store.Fault) → IsVerdict (judgement_map of_table j) verdict → IsCalm verdict
+mapped_calm : (j : Judgement hist.Fault) (verdict : Option judge.Fault) → IsVerdict (judgement_map of_table j) verdict → IsCalm verdict
 mapped_calm j verdict is =
     let found = is-map of_table j verdict is in
-    let P : Option store.Fault → Type 0 = IsCalm in subst P (sym found.2) (table_calm found.0)
+    let P : Option judge.Fault → Type 0 = IsCalm in subst P (sym found.2) (table_calm found.0)
 
-lacking_calm : SaysNeither (refusal_of (of_store T.NoSuchTable))
+lacking_calm : SaysNeither (refusal_of (of_rules J.NoSuchTable))
 unfolding digits
 lacking_calm = (refl, refl, refl)
 
-step_calm : (kit : Kit) (t : Option TableState) (stamp : ℕ) (c : Request Command) (verdict : Option store.Fault) → IsVerdict (step_judgement kit t stamp c) verdict → IsCalm verdict
-step_calm kit None stamp c verdict is = settled_calm (Some T.NoSuchTable) verdict lacking_calm is
+step_calm : (kit : Kit) (t : Option TableState) (stamp : ℕ) (c : Request Command) (verdict : Option judge.Fault) → IsVerdict (step_judgement kit t stamp c) verdict → IsCalm verdict
+step_calm kit None stamp c verdict is = settled_calm (Some J.NoSuchTable) verdict lacking_calm is
 step_calm kit (Some t) stamp c verdict is = mapped_calm (request_judgement kit t stamp c) verdict is
 
 -- nor does what a search is refused for
@@ -171,13 +186,13 @@ unfolding digits
 opening_calm (Some t) n stamp = (refl, refl, refl)
 opening_calm None n stamp = calm_if (not (stamp == 0)) _ _ (refl, refl, refl) (calm_if (nat_le 64 n) _ _ (refl, refl, refl) tt)
 
-world_calm : (kit : Kit) (t : Option TableState) (n stamp : ℕ) (c : Request Command) (verdict : Option store.Fault) → IsVerdict (world_judgement kit t n stamp c) verdict → IsCalm verdict
+world_calm : (kit : Kit) (t : Option TableState) (n stamp : ℕ) (c : Request Command) (verdict : Option judge.Fault) → IsVerdict (world_judgement kit t n stamp c) verdict → IsCalm verdict
 world_calm kit t n stamp (Play (Open players)) verdict is = settled_calm (opening_verdict t n stamp) verdict (opening_calm t n stamp) is
 world_calm kit t n stamp c verdict is = step_calm kit t stamp c verdict is
 
 -- no fault of a verdict says one of them
-pub verdict_calm : (kit : Kit) (t : Option TableState) (n stamp : ℕ) (c : Request Command) (fault : store.Fault) → IsVerdict (world_judgement kit t n stamp c) (Some fault)
-    → SaysNeither (refusal_of (of_store fault))
+pub verdict_calm : (kit : Kit) (t : Option TableState) (n stamp : ℕ) (c : Request Command) (fault : judge.Fault) → IsVerdict (world_judgement kit t n stamp c) (Some fault)
+    → SaysNeither (refusal_of (of_rules fault))
 verdict_calm kit t n stamp c fault is = world_calm kit t n stamp c (Some fault) is
 
 -- nor does a reply to a query

@@ -85,7 +85,7 @@ Picks name (exchange ∷ run) picked =
 -- a refusal that comes of the file, of memory, or of the number of tables, and of no table by itself
 abbrev pub disturbs : Fault → Bool
 disturbs F.DeviceFailed = true
-disturbs F.HalfFull = true
+disturbs F.FileFull = true
 disturbs F.OpenAgain = true
 disturbs F.TooManyTables = true
 disturbs F.OutOfMemory = true

@@ -18,6 +18,7 @@ use Rattle.rr_turns.specs.declared.request.Request.TheVariants.{Play}
 use Rattle.rr_kit.specs.declared.kit.Kit.{Kit}
 use Rattle.rr_game.specs.Play.{play}
 use Rattle.rr_store.specs.World.{TableState}
+use Rattle.rr_moderator.specs.declared.summary.Summary.{Summary}
 
 -- words, each behind a space
 abbrev pub spaced : List (List ℕ) → List ℕ
@@ -57,3 +58,7 @@ price_words (Some quoted) = decimal quoted.0 ∷ decimal quoted.1.row ∷ decima
 -- the privates at a place, in the order of every roster
 abbrev pub owned : Holders → Place → List Private
 owned holder place = filter (λ p. is_at (holder (C.Private p)) place) privates
+
+-- how many tables there are, and the number of the last request that was accepted
+abbrev pub summary_text : Summary → List ℕ
+summary_text summary = codes "ok " ++ decimal summary.tables ++ codes " " ++ decimal summary.last ++ codes "\n"

@@ -12,20 +12,20 @@ use Rattle.rr_kit.specs.declared.kit.Kit.{Kit}
 use Rattle.rr_orders.specs.declared.order.Order.TheVariants as O
 use Rattle.rr_roster.specs.declared.company.Corp.{Corp}
 use Rattle.rr_running.specs.Running.{IsBestRunVerdict, net_now}
-use Rattle.rr_store.specs.declared.fault.Fault as store
-use Rattle.rr_store.specs.World.{TableState, step_judgement}
+use Rattle.rr_records.specs.declared.fault.Fault as judge
+use Rattle.rr_records.specs.World.{TableState, step_judgement}
 use Rattle.rr_turns.specs.declared.request.Request.{Request}
 use Rattle.rr_turns.specs.declared.request.Request.TheVariants.{Play}
 use Rattle.rr_moderator.specs.declared.fault.Fault.{Fault}
 use Rattle.rr_moderator.specs.declared.fault.Fault.TheVariants as F
-use Rattle.rr_moderator.specs.Fault.{of_store}
+use Rattle.rr_moderator.specs.Fault.{of_rules}
 
 -- the request that runs a corporation's trains by a sheet, with a certificate that no run earns more
 abbrev pub best_run : Corp → List ℕ → List ℕ → Request Command
 best_run c sheet certificate = Play (Order (O.RunBest c sheet certificate))
 
 -- what refuses a run of the corporation, by checks that take no memory and ask nothing of its sheet and its certificate
-abbrev pub run_verdict : Kit → Option TableState → ℕ → Corp → Option store.Fault
+abbrev pub run_verdict : Kit → Option TableState → ℕ → Corp → Option judge.Fault
 run_verdict kit t stamp c = (step_judgement kit t stamp (Play (Order (O.Run c [])))).first
 
 -- the book of a table
@@ -49,7 +49,7 @@ pub record IsBestRun (kit : Kit) (t : Option TableState) (stamp : ℕ) (name : L
 -- why no best run is found
 pub data LacksRun (kit : Kit) (t : Option TableState) (stamp : ℕ) (name : List ℕ) (c : Corp) : Fault → Type 0 where
   -- the corporation may not run now, whatever the sheet
-  MayNotRun : (fault : store.Fault) → run_verdict kit t stamp c ≡ Some fault → LacksRun kit t stamp name c (of_store fault)
+  MayNotRun : (fault : judge.Fault) → run_verdict kit t stamp c ≡ Some fault → LacksRun kit t stamp name c (of_rules fault)
   -- it may, but the whole tree is too large for a certificate, or a best run has too many words for a line
   HasNone : (table : TableState) → t ≡ Some table → run_verdict kit t stamp c ≡ None
       → MayLackRun (net_now kit.board kit.tiles (book_of kit table) c) c (room_behind stamp name) → LacksRun kit t stamp name c F.NoCertificate

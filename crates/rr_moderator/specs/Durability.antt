@@ -1,22 +1,17 @@
 -- What the file has of a moderator's tables, whatever a stop leaves.
-use Rattle.std.specs.Prelude.{◌≡◌, ◌⊎◌, ℕ, ◌+◌, ◌≤◌, Bool, false, true, List, [], ◌∷◌, Option, None, Some, nat_eq, codes}
+use Rattle.std.specs.Prelude.{◌≡◌, ◌⊎◌, ℕ, ◌+◌, ◌≤◌, ◌||◌, Bool, false, true, List, [], ◌∷◌, Option, None, Some, nat_eq, codes}
 use Rattle.std.specs.List.{starts_with}
 use Rattle.rr_disk.specs.Disk.{DiskState, counted}
 use Rattle.rr_disk.specs.Moments.{LeavesOnly}
 use Rattle.rr_kit.specs.Kits.{KitTexts, SpellsKit}
+use Rattle.rr_records.specs.Headline.{KeepsTablesOr}
 use Rattle.rr_store.specs.declared.store.Store.{Store}
 use Rattle.rr_store.specs.Allowing.{BeforeOrAfter}
 use Rattle.rr_store.specs.Files.{StandsFor}
 use Rattle.rr_store.specs.Held.{Held, with_tables}
-use Rattle.rr_store.specs.Holding.{Carries, GoesBehind, IsFull, IsUnchanged, disk_of, held_of}
+use Rattle.rr_store.specs.Holding.{Carries, IsFull, IsUnchanged, disk_of, held_of, number_of_next}
 use Rattle.rr_store.specs.World.{TableRequest, state_after, table_named, world_after}
-use Rattle.rr_code.specs.declared.command.Command.{Command}
-use Rattle.rr_code.specs.declared.line.Line.TheVariants as L
-use Rattle.rr_code.specs.Line.{SpellsLine}
-use Rattle.rr_turns.specs.declared.request.Request.{Request}
-use Rattle.rr_moderator.specs.declared.fault.Fault.TheVariants as F
 use Rattle.rr_moderator.specs.Answer.{accepted_text}
-use Rattle.rr_moderator.specs.Fault.{refusal_of}
 use Rattle.rr_moderator.specs.Serving.{Answers, Gives}
 use Rattle.rr_moderator.specs.Serving.{MayAppend}
 use Rattle.rr_serve.specs.Serving.{NoneFails, Served, tells_failure}
@@ -52,26 +47,36 @@ tells_acceptance reply = starts_with nat_eq reply (codes "ok ")
 
 -- the reply says that the file has no room
 abbrev pub tells_full : List ℕ → Bool
-tells_full reply = starts_with nat_eq reply (codes "no 61 ")
+tells_full reply = starts_with nat_eq reply (codes "no 62 ")
 
--- the line spells a request: it doesn't leave it to a search
-abbrev pub SpellsRequest : List ℕ → Type 0
-SpellsRequest line = (stamp : ℕ) × (name : List ℕ) × (request : Request Command) × SpellsLine line (L.Request stamp name request)
+-- or that memory was wanted
+abbrev pub tells_want : List ℕ → Bool
+tells_want reply = starts_with nat_eq reply (codes "no 70 ")
 
--- the line gives a lawful request for which the file has no room
-pub record HasNoPlace {D : Type 0} (store : Store D) (line : List ℕ) : Type 0 where
+-- the reply is one of those that a request is given where no rule refuses it: only then something may have been written
+abbrev pub reaches_file : List ℕ → Bool
+reaches_file reply = tells_acceptance reply || (tells_failure reply || (tells_full reply || tells_want reply))
+
+-- the line gives a lawful request, for which this store has no room in the half in use, or no number
+pub record HasNoPlace {D : Type 0} (old : Store D) (line : List ℕ) (store : Store D) : Type 0 where
   pub asked : TableRequest
-  pub lawful : Gives (held_of store) line asked
+  pub lawful : Gives (held_of old) line asked
   pub full : IsFull store asked.name asked.request
+
+-- the number of the next record behind a reply, by whether that tells of an acceptance
+abbrev pub number_behind : Bool → ℕ → ℕ
+number_behind true number = number + 1
+number_behind false number = number
 
 -- What answering a line does. There is one request, or none, that is pending while it is answered, and a reply `ok` tells of
 -- just that one. On an honest disk that carries what is held: a stop at any moment leaves a file that stands for the world
--- before the line, or for that with the pending request; and the disk carries what is held then, unless the device failed. Of
--- every disk: the next record goes right behind that of a request that was taken; at most two writes and two syncs, and where
--- the reply neither takes a request nor says that the device failed all is as it was, as it is for a line that gives no lawful
--- request; the reply says that the device failed exactly where the disk counts a fault, and never on a disk that works; that
--- the file is full, only where it has no room for a lawful request; where a line spells one for which there is none, it says so
--- or that memory was wanted, and none for which there is none is taken.
+-- before the line, or for that with the pending request, and that keeps it, so that the next record may be written; and the
+-- disk carries what is held then, unless the device failed. Of every disk: the number of the next record is one more behind an
+-- `ok`, and else the same, unless the device failed; where the reply is a refusal by a rule, or the line gives no lawful
+-- request, all is as it was; the reply says that the device failed exactly where the disk counts a fault and the store is
+-- broken by it, and never on an honest disk that works and carries what is held; three writes and three syncs are made at
+-- most, where there is room for the line's lawful request; and the reply says that the file is full only where, behind the
+-- call, there is none for it.
 pub record Lasts {D : Type 0} (Honest Works : D → Type 0) (state : D → DiskState) (past : D → List DiskState) (faults writes syncs : D → ℕ)
     (old : Store D) (line : List ℕ) (new : Store D) (reply : List ℕ) : Type 0 where
   pub pending : Option TableRequest
@@ -80,18 +85,19 @@ pub record Lasts {D : Type 0} (Honest Works : D → Type 0) (state : D → DiskS
   pub honest : Honest (disk_of new) → Honest (disk_of old)
   pub stops : Honest (disk_of new) → (texts : KitTexts) → Carries state old texts
       → LeavesOnly (past (disk_of old)) (state (disk_of old)) (past (disk_of new)) (state (disk_of new)) (BeforeOrAfter texts (held_of old).kit (held_of old).tables pending)
+  pub keeps : Honest (disk_of new) → (texts : KitTexts) → Carries state old texts
+      → LeavesOnly (past (disk_of old)) (state (disk_of old)) (past (disk_of new)) (state (disk_of new)) (KeepsTablesOr texts (held_of old).kit (held_of old).tables pending)
   pub carries : Honest (disk_of new) → (held_of new).broken ≡ false → (texts : KitTexts) → Carries state old texts → Carries state new texts
-  pub spares : tells_acceptance reply ≡ false → tells_failure reply ≡ false → IsUnchanged old new
+  pub number : tells_failure reply ≡ false → number_of_next new ≡ number_behind (tells_acceptance reply) (number_of_next old)
+  pub spares : reaches_file reply ≡ false → IsUnchanged old new
   pub untouched : ¬ MayAppend (held_of old) line → IsUnchanged old new
-  pub place : (told : tells_acceptance reply ≡ true) → GoesBehind old (accepted told).asked.name (accepted told).asked.request new
+  pub breaks : tells_failure reply ≡ false → (held_of new).broken ≡ (held_of old).broken
   pub counts : CountsTold (faults (disk_of old)) (faults (disk_of new)) (tells_failure reply)
-  pub device : tells_failure reply ≡ true → Works (disk_of new) → ⊥
   pub works : Works (disk_of new) → Works (disk_of old)
-  pub few_writes : writes (disk_of new) ≤ writes (disk_of old) + 2
-  pub few_syncs : syncs (disk_of new) ≤ syncs (disk_of old) + 2
-  pub full : tells_full reply ≡ true → HasNoPlace old line
-  pub fits : (told : tells_acceptance reply ≡ true) → IsFull old (accepted told).asked.name (accepted told).asked.request → ⊥
-  pub in_time : SpellsRequest line → HasNoPlace old line → (reply ≡ refusal_of F.HalfFull) ⊎ (reply ≡ refusal_of F.OutOfMemory)
+  pub device : tells_failure reply ≡ true → Honest (disk_of new) → (texts : KitTexts) → Carries state old texts → Works (disk_of new) → ⊥
+  pub few_writes : (HasNoPlace old line old → ⊥) → writes (disk_of new) ≤ writes (disk_of old) + 3
+  pub few_syncs : (HasNoPlace old line old → ⊥) → syncs (disk_of new) ≤ syncs (disk_of old) + 3
+  pub full : tells_full reply ≡ true → HasNoPlace old line new
 
 -- a store, and the reply made last over it
 abbrev pub Told : Type 0 → Type 0
@@ -116,9 +122,10 @@ StandsAlong Honest Works state past faults writes syncs texts begun (line ∷ li
 StandsAlong Honest Works state past faults writes syncs texts begun [] (reply ∷ replies) ended way image = ⊥
 StandsAlong Honest Works state past faults writes syncs texts begun (line ∷ lines) [] ended way image = ⊥
 
--- However many lines are answered, no reply says that the device failed while the device works.
+-- However many lines are answered, no reply says that the device failed while an honest disk works that carries what is held.
 abbrev pub NoneFailsWhileWorking : {D : Type 0} → (D → Type 0) → (D → Type 0) → (D → DiskState) → (D → List DiskState) → (D → ℕ) → (D → ℕ) → (D → ℕ) → Type 0
 NoneFailsWhileWorking {D} Honest Works state past faults writes syncs =
-    (begun : Told D) (lines replies : List (List ℕ)) (ended : Told D)
+    (begun : Told D) (lines replies : List (List ℕ)) (ended : Told D) (texts : KitTexts)
     → Served (SpeaksAndLasts Honest Works state past faults writes syncs) told begun lines replies ended
-    → Works (disk_of ended.0) → NoneFails replies
+    → (held_of begun.0).broken ≡ false → Carries state begun.0 texts
+    → Honest (disk_of ended.0) → Works (disk_of ended.0) → NoneFails replies

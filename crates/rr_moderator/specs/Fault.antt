@@ -11,8 +11,10 @@ use Rattle.rr_rules.specs.declared.fault.Fault.TheVariants as U
 use Rattle.rr_runs.specs.Fault.{clause_number}
 use Rattle.rr_code.specs.declared.fault.Fault as code
 use Rattle.rr_code.specs.declared.fault.Fault.TheVariants as C
+use Rattle.rr_records.specs.declared.fault.Fault as judge
 use Rattle.rr_store.specs.declared.fault.Fault as store
 use Rattle.rr_store.specs.declared.fault.Fault.TheVariants as T
+use Rattle.rr_store.specs.Fault as stored
 use Rattle.rr_search.specs.declared.fault.Fault as search
 use Rattle.rr_search.specs.declared.fault.Fault.TheVariants as R
 use Rattle.rr_serve.specs.declared.faults.Fault as serve
@@ -30,7 +32,7 @@ number_of F.TurnNotKept = 53
 number_of F.TooManyCommands = 54
 number_of F.MalformedLine = 55
 number_of F.DeviceFailed = 60
-number_of F.HalfFull = 61
+number_of F.FileFull = 62
 number_of (F.Damaged clause) = 63
 number_of F.NotAStore = 64
 number_of F.NotEmpty = 64
@@ -100,7 +102,7 @@ words_of F.TurnNotKept = codes "turn not kept"
 words_of F.TooManyCommands = codes "too many commands"
 words_of F.MalformedLine = codes "malformed line"
 words_of F.DeviceFailed = codes "device failed"
-words_of F.HalfFull = codes "half full"
+words_of F.FileFull = codes "file full"
 words_of (F.Damaged clause) = codes "damaged"
 words_of F.NotAStore = codes "not a store"
 words_of F.NotEmpty = codes "not empty"
@@ -151,7 +153,7 @@ of_store (T.StaleStamp stamp) = F.StaleStamp stamp
 of_store T.TurnNotKept = F.TurnNotKept
 of_store T.TooManyCommands = F.TooManyCommands
 of_store T.DeviceFailed = F.DeviceFailed
-of_store T.HalfFull = F.HalfFull
+of_store T.FileFull = F.FileFull
 of_store (T.Damaged clause) = F.Damaged clause
 of_store T.NotAStore = F.NotAStore
 of_store T.NotEmpty = F.NotEmpty
@@ -159,6 +161,10 @@ of_store T.OpenAgain = F.OpenAgain
 of_store T.TooManyTables = F.TooManyTables
 of_store T.NoSuchTable = F.NoSuchTable
 of_store T.OutOfMemory = F.OutOfMemory
+
+-- a request that isn't lawful at its table
+abbrev pub of_rules : judge.Fault → Fault
+of_rules fault = of_store (stored.of_rules fault)
 
 abbrev pub of_search : search.Fault → Fault
 of_search R.NoCertificate = F.NoCertificate

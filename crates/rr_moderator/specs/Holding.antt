@@ -1,11 +1,12 @@
 -- What a moderator holds.
-use Rattle.std.specs.Prelude.{ℕ, List}
+use Rattle.std.specs.Prelude.{◌≡◌, ℕ, false, List, length}
 use Rattle.rr_store.specs.declared.store.Store.{Store}
 use Rattle.rr_store.specs.Held.{Held}
 use Rattle.rr_store.specs.Holding.{disk_of}
 use Rattle.rr_store.specs.Holding as store
 use Rattle.rr_moderator.specs.declared.moderator.Moderator.{Moderator}
 use Rattle.rr_moderator.specs.declared.moderator.State.{State}
+use Rattle.rr_moderator.specs.declared.summary.Summary.{Summary}
 use Rattle.rr_moderator.specs.Serving.{Spoken}
 use Rattle.rr_moderator.specs.Durability.{Told}
 
@@ -33,3 +34,8 @@ told_of moderator = (moderator.state.store, moderator.state.reply)
 -- the disk on which its file stands
 abbrev pub disk_under : {D : Type 0} → Moderator D → D
 disk_under moderator = disk_of moderator.state.store
+
+-- it holds so many tables, and the last request that was accepted has this number
+abbrev pub IsSummary : {D : Type 0} → Moderator D → Summary → Type 0
+IsSummary moderator summary =
+    ((held_of moderator).broken ≡ false) × (summary.tables ≡ length (held_of moderator).tables) × (summary.last ≡ store.last_of (store_of moderator))

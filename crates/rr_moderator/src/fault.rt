@@ -1,5 +1,5 @@
 ghost use Rattle.std.specs.Prelude.{◌≡◌, ◌+◌, ◌≤◌, ◌++◌, length};
-ghost use Rattle.rr_moderator.specs.Fault.{data_of, game_data, game_words, kit_data, kit_words, number_of, of_code, of_game, of_search, of_store, of_serve, refusal_of, rule_words, words_of};
+ghost use Rattle.rr_moderator.specs.Fault.{data_of, game_data, game_words, kit_data, kit_words, number_of, of_code, of_game, of_rules, of_search, of_store, of_serve, refusal_of, rule_words, words_of};
 ghost use Rattle.rr_moderator.specs.declared.fault.Fault.TheVariants.{OutOfMemory};
 
 use crate::reply::Reply;
@@ -33,9 +33,10 @@ pub enum Fault {
     /// The device failed. Whether the request under way was taken is known when the file is opened again.
     #[error("device failed")]
     DeviceFailed,
-    /// The journal has no room for the request.
-    #[error("half full")]
-    HalfFull,
+    /// The file has no room for the request: a checkpoint would need more pages than are free, or a number would be the
+    /// last one.
+    #[error("file full")]
+    FileFull,
     /// The file holds what no store of ours holds; the first clause that it breaks.
     #[error("damaged {0}")]
     Damaged(u8),
@@ -79,7 +80,7 @@ impl Fault {
             Fault::TooManyCommands => 54,
             Fault::MalformedLine => 55,
             Fault::DeviceFailed => 60,
-            Fault::HalfFull => 61,
+            Fault::FileFull => 62,
             Fault::Damaged(_) => 63,
             Fault::NotAStore | Fault::NotEmpty => 64,
             Fault::OpenAgain => 65,
@@ -140,7 +141,7 @@ impl Fault {
             Fault::TooManyCommands => "too many commands",
             Fault::MalformedLine => "malformed line",
             Fault::DeviceFailed => "device failed",
-            Fault::HalfFull => "half full",
+            Fault::FileFull => "file full",
             Fault::Damaged(_) => "damaged",
             Fault::NotAStore => "not a store",
             Fault::NotEmpty => "not empty",
@@ -301,7 +302,7 @@ impl From<rr_store::Fault> for Fault {
             rr_store::Fault::TurnNotKept => Fault::TurnNotKept,
             rr_store::Fault::TooManyCommands => Fault::TooManyCommands,
             rr_store::Fault::DeviceFailed => Fault::DeviceFailed,
-            rr_store::Fault::HalfFull => Fault::HalfFull,
+            rr_store::Fault::FileFull => Fault::FileFull,
             rr_store::Fault::Damaged(clause) => Fault::Damaged(clause),
             rr_store::Fault::NotAStore => Fault::NotAStore,
             rr_store::Fault::NotEmpty => Fault::NotEmpty,
@@ -310,6 +311,15 @@ impl From<rr_store::Fault> for Fault {
             rr_store::Fault::NoSuchTable => Fault::NoSuchTable,
             rr_store::Fault::OutOfMemory => Fault::OutOfMemory,
         }
+    }
+}
+
+/// Of a request that isn't lawful at its table.
+impl From<rr_records::Fault> for Fault {
+    ghost from_gives = { λ fault wrapped. wrapped ≡ of_rules fault };
+
+    fn from(fault: rr_records::Fault) -> Fault {
+        Fault::from(rr_store::Fault::from(fault))
     }
 }
 

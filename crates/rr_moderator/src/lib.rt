@@ -10,8 +10,10 @@ pub mod laws;
 mod moderator;
 mod reply;
 mod searching;
+mod summary;
 
 pub use fault::Fault;
 pub use moderator::Moderator;
 pub use reply::Reply;
 pub use rr_store::{Refused, Texts, format};
+pub use summary::Summary;

@@ -1,10 +1,15 @@
-ghost use Rattle.std.specs.Prelude.{◌≡◌, ◌⊎◌, ◌+◌, ◌++◌, ◌≤◌, ℕ, List, [], Result, Ok, Err, Some, false, OnOk, OnErr, IfOk, IfErr, codes, length};
+ghost use Rattle.std.specs.Prelude.{◌≡◌, ◌+◌, ◌++◌, ◌≤◌, ℕ, List, Result, Ok, Err, Some, true, false, MatchResult, OnOk, OnErr, IfOk, IfErr, codes, length};
 ghost use Rattle.std.specs.Borrow.{sem};
 ghost use Rattle.std.specs.Io.BufRead.{Rests};
 ghost use Rattle.rr_code.specs.Request.{IsRequest};
 ghost use Rattle.rr_disk.specs.Disk.{counted};
-ghost use Rattle.rr_disk.specs.Moments.{LeavesOnly};
+ghost use Rattle.rr_checkpoint.specs.Calls.{TakesRootBehind};
+ghost use Rattle.rr_disk.specs.Moments.{EachImage, LeavesOnly};
+ghost use Rattle.rr_kit.specs.declared.kit.Kit.{Kit};
 ghost use Rattle.rr_kit.specs.Kits.{KitTexts, SpellsKit};
+ghost use Rattle.rr_records.specs.Headline.{KeepsTables};
+ghost use Rattle.rr_records.specs.Taking.{table_files};
+ghost use Rattle.rr_records.specs.Words.{in_words};
 ghost use Rattle.rr_words.specs.Name.{IsTableName};
 ghost use Rattle.rr_serve.specs.declared.faults.Fault as serve;
 ghost use Rattle.rr_serve.specs.Lines.{taken};
@@ -12,18 +17,20 @@ ghost use Rattle.rr_serve.specs.Serving.{AnswersAll, Session};
 ghost use Rattle.rr_serve.specs.Streams.{CountsFailures, IsCutShort, IsSent};
 ghost use Rattle.rr_store.specs.declared.fault.Fault as stored;
 ghost use Rattle.rr_store.specs.declared.fault.Fault.TheVariants as Stored;
-ghost use Rattle.rr_store.specs.Allowing.{Between, OpenAllows};
+ghost use Rattle.rr_store.specs.Allowing.{Between};
 ghost use Rattle.rr_store.specs.Committing.{Commits};
 ghost use Rattle.rr_store.specs.Fault.{CountsFailure, OnDevice};
-ghost use Rattle.rr_store.specs.Files.{RefusesOpening};
-ghost use Rattle.rr_store.specs.Holding.{Carries, IsUnchanged};
+ghost use Rattle.rr_store.specs.Files.{AreTablesOf};
+ghost use Rattle.rr_store.specs.Holding.{Carries, root_of, ticks_left};
 ghost use Rattle.rr_store.specs.Holding as held_in;
-ghost use Rattle.rr_store.specs.World.{Follows, TableRequest, TableState, table_named};
+ghost use Rattle.rr_store.specs.Opening.{IsNoVerdict, OpenAllows};
+ghost use Rattle.rr_store.specs.Ticking.{Steps};
+ghost use Rattle.rr_store.specs.World.{TableState, World, table_named};
 ghost use Rattle.rr_game.specs.Play.{play};
 ghost use Rattle.std.specs.Fmt.{signed_decimal};
 ghost use Rattle.rr_moderator.specs.Choosing.{CommitsBest};
 ghost use Rattle.rr_moderator.specs.Durability.{Lasts, Opens, SpeaksAndLasts, StandsAlong, told};
-ghost use Rattle.rr_moderator.specs.Holding.{disk_under, held_of, last_reply, spoken_of, store_of, told_of};
+ghost use Rattle.rr_moderator.specs.Holding.{IsSummary, disk_under, held_of, last_reply, spoken_of, store_of, told_of};
 ghost use Rattle.rr_moderator.specs.Serving.{Answers, EndsAs, MayAppend, Responds, Speaks, outcome_of, reply_to, said, text_of};
 ghost use Rattle.rr_moderator.specs.contracts.moderator.Moderator.{the_row};
 
@@ -31,6 +38,7 @@ use crate::answering::{answer, runs_trains};
 use crate::fault::Fault;
 use crate::reply::Reply;
 use crate::searching::find_best;
+use crate::summary::Summary;
 use rr_code::{Command, Line, Request};
 use rr_disk::Disk;
 use rr_orders::Order;
@@ -59,28 +67,33 @@ impl<D: Disk + Drop> Moderator<D> {
     /// Opens a file that `format` made, and plays what was accepted into it again. It makes a sync, and no write.
     ///
     /// # Errors
-    /// `DeviceFailed`; `NotAStore` where the file isn't of the form that `format` gives it, or a text of its kit is
-    /// refused; `Damaged` where a record isn't a request that its table could take; `OutOfMemory`.
+    /// `DeviceFailed`; `NotAStore` where the file has no roots of this version; `Damaged` with the least clause that it breaks;
+    /// `OutOfMemory`.
     pub fn open(alloc: Global, disk: D) -> Result<Moderator<D>, Refused<D>>
-        // The moderator holds what the file stands for, and its store goes on with it; else the file stands for nothing, or
-        // the device failed or memory was wanted.
+        // The moderator holds what the file stands for; else the file breaks a clause, or the device failed or memory was
+        // wanted.
         ensures opened { IfOk result (λ moderator. D.Honest (disk_under moderator)
             → Opens (D.state disk).content (held_of moderator)) }
         ensures stands { IfOk result (λ moderator. D.Honest (disk_under moderator) → (texts : KitTexts)
             × Between (D.past disk) (D.state disk) (D.past (disk_under moderator)) (D.state (disk_under moderator))
             (λ moments. OpenAllows (D.state disk) moments (D.state (disk_under moderator)) (Ok (texts, (held_of moderator).tables)))
-            × SpellsKit texts (held_of moderator).kit × Carries D.state (store_of moderator) texts) }
+            × SpellsKit texts (held_of moderator).kit) }
         ensures left { IfErr result (λ refused. D.Honest refused.disk
             → Between (D.past disk) (D.state disk) (D.past refused.disk) (D.state refused.disk)
             (λ moments. OpenAllows (D.state disk) moments (D.state refused.disk) (Err refused.fault))) }
 
-        // Of every disk: what it holds came of requests that the rules of a right kit allow, and its device hasn't failed.
-        ensures lawful { IfOk result (λ moderator. (texts : KitTexts) × SpellsKit texts (held_of moderator).kit
-            × (requests : List TableRequest) × Follows (held_of moderator).kit [] requests (held_of moderator).tables) }
-        ensures whole { IfOk result (λ moderator. (held_of moderator).broken ≡ false) }
-        ensures refused { IfErr result (λ refused.
-            RefusesOpening (D.Honest refused.disk) (D.state disk).content refused.fault) }
+        // Where the file is one of ours, its store goes on with it; and then it is refused only where the device failed or
+        // memory was wanted.
+        ensures carries { IfOk result (λ moderator. D.Honest (disk_under moderator) → (texts : KitTexts)
+            → KeepsTables texts (held_of moderator).tables (D.state disk).content → Carries D.state (store_of moderator) texts) }
+        ensures only { IfErr result (λ refused. D.Honest refused.disk → (texts : KitTexts) (kit : Kit) (tables : World)
+            → SpellsKit texts kit → AreTablesOf kit tables
+            → KeepsTables texts tables (D.state disk).content → IsNoVerdict refused.fault) }
 
+        // Of every disk: nothing is held that the rules of a right kit don't allow, and the device hasn't failed.
+        ensures played { IfOk result (λ moderator. (texts : KitTexts)
+            × SpellsKit texts (held_of moderator).kit × AreTablesOf (held_of moderator).kit (held_of moderator).tables) }
+        ensures whole { IfOk result (λ moderator. (held_of moderator).broken ≡ false) }
         ensures honest { IfOk result (λ moderator. D.Honest (disk_under moderator) → D.Honest disk) }
         ensures honest_left { IfErr result (λ refused. D.Honest refused.disk → D.Honest disk) }
         ensures writes { IfOk result (λ moderator.
@@ -94,7 +107,7 @@ impl<D: Disk + Drop> Moderator<D> {
             D.sync_count (disk_under moderator) ≡ counted (D.sync_count disk)) }
         ensures syncs_left { IfErr result (λ refused. D.sync_count refused.disk ≤ D.sync_count disk + 1) }
 
-        // Whatever the file holds, a disk that works doesn't fail here.
+        // A disk that works doesn't fail here.
         ensures device { IfErr result (λ refused. OnDevice refused.fault (D.Works refused.disk → ⊥)) }
         ensures works { IfOk result (λ moderator. D.Works (disk_under moderator) → D.Works disk) }
         ensures works_left { IfErr result (λ refused. D.Works refused.disk → D.Works disk) }
@@ -114,6 +127,36 @@ impl<D: Disk + Drop> Moderator<D> {
             }),
             Err(refused) => Err(refused),
         }
+    }
+
+    /// How many tables there are, and the number of the last request that was accepted.
+    ///
+    /// # Errors
+    /// `OpenAgain`, where the device failed before.
+    pub fn summary(&self) -> Result<Summary, Fault>
+        ensures { MatchResult result (IsSummary self.now)
+            (λ fault. ((held_of self.now).broken ≡ true) × (fault ≡ Fault.OpenAgain)) }
+    {
+        let tables = self.state.store.count()?;
+        let last = self.state.store.last()?;
+        Ok(Summary { tables, last })
+    }
+
+    /// Makes a whole checkpoint: all steps of the one under way that are left, or those of a new one. Lines make one step each
+    /// where one is due, so no call is needed; behind this one an opening finds no record to play again.
+    ///
+    /// # Errors
+    /// `OpenAgain`; `DeviceFailed`, after which the file has to be opened again; `FileFull` and `OutOfMemory` before any
+    /// device call.
+    pub fn checkpoint(&mut self) -> Result<(), rr_store::Fault>
+        ensures steps { Steps D.Honest D.Works D.state D.past D.fault_count (store_of self.old) result (store_of self.new) }
+        ensures left { OnOk result (ticks_left (store_of self.new) ≡ 0) }
+
+        // Then each file that a stop may leave takes a root of a greater number.
+        ensures renews { OnOk result (D.Honest (disk_under self.new) → (texts : KitTexts) → Carries D.state (store_of self.old) texts
+            → EachImage (D.state (disk_under self.new)) (TakesRootBehind table_files (root_of (store_of self.old)) (in_words texts (held_of self.old).tables))) }
+    {
+        self.state.store.checkpoint()
     }
 
     /// The disk on which the file stands.
@@ -237,7 +280,6 @@ impl<D: Disk + Drop> State<D> {
         if self.store.is_broken() {
             return Err(Fault::OpenAgain);
         }
-        rr_hist::laws::requests_have_one_verdict();
         match read {
             Line::Request {
                 stamp,

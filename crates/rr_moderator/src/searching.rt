@@ -49,7 +49,7 @@ fn runs_at<'a, D: Disk + Drop>(
     stamp: u64,
     name: &Name,
     corp: Corp,
-) -> Result<&'a Table, rr_store::Fault>
+) -> Result<&'a Table, rr_records::Fault>
     requires { (held_of store.now).broken ≡ false }
     ensures { MatchResult result
         (λ table. (table_named (held_of store.now).tables name.now ≡ Some (kept_in table.now))
@@ -57,7 +57,11 @@ fn runs_at<'a, D: Disk + Drop>(
         × (run_verdict (held_of store.now).kit (table_named (held_of store.now).tables name.now) stamp corp ≡ None))
         (λ fault. run_verdict (held_of store.now).kit (table_named (held_of store.now).tables name.now) stamp corp ≡ Some fault) }
 {
-    let table = store.table(name)?;
+    let table = match store.table(name) {
+        Ok(table) => table,
+        // The device works, so no table has this name.
+        Err(_) => return Err(rr_records::Fault::NoSuchTable),
+    };
     table.judge_run(alloc, stamp, corp, store.kit())?;
     Ok(table)
 }

@@ -1,63 +1,16 @@
 //! The best runs of PRR on the small board, with its token in A.
-use crate::fixtures::{ROSTER, position};
+use crate::fixtures::{at_home, small_kit, with_train};
 use rr_best_run::laws::trains_may_stay;
 use rr_best_run::{BestRun, best_run};
-use rr_books::{Corp, Entry, Kind, Place, Train};
+use rr_books::{Corp, Kind};
 use rr_desk::Position;
-use rr_kit::Kit;
 use rr_orders::Order;
-use rr_words::HexName;
 use std::alloc::Global;
 use std::process::Abort;
 
-const SMALL: &str = "hex A 0,0 grey c20/1:5
-hex B 1,0 yellow 2-5
-hex C 2,0 grey t10:2,5
-hex D 3,0 grey c30/1:2,5
-hex E 4,0 red o40/40:2
-home PRR A 1
-home NYC D 1
-";
-
-fn kit(rt: &impl Abort, alloc: Global) -> Kit {
-    Kit::read(
-        alloc,
-        b"100p\n",
-        ROSTER.as_bytes(),
-        b"yellow 7 x4 0-1\n",
-        SMALL.as_bytes(),
-    )
-    .expect(rt, "a kit")
-}
-
-/// PRR at home.
-fn at_home(rt: &impl Abort, alloc: Global) -> Position {
-    let mut table = position(rt, alloc, 2);
-    let token = Entry::Station {
-        corp: Corp::Prr,
-        hex: HexName::read(b"A").expect(rt, "a hex's name"),
-        centre: 1,
-    };
-    table.follow(&token).expect(rt, "room");
-    table
-}
-
-/// PRR at home, with a train of this kind.
-fn with_train(rt: &impl Abort, alloc: Global, kind: Kind) -> Position {
-    let mut table = at_home(rt, alloc);
-    let train = Train { kind, number: 1 };
-    assert!(rt; table.books().has_train(train));
-    let bought = Entry::Train {
-        train,
-        to: Place::Corp(Corp::Prr),
-    };
-    table.follow(&bought).expect(rt, "room");
-    table
-}
-
 /// What is found in at most so many bytes, or the fault's number.
 fn found(rt: &impl Abort, alloc: Global, table: &Position, most: usize) -> Result<BestRun, u8> {
-    let kit = kit(rt, alloc);
+    let kit = small_kit(rt, alloc);
     match best_run(alloc, &kit, table, Corp::Prr, most) {
         Ok(run) => Ok(run),
         Err(fault) => Err(fault.number()),

@@ -1,9 +1,9 @@
 //! What corporations buy besides tiles and tokens, and what they give up over their limit.
 ghost use Rattle.rr_depot.specs.Small.{IsSmall};
 
-use crate::fixtures::{A, B, ROSTER, position, roster};
+use crate::fixtures::{A, B, ROSTER, fund, give, give_train, position, roster};
 use rr_books::{
-    Act, Cert, Corp, Entry, Kind, Marker, Money, Party, Place, Private, Seat, Train, TrainSource,
+    Act, Cert, Corp, Entry, Kind, Marker, Party, Place, Private, Seat, Train, TrainSource,
 };
 use rr_depot::laws::{
     bank_sells_in_order, nobody_overspends, over_is_of_some_corporation,
@@ -14,32 +14,6 @@ use rr_depot::{Fault, is_over_limit_somewhere, judge, play};
 use rr_desk::{Desk, Position};
 use std::alloc::Global;
 use std::process::Abort;
-
-/// How many entries a command added, and whether its words come first.
-#[derive(Clone, Copy, Debug, PartialEq)]
-struct Added {
-    entries: usize,
-    says: bool,
-}
-
-fn give_train(rt: &impl Abort, table: &mut Position, kind: Kind, number: u8, to: Place) {
-    let train = Train { kind, number };
-    assert!(rt; table.books().has_train(train));
-    table.follow(&Entry::Train { train, to }).expect(rt, "room");
-}
-
-fn give(rt: &impl Abort, table: &mut Position, cert: Cert, to: Place) {
-    table.follow(&Entry::Move { cert, to }).expect(rt, "room");
-}
-
-fn fund(rt: &impl Abort, table: &mut Position, corp: Corp, amount: u16) {
-    let pay = Entry::Pay {
-        from: Party::Bank,
-        to: Party::Corp(corp),
-        amount: Money(i64::from(amount)),
-    };
-    table.follow(&pay).expect(rt, "room");
-}
 
 /// All trains of the kind, as many as this, go to the place.
 fn give_all(rt: &impl Abort, table: &mut Position, kind: Kind, count: u8, to: Place) {
@@ -66,63 +40,57 @@ fn refusal(rt: &impl Abort, alloc: Global, table: &Position, act: &Act) -> u8 {
     }
 }
 
-/// What a command makes of a table.
-fn with(rt: &impl Abort, alloc: Global, table: Position, act: &Act) -> (Added, Position)
+/// The first of the commands that is refused with another number.
+fn first_other(
+    rt: &impl Abort,
+    alloc: Global,
+    table: &Position,
+    commands: &[(Act, u8)],
+) -> Option<usize> {
+    for (index, (act, number)) in commands.iter().enumerate() {
+        if refusal(rt, alloc, table, act) != *number {
+            return Some(index);
+        }
+    }
+    None
+}
+
+/// How many entries a command adds, whether its words come first, and the table behind it.
+fn with(rt: &impl Abort, alloc: Global, table: Position, act: &Act) -> (usize, bool, Position)
     requires { IsSmall act.now }
 {
     let mut desk = Desk::new(alloc, table);
     play(&roster(rt, alloc, ROSTER), &mut desk, act).expect(rt, "memory");
     let (position, entries) = desk.into_parts();
-    let added = Added {
-        entries: entries.as_slice().len(),
-        says: matches!(entries.as_slice(), [Entry::Step(Marker::Act(_)), ..]),
-    };
-    (added, position)
+    let says = matches!(entries.as_slice(), [Entry::Step(Marker::Act(_)), ..]);
+    (entries.as_slice().len(), says, position)
 }
 
 fn cash(table: &Position, party: Party) -> i64 {
     table.books().balance(party).0
 }
 
-/// Checks where some trains are.
-fn check_places(rt: &impl Abort, table: &Position, wanted: &[(Kind, u8, Place)]) {
-    for (kind, number, place) in wanted {
-        let train = Train {
-            kind: *kind,
-            number: *number,
-        };
-        assert_eq!(rt; table.books().train_holder(train), Some(*place));
-    }
+/// Whether the train is in this place.
+fn is_held(table: &Position, kind: Kind, number: u8, place: Place) -> bool {
+    table.books().train_holder(Train { kind, number }) == Some(place)
 }
 
 #[test]
 fn the_first_four_ends_the_twos(rt: HostRuntime) {
     let mut table = before_first_four(&rt, rt.alloc());
-    fund(&rt, &mut table, Corp::Nyc, 300);
+    fund(&rt, &mut table, Party::Corp(Corp::Nyc), 300);
     assert!(rt; !is_over_limit_somewhere(&table));
     let four = Act::BuyTrain {
         corp: Corp::Nyc,
         kind: Kind::Four,
         source: TrainSource::Bank,
     };
-    assert_eq!(rt; refusal(&rt, rt.alloc(), &table, &four), 0);
-    let (added, table) = with(&rt, rt.alloc(), table, &four);
-    assert_eq!(rt;
-        added,
-        Added {
-            entries: 9,
-            says: true
-        }
-    );
-    assert_eq!(rt; cash(&table, Party::Corp(Corp::Nyc)), 0);
-    check_places(
-        &rt,
-        &table,
-        &[
-            (Kind::Four, 1, Place::Corp(Corp::Nyc)),
-            (Kind::Two, 6, Place::Gone),
-        ],
-    );
+    assert!(rt; refusal(&rt, rt.alloc(), &table, &four) == 0);
+    let (entries, says, table) = with(&rt, rt.alloc(), table, &four);
+    assert!(rt; entries == 9 && says);
+    assert!(rt; cash(&table, Party::Corp(Corp::Nyc)) == 0);
+    assert!(rt; is_held(&table, Kind::Four, 1, Place::Corp(Corp::Nyc)));
+    assert!(rt; is_held(&table, Kind::Two, 6, Place::Gone));
     assert!(rt; is_over_limit_somewhere(&table));
 }
 
@@ -133,36 +101,32 @@ fn a_train_too_many_goes_to_the_pool(rt: HostRuntime) {
         corp: Corp::Erie,
         kind: Kind::Three,
     };
-    assert_eq!(rt; refusal(&rt, rt.alloc(), &table, &discard), 42);
+    assert!(rt; refusal(&rt, rt.alloc(), &table, &discard) == 42);
     give_train(&rt, &mut table, Kind::Four, 1, Place::Corp(Corp::Co));
-    assert_eq!(rt; refusal(&rt, rt.alloc(), &table, &discard), 0);
-    let (added, table) = with(&rt, rt.alloc(), table, &discard);
-    assert_eq!(rt;
-        added,
-        Added {
-            entries: 2,
-            says: true
-        }
-    );
-    check_places(&rt, &table, &[(Kind::Three, 1, Place::Pool)]);
+    assert!(rt; refusal(&rt, rt.alloc(), &table, &discard) == 0);
+    let (entries, says, table) = with(&rt, rt.alloc(), table, &discard);
+    assert!(rt; entries == 2 && says);
+    assert!(rt; is_held(&table, Kind::Three, 1, Place::Pool));
     assert!(rt; !is_over_limit_somewhere(&table));
-    assert_eq!(rt; refusal(&rt, rt.alloc(), &table, &discard), 42);
+    assert!(rt; refusal(&rt, rt.alloc(), &table, &discard) == 42);
+}
+
+fn buys(corp: Corp, kind: Kind, source: TrainSource) -> Act {
+    Act::BuyTrain { corp, kind, source }
 }
 
 #[test]
 fn what_bank_and_pool_refuse(rt: HostRuntime) {
     let mut table = before_first_four(&rt, rt.alloc());
-    fund(&rt, &mut table, Corp::Prr, 299);
-    for (corp, kind, source, number) in [
-        (Corp::Prr, Kind::Four, TrainSource::Bank, 2),
-        (Corp::Prr, Kind::Three, TrainSource::Pool, 0),
-        (Corp::Prr, Kind::Three, TrainSource::Bank, 44),
-        (Corp::Prr, Kind::Five, TrainSource::Bank, 44),
-        (Corp::Erie, Kind::Three, TrainSource::Pool, 43),
-    ] {
-        let act = Act::BuyTrain { corp, kind, source };
-        assert_eq!(rt; refusal(&rt, rt.alloc(), &table, &act), number);
-    }
+    fund(&rt, &mut table, Party::Corp(Corp::Prr), 299);
+    let purchases = [
+        (buys(Corp::Prr, Kind::Four, TrainSource::Bank), 2),
+        (buys(Corp::Prr, Kind::Three, TrainSource::Pool), 0),
+        (buys(Corp::Prr, Kind::Three, TrainSource::Bank), 44),
+        (buys(Corp::Prr, Kind::Five, TrainSource::Bank), 44),
+        (buys(Corp::Erie, Kind::Three, TrainSource::Pool), 43),
+    ];
+    assert!(rt; first_other(&rt, rt.alloc(), &table, &purchases).is_none());
 }
 
 /// The NYC has all 4s, the C&O the first 6.
@@ -170,7 +134,7 @@ fn with_six(rt: &impl Abort, alloc: Global) -> Position {
     let mut table = position(rt, alloc, 2);
     give_all(rt, &mut table, Kind::Four, 4, Place::Corp(Corp::Nyc));
     give_train(rt, &mut table, Kind::Six, 1, Place::Corp(Corp::Co));
-    fund(rt, &mut table, Corp::Nyc, 800);
+    fund(rt, &mut table, Party::Corp(Corp::Nyc), 800);
     table
 }
 
@@ -178,33 +142,21 @@ fn with_six(rt: &impl Abort, alloc: Global) -> Position {
 fn a_four_is_handed_in_for_a_diesel(rt: HostRuntime) {
     let table = with_six(&rt, rt.alloc());
     let corp = Corp::Nyc;
-    for (kind, number) in [(Kind::Four, 0), (Kind::Three, 44), (Kind::Five, 44)] {
-        let act = Act::Trade { corp, kind };
-        assert_eq!(rt; refusal(&rt, rt.alloc(), &table, &act), number);
-    }
     let trade = Act::Trade {
         corp,
         kind: Kind::Four,
     };
-    let (added, table) = with(&rt, rt.alloc(), table, &trade);
-    assert_eq!(rt;
-        added,
-        Added {
-            entries: 7,
-            says: true
-        }
-    );
-    check_places(
-        &rt,
-        &table,
-        &[
-            (Kind::Four, 1, Place::Gone),
-            (Kind::Four, 4, Place::Gone),
-            (Kind::Diesel, 1, Place::Corp(Corp::Nyc)),
-        ],
-    );
-    assert_eq!(rt; cash(&table, Party::Corp(Corp::Nyc)), 0);
-    assert_eq!(rt; refusal(&rt, rt.alloc(), &table, &trade), 44);
+    assert!(rt; refusal(&rt, rt.alloc(), &table, &trade) == 0);
+    for kind in [Kind::Three, Kind::Five] {
+        assert!(rt; refusal(&rt, rt.alloc(), &table, &Act::Trade { corp, kind }) == 44);
+    }
+    let (entries, says, table) = with(&rt, rt.alloc(), table, &trade);
+    assert!(rt; entries == 7 && says);
+    assert!(rt; is_held(&table, Kind::Four, 1, Place::Gone));
+    assert!(rt; is_held(&table, Kind::Four, 4, Place::Gone));
+    assert!(rt; is_held(&table, Kind::Diesel, 1, Place::Corp(Corp::Nyc)));
+    assert!(rt; cash(&table, Party::Corp(Corp::Nyc)) == 0);
+    assert!(rt; refusal(&rt, rt.alloc(), &table, &trade) == 44);
 }
 
 /// A leads the ERIE, which has four 3s, B the B&O; A has the SV, B the B&O's private. The B&O has 100 dollars.
@@ -214,7 +166,7 @@ fn with_presidents(rt: &impl Abort, alloc: Global) -> Position {
     give(rt, &mut table, Cert::President(Corp::Bo), Place::Seat(B));
     give(rt, &mut table, Cert::Private(Private::Sv), Place::Seat(A));
     give(rt, &mut table, Cert::Private(Private::Bo), Place::Seat(B));
-    fund(rt, &mut table, Corp::Bo, 100);
+    fund(rt, &mut table, Party::Corp(Corp::Bo), 100);
     table
 }
 
@@ -232,16 +184,14 @@ fn buys_of_the_erie(price: u64, president: Seat, seller_president: Seat) -> Act 
 #[test]
 fn presidents_agree_on_a_train(rt: HostRuntime) {
     let table = with_presidents(&rt, rt.alloc());
-    for (price, president, seller_president, number) in [
-        (100, B, A, 0),
-        (101, B, A, 2),
-        (100, A, A, 20),
-        (100, B, B, 20),
-        (0, B, A, 45),
-    ] {
-        let act = buys_of_the_erie(price, president, seller_president);
-        assert_eq!(rt; refusal(&rt, rt.alloc(), &table, &act), number);
-    }
+    let purchases = [
+        (buys_of_the_erie(100, B, A), 0),
+        (buys_of_the_erie(101, B, A), 2),
+        (buys_of_the_erie(100, A, A), 20),
+        (buys_of_the_erie(100, B, B), 20),
+        (buys_of_the_erie(0, B, A), 45),
+    ];
+    assert!(rt; first_other(&rt, rt.alloc(), &table, &purchases).is_none());
     let act = Act::BuyTrainFrom {
         corp: Corp::Bo,
         kind: Kind::Three,
@@ -250,59 +200,43 @@ fn presidents_agree_on_a_train(rt: HostRuntime) {
         president: B,
         seller_president: A,
     };
-    let (added, table) = with(&rt, rt.alloc(), table, &act);
-    assert_eq!(rt;
-        added,
-        Added {
-            entries: 4,
-            says: true
-        }
-    );
-    check_places(&rt, &table, &[(Kind::Three, 1, Place::Corp(Corp::Bo))]);
-    assert_eq!(rt; cash(&table, Party::Corp(Corp::Erie)), 100);
-    assert_eq!(rt;
-        table.books().holder(Cert::Private(Private::Bo)),
-        Place::Gone
-    );
+    let (entries, says, table) = with(&rt, rt.alloc(), table, &act);
+    assert!(rt; entries == 4 && says);
+    assert!(rt; is_held(&table, Kind::Three, 1, Place::Corp(Corp::Bo)));
+    assert!(rt; cash(&table, Party::Corp(Corp::Erie)) == 100);
+    assert!(rt; table.books().holder(Cert::Private(Private::Bo)) == Place::Gone);
+}
+
+fn takes(corp: Corp, private: Private, price: u64) -> Act {
+    Act::TakePrivate {
+        corp,
+        private,
+        price,
+    }
 }
 
 #[test]
 fn a_private_goes_for_half_to_twice_its_face(rt: HostRuntime) {
     let table = with_presidents(&rt, rt.alloc());
-    for (corp, private, price, number) in [
-        (Corp::Bo, Private::Sv, 10, 0),
-        (Corp::Bo, Private::Sv, 9, 45),
-        (Corp::Bo, Private::Sv, 41, 45),
-        (Corp::Erie, Private::Sv, 40, 2),
-        (Corp::Bo, Private::Bo, 220, 22),
-        (Corp::Bo, Private::Csl, 40, 22),
-    ] {
-        let act = Act::TakePrivate {
-            corp,
-            private,
-            price,
-        };
-        assert_eq!(rt; refusal(&rt, rt.alloc(), &table, &act), number);
-    }
+    let purchases = [
+        (takes(Corp::Bo, Private::Sv, 10), 0),
+        (takes(Corp::Bo, Private::Sv, 9), 45),
+        (takes(Corp::Bo, Private::Sv, 41), 45),
+        (takes(Corp::Erie, Private::Sv, 40), 2),
+        (takes(Corp::Bo, Private::Bo, 220), 22),
+        (takes(Corp::Bo, Private::Csl, 40), 22),
+    ];
+    assert!(rt; first_other(&rt, rt.alloc(), &table, &purchases).is_none());
     let act = Act::TakePrivate {
         corp: Corp::Bo,
         private: Private::Sv,
         price: 40,
     };
-    let (added, table) = with(&rt, rt.alloc(), table, &act);
-    assert_eq!(rt;
-        added,
-        Added {
-            entries: 3,
-            says: true
-        }
-    );
-    assert_eq!(rt;
-        table.books().holder(Cert::Private(Private::Sv)),
-        Place::Corp(Corp::Bo)
-    );
-    assert_eq!(rt; cash(&table, Party::Seat(A)), 1240);
-    assert_eq!(rt; cash(&table, Party::Corp(Corp::Bo)), 60);
+    let (entries, says, table) = with(&rt, rt.alloc(), table, &act);
+    assert!(rt; entries == 3 && says);
+    assert!(rt; table.books().holder(Cert::Private(Private::Sv)) == Place::Corp(Corp::Bo));
+    assert!(rt; cash(&table, Party::Seat(A)) == 1240);
+    assert!(rt; cash(&table, Party::Corp(Corp::Bo)) == 60);
 }
 
 #[test]
@@ -316,7 +250,7 @@ fn refusals_have_their_numbers(rt: HostRuntime) {
         (Fault::NotOnSale, 44),
         (Fault::PriceOutOfBounds, 45),
     ] {
-        assert_eq!(rt; fault.number(), number);
+        assert!(rt; fault.number() == number);
     }
 }
 

@@ -1,5 +1,5 @@
 //! Dividends of PRR, of which the first seat holds 60%, the pool 20% and the offering 20%.
-use crate::fixtures::{A, B, chart, position};
+use crate::fixtures::{A, B, chart, fund, give, mark, position};
 use rr_books::{Act, Cell, Cert, Corp, Entry, Marker, Money, Party, Place, ShareNumber};
 use rr_chart::Chart;
 use rr_desk::{Desk, Position};
@@ -13,49 +13,12 @@ use std::process::Abort;
 
 const CHART: &str = "60 67\n53 60p\n";
 
-/// What each has afterwards, where the token is, and how many entries there are.
-#[derive(Clone, Copy, Debug, PartialEq)]
-struct Outcome {
-    bank: i64,
-    first: i64,
-    second: i64,
-    corporation: i64,
-    cell: Option<Cell>,
-    entries: usize,
-}
-
 fn prr(number: ShareNumber) -> Cert {
     Cert::Share(Corp::Prr, number)
 }
 
-fn give(rt: &impl Abort, position: &mut Position, cert: Cert, to: Place) {
-    position
-        .follow(&Entry::Move { cert, to })
-        .expect(rt, "room");
-}
-
-/// PRR's token is put on a cell.
-fn mark(rt: &impl Abort, position: &mut Position, row: u8, column: u8) {
-    let mark = Entry::Mark {
-        corp: Corp::Prr,
-        cell: Cell { row, column },
-    };
-    position.follow(&mark).expect(rt, "room");
-}
-
-/// The bank pays NYC so much.
-fn spend(rt: &impl Abort, position: &mut Position, amount: i64) {
-    assert!(rt; 0 <= amount && amount < 12000);
-    let pay = Entry::Pay {
-        from: Party::Bank,
-        to: Party::Corp(Corp::Nyc),
-        amount: Money(amount),
-    };
-    position.follow(&pay).expect(rt, "room");
-}
-
 /// Two players with 1,200 each, PRR's shares as said, its token on a cell, and a bank that spent so much.
-fn table(rt: &impl Abort, alloc: Global, spent: i64, row: u8, column: u8) -> Position {
+fn table(rt: &impl Abort, alloc: Global, spent: u16, row: u8, column: u8) -> Position {
     let mut table = position(rt, alloc, 2);
     for (cert, to) in [
         (Cert::President(Corp::Prr), Place::Seat(A)),
@@ -68,8 +31,8 @@ fn table(rt: &impl Abort, alloc: Global, spent: i64, row: u8, column: u8) -> Pos
     ] {
         give(rt, &mut table, cert, to);
     }
-    mark(rt, &mut table, row, column);
-    spend(rt, &mut table, spent);
+    mark(rt, &mut table, Corp::Prr, row, column);
+    fund(rt, &mut table, Party::Corp(Corp::Nyc), spent);
     table
 }
 
@@ -77,16 +40,17 @@ fn cash(position: &Position, party: Party) -> i64 {
     position.books().balance(party).0
 }
 
-fn taken(desk: Desk) -> Outcome {
+/// What the bank, the two seats and PRR have, where its token is, and how many entries there are.
+fn taken(desk: Desk) -> ([i64; 4], Option<Cell>, usize) {
     let (position, entries) = desk.into_parts();
-    Outcome {
-        bank: cash(&position, Party::Bank),
-        first: cash(&position, Party::Seat(A)),
-        second: cash(&position, Party::Seat(B)),
-        corporation: cash(&position, Party::Corp(Corp::Prr)),
-        cell: position.market().cell(Corp::Prr),
-        entries: entries.as_slice().len(),
-    }
+    let money = [
+        cash(&position, Party::Bank),
+        cash(&position, Party::Seat(A)),
+        cash(&position, Party::Seat(B)),
+        cash(&position, Party::Corp(Corp::Prr)),
+    ];
+    let cell = position.market().cell(Corp::Prr);
+    (money, cell, entries.as_slice().len())
 }
 
 fn at(row: u8, column: u8) -> Option<Cell> {
@@ -108,15 +72,9 @@ fn a_dividend_is_paid(rt: HostRuntime) {
     let chart = chart(&rt, alloc, CHART);
     let mut desk = Desk::new(alloc, table(&rt, alloc, 0, 1, 0));
     paid(&rt, &chart, &mut desk);
-    let want = Outcome {
-        bank: 9520,
-        first: 1260,
-        second: 1200,
-        corporation: 20,
-        cell: at(1, 1),
-        entries: 5,
-    };
-    assert_eq!(rt; taken(desk), want);
+    let (money, cell, entries) = taken(desk);
+    assert!(rt; money == [9520, 1260, 1200, 20]);
+    assert!(rt; cell == at(1, 1) && entries == 5);
 }
 
 #[test]
@@ -125,15 +83,9 @@ fn a_bank_with_50_owes_30(rt: HostRuntime) {
     let chart = chart(&rt, alloc, CHART);
     let mut desk = Desk::new(alloc, table(&rt, alloc, 9550, 1, 1));
     paid(&rt, &chart, &mut desk);
-    let want = Outcome {
-        bank: -30,
-        first: 1260,
-        second: 1200,
-        corporation: 20,
-        cell: at(0, 1),
-        entries: 5,
-    };
-    assert_eq!(rt; taken(desk), want);
+    let (money, cell, entries) = taken(desk);
+    assert!(rt; money == [-30, 1260, 1200, 20]);
+    assert!(rt; cell == at(0, 1) && entries == 5);
 }
 
 #[test]
@@ -142,9 +94,8 @@ fn a_token_stays_at_the_corner(rt: HostRuntime) {
     let chart = chart(&rt, alloc, CHART);
     let mut desk = Desk::new(alloc, table(&rt, alloc, 0, 0, 1));
     paid(&rt, &chart, &mut desk);
-    let outcome = taken(desk);
-    assert_eq!(rt; outcome.cell, at(0, 1));
-    assert_eq!(rt; outcome.entries, 4);
+    let (_, cell, entries) = taken(desk);
+    assert!(rt; cell == at(0, 1) && entries == 4);
 }
 
 #[test]
@@ -159,11 +110,9 @@ fn what_is_withheld_goes_to_the_corporation(rt: HostRuntime) {
     for (row, column, revenue, cell, entries) in rows {
         let mut desk = Desk::new(alloc, table(&rt, alloc, 0, row, column));
         kept(&rt, &chart, &mut desk, revenue);
-        let outcome = taken(desk);
-        assert_eq!(rt; outcome.corporation, revenue);
-        assert_eq!(rt; outcome.first, 1200);
-        assert_eq!(rt; outcome.cell, cell);
-        assert_eq!(rt; outcome.entries, entries);
+        let (money, token, added) = taken(desk);
+        assert!(rt; money[1] == 1200 && money[3] == revenue);
+        assert!(rt; token == cell && added == entries);
     }
 }
 
@@ -194,7 +143,7 @@ fn nothing_is_not_paid_out(rt: HostRuntime) {
     assert!(rt; judge_pay(Money(10)).is_ok());
     match judge_pay(Money(0)) {
         Ok(()) => assert!(rt; false),
-        Err(fault) => assert_eq!(rt; fault.number(), 42),
+        Err(fault) => assert!(rt; fault.number() == 42),
     }
 }
 

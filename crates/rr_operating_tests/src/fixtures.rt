@@ -1,8 +1,13 @@
-//! What several of the tests share. The helpers have no contract, so that their callers' proofs stay small.
-use rr_books::Seat;
+//! What several of the tests share. The helpers have almost no contract, so that their callers' proofs stay small.
+ghost use Rattle.std.specs.Prelude.{◌<◌};
+ghost use Rattle.rr_books.specs.State.{party_index};
+
+use rr_books::{Cell, Cert, Corp, Entry, Kind, Marker, Money, Party, Place, Seat, Train};
 use rr_chart::Chart;
+use rr_kit::Kit;
 use rr_position::Position;
 use rr_roster::Roster;
+use rr_words::HexName;
 use std::alloc::Global;
 use std::process::Abort;
 
@@ -21,6 +26,15 @@ train = [
  {name="6", price=630, count=2}, {name="D", price=1100, count=6, trade=800}]
 "#;
 
+const SMALL: &str = "hex A 0,0 grey c20/1:5
+hex B 1,0 yellow 2-5
+hex C 2,0 grey t10:2,5
+hex D 3,0 grey c30/1:2,5
+hex E 4,0 red o40/40:2
+home PRR A 1
+home NYC D 1
+";
+
 pub(crate) const A: Seat = Seat(0);
 
 pub(crate) const B: Seat = Seat(1);
@@ -33,9 +47,89 @@ pub(crate) fn chart(rt: &impl Abort, alloc: Global, text: &str) -> Chart {
     Chart::read(alloc, text).expect(rt, "a chart")
 }
 
+/// The kit of these texts, with the usual numbers.
+pub(crate) fn kit(rt: &impl Abort, alloc: Global, chart: &[u8], tiles: &[u8], board: &str) -> Kit {
+    Kit::read(alloc, chart, ROSTER.as_bytes(), tiles, board.as_bytes()).expect(rt, "a kit")
+}
+
+/// The kit of the small board.
+pub(crate) fn small_kit(rt: &impl Abort, alloc: Global) -> Kit {
+    kit(rt, alloc, b"100p\n", b"yellow 7 x4 0-1\n", SMALL)
+}
+
+pub(crate) fn name(rt: &impl Abort, word: &[u8]) -> HexName {
+    HexName::read(word).expect(rt, "a hex's name")
+}
+
 /// The position of a table of two to six players that opens with the usual numbers.
 pub(crate) fn position(rt: &impl Abort, alloc: Global, players: u8) -> Position {
     assert!(rt; players >= 2);
     assert!(rt; players <= 6);
     Position::open(players, &roster(rt, alloc, ROSTER))
+}
+
+/// The bank pays so much.
+pub(crate) fn fund(rt: &impl Abort, table: &mut Position, to: Party, amount: u16)
+    requires { party_index to < 15 }
+{
+    let pay = Entry::Pay {
+        from: Party::Bank,
+        to,
+        amount: Money(i64::from(amount)),
+    };
+    table.follow(&pay).expect(rt, "room");
+}
+
+pub(crate) fn give(rt: &impl Abort, table: &mut Position, cert: Cert, to: Place) {
+    table.follow(&Entry::Move { cert, to }).expect(rt, "room");
+}
+
+pub(crate) fn give_train(rt: &impl Abort, table: &mut Position, kind: Kind, number: u8, to: Place) {
+    let train = Train { kind, number };
+    assert!(rt; table.books().has_train(train));
+    table.follow(&Entry::Train { train, to }).expect(rt, "room");
+}
+
+/// A token of the corporation stands in the first centre of a hex.
+pub(crate) fn station(rt: &impl Abort, table: &mut Position, corp: Corp, hex: &[u8]) {
+    let hex = name(rt, hex);
+    let centre = 1;
+    table
+        .follow(&Entry::Station { corp, hex, centre })
+        .expect(rt, "room");
+}
+
+/// The corporation's token is put on a cell of the chart.
+pub(crate) fn mark(rt: &impl Abort, table: &mut Position, corp: Corp, row: u8, column: u8) {
+    let cell = Cell { row, column };
+    table.follow(&Entry::Mark { corp, cell }).expect(rt, "room");
+}
+
+/// The corporation floats, with its token on the first cell.
+pub(crate) fn float(rt: &impl Abort, table: &mut Position, corp: Corp) {
+    mark(rt, table, corp, 0, 0);
+    table
+        .follow(&Entry::Step(Marker::Float(corp)))
+        .expect(rt, "room");
+}
+
+/// An operating round begins.
+pub(crate) fn operate(rt: &impl Abort, table: &mut Position) {
+    table
+        .follow(&Entry::Step(Marker::Operating))
+        .expect(rt, "room");
+}
+
+/// PRR at home on the small board.
+pub(crate) fn at_home(rt: &impl Abort, alloc: Global) -> Position {
+    let mut table = position(rt, alloc, 2);
+    station(rt, &mut table, Corp::Prr, b"A");
+    table
+}
+
+/// PRR at home on the small board, with a train of this kind.
+pub(crate) fn with_train(rt: &impl Abort, alloc: Global, kind: Kind) -> Position {
+    let mut table = at_home(rt, alloc);
+    give_train(rt, &mut table, kind, 1, Place::Corp(Corp::Prr));
+    table
 }

@@ -1,12 +1,9 @@
 //! A corporation that must own a train and can't pay it.
-ghost use Rattle.std.specs.Prelude.{◌<◌};
-ghost use Rattle.rr_books.specs.State.{party_index};
 ghost use Rattle.rr_forced.specs.Small.{IsSmall};
 
-use crate::fixtures::{A, B, ROSTER, position};
+use crate::fixtures::{A, B, float, fund, give, give_train, kit, mark, operate, position, station};
 use rr_books::{
-    Act, Cell, Cert, Corp, Entry, Kind, Marker, Money, Party, Place, Seat, ShareNumber, Train,
-    TrainSource,
+    Act, Cert, Corp, Entry, Kind, Marker, Money, Party, Place, Seat, ShareNumber, TrainSource,
 };
 use rr_desk::{Desk, Position};
 use rr_forced::laws::{
@@ -14,7 +11,6 @@ use rr_forced::laws::{
 };
 use rr_forced::{Fault, TrainOnSale, judge, needed_train, play};
 use rr_kit::Kit;
-use rr_words::HexName;
 use std::alloc::Global;
 use std::process::Abort;
 
@@ -27,52 +23,20 @@ home PRR A 1
 const TILES: &[u8] = b"yellow 7 x4 0-1
 ";
 
-fn kit(rt: &impl Abort, alloc: Global) -> Kit {
-    Kit::read(
-        alloc,
-        b"100p\n90\n",
-        ROSTER.as_bytes(),
-        TILES,
-        BOARD.as_bytes(),
-    )
-    .expect(rt, "a kit")
-}
-
-fn pay(rt: &impl Abort, table: &mut Position, to: Party, amount: u16)
-    requires { party_index to < 15 }
-{
-    let pay = Entry::Pay {
-        from: Party::Bank,
-        to,
-        amount: Money(i64::from(amount)),
-    };
-    table.follow(&pay).expect(rt, "room");
-}
-
-/// The corporation's token stands at 100.
-fn mark(rt: &impl Abort, table: &mut Position, corp: Corp) {
-    let cell = Cell { row: 0, column: 0 };
-    table.follow(&Entry::Mark { corp, cell }).expect(rt, "room");
+fn need_kit(rt: &impl Abort, alloc: Global) -> Kit {
+    kit(rt, alloc, b"100p\n90\n", TILES, BOARD)
 }
 
 /// A 10% certificate of the corporation goes to a place.
 fn share(rt: &impl Abort, table: &mut Position, corp: Corp, number: ShareNumber, to: Place) {
-    let cert = Cert::Share(corp, number);
-    table.follow(&Entry::Move { cert, to }).expect(rt, "room");
-}
-
-fn float(rt: &impl Abort, table: &mut Position) {
-    let corp = Corp::Prr;
-    mark(rt, table, corp);
-    table
-        .follow(&Entry::Step(Marker::Float(corp)))
-        .expect(rt, "room");
+    give(rt, table, Cert::Share(corp, number), to);
 }
 
 /// PRR has 50 dollars, its token in A, no train and may buy one; the first seat is its president.
 fn in_need(rt: &impl Abort, alloc: Global, amount: u16) -> Position {
+    let corp = Corp::Prr;
     let mut table = position(rt, alloc, 2);
-    pay(rt, &mut table, Party::Corp(Corp::Prr), 50);
+    fund(rt, &mut table, Party::Corp(corp), 50);
     // A seat opens with 1,200 dollars at a table of two.
     let spent = Entry::Pay {
         from: Party::Seat(A),
@@ -80,38 +44,39 @@ fn in_need(rt: &impl Abort, alloc: Global, amount: u16) -> Position {
         amount: Money(1200),
     };
     table.follow(&spent).expect(rt, "room");
-    pay(rt, &mut table, Party::Seat(A), amount);
+    fund(rt, &mut table, Party::Seat(A), amount);
+    give(rt, &mut table, Cert::President(corp), Place::Seat(A));
+    station(rt, &mut table, corp, b"A");
+    float(rt, &mut table, corp);
+    operate(rt, &mut table);
     table
-        .follow(&Entry::Move {
-            cert: Cert::President(Corp::Prr),
-            to: Place::Seat(A),
-        })
-        .expect(rt, "room");
-    let hex = HexName::read(b"A").expect(rt, "a hex's name");
-    table
-        .follow(&Entry::Station {
-            corp: Corp::Prr,
-            hex,
-            centre: 1,
-        })
-        .expect(rt, "room");
-    float(rt, &mut table);
-    table
-        .follow(&Entry::Step(Marker::Operating))
-        .expect(rt, "room");
-    table
-        .follow(&Entry::Step(Marker::Act(Act::Hold { corp: Corp::Prr })))
+        .follow(&Entry::Step(Marker::Act(Act::Hold { corp })))
         .expect(rt, "room");
     table
 }
 
 /// The number of the fault of the command, or 0.
 fn fault(rt: &impl Abort, alloc: Global, table: &Position, act: &Act) -> u8 {
-    let kit = kit(rt, alloc);
+    let kit = need_kit(rt, alloc);
     match judge(alloc, &kit, table, act) {
         Ok(()) => 0,
         Err(fault) => fault.number(),
     }
+}
+
+/// The first of the commands whose fault has another number.
+fn first_other(
+    rt: &impl Abort,
+    alloc: Global,
+    table: &Position,
+    commands: &[(Act, u8)],
+) -> Option<usize> {
+    for (index, (act, number)) in commands.iter().enumerate() {
+        if fault(rt, alloc, table, act) != *number {
+            return Some(index);
+        }
+    }
+    None
 }
 
 /// How many entries a command adds, and the table behind it.
@@ -119,7 +84,7 @@ fn with(rt: &impl Abort, alloc: Global, table: Position, act: &Act) -> (usize, P
     requires { IsSmall act.now }
 {
     let mut desk = Desk::new(alloc, table);
-    let kit = kit(rt, alloc);
+    let kit = need_kit(rt, alloc);
     play(kit.roster(), kit.chart(), &mut desk, act).expect(rt, "memory");
     let (position, entries) = desk.into_parts();
     (entries.as_slice().len(), position)
@@ -127,7 +92,7 @@ fn with(rt: &impl Abort, alloc: Global, table: Position, act: &Act) -> (usize, P
 
 /// The price of the train that the corporation due must buy, what it lacks, and what it and its president lack.
 fn amounts(rt: &impl Abort, alloc: Global, table: &Position) -> Option<[u64; 3]> {
-    let kit = kit(rt, alloc);
+    let kit = need_kit(rt, alloc);
     let need = needed_train(alloc, &kit, table).expect(rt, "memory")?;
     let two = TrainOnSale {
         kind: Kind::Two,
@@ -144,18 +109,15 @@ fn the_president_adds_what_is_lacking(rt: HostRuntime) {
     let corp = Corp::Prr;
     let force = Act::Force { corp };
     assert!(rt; amounts(&rt, alloc, &table) == Some([80, 30, 0]));
-    assert_eq!(rt; fault(&rt, alloc, &table, &force), 0);
-    assert_eq!(rt;
-        fault(&rt, alloc, &table, &Act::Force { corp: Corp::Nyc }),
-        42
-    );
+    assert!(rt; fault(&rt, alloc, &table, &force) == 0);
+    assert!(rt; fault(&rt, alloc, &table, &Act::Force { corp: Corp::Nyc }) == 42);
     let (added, table) = with(&rt, alloc, table, &force);
     // Words, the president's payment, the train, and its price.
-    assert_eq!(rt; added, 4);
-    assert_eq!(rt; table.books().balance(Party::Corp(corp)).0, 0);
-    assert_eq!(rt; table.books().balance(Party::Seat(A)).0, 10);
+    assert!(rt; added == 4);
+    assert!(rt; table.books().balance(Party::Corp(corp)).0 == 0);
+    assert!(rt; table.books().balance(Party::Seat(A)).0 == 10);
     assert!(rt; amounts(&rt, alloc, &table).is_none());
-    assert_eq!(rt; fault(&rt, alloc, &table, &force), 42);
+    assert!(rt; fault(&rt, alloc, &table, &force) == 42);
 }
 
 #[test]
@@ -165,21 +127,10 @@ fn a_president_with_too_little_is_refused(rt: HostRuntime) {
     let corp = Corp::Prr;
     let force = Act::Force { corp };
     assert!(rt; amounts(&rt, alloc, &table) == Some([80, 30, 5]));
-    assert_eq!(rt; fault(&rt, alloc, &table, &force), 2);
-    pay(&rt, &mut table, Party::Corp(corp), 30);
-    assert_eq!(rt; fault(&rt, alloc, &table, &force), 42);
-    assert_eq!(rt; Fault::OutOfMemory.number(), 70);
-}
-
-/// The NYC gets this 2-train.
-fn give_two(rt: &impl Abort, table: &mut Position, number: u8) {
-    let train = Train {
-        kind: Kind::Two,
-        number,
-    };
-    assert!(rt; table.books().has_train(train));
-    let to = Place::Corp(Corp::Nyc);
-    table.follow(&Entry::Train { train, to }).expect(rt, "room");
+    assert!(rt; fault(&rt, alloc, &table, &force) == 2);
+    fund(&rt, &mut table, Party::Corp(corp), 30);
+    assert!(rt; fault(&rt, alloc, &table, &force) == 42);
+    assert!(rt; Fault::OutOfMemory.number() == 70);
 }
 
 fn raise(seat: Seat, corp: Corp, count: u64) -> Act {
@@ -189,7 +140,7 @@ fn raise(seat: Seat, corp: Corp, count: u64) -> Act {
 /// PRR's president has 25 dollars and a share of the NYC, which stands at 100.
 fn with_a_share(rt: &impl Abort, alloc: Global) -> Position {
     let mut table = in_need(rt, alloc, 25);
-    mark(rt, &mut table, Corp::Nyc);
+    mark(rt, &mut table, Corp::Nyc, 0, 0);
     share(rt, &mut table, Corp::Nyc, ShareNumber::One, Place::Seat(A));
     table
 }
@@ -199,13 +150,16 @@ fn a_president_sells_shares_for_a_train(rt: HostRuntime) {
     let alloc = rt.alloc();
     let table = with_a_share(&rt, alloc);
     // B isn't the president; A has one share of the NYC, and nobody else has 20% of the PRR; and A isn't bankrupt.
-    assert_eq!(rt; fault(&rt, alloc, &table, &raise(B, Corp::Nyc, 1)), 20);
-    assert_eq!(rt; fault(&rt, alloc, &table, &raise(A, Corp::Nyc, 2)), 22);
-    assert_eq!(rt; fault(&rt, alloc, &table, &raise(A, Corp::Nyc, 0)), 22);
-    assert_eq!(rt; fault(&rt, alloc, &table, &raise(A, Corp::Prr, 1)), 22);
-    assert_eq!(rt; fault(&rt, alloc, &table, &Act::Bankrupt { seat: A }), 50);
-    assert_eq!(rt; fault(&rt, alloc, &table, &Act::Bankrupt { seat: B }), 20);
-    assert_eq!(rt; fault(&rt, alloc, &table, &raise(A, Corp::Nyc, 1)), 0);
+    let commands = [
+        (raise(B, Corp::Nyc, 1), 20),
+        (raise(A, Corp::Nyc, 2), 22),
+        (raise(A, Corp::Nyc, 0), 22),
+        (raise(A, Corp::Prr, 1), 22),
+        (Act::Bankrupt { seat: A }, 50),
+        (Act::Bankrupt { seat: B }, 20),
+        (raise(A, Corp::Nyc, 1), 0),
+    ];
+    assert!(rt; first_other(&rt, alloc, &table, &commands).is_none());
     let sale = Act::Raise {
         seat: A,
         corp: Corp::Nyc,
@@ -213,18 +167,18 @@ fn a_president_sells_shares_for_a_train(rt: HostRuntime) {
     };
     let (added, table) = with(&rt, alloc, table, &sale);
     // Words, the share, the payment, and the mark.
-    assert_eq!(rt; added, 4);
-    assert_eq!(rt; table.books().balance(Party::Seat(A)).0, 125);
-    assert_eq!(rt; table.books().share(Place::Pool, Corp::Nyc), 10);
-    let kit = kit(&rt, alloc);
+    assert!(rt; added == 4);
+    assert!(rt; table.books().balance(Party::Seat(A)).0 == 125);
+    assert!(rt; table.books().share(Place::Pool, Corp::Nyc) == 10);
+    let kit = need_kit(&rt, alloc);
     assert!(rt; table.market().price(kit.chart(), Corp::Nyc) == Some(90));
     // 125 and 50 suffice for 80.
-    assert_eq!(rt; fault(&rt, alloc, &table, &raise(A, Corp::Prr, 1)), 48);
-    assert_eq!(rt; fault(&rt, alloc, &table, &Act::Bankrupt { seat: A }), 50);
-    assert_eq!(rt;
-        fault(&rt, alloc, &table, &Act::Force { corp: Corp::Prr }),
-        0
-    );
+    let commands = [
+        (raise(A, Corp::Prr, 1), 48),
+        (Act::Bankrupt { seat: A }, 50),
+        (Act::Force { corp: Corp::Prr }, 0),
+    ];
+    assert!(rt; first_other(&rt, alloc, &table, &commands).is_none());
 }
 
 #[test]
@@ -235,10 +189,10 @@ fn a_full_pool_takes_no_forced_sale(rt: HostRuntime) {
     share(&rt, &mut table, Corp::Nyc, ShareNumber::Three, Place::Pool);
     share(&rt, &mut table, Corp::Nyc, ShareNumber::Four, Place::Pool);
     share(&rt, &mut table, Corp::Nyc, ShareNumber::Five, Place::Pool);
-    assert_eq!(rt; fault(&rt, alloc, &table, &raise(A, Corp::Nyc, 1)), 0);
+    assert!(rt; fault(&rt, alloc, &table, &raise(A, Corp::Nyc, 1)) == 0);
     share(&rt, &mut table, Corp::Nyc, ShareNumber::Six, Place::Pool);
-    assert_eq!(rt; fault(&rt, alloc, &table, &raise(A, Corp::Nyc, 1)), 28);
-    assert_eq!(rt; fault(&rt, alloc, &table, &Act::Bankrupt { seat: A }), 0);
+    assert!(rt; fault(&rt, alloc, &table, &raise(A, Corp::Nyc, 1)) == 28);
+    assert!(rt; fault(&rt, alloc, &table, &Act::Bankrupt { seat: A }) == 0);
 }
 
 #[test]
@@ -249,11 +203,11 @@ fn the_corporation_due_keeps_its_president(rt: HostRuntime) {
     share(&rt, &mut table, corp, ShareNumber::One, Place::Seat(A));
     share(&rt, &mut table, corp, ShareNumber::Two, Place::Seat(B));
     share(&rt, &mut table, corp, ShareNumber::Three, Place::Seat(B));
-    assert_eq!(rt; fault(&rt, alloc, &table, &raise(A, corp, 1)), 0);
+    assert!(rt; fault(&rt, alloc, &table, &raise(A, corp, 1)) == 0);
     share(&rt, &mut table, corp, ShareNumber::Four, Place::Seat(B));
     // A would have 20%, and B has 30%.
-    assert_eq!(rt; fault(&rt, alloc, &table, &raise(A, corp, 1)), 49);
-    assert_eq!(rt; fault(&rt, alloc, &table, &Act::Bankrupt { seat: A }), 0);
+    assert!(rt; fault(&rt, alloc, &table, &raise(A, corp, 1)) == 49);
+    assert!(rt; fault(&rt, alloc, &table, &Act::Bankrupt { seat: A }) == 0);
 }
 
 #[test]
@@ -261,29 +215,27 @@ fn a_president_is_bankrupt(rt: HostRuntime) {
     let alloc = rt.alloc();
     let table = in_need(&rt, alloc, 25);
     assert!(rt; !table.operations().is_bankrupt());
-    assert_eq!(rt; fault(&rt, alloc, &table, &Act::Bankrupt { seat: A }), 0);
+    assert!(rt; fault(&rt, alloc, &table, &Act::Bankrupt { seat: A }) == 0);
     let (added, table) = with(&rt, alloc, table, &Act::Bankrupt { seat: A });
-    assert_eq!(rt; added, 1);
+    assert!(rt; added == 1);
     assert!(rt; table.operations().is_bankrupt());
-    assert_eq!(rt; table.books().balance(Party::Seat(A)).0, 25);
+    assert!(rt; table.books().balance(Party::Seat(A)).0 == 25);
 }
 
 #[test]
 fn steps_and_limits_come_before_a_forced_sale(rt: HostRuntime) {
     let alloc = rt.alloc();
     let mut table = with_a_share(&rt, alloc);
-    table
-        .follow(&Entry::Step(Marker::Operating))
-        .expect(&rt, "room");
+    operate(&rt, &mut table);
     // The turn is at its tile.
-    assert_eq!(rt; fault(&rt, alloc, &table, &raise(A, Corp::Nyc, 1)), 42);
-    assert_eq!(rt; fault(&rt, alloc, &table, &Act::Bankrupt { seat: A }), 42);
+    assert!(rt; fault(&rt, alloc, &table, &raise(A, Corp::Nyc, 1)) == 42);
+    assert!(rt; fault(&rt, alloc, &table, &Act::Bankrupt { seat: A }) == 42);
     for number in 1..=5 {
-        give_two(&rt, &mut table, number);
+        give_train(&rt, &mut table, Kind::Two, number, Place::Corp(Corp::Nyc));
     }
     // Five trains are over the limit of four.
-    assert_eq!(rt; fault(&rt, alloc, &table, &raise(A, Corp::Nyc, 1)), 46);
-    assert_eq!(rt; fault(&rt, alloc, &table, &Act::Bankrupt { seat: A }), 46);
+    assert!(rt; fault(&rt, alloc, &table, &raise(A, Corp::Nyc, 1)) == 46);
+    assert!(rt; fault(&rt, alloc, &table, &Act::Bankrupt { seat: A }) == 46);
 }
 
 #[test]

@@ -1,10 +1,8 @@
 //! A turn of PRR on a small board, with its token in A.
 ghost use Rattle.rr_depot.specs.Small.{IsSmall};
 
-use crate::fixtures::{ROSTER, position};
-use rr_books::{
-    Act, Cell, Corp, Entry, Kind, Marker, Money, Party, Place, Train, TrainSource, Words,
-};
+use crate::fixtures::{float, fund, give_train, kit, name, operate, position, station};
+use rr_books::{Act, Corp, Kind, Money, Party, Place, TrainSource, Words};
 use rr_desk::{Desk, Position};
 use rr_kit::Kit;
 use rr_operate::laws::{
@@ -12,7 +10,6 @@ use rr_operate::laws::{
     worked_run, worked_turn_end,
 };
 use rr_operate::{Fault, judge, judge_order, play};
-use rr_words::HexName;
 use std::alloc::Global;
 use std::process::Abort;
 
@@ -30,54 +27,24 @@ const TILES: &[u8] = b"yellow 7 x4 0-1
 green 23 x3 0-3 0-4
 ";
 
-fn kit(rt: &impl Abort, alloc: Global) -> Kit {
-    Kit::read(alloc, b"100p\n", ROSTER.as_bytes(), TILES, BOARD.as_bytes()).expect(rt, "a kit")
-}
-
-fn name(rt: &impl Abort, word: &[u8]) -> HexName {
-    HexName::read(word).expect(rt, "a hex's name")
+fn turn_kit(rt: &impl Abort, alloc: Global) -> Kit {
+    kit(rt, alloc, b"100p\n", TILES, BOARD)
 }
 
 fn words(rt: &impl Abort, alloc: Global, text: &[u8]) -> Words {
     Words::of(alloc, text).expect(rt, "memory")
 }
 
-fn give_train(rt: &impl Abort, table: &mut Position, kind: Kind, number: u8, to: Place) {
-    let train = Train { kind, number };
-    assert!(rt; table.books().has_train(train));
-    table.follow(&Entry::Train { train, to }).expect(rt, "room");
-}
-
 /// PRR has 500 dollars and its token in A, and is due; the NYC waits. The first 3 is sold.
 fn operating(rt: &impl Abort, alloc: Global) -> Position {
     let mut table = position(rt, alloc, 2);
-    let pay = Entry::Pay {
-        from: Party::Bank,
-        to: Party::Corp(Corp::Prr),
-        amount: Money(500),
-    };
-    table.follow(&pay).expect(rt, "room");
-    let token = Entry::Station {
-        corp: Corp::Prr,
-        hex: name(rt, b"A"),
-        centre: 1,
-    };
-    table.follow(&token).expect(rt, "room");
+    fund(rt, &mut table, Party::Corp(Corp::Prr), 500);
+    station(rt, &mut table, Corp::Prr, b"A");
     give_train(rt, &mut table, Kind::Three, 1, Place::Gone);
     float(rt, &mut table, Corp::Prr);
     float(rt, &mut table, Corp::Nyc);
+    operate(rt, &mut table);
     table
-        .follow(&Entry::Step(Marker::Operating))
-        .expect(rt, "room");
-    table
-}
-
-fn float(rt: &impl Abort, table: &mut Position, corp: Corp) {
-    let cell = Cell { row: 0, column: 0 };
-    table.follow(&Entry::Mark { corp, cell }).expect(rt, "room");
-    table
-        .follow(&Entry::Step(Marker::Float(corp)))
-        .expect(rt, "room");
 }
 
 /// What the trains have earned behind the command, or the fault's number.
@@ -88,7 +55,7 @@ fn judged(
     revenue: u16,
     act: &Act,
 ) -> Result<i64, u8> {
-    let kit = kit(rt, alloc);
+    let kit = turn_kit(rt, alloc);
     match judge(alloc, &kit, table, Money(i64::from(revenue)), act) {
         Ok(next) => Ok(next.0),
         Err(fault) => Err(fault.number()),
@@ -97,7 +64,7 @@ fn judged(
 
 /// The number of the fault of the command's order, or 0.
 fn order_fault(rt: &impl Abort, alloc: Global, table: &Position, revenue: u16, act: &Act) -> u8 {
-    let kit = kit(rt, alloc);
+    let kit = turn_kit(rt, alloc);
     match judge_order(&kit, table, Money(i64::from(revenue)), act) {
         Ok(()) => 0,
         Err(fault) => fault.number(),
@@ -115,7 +82,7 @@ fn with(
     requires { IsSmall act.now }
 {
     let mut desk = Desk::new(alloc, table);
-    let kit = kit(rt, alloc);
+    let kit = turn_kit(rt, alloc);
     play(&kit, &mut desk, Money(i64::from(revenue)), act).expect(rt, "memory");
     let (position, entries) = desk.into_parts();
     (entries.as_slice().len(), position)
@@ -132,29 +99,29 @@ fn a_turn_with_a_tile_a_token_and_a_train(rt: HostRuntime) {
         tile: 23,
         turn: 2,
     };
-    assert_eq!(rt; judged(&rt, alloc, &table, 0, &lay), Ok(0));
+    assert!(rt; judged(&rt, alloc, &table, 0, &lay) == Ok(0));
     let (laid, table) = with(&rt, alloc, table, 0, &lay);
     let station = Act::Station {
         corp,
         hex: name(&rt, b"D"),
         centre: 1,
     };
-    assert_eq!(rt; judged(&rt, alloc, &table, 0, &lay), Err(42));
-    assert_eq!(rt; judged(&rt, alloc, &table, 0, &station), Ok(0));
+    assert!(rt; judged(&rt, alloc, &table, 0, &lay) == Err(42));
+    assert!(rt; judged(&rt, alloc, &table, 0, &station) == Ok(0));
     let (placed, table) = with(&rt, alloc, table, 0, &station);
     let (held, table) = with(&rt, alloc, table, 0, &Act::Hold { corp });
-    assert_eq!(rt; judged(&rt, alloc, &table, 0, &Act::End { corp }), Err(47));
+    assert!(rt; judged(&rt, alloc, &table, 0, &Act::End { corp }) == Err(47));
     let train = Act::BuyTrain {
         corp,
         kind: Kind::Two,
         source: TrainSource::Bank,
     };
-    assert_eq!(rt; judged(&rt, alloc, &table, 0, &train), Ok(0));
+    assert!(rt; judged(&rt, alloc, &table, 0, &train) == Ok(0));
     let (bought, table) = with(&rt, alloc, table, 0, &train);
-    assert_eq!(rt; judged(&rt, alloc, &table, 0, &Act::End { corp }), Ok(0));
+    assert!(rt; judged(&rt, alloc, &table, 0, &Act::End { corp }) == Ok(0));
     let (ended, _) = with(&rt, alloc, table, 0, &Act::End { corp });
     // Words and tile; words, payment and token; words and payment; words, train and payment; words and NYC's token.
-    assert_eq!(rt; [laid, placed, held, bought, ended], [3, 3, 2, 3, 2]);
+    assert!(rt; [laid, placed, held, bought, ended] == [3, 3, 2, 3, 2]);
 }
 
 #[test]
@@ -172,21 +139,15 @@ fn a_run_is_paid_out(rt: HostRuntime) {
         corp,
         sheet: words(&rt, alloc, b"2=1-2-3"),
     };
-    assert_eq!(rt; judged(&rt, alloc, &table, 0, &run), Ok(30));
-    assert_eq!(rt; judged(&rt, alloc, &table, 0, &best), Ok(30));
+    assert!(rt; judged(&rt, alloc, &table, 0, &run) == Ok(30));
+    assert!(rt; judged(&rt, alloc, &table, 0, &best) == Ok(30));
     let (ran, table) = with(&rt, alloc, table, 0, &best);
-    assert_eq!(rt;
-        judged(&rt, alloc, &table, 0, &Act::PayOut { corp }),
-        Err(42)
-    );
-    assert_eq!(rt;
-        judged(&rt, alloc, &table, 30, &Act::PayOut { corp }),
-        Ok(30)
-    );
+    assert!(rt; judged(&rt, alloc, &table, 0, &Act::PayOut { corp }) == Err(42));
+    assert!(rt; judged(&rt, alloc, &table, 30, &Act::PayOut { corp }) == Ok(30));
     let (paid, table) = with(&rt, alloc, table, 30, &Act::PayOut { corp });
-    assert_eq!(rt; judged(&rt, alloc, &table, 30, &Act::End { corp }), Ok(0));
+    assert!(rt; judged(&rt, alloc, &table, 30, &Act::End { corp }) == Ok(0));
     // The certificate and the words; the words, two seats and the pool.
-    assert_eq!(rt; [ran, paid], [2, 4]);
+    assert!(rt; [ran, paid] == [2, 4]);
 }
 
 #[test]
@@ -198,15 +159,15 @@ fn commands_come_in_their_order(rt: HostRuntime) {
         corp,
         kind: Kind::Two,
     };
-    assert_eq!(rt; order_fault(&rt, alloc, &table, 0, &Act::End { corp }), 42);
-    assert_eq!(rt; order_fault(&rt, alloc, &table, 0, &Act::Hold { corp }), 20);
-    assert_eq!(rt; judged(&rt, alloc, &table, 0, &drop), Err(42));
+    assert!(rt; order_fault(&rt, alloc, &table, 0, &Act::End { corp }) == 42);
+    assert!(rt; order_fault(&rt, alloc, &table, 0, &Act::Hold { corp }) == 20);
+    assert!(rt; judged(&rt, alloc, &table, 0, &drop) == Err(42));
     for number in 1..=5 {
         give_train(&rt, &mut table, Kind::Two, number, Place::Corp(corp));
     }
-    assert_eq!(rt; order_fault(&rt, alloc, &table, 0, &Act::End { corp }), 46);
-    assert_eq!(rt; judged(&rt, alloc, &table, 0, &drop), Ok(0));
-    assert_eq!(rt; Fault::OutOfMemory.number(), 70);
+    assert!(rt; order_fault(&rt, alloc, &table, 0, &Act::End { corp }) == 46);
+    assert!(rt; judged(&rt, alloc, &table, 0, &drop) == Ok(0));
+    assert!(rt; Fault::OutOfMemory.number() == 70);
 }
 
 #[test]

@@ -4,12 +4,11 @@ ghost use Rattle.rr_auction.specs.Small as auction;
 ghost use Rattle.rr_stock.specs.Small.{HasSeat};
 ghost use Rattle.rr_depot.specs.Small as depot;
 
-use crate::fixtures::{A, B, ROSTER};
+use crate::fixtures::{A, B, kit, name};
 use rr_books::{Act, Corp, Kind, Party, Seat, ShareSource, TrainSource, Words};
 use rr_kit::Kit;
 use rr_rules::laws::{acts_have_one_verdict, bankruptcy_ends_the_game};
 use rr_rules::{Fault, Standing};
-use rr_words::HexName;
 use std::alloc::Global;
 use std::process::Abort;
 
@@ -27,12 +26,8 @@ const TILES: &[u8] = b"yellow 7 x4 0-1
 green 23 x3 0-3 0-4
 ";
 
-fn kit(rt: &impl Abort, alloc: Global) -> Kit {
-    Kit::read(alloc, b"100p\n", ROSTER.as_bytes(), TILES, BOARD.as_bytes()).expect(rt, "a kit")
-}
-
-fn name(rt: &impl Abort, word: &[u8]) -> HexName {
-    HexName::read(word).expect(rt, "a hex's name")
+fn table_kit(rt: &impl Abort, alloc: Global) -> Kit {
+    kit(rt, alloc, b"100p\n", TILES, BOARD)
 }
 
 fn taken(rt: &impl Abort, alloc: Global, kit: &Kit, table: &Standing, act: &Act) -> Standing
@@ -147,7 +142,7 @@ fn cash(table: &Standing, party: Party) -> i64 {
 #[test]
 fn an_auction_by_its_rules(rt: HostRuntime) {
     let alloc = rt.alloc();
-    let kit = kit(&rt, alloc);
+    let kit = table_kit(&rt, alloc);
     let table = Standing::open(2, kit.roster());
     let lay = Act::Lay {
         corp: Corp::Bo,
@@ -162,59 +157,44 @@ fn an_auction_by_its_rules(rt: HostRuntime) {
         turn: 0,
     };
     // A name that the kit lacks comes before the wrong step.
-    assert_eq!(rt; fault(alloc, &kit, &table, &lay), 1);
-    assert_eq!(rt; fault(alloc, &kit, &table, &gone), 1);
-    assert_eq!(rt;
-        fault(alloc, &kit, &table, &Act::Hold { corp: Corp::Bo }),
-        42
-    );
-    assert_eq!(rt; fault(alloc, &kit, &table, &Act::Done { seat: A }), 42);
-    assert_eq!(rt; fault(alloc, &kit, &table, &Act::Pass { seat: B }), 20);
+    assert!(rt; fault(alloc, &kit, &table, &lay) == 1);
+    assert!(rt; fault(alloc, &kit, &table, &gone) == 1);
+    assert!(rt; fault(alloc, &kit, &table, &Act::Hold { corp: Corp::Bo }) == 42);
+    assert!(rt; fault(alloc, &kit, &table, &Act::Done { seat: A }) == 42);
+    assert!(rt; fault(alloc, &kit, &table, &Act::Pass { seat: B }) == 20);
     let table = auctioned(&rt, alloc, &kit);
-    assert_eq!(rt; cash(&table, Party::Seat(A)), 950);
-    assert_eq!(rt; cash(&table, Party::Seat(B)), 830);
-    assert_eq!(rt; fault(alloc, &kit, &table, &Act::Pass { seat: A }), 42);
-    assert_eq!(rt;
-        fault(alloc, &kit, &table, &Act::Hold { corp: Corp::Bo }),
-        42
-    );
-    assert_eq!(rt; table.revenue().0, 0);
-    assert_eq!(rt; Fault::OutOfMemory.number(), 70);
+    assert!(rt; cash(&table, Party::Seat(A)) == 950);
+    assert!(rt; cash(&table, Party::Seat(B)) == 830);
+    assert!(rt; fault(alloc, &kit, &table, &Act::Pass { seat: A }) == 42);
+    assert!(rt; fault(alloc, &kit, &table, &Act::Hold { corp: Corp::Bo }) == 42);
+    assert!(rt; table.revenue().0 == 0);
+    assert!(rt; Fault::OutOfMemory.number() == 70);
 }
 
 #[test]
 fn an_operating_round_by_its_rules(rt: HostRuntime) {
     let alloc = rt.alloc();
-    let kit = kit(&rt, alloc);
+    let kit = table_kit(&rt, alloc);
     let table = operating(&rt, alloc, &kit);
     // 450 dollars and three incomes of 45 together, 430 and 60.
-    assert_eq!(rt; cash(&table, Party::Seat(A)), 495);
-    assert_eq!(rt; cash(&table, Party::Seat(B)), 490);
-    assert_eq!(rt; cash(&table, Party::Corp(Corp::Bo)), 1000);
-    assert_eq!(rt; fault(alloc, &kit, &table, &Act::Done { seat: A }), 42);
-    assert_eq!(rt;
-        fault(alloc, &kit, &table, &Act::Hold { corp: Corp::Prr }),
-        20
-    );
-    assert_eq!(rt;
-        fault(alloc, &kit, &table, &Act::Force { corp: Corp::Bo }),
-        42
-    );
+    assert!(rt; cash(&table, Party::Seat(A)) == 495);
+    assert!(rt; cash(&table, Party::Seat(B)) == 490);
+    assert!(rt; cash(&table, Party::Corp(Corp::Bo)) == 1000);
+    assert!(rt; fault(alloc, &kit, &table, &Act::Done { seat: A }) == 42);
+    assert!(rt; fault(alloc, &kit, &table, &Act::Hold { corp: Corp::Prr }) == 20);
+    assert!(rt; fault(alloc, &kit, &table, &Act::Force { corp: Corp::Bo }) == 42);
     let held = taken(&rt, alloc, &kit, &table, &Act::Hold { corp: Corp::Bo });
-    assert_eq!(rt; fault(alloc, &kit, &held, &Act::End { corp: Corp::Bo }), 47);
+    assert!(rt; fault(alloc, &kit, &held, &Act::End { corp: Corp::Bo }) == 47);
     let table = equipped(&rt, alloc, &kit, &table, Corp::Bo);
-    assert_eq!(rt; cash(&table, Party::Corp(Corp::Bo)), 920);
-    assert_eq!(rt;
-        fault(alloc, &kit, &table, &Act::Hold { corp: Corp::Bo }),
-        20
-    );
+    assert!(rt; cash(&table, Party::Corp(Corp::Bo)) == 920);
+    assert!(rt; fault(alloc, &kit, &table, &Act::Hold { corp: Corp::Bo }) == 20);
     assert!(rt; !table.is_over(&kit));
 }
 
 #[test]
 fn what_a_run_earns_is_paid_out(rt: HostRuntime) {
     let alloc = rt.alloc();
-    let kit = kit(&rt, alloc);
+    let kit = table_kit(&rt, alloc);
     let table = operating(&rt, alloc, &kit);
     let table = equipped(&rt, alloc, &kit, &table, Corp::Bo);
     let table = equipped(&rt, alloc, &kit, &table, Corp::Prr);
@@ -224,13 +204,13 @@ fn what_a_run_earns_is_paid_out(rt: HostRuntime) {
     let corp = Corp::Bo;
     let sheet = Words::of(alloc, b"2=1-2-3").expect(&rt, "memory");
     let table = taken(&rt, alloc, &kit, &table, &Act::Run { corp, sheet });
-    assert_eq!(rt; table.revenue().0, 30);
+    assert!(rt; table.revenue().0 == 30);
     let table = taken(&rt, alloc, &kit, &table, &Act::PayOut { corp });
     // 490 dollars, 30 of two privates, as the B&O's went with the corporation's first train, and 18 for 60%.
-    assert_eq!(rt; cash(&table, Party::Seat(B)), 538);
-    assert_eq!(rt; table.revenue().0, 30);
+    assert!(rt; cash(&table, Party::Seat(B)) == 538);
+    assert!(rt; table.revenue().0 == 30);
     let table = taken(&rt, alloc, &kit, &table, &Act::End { corp });
-    assert_eq!(rt; table.revenue().0, 0);
+    assert!(rt; table.revenue().0 == 0);
 }
 
 #[test]

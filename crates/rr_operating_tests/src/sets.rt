@@ -1,6 +1,6 @@
 //! What follows by itself on a round, on a board where PRR alone has a home.
-use crate::fixtures::{A, ROSTER, position};
-use rr_books::{Act, Cell, Cert, Corp, Entry, Kind, Marker, Place, Private, Train};
+use crate::fixtures::{A, float, give, give_train, kit, operate, position};
+use rr_books::{Act, Cert, Corp, Entry, Kind, Marker, Place, Private};
 use rr_desk::{Desk, Position};
 use rr_kit::Kit;
 use rr_sets::laws::{rounds_pass, worked_sets, worked_tokens};
@@ -12,14 +12,8 @@ const BOARD: &str = "hex A 0,0 grey c20/1:5
 home PRR A 1
 ";
 
-/// How many entries there are, and what the last one is.
-#[derive(Clone, Copy, Debug, PartialEq)]
-struct Outcome {
-    entries: usize,
-    ends: Ending,
-}
-
-#[derive(Clone, Copy, Debug, PartialEq)]
+/// What the last entry is.
+#[derive(Drop)]
 enum Ending {
     Nothing,
     StockRound,
@@ -28,15 +22,8 @@ enum Ending {
     Other,
 }
 
-fn kit(rt: &impl Abort, alloc: Global) -> Kit {
-    Kit::read(
-        alloc,
-        b"100p\n",
-        ROSTER.as_bytes(),
-        b"yellow 7 x4 0-1\n",
-        BOARD.as_bytes(),
-    )
-    .expect(rt, "a kit")
+fn home_kit(rt: &impl Abort, alloc: Global) -> Kit {
+    kit(rt, alloc, b"100p\n", b"yellow 7 x4 0-1\n", BOARD)
 }
 
 fn ending_of(entries: &[Entry]) -> Ending {
@@ -49,120 +36,78 @@ fn ending_of(entries: &[Entry]) -> Ending {
     }
 }
 
-/// What a desk has come to.
-fn done(desk: Desk) -> (Outcome, Position) {
+/// How many entries a desk has, what the last one is, and the position.
+fn done(desk: Desk) -> (usize, Ending, Position) {
     let (position, entries) = desk.into_parts();
-    let outcome = Outcome {
-        entries: entries.as_slice().len(),
-        ends: ending_of(entries.as_slice()),
-    };
-    (outcome, position)
+    let ending = ending_of(entries.as_slice());
+    (entries.as_slice().len(), ending, position)
 }
 
-fn behind_stock_round(rt: &impl Abort, alloc: Global, table: Position) -> (Outcome, Position) {
+fn behind_stock_round(
+    rt: &impl Abort,
+    alloc: Global,
+    table: Position,
+) -> (usize, Ending, Position) {
     let mut desk = Desk::new(alloc, table);
-    go_on_in_stock_round(&mut desk, &kit(rt, alloc)).expect(rt, "memory");
+    go_on_in_stock_round(&mut desk, &home_kit(rt, alloc)).expect(rt, "memory");
     done(desk)
 }
 
-fn behind_turn(rt: &impl Abort, alloc: Global, table: Position, corp: Corp) -> (Outcome, Position) {
+fn behind_turn(
+    rt: &impl Abort,
+    alloc: Global,
+    table: Position,
+    corp: Corp,
+) -> (usize, Ending, Position) {
     let mut more = table;
     let end = Entry::Step(Marker::Act(Act::End { corp }));
     more.follow(&end).expect(rt, "room");
     let mut desk = Desk::new(alloc, more);
-    go_on_in_operating_round(&mut desk, &kit(rt, alloc)).expect(rt, "memory");
+    go_on_in_operating_round(&mut desk, &home_kit(rt, alloc)).expect(rt, "memory");
     done(desk)
 }
 
 /// Two players, of whom a has the SV; the first 3 is sold, so that a set has two rounds; a stock round is under way.
 fn stock_round(rt: &impl Abort, alloc: Global) -> Position {
     let mut table = position(rt, alloc, 2);
-    let train = Train {
-        kind: Kind::Three,
-        number: 1,
-    };
-    assert!(rt; table.books().has_train(train));
-    let first = Entry::Train {
-        train,
-        to: Place::Gone,
-    };
-    table.follow(&first).expect(rt, "room");
-    let private = Entry::Move {
-        cert: Cert::Private(Private::Sv),
-        to: Place::Seat(A),
-    };
-    table.follow(&private).expect(rt, "room");
+    give_train(rt, &mut table, Kind::Three, 1, Place::Gone);
+    give(rt, &mut table, Cert::Private(Private::Sv), Place::Seat(A));
     table.follow(&Entry::Step(Marker::Stock)).expect(rt, "room");
     table
-}
-
-/// A corporation floats at 100.
-fn with_float(rt: &impl Abort, table: Position, corp: Corp) -> Position {
-    let mut more = table;
-    let cell = Cell { row: 0, column: 0 };
-    for entry in [Entry::Mark { corp, cell }, Entry::Step(Marker::Float(corp))] {
-        more.follow(&entry).expect(rt, "room");
-    }
-    more
-}
-
-/// The stock round ends.
-fn ended(rt: &impl Abort, table: Position) -> Position {
-    let mut more = table;
-    more.follow(&Entry::Step(Marker::Operating))
-        .expect(rt, "room");
-    more
 }
 
 #[test]
 fn nothing_follows_within_a_stock_round(rt: HostRuntime) {
     let alloc = rt.alloc();
-    let (outcome, _) = behind_stock_round(&rt, alloc, stock_round(&rt, alloc));
-    let want = Outcome {
-        entries: 0,
-        ends: Ending::Nothing,
-    };
-    assert_eq!(rt; outcome, want);
+    let (entries, ending, _) = behind_stock_round(&rt, alloc, stock_round(&rt, alloc));
+    assert!(rt; entries == 0 && matches!(ending, Ending::Nothing));
 }
 
 #[test]
 fn rounds_without_a_corporation_pass(rt: HostRuntime) {
     let alloc = rt.alloc();
-    let table = ended(&rt, stock_round(&rt, alloc));
-    let (outcome, _) = behind_stock_round(&rt, alloc, table);
+    let mut table = stock_round(&rt, alloc);
+    operate(&rt, &mut table);
+    let (entries, ending, _) = behind_stock_round(&rt, alloc, table);
     // An income, the second round with its income, the next stock round.
-    let want = Outcome {
-        entries: 4,
-        ends: Ending::StockRound,
-    };
-    assert_eq!(rt; outcome, want);
+    assert!(rt; entries == 4 && matches!(ending, Ending::StockRound));
 }
 
 #[test]
 fn a_set_of_two_rounds(rt: HostRuntime) {
     let alloc = rt.alloc();
-    let floated = with_float(&rt, stock_round(&rt, alloc), Corp::Prr);
-    let (first, table) = behind_stock_round(&rt, alloc, ended(&rt, floated));
+    let mut table = stock_round(&rt, alloc);
+    float(&rt, &mut table, Corp::Prr);
+    operate(&rt, &mut table);
+    let (entries, ending, table) = behind_stock_round(&rt, alloc, table);
     // The income, and PRR's token at home.
-    let token = Outcome {
-        entries: 2,
-        ends: Ending::Token,
-    };
-    assert_eq!(rt; first, token);
-    assert_eq!(rt; table.layout().stations().len(), 1);
-    let (second, table) = behind_turn(&rt, alloc, table, Corp::Prr);
+    assert!(rt; entries == 2 && matches!(ending, Ending::Token));
+    assert!(rt; table.layout().stations().len() == 1);
+    let (entries, ending, table) = behind_turn(&rt, alloc, table, Corp::Prr);
     // The second round and its income; PRR has its token.
-    let income = Outcome {
-        entries: 2,
-        ends: Ending::Other,
-    };
-    assert_eq!(rt; second, income);
-    let (last, _) = behind_turn(&rt, alloc, table, Corp::Prr);
-    let stock = Outcome {
-        entries: 1,
-        ends: Ending::StockRound,
-    };
-    assert_eq!(rt; last, stock);
+    assert!(rt; entries == 2 && matches!(ending, Ending::Other));
+    let (entries, ending, _) = behind_turn(&rt, alloc, table, Corp::Prr);
+    assert!(rt; entries == 1 && matches!(ending, Ending::StockRound));
 }
 
 #[test]

@@ -1,10 +1,10 @@
 //! What the program does with a plan, over a disk in memory. Whole games stand in the folder `games` of the repository,
 //! and what is refused at the start is tried on the built program by `tools/try-the-program`.
-use crate::kits::{ROOM, ROSTER, formatted, texts};
+use crate::kits::{OPENING, ROOM, ROSTER, formatted, texts};
 use rr_cli::{Ending, Plan, act, refuse, status};
 use rr_disk::{Disk, FaultyDisk, MemoryDisk};
 use rr_moderator::Fault;
-use rr_serve::{CountingReader, CountingWriter};
+use rr_serve::{CountingReader, CountingWriter, Input, Output};
 use std::alloc::{AllocError, Global};
 use std::test::Fail;
 
@@ -24,7 +24,25 @@ fn serve_plan(alloc: Global) -> Result<Plan, AllocError> {
     })
 }
 
+fn check_plan(alloc: Global) -> Result<Plan, AllocError> {
+    Ok(Plan::Check {
+        file: String::from_str(alloc, "f")?,
+    })
+}
+
 // The calls below have no contracts and assert nothing, so that what a test does costs its proof little.
+
+/// Carries a plan out over any streams, which costs a proof less than over certain ones.
+fn act_on<D: Disk + Drop, I: Input, O: Output>(
+    alloc: Global,
+    plan: &Plan,
+    roster: &[u8],
+    disk: D,
+    reader: &mut I,
+    writer: &mut O,
+) -> (u8, D) {
+    act(alloc, plan, texts(roster), disk, reader, writer)
+}
 
 /// Carries a plan out: the status, what is written, and the disk.
 fn acted<D: Disk + Drop>(
@@ -36,7 +54,7 @@ fn acted<D: Disk + Drop>(
 ) -> (u8, Vec<u8>, D) {
     let mut reader = CountingReader::new(input);
     let mut output = CountingWriter::new(Vec::new(alloc));
-    let (status, disk) = act(alloc, plan, texts(roster), disk, &mut reader, &mut output);
+    let (status, disk) = act_on(alloc, plan, roster, disk, &mut reader, &mut output);
     (status, output.into_inner(), disk)
 }
 
@@ -75,9 +93,32 @@ fn is_ended_by_device(alloc: Global, calls: u64) -> Result<bool, Fail> {
 #[test]
 fn formats_and_serves(rt: HostRuntime) -> Result<(), Fail> {
     assert!(rt; is_formatted_once(rt.alloc())?);
-    // An opening makes 14 device calls here: a sync, and 13 reads, of the root, of each text's length and bytes (eight,
-    // also where a text is empty), and of slot 0 of each of the journal's four parts.
-    assert!(rt; is_ended_by_device(rt.alloc(), 14)?);
+    assert!(rt; is_ended_by_device(rt.alloc(), OPENING)?);
+    Ok(())
+}
+
+/// Whether a check of the disk ends with this status and writes this, whatever there is to read.
+fn is_checked(alloc: Global, disk: MemoryDisk, status: u8, told: &[u8]) -> Result<bool, Fail> {
+    let plan = check_plan(alloc)?;
+    let (ended, written, _) = acted(alloc, &plan, b"", disk, b"0 g3 open a b\n");
+    Ok(ended == status && written.as_slice() == told)
+}
+
+/// A disk whose file has two tables and three commands.
+fn played(alloc: Global) -> Result<MemoryDisk, Fail> {
+    let plan = serve_plan(alloc)?;
+    let input = b"0 g1 open a b\n1 g1 buy a\n0 g2 open c d\n";
+    let (_, _, disk) = acted(alloc, &plan, b"", formatted(alloc)?, input);
+    Ok(disk)
+}
+
+#[test]
+fn checks(rt: HostRuntime) -> Result<(), Fail> {
+    let alloc = rt.alloc();
+    let empty = MemoryDisk::new(alloc, ROOM)?;
+    assert!(rt; is_checked(alloc, empty, 3, b"no 64 not a store\n")?);
+    assert!(rt; is_checked(alloc, formatted(alloc)?, 0, b"ok 0 0\n")?);
+    assert!(rt; is_checked(alloc, played(alloc)?, 0, b"ok 2 3\n")?);
     Ok(())
 }
 

@@ -21,6 +21,11 @@ fn is_served(alloc: Global, words: &[&str], file: &str) -> Result<bool, AllocErr
     Ok(is_planned(alloc, words, &Plan::Serve { file }))
 }
 
+fn is_check_planned(alloc: Global) -> Result<bool, AllocError> {
+    let file = text(alloc, "t.store")?;
+    Ok(is_planned(alloc, &["check", "t.store"], &Plan::Check { file }))
+}
+
 fn is_formatted(alloc: Global) -> Result<bool, AllocError> {
     let words = [
         "format",
@@ -48,6 +53,7 @@ fn words_that_are_planned(rt: HostRuntime) -> Result<(), Fail> {
     assert!(rt; is_formatted(rt.alloc())?);
     assert!(rt; is_served(rt.alloc(), &["serve", "t.store"], "t.store")?);
     assert!(rt; is_served(rt.alloc(), &["serve", "--", "--chart"], "--chart")?);
+    assert!(rt; is_check_planned(rt.alloc())?);
     Ok(())
 }
 
@@ -72,6 +78,7 @@ fn is_want_of_memory_told(alloc: Global) -> Result<bool, Fail> {
 #[test]
 fn words_that_are_refused(rt: HostRuntime) -> Result<(), Fail> {
     assert!(rt; are_refused(rt.alloc(), &["serve", "a", "b"]));
+    assert!(rt; are_refused(rt.alloc(), &["check"]));
     assert!(rt; is_want_of_memory_told(rt.alloc())?);
     Ok(())
 }

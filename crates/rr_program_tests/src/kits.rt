@@ -1,11 +1,15 @@
 //! A kit, and files that are made with it.
 use rr_disk::{Disk, MemoryDisk};
-use rr_moderator::{Fault, Moderator, Texts, format};
+use rr_moderator::{Fault, Moderator, Refused, Texts, format};
 use std::alloc::Global;
 use std::test::Fail;
 
-/// Room for a file of 1,092 pages, and for the records of a whole half.
+/// Room for a file of 519 pages, for all that is written when it is made, and for the records of a whole half.
 pub(crate) const ROOM: usize = 1 << 23;
+
+/// The device calls of an opening of a new file: a sync, and 14 reads, of the two roots, of the front and the bytes of the page
+/// of the directory and of each text (ten, also where a text is empty), and of slot 0 of each of the journal's halves.
+pub(crate) const OPENING: u64 = 15;
 
 pub(crate) const CHART: &[u8] = b"# two rows\n90 100p 112\n. 80y\n";
 
@@ -35,15 +39,29 @@ pub(crate) fn texts(roster: &[u8]) -> Texts<'_> {
     }
 }
 
+// The calls below have no contracts and assert nothing, so that what a test does costs its proof little.
+
+pub(crate) fn format_with(
+    alloc: Global,
+    disk: &mut MemoryDisk,
+    texts: Texts<'_>,
+) -> Result<(), rr_store::Fault> {
+    format(alloc, disk, texts)
+}
+
 /// A disk with a new file.
 pub(crate) fn formatted(alloc: Global) -> Result<MemoryDisk, Fail> {
     let mut disk = MemoryDisk::new(alloc, ROOM)?;
-    format(alloc, &mut disk, texts(ROSTER))?;
+    format_with(alloc, &mut disk, texts(ROSTER))?;
     Ok(disk)
 }
 
+fn open_on<D: Disk + Drop>(alloc: Global, disk: D) -> Result<Moderator<D>, Refused<D>> {
+    Moderator::open(alloc, disk)
+}
+
 pub(crate) fn opened<D: Disk + Drop>(alloc: Global, disk: D) -> Result<Moderator<D>, Fault> {
-    match Moderator::open(alloc, disk) {
+    match open_on(alloc, disk) {
         Ok(moderator) => Ok(moderator),
         Err(refused) => Err(Fault::from(refused.fault)),
     }

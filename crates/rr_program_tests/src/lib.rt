@@ -1,4 +1,5 @@
-//! Tests of the store, the moderator and of the program's command line, over what both make public.
+//! Tests of the moderator and of the program's command line, over what both make public. Those of the store stand in
+//! `rr_store_tests`.
 #![tactic(auto)]
 
 #[cfg(test)]
@@ -11,5 +12,3 @@ mod kits;
 mod opening;
 #[cfg(test)]
 mod serving;
-#[cfg(test)]
-mod storing;

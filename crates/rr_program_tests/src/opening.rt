@@ -1,7 +1,10 @@
 //! Kits and files that are refused, at a formatting and at an opening.
-use crate::kits::{BOARD, CHART, ROOM, ROSTER, formatted, opened};
-use rr_disk::MemoryDisk;
-use rr_moderator::{Fault, Reply, Texts, format};
+use crate::kits::{CHART, ROOM, ROSTER, format_with, formatted, opened};
+use rr_disk::{Disk, MemoryDisk};
+use rr_moderator::laws::{
+    alone, best_runs_are_lawful, best_runs_earn_alike, none_fails_while_working,
+};
+use rr_moderator::{Fault, Reply, Texts};
 use std::alloc::Global;
 use std::test::Fail;
 
@@ -26,7 +29,7 @@ fn is_refused(
         board: HEX_TWICE,
     };
     let mut reply = Reply::new(alloc)?;
-    if let Err(fault) = format(alloc, &mut disk, texts) {
+    if let Err(fault) = format_with(alloc, &mut disk, texts) {
         Fault::from(fault).write(&mut reply);
     }
     Ok(reply.as_bytes() == told)
@@ -55,43 +58,59 @@ fn a_kit_is_judged_in_order(rt: HostRuntime) -> Result<(), Fail> {
     Ok(())
 }
 
-/// A disk with a file of this kit board and this one record, or of none where it is empty.
-fn kept(alloc: Global, board: &[u8], record: &[u8]) -> Result<MemoryDisk, Fail> {
-    if board.len() > 100 {
-        return Err(Fail::from("a board too long for a test"));
-    }
-    let mut disk = MemoryDisk::new(alloc, ROOM)?;
-    let texts = rr_keeper::Texts {
-        chart: CHART,
-        roster: ROSTER,
-        tiles: b"",
-        board,
-    };
-    rr_keeper::format(alloc, &mut disk, texts)?;
-    if record.is_empty() {
-        return Ok(disk);
-    }
-    match rr_keeper::open(alloc, disk) {
-        Ok(opened) => {
-            let mut keeper = opened.keeper;
-            keeper.append(record)?;
-            Ok(keeper.into_disk())
-        }
-        Err(refused) => Err(Fail::from(refused.fault)),
-    }
-}
+/// The byte of a new file at which the text of its board stands, and the one at which its first record would.
+const BOARD_PLACE: u64 = 4096 * 517 + 10;
+
+const RECORD_PLACE: u64 = 4096 * 2;
+
+/// Where these bytes are written over a new file, and why it isn't opened then.
+type Row = (u64, &'static [u8], Option<Fault>);
+
+/// A key that no hex of a board has; a request, one out of turn, one with a space too many, one with its stamp, and an
+/// opening with a name twice.
+const ROWS: [Row; 6] = [
+    (BOARD_PLACE, b"h\0", Some(Fault::Damaged(6))),
+    (
+        RECORD_PLACE,
+        b"\xa5\0\0\0\0\0\0\0\x01\0\0\0\x0ft1 open ann bob",
+        None,
+    ),
+    (
+        RECORD_PLACE,
+        b"\xa5\0\0\0\0\0\0\0\x01\0\0\0\x0at1 buy ann",
+        Some(Fault::Damaged(8)),
+    ),
+    (
+        RECORD_PLACE,
+        b"\xa5\0\0\0\0\0\0\0\x01\0\0\0\x10t1  open ann bob",
+        Some(Fault::Damaged(8)),
+    ),
+    (
+        RECORD_PLACE,
+        b"\xa5\0\0\0\0\0\0\0\x01\0\0\0\x110 t1 open ann bob",
+        Some(Fault::Damaged(8)),
+    ),
+    (
+        RECORD_PLACE,
+        b"\xa5\0\0\0\0\0\0\0\x01\0\0\0\x0ft1 open ann ann",
+        Some(Fault::Damaged(8)),
+    ),
+];
 
 fn fault_of(alloc: Global, disk: MemoryDisk) -> Option<Fault> {
     opened(alloc, disk).err()
 }
 
-/// The first of the files of a board and a record that is opened with another fault.
-fn first_other_fault(
-    alloc: Global,
-    files: &[(&[u8], &[u8], Option<Fault>)],
-) -> Result<Option<usize>, Fail> {
-    for (index, (board, record, fault)) in files.iter().enumerate() {
-        if fault_of(alloc, kept(alloc, board, record)?) != *fault {
+fn write(disk: &mut MemoryDisk, at: u64, bytes: &[u8]) -> Result<(), rr_disk::Fault> {
+    disk.write_at(at, bytes)
+}
+
+/// The first of the rows whose file is opened otherwise.
+fn first_other_fault(alloc: Global) -> Result<Option<usize>, Fail> {
+    for (index, (at, bytes, fault)) in ROWS.iter().enumerate() {
+        let mut disk = formatted(alloc)?;
+        write(&mut disk, *at, bytes)?;
+        if fault_of(alloc, disk) != *fault {
             return Ok(Some(index));
         }
     }
@@ -100,18 +119,21 @@ fn first_other_fault(
 
 #[test]
 fn kept_kits_and_records_are_judged(rt: HostRuntime) -> Result<(), Fail> {
-    let damaged = Some(Fault::Damaged(8));
-    let files: [(&[u8], &[u8], Option<Fault>); 6] = [
-        (HEX_TWICE, b"", Some(Fault::NotAStore)),
-        (BOARD, b"t1 open ann bob", None),
-        (BOARD, b"t1 buy ann", damaged),
-        (BOARD, b"t1  open ann bob", damaged),
-        (BOARD, b"0 t1 open ann bob", damaged),
-        (BOARD, b"t1 open ann ann", damaged),
-    ];
-    assert!(rt; first_other_fault(rt.alloc(), &files)?.is_none());
+    assert!(rt; first_other_fault(rt.alloc())?.is_none());
     let empty = MemoryDisk::new(rt.alloc(), ROOM)?;
     assert!(rt; fault_of(rt.alloc(), empty) == Some(Fault::NotAStore));
-    rr_moderator::laws::none_fails_while_working::<MemoryDisk>();
     Ok(())
+}
+
+// The laws do nothing. Called for any disk one costs its proof less than for a certain one.
+fn call_law_of_disks<D: Disk + Drop>() {
+    none_fails_while_working::<D>();
+}
+
+#[test]
+fn laws_are_called() {
+    alone();
+    best_runs_earn_alike();
+    best_runs_are_lawful();
+    call_law_of_disks::<MemoryDisk>();
 }

@@ -1,15 +1,37 @@
 //! The moderator's replies, and what a failure of its streams or of the device leaves. Whole games stand in the folder
 //! `games` of the repository, and in which order it writes, syncs and answers is tried by `tools/try-the-file`.
-use crate::kits::{ROOM, formatted, opened};
+use crate::kits::{OPENING, ROOM, formatted, opened};
 use rr_disk::{Disk, FaultyDisk, MemoryDisk};
-use rr_moderator::{Fault, Moderator};
-use rr_serve::{CountingReader, CountingWriter};
+use rr_moderator::{Fault, Moderator, Reply, Summary};
+use rr_serve::{CountingReader, CountingWriter, Input, Output};
 use std::alloc::Global;
 use std::io;
 use std::io::{ErrorKind, Read, Write};
 use std::test::Fail;
 
 // The calls below have no contracts and assert nothing, so that what a test does costs its proof little.
+
+// The calls over any streams, which cost a proof less than those over certain ones.
+
+fn serve<D: Disk + Drop, I: Input, O: Output>(
+    moderator: &mut Moderator<D>,
+    reader: &mut I,
+    writer: &mut O,
+) -> Result<(), Fault> {
+    moderator.serve(reader, writer)
+}
+
+fn write_reply<D: Disk + Drop, O: Output>(
+    moderator: &mut Moderator<D>,
+    line: &[u8],
+    writer: &mut O,
+) -> Result<(), Fault> {
+    moderator.line(line, writer)
+}
+
+fn disk_of<D: Disk + Drop>(moderator: Moderator<D>) -> D {
+    moderator.into_disk()
+}
 
 /// How serving this input ends, and what it writes.
 fn served<D: Disk + Drop>(
@@ -19,7 +41,7 @@ fn served<D: Disk + Drop>(
 ) -> (Result<(), Fault>, Vec<u8>) {
     let mut reader = CountingReader::new(input);
     let mut writer = CountingWriter::new(Vec::new(alloc));
-    let result = moderator.serve(&mut reader, &mut writer);
+    let result = serve(moderator, &mut reader, &mut writer);
     (result, writer.into_inner())
 }
 
@@ -36,7 +58,7 @@ fn is_written<D: Disk + Drop>(
     reply: &[u8],
 ) -> bool {
     let mut writer = CountingWriter::new(Vec::new(alloc));
-    let result = moderator.line(line, &mut writer);
+    let result = write_reply(moderator, line, &mut writer);
     result == Ok(()) && writer.into_inner().as_slice() == reply
 }
 
@@ -45,7 +67,7 @@ fn with_two_commands(alloc: Global) -> Result<MemoryDisk, Fail> {
     let mut moderator = opened(alloc, formatted(alloc)?)?;
     let (result, _) = served(alloc, &mut moderator, b"0 t1 open ann bob\n1 t1 buy ann\n");
     result?;
-    Ok(moderator.into_disk())
+    Ok(disk_of(moderator))
 }
 
 /// Whether a table goes on where it stopped.
@@ -56,6 +78,37 @@ fn goes_on(alloc: Global) -> Result<bool, Fail> {
             && is_answered(&mut again, b"2 t1 buy bob", b"ok t1 3\n")
             && is_written(alloc, &mut again, b"privates t1 bob", b"= C&SL\n"),
     )
+}
+
+fn made<D: Disk + Drop>(moderator: &mut Moderator<D>) -> Result<(), rr_store::Fault> {
+    moderator.checkpoint()
+}
+
+fn summary<D: Disk + Drop>(moderator: &Moderator<D>) -> Result<Summary, Fault> {
+    moderator.summary()
+}
+
+/// How a summary is told.
+fn is_told(alloc: Global, summary: Summary, told: &[u8]) -> Result<bool, Fail> {
+    let mut reply = Reply::new(alloc)?;
+    summary.write(&mut reply);
+    Ok(reply.as_bytes() == told)
+}
+
+/// Whether a table and two commands are summed up behind a checkpoint, and once the file is opened again.
+fn is_summed_up(alloc: Global) -> Result<bool, Fail> {
+    let mut moderator = opened(alloc, with_two_commands(alloc)?)?;
+    made(&mut moderator)?;
+    let told = summary(&moderator)?;
+    let again = opened(alloc, disk_of(moderator))?;
+    let whole = Summary { tables: 1, last: 2 };
+    Ok(told == whole && summary(&again)? == whole && is_told(alloc, whole, b"ok 1 2\n")?)
+}
+
+#[test]
+fn sums_up_what_it_holds(rt: HostRuntime) -> Result<(), Fail> {
+    assert!(rt; is_summed_up(rt.alloc())?);
+    Ok(())
 }
 
 /// Whether an auction takes no corporation's order, and the table stays as it was.
@@ -121,7 +174,7 @@ fn is_dripped(alloc: Global, room: usize, written: &[u8], to_the_end: bool) -> R
         room,
     });
     let mut reader = CountingReader::new(b"0 t1 open ann bob\n1 t1 buy ann\n".as_slice());
-    let whole = moderator.serve(&mut reader, &mut writer).is_ok();
+    let whole = serve(&mut moderator, &mut reader, &mut writer).is_ok();
     Ok(
         whole == to_the_end
             && writer.into_inner().bytes.as_slice() == written
@@ -155,7 +208,7 @@ fn is_torn(alloc: Global) -> Result<bool, Fail> {
         rest: b"0 t1 open ann bob\ntables\n1 t1 buy",
     });
     let mut writer = CountingWriter::new(Vec::new(alloc));
-    let result = moderator.serve(&mut reader, &mut writer);
+    let result = serve(&mut moderator, &mut reader, &mut writer);
     Ok(
         result == Err(Fault::StreamFailed)
             && writer.into_inner().as_slice() == b"ok t1 1\n= t1\n".as_slice(),
@@ -194,7 +247,7 @@ fn served_until_failure(alloc: Global, new: &[u8], calls: u64) -> Result<Reached
     if result != Err(Fault::DeviceFailed)
         || written.as_slice() != b"no 60 device failed\n".as_slice()
         || !is_answered(&mut moderator, b"tables", b"no 65 open again\n")
-        || !has_one_table_at_most(alloc, moderator.into_disk().into_inner())?
+        || !has_one_table_at_most(alloc, disk_of(moderator).into_inner())?
     {
         return Ok(Reached::Elsewhere);
     }
@@ -210,14 +263,14 @@ fn has_one_table_at_most(alloc: Global, disk: MemoryDisk) -> Result<bool, Fail> 
     )
 }
 
-/// The first number of device calls after which a service comes elsewhere than is said: 14 of an opening, and the write and
+/// The first number of device calls after which a service comes elsewhere than is said: those of an opening, and the write and
 /// the sync of a record and those of its gate.
 fn first_other_end(alloc: Global) -> Result<Option<u64>, Fail> {
     let new = formatted(alloc)?;
     for calls in 0..24 {
-        let expected = if calls < 14 {
+        let expected = if calls < OPENING {
             Reached::Opening
-        } else if calls < 18 {
+        } else if calls < OPENING + 4 {
             Reached::FirstLine
         } else {
             Reached::End

@@ -102,9 +102,9 @@ fn place(rt: &impl Abort, game: &Game, player: Name) -> Place {
 fn a_game_begins_with_the_auction(rt: HostRuntime) {
     let kit = kit(&rt, rt.alloc(), CHART, ROSTER.as_bytes(), BOARD);
     let game = played(&rt, rt.alloc(), &kit, &[]);
-    assert_eq!(rt; game.due(&kit), Due::Turn(A));
-    assert_eq!(rt; game.asked(&kit), Some((Private::Sv, Money(20))));
-    assert_eq!(rt; game.limit(), 28);
+    assert!(rt; game.due(&kit) == Due::Turn(A));
+    assert!(rt; game.asked(&kit) == Some((Private::Sv, Money(20))));
+    assert!(rt; game.limit() == 28);
 }
 
 #[test]
@@ -123,21 +123,21 @@ fn an_auction_and_the_stock_round_behind_it(rt: HostRuntime) {
         b"done a",
     ];
     let game = played(&rt, alloc, &kit, &lines[..7]);
-    assert_eq!(rt; game.due(&kit), Due::Stock(A));
+    assert!(rt; game.due(&kit) == Due::Stock(A));
     let game = played(&rt, alloc, &kit, &lines);
-    assert_eq!(rt; game.due(&kit), Due::Stock(B));
-    assert_eq!(rt; game.played(), 10);
-    assert_eq!(rt; game.asked(&kit), None);
+    assert!(rt; game.due(&kit) == Due::Stock(B));
+    assert!(rt; game.played() == 10);
+    assert!(rt; game.asked(&kit).is_none());
     let a = player(&rt, b"a");
-    assert_eq!(rt; game.player(A), b"a".as_slice());
-    assert_eq!(rt; cash(&rt, &game, a), Money(750));
-    assert_eq!(rt; holds(&rt, &game, &a, Corp::Prr), 30);
-    assert_eq!(rt; place(&rt, &game, a), Place::Seat(A));
+    assert!(rt; game.player(A) == b"a".as_slice());
+    assert!(rt; cash(&rt, &game, a) == Money(750));
+    assert!(rt; holds(&rt, &game, &a, Corp::Prr) == 30);
+    assert!(rt; place(&rt, &game, a) == Place::Seat(A));
     assert!(rt; game.owns(Place::Seat(A), Private::Sv));
     let cell = Cell { row: 0, column: 6 };
-    assert_eq!(rt; game.price(Corp::Prr, &kit), Some((100, cell)));
+    assert!(rt; game.price(Corp::Prr, &kit) == Some((100, cell)));
     let order = [Corp::Bo, Corp::Prr];
-    assert_eq!(rt; game.order(&kit).as_slice(), order.as_slice());
+    assert!(rt; game.order(&kit).as_slice() == order.as_slice());
 }
 
 #[test]
@@ -146,15 +146,11 @@ fn the_auction_takes_no_order(rt: HostRuntime) {
     let kit = kit(&rt, alloc, CHART, ROSTER.as_bytes(), BOARD);
     let game = played(&rt, alloc, &kit, &[]);
     let run = command(&rt, b"run PRR 2=1-2 best s1 b f");
-    assert_eq!(rt;
-        refusal(&rt, &game, alloc, &run, &kit),
-        Some(Fault::Rules(rr_rules::Fault::WrongStep))
+    assert!(rt;
+        refusal(&rt, &game, alloc, &run, &kit) == Some(Fault::Rules(rr_rules::Fault::WrongStep))
     );
     let sale = command(&rt, b"train PRR 2 NYC 40 nobody b");
-    assert_eq!(rt;
-        refusal(&rt, &game, alloc, &sale, &kit),
-        Some(Fault::NoSuchName)
-    );
+    assert!(rt; refusal(&rt, &game, alloc, &sale, &kit) == Some(Fault::NoSuchName));
 }
 
 // Two players buy the privates; a floats the PRR, which is due as the first operating round begins.
@@ -185,18 +181,19 @@ fn a_corporation_is_due_in_an_operating_round(rt: HostRuntime) {
         b"done a",
     ];
     let game = played(&rt, alloc, &kit, &lines);
-    assert_eq!(rt; game.due(&kit), Due::Operating(Corp::Prr, TurnStep::Lay));
-    assert_eq!(rt; game.cash(&Account::Corp(Corp::Prr)), Ok(Money(1000)));
-    assert_eq!(rt; game.phase(), Kind::Two);
-    assert_eq!(rt; game.iou(), 0);
-    assert_eq!(rt; game.trains(TrainHolder::Corp(Corp::Prr), Kind::Two), 0);
-    assert_eq!(rt; game.trains(TrainHolder::Pool, Kind::Two), 0);
-    assert_eq!(rt; game.revenue(), Money(0));
+    assert!(rt; game.due(&kit) == Due::Operating(Corp::Prr, TurnStep::Lay));
+    assert!(rt; game.cash(&Account::Corp(Corp::Prr)) == Ok(Money(1000)));
+    assert!(rt; game.phase() == Kind::Two);
+    assert!(rt; game.iou() == 0);
+    assert!(rt; game.trains(TrainHolder::Corp(Corp::Prr), Kind::Two) == 0);
+    assert!(rt; game.trains(TrainHolder::Pool, Kind::Two) == 0);
+    assert!(rt; game.revenue() == Money(0));
 }
 
 #[test]
 fn laws_are_called(_rt: HostRuntime) {
     rr_laws::sound();
+    rr_laws::best_runs_were_best();
     rr_laws::kits_name_corporations();
     rr_laws::plays_go_on();
     rr_game::laws::commands_have_one_verdict();

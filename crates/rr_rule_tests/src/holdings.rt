@@ -193,10 +193,10 @@ fn certificates_in_a_coloured_zone_are_not_counted(rt: HostRuntime) {
         ],
         &[(PRR, At::White)],
     );
-    assert_eq!(rt; table.counted(A), 13);
+    assert!(rt; table.counted(A) == 13);
     table.put(&rt, NYC, At::Yellow);
-    assert_eq!(rt; table.counted(A), 8);
-    assert_eq!(rt; table.counted(B), 1);
+    assert!(rt; table.counted(A) == 8);
+    assert!(rt; table.counted(B) == 1);
 }
 
 #[test]
@@ -210,11 +210,11 @@ fn six_players_hold_eleven_certificates(rt: HostRuntime) {
             &[(PRR, true, 0, 8, AT_A)],
             &[(NYC, At::Yellow)],
         );
-        assert_eq!(rt; table.is_over_certificates(A), false);
-        assert_eq!(rt; table.takes_too_many(A, Corp::Bm), is_over);
-        assert_eq!(rt; table.takes_too_many(A, NYC), false);
+        assert!(rt; !table.is_over_certificates(A));
+        assert!(rt; table.takes_too_many(A, Corp::Bm) == is_over);
+        assert!(rt; !table.takes_too_many(A, NYC));
         table.give(&rt, Cert::Private(Private::Dh), AT_A);
-        assert_eq!(rt; table.is_over_certificates(A), is_over);
+        assert!(rt; table.is_over_certificates(A) == is_over);
     }
 }
 
@@ -229,12 +229,12 @@ fn more_than_sixty_percent_is_held_in_orange_and_brown(rt: HostRuntime) {
     ] {
         let lots = [(PRR, true, 0, 4, AT_A)];
         let mut table = Table::dealt(&rt, rt.alloc(), 3, &[], &lots, &[(PRR, at)]);
-        assert_eq!(rt; table.is_over_sixty(A, PRR), false);
-        assert_eq!(rt; table.takes_too_much(A, PRR, 0), false);
-        assert_eq!(rt; table.takes_too_much(A, PRR, 10), is_over);
+        assert!(rt; !table.is_over_sixty(A, PRR));
+        assert!(rt; !table.takes_too_much(A, PRR, 0));
+        assert!(rt; table.takes_too_much(A, PRR, 10) == is_over);
         table.give_lot(&rt, (PRR, false, 4, 1, AT_A));
-        assert_eq!(rt; table.is_over_sixty(A, PRR), is_over);
-        assert_eq!(rt; table.is_over(A), is_over);
+        assert!(rt; table.is_over_sixty(A, PRR) == is_over);
+        assert!(rt; table.is_over(A) == is_over);
     }
 }
 
@@ -242,7 +242,7 @@ fn more_than_sixty_percent_is_held_in_orange_and_brown(rt: HostRuntime) {
 fn the_pool_holds_half(rt: HostRuntime) {
     let lots = [(PRR, false, 0, 3, Place::Pool), (PRR, false, 3, 3, AT_A)];
     let mut table = Table::dealt(&rt, rt.alloc(), 3, &[], &lots, &[]);
-    assert_eq!(rt; table.sale(A, PRR, 1), Err(Fault::NotForSale));
+    assert!(rt; table.sale(A, PRR, 1) == Err(Fault::NotForSale));
     table.put(&rt, PRR, At::White);
     for (count, verdict) in [
         (3, Err(Fault::PoolOverHalf)),
@@ -251,7 +251,7 @@ fn the_pool_holds_half(rt: HostRuntime) {
         (4, Err(Fault::NotForSale)),
         (1844674407370955162, Err(Fault::NotForSale)),
     ] {
-        assert_eq!(rt; table.sale(A, PRR, count), verdict);
+        assert!(rt; table.sale(A, PRR, count) == verdict);
     }
 }
 
@@ -259,10 +259,10 @@ fn the_pool_holds_half(rt: HostRuntime) {
 fn a_president_leaves_a_successor(rt: HostRuntime) {
     let lots = [(PRR, true, 0, 1, AT_A), (PRR, false, 1, 1, AT_B)];
     let mut table = Table::dealt(&rt, rt.alloc(), 3, &[], &lots, &[(PRR, At::White)]);
-    assert_eq!(rt; table.sale(A, PRR, 1), Ok(()));
-    assert_eq!(rt; table.sale(A, PRR, 2), Err(Fault::NotForSale));
+    assert!(rt; table.sale(A, PRR, 1) == Ok(()));
+    assert!(rt; table.sale(A, PRR, 2) == Err(Fault::NotForSale));
     table.give_lot(&rt, (PRR, false, 2, 1, AT_B));
-    assert_eq!(rt; table.sale(A, PRR, 2), Ok(()));
+    assert!(rt; table.sale(A, PRR, 2) == Ok(()));
 }
 
 #[test]
@@ -270,18 +270,18 @@ fn nothing_is_sold_in_the_first_stock_round(rt: HostRuntime) {
     let lots = [(NYC, true, 0, 5, AT_A)];
     let mut table = Table::dealt(&rt, rt.alloc(), 3, &[], &lots, &[(NYC, At::White)]);
     table.begin_round(&rt);
-    assert_eq!(rt; table.sell(A, PRR), Err(Fault::FirstStockRound));
-    assert_eq!(rt; table.can_sell(A), false);
-    assert_eq!(rt; table.must_sell(A), false);
+    assert!(rt; table.sell(A, PRR) == Err(Fault::FirstStockRound));
+    assert!(rt; !table.can_sell(A));
+    assert!(rt; !table.must_sell(A));
     table.begin_round(&rt);
-    assert_eq!(rt; table.sell(A, PRR), Err(Fault::NotForSale));
+    assert!(rt; table.sell(A, PRR) == Err(Fault::NotForSale));
     for (seat, may_and_must) in [(A, true), (B, false)] {
-        assert_eq!(rt; table.can_sell(seat), may_and_must);
-        assert_eq!(rt; table.must_sell(seat), may_and_must);
+        assert!(rt; table.can_sell(seat) == may_and_must);
+        assert!(rt; table.must_sell(seat) == may_and_must);
     }
     table.give_lot(&rt, (NYC, false, 0, 1, Place::Pool));
-    assert_eq!(rt; table.can_sell(A), true);
-    assert_eq!(rt; table.must_sell(A), false);
+    assert!(rt; table.can_sell(A));
+    assert!(rt; !table.must_sell(A));
 }
 
 #[test]
@@ -292,7 +292,7 @@ fn faults_have_words_and_numbers(rt: HostRuntime) {
         (Fault::PoolOverHalf, "pool over 50 percent", 28),
     ] {
         assert!(rt; is_worded(&rt, rt.alloc(), fault, words));
-        assert_eq!(rt; fault.number(), number);
+        assert!(rt; fault.number() == number);
     }
 }
 

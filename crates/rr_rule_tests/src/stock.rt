@@ -34,22 +34,19 @@ fn cash(desk: &Desk, party: Party) -> i64 {
 fn a_par_of_100_costs_200(rt: HostRuntime) {
     let chart = chart(&rt, rt.alloc(), CHART);
     let mut desk = first_round(&rt, rt.alloc());
-    assert_eq!(rt; due(desk.position()), Some(B));
+    assert!(rt; due(desk.position()) == Some(B));
     let par = Act::Par {
         seat: B,
         corp: Corp::Prr,
         price: 100,
     };
-    assert_eq!(rt; judge(&chart, desk.position(), &par).err(), None);
+    assert!(rt; judge(&chart, desk.position(), &par).err().is_none());
     play(&chart, &mut desk, &par).expect(&rt, "memory");
-    assert_eq!(rt; cash(&desk, Party::Seat(B)), 1000);
+    assert!(rt; cash(&desk, Party::Seat(B)) == 1000);
     let price = desk.position().market().price(&chart, Corp::Prr);
-    assert_eq!(rt; price, Some(100));
+    assert!(rt; price == Some(100));
     let done = Act::Done { seat: A };
-    assert_eq!(rt;
-        judge(&chart, desk.position(), &done).err(),
-        Some(Fault::NotYourTurn)
-    );
+    assert!(rt; judge(&chart, desk.position(), &done).err() == Some(Fault::NotYourTurn));
 }
 
 #[test]
@@ -59,13 +56,13 @@ fn a_round_ends_as_both_pass(rt: HostRuntime) {
     let mut desk = first_round(&rt, rt.alloc());
     play(&chart, &mut desk, &Act::Done { seat: B }).expect(&rt, "memory");
     go_on(&mut desk, &roster).expect(&rt, "memory");
-    assert_eq!(rt; due(desk.position()), Some(A));
+    assert!(rt; due(desk.position()) == Some(A));
     play(&chart, &mut desk, &Act::Done { seat: A }).expect(&rt, "memory");
-    assert_eq!(rt; due(desk.position()), None);
+    assert!(rt; due(desk.position()).is_none());
     go_on(&mut desk, &roster).expect(&rt, "memory");
-    assert_eq!(rt; due(desk.position()), Some(B));
-    assert_eq!(rt; cash(&desk, Party::Seat(A)), 1205);
-    assert_eq!(rt; desk.position().rounds().is_first(), false);
+    assert!(rt; due(desk.position()) == Some(B));
+    assert!(rt; cash(&desk, Party::Seat(A)) == 1205);
+    assert!(rt; !desk.position().rounds().is_first());
 }
 
 #[test]
@@ -78,7 +75,7 @@ fn refusals_have_their_numbers(rt: HostRuntime) {
         (Fault::MustSellFirst, 30),
         (Fault::WrongStep, 42),
     ] {
-        assert_eq!(rt; fault.number(), number);
+        assert!(rt; fault.number() == number);
     }
 }
 

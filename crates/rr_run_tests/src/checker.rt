@@ -24,11 +24,11 @@ fn is_accepted(
 #[test]
 fn keeps_what_it_is_given(rt: HostRuntime) {
     let net = small_net(&rt, rt.alloc(), CentreLimit::Unlimited);
-    assert_eq!(rt; net.links().len(), 7);
-    assert_eq!(rt; net.tokens(), [0].as_slice());
-    assert_eq!(rt; net.terminals(), [3].as_slice());
-    assert_eq!(rt; net.values(), [20, 10, 30, 40, 50].as_slice());
-    assert_eq!(rt; net.trains().len(), 1);
+    assert!(rt; net.links().len() == 7);
+    assert!(rt; net.tokens() == [0].as_slice());
+    assert!(rt; net.terminals() == [3].as_slice());
+    assert!(rt; net.values() == [20, 10, 30, 40, 50].as_slice());
+    assert!(rt; net.trains().len() == 1);
 }
 
 #[test]
@@ -48,7 +48,7 @@ fn judges_one_train(rt: HostRuntime) {
     ] {
         let net = small_net(&rt, rt.alloc(), limit);
         let accepted = is_accepted(&rt, rt.alloc(), &net, claim, 1, certificate.as_bytes());
-        assert_eq!(rt; accepted, wanted, "{claim} by {certificate}");
+        assert!(rt; accepted == wanted);
     }
 }
 
@@ -81,7 +81,7 @@ fn judges_full_leaves(rt: HostRuntime) {
         (30, "f", false),
     ] {
         let accepted = is_accepted(&rt, rt.alloc(), &net, claim, 1, certificate.as_bytes());
-        assert_eq!(rt; accepted, wanted, "{claim} by {certificate}");
+        assert!(rt; accepted == wanted);
     }
 }
 
@@ -101,7 +101,7 @@ fn tells_the_parts_of_a_route(rt: HostRuntime) {
     assert!(rt; has_token_on(&net, &nodes));
     assert!(rt; has_node(&nodes, &Node::Hexside(1)));
     let counted = centres_of(rt.alloc(), &nodes).expect(&rt, "memory");
-    assert_eq!(rt; counted.as_slice(), [0, 1].as_slice());
+    assert!(rt; counted.as_slice() == [0, 1].as_slice());
     assert!(rt; !counts_over(&CentreLimit::AtMost(2), &counted));
 }
 
@@ -110,5 +110,5 @@ fn tells_of_links_and_centres(rt: HostRuntime) {
     let net = small_net(&rt, rt.alloc(), CentreLimit::AtMost(2));
     assert!(rt; far_end(&net, 1, &Node::Hexside(0)) == Node::Hexside(1));
     assert!(rt; centre_at(&net, 2) == Some(1));
-    assert_eq!(rt; value(&net, 3), 40);
+    assert!(rt; value(&net, 3) == 40);
 }

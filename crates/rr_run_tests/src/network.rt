@@ -56,16 +56,16 @@ fn hexside(q: i8, edge: u8) -> Node {
 fn keeps_what_was_put(rt: HostRuntime) {
     let layout = layout(&rt, rt.alloc());
     let lays = layout.lays();
-    assert_eq!(rt; lays.len(), 1);
-    assert_eq!(rt; lays[0].hex.as_bytes(), b"B".as_slice());
-    assert_eq!(rt; lays[0].tile, 23);
-    assert_eq!(rt; lays[0].turn, 2);
+    assert!(rt; lays.len() == 1);
+    assert!(rt; lays[0].hex.as_bytes() == b"B".as_slice());
+    assert!(rt; lays[0].tile == 23);
+    assert!(rt; lays[0].turn == 2);
     assert!(rt; last_lay(lays, &name(&rt, b"B")).is_some());
     assert!(rt; last_lay(lays, &name(&rt, b"A")).is_none());
     let stations = layout.stations();
-    assert_eq!(rt; stations.len(), 1);
-    assert_eq!(rt; stations[0].corp, Corp::Prr);
-    assert_eq!(rt; stations[0].centre, 1);
+    assert!(rt; stations.len() == 1);
+    assert!(rt; stations[0].corp == Corp::Prr);
+    assert!(rt; stations[0].centre == 1);
     assert!(rt; same_node(&node_of(&stations[0]), &centre(&rt, b"A")));
 }
 
@@ -84,11 +84,11 @@ fn shares_hexsides(rt: HostRuntime) {
             q: i16::from(q),
             r: i16::from(r),
         };
-        assert_eq!(rt; across(&place, edge), axial);
+        assert!(rt; across(&place, edge) == axial);
         let other = Place { q, r };
         let side = hexside_at(&place, edge);
-        assert_eq!(rt; side, hexside_at(&other, facing));
-        assert_ne!(rt; side, hexside_at(&other, edge));
+        assert!(rt; side == hexside_at(&other, facing));
+        assert!(rt; side != hexside_at(&other, edge));
     }
     laws::hexsides();
     laws::hexes_keep_their_centres();
@@ -96,18 +96,18 @@ fn shares_hexsides(rt: HostRuntime) {
 
 fn shows_link(rt: &impl Abort, network: &Network, place: usize, hex: &[u8], side: Node) {
     let link = link(rt, network, place);
-    assert!(rt; link.hex == name(rt, hex), "{place}");
-    assert!(rt; Node::Hexside(link.side) == side, "{place}");
+    assert!(rt; link.hex == name(rt, hex));
+    assert!(rt; Node::Hexside(link.side) == side);
 }
 
 fn shows_end(rt: &impl Abort, network: &Network, place: usize, end: Node) {
-    assert!(rt; link(rt, network, place).end == end, "{place}");
+    assert!(rt; link(rt, network, place).end == end);
 }
 
 #[test]
 fn numbers_the_links(rt: HostRuntime) {
     let network = network(&rt, rt.alloc(), &layout(&rt, rt.alloc()));
-    assert_eq!(rt; network.links().len(), 8);
+    assert!(rt; network.links().len() == 8);
     shows_link(&rt, &network, 0, b"A", hexside(0, 5));
     shows_link(&rt, &network, 1, b"B", hexside(1, 2));
     shows_link(&rt, &network, 2, b"B", hexside(0, 5));
@@ -121,28 +121,25 @@ fn numbers_the_links(rt: HostRuntime) {
 #[test]
 fn numbers_the_centres(rt: HostRuntime) {
     let network = network(&rt, rt.alloc(), &layout(&rt, rt.alloc()));
-    assert_eq!(rt; network.stops().len(), 4);
+    assert!(rt; network.stops().len() == 4);
     let town = stop(&rt, &network, 1);
-    assert_eq!(rt; Node::Centre(town.at), centre(&rt, b"C"));
-    assert_eq!(rt; town.kind, Kind::Town);
-    assert_eq!(rt; town.value, 10);
-    assert_eq!(rt; stop(&rt, &network, 2).kind, Kind::City { slots: 1 });
-    assert_eq!(rt;
-        stop(&rt, &network, 3).kind,
-        Kind::OffBoard { later_value: 40 }
-    );
-    assert_eq!(rt; network.stations().len(), 1);
+    assert!(rt; Node::Centre(town.at) == centre(&rt, b"C"));
+    assert!(rt; town.kind == Kind::Town);
+    assert!(rt; town.value == 10);
+    assert!(rt; stop(&rt, &network, 2).kind == Kind::City { slots: 1 });
+    assert!(rt; stop(&rt, &network, 3).kind == Kind::OffBoard { later_value: 40 });
+    assert!(rt; network.stations().len() == 1);
 }
 
 #[test]
 fn lays_the_last_tile(rt: HostRuntime) {
     let printed = network(&rt, rt.alloc(), &Layout::new());
-    assert_eq!(rt; printed.links().len(), 7);
+    assert!(rt; printed.links().len() == 7);
     let mut layout = layout(&rt, rt.alloc());
     lay(&rt, &mut layout, 0);
     let network = network(&rt, rt.alloc(), &layout);
-    assert_eq!(rt; network.links().len(), 8);
-    assert_eq!(rt; Node::Hexside(link(&rt, &network, 1).side), hexside(1, 0));
+    assert!(rt; network.links().len() == 8);
+    assert!(rt; Node::Hexside(link(&rt, &network, 1).side) == hexside(1, 0));
 }
 
 // the numbers of the links that are reached
@@ -161,7 +158,7 @@ fn reaches_all_alone(rt: HostRuntime) {
     let network = network(&rt, rt.alloc(), &layout(&rt, rt.alloc()));
     let prr = reach(&rt, rt.alloc(), &network, Corp::Prr);
     let links = links_in(&rt, rt.alloc(), &prr);
-    assert_eq!(rt; links.as_slice(), [1, 2, 3, 4, 5, 6, 7, 8].as_slice());
+    assert!(rt; links.as_slice() == [1, 2, 3, 4, 5, 6, 7, 8].as_slice());
     let nyc = reach(&rt, rt.alloc(), &network, Corp::Nyc);
     assert!(rt; links_in(&rt, rt.alloc(), &nyc).is_empty());
 }
@@ -177,7 +174,7 @@ fn stops_at_a_filled_city(rt: HostRuntime) {
     let network = network_with_a_filled_city(&rt, rt.alloc());
     let prr = reach(&rt, rt.alloc(), &network, Corp::Prr);
     let links = links_in(&rt, rt.alloc(), &prr);
-    assert_eq!(rt; links.as_slice(), [1, 2, 3, 4, 5, 6].as_slice());
+    assert!(rt; links.as_slice() == [1, 2, 3, 4, 5, 6].as_slice());
     assert!(rt; prr.has_node(&centre(&rt, b"D")));
     assert!(rt; !prr.has_node(&hexside(4, 2)));
 }
@@ -187,7 +184,7 @@ fn goes_on_from_its_own_city(rt: HostRuntime) {
     let network = network_with_a_filled_city(&rt, rt.alloc());
     let nyc = reach(&rt, rt.alloc(), &network, Corp::Nyc);
     let links = links_in(&rt, rt.alloc(), &nyc);
-    assert_eq!(rt; links.as_slice(), [1, 2, 4, 5, 6, 7, 8].as_slice());
+    assert!(rt; links.as_slice() == [1, 2, 4, 5, 6, 7, 8].as_slice());
     assert!(rt; nyc.has_node(&centre(&rt, b"D")));
     assert!(rt; nyc.has_node(&hexside(4, 2)));
 }

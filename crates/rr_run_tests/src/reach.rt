@@ -28,7 +28,7 @@ fn followers(rt: &impl Abort, alloc: Global, states: &str) -> Followers {
 fn keeps_followers(rt: HostRuntime) {
     assert!(rt; Followers::new(rt.alloc()).as_slice().is_empty());
     let followers = followers(&rt, rt.alloc(), "72");
-    assert_eq!(rt; followers.as_slice(), [7, 2].as_slice());
+    assert!(rt; followers.as_slice() == [7, 2].as_slice());
 }
 
 #[test]
@@ -48,7 +48,7 @@ fn goes_round_and_ends(rt: HostRuntime) {
         ([9, 3, 5].as_slice(), [true; 7]),
     ] {
         let marks = reached(rt.alloc(), &graph, starts).expect(&rt, "memory");
-        assert_eq!(rt; marks.as_slice(), wanted.as_slice(), "{starts:?}");
+        assert!(rt; marks.as_slice() == wanted.as_slice());
     }
 }
 
@@ -57,5 +57,5 @@ fn takes_the_marked_items(rt: HostRuntime) {
     let marked = marked_items(rt.alloc(), &[7, 8, 9, 8], &[true, false, true]).expect(
         &rt, "memory",
     );
-    assert_eq!(rt; marked.as_slice(), [7, 9].as_slice());
+    assert!(rt; marked.as_slice() == [7, 9].as_slice());
 }

@@ -21,7 +21,7 @@ fn nodes_are_counted(rt: HostRuntime) -> Result<(), AllocError> {
     let outer = vec![in alloc; CertTree::Full, CertTree::Split(0, middle)]?;
     let tree = CertTree::Split(4, outer);
     for (budget, left) in [(1024, Some(1017)), (7, Some(0)), (6, None)] {
-        assert!(rt; tree.nodes_left(budget) == left, "{budget}");
+        assert!(rt; tree.nodes_left(budget) == left);
     }
     assert!(rt; CertTree::Full.nodes_left(0).is_none());
     Ok(())

@@ -36,7 +36,7 @@ fn judges_one_train(rt: HostRuntime) {
     ] {
         let net = small_net(&rt, rt.alloc(), limit);
         let verdict = judged(&rt, rt.alloc(), &net, sheet);
-        assert!(rt; verdict == wanted, "{sheet}");
+        assert!(rt; verdict == wanted);
     }
 }
 
@@ -50,7 +50,7 @@ fn judges_a_filled_city(rt: HostRuntime) {
     ] {
         let net = row(&rt, rt.alloc(), &[2, 3], &[limit]);
         let verdict = judged(&rt, rt.alloc(), &net, sheet);
-        assert!(rt; verdict == wanted, "{sheet}");
+        assert!(rt; verdict == wanted);
     }
 }
 
@@ -65,7 +65,7 @@ fn judges_two_trains(rt: HostRuntime) {
         ("2=1-2-3", broken(Clause::WrongWord)),
     ] {
         let verdict = judged(&rt, rt.alloc(), &net, sheet);
-        assert!(rt; verdict == wanted, "{sheet}");
+        assert!(rt; verdict == wanted);
     }
 }
 
@@ -81,7 +81,7 @@ fn refuses_what_is_no_path(rt: HostRuntime) {
         let links = links(&rt, rt.alloc(), text);
         let net = net_of(&rt, rt.alloc(), links, 0, &[3], &[CentreLimit::AtMost(3)]);
         let verdict = judged(&rt, rt.alloc(), &net, sheet);
-        assert!(rt; verdict == broken(clause), "{sheet}");
+        assert!(rt; verdict == broken(clause));
     }
 }
 
@@ -92,7 +92,7 @@ fn checks_a_certificate(rt: HostRuntime) {
     let tree = tree.expect(&rt, "a certificate");
     for (claim, wanted) in [(30, true), (20, false)] {
         let accepted = check(rt.alloc(), &net, claim, &tree).expect(&rt, "memory");
-        assert_eq!(rt; accepted, wanted, "{claim}");
+        assert!(rt; accepted == wanted);
     }
 }
 

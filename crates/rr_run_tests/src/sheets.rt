@@ -15,7 +15,7 @@ fn sheet_again(alloc: Global, text: &str) -> Result<Vec<u8>, Fault> {
 fn reads_and_writes_sheets(rt: HostRuntime) {
     for text in ["2=1-2-3 2=-", "D=7-0-1234567890", "3=- 4=- 5=1 6=2 D=-", ""] {
         let again = sheet_again(rt.alloc(), text).expect(&rt, "a sheet");
-        assert_eq!(rt; again.as_slice(), text.as_bytes());
+        assert!(rt; again.as_slice() == text.as_bytes());
     }
 }
 
@@ -23,10 +23,10 @@ fn reads_and_writes_sheets(rt: HostRuntime) {
 fn tells_the_words_of_a_sheet(rt: HostRuntime) {
     let sheet = Sheet::read(rt.alloc(), b"2=1-20-3 D=-").expect(&rt, "a sheet");
     let words = sheet.as_slice();
-    assert_eq!(rt; words.len(), 2);
-    assert_eq!(rt; words[0].kind, Kind::Two);
-    assert_eq!(rt; words[0].links.as_slice(), [1, 20, 3].as_slice());
-    assert_eq!(rt; words[1].kind, Kind::Diesel);
+    assert!(rt; words.len() == 2);
+    assert!(rt; words[0].kind == Kind::Two);
+    assert!(rt; words[0].links.as_slice() == [1, 20, 3].as_slice());
+    assert!(rt; words[1].kind == Kind::Diesel);
     assert!(rt; words[1].links.as_slice().is_empty());
 }
 
@@ -48,7 +48,7 @@ fn refuses_other_sheets(rt: HostRuntime) {
         "2=-  2=-",
     ] {
         let fault = sheet_again(rt.alloc(), text).err();
-        assert!(rt; fault == Some(Fault::Malformed), "{text}");
+        assert!(rt; fault == Some(Fault::Malformed));
     }
 }
 
@@ -61,7 +61,7 @@ fn writes_a_sheet_that_was_made(rt: HostRuntime) {
     let mut sheet = Sheet::new(rt.alloc());
     sheet.push(TrainWord { kind, links }).expect(&rt, "memory");
     let text = sheet.to_text(rt.alloc()).expect(&rt, "memory");
-    assert_eq!(rt; text.as_slice(), b"6=4-5".as_slice());
+    assert!(rt; text.as_slice() == b"6=4-5".as_slice());
 }
 
 // what is written of the certificate that is read
@@ -79,10 +79,7 @@ fn reads_and_writes_certificates(rt: HostRuntime) {
         (4, "b"),
     ] {
         let again = certificate_again(rt.alloc(), trains, text.as_bytes());
-        assert_eq!(rt;
-            again.expect(&rt, "a certificate").as_slice(),
-            text.as_bytes()
-        );
+        assert!(rt; again.expect(&rt, "a certificate").as_slice() == text.as_bytes());
     }
 }
 
@@ -117,7 +114,7 @@ fn refuses_other_certificates(rt: HostRuntime) {
         ("s5  b b", Fault::Malformed),
     ] {
         let fault = certificate_again(rt.alloc(), 1, text.as_bytes()).err();
-        assert!(rt; fault == Some(refused), "{text}");
+        assert!(rt; fault == Some(refused));
     }
 }
 
@@ -144,14 +141,14 @@ fn certificates_have_at_most_1024_nodes(rt: HostRuntime) {
 #[test]
 fn writes_any_place(rt: HostRuntime) {
     let text = write_certificate(rt.alloc(), &CertTree::Bad(usize::MAX)).expect(&rt, "memory");
-    assert_eq!(rt; text.as_slice(), b"x18446744073709551616".as_slice());
+    assert!(rt; text.as_slice() == b"x18446744073709551616".as_slice());
 }
 
 #[test]
 fn faults_have_numbers(rt: HostRuntime) {
-    assert_eq!(rt; Fault::Malformed.number(), 55);
-    assert_eq!(rt; Fault::CertificateRefused.number(), 40);
-    assert_eq!(rt; Fault::OutOfMemory.number(), 70);
+    assert!(rt; Fault::Malformed.number() == 55);
+    assert!(rt; Fault::CertificateRefused.number() == 40);
+    assert!(rt; Fault::OutOfMemory.number() == 70);
     laws::one_meaning();
     laws::accepted_is_spelled();
 }

@@ -1,5 +1,5 @@
 //! Orders among the lines and the records.
-use super::{check_line, check_no_line, check_request_written, table};
+use super::{first_line, is_line, is_request_written, table};
 use rr_code::{Command, Line, Order, Request, read_record};
 use rr_roster::Corp;
 use rr_words::HexName;
@@ -21,14 +21,14 @@ fn reads_an_order_with_its_stamp(rt: HostRuntime) {
         table,
         request: Request::Play(Command::Order(order)),
     };
-    check_line(&rt, "7 t1 lay PRR E5 57 3", line);
+    assert!(rt; is_line("7 t1 lay PRR E5 57 3", &line));
 }
 
 #[test]
 fn reads_the_record_of_a_best_run(rt: HostRuntime) -> Result<(), Fail> {
     let (name, request) = read_record(b"t1 run PRR 2=1-2 best s1 b f")?;
-    assert_eq!(rt; name, table(&rt));
-    check_request_written(&rt, rt.alloc(), &request, "run PRR 2=1-2 best s1 b f")?;
+    assert!(rt; name == table(&rt));
+    assert!(rt; is_request_written(&rt, rt.alloc(), &request, "run PRR 2=1-2 best s1 b f"));
     let Request::Play(
         Command::Order(
             Order::RunBest {
@@ -41,14 +41,14 @@ fn reads_the_record_of_a_best_run(rt: HostRuntime) -> Result<(), Fail> {
     else {
         return Err("it is read as another request")?;
     };
-    assert_eq!(rt; corp, Corp::Prr);
-    assert_eq!(rt; sheet.as_bytes(), b"2=1-2".as_slice());
-    assert_eq!(rt; certificate.as_bytes(), b"s1 b f".as_slice());
+    assert!(rt; corp == Corp::Prr);
+    assert!(rt; sheet.as_bytes() == b"2=1-2".as_slice());
+    assert!(rt; certificate.as_bytes() == b"s1 b f".as_slice());
     Ok(())
 }
 
 #[test]
-fn reads_records_of_orders(rt: HostRuntime) -> Result<(), Fail> {
+fn reads_records_of_orders(rt: HostRuntime) {
     for (record, text) in [
         ("t1 station PRR H12 1", "station PRR H12 1"),
         ("t1 run PRR", "run PRR"),
@@ -63,28 +63,26 @@ fn reads_records_of_orders(rt: HostRuntime) -> Result<(), Fail> {
         ("t1 raise ann PRR 2", "raise ann PRR 2"),
         ("t1 bankrupt ann", "bankrupt ann"),
     ] {
-        let (_table, request) = read_record(record.as_bytes())?;
-        check_request_written(&rt, rt.alloc(), &request, text)?;
+        let (_table, request) = read_record(record.as_bytes()).expect(&rt, "a record");
+        assert!(rt; is_request_written(&rt, rt.alloc(), &request, text));
     }
-    Ok(())
 }
 
 #[test]
 fn refuses_other_orders(rt: HostRuntime) {
-    for text in [
-        "7 t1 lay PRR E5 57 3 4",
-        "7 t1 lay PRR E5 57",
-        "7 lay PRR E5 57 3",
-        "lay PRR E5 57 3",
-        "7 t1 run PRR 2=1-2 best b best",
-        "7 t1 end PRR now",
-        "7 t1 order PRR",
-        "7 t1 force ann",
-        "7 t1 force PRR ",
-        "7 t1 raise ann PRR 1 ",
-        "7 t1 raise PRR ann 2",
-        "7 t1 bankrupt PRR",
-    ] {
-        check_no_line(&rt, text);
-    }
+    let read = first_line(
+        "7 t1 lay PRR E5 57 3 4
+7 t1 lay PRR E5 57
+7 lay PRR E5 57 3
+lay PRR E5 57 3
+7 t1 run PRR 2=1-2 best b best
+7 t1 end PRR now
+7 t1 order PRR
+7 t1 force ann
+7 t1 force PRR\x20
+7 t1 raise ann PRR 1\x20
+7 t1 raise PRR ann 2
+7 t1 bankrupt PRR",
+    );
+    assert!(rt; read.is_none());
 }

@@ -1,11 +1,10 @@
 //! Texts of commands, and how each is read and written.
-use super::{check_both, check_no_command, check_written, player};
+use super::{first_command, is_both, is_written, player};
 use rr_code::{Command, ShareSource};
 use rr_roster::{Corp, Private};
-use std::test::Fail;
 
 #[test]
-fn writes_what_it_reads(rt: HostRuntime) -> Result<(), Fail> {
+fn writes_what_it_reads(rt: HostRuntime) {
     for text in [
         "open ann bob",
         "open a b c d e f",
@@ -14,14 +13,13 @@ fn writes_what_it_reads(rt: HostRuntime) -> Result<(), Fail> {
         "pass ann",
         "par ann B&O 100",
     ] {
-        let command = Command::read(text.as_bytes())?;
-        check_written(&rt, rt.alloc(), &command, text)?;
+        let command = Command::read(text.as_bytes()).expect(&rt, "a command");
+        assert!(rt; is_written(&rt, rt.alloc(), &command, text));
     }
-    Ok(())
 }
 
 #[test]
-fn reads_bids(rt: HostRuntime) -> Result<(), Fail> {
+fn reads_bids(rt: HostRuntime) {
     let player = player(&rt, "ann");
     for (text, private, amount) in [
         ("bid ann SV 25", Private::Sv, 25),
@@ -38,13 +36,12 @@ fn reads_bids(rt: HostRuntime) -> Result<(), Fail> {
             private,
             amount,
         };
-        check_both(&rt, rt.alloc(), text, &bid)?;
+        assert!(rt; is_both(&rt, rt.alloc(), text, &bid));
     }
-    Ok(())
 }
 
 #[test]
-fn reads_pars(rt: HostRuntime) -> Result<(), Fail> {
+fn reads_pars(rt: HostRuntime) {
     let player = player(&rt, "bob");
     for (text, corp, price) in [
         ("par bob PRR 100", Corp::Prr, 100),
@@ -61,27 +58,25 @@ fn reads_pars(rt: HostRuntime) -> Result<(), Fail> {
             corp,
             price,
         };
-        check_both(&rt, rt.alloc(), text, &par)?;
+        assert!(rt; is_both(&rt, rt.alloc(), text, &par));
     }
-    Ok(())
 }
 
 #[test]
-fn reads_purchases_and_passes(rt: HostRuntime) -> Result<(), Fail> {
+fn reads_purchases_and_passes(rt: HostRuntime) {
     for (bought, passed, name) in [
         ("buy ann", "pass ann", "ann"),
         ("buy a1", "pass a1", "a1"),
         ("buy abcdefghijkl", "pass abcdefghijkl", "abcdefghijkl"),
     ] {
         let player = player(&rt, name);
-        check_both(&rt, rt.alloc(), bought, &Command::BuyPrivate { player })?;
-        check_both(&rt, rt.alloc(), passed, &Command::Pass { player })?;
+        assert!(rt; is_both(&rt, rt.alloc(), bought, &Command::BuyPrivate { player }));
+        assert!(rt; is_both(&rt, rt.alloc(), passed, &Command::Pass { player }));
     }
-    Ok(())
 }
 
 #[test]
-fn reads_share_purchases(rt: HostRuntime) -> Result<(), Fail> {
+fn reads_share_purchases(rt: HostRuntime) {
     let player = player(&rt, "ann");
     for (text, corp, source) in [
         ("buy ann PRR offer", Corp::Prr, ShareSource::Offer),
@@ -94,13 +89,12 @@ fn reads_share_purchases(rt: HostRuntime) -> Result<(), Fail> {
             corp,
             source,
         };
-        check_both(&rt, rt.alloc(), text, &buy)?;
+        assert!(rt; is_both(&rt, rt.alloc(), text, &buy));
     }
-    Ok(())
 }
 
 #[test]
-fn reads_sales(rt: HostRuntime) -> Result<(), Fail> {
+fn reads_sales(rt: HostRuntime) {
     let player = player(&rt, "bob");
     for (text, corp, count) in [
         ("sell bob ERIE 1", Corp::Erie, 1),
@@ -113,181 +107,174 @@ fn reads_sales(rt: HostRuntime) -> Result<(), Fail> {
             corp,
             count,
         };
-        check_both(&rt, rt.alloc(), text, &sell)?;
+        assert!(rt; is_both(&rt, rt.alloc(), text, &sell));
     }
-    Ok(())
 }
 
 #[test]
-fn reads_swaps_and_the_end_of_a_turn(rt: HostRuntime) -> Result<(), Fail> {
+fn reads_swaps_and_the_end_of_a_turn(rt: HostRuntime) {
     let player = player(&rt, "cat9");
     for (text, source) in [
         ("swap cat9 offer", ShareSource::Offer),
         ("swap cat9 pool", ShareSource::Pool),
     ] {
-        check_both(&rt, rt.alloc(), text, &Command::Swap { player, source })?;
+        assert!(rt; is_both(&rt, rt.alloc(), text, &Command::Swap { player, source }));
     }
-    check_both(&rt, rt.alloc(), "done cat9", &Command::Done { player })
+    assert!(rt; is_both(&rt, rt.alloc(), "done cat9", &Command::Done { player }));
 }
 
 #[test]
 fn refuses_other_openings(rt: HostRuntime) {
-    for text in [
-        "open",
-        "open ",
-        "open ann",
-        "open ann ann",
-        "open ann bob ann",
-        "open a b c d e f g",
-        "open ann bob ",
-        "open ann  bob",
-        " open ann bob",
-        "open ann pool",
-        "open bank ann",
-        "open ann offer",
-        "open ann Bob",
-        "open abcdefghijklm b",
-        "open ann 1bob",
-        "open ann,bob",
-        "Open ann bob",
-    ] {
-        check_no_command(&rt, text);
-    }
+    let read = first_command(
+        "open
+open\x20
+open ann
+open ann ann
+open ann bob ann
+open a b c d e f g
+open ann bob\x20
+open ann  bob
+ open ann bob
+open ann pool
+open bank ann
+open ann offer
+open ann Bob
+open abcdefghijklm b
+open ann 1bob
+open ann,bob
+Open ann bob",
+    );
+    assert!(rt; read.is_none());
 }
 
 #[test]
 fn refuses_other_purchases_and_passes(rt: HostRuntime) {
-    for text in [
-        "",
-        "buy",
-        "buy ",
-        "buy ann bob",
-        "buy ann ",
-        " buy ann",
-        "buy  ann",
-        "buy pool",
-        "buy offer",
-        "buy bank",
-        "buy Ann",
-        "buyann",
-        "BUY ann",
-        "buy an-n",
-        "buy abcdefghijklm",
-        "pass",
-        "pass ann bob",
-        "pass ann ",
-        "pass  ann",
-        "pass pool",
-        "pass ann 5",
-        "Pass ann",
-    ] {
-        check_no_command(&rt, text);
-    }
+    let read = first_command(
+        "
+buy
+buy\x20
+buy ann bob
+buy ann\x20
+ buy ann
+buy  ann
+buy pool
+buy offer
+buy bank
+buy Ann
+buyann
+BUY ann
+buy an-n
+buy abcdefghijklm
+pass
+pass ann bob
+pass ann\x20
+pass  ann
+pass pool
+pass ann 5
+Pass ann",
+    );
+    assert!(rt; read.is_none());
 }
 
 #[test]
 fn refuses_other_bids(rt: HostRuntime) {
-    for text in [
-        "bid ann B&O 10000000000",
-        "bid ann B&O 0225",
-        "bid ann B&O 00",
-        "bid ann B&O",
-        "bid ann B&O ",
-        "bid ann B&O 225 ",
-        "bid ann B&O 225 5",
-        "bid ann  B&O 225",
-        "bid ann B&O  225",
-        "bid ann ERIE 225",
-        "bid ann C&O 225",
-        "bid ann b&o 225",
-        "bid pool B&O 225",
-        "bid B&O 225",
-        "bid ann 225 B&O",
-        "bid ann B&O -5",
-        "bid ann B&O +5",
-        "bid ann B&O 2x5",
-        "bid ann B&O 22.5",
-        "bid",
-        "bid ann",
-        "Bid ann B&O 225",
-    ] {
-        check_no_command(&rt, text);
-    }
+    let read = first_command(
+        "bid ann B&O 10000000000
+bid ann B&O 0225
+bid ann B&O 00
+bid ann B&O
+bid ann B&O\x20
+bid ann B&O 225\x20
+bid ann B&O 225 5
+bid ann  B&O 225
+bid ann B&O  225
+bid ann ERIE 225
+bid ann C&O 225
+bid ann b&o 225
+bid pool B&O 225
+bid B&O 225
+bid ann 225 B&O
+bid ann B&O -5
+bid ann B&O +5
+bid ann B&O 2x5
+bid ann B&O 22.5
+bid
+bid ann
+Bid ann B&O 225",
+    );
+    assert!(rt; read.is_none());
 }
 
 #[test]
 fn refuses_other_pars(rt: HostRuntime) {
-    for text in [
-        "par",
-        "par ann",
-        "par ann B&O",
-        "par ann B&O ",
-        "par ann B&O 067",
-        "par ann B&O 12345678901",
-        "par ann C&A 67",
-        "par ann SV 67",
-        "par ann b&o 67",
-        "par ann B&O 67 67",
-        "par ann B&O 67 ",
-        "par B&O 67",
-        "par offer B&O 67",
-        "par ann 67 B&O",
-        "par ann B&O -67",
-        "parann B&O 67",
-        "Par ann B&O 67",
-    ] {
-        check_no_command(&rt, text);
-    }
+    let read = first_command(
+        "par
+par ann
+par ann B&O
+par ann B&O\x20
+par ann B&O 067
+par ann B&O 12345678901
+par ann C&A 67
+par ann SV 67
+par ann b&o 67
+par ann B&O 67 67
+par ann B&O 67\x20
+par B&O 67
+par offer B&O 67
+par ann 67 B&O
+par ann B&O -67
+parann B&O 67
+Par ann B&O 67",
+    );
+    assert!(rt; read.is_none());
 }
 
 #[test]
 fn refuses_other_share_purchases(rt: HostRuntime) {
-    for text in [
-        "buy ann PRR",
-        "buy ann PRR ",
-        "buy ann PRR bank",
-        "buy ann PRR bob",
-        "buy ann PRR Pool",
-        "buy ann PRR pool ",
-        "buy ann PRR pool 1",
-        "buy ann PRR  pool",
-        "buy ann C&A offer",
-        "buy ann prr offer",
-        "buy ann pool PRR",
-        "buy ann pool",
-        "buy pool PRR offer",
-        "buy PRR offer",
-    ] {
-        check_no_command(&rt, text);
-    }
+    let read = first_command(
+        "buy ann PRR
+buy ann PRR\x20
+buy ann PRR bank
+buy ann PRR bob
+buy ann PRR Pool
+buy ann PRR pool\x20
+buy ann PRR pool 1
+buy ann PRR  pool
+buy ann C&A offer
+buy ann prr offer
+buy ann pool PRR
+buy ann pool
+buy pool PRR offer
+buy PRR offer",
+    );
+    assert!(rt; read.is_none());
 }
 
 #[test]
 fn refuses_other_sales_and_swaps(rt: HostRuntime) {
-    for text in [
-        "sell",
-        "sell bob ERIE",
-        "sell bob ERIE ",
-        "sell bob ERIE 01",
-        "sell bob ERIE 10000000000",
-        "sell bob ERIE 1 ",
-        "sell bob ERIE 1 pool",
-        "sell bob SV 1",
-        "sell bob 1 ERIE",
-        "sell bank ERIE 1",
-        "Sell bob ERIE 1",
-        "swap",
-        "swap cat",
-        "swap cat bank",
-        "swap cat NYC offer",
-        "swap cat offer ",
-        "swap offer",
-        "done",
-        "done cat 1",
-        "done cat ",
-        "done pool",
-        "donecat",
-    ] {
-        check_no_command(&rt, text);
-    }
+    let read = first_command(
+        "sell
+sell bob ERIE
+sell bob ERIE\x20
+sell bob ERIE 01
+sell bob ERIE 10000000000
+sell bob ERIE 1\x20
+sell bob ERIE 1 pool
+sell bob SV 1
+sell bob 1 ERIE
+sell bank ERIE 1
+Sell bob ERIE 1
+swap
+swap cat
+swap cat bank
+swap cat NYC offer
+swap cat offer\x20
+swap offer
+done
+done cat 1
+done cat\x20
+done pool
+donecat",
+    );
+    assert!(rt; read.is_none());
 }

@@ -5,20 +5,18 @@ use Rattle.rr_store.specs.World.{table_named}
 use Rattle.rr_moderator.proofs.BestLemmas.{at_table, no_table}
 use Rattle.rr_moderator.proofs.searching.runs_at.Goals as goal
 
-pub returns-in_err-table : goal.returns-in_err-table
-returns-in_err-table g c =
-    let p = err_from_is_err_and c.from_residual.result c.from_residual.ensures.1 in
-    rw (p.1, p.2) (no_table (held_of c.args.store.now) c.args.name.now c.args.stamp c.args.corp _ c.requires c.in_err-table.ensures.found)
+pub returns-in-Err : goal.returns-in-Err
+returns-in-Err g c = no_table (held_of c.args.store.now) c.args.name.now c.args.stamp c.args.corp _ c.requires c.in-Err.ensures.found
 
 pub returns-in_err-judge_run : goal.returns-in_err-judge_run
 returns-in_err-judge_run g c =
-    let p = err_from_is_err_and c.from_residual-in_err-judge_run.result c.from_residual-in_err-judge_run.ensures.1 in
+    let p = err_from_is_err_and c.from_residual.result c.from_residual.ensures.1 in
     let held = held_of c.args.store.now in
     rw (p.1, p.2)
-    (at_table c.kit.result.now held.kit (table_named held.tables c.args.name.now) _ c.args.stamp c.args.corp (Some _) c.kit.ensures c.in_ok-table.ensures.found.1 c.in_err-judge_run.ensures)
+    (at_table c.kit.result.now held.kit (table_named held.tables c.args.name.now) _ c.args.stamp c.args.corp (Some _) c.kit.ensures c.in-Ok.ensures.found.1 c.in_err-judge_run.ensures)
 
 pub returns : goal.returns
 returns g c =
     let held = held_of c.args.store.now in
-    let there = c.in_ok-table.ensures.found.1 in
-    (there, c.in_ok-table.ensures.played, at_table c.kit.result.now held.kit (table_named held.tables c.args.name.now) _ c.args.stamp c.args.corp None c.kit.ensures there c.in_ok-judge_run.ensures)
+    let there = c.in-Ok.ensures.found.1 in
+    (there, c.in-Ok.ensures.played, at_table c.kit.result.now held.kit (table_named held.tables c.args.name.now) _ c.args.stamp c.args.corp None c.kit.ensures there c.in_ok-judge_run.ensures)

@@ -5,7 +5,7 @@ use Rattle.rr_store.specs.Holding.{held_of}
 use Rattle.rr_store.specs.World.{state_after, table_named}
 use Rattle.std.specs.Fmt.{signed_decimal}
 use Rattle.rr_game.specs.Play.{play}
-use Rattle.rr_moderator.proofs.Accepting.{Accepts, accepts, earned_told, stamp_told, told_so_far, whole_told}
+use Rattle.rr_moderator.proofs.Accepting.{accepts, earned_told, stamp_told, told_so_far, whole_told}
 use Rattle.rr_moderator.proofs.moderator.State.commit.Goals.{then-runs_trains, else-runs_trains}
 use Rattle.rr_moderator.proofs.moderator.State.commit.Goals as goal
 

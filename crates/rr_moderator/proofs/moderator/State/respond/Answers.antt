@@ -1,11 +1,11 @@
-use Rattle.std.proofs.Common.{◌≡◌, ◌∙◌, ◌≤◌, true, false, length, refl, sym, ap, arith, subst}
+use Rattle.std.proofs.Common.{◌∙◌, ◌≤◌, true, false, length, refl, sym, ap, arith, subst}
 use Rattle.std.proofs.lemmas.Result.{err_from_is_err_and}
 use Rattle.rr_code.specs.Line.{SpellsLine}
 use Rattle.rr_store.specs.Holding.{held_of}
 use Rattle.rr_moderator.specs.Queries.{query_answer}
 use Rattle.rr_moderator.specs.Serving.{TooLong, Malformed, Broken, Read, Itself, reply_to}
-use Rattle.rr_moderator.proofs.DurabilityLemmas.{best_lasts, request_lasts, lasts_unlawful}
-use Rattle.rr_moderator.proofs.ServingLemmas.{asks_spelled, best_meets, queried, query_asks_none}
+use Rattle.rr_moderator.proofs.DurabilityLemmas.{best_lasts, lasts_alone, request_lasts}
+use Rattle.rr_moderator.proofs.ServingLemmas.{best_meets, queried}
 use Rattle.rr_moderator.proofs.Telling.{SaysNeither, malformed_calm, open_again_calm, query_calm, too_long_calm}
 use Rattle.rr_moderator.proofs.moderator.State.respond.Goals as goal
 
@@ -37,33 +37,27 @@ returns-in-Query-clause-responds g c =
     (refl, queried (query_answer held.kit held.tables c.in-Query.query) c.answer.result c.answer.new.reply c.answer.ensures)
 
 pub returns-then-line-gt-LONGEST_LINE-clause-lasts : goal.returns-then-line-gt-LONGEST_LINE-clause-lasts
-returns-then-line-gt-LONGEST_LINE-clause-lasts g c = lasts_unlawful _ _ _ _ _ _ _ _ _ _ _ refl too_long_calm
-    (λ may. absurd (omega (arith, may.1.short, c.if-line-gt-LONGEST_LINE.true)))
+returns-then-line-gt-LONGEST_LINE-clause-lasts g c = lasts_alone _ _ _ _ _ _ _ _ _ _ _ refl too_long_calm
 
 pub returns-in_err-read-clause-lasts : goal.returns-in_err-read-clause-lasts
 returns-in_err-read-clause-lasts g c =
     let p = err_from_is_err_and c.from_residual.result c.from_residual.ensures.1 in
-    rw (p.1, p.2, c.in_err-read.ensures.found) (lasts_unlawful _ _ _ _ _ _ _ _ _ _ _ refl malformed_calm
-    (λ may. let spelled = asks_spelled may.1.asks in let other = c.in_err-read.ensures.only spelled.0 spelled.1 in cc))
+    rw (p.1, p.2, c.in_err-read.ensures.found) (lasts_alone _ _ _ _ _ _ _ _ _ _ _ refl malformed_calm)
 
 pub returns-then-is_broken-clause-lasts : goal.returns-then-is_broken-clause-lasts
-returns-then-is_broken-clause-lasts g c = lasts_unlawful _ _ _ _ _ _ _ _ _ _ _ refl open_again_calm
-    (λ may. let both : true ≡ false = sym (sym c.is_broken.ensures ∙ c.if-is_broken.true) ∙ may.1.whole in absurd (cc both))
+returns-then-is_broken-clause-lasts g c = lasts_alone _ _ _ _ _ _ _ _ _ _ _ refl open_again_calm
 
 pub returns-in-Query-clause-lasts : goal.returns-in-Query-clause-lasts
 returns-in-Query-clause-lasts g c =
     let held = held_of c.args.self.now.store in
     let told = queried (query_answer held.kit held.tables c.in-Query.query) c.answer.result c.answer.new.reply c.answer.ensures in
-    let spells = subst (SpellsLine c.args.line.now) c.in-Query.is c.in_ok-read.ensures.found in
-    lasts_unlawful _ _ _ _ _ _ _ _ _ _ _ refl
-    (subst SaysNeither (sym told) (query_calm held.kit held.tables c.in-Query.query))
-    (λ may. absurd (query_asks_none c.args.line.now c.in-Query.query spells may.1.asks))
+    lasts_alone _ _ _ _ _ _ _ _ _ _ _ refl (subst SaysNeither (sym told) (query_calm held.kit held.tables c.in-Query.query))
 
 pub returns-in-Request-clause-lasts : goal.returns-in-Request-clause-lasts
 returns-in-Request-clause-lasts g c =
     let short : length c.args.line.now ≤ 8000 = omega arith in
     let spells = subst (SpellsLine c.args.line.now) c.in-Request.is c.in_ok-read.ensures.found in
-    request_lasts _ _ _ _ _ _ _ _ _ _ _ _ _ _ _ short (Itself spells) (sym c.is_broken.ensures ∙ c.if-is_broken.false) c.requests_have_one_verdict.ensures c.commit.ensures.0 (ap reply_to c.commit.ensures.2) c.commit.ensures.1
+    request_lasts _ _ _ _ _ _ _ _ _ _ _ _ _ _ _ short (Itself spells) (sym c.is_broken.ensures ∙ c.if-is_broken.false) c.commit.ensures.0 (ap reply_to c.commit.ensures.2) c.commit.ensures.1
 
 pub returns-in-Best-clause-responds : goal.returns-in-Best-clause-responds
 returns-in-Best-clause-responds g c =
@@ -75,4 +69,4 @@ pub returns-in-Best-clause-lasts : goal.returns-in-Best-clause-lasts
 returns-in-Best-clause-lasts g c =
     let short : length c.args.line.now ≤ 8000 = omega arith in
     let spells = subst (SpellsLine c.args.line.now) c.in-Best.is c.in_ok-read.ensures.found in
-    best_lasts _ _ _ _ _ _ _ _ _ _ _ _ _ _ short spells (sym c.is_broken.ensures ∙ c.if-is_broken.false) c.requests_have_one_verdict.ensures _ refl c.run_best.ensures
+    best_lasts _ _ _ _ _ _ _ _ _ _ _ _ _ _ short spells (sym c.is_broken.ensures ∙ c.if-is_broken.false) _ refl c.run_best.ensures

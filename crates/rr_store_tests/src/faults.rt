@@ -1,0 +1,67 @@
+//! The numbers and texts of faults, and the laws.
+use rr_disk::{Disk, MemoryDisk};
+use rr_recovery::Damage;
+use rr_store::Fault;
+use rr_store::laws::{calls_are_events, one_world, sessions_are_safe};
+use std::alloc::Global;
+use std::test::Fail;
+
+const TEXTS: [(Fault, u8, &str); 14] = [
+    (Fault::Kit(rr_kit::Fault::BadRoster), 4, "bad roster"),
+    (Fault::Game(rr_game::Fault::GameOver), 51, "game is over"),
+    (Fault::StaleStamp(7), 52, "stale stamp 7"),
+    (Fault::TurnNotKept, 53, "turn not kept"),
+    (Fault::TooManyCommands, 54, "too many commands"),
+    (Fault::DeviceFailed, 60, "device failed"),
+    (Fault::FileFull, 62, "file full"),
+    (Fault::Damaged(4), 63, "damaged 4"),
+    (Fault::NotAStore, 64, "not a store"),
+    (Fault::NotEmpty, 64, "not empty"),
+    (Fault::OpenAgain, 65, "open again"),
+    (Fault::TooManyTables, 66, "too many tables"),
+    (Fault::NoSuchTable, 68, "no such table"),
+    (Fault::OutOfMemory, 70, "out of memory"),
+];
+
+// The number of the first fault that has another number or text than it is to have.
+fn unlike(alloc: Global) -> Result<Option<u8>, Fail> {
+    for (fault, number, text) in TEXTS {
+        if fault.number() != number || fault.to_string(alloc)?.as_str() != text {
+            return Ok(Some(number));
+        }
+    }
+    Ok(None)
+}
+
+// The numbers of the faults below the store.
+fn numbers() -> [u8; 8] {
+    [
+        rr_tables::Fault::Rules(rr_records::Fault::NoSuchTable).number(),
+        rr_tables::Fault::File(rr_log::Fault::FileFull).number(),
+        rr_recovery::Fault::Damaged(Damage::Words).number(),
+        rr_recovery::Fault::OutOfMemory.number(),
+        Damage::Words.clause(),
+        Damage::Kit.clause(),
+        Damage::Kept.clause(),
+        Damage::Records.clause(),
+    ]
+}
+
+#[test]
+fn faults_have_numbers_and_texts(rt: HostRuntime) -> Result<(), Fail> {
+    assert!(rt; unlike(rt.alloc())? == None);
+    assert!(rt; numbers() == [68, 62, 63, 70, 5, 6, 7, 8]);
+    Ok(())
+}
+
+// The laws do nothing. Called for any disk they cost their proof less than for a certain one.
+fn call_laws_of_disks<D: Disk>() {
+    calls_are_events::<D>();
+    sessions_are_safe::<D>();
+}
+
+#[test]
+fn laws_are_called() {
+    one_world();
+    call_laws_of_disks::<MemoryDisk>();
+}

@@ -1,0 +1,143 @@
+//! The tables in memory, and their recovery from a file.
+use crate::checkpoints::begun_file;
+use crate::files::{BOARD, CHART, ROSTER, disk_of, new_file, played_store, write};
+use rr_code::read_record;
+use rr_disk::MemoryDisk;
+use rr_kit::Kit;
+use rr_opening::{Opened, open_file};
+use rr_records::TableRules;
+use rr_recovery::{Damage, Recovered, recover};
+use rr_tables::{Fault, Standing, Tables};
+use rr_words::Name;
+use rr_worlds::Worlds;
+use std::alloc::Global;
+use std::test::Fail;
+
+fn read_kit(
+    alloc: Global,
+    chart: &[u8],
+    roster: &[u8],
+    tiles: &[u8],
+    board: &[u8],
+) -> Result<Kit, rr_kit::Fault> {
+    Kit::read(alloc, chart, roster, tiles, board)
+}
+
+fn no_tables(alloc: Global) -> Result<Tables, Fail> {
+    let kit = read_kit(alloc, CHART, ROSTER, b"", BOARD)?;
+    let tables = Tables::new(alloc, kit)?;
+    Ok(tables)
+}
+
+// Takes the request of this record.
+fn take(alloc: Global, tables: &mut Tables, stamp: u64, record: &[u8]) -> Result<u64, Fault> {
+    let Ok((name, request)) = read_record(record) else {
+        return Err(Fault::Rules(rr_records::Fault::OutOfMemory));
+    };
+    tables.take(alloc, stamp, &name, &request, &mut Standing)
+}
+
+// How many tables and requests there are, the stamps of two tables, the second's turns, and whether it is the last.
+type State = (usize, u64, u64, u64, Option<u64>, bool);
+
+fn state(tables: &Tables, first: &Name, second: &Name) -> State {
+    let turns = match tables.table(second) {
+        Ok(table) => Some(table.turns()),
+        Err(_) => None,
+    };
+    let last = tables.name(1) == Some(second) && tables.name(2).is_none();
+    (
+        tables.count(),
+        tables.requests(),
+        tables.stamp(first),
+        tables.stamp(second),
+        turns,
+        last,
+    )
+}
+
+// What is told of no table, of one with two requests and one that was opened behind it, and how requests are refused.
+fn told(alloc: Global) -> Result<(State, State, [Option<Fault>; 3]), Fail> {
+    let mut tables = no_tables(alloc)?;
+    let first = Name::table(b"t1").ok_or("no name")?;
+    let second = Name::table(b"t2").ok_or("no name")?;
+    let none = state(&tables, &first, &second);
+    take(alloc, &mut tables, 0, b"t1 open a b")?;
+    take(alloc, &mut tables, 1, b"t1 buy a")?;
+    take(alloc, &mut tables, 0, b"t2 open c d e")?;
+    let refused = [
+        take(alloc, &mut tables, 1, b"t1 pass b").err(),
+        take(alloc, &mut tables, 0, b"t3 pass b").err(),
+        take(alloc, &mut tables, 2, b"t1 forget 2").err(),
+    ];
+    Ok((none, state(&tables, &first, &second), refused))
+}
+
+#[test]
+fn tables_take_requests(rt: HostRuntime) -> Result<(), Fail> {
+    let refused = [
+        Some(Fault::Rules(rr_records::Fault::StaleStamp(2))),
+        Some(Fault::Rules(rr_records::Fault::NoSuchTable)),
+        Some(Fault::Rules(rr_records::Fault::TurnNotKept)),
+    ];
+    let none = (0, 0, 0, 0, None, false);
+    assert!(rt; told(rt.alloc())? == (none, (2, 3, 2, 1, Some(0), true), refused));
+    Ok(())
+}
+
+// How many tables and requests are recovered, and whether a checkpoint is to be made anew of other tables.
+type Found = Result<(usize, u64, bool), rr_recovery::Fault>;
+
+fn recovered(alloc: Global, disk: &mut MemoryDisk) -> Result<Found, Fail> {
+    let opened = read(alloc, disk)?;
+    Ok(match recover_tables(alloc, &opened) {
+        Ok(found) => Ok(told_of(&found)),
+        Err(fault) => Err(fault),
+    })
+}
+
+fn read(alloc: Global, disk: &mut MemoryDisk) -> Result<Opened<Worlds<TableRules>>, Fail> {
+    let opened = open_file::<MemoryDisk, Worlds<TableRules>>(alloc, disk)?;
+    Ok(opened)
+}
+
+fn recover_tables(
+    alloc: Global,
+    opened: &Opened<Worlds<TableRules>>,
+) -> Result<Recovered, rr_recovery::Fault> {
+    recover::<TableRules>(alloc, opened)
+}
+
+fn told_of(found: &Recovered) -> (usize, u64, bool) {
+    (
+        found.tables.count(),
+        found.tables.requests(),
+        found.base.is_some(),
+    )
+}
+
+// A new file, one whose roster has a wrong key, one with a record in either half, and one with two in the first.
+fn recoveries(alloc: Global) -> Result<[Found; 4], Fail> {
+    let mut new = new_file(alloc)?;
+    let none = recovered(alloc, &mut new)?;
+    write(&mut new, 4096 * 515 + 10, b"q")?;
+    let mut played = disk_of(played_store(alloc, 2)?);
+    Ok([
+        none,
+        recovered(alloc, &mut new)?,
+        recovered(alloc, &mut begun_file(alloc)?)?,
+        recovered(alloc, &mut played)?,
+    ])
+}
+
+#[test]
+fn tables_are_recovered(rt: HostRuntime) -> Result<(), Fail> {
+    let found = [
+        Ok((0, 0, false)),
+        Err(rr_recovery::Fault::Damaged(Damage::Kit)),
+        Ok((1, 3, true)),
+        Ok((1, 2, false)),
+    ];
+    assert!(rt; recoveries(rt.alloc())? == found);
+    Ok(())
+}
