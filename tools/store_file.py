@@ -1,0 +1,160 @@
+"""A store's file, read and written by docs/FORMATS.md, without the program."""
+from dataclasses import dataclass, field
+
+PAGE, OPEN, SHUT = 4096, 0xA5, 0
+FIRST_DATA, USED = 514, 4086
+# The first page of each half of the journal, and how many of its slots hold records.
+HALVES, SLOTS = (2, 258), 255
+
+
+@dataclass
+class Root:
+    side: int
+    number: int
+    directory: int
+    half: int
+    first: int
+    pages: int
+    version: int = 1
+
+
+@dataclass
+class Table:
+    name: str
+    stamp: int
+    floor: int
+    kept: list
+
+
+@dataclass
+class Store:
+    """What a file says: the root that is taken, the texts, the tables in its chains, and the records of both halves."""
+
+    root: Root
+    texts: list
+    tables: list
+    near: list
+    far: list
+    reached: list = field(default_factory=list)
+
+    def accepted(self):
+        """What each table keeps by its chain and by the records, none of which takes a table back."""
+        kept = {table.name: list(table.kept) for table in self.tables}
+        for record in self.near + self.far:
+            name, _, words = record.partition(" ")
+            kept.setdefault(name, []).append(words)
+        return kept
+
+
+def number_at(data, at, count):
+    return int.from_bytes(data[at:at + count], "big")
+
+
+def spelled(number, count):
+    return number.to_bytes(count, "big")
+
+
+def slots_for(length):
+    return (13 + length + PAGE - 1) // PAGE
+
+
+def gate_of(half, slot):
+    return PAGE * (HALVES[half] + slot)
+
+
+def root_at(data, side):
+    """The root on a side, or None where its gate is shut."""
+    at = PAGE * side
+    if data[at] != OPEN:
+        return None
+    fields = ((1, 8), (9, 8), (17, 1), (18, 8), (26, 8), (34, 2))
+    return Root(side, *(number_at(data, at + place, count) for place, count in fields))
+
+
+def records_in(data, half, number):
+    """The records of a half from slot 0 on, of this number and one more each."""
+    found, slot = [], 0
+    while slot < SLOTS:
+        at = gate_of(half, slot)
+        if data[at] != OPEN or number_at(data, at + 1, 8) != number + len(found):
+            break
+        length = number_at(data, at + 9, 4)
+        found.append(data[at + 13:at + 13 + length].decode())
+        slot += slots_for(length)
+    return found
+
+
+def chain_at(data, head, reached):
+    """The bytes of a chain, whose pages are put among those that are reached."""
+    text, page = b"", head
+    while page:
+        reached.append(page)
+        at = PAGE * page
+        text += data[at + 10:at + 10 + number_at(data, at + 8, 2)]
+        page = number_at(data, at, 8)
+    return text
+
+
+def read(data):
+    """What a file says that breaks no clause of its form."""
+    root = max((it for it in (root_at(data, 0), root_at(data, 1)) if it), key=lambda it: it.number)
+    reached = []
+    directory = chain_at(data, root.directory, reached)
+    texts = [chain_at(data, number_at(directory, 12 * place, 8), reached) for place in range(4)]
+    tables, at = [], 50
+    for _ in range(number_at(directory, 48, 2)):
+        name = directory[at + 1:at + 1 + directory[at]].decode()
+        at += 1 + directory[at]
+        stamp, floor = number_at(directory, at, 8), number_at(directory, at + 8, 4)
+        count, head = number_at(directory, at + 12, 4), number_at(directory, at + 16, 8)
+        tables.append(Table(name, stamp, floor, kept_in(chain_at(data, head, reached), count)))
+        at += 28
+    near = records_in(data, root.half, root.first)
+    far = records_in(data, 1 - root.half, root.first + len(near))
+    return Store(root, texts, tables, near, far, reached)
+
+
+def kept_in(text, count):
+    commands, at = [], 0
+    for _ in range(count):
+        length = number_at(text, at, 2)
+        commands.append(text[at + 2:at + 2 + length].decode())
+        at += 2 + length
+    return commands
+
+
+class Pages:
+    """Data pages that are laid one behind another from the first one on."""
+
+    def __init__(self):
+        self.laid = b""
+
+    def next(self):
+        return FIRST_DATA + len(self.laid) // PAGE
+
+    def chain(self, text):
+        """Lays a chain, and gives its first page."""
+        head = self.next()
+        pieces = [text[at:at + USED] for at in range(0, len(text), USED)] or [b""]
+        for place, piece in enumerate(pieces):
+            behind = head + place + 1 if place + 1 < len(pieces) else 0
+            self.laid += (spelled(behind, 8) + spelled(len(piece), 2) + piece).ljust(PAGE, b"\0")
+        return head
+
+    def named(self, text):
+        """Lays a chain, and gives what a directory says of it."""
+        return spelled(self.chain(text), 8) + spelled(len(text), 4)
+
+
+def written(texts, tables, first=1):
+    """A file with these texts and tables, whose first record is to have this number."""
+    pages = Pages()
+    directory = b"".join(pages.named(text) for text in texts) + spelled(len(tables), 2)
+    for table in tables:
+        kept = b"".join(spelled(len(words), 2) + words.encode() for words in table.kept)
+        name = spelled(len(table.name), 1) + table.name.encode()
+        numbers = spelled(table.stamp, 8) + spelled(table.floor, 4) + spelled(len(table.kept), 4)
+        directory += name + numbers + pages.named(kept)
+    head = pages.chain(directory)
+    root = bytes([OPEN]) + spelled(1, 8) + spelled(head, 8) + bytes([0]) + spelled(first, 8) + spelled(pages.next(), 8) + spelled(1, 2)
+    return root.ljust(PAGE * FIRST_DATA, b"\0") + pages.laid
