@@ -223,6 +223,7 @@ impl<C: Codec> Writer<C> {
         ensures full { IsErrOf result pages.FileFull
             → TooFewFree (present_of (free_of self.old)) (coming_of (free_of self.old)) (pages_for (length directory.now)) }
         ensures err { IfErr result (λ fault. (fault ≡ pages.FileFull) ⊎ (fault ≡ pages.OutOfMemory)) }
+        ensures present { present_of (free_of self.new) ≡ present_of (free_of self.old) }
         ensures carries { CarriesOn C.codec self.old self.new }
         ensures taken { taken_of self.new ≡ taken_of self.old }
         ensures place { place_of self.new ≡ place_of self.old }
@@ -265,6 +266,7 @@ impl<C: Codec> Writer<C> {
         ensures taken { taken_of self.new ≡ taken_of self.old }
         ensures number { (place_of self.new).number ≡ (place_of self.old).number }
         ensures slots { (place_of self.new).half.next_slot ≤ (place_of self.old).half.next_slot }
+        ensures fresh { OnOk result ((place_of self.old).begun ≡ None → (place_of self.new).half.next_slot ≡ 0) }
 
         ensures fault { device.CountsFault (D.fault_count disk.old) (D.fault_count disk.new) result }
         // A disk that works doesn't fail here, where its file is one of a store.
@@ -341,6 +343,7 @@ impl<C: Codec> Writer<C> {
         ensures left { OnOk result (ticks_left_of self.new ≡ 0) }
         ensures rests { OnOk result (0 < ticks_left_of self.old → (place_of self.new).begun ≡ None) }
         ensures number { (place_of self.new).number ≡ (place_of self.old).number }
+        ensures half { (place_of self.new).half ≡ (place_of self.old).half }
 
         ensures fault { device.CountsFault (D.fault_count disk.old) (D.fault_count disk.new) result }
         ensures device { OnErr result (D.Honest disk.new → (world : C.codec.World)

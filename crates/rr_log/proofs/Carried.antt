@@ -1,5 +1,5 @@
 -- What each call on the file leaves of what a log knows.
-use Rattle.std.proofs.Common.{◌≡◌, ℕ, ◌+◌, ◌<◌, ◌≤◌, List, length, Option, None, Some, Result, Ok, Err, OnOk, refl, sym, ◌∙◌, ap, subst, arith}
+use Rattle.std.proofs.Common.{◌≡◌, ◌⊎◌, inl, inr, ℕ, ◌+◌, ◌<◌, ◌≤◌, List, length, Option, None, Some, Result, Ok, Err, OnOk, refl, sym, ◌∙◌, ap, subst, arith}
 use Rattle.rr_disk.specs.Disk.{DiskState}
 use Rattle.rr_disk.specs.Moments.{EachImage}
 use Rattle.rr_images.specs.Codec.{Codec}
@@ -22,9 +22,9 @@ use Rattle.rr_log.specs.declared.fault.Fault.{Fault}
 use Rattle.rr_log.specs.declared.fault.Fault.TheVariants as F
 use Rattle.rr_log.specs.Fault.{OnDeviceFault}
 use Rattle.rr_log.specs.declared.log.Log.{Log}
-use Rattle.rr_log.specs.Calls.{world_behind}
+use Rattle.rr_log.specs.Calls.{IsFileFull, MeetsFullFile, world_behind}
 use Rattle.rr_log.specs.Carrying.{HasTexts, HaveSameTexts, IsBase, Carries, IsPlanned}
-use Rattle.rr_log.specs.Log.{place_of, ticks_left}
+use Rattle.rr_log.specs.Log.{HasNoRoom, place_of, ticks_left}
 use Rattle.rr_snapshot.specs.declared.snapshot.Snapshot.{Snapshot}
 use Rattle.rr_snapshot.specs.Planning.{IsOfLayout, HoldsTexts, world_of}
 use Rattle.rr_snapshot.specs.Snapshot.{tables_of}
@@ -269,3 +269,12 @@ device_so T {U = U} {Q = Q} result fault is so given = subst (λ (r : Result U F
 -- a half has no more room where fewer slots of it are left
 pub no_more_room : (new old count : ℕ) → new ≤ old → (HasRoom new count → ⊥) → HasRoom old count → ⊥
 no_more_room new old count below none room = none (record { not_empty = room.not_empty; not_long = room.not_long; fits = omega (arith, below, room.fits) })
+
+-- what is told where a record has no room: what the tick before it put off, if the device didn't fail
+pub is_put_off : (fault full told : Fault) → (fault ≡ full) ⊎ (fault ≡ F.DeviceFailed) → fault ≡ told → (told ≡ F.DeviceFailed → ⊥) → fault ≡ full
+is_put_off fault full told (inl same) is other = same
+is_put_off fault full told (inr failed) is other = absurd (other (sym is ∙ failed))
+
+-- and a full file that was put off is full behind the record that has no room
+pub full_on : {D R : Type 0} (old new : Log D R) (tables : List Table) (count : ℕ) → new ≡ old → HasNoRoom (place_of old) count → (ticks_left old ≡ 0) × IsFileFull old tables → MeetsFullFile new tables count
+full_on {D} {R} old new tables count same none full = subst (λ (log : Log D R). MeetsFullFile log tables count) (sym same) (inr (none, full.0, full.1))

@@ -38,6 +38,9 @@ pub record IsUnchanged {D R : Type 0} (old new : Log D R) : Type 0 where
   pub root : root_number new ≡ root_number old
   pub left : ticks_left new ≡ ticks_left old
   pub broken : is_broken new ≡ is_broken old
+  pub pages : present_of (file.free_of new.writer) ≡ present_of (file.free_of old.writer)
+  pub kit : new.kit ≡ old.kit
+  pub base : new.base ≡ old.base
 
 -- A tick lowers what is left by one, and `Done` comes exactly with the last one. The first of a checkpoint leaves those of
 -- its pages, at least one, and three more.
@@ -61,6 +64,12 @@ HasTooFewFree log tables =
 abbrev pub IsFileFull : {D R : Type 0} → Log D R → List Table → Type 0
 IsFileFull log tables =
     IsPastLast (next_number log) ⊎ IsPastLast (root_number log + 1) ⊎ HasTooFewFree log (tables_due log.base tables)
+
+-- The next record's number would be past the last. Or the half in use has no room for a record of so many bytes, and a
+-- checkpoint, which would make room, finds too few free pages or no number for its root.
+abbrev pub MeetsFullFile : {D R : Type 0} → Log D R → List Table → ℕ → Type 0
+MeetsFullFile log tables count =
+    IsPastLast (next_number log) ⊎ (HasNoRoom (place_of log) count × (ticks_left log ≡ 0) × IsFileFull log tables)
 
 -- Why a record of so many bytes isn't kept: there is no room for it where it would go, and if a tick was put off for want of
 -- pages or memory, that is told. Or its number would be past the last.

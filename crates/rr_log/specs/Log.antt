@@ -43,3 +43,7 @@ IsPastLast number = 2 ^ 63 ≤ number + 1
 -- the half in use has no room for a record of so many bytes
 abbrev pub HasNoRoom : Place → ℕ → Type 0
 HasNoRoom place count = HasRoom place.half.next_slot count → ⊥
+
+-- a record of so many bytes has room in no half: it takes more than two slots
+abbrev pub IsTooLong : ℕ → Type 0
+IsTooLong count = HasRoom 0 count → ⊥

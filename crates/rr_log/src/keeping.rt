@@ -1,5 +1,5 @@
 // Records.
-ghost use Rattle.std.specs.Prelude.{◌≡◌, ◌⊎◌, ◌↔◌, ◌+◌, ◌^◌, ◌<◌, ◌≤◌, false, length, IfOk, IfErr, IsErrOf, IsTrue, Ok, Err};
+ghost use Rattle.std.specs.Prelude.{◌≡◌, ◌⊎◌, ◌↔◌, ◌+◌, ◌^◌, ◌<◌, ◌≤◌, false, length, IfOk, IfErr, IsErrOf, IsTrue, OnOk, None, Ok, Err};
 ghost use Rattle.rr_checkpoint.specs.Calls.{LeavesKept, LeavesEither};
 ghost use Rattle.rr_log.specs.Fault.{CountsFault, IsWant, OnDeviceFault, ends_broken};
 ghost use Rattle.rr_worlds.specs.Spelling.{worlds};
@@ -11,9 +11,9 @@ use rr_disk::Disk;
 use rr_worlds::Rules;
 
 impl<D: Disk + Drop, R: Rules> Log<D, R> {
-    ghost use Rattle.rr_log.specs.Calls.{MayRefuse, NumberBehind, world_behind};
+    ghost use Rattle.rr_log.specs.Calls.{IsFileFull, MayRefuse, MeetsFullFile, NumberBehind, world_behind};
     ghost use Rattle.rr_log.specs.Carrying.{Carries, HaveSameTexts};
-    ghost use Rattle.rr_log.specs.Log.{disk_of, is_broken, next_number, place_of, ticks_left, HasNoRoom, IsDue};
+    ghost use Rattle.rr_log.specs.Log.{disk_of, is_broken, next_number, place_of, ticks_left, HasNoRoom, IsDue, IsTooLong};
 
     /// Keeps a record. After `Ok` it is safe. Before it a tick is made, where a checkpoint is under way or is to begin; the
     /// tables are those of the world before the record. A line has a byte at least.
@@ -43,6 +43,11 @@ impl<D: Disk + Drop, R: Rules> Log<D, R> {
         ensures left { is_broken self.new ≡ false → next_number self.old + 1 < 2 ^ 63 → 0 < ticks_left self.old
             → ticks_left self.old ≡ ticks_left self.new + 1 }
         ensures rests { ticks_left self.old ≡ 0 → (IsDue (place_of self.old) → ⊥) → ticks_left self.new ≡ 0 }
+        ensures begins { is_broken self.new ≡ false → ticks_left self.old ≡ 0
+            → (ticks_left self.new ≡ 0) ⊎ (3 ≤ ticks_left self.new) }
+        ensures resting { IsErrOf result Fault.HalfFull → ticks_left self.new ≡ 0 → (place_of self.new).begun ≡ None }
+        // Room is made by a checkpoint that begins.
+        ensures makes_room { OnOk result (HasNoRoom (place_of self.old) (length line.now) → 3 ≤ ticks_left self.new) }
 
         // When each refusal comes.
         ensures again { IsErrOf result Fault.OpenAgain ↔ IsTrue (is_broken self.old) }
@@ -50,13 +55,21 @@ impl<D: Disk + Drop, R: Rules> Log<D, R> {
         ensures broken { is_broken self.new ≡ ends_broken result }
         ensures refused { IfErr result (MayRefuse (place_of self.new) (length line.now)) }
         ensures full { IsErrOf result Fault.HalfFull → HasNoRoom (place_of self.old) (length line.now) }
+        ensures full_file { IsErrOf result Fault.FileFull
+            → MeetsFullFile self.new (T.tables tables.now) (length line.now) }
+        ensures long { IsErrOf result Fault.HalfFull → ticks_left self.old ≡ 0 → (place_of self.old).begun ≡ None
+            → IsTooLong (length line.now) }
         ensures fault { CountsFault (D.fault_count (disk_of self.old)) (D.fault_count (disk_of self.new)) result }
         ensures device { OnDeviceFault result (D.Honest (disk_of self.new) → (world : World)
             → Carries R.takes self.old (D.state (disk_of self.old)) world → D.Works (disk_of self.new) → ⊥) }
 
-        // Two of each are the record's, and one the tick's.
+        // Two of each are the record's, and one the tick's, where it is one of a checkpoint.
         ensures writes { D.write_count (disk_of self.new) ≤ D.write_count (disk_of self.old) + 3 }
         ensures syncs { D.sync_count (disk_of self.new) ≤ D.sync_count (disk_of self.old) + 3 }
+        ensures own_writes { ticks_left self.old ≡ 0 → (IsDue (place_of self.old) → ⊥)
+            → D.write_count (disk_of self.new) ≤ D.write_count (disk_of self.old) + 2 }
+        ensures own_syncs { ticks_left self.old ≡ 0 → (IsDue (place_of self.old) → ⊥)
+            → D.sync_count (disk_of self.new) ≤ D.sync_count (disk_of self.old) + 2 }
         ensures honest { D.Honest (disk_of self.new) → D.Honest (disk_of self.old) }
         ensures works { D.Works (disk_of self.new) → D.Works (disk_of self.old) }
     {
@@ -85,7 +98,17 @@ impl<D: Disk + Drop, R: Rules> Log<D, R> {
         ensures err { IfErr result (λ fault. fault ≡ Fault.DeviceFailed) }
         ensures left { is_broken self.new ≡ false → 0 < ticks_left self.old
             → ticks_left self.old ≡ ticks_left self.new + 1 }
-        ensures rests { ticks_left self.old ≡ 0 → (IsDue (place_of self.old) → ⊥) → ticks_left self.new ≡ 0 }
+        ensures idle { ticks_left self.old ≡ 0 → (IsDue (place_of self.old) → ⊥) → self.new ≡ self.old }
+        ensures begins { is_broken self.new ≡ false → ticks_left self.old ≡ 0
+            → (ticks_left self.new ≡ 0) ⊎ (3 ≤ ticks_left self.new) }
+        ensures few { IfOk result (λ full. full ≡ Fault.HalfFull → ticks_left self.old ≡ 0
+            → (place_of self.old).begun ≡ None → (place_of self.new).half.next_slot < 128) }
+        ensures resting { IfOk result (λ full. full ≡ Fault.HalfFull → ticks_left self.new ≡ 0
+            → (place_of self.new).begun ≡ None) }
+        ensures half { IfOk result (λ full. ((place_of self.new).half ≡ (place_of self.old).half)
+            ⊎ (3 ≤ ticks_left self.new)) }
+        ensures full_file { IfOk result (λ full. full ≡ Fault.FileFull
+            → (ticks_left self.new ≡ 0) × IsFileFull self.new (T.tables tables.now)) }
         ensures number { next_number self.new ≡ next_number self.old }
         ensures slots { (place_of self.new).half.next_slot ≤ (place_of self.old).half.next_slot }
         ensures broken { is_broken self.new ≡ ends_broken result }
@@ -121,7 +144,9 @@ impl<D: Disk + Drop, R: Rules> Log<D, R> {
         ensures left { ticks_left self.new ≡ ticks_left self.old }
         ensures broken { is_broken self.new ≡ ends_broken result }
         ensures refused { IfErr result (MayRefuse (place_of self.new) (length line.now)) }
-        ensures full { IsErrOf result Fault.HalfFull → HasNoRoom (place_of self.old) (length line.now) }
+        ensures full { IsErrOf result full → HasNoRoom (place_of self.old) (length line.now) }
+        ensures room { OnOk result (HasNoRoom (place_of self.old) (length line.now) → ⊥) }
+        ensures same { IsErrOf result full → self.new ≡ self.old }
         ensures err { IfErr result (λ fault. (fault ≡ full) ⊎ (fault ≡ Fault.DeviceFailed)) }
         ensures fault { CountsFault (D.fault_count (disk_of self.old)) (D.fault_count (disk_of self.new)) result }
         ensures device { OnDeviceFault result (D.Works (disk_of self.new) → ⊥) }

@@ -75,6 +75,7 @@ impl<D: Disk + Drop, R: Rules> Log<D, R> {
         ensures carries { (state : DiskState) (world : World) → Carries R.takes self.old state world
             → Carries R.takes self.new state world }
         ensures full { IsErrOf result Fault.FileFull → IsFileFull self.old (T.tables tables.now) }
+        ensures full_behind { IsErrOf result Fault.FileFull → IsFileFull self.new (T.tables tables.now) }
         ensures err { IfErr result IsWant }
         ensures unchanged { IsUnchanged self.old self.new }
     {

@@ -1,5 +1,5 @@
 // Checkpoints, in ticks.
-ghost use Rattle.std.specs.Prelude.{◌≡◌, ◌⊎◌, ◌↔◌, ◌+◌, ◌<◌, ◌≤◌, false, OnOk, IfOk, IfErr, IsErrOf, IsTrue};
+ghost use Rattle.std.specs.Prelude.{◌≡◌, ◌⊎◌, ◌↔◌, ◌+◌, ◌<◌, ◌≤◌, false, OnOk, IfOk, IfErr, IsErrOf, IsTrue, None};
 ghost use Rattle.rr_checkpoint.specs.Calls.{LeavesKept, TakesRootBehind};
 ghost use Rattle.rr_checkpoint.specs.Writer.{RenewsAt, Lowers};
 ghost use Rattle.rr_disk.specs.Moments.{EachImage};
@@ -52,6 +52,7 @@ impl<D: Disk + Drop, R: Rules> Log<D, R> {
         ensures untouched { IsErrOf result Fault.OpenAgain → self.new ≡ self.old }
         ensures broken { is_broken self.new ≡ ends_broken result }
         ensures full { IsErrOf result Fault.FileFull → IsFileFull self.old (T.tables tables.now) }
+        ensures full_behind { IsErrOf result Fault.FileFull → IsFileFull self.new (T.tables tables.now) }
         ensures first { IfErr result (λ fault. IsWant fault → ticks_left self.old ≡ 0) }
         ensures unchanged { IfErr result (λ fault. IsWant fault → IsUnchanged self.old self.new) }
         ensures room { IsErrOf result Fault.HalfFull → ⊥ }
@@ -88,9 +89,15 @@ impl<D: Disk + Drop, R: Rules> Log<D, R> {
         ensures rests { result ≡ Ok Tick.Idle → self.new ≡ self.old }
         ensures number { next_number self.new ≡ next_number self.old }
         ensures slots { (place_of self.new).half.next_slot ≤ (place_of self.old).half.next_slot }
+        ensures few { IfOk result (λ tick. ticks_left self.old ≡ 0 → (place_of self.old).begun ≡ None
+            → (place_of self.new).half.next_slot < 128) }
+        ensures resting { IfOk result (λ tick. ticks_left self.new ≡ 0 → (place_of self.new).begun ≡ None) }
+        ensures half { IfOk result (λ tick. ((place_of self.new).half ≡ (place_of self.old).half)
+            ⊎ (3 ≤ ticks_left self.new)) }
         ensures broken { is_broken self.new ≡ ends_broken result }
         ensures err { IfErr result (λ fault. IsWant fault ⊎ (fault ≡ Fault.DeviceFailed)) }
         ensures full { IsErrOf result Fault.FileFull → IsFileFull self.old (T.tables tables.now) }
+        ensures full_behind { IsErrOf result Fault.FileFull → IsFileFull self.new (T.tables tables.now) }
         ensures first { IfErr result (λ fault. IsWant fault → ticks_left self.old ≡ 0) }
         ensures unchanged { IfErr result (λ fault. IsWant fault → IsUnchanged self.old self.new) }
         ensures fault { CountsFault (D.fault_count (disk_of self.old)) (D.fault_count (disk_of self.new)) result }
@@ -137,8 +144,9 @@ impl<D: Disk + Drop, R: Rules> Log<D, R> {
             → (carries : Carries R.takes self.old (D.state (disk_of self.old)) world)
             → RenewsAt (worlds R.takes) tick carries.carried.layout (D.state (disk_of self.new)) world) }
         ensures left { IfOk result (λ tick. Lowers tick (ticks_left self.old) (ticks_left self.new)) }
+        ensures resting { IfOk result (λ tick. ticks_left self.new ≡ 0 → (place_of self.new).begun ≡ None) }
         ensures number { next_number self.new ≡ next_number self.old }
-        ensures slots { (place_of self.new).half.next_slot ≤ (place_of self.old).half.next_slot }
+        ensures half { (place_of self.new).half ≡ (place_of self.old).half }
         ensures broken { is_broken self.new ≡ ends_broken result }
         ensures err { IfErr result (λ fault. fault ≡ Fault.DeviceFailed) }
         ensures fault { CountsFault (D.fault_count (disk_of self.old)) (D.fault_count (disk_of self.new)) result }
@@ -172,10 +180,12 @@ impl<D: Disk + Drop, R: Rules> Log<D, R> {
         ensures left { OnOk result (3 ≤ ticks_left self.new) }
         ensures number { next_number self.new ≡ next_number self.old }
         ensures slots { (place_of self.new).half.next_slot ≤ (place_of self.old).half.next_slot }
+        ensures fresh { OnOk result ((place_of self.old).begun ≡ None → (place_of self.new).half.next_slot ≡ 0) }
         ensures root { root_number self.new ≡ root_number self.old }
         ensures broken { is_broken self.new ≡ ends_broken result }
         ensures err { IfErr result (λ fault. IsWant fault ⊎ (fault ≡ Fault.DeviceFailed)) }
         ensures full { IsErrOf result Fault.FileFull → IsFileFull self.old (T.tables tables.now) }
+        ensures full_behind { IsErrOf result Fault.FileFull → IsFileFull self.new (T.tables tables.now) }
         ensures unchanged { IfErr result (λ fault. IsWant fault → IsUnchanged self.old self.new) }
         ensures fault { CountsFault (D.fault_count (disk_of self.old)) (D.fault_count (disk_of self.new)) result }
         ensures device { OnDeviceFault result (D.Honest (disk_of self.new) → (world : World)
@@ -219,6 +229,8 @@ impl<D: Disk + Drop, R: Rules> Log<D, R> {
             → Carries R.takes self.old (D.state (disk_of self.old)) world
             → EachImage (D.state (disk_of self.new)) (TakesRootBehind (worlds R.takes) (root_number self.old) world)) }
         ensures left { OnOk result (ticks_left self.new ≡ 0) }
+        ensures rests { OnOk result ((place_of self.new).begun ≡ None) }
+        ensures half { 0 < ticks_left self.old → (place_of self.new).half ≡ (place_of self.old).half }
         ensures number { next_number self.new ≡ next_number self.old }
 
         // When each refusal comes, and what it leaves.
@@ -226,6 +238,7 @@ impl<D: Disk + Drop, R: Rules> Log<D, R> {
         ensures untouched { IsErrOf result Fault.OpenAgain → self.new ≡ self.old }
         ensures broken { is_broken self.new ≡ ends_broken result }
         ensures full { IsErrOf result Fault.FileFull → IsFileFull self.old (T.tables tables.now) }
+        ensures full_behind { IsErrOf result Fault.FileFull → IsFileFull self.new (T.tables tables.now) }
         ensures first { IfErr result (λ fault. IsWant fault → ticks_left self.old ≡ 0) }
         ensures unchanged { IfErr result (λ fault. IsWant fault → IsUnchanged self.old self.new) }
         ensures room { IsErrOf result Fault.HalfFull → ⊥ }
@@ -262,7 +275,9 @@ impl<D: Disk + Drop, R: Rules> Log<D, R> {
             → Carries R.takes self.old (D.state (disk_of self.old)) world
             → EachImage (D.state (disk_of self.new)) (TakesRootBehind (worlds R.takes) (root_number self.old) world)) }
         ensures left { OnOk result (ticks_left self.new ≡ 0) }
+        ensures rests { OnOk result ((place_of self.new).begun ≡ None) }
         ensures number { next_number self.new ≡ next_number self.old }
+        ensures half { (place_of self.new).half ≡ (place_of self.old).half }
         ensures broken { is_broken self.new ≡ ends_broken result }
         ensures err { IfErr result (λ fault. fault ≡ Fault.DeviceFailed) }
         ensures fault { CountsFault (D.fault_count (disk_of self.old)) (D.fault_count (disk_of self.new)) result }

@@ -19,7 +19,8 @@ use Rattle.rr_store.specs.declared.store.Store.{Store}
 use Rattle.rr_store.specs.Allowing.{BeforeOrAfter}
 use Rattle.rr_store.specs.Committing.{Commits, Spares}
 use Rattle.rr_store.specs.Held.{Held, Takes, Accepted, Refused, Wants, NoRoom, Fails, Again, stamp_after, with_tables}
-use Rattle.rr_store.specs.Holding.{Carries, IsFull, IsUnchanged, disk_of, file_of, held_of, number_of_next}
+use Rattle.rr_store.specs.Holding.{Carries, HasNoRoom, IsFull, IsFullFor, IsUnchanged, Rests, disk_of, file_of, held_of, number_of_next, ticks_left}
+use Rattle.rr_store.specs.Keeping.{ComesOn}
 use Rattle.rr_store.specs.World.{TableRequest, TableState, for_table, judgement_in, state_after, table_named, world_after}
 use Rattle.rr_store.proofs.Standing.{carried_keeps, carried_now, stands_either}
 use Rattle.rr_store.proofs.Worlds.{kept_stand}
@@ -31,7 +32,7 @@ use Rattle.rr_moderator.specs.declared.fault.Fault.TheVariants as F
 use Rattle.rr_moderator.specs.Answer.{accepted_text}
 use Rattle.rr_moderator.specs.Best.{best_run}
 use Rattle.rr_moderator.specs.Choosing.{CommitsBest, Stays, Goes_on}
-use Rattle.rr_moderator.specs.Durability.{CountsTold, HasNoPlace, IsTaken, Lasts, number_behind, reaches_file, tells_acceptance, tells_full}
+use Rattle.rr_moderator.specs.Durability.{CannotKeep, CountsTold, HasNoPlace, IsTaken, Lasts, number_behind, reaches_file, tells_acceptance, tells_full}
 use Rattle.rr_moderator.specs.Fault.{of_store, refusal_of}
 use Rattle.rr_moderator.specs.Serving.{AsksFor, AsBest, Gives, reply_to, text_of}
 use Rattle.rr_moderator.proofs.Telling.{SaysNeither, accepted_calm, accepted_reaches, accepted_told, counts_told, failure_calm, failure_reaches, failure_told, full_calm, full_reaches, lacks_calm, memory_calm, memory_reaches, refusal_calm, verdict_calm}
@@ -70,6 +71,10 @@ module _ {D : Type 0} (Honest Works : D → Type 0) (state : D → DiskState) (p
   at_most : (count : D → ℕ) → disk_of new ≡ disk_of old → count (disk_of new) ≤ count (disk_of old) + 3
   at_most count is = let e : count (disk_of new) ≡ count (disk_of old) = ap count is in omega arith
 
+  -- nor two
+  at_most_two : (count : D → ℕ) → disk_of new ≡ disk_of old → count (disk_of new) ≤ count (disk_of old) + 2
+  at_most_two count is = let e : count (disk_of new) ≡ count (disk_of old) = ap count is in omega arith
+
   -- the disk counted no fault, and the reply says nothing of one
   counts_none : tells_failure reply ≡ false → faults (disk_of new) ≡ faults (disk_of old) → CountsTold (faults (disk_of old)) (faults (disk_of new)) (tells_failure reply)
   counts_none calm same = subst (λ (b : Bool). CountsTold (faults (disk_of old)) (faults (disk_of new)) b) (sym calm) same
@@ -105,6 +110,10 @@ module _ {D : Type 0} (Honest Works : D → Type 0) (state : D → DiskState) (p
         device = λ told. both_ways (tells_failure reply) told calm.0;
         few_writes = λ _. at_most writes (same_disk same);
         few_syncs = λ _. at_most syncs (same_disk same);
+        own_writes = λ _ _. at_most_two writes (same_disk same);
+        own_syncs = λ _ _. at_most_two syncs (same_disk same);
+        comes_on = λ told. both_ways (tells_acceptance reply) told calm.2;
+        makes_room = λ told. both_ways (tells_acceptance reply) told calm.2;
         full = λ told. both_ways (tells_full reply) told calm.1;
       }
 
@@ -130,6 +139,9 @@ module _ {D : Type 0} (Honest Works : D → Type 0) (state : D → DiskState) (p
     no_place : Lawful → (at : Store D) → IsFull at name c → HasNoPlace old line at
     no_place lawful at full = record { asked = asked; lawful = gives lawful; full = full }
 
+    cannot_keep : Lawful → (at : Store D) → IsFullFor at name c → CannotKeep old line at
+    cannot_keep lawful at full = record { asked = asked; lawful = gives lawful; full = full }
+
     -- a file that keeps what was held, or that with the lawful request, stands for it
     stands : (texts : KitTexts) → Carries state old texts → Lawful → (image : List ℕ)
         → KeepsTablesOr texts (held_of old).kit (held_of old).tables (Some asked) image → BeforeOrAfter texts (held_of old).kit (held_of old).tables (Some asked) image
@@ -149,7 +161,9 @@ module _ {D : Type 0} (Honest Works : D → Type 0) (state : D → DiskState) (p
       pub breaks : tells_failure reply ≡ false → (held_of new).broken ≡ (held_of old).broken
       pub counts : CountsTold (faults (disk_of old)) (faults (disk_of new)) (tells_failure reply)
       pub device : tells_failure reply ≡ true → Honest (disk_of new) → (texts : KitTexts) → Carries state old texts → Works (disk_of new) → ⊥
-      pub full : tells_full reply ≡ true → IsFull new name c
+      pub comes_on : tells_acceptance reply ≡ true → (IsFull old name c → ⊥) → ComesOn (file_of old) (file_of new)
+      pub makes_room : tells_acceptance reply ≡ true → HasNoRoom old name c → 3 ≤ ticks_left new
+      pub full : tells_full reply ≡ true → IsFullFor new name c
 
     reached : (taking : Result ℕ store.Fault) → Lawful → Committed taking → Ends → Lasting
     reached taking lawful k ends =
@@ -170,7 +184,11 @@ module _ {D : Type 0} (Honest Works : D → Type 0) (state : D → DiskState) (p
           device = ends.device;
           few_writes = λ room. k.few_writes (λ full. room (no_place lawful old full));
           few_syncs = λ room. k.few_syncs (λ full. room (no_place lawful old full));
-          full = λ told. no_place lawful new (ends.full told);
+          own_writes = λ room. k.own_writes (λ full. room (no_place lawful old full));
+          own_syncs = λ room. k.own_syncs (λ full. room (no_place lawful old full));
+          comes_on = λ told room. ends.comes_on told (λ full. room (no_place lawful old full));
+          makes_room = ends.makes_room;
+          full = λ told. cannot_keep lawful new (ends.full told);
         }
 
     taken : (n : ℕ) → reply ≡ accepted_text (held_of old).kit name behind c sheet → Lawful → held_of new ≡ with_tables (held_of old) (world_after (held_of old).kit (held_of old).tables name c)
@@ -184,6 +202,8 @@ module _ {D : Type 0} (Honest Works : D → Type 0) (state : D → DiskState) (p
           breaks = λ _. ap (λ (h : Held). h.broken) held_is;
           counts = counts_none calm.0 k.counts;
           device = λ is. both_ways (tells_failure reply) is calm.0;
+          comes_on = λ _. k.comes_on;
+          makes_room = λ _. k.makes_room;
           full = λ is. both_ways (tells_full reply) is calm.1;
         })
       where
@@ -201,6 +221,8 @@ module _ {D : Type 0} (Honest Works : D → Type 0) (state : D → DiskState) (p
           counts = subst (λ (r : List ℕ). CountsTold (faults (disk_of old)) (faults (disk_of new)) (tells_failure r)) (sym told)
               (counts_told (faults (disk_of old)) (faults (disk_of new)) T.DeviceFailed k.counts);
           device = λ _. k.device;
+          comes_on = λ is. both_ways (tells_acceptance reply) is (ap tells_acceptance told ∙ refusal_calm F.DeviceFailed);
+          makes_room = λ is. both_ways (tells_acceptance reply) is (ap tells_acceptance told ∙ refusal_calm F.DeviceFailed);
           full = λ is. both_ways (tells_full reply) is (ap tells_full told ∙ failure_calm);
         })
 
@@ -215,6 +237,8 @@ module _ {D : Type 0} (Honest Works : D → Type 0) (state : D → DiskState) (p
           breaks = λ _. ap (λ (h : Held). h.broken) same;
           counts = counts_none calm k.counts;
           device = λ is. both_ways (tells_failure reply) is calm;
+          comes_on = λ is. both_ways (tells_acceptance reply) is refused;
+          makes_room = λ is. both_ways (tells_acceptance reply) is refused;
           full = λ _. k.full refl;
         })
       where
@@ -236,6 +260,8 @@ module _ {D : Type 0} (Honest Works : D → Type 0) (state : D → DiskState) (p
           breaks = λ _. ap (λ (h : Held). h.broken) same;
           counts = counts_none calm.0 k.counts;
           device = λ is. both_ways (tells_failure reply) is calm.0;
+          comes_on = λ is. both_ways (tells_acceptance reply) is calm.2;
+          makes_room = λ is. both_ways (tells_acceptance reply) is calm.2;
           full = λ is. both_ways (tells_full reply) is calm.1;
         })
       where

@@ -9,7 +9,8 @@ use Rattle.rr_store.specs.declared.store.Store.{Store}
 use Rattle.rr_store.specs.Allowing.{BeforeOrAfter}
 use Rattle.rr_store.specs.Files.{StandsFor}
 use Rattle.rr_store.specs.Held.{Held, with_tables}
-use Rattle.rr_store.specs.Holding.{Carries, IsFull, IsUnchanged, disk_of, held_of, number_of_next}
+use Rattle.rr_store.specs.Holding.{Carries, HasNoRoom, IsFull, IsFullFor, IsUnchanged, Rests, disk_of, file_of, held_of, number_of_next, ticks_left}
+use Rattle.rr_store.specs.Keeping.{ComesOn}
 use Rattle.rr_store.specs.World.{TableRequest, state_after, table_named, world_after}
 use Rattle.rr_moderator.specs.Answer.{accepted_text}
 use Rattle.rr_moderator.specs.Serving.{Answers, Gives}
@@ -63,6 +64,17 @@ pub record HasNoPlace {D : Type 0} (old : Store D) (line : List ℕ) (store : St
   pub lawful : Gives (held_of old) line asked
   pub full : IsFull store asked.name asked.request
 
+-- the line gives a lawful request, which this store can't keep, and for which no checkpoint makes room
+pub record CannotKeep {D : Type 0} (old : Store D) (line : List ℕ) (store : Store D) : Type 0 where
+  pub asked : TableRequest
+  pub lawful : Gives (held_of old) line asked
+  pub full : IsFullFor store asked.name asked.request
+
+-- the half in use has no room for the record of the pending request
+abbrev pub MeetsFullHalf : {D : Type 0} → Store D → Option TableRequest → Type 0
+MeetsFullHalf store None = ⊥
+MeetsFullHalf store (Some c) = HasNoRoom store c.name c.request
+
 -- the number of the next record behind a reply, by whether that tells of an acceptance
 abbrev pub number_behind : Bool → ℕ → ℕ
 number_behind true number = number + 1
@@ -74,9 +86,11 @@ number_behind false number = number
 -- disk carries what is held then, unless the device failed. Of every disk: the number of the next record is one more behind an
 -- `ok`, and else the same, unless the device failed; where the reply is a refusal by a rule, or the line gives no lawful
 -- request, all is as it was; the reply says that the device failed exactly where the disk counts a fault and the store is
--- broken by it, and never on an honest disk that works and carries what is held; three writes and three syncs are made at
--- most, where there is room for the line's lawful request; and the reply says that the file is full only where, behind the
--- call, there is none for it.
+-- broken by it, and never on an honest disk that works and carries what is held; where the half in use has room for the
+-- line's lawful request, three writes and three syncs are made at most, and two of each where no checkpoint is under way or to
+-- begin; an `ok` then comes with the next step of a checkpoint that is under way; where the half has no room, an `ok` comes
+-- behind the first step of another checkpoint; and the reply says that the file is full only where, behind the call, no
+-- checkpoint makes room for the request.
 pub record Lasts {D : Type 0} (Honest Works : D → Type 0) (state : D → DiskState) (past : D → List DiskState) (faults writes syncs : D → ℕ)
     (old : Store D) (line : List ℕ) (new : Store D) (reply : List ℕ) : Type 0 where
   pub pending : Option TableRequest
@@ -97,7 +111,11 @@ pub record Lasts {D : Type 0} (Honest Works : D → Type 0) (state : D → DiskS
   pub device : tells_failure reply ≡ true → Honest (disk_of new) → (texts : KitTexts) → Carries state old texts → Works (disk_of new) → ⊥
   pub few_writes : (HasNoPlace old line old → ⊥) → writes (disk_of new) ≤ writes (disk_of old) + 3
   pub few_syncs : (HasNoPlace old line old → ⊥) → syncs (disk_of new) ≤ syncs (disk_of old) + 3
-  pub full : tells_full reply ≡ true → HasNoPlace old line new
+  pub own_writes : (HasNoPlace old line old → ⊥) → Rests old → writes (disk_of new) ≤ writes (disk_of old) + 2
+  pub own_syncs : (HasNoPlace old line old → ⊥) → Rests old → syncs (disk_of new) ≤ syncs (disk_of old) + 2
+  pub comes_on : tells_acceptance reply ≡ true → (HasNoPlace old line old → ⊥) → ComesOn (file_of old) (file_of new)
+  pub makes_room : tells_acceptance reply ≡ true → MeetsFullHalf old pending → 3 ≤ ticks_left new
+  pub full : tells_full reply ≡ true → CannotKeep old line new
 
 -- a store, and the reply made last over it
 abbrev pub Told : Type 0 → Type 0

@@ -1,20 +1,16 @@
 -- What taking pages leaves as it was, over several calls.
-use Rattle.std.proofs.Common.{true, false, suc, subst, arith, ◌≡◌, ℕ, ◌+◌, ◌<◌, Bool, List, [], ◌∷◌, ◌++◌, length, take, get_or, refl, sym, ◌∙◌, ap}
+use Rattle.std.proofs.Common.{true, false, suc, arith, ◌≡◌, ℕ, ◌+◌, ◌<◌, Bool, List, [], ◌∷◌, ◌++◌, length, take, get_or, refl, sym, ◌∙◌, ap}
 use Rattle.std.proofs.lemmas.List.{take_more}
 use Rattle.rr_checkpoint.specs.declared.writer.Writer.{Writer}
-use Rattle.rr_checkpoint.specs.Writer.{Carries, free_of, ticks_left_of}
-use Rattle.rr_disk.specs.Disk.{DiskState}
+use Rattle.rr_checkpoint.specs.Writer.{ticks_left_of}
 use Rattle.rr_images.specs.Codec.{Codec}
-use Rattle.rr_images.specs.Holding.{reached_of}
-use Rattle.rr_images.specs.Layout.{Layout}
-use Rattle.rr_pages.specs.FreePages.{present_of}
 use Rattle.rr_pages.specs.Sets.{Has, marked, all_marked}
 use Rattle.rr_pages.proofs.SetLemmas.{marked_last}
 use Rattle.rr_snapshot.specs.Writing.{OnlyTakes}
 
 pub stays : {C : Type 0} (codec : Codec) (writer : Writer C) → ticks_left_of writer ≡ 0 → OnlyTakes codec writer writer
 stays codec writer resting =
-    record { resting = resting; taken = refl; place = refl; carries = λ state world carries. (carries, refl) }
+    record { resting = resting; taken = refl; place = refl; present = refl; carries = λ state world carries. (carries, refl) }
 
 pub onward : {C : Type 0} (codec : Codec) (old between new : Writer C) → OnlyTakes codec old between → OnlyTakes codec between new → OnlyTakes codec old new
 onward codec old between new first then =
@@ -22,6 +18,7 @@ onward codec old between new first then =
       resting = then.resting;
       taken = then.taken ∙ first.taken;
       place = then.place ∙ first.place;
+      present = then.present ∙ first.present;
       carries = λ state world carries.
           let one = first.carries state world carries in
           let two = then.carries state world one.0 in
@@ -63,10 +60,3 @@ pub same_marks : (first second : List Bool) (pages : List ℕ) → length first 
 same_marks first second pages long one other =
     one_list first second long
     (λ page. same_truth (get_or first page false) (get_or second page false) (λ is. (other page).1 ((one page).0 is)) (λ is. (one page).1 ((other page).0 is)))
-
--- the pages of the present root are the same
-pub present_stays : {C : Type 0} (codec : Codec) (old new : Writer C) → OnlyTakes codec old new → (state : DiskState) (world : codec.World) → Carries codec old state world → present_of (free_of new) ≡ present_of (free_of old)
-present_stays codec old new only state world carries =
-    let then = only.carries state world carries in
-    let there : Has (present_of (free_of new)) (reached_of carries.layout.holding) = subst (λ (l : Layout codec). Has (present_of (free_of new)) (reached_of l.holding)) then.1 then.0.tells.reached in
-    same_marks (present_of (free_of new)) (present_of (free_of old)) (reached_of carries.layout.holding) (new.file.free.present.whole ∙ sym old.file.free.present.whole) there carries.tells.reached

@@ -1,7 +1,7 @@
 // The pages of the texts, which the coming root will reach too.
 ghost use Rattle.std.specs.Prelude.{◌≡◌};
 ghost use Rattle.rr_checkpoint.specs.Writer.{free_of, ticks_left_of};
-ghost use Rattle.rr_pages.specs.FreePages.{coming_of, present_of};
+ghost use Rattle.rr_pages.specs.FreePages.{coming_of};
 ghost use Rattle.rr_pages.specs.Sets.{all_marked, marked};
 ghost use Rattle.rr_snapshot.specs.Kit.{text_pages};
 ghost use Rattle.rr_snapshot.specs.Writing.{OnlyTakes};
@@ -18,7 +18,6 @@ const MOST_PAGES: u32 = 65536;
 pub(crate) fn keep_texts<R: Rules>(writer: &mut Writer<Worlds<R>>, kit: &KitPages)
     requires { ticks_left_of writer.old ≡ 0 }
     ensures coming { coming_of (free_of writer.new) ≡ all_marked (coming_of (free_of writer.old)) (text_pages kit.now) }
-    ensures present { present_of (free_of writer.new) ≡ present_of (free_of writer.old) }
     ensures only { OnlyTakes (worlds R.takes) writer.old writer.new }
 {
     keep_pages(writer, &kit.chart.pages);
@@ -30,7 +29,6 @@ pub(crate) fn keep_texts<R: Rules>(writer: &mut Writer<Worlds<R>>, kit: &KitPage
 fn keep_pages<R: Rules>(writer: &mut Writer<Worlds<R>>, pages: &[u32])
     requires { ticks_left_of writer.old ≡ 0 }
     ensures coming { coming_of (free_of writer.new) ≡ all_marked (coming_of (free_of writer.old)) pages.now }
-    ensures present { present_of (free_of writer.new) ≡ present_of (free_of writer.old) }
     ensures only { OnlyTakes (worlds R.takes) writer.old writer.new }
 {
     for page in pages {
@@ -42,7 +40,6 @@ fn keep_pages<R: Rules>(writer: &mut Writer<Worlds<R>>, pages: &[u32])
 fn keep_page<R: Rules>(writer: &mut Writer<Worlds<R>>, page: u32)
     requires { ticks_left_of writer.old ≡ 0 }
     ensures coming { coming_of (free_of writer.new) ≡ marked (coming_of (free_of writer.old)) page }
-    ensures present { present_of (free_of writer.new) ≡ present_of (free_of writer.old) }
     ensures only { OnlyTakes (worlds R.takes) writer.old writer.new }
 {
     if page < MOST_PAGES {

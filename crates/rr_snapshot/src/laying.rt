@@ -32,7 +32,6 @@ pub(crate) fn lay_tables<R: Rules>(
     ensures full { IsErrOf result Fault.FileFull → TooFewFree (present_of (free_of writer.old))
         (coming_of (free_of writer.old)) (table_pages (map table_of tables.now)) }
     ensures err { IfErr result (λ fault. (fault ≡ Fault.FileFull) ⊎ (fault ≡ Fault.OutOfMemory)) }
-    ensures present { present_of (free_of writer.new) ≡ present_of (free_of writer.old) }
     ensures only { OnlyTakes (worlds R.takes) writer.old writer.new }
 {
     let mut entries = Vec::new(alloc);
@@ -56,7 +55,6 @@ fn lay_table<R: Rules>(
     ensures full { IsErrOf result Fault.FileFull → TooFewFree (present_of (free_of writer.old))
         (coming_of (free_of writer.old)) (pages_for (length (text_for (table_of table.now)))) }
     ensures err { IfErr result (λ fault. (fault ≡ Fault.FileFull) ⊎ (fault ≡ Fault.OutOfMemory)) }
-    ensures present { present_of (free_of writer.new) ≡ present_of (free_of writer.old) }
     ensures only { OnlyTakes (worlds R.takes) writer.old writer.new }
 {
     let head = writer.lay(alloc, fresh, &table.bytes)?;

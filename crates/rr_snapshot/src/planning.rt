@@ -48,8 +48,6 @@ pub fn plan_checkpoint<R: Rules>(
         → TooFewFree (present_of (free_of writer.old)) (all_marked none (text_pages kit.now))
         (needed_pages (tables_of snapshot.now)) }
     ensures err { IfErr result (λ fault. (fault ≡ Fault.FileFull) ⊎ (fault ≡ Fault.OutOfMemory)) }
-    ensures present { (state : DiskState) (world : World) → Carries (worlds R.takes) writer.old state world
-        → present_of (free_of writer.new) ≡ present_of (free_of writer.old) }
     ensures given_back { OnErr result (IsEmpty (coming_of (free_of writer.new))) }
     ensures only { OnlyTakes (worlds R.takes) writer.old writer.new }
 {

@@ -1,5 +1,5 @@
 -- What a commit does, from what the tables and the keeping of its record did.
-use Rattle.std.proofs.Common.{◌≡◌, ◌⊎◌, ℕ, ◌+◌, ◌≤◌, Bool, false, true, List, [], ◌∷◌, map, None, Some, Result, Ok, Err, option_map, inl, inr, refl, sym, ap, subst, ◌∙◌, arith}
+use Rattle.std.proofs.Common.{◌≡◌, ◌⊎◌, ℕ, ◌+◌, ◌≤◌, Bool, false, true, List, [], ◌∷◌, length, map, None, Some, Result, Ok, Err, option_map, inl, inr, refl, sym, ap, subst, ◌∙◌, arith}
 use Rattle.rr_disk.specs.Disk.{DiskState}
 use Rattle.rr_disk.specs.Moments.{LeavesOnly}
 use Rattle.rr_disk.proofs.MomentLemmas.{EachImageOf-weaker, weaker}
@@ -14,7 +14,8 @@ use Rattle.rr_words.specs.Name.{IsTableName}
 use Rattle.rr_log.specs.declared.fault.Fault as log
 use Rattle.rr_log.specs.declared.fault.Fault.TheVariants as L
 use Rattle.rr_log.specs.declared.log.Log.{Log}
-use Rattle.rr_log.specs.Log.{is_broken, next_number}
+use Rattle.rr_log.specs.Calls.{MeetsFullFile}
+use Rattle.rr_log.specs.Log.{IsTooLong, is_broken, next_number}
 use Rattle.rr_log.specs.Log as file
 use Rattle.rr_log.specs.Carrying as carrying
 use Rattle.rr_records.specs.Taking.{Takes as Takes_line}
@@ -134,8 +135,12 @@ module _ {D : Type 0} (Honest Works : D → Type 0) (state : D → DiskState) (p
         wanting = λ is. inl same;
         counts = counts_same fault (faults (disk_of old)) (faults (disk_of new)) other (ap faults same_disk);
         works = λ w. subst Works same_disk w;
-        few_writes = λ room. at_most writes;
-        few_syncs = λ room. at_most syncs;
+        few_writes = λ room. at_most writes 3;
+        few_syncs = λ room. at_most syncs 3;
+        own_writes = λ room rests. at_most writes 2;
+        own_syncs = λ room rests. at_most syncs 2;
+        comes_on = tt;
+        makes_room = tt;
         full = λ is. absurd (room (let one : fault ≡ F.FileFull = cc is in one));
         device = device_same _ fault other;
       }
@@ -143,8 +148,8 @@ module _ {D : Type 0} (Honest Works : D → Type 0) (state : D → DiskState) (p
       same_disk : disk_of new ≡ disk_of old
       same_disk = ap (λ (f : Log D TableRules). file.disk_of f) same.same_file
 
-      at_most : (count : D → ℕ) → count (disk_of new) ≤ count (disk_of old) + 3
-      at_most count = let e : count (disk_of new) ≡ count (disk_of old) = ap count same_disk in omega arith
+      at_most : (count : D → ℕ) (more : ℕ) → count (disk_of new) ≤ count (disk_of old) + more
+      at_most count more = let e : count (disk_of new) ≡ count (disk_of old) = ap count same_disk in omega arith
 
       carried : (texts : KitTexts) → Carries state old texts → Carries state new texts
       carried texts s = record {
@@ -210,6 +215,10 @@ module _ {D : Type 0} (Honest Works : D → Type 0) (state : D → DiskState) (p
           works = k.works;
           few_writes = k.few_writes;
           few_syncs = k.few_syncs;
+          own_writes = k.own_writes;
+          own_syncs = k.own_syncs;
+          comes_on = k.comes_on;
+          makes_room = k.makes_room;
           full = λ is. absurd (cc is);
           device = tt;
         }
@@ -239,6 +248,10 @@ module _ {D : Type 0} (Honest Works : D → Type 0) (state : D → DiskState) (p
           works = k.works;
           few_writes = k.few_writes;
           few_syncs = k.few_syncs;
+          own_writes = k.own_writes;
+          own_syncs = k.own_syncs;
+          comes_on = tt;
+          makes_room = tt;
           full = λ is. absurd (cc is);
           device = λ h texts s.
               k.device h (in_words texts tables_now) (in_words texts behind) (record_leads texts kit_now tables_now stamp (for_table name c) (lawful_in texts s lawful) s.tables_of_kit) refl s.file;
@@ -273,7 +286,11 @@ module _ {D : Type 0} (Honest Works : D → Type 0) (state : D → DiskState) (p
           works = k.works;
           few_writes = k.few_writes;
           few_syncs = k.few_syncs;
-          full = λ is. k.full refl;
+          own_writes = k.own_writes;
+          own_syncs = k.own_syncs;
+          comes_on = tt;
+          makes_room = tt;
+          full = λ is. subst (λ (x : Held). IsTooLong (length bytes_of) ⊎ MeetsFullFile (file_of new) (map table_in_words x.tables) (length bytes_of)) (sym held_is) (k.full refl);
           device = tt;
         }
 
@@ -292,6 +309,10 @@ module _ {D : Type 0} (Honest Works : D → Type 0) (state : D → DiskState) (p
           works = k.works;
           few_writes = k.few_writes;
           few_syncs = k.few_syncs;
+          own_writes = k.own_writes;
+          own_syncs = k.own_syncs;
+          comes_on = tt;
+          makes_room = tt;
           full = λ is. absurd (cc is);
           device = tt;
         }

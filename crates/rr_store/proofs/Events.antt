@@ -1,5 +1,5 @@
 -- The calls on a store are events of the law over schedules.
-use Rattle.std.proofs.Common.{◌≡◌, ◌⊎◌, ℕ, Bool, true, false, List, [], ◌∷◌, ◌++◌, Option, None, Some, option_map, Result, Ok, Err, IsErrOf, inl, inr, refl, sym, ap, subst, ◌∙◌}
+use Rattle.std.proofs.Common.{◌≡◌, ◌⊎◌, ℕ, true, false, List, [], ◌∷◌, ◌++◌, Option, None, Some, option_map, Result, Ok, Err, IsErrOf, inl, inr, refl, sym, ap, subst, ◌∙◌}
 use Rattle.std.proofs.lemmas.List.{append_cancel_right}
 use Rattle.rr_code.specs.declared.command.Command.{Command}
 use Rattle.rr_disk.specs.Disk.{DiskState, IsImage, after_sync}
@@ -19,19 +19,17 @@ use Rattle.rr_records.specs.World as ruled
 use Rattle.rr_records.specs.World.{IsLawfulIn}
 use Rattle.rr_records.proofs.TakingLemmas.{files_are_exact, lawful_are_taken}
 use Rattle.rr_records.proofs.WordLemmas.{are_in_words}
-use Rattle.rr_schedules.specs.Schedule.{Again, Cut, Done, Failed, IsImageOfOne, KeepsThe, KeepsWith, MayCommit, MayOpen, MayTick, OpenEnding, Refused, StandsOnlyFor, Unread}
+use Rattle.rr_schedules.specs.Schedule.{Done, Failed, KeepsThe, KeepsWith, MayCommit, MayOpen, MayTick, Refused, StandsOnlyFor, Unread}
 use Rattle.rr_schedules.proofs.Schedules.{leaves_now}
 use Rattle.rr_turns.specs.declared.request.Request.{Request}
-use Rattle.rr_turns.specs.Judgement.{IsVerdict}
 use Rattle.rr_turns.proofs.JudgementLemmas.{is-map}
-use Rattle.rr_worlds.specs.World as words
 use Rattle.rr_store.specs.declared.fault.Fault.{Fault}
 use Rattle.rr_store.specs.declared.fault.Fault.TheVariants as F
 use Rattle.rr_store.specs.declared.opening.Refused as opening
 use Rattle.rr_store.specs.declared.store.Store.{Store}
 use Rattle.rr_store.specs.Allowing.{CommitEnds, IsLawful}
 use Rattle.rr_store.specs.Committing.{Commits}
-use Rattle.rr_store.specs.Events.{CommitIsEvent, OpenIsEvent, Opens, Passes, StepIsEvent, disk_behind, ending_of, open_ending_of, refusal_of, world_in}
+use Rattle.rr_store.specs.Events.{CommitIsEvent, OpenIsEvent, Opens, Passes, StepIsEvent, disk_behind, ending_of, refusal_of, world_in}
 use Rattle.rr_store.specs.Fault.{of_rules}
 use Rattle.rr_store.specs.Files.{AreTablesOf, StandsFor}
 use Rattle.rr_store.specs.Held.{Held, Takes, with_failure, with_tables}
@@ -39,7 +37,7 @@ use Rattle.rr_store.specs.Held as comes
 use Rattle.rr_store.specs.Holding.{Carries, disk_of, file_of, held_of}
 use Rattle.rr_store.specs.Opening.{IsNoVerdict, SyncsAtMost}
 use Rattle.rr_store.specs.Ticking.{Steps}
-use Rattle.rr_store.specs.World.{TableRequest, World, for_table, judgement_in, world_after}
+use Rattle.rr_store.specs.World.{TableRequest, World, for_table, world_after}
 use Rattle.rr_store.proofs.Standing.{carried_now, lawful_now}
 use Rattle.rr_store.proofs.Steps.{ends_so, first_of}
 use Rattle.rr_store.proofs.Worlds.{kept_stand, one_world}

@@ -1,25 +1,26 @@
 -- What keeping a record does, from what the open file does.
-use Rattle.std.proofs.Common.{◌≡◌, ◌⊎◌, ◌↔◌, ℕ, ◌+◌, ◌≤◌, true, false, List, length, Result, Ok, Err, IfErr, IsErrOf, IsTrue, inl, refl, sym, ap, subst, ◌∙◌, arith}
-use Rattle.rr_checkpoint.specs.declared.place.Place.{Place}
+use Rattle.std.proofs.Common.{◌≡◌, ◌⊎◌, ◌↔◌, ℕ, ◌+◌, ◌^◌, ◌<◌, ◌≤◌, true, false, List, length, None, Result, Ok, Err, IfErr, IsErrOf, IsTrue, OnOk, inl, inr, refl, sym, ap, subst, ◌∙◌, arith}
 use Rattle.rr_checkpoint.specs.Calls.{LeavesEither, LeavesKept}
 use Rattle.rr_checkpoint.proofs.Writers.{carried_kept}
 use Rattle.rr_disk.specs.Disk.{DiskState}
 use Rattle.rr_disk.proofs.MomentLemmas.{joins, started, weaker}
 use Rattle.rr_images.specs.Layout.{Keeps}
+use Rattle.rr_journal.specs.declared.half.Half.{Half}
+use Rattle.rr_journal.specs.Layout.{HasRoom}
 use Rattle.rr_log.specs.declared.fault.Fault.{Fault}
 use Rattle.rr_log.specs.declared.fault.Fault.TheVariants as F
 use Rattle.rr_log.specs.declared.log.Log.{Log}
-use Rattle.rr_log.specs.Calls.{IsUnchanged, MayRefuse, NumberBehind, world_behind}
+use Rattle.rr_log.specs.Calls.{MayRefuse, MeetsFullFile, NumberBehind, world_behind}
 use Rattle.rr_log.specs.Carrying.{Carries, HaveSameTexts}
 use Rattle.rr_log.specs.Fault.{CountsFault, IsWant, OnDeviceFault, ends_broken}
-use Rattle.rr_log.specs.Log.{HasNoRoom, disk_of, is_broken, next_number, place_of}
+use Rattle.rr_log.specs.Log.{HasNoRoom, IsDue, IsPastLast, IsTooLong, disk_of, is_broken, next_number, place_of, ticks_left}
 use Rattle.rr_log.proofs.Carried.{device_more}
 use Rattle.rr_records.specs.declared.rules.TableRules.{TableRules}
 use Rattle.rr_records.specs.Taking.{Takes, table_files}
 use Rattle.rr_kit.specs.Kits.{KitTexts}
 use Rattle.rr_worlds.specs.World.{Table}
 use Rattle.rr_worlds.specs.World as words
-use Rattle.rr_store.specs.Keeping.{IsFull, Keeping, told_of}
+use Rattle.rr_store.specs.Keeping.{ComesOn, IsFull, Keeping, told_of}
 
 abbrev Kept : Type 0
 Kept = Result (Unit {0}) Fault
@@ -41,26 +42,6 @@ number_same F.HalfFull old new same = same
 number_same F.FileFull old new same = same
 number_same F.OpenAgain old new same = same
 number_same F.OutOfMemory old new same = same
-
--- why a record isn't kept, that is told
-full_by : {D R : Type 0} (log : Log D R) (bytes : List ℕ) (result : Kept) → IfErr result (MayRefuse (place_of log) (length bytes))
-    → IsErrOf result F.FileFull → IsFull log bytes
-full_by log bytes (Ok value) refused is = absurd (cc)
-full_by log bytes (Err F.DeviceFailed) refused is = absurd (cc)
-full_by log bytes (Err F.HalfFull) refused is = absurd (cc)
-full_by log bytes (Err F.FileFull) refused is = refused
-full_by log bytes (Err F.OpenAgain) refused is = absurd (cc)
-full_by log bytes (Err F.OutOfMemory) refused is = absurd (cc)
-
--- no room is told where there is none
-no_room_by : {D R : Type 0} (log : Log D R) (bytes : List ℕ) (result : Kept) → IfErr result (MayRefuse (place_of log) (length bytes))
-    → IsErrOf result F.HalfFull → HasNoRoom (place_of log) (length bytes)
-no_room_by log bytes (Ok value) refused is = absurd (cc)
-no_room_by log bytes (Err F.DeviceFailed) refused is = absurd (cc)
-no_room_by log bytes (Err F.HalfFull) refused is = refused
-no_room_by log bytes (Err F.FileFull) refused is = absurd (cc)
-no_room_by log bytes (Err F.OpenAgain) refused is = absurd (cc)
-no_room_by log bytes (Err F.OutOfMemory) refused is = absurd (cc)
 
 -- what is so where the device failed is so where that is told
 device_told : {P Q : Type 0} (fault : Fault) → (P → Q) → OnDeviceFault {T = Unit {0}} (Err fault) P → OnDeviceFault {T = Unit {0}} (Err (told_of fault)) Q
@@ -88,10 +69,19 @@ module _ {D : Type 0} (Honest Works : D → Type 0) (state : D → DiskState) (p
     pub broken : is_broken new ≡ ends_broken result
     pub refused : IfErr result (MayRefuse (place_of new) (length bytes))
     pub full_half : IsErrOf result F.HalfFull → HasNoRoom (place_of old) (length bytes)
+    pub makes_room : OnOk result (HasNoRoom (place_of old) (length bytes) → 3 ≤ ticks_left new)
+    pub full_file : IsErrOf result F.FileFull → MeetsFullFile new tables (length bytes)
+    pub long : IsErrOf result F.HalfFull → ticks_left old ≡ 0 → (place_of old).begun ≡ None → IsTooLong (length bytes)
+    pub resting : IsErrOf result F.HalfFull → ticks_left new ≡ 0 → (place_of new).begun ≡ None
+    pub left : is_broken new ≡ false → next_number old + 1 < 2 ^ 63 → 0 < ticks_left old → ticks_left old ≡ ticks_left new + 1
+    pub rests : ticks_left old ≡ 0 → (IsDue (place_of old) → ⊥) → ticks_left new ≡ 0
+    pub begins : is_broken new ≡ false → ticks_left old ≡ 0 → (ticks_left new ≡ 0) ⊎ (3 ≤ ticks_left new)
     pub device : OnDeviceFault result (Honest (disk_of new) → (world : words.World) → Carries Takes old (state (disk_of old)) world → Works (disk_of new) → ⊥)
     pub fault : CountsFault (faults (disk_of old)) (faults (disk_of new)) result
     pub few_writes : writes (disk_of new) ≤ writes (disk_of old) + 3
     pub few_syncs : syncs (disk_of new) ≤ syncs (disk_of old) + 3
+    pub own_writes : ticks_left old ≡ 0 → (IsDue (place_of old) → ⊥) → writes (disk_of new) ≤ writes (disk_of old) + 2
+    pub own_syncs : ticks_left old ≡ 0 → (IsDue (place_of old) → ⊥) → syncs (disk_of new) ≤ syncs (disk_of old) + 2
     pub honest : Honest (disk_of new) → Honest (disk_of old)
     pub works : Works (disk_of new) → Works (disk_of old)
 
@@ -104,7 +94,10 @@ module _ {D : Type 0} (Honest Works : D → Type 0) (state : D → DiskState) (p
     pub number : next_number new ≡ next_number old
     pub again : IsErrOf result F.OpenAgain ↔ IsTrue (is_broken old)
     pub broken : is_broken new ≡ ends_broken result
-    pub unchanged : IfErr result (λ fault. IsWant fault → IsUnchanged old new)
+    pub left : OnOk result (ticks_left new ≡ 0)
+    pub rests : OnOk result ((place_of new).begun ≡ None)
+    pub half : (place_of new).half ≡ (place_of old).half
+    pub first : IfErr result (λ fault. IsWant fault → ticks_left old ≡ 0)
     pub room : IsErrOf result F.HalfFull → ⊥
     pub fault : CountsFault (faults (disk_of old)) (faults (disk_of new)) result
     pub honest : Honest (disk_of new) → Honest (disk_of old)
@@ -120,6 +113,28 @@ module _ {D : Type 0} (Honest Works : D → Type 0) (state : D → DiskState) (p
   kept_now log before behind carries =
       started (past (disk_of log)) (state (disk_of log)) (λ image. Keeps table_files image before ⊎ Keeps table_files image behind)
       (λ image is. inl (carried_kept table_files log.writer.file log.writer.checkpoint (state (disk_of log)) before carries.carried image is))
+
+  -- without a checkpoint under way none is ended
+  pub none_made : (log : Logs) → is_broken log ≡ false → ticks_left log ≡ 0 → (place_of log).begun ≡ None → Made log (Ok tt) log
+  none_made log whole left rests =
+      record {
+        stops = λ h world lent carries.
+            started (past (disk_of log)) (state (disk_of log)) (λ image. Keeps table_files image world)
+            (carried_kept table_files log.writer.file log.writer.checkpoint (state (disk_of log)) world carries.carried);
+        carries = λ h still world lent carries. carries;
+        number = refl;
+        again = (λ is. absurd (cc is), λ broken. let both : true ≡ false = sym broken ∙ whole in absurd (cc both));
+        broken = whole;
+        left = left;
+        rests = rests;
+        half = refl;
+        first = tt;
+        room = λ is. absurd (cc is);
+        fault = refl;
+        honest = λ h. h;
+        works = λ w. w;
+        device = tt;
+      }
 
   -- nothing is tried for want of memory, or on a broken file
   pub keeps_nothing : (log : Logs) → is_broken log ≡ false → Done log (Err F.OutOfMemory) log
@@ -139,6 +154,10 @@ module _ {D : Type 0} (Honest Works : D → Type 0) (state : D → DiskState) (p
         device = tt;
         few_writes = λ room. omega arith;
         few_syncs = λ room. omega arith;
+        own_writes = λ room rests. omega arith;
+        own_syncs = λ room rests. omega arith;
+        comes_on = tt;
+        makes_room = tt;
       }
 
   pub keeps_again : (log : Logs) → is_broken log ≡ true → Done log (Err F.OpenAgain) log
@@ -158,6 +177,21 @@ module _ {D : Type 0} (Honest Works : D → Type 0) (state : D → DiskState) (p
         device = tt;
         few_writes = λ room. omega arith;
         few_syncs = λ room. omega arith;
+        own_writes = λ room rests. omega arith;
+        own_syncs = λ room rests. omega arith;
+        comes_on = tt;
+        makes_room = tt;
+      }
+
+  -- where there was room and a number
+  comes_on : (old new : Logs) (result : Kept) → Tried old result new → OnOk result ((IsFull old bytes → ⊥) → ComesOn old new)
+  comes_on old new (Err fault) t = tt
+  comes_on old new (Ok value) t = λ room.
+      let numbered : next_number old + 1 < 2 ^ 63 = let below : IsPastLast (next_number old) → ⊥ = λ past. room (inr past) in omega (arith, below) in
+      record {
+        left = t.left t.broken numbered;
+        begins = t.begins t.broken;
+        rests = λ rests. t.rests rests.none_left rests.none_due;
       }
 
   -- one attempt that isn't told of a full half
@@ -171,33 +205,17 @@ module _ {D : Type 0} (Honest Works : D → Type 0) (state : D → DiskState) (p
         again = t.again;
         untouched = t.untouched;
         broken = t.broken;
-        full = full_by new bytes result t.refused;
+        full = λ is. inr (t.full_file is);
         room = room;
         counts = t.fault;
         works = t.works;
         device = device_more result (λ device h before behind takes lent carries. device h before carries) t.device;
         few_writes = λ room. t.few_writes;
         few_syncs = λ room. t.few_syncs;
-      }
-
-  -- no room, and no checkpoint under way
-  pub kept_full : (old new : Logs) → Tried old (Err F.HalfFull) new → Done old (Err F.FileFull) new
-  kept_full old new t =
-      record {
-        honest = t.honest;
-        stops = λ h before behind takes lent carries. t.stops h before behind takes (same_texts bytes before behind takes) lent carries;
-        carries = λ h whole before behind takes lent carries. t.carries h whole before behind takes (same_texts bytes before behind takes) lent carries;
-        number = t.number;
-        again = (λ is. absurd (cc is), λ broken. let never : Kept = Err F.HalfFull in absurd (let is = t.again.1 broken in cc is));
-        untouched = λ is. absurd (cc is);
-        broken = t.broken;
-        full = λ is. inl t.refused;
-        room = λ is. absurd (cc is);
-        counts = t.fault;
-        works = t.works;
-        device = tt;
-        few_writes = λ room. t.few_writes;
-        few_syncs = λ room. t.few_syncs;
+        own_writes = λ room rests. t.own_writes rests.none_left rests.none_due;
+        own_syncs = λ room rests. t.own_syncs rests.none_left rests.none_due;
+        comes_on = comes_on old new result t;
+        makes_room = t.makes_room;
       }
 
   module _ (old mid : Logs) (t : Tried old (Err F.HalfFull) mid) where
@@ -211,19 +229,16 @@ module _ {D : Type 0} (Honest Works : D → Type 0) (state : D → DiskState) (p
         → Carries Takes old (state (disk_of old)) before → Carries Takes mid (state (disk_of mid)) before
     carried h before behind takes lent carries = t.carries h t.broken before behind takes (same_texts bytes before behind takes) lent carries
 
-    told : (fault : Fault) (new : Logs) → Made mid (Err fault) new → (fault ≡ F.OpenAgain → ⊥) × (IsErrOf {T = Unit {0}} (Err fault) F.FileFull → IsFull new bytes)
-    told F.DeviceFailed new m = (λ is. cc is, λ is. absurd (cc is))
-    told F.HalfFull new m = (λ is. cc is, λ is. absurd (cc is))
-    told F.FileFull new m = (
-      λ is. cc is,
-      λ is. inl (subst (λ (p : Place). HasNoRoom p (length bytes)) (sym (m.unchanged (inl refl)).place) t.refused),
-    )
-    told F.OpenAgain new m = (λ is. let both : true ≡ false = sym (m.again.0 refl) ∙ t.broken in cc both, λ is. absurd (cc is))
-    told F.OutOfMemory new m = (λ is. cc is, λ is. absurd (cc is))
+    told : (fault : Fault) (new : Logs) → 0 < ticks_left mid → Made mid (Err fault) new → (fault ≡ F.OpenAgain → ⊥) × (fault ≡ F.FileFull → ⊥)
+    told F.DeviceFailed new some m = (λ is. cc is, λ is. cc is)
+    told F.HalfFull new some m = (λ is. cc is, λ is. cc is)
+    told F.FileFull new some m = (λ is. cc is, λ is. let none = m.first (inl refl) in omega (arith, some, none))
+    told F.OpenAgain new some m = (λ is. let both : true ≡ false = sym (m.again.0 refl) ∙ t.broken in cc both, λ is. cc is)
+    told F.OutOfMemory new some m = (λ is. cc is, λ is. cc is)
 
-    -- a checkpoint that failed
-    pub kept_without : (fault : Fault) (new : Logs) → Made mid (Err fault) new → Done old (Err fault) new
-    kept_without fault new m =
+    -- the checkpoint under way can't be ended
+    pub kept_without : (fault : Fault) (new : Logs) → 0 < ticks_left mid → Made mid (Err fault) new → Done old (Err fault) new
+    kept_without fault new some m =
         record {
           honest = λ h. t.honest (m.honest h);
           stops = λ h before behind takes lent carries.
@@ -234,17 +249,21 @@ module _ {D : Type 0} (Honest Works : D → Type 0) (state : D → DiskState) (p
           again = (λ is. absurd (same_fault is), λ broken. never_again broken);
           untouched = λ is. absurd (same_fault is);
           broken = m.broken;
-          full = (told fault new m).1;
+          full = λ is. absurd ((told fault new some m).1 (let same : fault ≡ F.FileFull = cc is in same));
           room = m.room;
           counts = subst (λ (n : ℕ). CountsFault {T = Unit {0}} n (faults (disk_of new)) (Err fault)) t.fault m.fault;
           works = λ w. t.works (m.works w);
           device = device_more {T = Unit {0}} (Err fault) (λ device h before behind takes lent carries. device h before lent (carried (m.honest h) before behind takes lent carries)) m.device;
           few_writes = λ room. has_none room;
           few_syncs = λ room. has_none room;
+          own_writes = λ room rests. has_none room;
+          own_syncs = λ room rests. has_none room;
+          comes_on = tt;
+          makes_room = tt;
         }
       where
         same_fault : IsErrOf {T = Unit {0}} (Err fault) F.OpenAgain → ⊥
-        same_fault is = (told fault new m).0 (let same : fault ≡ F.OpenAgain = cc is in same)
+        same_fault is = (told fault new some m).0 (let same : fault ≡ F.OpenAgain = cc is in same)
 
     module _ (made new : Logs) (m : Made mid (Ok tt) made) where
       stops_by : (result : Kept) → Tried made result new → Honest (disk_of new) → (before behind : words.World) → Takes bytes before behind → before.tables ≡ tables
@@ -289,17 +308,21 @@ module _ {D : Type 0} (Honest Works : D → Type 0) (state : D → DiskState) (p
             device = tt;
             few_writes = λ room. has_none room;
             few_syncs = λ room. has_none room;
+            own_writes = λ room rests. has_none room;
+            own_syncs = λ room rests. has_none room;
+            comes_on = λ room. has_none room;
+            makes_room = λ none. again.makes_room (λ room. t.refused (subst (λ (half : Half). HasRoom half.next_slot (length bytes)) m.half room));
           }
 
       -- one that isn't kept either
       refused_by : (fault : Fault) → Tried made (Err fault) new
-          → ((told_of fault ≡ F.OpenAgain) → ⊥) × ((told_of fault ≡ F.HalfFull) → ⊥) × (told_of fault ≡ F.FileFull → IsFull new bytes)
+          → ((told_of fault ≡ F.OpenAgain) → ⊥) × ((told_of fault ≡ F.HalfFull) → ⊥) × (told_of fault ≡ F.FileFull → IsTooLong (length bytes) ⊎ MeetsFullFile new tables (length bytes))
           × (ends_broken {T = Unit {0}} (Err fault) ≡ ends_broken {T = Unit {0}} (Err (told_of fault)))
           × NumberBehind {T = Unit {0}} (Err (told_of fault)) (next_number made) (next_number new)
           × CountsFault {T = Unit {0}} (faults (disk_of made)) (faults (disk_of new)) (Err (told_of fault))
       refused_by F.DeviceFailed again = (λ is. cc is, λ is. cc is, λ is. absurd (cc is), refl, again.number, again.fault)
-      refused_by F.HalfFull again = (λ is. cc is, λ is. cc is, λ is. inl again.refused, refl, again.number, again.fault)
-      refused_by F.FileFull again = (λ is. cc is, λ is. cc is, λ is. again.refused, refl, again.number, again.fault)
+      refused_by F.HalfFull again = (λ is. cc is, λ is. cc is, λ is. inl (again.long refl m.left m.rests), refl, again.number, again.fault)
+      refused_by F.FileFull again = (λ is. cc is, λ is. cc is, λ is. inr (again.full_file refl), refl, again.number, again.fault)
       refused_by F.OpenAgain again = (λ is. let both : true ≡ false = sym (again.again.0 refl) ∙ m.broken in cc both, λ is. cc is, λ is. absurd (cc is), refl, again.number, again.fault)
       refused_by F.OutOfMemory again = (λ is. cc is, λ is. cc is, λ is. absurd (cc is), refl, again.number, again.fault)
 
@@ -325,4 +348,8 @@ module _ {D : Type 0} (Honest Works : D → Type 0) (state : D → DiskState) (p
                 again.device;
             few_writes = λ room. has_none room;
             few_syncs = λ room. has_none room;
+            own_writes = λ room rests. has_none room;
+            own_syncs = λ room rests. has_none room;
+            comes_on = tt;
+            makes_room = tt;
           }

@@ -1,10 +1,11 @@
 -- A session is a schedule, so it is safe.
-use Rattle.std.proofs.Common.{◌≡◌, ◌⊎◌, ℕ, Bool, true, false, List, [], ◌∷◌, ◌++◌, Option, None, Some, Result, Ok, Err, inl, inr, refl, sym, ap, subst, ◌∙◌}
+use Rattle.std.proofs.Common.{◌≡◌, ℕ, zero, suc, ◌+◌, ◌≤◌, max, length, arith, Bool, true, false, List, [], ◌∷◌, ◌++◌, Option, None, Some, Result, Ok, Err, inl, inr, refl, sym, ap, subst, ◌∙◌}
 use Rattle.std.proofs.lemmas.List.{append-nil, append_assoc, append_cancel_right}
 use Rattle.rr_code.specs.declared.command.Command.{Command}
-use Rattle.rr_disk.specs.Disk.{DiskState, IsImage}
-use Rattle.rr_disk.specs.Moments.{EachImage}
+use Rattle.rr_disk.specs.Disk.{DiskState, IsImage, IsOutside, after_failed_write, after_write, furthest_end}
+use Rattle.rr_disk.specs.Moments.{EachImage, EachImageOf}
 use Rattle.rr_disk.specs.Replay.{settled_state}
+use Rattle.rr_disk.proofs.ImageLemmas.{furthest_end-append}
 use Rattle.rr_kit.specs.declared.kit.Kit.{Kit}
 use Rattle.rr_kit.specs.Kits.{KitTexts, SpellsKit}
 use Rattle.rr_log.specs.declared.log.Log.{Log}
@@ -18,7 +19,7 @@ use Rattle.rr_records.proofs.PlayedLemmas.{played_after}
 use Rattle.rr_records.proofs.Schedules.{are_worlds, whatever_comes}
 use Rattle.rr_records.proofs.WorldLemmas.{keep_after}
 use Rattle.rr_schedules.specs.Laws.{at_first}
-use Rattle.rr_schedules.specs.Schedule.{Again, Commit, Cut, Done, Ending, EventOf, Failed, Folds, Happens, IsImageOfOne, MayOpen, OpenCut, Opened, Opening, Refused, Runs, Settles, Stop, SystemOf, after_commit, after_tick, disk_after, held_after, let_go}
+use Rattle.rr_schedules.specs.Schedule.{Again, Commit, Cut, Done, Ending, EventOf, Failed, Folds, Happens, IsImageOfOne, KeepsThe, KeepsWith, MayCommit, MayOpen, MayTick, OpenCut, OpenEnding, Opened, Opening, Refused, Runs, Settles, Stop, SystemOf, TurnedAway, Unread, after_commit, after_tick, disk_after, held_after, let_go}
 use Rattle.rr_schedules.specs.Schedule as schedule
 use Rattle.rr_schedules.proofs.Schedules.{one_fold}
 use Rattle.rr_turns.specs.declared.request.Request.{Request}
@@ -30,12 +31,11 @@ use Rattle.rr_store.specs.declared.store.Store.{Store}
 use Rattle.rr_store.specs.Committing.{Commits}
 use Rattle.rr_store.specs.Events.{Opens, Passes, disk_behind, ending_of, open_ending_of, refusal_of, world_in}
 use Rattle.rr_store.specs.Files.{AreTablesOf}
-use Rattle.rr_store.specs.Held.{Held, with_failure}
-use Rattle.rr_store.specs.Holding.{Carries, IsUnchanged, disk_of, file_of, held_of}
-use Rattle.rr_store.specs.Opening.{IsNoVerdict}
-use Rattle.rr_store.specs.Sessions.{By_checkpoint, By_commit, By_open, By_tick, Calls, Ended, Goes_on, Has, Is_cut, IsSafeSession, Lies, Makes, OpeningsAndRequestsAreSessions, Owner, Returns, Session, SessionsAreSafe, Stops, holder_of, owner_behind, serving, state_under}
+use Rattle.rr_store.specs.Held.{Held}
+use Rattle.rr_store.specs.Holding.{Carries, IsUnchanged, disk_of, held_of}
+use Rattle.rr_store.specs.Sessions.{By_checkpoint, By_commit, By_open, By_tick, Calls, Ended, Goes_on, Has, Is_cut, Is_killed, IsHolder, IsLeftIn, IsSafeSession, Left, Lies, Makes, OpeningsAndRequestsAreSessions, Owner, PartsOfWritesAreLeft, Returns, Session, SessionsAreSafe, Stops, owner_behind, serving, state_under}
 use Rattle.rr_store.specs.Committing.{Spares}
-use Rattle.rr_store.specs.Ticking.{RefusesStep, Steps, held_behind}
+use Rattle.rr_store.specs.Ticking.{Steps}
 use Rattle.rr_store.specs.World.{TableRequest, World, for_table, world_after}
 use Rattle.rr_store.proofs.Events.{Outcome, again, commit_is_event, leads_on, open_is_event, outcome, step_is_event, unread}
 
@@ -45,6 +45,42 @@ none_of_none moments image none is = let P : List DiskState → Type 0 = λ m. I
 
 cut_not_done : (image : List ℕ) → Cut image ≡ Done → ⊥
 cut_not_done image is = cc is
+
+failed_not_done : Failed ≡ Done → ⊥
+failed_not_done is = cc is
+
+-- what a killed program leaves: what is so of each image of each moment is so of each of its images
+left_so : (moments : List DiskState) (now : DiskState) (P : List ℕ → Type 0) → IsLeftIn moments now → EachImageOf moments P → EachImage now P
+left_so [] now P is each = absurd is
+left_so (moment ∷ moments) now P (inl here) each = λ image is. each.0 image (here image is)
+left_so (moment ∷ moments) now P (inr later) each = left_so moments now P later each.1
+
+none_left : (moments : List DiskState) (now : DiskState) → [] ≡ moments → IsLeftIn moments now → ⊥
+none_left moments now none is = let P : List DiskState → Type 0 = λ m. IsLeftIn m now in subst P (sym none) is
+
+-- what is so within a call, however it ends
+within_commit : (world : words.World) (asked : TableRequest) (moments : List DiskState) (now : DiskState) (ending : Ending)
+    → MayCommit of_tables world asked moments now ending → EachImageOf moments (KeepsWith of_tables world asked)
+within_commit world asked moments now Done may = may.0
+within_commit world asked moments now Refused may = may.0
+within_commit world asked moments now Failed may = may.0
+within_commit world asked moments now Again may = absurd may
+within_commit world asked moments now (Cut image) may = may.0
+
+within_tick : (world : words.World) (moments : List DiskState) (now : DiskState) (ending : Ending)
+    → MayTick of_tables world moments now ending → EachImageOf moments (KeepsThe of_tables world)
+within_tick world moments now Done may = may.0
+within_tick world moments now Refused may = may.0
+within_tick world moments now Failed may = may.0
+within_tick world moments now Again may = absurd may
+within_tick world moments now (Cut image) may = may.0
+
+within_opening : (old : DiskState) (moments : List DiskState) (now : DiskState) (ending : OpenEnding words.World)
+    → MayOpen of_tables old moments now ending → EachImageOf moments (IsImage old)
+within_opening old moments now (Opened world) may = may.0
+within_opening old moments now Unread may = may.0
+within_opening old moments now TurnedAway may = may.0
+within_opening old moments now (OpenCut image) may = may.0
 
 -- a schedule with one event more
 one_more : (first : words.World) (old between new : SystemOf of_tables) (events : List (EventOf of_tables)) (event : EventOf of_tables)
@@ -125,12 +161,13 @@ module _ {D : Type 0} (Honest Works : D → Type 0) (state : D → DiskState) (p
   -- a store that isn't broken has all that its next call rests on
   abbrev pub IsCarried : Owner D → Type 0
   IsCarried (Lies now) = Unit {0}
+  IsCarried (Left now) = Unit {0}
   IsCarried (Has store) = (held_of store).broken ≡ false → Carries state store texts
 
   -- the owner of the disk, and the system of a schedule
   record Matches (owner : Owner D) (system : SystemOf of_tables) : Type 0 where
     pub disk : system.disk ≡ state_under state owner
-    pub holder : system.holder ≡ holder_of texts owner
+    pub holder : IsHolder texts owner system.holder
     pub carries : IsCarried owner
 
   -- an event leads from one system to the next
@@ -140,6 +177,9 @@ module _ {D : Type 0} (Honest Works : D → Type 0) (state : D → DiskState) (p
   module _ (system : SystemOf of_tables) (safe : IsSafe texts kit first system) where
     let_lie : (image : List ℕ) → Matches (Lies (settled_state image)) (let_go of_tables system (settled_state image))
     let_lie image = record { disk = refl; holder = refl; carries = tt }
+
+    let_be : (now : DiskState) → Matches (Left now) (let_go of_tables system now)
+    let_be now = record { disk = refl; holder = tt; carries = tt }
 
     -- an opening
     module _ (disk : D) (owner : Owner D) (at : state disk ≡ state_under state owner) (m : Matches owner system) where
@@ -188,6 +228,16 @@ module _ {D : Type 0} (Honest Works : D → Type 0) (state : D → DiskState) (p
           let e = open_is_event Honest Works state past faults writes syncs texts stays kit f.tables disk right f.of_kit f.keeps result moments o h passes in
           let may = subst (λ (now : DiskState). MayOpen of_tables now moments (state (disk_behind result)) (OpenCut image)) here (e.cut image is) in
           (let_go of_tables system (settled_state image), schedule.Opens_cut moments (state (disk_behind result)) image may, let_lie image)
+
+      opening_killed : (result : Result (Store D) (opening.Refused D)) (moments : List DiskState) (now : DiskState) → Opens Honest state past disk result → Honest (disk_behind result)
+          → Passes state past disk (disk_behind result) moments → IsLeftIn moments now
+          → Step system (Opening moments now Unread) (Left now)
+      opening_killed result moments now o h passes left =
+          let f = now_found (honest_before result o h) in
+          let e = open_is_event Honest Works state past faults writes syncs texts stays kit f.tables disk right f.of_kit f.keeps result moments o h passes in
+          let each = within_opening (state disk) moments (state (disk_behind result)) (open_ending_of texts result) e.ends in
+          let may = subst (λ (before : DiskState). MayOpen of_tables before moments now Unread) here (each, left_so moments now (IsImage (state disk)) left each) in
+          (let_go of_tables system now, schedule.Opens_not moments now Unread (inl refl) may, let_be now)
 
     -- calls on a store
     module _ (old new : Store D) (m : Matches (Has old) system) where
@@ -272,6 +322,18 @@ module _ {D : Type 0} (Honest Works : D → Type 0) (state : D → DiskState) (p
             )
         commit_cut true image broken is = absurd (none_of_none moments image (no_moments moments passes (unchanged broken)) is)
 
+        commit_killed : (b : Bool) (now : DiskState) → (held_of old).broken ≡ b → IsLeftIn moments now
+            → Step system (Commit (for_table name request) moments now Failed) (Left now)
+        commit_killed false now whole left =
+            let e = commit_is_event Honest Works state past faults writes syncs texts old new name stamp request result moments c h (carried whole) whole passes in
+            let each = within_commit (world_in texts old) (for_table name request) moments (state (disk_of new)) (ending_of result) e.ends in
+            let then = left_so moments now (KeepsWith of_tables (world_in texts old) (for_table name request)) left each in (
+              after_commit of_tables system (for_table name request) (world_in texts new) now Failed,
+              schedule.Commits (world_in texts old) (world_in texts new) (for_table name request) moments now Failed (serves whole) (each, then) (λ done. absurd (failed_not_done done)),
+              record { disk = refl; holder = tt; carries = tt },
+            )
+        commit_killed true now broken left = absurd (none_left moments now (no_moments moments passes (unchanged broken)) left)
+
       module _ (T : Type 0) (h : Honest (disk_of new)) where
         is_again : (result : Result T Fault) → Steps Honest Works state past faults old result new → (held_of old).broken ≡ true
             → (result ≡ Err F.OpenAgain) × IsUnchanged old new
@@ -331,27 +393,49 @@ module _ {D : Type 0} (Honest Works : D → Type 0) (state : D → DiskState) (p
               )
           step_cut true image broken is = absurd (none_of_none moments image (no_moments moments passes (is_again result c broken).1) is)
 
-    returned : (owner then : Owner D) (moments : List DiskState) (ends : EventOf of_tables) (cut : List ℕ → EventOf of_tables)
-        → Calls Honest Works state past faults writes syncs texts owner moments ends cut then → Matches owner system → Step system ends then
-    returned owner then moments ends cut (By_open by disk result since at o h passes) m = opened disk by at m result since o h passes
-    returned owner then moments ends cut (By_commit old new name stamp request result since c h passes) m =
-        committed old new m name stamp request result since c h passes (held_of old).broken refl
-    returned owner then moments ends cut (By_tick old new result since c h passes) m = stepped old new m _ h result since c passes (held_of old).broken refl
-    returned owner then moments ends cut (By_checkpoint old new result since c h passes) m = stepped old new m _ h result since c passes (held_of old).broken refl
+          step_killed : (b : Bool) (now : DiskState) → (held_of old).broken ≡ b → IsLeftIn moments now
+              → Step system (schedule.Tick moments now Failed) (Left now)
+          step_killed false now whole left =
+              let e = step_is_event Honest Works state past faults writes syncs texts old new moments h (carried whole) whole passes result c in
+              let each = within_tick (world_in texts old) moments (state (disk_of new)) (ending_of result) e.ends in
+              let then = left_so moments now (KeepsThe of_tables (world_in texts old)) left each in (
+                after_tick of_tables system (world_in texts old) now Failed,
+                schedule.Ticks (world_in texts old) moments now Failed (serves whole) (each, then),
+                record { disk = refl; holder = tt; carries = tt },
+              )
+          step_killed true now broken left = absurd (none_left moments now (no_moments moments passes (is_again result c broken).1) left)
 
-    was_cut : (owner then : Owner D) (moments : List DiskState) (ends : EventOf of_tables) (cut : List ℕ → EventOf of_tables) (image : List ℕ)
-        → Calls Honest Works state past faults writes syncs texts owner moments ends cut then → IsImageOfOne moments image → Matches owner system
+    returned : (owner then : Owner D) (moments : List DiskState) (ends : EventOf of_tables) (cut : List ℕ → EventOf of_tables) (killed : DiskState → EventOf of_tables)
+        → Calls Honest Works state past faults writes syncs texts owner moments ends cut killed then → Matches owner system → Step system ends then
+    returned owner then moments ends cut killed (By_open by disk result since at o h passes) m = opened disk by at m result since o h passes
+    returned owner then moments ends cut killed (By_commit old new name stamp request result since c h passes) m =
+        committed old new m name stamp request result since c h passes (held_of old).broken refl
+    returned owner then moments ends cut killed (By_tick old new result since c h passes) m = stepped old new m _ h result since c passes (held_of old).broken refl
+    returned owner then moments ends cut killed (By_checkpoint old new result since c h passes) m = stepped old new m _ h result since c passes (held_of old).broken refl
+
+    was_cut : (owner then : Owner D) (moments : List DiskState) (ends : EventOf of_tables) (cut : List ℕ → EventOf of_tables) (killed : DiskState → EventOf of_tables) (image : List ℕ)
+        → Calls Honest Works state past faults writes syncs texts owner moments ends cut killed then → IsImageOfOne moments image → Matches owner system
         → Step system (cut image) (Lies (settled_state image))
-    was_cut owner then moments ends cut image (By_open by disk result since at o h passes) is m = opening_cut disk by at m result since image o h passes is
-    was_cut owner then moments ends cut image (By_commit old new name stamp request result since c h passes) is m =
+    was_cut owner then moments ends cut killed image (By_open by disk result since at o h passes) is m = opening_cut disk by at m result since image o h passes is
+    was_cut owner then moments ends cut killed image (By_commit old new name stamp request result since c h passes) is m =
         commit_cut old new m name stamp request result since c h passes (held_of old).broken image refl is
-    was_cut owner then moments ends cut image (By_tick old new result since c h passes) is m = step_cut old new m _ h result since c passes (held_of old).broken image refl is
-    was_cut owner then moments ends cut image (By_checkpoint old new result since c h passes) is m = step_cut old new m _ h result since c passes (held_of old).broken image refl is
+    was_cut owner then moments ends cut killed image (By_tick old new result since c h passes) is m = step_cut old new m _ h result since c passes (held_of old).broken image refl is
+    was_cut owner then moments ends cut killed image (By_checkpoint old new result since c h passes) is m = step_cut old new m _ h result since c passes (held_of old).broken image refl is
+
+    was_killed : (owner then : Owner D) (moments : List DiskState) (ends : EventOf of_tables) (cut : List ℕ → EventOf of_tables) (killed : DiskState → EventOf of_tables) (now : DiskState)
+        → Calls Honest Works state past faults writes syncs texts owner moments ends cut killed then → IsLeftIn moments now → Matches owner system
+        → Step system (killed now) (Left now)
+    was_killed owner then moments ends cut killed now (By_open by disk result since at o h passes) left m = opening_killed disk by at m result since now o h passes left
+    was_killed owner then moments ends cut killed now (By_commit old new name stamp request result since c h passes) left m =
+        commit_killed old new m name stamp request result since c h passes (held_of old).broken now refl left
+    was_killed owner then moments ends cut killed now (By_tick old new result since c h passes) left m = step_killed old new m _ h result since c passes (held_of old).broken now refl left
+    was_killed owner then moments ends cut killed now (By_checkpoint old new result since c h passes) left m = step_killed old new m _ h result since c passes (held_of old).broken now refl left
 
     makes : (owner then : Owner D) (event : EventOf of_tables) → Makes Honest Works state past faults writes syncs texts owner event then → Matches owner system
         → Step system event then
-    makes owner then event (Returns by behind moments ends cut call) m = returned by behind moments ends cut call m
-    makes owner then event (Is_cut by behind moments ends cut image call is) m = was_cut by behind moments ends cut image call is m
+    makes owner then event (Returns by behind moments ends cut killed call) m = returned by behind moments ends cut killed call m
+    makes owner then event (Is_cut by behind moments ends cut killed image call is) m = was_cut by behind moments ends cut killed image call is m
+    makes owner then event (Is_killed by behind moments ends cut killed now call left) m = was_killed by behind moments ends cut killed now call left m
     makes owner then event (Stops by image is) m =
         (let_go of_tables system (settled_state image), schedule.Stops image (subst (λ (now : DiskState). IsImage now image) (sym m.disk) is), let_lie image)
 
@@ -378,11 +462,11 @@ module _ {D : Type 0} (Honest Works : D → Type 0) (state : D → DiskState) (p
       pub session : IsSafeSession Honest Works state past faults writes syncs texts kit first start events last
       pub carries : IsCarried last
 
-    pub goes_behind : (so_far more : List (EventOf of_tables)) (system : SystemOf of_tables) (now : DiskState) (last : Owner D)
-        → Run so_far system → system.disk ≡ now → system.holder ≡ schedule.Nobody
-        → Session Honest Works state past faults writes syncs texts (Lies now) more last → Ends (so_far ++ more) last
-    goes_behind so_far more system now last runs disk holder session =
-        let end = runs_on so_far more system (Lies now) last runs (record { disk = disk; holder = holder; carries = tt }) session in
+    pub goes_behind : (so_far more : List (EventOf of_tables)) (system : SystemOf of_tables) (from last : Owner D)
+        → Run so_far system → system.disk ≡ state_under state from → IsHolder texts from system.holder → IsCarried from
+        → Session Honest Works state past faults writes syncs texts from more last → Ends (so_far ++ more) last
+    goes_behind so_far more system from last runs disk holder carries session =
+        let end = runs_on so_far more system from last runs (record { disk = disk; holder = holder; carries = carries }) session in
         let safe = safe_then (so_far ++ more) end.0 end.1 in
         record {
           session = record {
@@ -401,7 +485,7 @@ module _ {D : Type 0} (Honest Works : D → Type 0) (state : D → DiskState) (p
     pub session_is_safe : (events : List (EventOf of_tables)) (last : Owner D) → Session Honest Works state past faults writes syncs texts (Lies start) events last
         → IsSafeSession Honest Works state past faults writes syncs texts kit first start events last
     session_is_safe events last session =
-        (goes_behind [] events (at_first of_tables start) start last (schedule.Ended (at_first of_tables start)) refl refl session).session
+        (goes_behind [] events (at_first of_tables start) (Lies start) last (schedule.Ended (at_first of_tables start)) refl refl tt session).session
 
 pub sessions_are_safe : {D : Type 0} (Honest Works : D → Type 0) (state : D → DiskState) (past : D → List DiskState) (faults writes syncs : D → ℕ)
     → ((disk : D) → Honest disk → IsImage (state disk) (state disk).content) → SessionsAreSafe Honest Works state past faults writes syncs
@@ -417,6 +501,46 @@ opening_and_request Honest Works state past faults writes syncs stays disk opene
     let e = open_is_event Honest Works state past faults writes syncs texts stays kit tables disk right of_kit keeps (Ok opened) told.1.moments o then told.1.passed in
     let leaves = c.keeps h texts e.opened.2 in (
       Opening told.1.moments (state (disk_of opened)) (Opened (world_in texts opened)) ∷ Commit (for_table name request) leaves.since (state (disk_of last)) (ending_of result) ∷ [],
-      Goes_on _ _ _ _ _ (Returns _ _ _ _ _ (By_open (Lies (state disk)) disk (Ok opened) told.1.moments refl o then told.1.passed))
-          (Goes_on _ _ _ _ _ (Returns _ _ _ _ _ (By_commit opened last name stamp request result leaves.since c h leaves.goes_on)) (Ended _)),
+      Goes_on _ _ _ _ _ (Returns _ _ _ _ _ _ (By_open (Lies (state disk)) disk (Ok opened) told.1.moments refl o then told.1.passed))
+          (Goes_on _ _ _ _ _ (Returns _ _ _ _ _ _ (By_commit opened last name stamp request result leaves.since c h leaves.goes_on)) (Ended _)),
     )
+
+-- a write made in part is on the way to the whole write: its range is a front of that one's
+
+in_front : (ranges : List (ℕ × ℕ)) (range : ℕ × ℕ) (i : ℕ) → IsOutside (ranges ++ range ∷ []) i → IsOutside ranges i
+in_front [] range i out = tt
+in_front (one ∷ ranges) range i out = (out.0, in_front ranges range i out.1)
+
+in_shorter : (ranges : List (ℕ × ℕ)) (at m n i : ℕ) → m ≤ n → IsOutside (ranges ++ (at, at + n) ∷ []) i → IsOutside (ranges ++ (at, at + m) ∷ []) i
+in_shorter [] at m n i less (inl before, none) = (inl before, tt)
+in_shorter [] at m n i less (inr behind, none) = (inr (omega arith), tt)
+in_shorter (one ∷ ranges) at m n i less out = (out.0, in_shorter ranges at m n i less out.1)
+
+module _ (old : DiskState) (at : ℕ) (front : List ℕ) where
+  none_out : (bytes image : List ℕ) → IsImage old image → IsImage (after_write old at bytes) image
+  none_out [] image is = is
+  none_out (byte ∷ bytes) image is =
+      let n = length (byte ∷ bytes) in
+      let end : furthest_end (old.ranges ++ (at, at + n) ∷ []) ≡ max (furthest_end old.ranges) (max (at + n) 0) = furthest_end-append old.ranges ((at, at + n) ∷ []) in
+      record {
+        no_shorter = is.no_shorter;
+        no_longer = omega (arith, is.no_longer);
+        kept = λ i below out. is.kept i below (in_front old.ranges (at, at + n) i out);
+      }
+
+  part_out : (upto : ℕ) (bytes image : List ℕ) → upto ≤ length bytes → IsImage (after_failed_write old at upto front) image → IsImage (after_write old at bytes) image
+  part_out zero bytes image less is = none_out bytes image is
+  part_out (suc upto) [] image less is = absurd (omega (arith, less))
+  part_out (suc upto) (byte ∷ bytes) image less is =
+      let m = suc upto in
+      let n = length (byte ∷ bytes) in
+      let end : furthest_end (old.ranges ++ (at, at + n) ∷ []) ≡ max (furthest_end old.ranges) (max (at + n) 0) = furthest_end-append old.ranges ((at, at + n) ∷ []) in
+      let sooner : furthest_end (old.ranges ++ (at, at + m) ∷ []) ≡ max (furthest_end old.ranges) (max (at + m) 0) = furthest_end-append old.ranges ((at, at + m) ∷ []) in
+      record {
+        no_shorter = is.no_shorter;
+        no_longer = omega (arith, is.no_longer, less);
+        kept = λ i below out. is.kept i below (in_shorter old.ranges at m n i less out);
+      }
+
+pub parts_are_left : PartsOfWritesAreLeft
+parts_are_left old at upto front bytes less = inl (λ image is. part_out old at front upto bytes image less is)

@@ -1,5 +1,5 @@
 -- What a commit does to a store.
-use Rattle.std.specs.Prelude.{◌≡◌, None, ◌⊎◌, ℕ, ◌+◌, ◌≤◌, false, List, Some, Result, Ok, Err}
+use Rattle.std.specs.Prelude.{◌≡◌, None, ◌⊎◌, ℕ, ◌+◌, ◌≤◌, false, List, Some, Result, Ok, Err, OnOk}
 use Rattle.rr_disk.specs.Disk.{DiskState}
 use Rattle.rr_disk.specs.Moments.{LeavesOnly}
 use Rattle.rr_code.specs.declared.command.Command.{Command}
@@ -13,7 +13,8 @@ use Rattle.rr_store.specs.declared.store.Store.{Store}
 use Rattle.rr_store.specs.Allowing.{Between, CommitAllows}
 use Rattle.rr_store.specs.Fault.{CountsEnd, OnDeviceFault}
 use Rattle.rr_store.specs.Held.{Takes}
-use Rattle.rr_store.specs.Holding.{Carries, IsFull, IsUnchanged, disk_of, held_of, number_of_next}
+use Rattle.rr_store.specs.Holding.{Carries, HasNoRoom, IsFull, IsFullFor, IsUnchanged, Rests, disk_of, file_of, held_of, number_of_next, ticks_left}
+use Rattle.rr_store.specs.Keeping.{ComesOn}
 use Rattle.rr_store.specs.World.{for_table, judgement_in}
 
 -- the number of the next record: one more behind a request that was taken; where the device failed it isn't known
@@ -33,11 +34,16 @@ Spares old (Err fault) new = IsUnchanged old new
 
 -- What a commit does, by its result: what the store holds then; and, on an honest disk that carries what was held, what the
 -- disk passed through, that each file which a stop leaves keeps what was held or, of a lawful request, that with it, and that
--- the disk carries what is held now. Of every disk: the number of the next record; that a refusal by
--- the rules changes nothing, nor does want of memory where the request isn't lawful; a device fault is told exactly where the
--- disk counts one; at most three writes and three syncs, where the half in use has room for the request; and that the file is
--- full, only where it has no room for the request or no number. And an honest disk that works, and carries what was held, is
--- never told to have failed.
+-- the disk carries what is held now. Of every disk: the number of the next record; that a refusal by the rules changes nothing,
+-- nor does want of memory where the request isn't lawful; and that a device fault is told exactly where the disk counts one.
+-- The file is told to be full only where no checkpoint makes room for the request's record: it takes more than two slots, or
+-- behind the call its number would be past the last, or the half in use has no room for it and a checkpoint finds too few free
+-- pages or no number for its root. Where the half had room for the record, and there was a number for it, three writes and three
+-- syncs are made at most, and two of each where no checkpoint was under way or to begin; and if the request was taken, a
+-- checkpoint that was under way came on by a step, and else none is begun, or one that has three steps left at least, but none
+-- where none was to begin. Where the half had no room, and the request was taken, its record stands behind the first step of a
+-- checkpoint, which has three left at least. And an honest disk that works, and carries what was held, is never told to have
+-- failed.
 pub record Commits {D : Type 0} (Honest Works : D → Type 0) (state : D → DiskState) (past : D → List DiskState) (faults writes syncs : D → ℕ)
     (old : Store D) (name : List ℕ) (stamp : ℕ) (request : Request Command) (new : Store D) (result : Result ℕ Fault) : Type 0 where
   pub takes : Takes (held_of old) stamp name request (held_of new) result
@@ -57,5 +63,9 @@ pub record Commits {D : Type 0} (Honest Works : D → Type 0) (state : D → Dis
   pub works : Works (disk_of new) → Works (disk_of old)
   pub few_writes : (IsFull old name request → ⊥) → writes (disk_of new) ≤ writes (disk_of old) + 3
   pub few_syncs : (IsFull old name request → ⊥) → syncs (disk_of new) ≤ syncs (disk_of old) + 3
-  pub full : result ≡ Err F.FileFull → IsFull new name request
+  pub own_writes : (IsFull old name request → ⊥) → Rests old → writes (disk_of new) ≤ writes (disk_of old) + 2
+  pub own_syncs : (IsFull old name request → ⊥) → Rests old → syncs (disk_of new) ≤ syncs (disk_of old) + 2
+  pub comes_on : OnOk result ((IsFull old name request → ⊥) → ComesOn (file_of old) (file_of new))
+  pub makes_room : OnOk result (HasNoRoom old name request → 3 ≤ ticks_left new)
+  pub full : result ≡ Err F.FileFull → IsFullFor new name request
   pub device : OnDeviceFault result (Honest (disk_of new) → (texts : KitTexts) → Carries state old texts → Works (disk_of new) → ⊥)

@@ -1,15 +1,16 @@
 -- What a store holds, and what is known of it between two calls.
-use Rattle.std.specs.Prelude.{◌≡◌, ℕ, ◌-◌, List}
+use Rattle.std.specs.Prelude.{◌≡◌, ◌⊎◌, ℕ, ◌-◌, List, length, map}
 use Rattle.rr_code.specs.declared.command.Command.{Command}
 use Rattle.rr_code.specs.Request.{record_text}
 use Rattle.rr_disk.specs.Disk.{DiskState}
 use Rattle.rr_kit.specs.Kits.{KitTexts, SpellsKit}
 use Rattle.rr_log.specs.declared.log.Log.{Log}
+use Rattle.rr_log.specs.Calls.{MeetsFullFile}
 use Rattle.rr_log.specs.Carrying as file
 use Rattle.rr_log.specs.Log as log
 use Rattle.rr_records.specs.declared.rules.TableRules.{TableRules}
 use Rattle.rr_records.specs.Taking.{Takes}
-use Rattle.rr_records.specs.Words.{in_words}
+use Rattle.rr_records.specs.Words.{in_words, table_in_words}
 use Rattle.rr_tables.specs.Tables.{world_of}
 use Rattle.rr_turns.specs.declared.request.Request.{Request}
 use Rattle.rr_store.specs.declared.store.Store.{Store}
@@ -46,6 +47,17 @@ ticks_left store = log.ticks_left store.journal.file
 -- the half in use has no room for the record of this request, or the record's number would be past the last
 abbrev pub IsFull : {D : Type 0} → Store D → List ℕ → Request Command → Type 0
 IsFull store name request = keeping.IsFull store.journal.file (record_text name request)
+
+-- the half in use has no room for the record of this request
+abbrev pub HasNoRoom : {D : Type 0} → Store D → List ℕ → Request Command → Type 0
+HasNoRoom store name request = log.HasNoRoom (log.place_of store.journal.file) (length (record_text name request))
+
+-- No checkpoint makes room for the record of this request: it takes more than two slots, or its number would be past the last,
+-- or the half in use has no room for it and a checkpoint finds too few free pages or no number for its root.
+abbrev pub IsFullFor : {D : Type 0} → Store D → List ℕ → Request Command → Type 0
+IsFullFor store name request =
+    log.IsTooLong (length (record_text name request))
+    ⊎ MeetsFullFile (file_of store) (map table_in_words (held_of store).tables) (length (record_text name request))
 
 -- no checkpoint is under way, and none is to begin
 abbrev pub Rests : {D : Type 0} → Store D → Type 0

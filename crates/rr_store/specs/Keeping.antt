@@ -1,14 +1,14 @@
 -- What keeping the record of a request does to the open file.
-use Rattle.std.specs.Prelude.{◌≡◌, ◌⊎◌, ◌↔◌, ℕ, ◌+◌, ◌≤◌, false, List, length, Result, IsErrOf, IsTrue}
+use Rattle.std.specs.Prelude.{◌≡◌, ◌⊎◌, ◌↔◌, ℕ, ◌+◌, ◌<◌, ◌≤◌, false, List, length, Result, IsErrOf, IsTrue, OnOk}
 use Rattle.rr_checkpoint.specs.Calls.{LeavesEither}
 use Rattle.rr_disk.specs.Disk.{DiskState}
 use Rattle.rr_log.specs.declared.fault.Fault.{Fault}
 use Rattle.rr_log.specs.declared.fault.Fault.TheVariants as F
 use Rattle.rr_log.specs.declared.log.Log.{Log}
-use Rattle.rr_log.specs.Calls.{NumberBehind, world_behind}
+use Rattle.rr_log.specs.Calls.{MeetsFullFile, NumberBehind, world_behind}
 use Rattle.rr_log.specs.Carrying.{Carries}
 use Rattle.rr_log.specs.Fault.{CountsFault, OnDeviceFault, ends_broken}
-use Rattle.rr_log.specs.Log.{HasNoRoom, IsDue, IsPastLast, disk_of, is_broken, next_number, place_of, ticks_left}
+use Rattle.rr_log.specs.Log.{HasNoRoom, IsDue, IsPastLast, IsTooLong, disk_of, is_broken, next_number, place_of, ticks_left}
 use Rattle.rr_records.specs.declared.rules.TableRules.{TableRules}
 use Rattle.rr_records.specs.Taking.{Takes, table_files}
 use Rattle.rr_worlds.specs.World.{Table}
@@ -18,7 +18,7 @@ use Rattle.rr_worlds.specs.World as words
 abbrev pub IsFull : {D R : Type 0} → Log D R → List ℕ → Type 0
 IsFull log bytes = HasNoRoom (place_of log) (length bytes) ⊎ IsPastLast (next_number log)
 
--- what is told where a record isn't kept behind a checkpoint: a half without room is a full file then
+-- what is told where a second attempt to keep a record fails: a half without room is a full file then
 abbrev pub told_of : Fault → Fault
 told_of F.HalfFull = F.FileFull
 told_of F.DeviceFailed = F.DeviceFailed
@@ -31,12 +31,23 @@ pub record Rests {D R : Type 0} (log : Log D R) : Type 0 where
   pub none_left : ticks_left log ≡ 0
   pub none_due : IsDue (place_of log) → ⊥
 
+-- How far a checkpoint comes: one that was under way by a step. Else none is begun, or one that has three steps left at least;
+-- and where none was to begin, none is.
+pub record ComesOn {D R : Type 0} (old new : Log D R) : Type 0 where
+  pub left : 0 < ticks_left old → ticks_left old ≡ ticks_left new + 1
+  pub begins : ticks_left old ≡ 0 → (ticks_left new ≡ 0) ⊎ (3 ≤ ticks_left new)
+  pub rests : Rests old → ticks_left new ≡ 0
+
 -- What keeping a record does to an honest disk that carries a world of these tables: a stop at any moment leaves a file that
 -- keeps this world, or the one to which the record leads; and behind it the file carries the one that the answer tells. Of
 -- every disk: the next record's number is one more behind a record that was kept; the log is broken exactly where the device
--- failed; a broken one refuses and stays as it is; that a half is full is never told, and that the file is, only where there
--- is no room or no number. Where there was room, three writes and three syncs are made at most; else a whole checkpoint may be
--- made. And an honest disk that works, and carries such a world, is never told to have failed.
+-- failed; a broken one refuses and stays as it is. That a half is full is never told; and that the file is, only where the
+-- record takes more than two slots, or where behind the call its number would be past the last, or the half in use has no room
+-- for it and a checkpoint finds too few free pages or no number for its root. Where there was room and a number, three writes and
+-- three syncs are made at most, two of each where no checkpoint was under way or to begin, and a checkpoint comes on with a
+-- record that was kept. Where there was no room, one that was under way may be ended, and a record that was kept stands behind
+-- the first step of another, which has three left at least. And an honest disk that works, and carries such a world, is never
+-- told to have failed.
 pub record Keeping {D : Type 0} (Honest Works : D → Type 0) (state : D → DiskState) (past : D → List DiskState) (faults writes syncs : D → ℕ)
     (old : Log D TableRules) (tables : List Table) (bytes : List ℕ) (result : Result (Unit {0}) Fault) (new : Log D TableRules) : Type 0 where
   pub honest : Honest (disk_of new) → Honest (disk_of old)
@@ -49,7 +60,7 @@ pub record Keeping {D : Type 0} (Honest Works : D → Type 0) (state : D → Dis
   pub again : IsErrOf result F.OpenAgain ↔ IsTrue (is_broken old)
   pub untouched : IsErrOf result F.OpenAgain → new ≡ old
   pub broken : is_broken new ≡ ends_broken result
-  pub full : IsErrOf result F.FileFull → IsFull new bytes
+  pub full : IsErrOf result F.FileFull → IsTooLong (length bytes) ⊎ MeetsFullFile new tables (length bytes)
   pub room : IsErrOf result F.HalfFull → ⊥
   pub counts : CountsFault (faults (disk_of old)) (faults (disk_of new)) result
   pub works : Works (disk_of new) → Works (disk_of old)
@@ -57,3 +68,7 @@ pub record Keeping {D : Type 0} (Honest Works : D → Type 0) (state : D → Dis
       → Carries Takes old (state (disk_of old)) before → Works (disk_of new) → ⊥)
   pub few_writes : (IsFull old bytes → ⊥) → writes (disk_of new) ≤ writes (disk_of old) + 3
   pub few_syncs : (IsFull old bytes → ⊥) → syncs (disk_of new) ≤ syncs (disk_of old) + 3
+  pub own_writes : (IsFull old bytes → ⊥) → Rests old → writes (disk_of new) ≤ writes (disk_of old) + 2
+  pub own_syncs : (IsFull old bytes → ⊥) → Rests old → syncs (disk_of new) ≤ syncs (disk_of old) + 2
+  pub comes_on : OnOk result ((IsFull old bytes → ⊥) → ComesOn old new)
+  pub makes_room : OnOk result (HasNoRoom (place_of old) (length bytes) → 3 ≤ ticks_left new)

@@ -9,7 +9,8 @@ use rr_log::{Fault, Log, TablesInWords};
 use rr_records::TableRules;
 use rr_words::Name;
 
-/// Keeps a record. Where the half in use has no room for it while a checkpoint is under way, the checkpoint is ended first.
+/// Keeps a record. Where the half in use has no room for it, a checkpoint under way is ended first. Then the next one, which
+/// begins with the second attempt, makes room, unless the record takes more than two slots.
 pub(crate) fn keep_record<D: Disk + Drop, T: TablesInWords>(
     file: &mut Log<D, TableRules>,
     tables: &T,
@@ -18,15 +19,13 @@ pub(crate) fn keep_record<D: Disk + Drop, T: TablesInWords>(
     requires { 0 < length line.now }
     ensures { Keeping D.Honest D.Works D.state D.past D.fault_count D.write_count D.sync_count file.old (T.tables tables.now) line.now result file.new }
 {
-    let resting = file.ticks_left() == 0;
     let kept = file.keep(tables, line);
     if !is_half_full(&kept) {
         return kept;
     }
-    if resting && file.ticks_left() == 0 {
-        return Err(Fault::FileFull);
+    if file.ticks_left() > 0 {
+        file.checkpoint(tables)?;
     }
-    file.checkpoint(tables)?;
     match file.keep(tables, line) {
         Ok(()) => Ok(()),
         Err(fault) => Err(told(fault)),
@@ -43,7 +42,7 @@ fn is_half_full(kept: &Result<(), Fault>) -> bool
     }
 }
 
-/// What is told where a record isn't kept behind a checkpoint: a half without room is a full file then.
+/// What is told where a second attempt to keep a record fails: a half without room is a full file then.
 fn told(fault: Fault) -> Fault
     ensures { result ≡ told_of fault }
 {

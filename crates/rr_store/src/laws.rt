@@ -2,7 +2,7 @@
 //! all files, worlds and disks.
 ghost use Rattle.rr_store.specs.Events.{CommitsAreEvents, OpensAreEvents, StepsAreEvents};
 ghost use Rattle.rr_store.specs.Laws.{OneWorld};
-ghost use Rattle.rr_store.specs.Sessions.{OpeningsAndRequestsAreSessions, SessionsAreSafe};
+ghost use Rattle.rr_store.specs.Sessions.{OpeningsAndRequestsAreSessions, PartsOfWritesAreLeft, SessionsAreSafe};
 
 use rr_checkpoint::Tick;
 use rr_disk::Disk;
@@ -23,10 +23,13 @@ pub fn calls_are_events<D: Disk>()
 {}
 
 /// Whatever calls are made one after another on a file that keeps tables of a right kit, with stops within them and between
-/// them and openings behind these: each file that a stop may leave keeps the tables of the requests that were acknowledged or,
-/// where one is pending, those with it. A store that isn't broken holds just the former, and no opening is turned away.
+/// them, programs killed within them, and openings behind these: each file that a stop may leave keeps the tables of the
+/// requests that were acknowledged or, where one is pending, those with it. A store that isn't broken holds just the former,
+/// and no opening is turned away.
 pub fn sessions_are_safe<D: Disk>()
     ensures safe { SessionsAreSafe D.Honest D.Works D.state D.past D.fault_count D.write_count D.sync_count }
+    // What a killed program leaves may be a write in part.
+    ensures parts { PartsOfWritesAreLeft }
     // There are such sessions.
     ensures example { OpeningsAndRequestsAreSessions D.Honest D.Works D.state D.past D.fault_count D.write_count D.sync_count }
 {}

@@ -57,9 +57,10 @@ impl<D: Disk + Drop> Store<D> {
     /// # Errors
     /// `OpenAgain` first, where the device failed before. Then what refuses the request: for an opening `StaleStamp` and
     /// `TooManyTables`; for another request `NoSuchTable`, `StaleStamp`, `TooManyCommands`, and then `TurnNotKept` for one
-    /// that takes the table back or forgets, or what the game refuses. Then `OutOfMemory`, and `FileFull` where the file has
-    /// no room for the request, or its number would be 2^63 - 1 or more. After `DeviceFailed` the request may be in the file
-    /// or not, and the store is broken.
+    /// that takes the table back or forgets, or what the game refuses. Then `OutOfMemory`, and `FileFull` where the request's
+    /// record takes more than two slots, where its number would be 2^63 - 1 or more, or where the half in use has no room for
+    /// it and a checkpoint finds too few free pages or no number for its root. After `DeviceFailed` the request may be in the
+    /// file or not, and the store is broken.
     pub fn commit(
         &mut self,
         name: &Name,
@@ -79,7 +80,7 @@ impl<D: Disk + Drop> Store<D> {
         Ok(taken)
     }
 
-    /// A device call failed: each call but `into_disk` is refused until the file is opened again.
+    /// A device call failed: each call that can be refused is, until the file is opened again.
     pub fn is_broken(&self) -> bool
         ensures { result ≡ (held_of self.now).broken }
     {

@@ -8,7 +8,7 @@
 ghost use Rattle.rr_kit.specs.Kits.{KitTexts};
 ghost use Rattle.rr_store.specs.Allowing.{Keeps};
 ghost use Rattle.rr_store.specs.Holding.{Carries, disk_of, held_of};
-ghost use Rattle.rr_world_laws.specs.Sessions.{SafeSessionsGoOn, SessionsAreSound, SessionsGoOn};
+ghost use Rattle.rr_world_laws.specs.Sessions.{SafeSessionsGoOn, SessionsAreSound, SessionsGoOn, SoundSessionsGoOn};
 ghost use Rattle.rr_world_laws.specs.Worlds.{FilesAreSound, RightKitsAreNotWrong, StandingFilesOpen, WhateverComesIsSound, WorldsAreSound, WorldsDiffer};
 
 use rr_disk::Disk;
@@ -27,18 +27,18 @@ pub fn whatever_comes_is_sound()
     rr_laws::kits_name_corporations();
 }
 
-/// Whatever calls are made one after another on a new file, with stops within them and between them and openings behind these:
-/// what they say is what the law over sessions says, and each world that a stop may leave is sound, and so is what a store
-/// holds that isn't broken.
+/// Whatever calls are made one after another on a new file, with stops and killed programs within them, stops between them, and
+/// openings behind these: what they say is what the law over sessions says, and each world that a stop may leave is sound, and
+/// so is what a store holds that isn't broken.
 pub fn sessions_are_sound<D: Disk>()
     ensures { SessionsAreSound D.Honest D.Works D.state D.past D.fault_count D.write_count D.sync_count }
 {
     whatever_comes_is_sound();
 }
 
-/// Behind a session that leaves its disk lying, a session on a disk of another type goes on: what both do, one behind the
-/// other, is one schedule from the first tables, and it is safe over all acknowledged requests of both. So it is however many
-/// go before, and a program may make a new disk value, of whatever type, each time it is started.
+/// A program may end, be killed, or be cut off by a stop of the machine, and another one be started on what it left, whether or
+/// not all of that was synced, with a disk value of whatever type: what both do, one behind the other, is one schedule from the
+/// first tables, and it is safe over all acknowledged requests of both. So it is however many programs ran before.
 pub fn sessions_go_on<D: Disk, E: Disk>()
     ensures two { SessionsGoOn D.Honest D.Works D.state D.past D.fault_count D.write_count D.sync_count
         E.Honest E.Works E.state E.past E.fault_count E.write_count E.sync_count }
@@ -46,6 +46,15 @@ pub fn sessions_go_on<D: Disk, E: Disk>()
         E.Honest E.Works E.state E.past E.fault_count E.write_count E.sync_count }
 {
     rr_store::laws::sessions_are_safe::<D>();
+}
+
+/// And what is kept stays sound behind a restart: where the first program began on a new file, however many ran before, each
+/// world that a stop may leave of a later one's disk is sound, and so is what its store holds, unless the device failed.
+pub fn sessions_that_go_on_are_sound<D: Disk, E: Disk>()
+    ensures { SoundSessionsGoOn D.Honest D.Works D.state D.past D.fault_count D.write_count D.sync_count
+        E.Honest E.Works E.state E.past E.fault_count E.write_count E.sync_count }
+{
+    whatever_comes_is_sound();
 }
 
 /// Whatever lawful requests led to a world, each of its tables is in order and had no run as best but one that was, with a

@@ -1,4 +1,4 @@
-use Rattle.std.proofs.Common.{refl, ◌∙◌, arith}
+use Rattle.std.proofs.Common.{refl, arith}
 use Rattle.rr_checkpoint.specs.Writer.{free_of}
 use Rattle.rr_pages.specs.FreePages.{coming_of}
 use Rattle.rr_snapshot.proofs.Frames.{stays, onward, one_marked}
@@ -6,13 +6,12 @@ use Rattle.rr_worlds.specs.Spelling.{worlds}
 use Rattle.rr_snapshot.proofs.keeping.keep_pages.Goals as goal
 
 pub loop-page-init : goal.loop-page-init
-loop-page-init g c = record { coming = refl; present = refl; only = stays (worlds g.R.Rules.takes) c.args.writer.now c.requires }
+loop-page-init g c = record { coming = refl; only = stays (worlds g.R.Rules.takes) c.args.writer.now c.requires }
 
 pub loop-page-preserved : goal.loop-page-preserved
 loop-page-preserved g c =
     record {
       coming = one_marked (coming_of (free_of c.args.writer.now)) (coming_of (free_of c.loop-page.writer)) (coming_of (free_of c.keep_page.new.writer)) c.args.pages.now c.loop-page.page-index
           (omega (arith, c.loop-page-test.true)) c.loop-page.invariant.coming c.keep_page.ensures.coming;
-      present = c.keep_page.ensures.present ∙ c.loop-page.invariant.present;
       only = onward (worlds g.R.Rules.takes) c.args.writer.now c.loop-page.writer c.keep_page.new.writer c.loop-page.invariant.only c.keep_page.ensures.only;
     }

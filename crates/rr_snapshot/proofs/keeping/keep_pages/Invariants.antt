@@ -1,6 +1,6 @@
 use Rattle.std.proofs.Common.{◌≡◌, take}
 use Rattle.rr_checkpoint.specs.Writer.{free_of}
-use Rattle.rr_pages.specs.FreePages.{coming_of, present_of}
+use Rattle.rr_pages.specs.FreePages.{coming_of}
 use Rattle.rr_pages.specs.Sets.{all_marked}
 use Rattle.rr_snapshot.specs.Writing.{OnlyTakes}
 use Rattle.rr_worlds.specs.Spelling.{worlds}
@@ -10,6 +10,5 @@ abbrev pub invariant-loop-page : goal.invariant-loop-page
 invariant-loop-page g l =
     record {
       coming : coming_of (free_of l.writer) ≡ all_marked (coming_of (free_of l.fn.writer)) (take l.page-index l.pages);
-      present : present_of (free_of l.writer) ≡ present_of (free_of l.fn.writer);
       only : OnlyTakes (worlds g.R.Rules.takes) l.fn.writer l.writer;
     }

@@ -1,4 +1,4 @@
-use Rattle.std.proofs.Common.{◌≡◌, length, Result, Err, refl, ◌∙◌, ap, arith}
+use Rattle.std.proofs.Common.{◌≡◌, length, Result, Err, refl, ap, arith}
 use Rattle.std.proofs.lemmas.Result.{err_from_is_err_and}
 use Rattle.rr_checkpoint.specs.Writer.{free_of}
 use Rattle.rr_dir.specs.declared.directory.TableEntry.{TableEntry}
@@ -21,7 +21,6 @@ loop-table-init g c =
     let writer = c.args.writer.now in
     record {
       laid = none_laid (present_of (free_of writer)) (coming_of (free_of writer)) c.args.fresh.now.items c.new-entries.result.items c.requires.nothing c.new-entries.ensures.items;
-      present = refl;
       only = stays (worlds g.R.Rules.takes) writer c.requires.resting;
     }
 
@@ -34,7 +33,7 @@ returns-in_err-entry-clause-full g c = λ full.
     let count = length (text_for (table_of c.table-item.result)) in
     too_few_tables (present_of (free_of writer)) (coming_of (free_of writer)) (coming_of (free_of now)) c.loop-table.fresh.items c.args.tables.now c.loop-table.table-index c.table-item.result c.loop-table.entries.items
     (omega (arith, c.loop-table-test.true)) c.table-item.is c.loop-table.invariant.laid
-    (too_few_same (present_of (free_of now)) (present_of (free_of writer)) (coming_of (free_of now)) (coming_of (free_of now)) (pages_for count) c.loop-table.invariant.present refl (c.in_err-entry.ensures.full (ap wrapped is)))
+    (too_few_same (present_of (free_of now)) (present_of (free_of writer)) (coming_of (free_of now)) (coming_of (free_of now)) (pages_for count) c.loop-table.invariant.only.present refl (c.in_err-entry.ensures.full (ap wrapped is)))
 
 pub returns-in_err-entry-clause-only : goal.returns-in_err-entry-clause-only
 returns-in_err-entry-clause-only g c = onward (worlds g.R.Rules.takes) c.args.writer.now c.loop-table.writer c.lay_table.new.writer c.loop-table.invariant.only c.lay_table.ensures.only
@@ -49,7 +48,6 @@ loop-table-preserved g c =
     let next = c.lay_table.new.writer in
     record {
       laid = next_laid (present_of (free_of writer)) (present_of (free_of now)) (coming_of (free_of writer)) (coming_of (free_of now)) (coming_of (free_of next)) c.loop-table.fresh.items c.lay_table.new.fresh.items c.args.tables.now c.loop-table.table-index c.table-item.result c.loop-table.entries.items c.push.new.self.items c.in_ok-entry.entry
-          (omega (arith, c.loop-table-test.true)) c.table-item.is c.loop-table.invariant.present c.loop-table.invariant.laid c.in_ok-entry.ensures.laid c.in_ok-entry.ensures.entry c.in_ok-push.ensures.items;
-      present = c.lay_table.ensures.present ∙ c.loop-table.invariant.present;
+          (omega (arith, c.loop-table-test.true)) c.table-item.is c.loop-table.invariant.only.present c.loop-table.invariant.laid c.in_ok-entry.ensures.laid c.in_ok-entry.ensures.entry c.in_ok-push.ensures.items;
       only = onward (worlds g.R.Rules.takes) writer now next c.loop-table.invariant.only c.lay_table.ensures.only;
     }

@@ -1,4 +1,4 @@
-use Rattle.std.proofs.Common.{◌≡◌, map, take}
+use Rattle.std.proofs.Common.{map, take}
 use Rattle.rr_checkpoint.specs.Writer.{free_of}
 use Rattle.rr_pages.specs.FreePages.{present_of, coming_of}
 use Rattle.rr_snapshot.specs.Laying.{AreTablesLaid}
@@ -11,6 +11,5 @@ abbrev pub invariant-loop-table : goal.invariant-loop-table
 invariant-loop-table g l =
     record {
       laid : AreTablesLaid (present_of (free_of l.fn.writer)) (coming_of (free_of l.fn.writer)) (coming_of (free_of l.writer)) l.fresh.items (map table_of (take l.table-index l.tables)) l.entries.items;
-      present : present_of (free_of l.writer) ≡ present_of (free_of l.fn.writer);
       only : OnlyTakes (worlds g.R.Rules.takes) l.fn.writer l.writer;
     }

@@ -47,7 +47,7 @@ returns-in_err-plan-clause-only g c =
     let new = c.plan.new.self in
     onward codec c.args.writer.now kept new c.keep_texts.ensures.only
     (onward codec kept laid new c.lay_tables.ensures.only
-    (record { resting = c.plan.ensures.resting; taken = c.plan.ensures.taken; place = c.plan.ensures.place; carries = c.plan.ensures.carries }))
+    (record { resting = c.plan.ensures.resting; taken = c.plan.ensures.taken; place = c.plan.ensures.place; present = c.plan.ensures.present; carries = c.plan.ensures.carries }))
 
 pub returns-clause-only : goal.returns-clause-only
 returns-clause-only g c =
@@ -57,7 +57,7 @@ returns-clause-only g c =
     let new = c.plan.new.self in
     onward codec c.args.writer.now kept new c.keep_texts.ensures.only
     (onward codec kept laid new c.lay_tables.ensures.only
-    (record { resting = c.plan.ensures.resting; taken = c.plan.ensures.taken; place = c.plan.ensures.place; carries = c.plan.ensures.carries }))
+    (record { resting = c.plan.ensures.resting; taken = c.plan.ensures.taken; place = c.plan.ensures.place; present = c.plan.ensures.present; carries = c.plan.ensures.carries }))
 
 pub returns-in_err-plan-clause-full : goal.returns-in_err-plan-clause-full
 returns-in_err-plan-clause-full g c = λ full.
@@ -73,9 +73,9 @@ returns-in_err-plan-clause-full g c = λ full.
     c.deref-2.ensures.value ∙ (c.in_ok-directory.ensures.bytes ∙ ap (λ (chains : KitChains). spelling One (record { kit = chains; tables = entries })) c.chains.ensures) in
     too_few_all (present_of (free_of writer)) start (coming_of (free_of laid)) c.lay_tables.new.fresh.items (tables_of c.args.snapshot.now) entries (kit_chains kit) c.deref-2.result.now
     (laid_same (present_of (free_of kept)) (present_of (free_of writer)) (coming_of (free_of kept)) start (coming_of (free_of laid)) c.lay_tables.new.fresh.items (map table_of c.deref.result.now) (tables_of c.args.snapshot.now) entries
-    c.keep_texts.ensures.present c.keep_texts.ensures.coming (ap (λ (parts : List TableSnapshot). map table_of parts) c.deref.ensures.value) c.in_ok-entries.ensures.laid)
+    c.keep_texts.ensures.only.present c.keep_texts.ensures.coming (ap (λ (parts : List TableSnapshot). map table_of parts) c.deref.ensures.value) c.in_ok-entries.ensures.laid)
     bytes
-    (too_few_same (present_of (free_of laid)) (present_of (free_of writer)) (coming_of (free_of laid)) (coming_of (free_of laid)) (pages_for (length c.deref-2.result.now)) (c.lay_tables.ensures.present ∙ c.keep_texts.ensures.present) refl (c.in_err-plan.ensures.full (ap wrapped is)))
+    (too_few_same (present_of (free_of laid)) (present_of (free_of writer)) (coming_of (free_of laid)) (coming_of (free_of laid)) (pages_for (length c.deref-2.result.now)) (c.lay_tables.ensures.only.present ∙ c.keep_texts.ensures.only.present) refl (c.in_err-plan.ensures.full (ap wrapped is)))
 
 pub returns-clause-plan : goal.returns-clause-plan
 returns-clause-plan g c = λ state world carries of.
@@ -95,5 +95,5 @@ returns-clause-plan g c = λ state world carries of.
     let keeps = carries.between.each state.settled (settled_may_stay state) in
     planned takes carries.layout kit snapshot of state.settled world keeps (coming_of (free_of writer)) (free_of laid) c.lay_tables.new.fresh.items entries c.deref-2.result.now c.requires.nothing writer.file.free.coming.whole
     (laid_same (present_of (free_of kept)) (present_of (free_of laid)) (coming_of (free_of kept)) start (coming_of (free_of laid)) c.lay_tables.new.fresh.items (map table_of c.deref.result.now) (tables_of snapshot) entries
-    (sym c.lay_tables.ensures.present) c.keep_texts.ensures.coming (ap (λ (parts : List TableSnapshot). map table_of parts) c.deref.ensures.value) c.in_ok-entries.ensures.laid)
+    (sym c.lay_tables.ensures.only.present) c.keep_texts.ensures.coming (ap (λ (parts : List TableSnapshot). map table_of parts) c.deref.ensures.value) c.in_ok-entries.ensures.laid)
     bytes then.0.layout (free_of c.plan.new.self) c.in_ok-plan.plan then.1 (c.in_ok-plan.ensures.plan state world then.0)

@@ -8,7 +8,7 @@ use Rattle.rr_snapshot.specs.Kit.{text_pages}
 use Rattle.rr_snapshot.specs.Laying.{needed_pages}
 use Rattle.rr_snapshot.specs.Planning.{IsOfLayout, HoldsTexts}
 use Rattle.rr_snapshot.specs.Snapshot.{tables_of}
-use Rattle.rr_snapshot.proofs.Frames.{onward, present_stays}
+use Rattle.rr_snapshot.proofs.Frames.{onward}
 use Rattle.rr_snapshot.proofs.LaidTables.{too_few_same}
 use Rattle.rr_snapshot.proofs.PlanLemmas.{one_start}
 use Rattle.rr_worlds.specs.Spelling.{worlds}
@@ -32,11 +32,8 @@ returns-in-Ok-clause-plan g c = λ state world carries of.
 pub returns-in-Ok-clause-only : goal.returns-in-Ok-clause-only
 returns-in-Ok-clause-only g c =
     onward (worlds g.R.Rules.takes) c.args.writer.now c.abandon.new.self c.make_plan.new.writer
-    (record { resting = c.abandon.ensures.resting; taken = c.abandon.ensures.taken; place = c.abandon.ensures.place; carries = c.abandon.ensures.carries })
+    (record { resting = c.abandon.ensures.resting; taken = c.abandon.ensures.taken; place = c.abandon.ensures.place; present = c.abandon.ensures.present; carries = c.abandon.ensures.carries })
     c.make_plan.ensures.only
-
-pub returns-in-Ok-clause-present : goal.returns-in-Ok-clause-present
-returns-in-Ok-clause-present g c = present_stays (worlds g.R.Rules.takes) c.args.writer.now c.make_plan.new.writer (returns-in-Ok-clause-only g c)
 
 pub returns-in-Err-clause-full : goal.returns-in-Err-clause-full
 returns-in-Err-clause-full g c = λ full none reached.
@@ -53,9 +50,6 @@ returns-in-Err-clause-only g c =
     let planned = c.make_plan.new.writer in
     let ended = c.abandon-in-Err.new.self in
     onward codec c.args.writer.now begun ended
-    (record { resting = c.abandon.ensures.resting; taken = c.abandon.ensures.taken; place = c.abandon.ensures.place; carries = c.abandon.ensures.carries })
+    (record { resting = c.abandon.ensures.resting; taken = c.abandon.ensures.taken; place = c.abandon.ensures.place; present = c.abandon.ensures.present; carries = c.abandon.ensures.carries })
     (onward codec begun planned ended c.make_plan.ensures.only
-    (record { resting = c.abandon-in-Err.ensures.resting; taken = c.abandon-in-Err.ensures.taken; place = c.abandon-in-Err.ensures.place; carries = c.abandon-in-Err.ensures.carries }))
-
-pub returns-in-Err-clause-present : goal.returns-in-Err-clause-present
-returns-in-Err-clause-present g c = present_stays (worlds g.R.Rules.takes) c.args.writer.now c.abandon-in-Err.new.self (returns-in-Err-clause-only g c)
+    (record { resting = c.abandon-in-Err.ensures.resting; taken = c.abandon-in-Err.ensures.taken; place = c.abandon-in-Err.ensures.place; present = c.abandon-in-Err.ensures.present; carries = c.abandon-in-Err.ensures.carries }))

@@ -22,6 +22,7 @@ loop-self-init g c =
       renews = λ honest world carries some none. absurd (omega (arith, some, none));
       rests = λ some none. absurd (omega (arith, some, none));
       number = refl;
+      half = refl;
       faults = refl;
       writes = omega arith;
       syncs = omega arith;
@@ -55,6 +56,7 @@ loop-self-preserved g c =
           (ap (λ (root : Root). root.number) carried.tells.root ∙ ap (λ (taken : Taken). taken.root.number) (so_far.taken under_way)) (c.in_ok-tick.ensures.renews honest world carried);
       rests = λ some none. rests_behind c.in_ok-tick.field-0 (ticks_left_of c.loop-self.self) (ticks_left_of c.tick.new.self) (place_of c.tick.new.self).begun c.in_ok-tick.ensures.left under_way none c.in_ok-tick.ensures.rests;
       number = c.tick.ensures.number ∙ so_far.number;
+      half = c.tick.ensures.half ∙ so_far.half;
       faults = c.in_ok-tick.ensures.fault ∙ so_far.faults;
       writes = omega (arith, c.tick.ensures.writes, so_far.writes, lowers);
       syncs = omega (arith, c.tick.ensures.syncs, so_far.syncs, lowers);

@@ -20,6 +20,7 @@ invariant-loop-self g l =
           → EachImage (g.D.Disk.state l.disk) (TakesRootBehind g.C.Codec.codec (taken_of l.fn.self).root.number world);
       rests : 0 < ticks_left_of l.fn.self → ticks_left_of l.self ≡ 0 → (place_of l.self).begun ≡ None;
       number : (place_of l.self).number ≡ (place_of l.fn.self).number;
+      half : (place_of l.self).half ≡ (place_of l.fn.self).half;
       faults : g.D.Disk.fault_count l.disk ≡ g.D.Disk.fault_count l.fn.disk;
       writes : g.D.Disk.write_count l.disk + ticks_left_of l.self ≤ g.D.Disk.write_count l.fn.disk + ticks_left_of l.fn.self;
       syncs : g.D.Disk.sync_count l.disk + ticks_left_of l.self ≤ g.D.Disk.sync_count l.fn.disk + ticks_left_of l.fn.self;

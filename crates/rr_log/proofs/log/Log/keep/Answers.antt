@@ -1,9 +1,10 @@
-use Rattle.std.proofs.Common.{◌⊎◌, inl, ◌∙◌, Err, length, sym, ap, subst}
+use Rattle.std.proofs.Common.{◌≡◌, ◌⊎◌, inl, ◌∙◌, Err, length, sym, ap, subst}
 use Rattle.std.proofs.lemmas.Result.{err_from_is_err_and}
 use Rattle.rr_disk.proofs.MomentLemmas.{started, joins, weaker}
 use Rattle.rr_images.specs.Layout.{Keeps}
 use Rattle.rr_log.specs.Carrying.{Carries}
-use Rattle.rr_log.proofs.Carried.{kept_now, no_more_room, told_behind}
+use Rattle.rr_log.specs.declared.fault.Fault.TheVariants as F
+use Rattle.rr_log.proofs.Carried.{full_on, is_put_off, kept_now, no_more_room, told_behind}
 use Rattle.rr_worlds.specs.Spelling.{worlds}
 use Rattle.rr_worlds.specs.World.{World}
 use Rattle.rr_log.specs.Log.{place_of}
@@ -57,5 +58,15 @@ returns-clause-carries g c = λ honest whole old new takes same lent carries.
 pub returns-in_err-append-clause-full : goal.returns-in_err-append-clause-full
 returns-in_err-append-clause-full g c = λ half.
     let told = err_from_is_err_and c.from_residual-in_err-append.result c.from_residual-in_err-append.ensures.1 in
+    let is : c.in_err-append.field-0.0 ≡ F.HalfFull = cc (told.1, told.2, half) in
+    let same = is_put_off c.in_err-append.field-0.0 c.in_ok-full.full F.HalfFull c.in_err-append.ensures.err is (λ failed. cc failed) in
     no_more_room (place_of c.tick_before.new.self).half.next_slot (place_of c.args.self.now).half.next_slot (length c.args.line.now) c.tick_before.ensures.slots
-    (c.in_err-append.ensures.full (sym (told.1 ∙ ap (λ f. Err f) told.2) ∙ half))
+    (c.in_err-append.ensures.full (ap (λ f. Err f) same))
+
+pub returns-in_err-append-clause-full_file : goal.returns-in_err-append-clause-full_file
+returns-in_err-append-clause-full_file g c = λ full.
+    let told = err_from_is_err_and c.from_residual-in_err-append.result c.from_residual-in_err-append.ensures.1 in
+    let is : c.in_err-append.field-0.0 ≡ F.FileFull = cc (told.1, told.2, full) in
+    let same = is_put_off c.in_err-append.field-0.0 c.in_ok-full.full F.FileFull c.in_err-append.ensures.err is (λ failed. cc failed) in
+    full_on c.tick_before.new.self c.append.new.self (g.T.TablesInWords.tables c.args.tables.now) (length c.args.line.now)
+    (c.in_err-append.ensures.same (ap (λ f. Err f) same)) (c.in_err-append.ensures.full (ap (λ f. Err f) same)) (c.in_ok-full.ensures.full_file (sym same ∙ is))
