@@ -6,6 +6,7 @@ use rr_disk::{FileDisk, Unknown};
 use rr_moderator::{Fault, Texts};
 use rr_serve::{CountingReader, CountingWriter};
 use std::alloc::{AllocError, Global};
+use std::fs::File;
 use std::io::{BufReader, ErrorKind, writer};
 use std::process::ExitCode;
 use std::{env, fs, io};
@@ -20,7 +21,20 @@ struct Kit {
 }
 
 fn main(rt: HostRuntime) -> ExitCode {
-    ExitCode::from(run(&rt))
+    match hold_streams(&rt) {
+        Ok(_held) => ExitCode::from(run(&rt)),
+        Err(error) => ExitCode::from(end(&rt, fault_of(error))),
+    }
+}
+
+/// Takes the descriptor of each standard stream that was closed before the start. The store's file would get it, and then a
+/// reply would be written into the file. Nothing can be read from what is held there, and nothing written to it.
+fn hold_streams(rt: &HostRuntime) -> io::Result<[File; 3]> {
+    Ok([open_nothing(rt)?, open_nothing(rt)?, open_nothing(rt)?])
+}
+
+fn open_nothing(rt: &HostRuntime) -> io::Result<File> {
+    File::open(rt, "/dev/null")
 }
 
 /// Reads the words behind the program's name, and does what they ask.

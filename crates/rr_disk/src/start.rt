@@ -10,7 +10,8 @@ pub trait Start: Drop {
     ghost may_stay: { IsImage held held.content };
 }
 
-/// For a program to name, which knows nothing of the file that it opens.
+/// For a program to name: the empty file. No program can know what its file holds, and no code can see which start is named,
+/// so what is proved for every start holds of its run, whatever the file held.
 #[derive(Drop)]
 pub struct Unknown;
 

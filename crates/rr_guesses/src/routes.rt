@@ -1,6 +1,7 @@
 //! The routes over the tracks: a path from a token to a centre, or two that have nothing but the token in common.
 use crate::tracks::{Result, Tracks, has_counted, has_mark, set_mark};
 use rr_checker::CentreLimit;
+use smallvec::SmallVec;
 
 // how many paths from one token are followed at most
 const ARMS: usize = 4000;
@@ -14,7 +15,7 @@ const LINES: usize = 5000;
 // a path from a token to a centre: its ways, the centres on it but for the token, and what these are worth
 #[derive(Drop)]
 struct Arm {
-    ways: Vec<usize>,
+    ways: SmallVec<usize, 12>,
     centres: usize,
     worth: u64,
 }
@@ -30,6 +31,21 @@ struct Walker {
     arms: Vec<Arm>,
 }
 
+// a token, and the paths from it, the best first
+#[derive(Drop)]
+struct Hub {
+    token: usize,
+    arms: Vec<Arm>,
+}
+
+// a route as the paths that it goes over, back over the first to a token and on over the second, and what it earns
+#[derive(Drop)]
+struct Draft<'a> {
+    back: &'a [usize],
+    on: &'a [usize],
+    worth: u64,
+}
+
 // a route: its tracks in order, the hexsides on it, and what it earns
 #[derive(Drop)]
 pub(crate) struct Line {
@@ -40,61 +56,93 @@ pub(crate) struct Line {
 
 // routes of a train of the limit, the best first
 pub(crate) fn lines_of(tracks: &Tracks, limit: &CentreLimit) -> Result<Vec<Line>> {
-    let mut lines = Vec::new(tracks.alloc);
+    let hubs = hubs_of(tracks, limit)?;
+    let mut drafts = Vec::new(tracks.alloc);
+    for hub in &hubs {
+        add_drafts(tracks, limit, hub, &mut drafts)?;
+    }
+    drafts.sort_by_key(|draft| u64::MAX.saturating_sub(draft.worth))?;
+    drafts.truncate(LINES);
+    lines_over(tracks, &drafts)
+}
+
+// the tokens, each with the paths that pass none of the earlier ones
+fn hubs_of(tracks: &Tracks, limit: &CentreLimit) -> Result<Vec<Hub>> {
+    let mut hubs = Vec::new(tracks.alloc);
     let mut earlier = vec![in tracks.alloc; false; tracks.ways.len()]?;
     for start in &tracks.starts {
         let token = tracks.beginning(*start);
         if set_mark(&mut earlier, token, true) {
-            add_lines(tracks, limit, token, &earlier, &mut lines)?;
+            let arms = arms_of(tracks, limit, token, &earlier)?;
+            hubs.push(Hub { token, arms })?;
         }
     }
-    lines.sort_by_key(|line| u64::MAX.saturating_sub(line.worth))?;
-    lines.truncate(LINES);
-    Ok(lines)
+    Ok(hubs)
 }
 
-// adds the routes over the token that pass none of the earlier ones
-fn add_lines(
+// adds the routes over the token
+fn add_drafts<'a>(
     tracks: &Tracks,
     limit: &CentreLimit,
-    token: usize,
-    earlier: &[bool],
-    lines: &mut Vec<Line>,
+    hub: &'a Hub,
+    drafts: &mut Vec<Draft<'a>>,
 ) -> Result<()> {
-    let mut arms = arms_of(tracks, limit, token, earlier)?;
-    let Some(stop) = tracks.stop_at(token) else {
+    let Some(stop) = tracks.stop_at(hub.token) else {
         return Ok(());
     };
-    for arm in &arms {
-        let worth = stop.worth.saturating_add(arm.worth);
-        let line = line_of(tracks, &[], &arm.ways, worth)?;
-        lines.push(line)?;
-    }
+    add_single(stop.worth, &hub.arms, drafts)?;
     if stop.is_terminal {
         return Ok(());
     }
-    arms.truncate(JOINED);
-    add_pairs(tracks, limit, stop.worth, &arms, lines)
+    let joined = hub.arms.get(..JOINED).unwrap_or(&hub.arms);
+    add_paired(tracks, limit, stop.worth, joined, drafts)
+}
+
+// adds the routes of one path each
+fn add_single<'a>(own: u64, arms: &'a [Arm], drafts: &mut Vec<Draft<'a>>) -> Result<()> {
+    for arm in arms {
+        drafts.push(Draft {
+            back: &[],
+            on: arm.ways.as_slice(),
+            worth: own.saturating_add(arm.worth),
+        })?;
+    }
+    Ok(())
 }
 
 // adds the routes of two paths each
-fn add_pairs(
+fn add_paired<'a>(
     tracks: &Tracks,
     limit: &CentreLimit,
     own: u64,
-    arms: &[Arm],
-    lines: &mut Vec<Line>,
+    arms: &'a [Arm],
+    drafts: &mut Vec<Draft<'a>>,
 ) -> Result<()> {
     for (place, arm) in arms.iter().enumerate() {
-        let nodes = nodes_of(tracks, arm)?;
-        let worth = own.saturating_add(arm.worth);
-        for other in arms.iter().take(place) {
-            let centres = arm.centres.saturating_add(other.centres);
-            if !has_counted(limit, centres) && !meets(tracks, &nodes, other) {
-                let worth = worth.saturating_add(other.worth);
-                let line = line_of(tracks, &arm.ways, &other.ways, worth)?;
-                lines.push(line)?;
-            }
+        add_pairs(tracks, limit, own, arm, &arms[..place], drafts)?;
+    }
+    Ok(())
+}
+
+// adds the routes over the path and one of the others
+fn add_pairs<'a>(
+    tracks: &Tracks,
+    limit: &CentreLimit,
+    own: u64,
+    arm: &'a Arm,
+    others: &'a [Arm],
+    drafts: &mut Vec<Draft<'a>>,
+) -> Result<()> {
+    let nodes = nodes_of(tracks, arm)?;
+    let worth = own.saturating_add(arm.worth);
+    for other in others {
+        let centres = arm.centres.saturating_add(other.centres);
+        if !has_counted(limit, centres) && !meets(tracks, &nodes, other) {
+            drafts.push(Draft {
+                back: arm.ways.as_slice(),
+                on: other.ways.as_slice(),
+                worth: worth.saturating_add(other.worth),
+            })?;
         }
     }
     Ok(())
@@ -173,7 +221,7 @@ fn follow(tracks: &Tracks, way: usize, walker: &mut Walker, depth: usize) -> Res
 
 // notes the path that is followed
 fn note(tracks: &Tracks, walker: &mut Walker) -> Result<()> {
-    let ways = Vec::from_slice(tracks.alloc, &walker.ways)?;
+    let ways = SmallVec::from_slice(tracks.alloc, &walker.ways)?;
     walker.arms.push(Arm {
         ways,
         centres: walker.centres,
@@ -182,16 +230,26 @@ fn note(tracks: &Tracks, walker: &mut Walker) -> Result<()> {
     Ok(())
 }
 
-// the route back over the one path and on over the other, in the direction that begins with the lower track
-fn line_of(tracks: &Tracks, back: &[usize], on: &[usize], worth: u64) -> Result<Line> {
+// the routes with their tracks, in the order of the drafts
+fn lines_over(tracks: &Tracks, drafts: &[Draft]) -> Result<Vec<Line>> {
+    let mut lines = Vec::new(tracks.alloc);
+    for draft in drafts {
+        let line = line_over(tracks, draft)?;
+        lines.push(line)?;
+    }
+    Ok(lines)
+}
+
+// the route in the direction that begins with the lower track
+fn line_over(tracks: &Tracks, draft: &Draft) -> Result<Line> {
     let mut line = Line {
         tracks: Vec::new(tracks.alloc),
         sides: Vec::new(tracks.alloc),
-        worth,
+        worth: draft.worth,
     };
-    add_ways(tracks, back, &mut line)?;
+    add_ways(tracks, draft.back, &mut line)?;
     line.tracks.reverse();
-    add_ways(tracks, on, &mut line)?;
+    add_ways(tracks, draft.on, &mut line)?;
     if line.tracks.last() < line.tracks.first() {
         line.tracks.reverse();
     }

@@ -1,6 +1,7 @@
 //! The links that the corporation reaches, each gone over from either end.
 use rr_checker::{CentreLimit, Fate, Net, Node, value};
 use rr_reach::{Followers, reached};
+use smallvec::SmallVec;
 use std::alloc::{AllocError, Global};
 use std::mem;
 
@@ -33,7 +34,7 @@ pub(crate) struct Way {
     place: usize,
     pub(crate) is_from_side: bool,
     // the other tracks that touch the node where it begins
-    pub(crate) others: Vec<usize>,
+    pub(crate) others: SmallVec<usize, 4>,
     // the node where it ends, named by the first way that ends there
     pub(crate) node: usize,
     // the stop where it ends
@@ -261,8 +262,8 @@ fn ways_of(alloc: Global, legs: &[Leg], stops: &[Stop]) -> Result<Vec<Way>> {
 }
 
 // the other tracks that touch the node where the way begins
-fn others_at(alloc: Global, legs: &[Leg], leg: &Leg) -> Result<Vec<usize>> {
-    let mut others = Vec::new(alloc);
+fn others_at(alloc: Global, legs: &[Leg], leg: &Leg) -> Result<SmallVec<usize, 4>> {
+    let mut others = SmallVec::new(alloc);
     for (way, other) in legs.iter().enumerate() {
         if other.place != leg.place && other.from == leg.from {
             others.push(way / 2)?;

@@ -11,13 +11,15 @@ use crate::fault::Fault;
 use crate::writing::write_number;
 use rr_roster::Kind;
 use rr_words::number;
+use smallvec::SmallVec;
 use std::alloc::{AllocError, Global};
 use std::marker::Model;
 
 /// The numbers of the links of a route, in order along it. The board's links are numbered from 1.
 #[derive(Debug, Drop)]
 pub struct LinkNumbers {
-    numbers: Vec<u64>,
+    // 12 are room for any route on the kit's board, and for nineteen in twenty of those in `games/`
+    numbers: SmallVec<u64, 12>,
 }
 
 impl Model for LinkNumbers {
@@ -34,7 +36,7 @@ impl LinkNumbers {
         ensures { result ≡ [] }
     {
         LinkNumbers {
-            numbers: Vec::new(alloc),
+            numbers: SmallVec::new(alloc),
         }
     }
 
