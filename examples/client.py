@@ -3,31 +3,43 @@
 
 usage: client.py PROGRAM FILE
 
-FILE is a store that `moderate format` made. The client opens a table for three players, lets each buy a private company,
-and prints what everybody has then. It shows what a program that plays by lines needs: one line out, one line back; the
-stamp of the last `ok`; and that a line which was perhaps taken may be sent once more.
+FILE is a new store that `moderate format` made. The client opens a table for three players, lets each buy a private
+company, and prints what everybody has then. It shows what a program that plays by lines needs: one line out, one line
+back; the stamp of the last `ok`; and, where the reply is lost, how the line is sent once more but taken once.
 """
 import subprocess
 import sys
+from contextlib import suppress
 
 
 class Refused(Exception):
-    """A line that was refused, with the reply's words behind `no`."""
+    """A line that was refused: the reply's words behind `no`, and the number that begins them."""
+
+    def __init__(self, words):
+        super().__init__(words)
+        self.number = int(words.split(" ")[0])
 
 
 class Moderator:
     """A running `moderate serve`, and the stamps of the tables that were played through it."""
 
     def __init__(self, program, file):
-        self.serving = subprocess.Popen([program, "serve", file], stdin=subprocess.PIPE, stdout=subprocess.PIPE, text=True)
+        self.command = [program, "serve", file]
         self.stamps = {}
+        self.start()
+
+    def start(self):
+        """Serves the file. Where that is refused, the refusal is the only reply, and `tables` meets it."""
+        self.serving = subprocess.Popen(self.command, stdin=subprocess.PIPE, stdout=subprocess.PIPE, text=True)
+        self.ask("tables")
 
     def line(self, words):
         """Sends one line and gives its reply, which comes before the next line need be sent."""
-        self.serving.stdin.write(words + "\n")
-        self.serving.stdin.flush()
+        with suppress(BrokenPipeError):  # it has ended; why may still be there to read
+            self.serving.stdin.write(words + "\n")
+            self.serving.stdin.flush()
         reply = self.serving.stdout.readline()
-        if not reply:
+        if not reply.endswith("\n"):
             raise EOFError("moderate has ended: serve the file again, and ask for the table's stamp")
         return reply.rstrip("\n")
 
@@ -38,16 +50,41 @@ class Moderator:
             raise Refused(answer)
         return [] if answer == "-" else answer.split(" ")
 
+    def stamp(self, table):
+        """The table's stamp, 0 where there is no such table: the one that `open` bears."""
+        try:
+            return int(self.ask(f"stamp {table}")[0])
+        except Refused as refusal:
+            if refusal.number != 68:
+                raise
+            return 0
+
     def play(self, table, words):
-        """Plays a command. Sent twice it is taken once: the second is refused as stale, with the present stamp."""
-        stamp = self.stamps.get(table, 0)
-        kind, _, answer = self.line(f"{stamp} {table} {words}").partition(" ")
+        """Plays a command. Gives the words behind the new stamp: the revenue of a `run`, and the sheet of a `best`."""
+        if table not in self.stamps:
+            self.stamps[table] = self.stamp(table)
+        kind, _, answer = self.line(f"{self.stamps[table]} {table} {words}").partition(" ")
         if kind != "ok":
             raise Refused(answer)
-        self.stamps[table] = int(answer.split(" ")[1])
+        _, stamp, *more = answer.split(" ")
+        self.stamps[table] = int(stamp)
+        return more
+
+    def play_again(self, table, words):
+        """Where `play` met an EOFError or a 60: serves the file again, and plays the command if it wasn't taken.
+
+        Where it was, nobody tells the words of its reply any more.
+        """
+        self.close()
+        self.start()
+        sent = self.stamps.get(table)
+        self.stamps[table] = self.stamp(table)
+        return self.play(table, words) if sent in (None, self.stamps[table]) else []
 
     def close(self):
-        self.serving.stdin.close()
+        with suppress(BrokenPipeError):
+            self.serving.stdin.close()
+        self.serving.stdout.close()
         return self.serving.wait()
 
 
@@ -56,7 +93,10 @@ def main(program, file):
     players = ["ann", "bob", "cat"]
     moderator.play("t1", "open " + " ".join(players))
     for player in players:
-        moderator.play("t1", f"buy {player}")
+        try:
+            moderator.play("t1", f"buy {player}")
+        except EOFError:
+            moderator.play_again("t1", f"buy {player}")
     try:
         moderator.play("t1", "buy bob")
     except Refused as refusal:

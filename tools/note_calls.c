@@ -1,6 +1,7 @@
 /*
  * Notes what a program does with its files, by LD_PRELOAD: a line for each open, write and sync, appended to the file
- * named in CALLS_NOTED. `open TRUNCATES`, `pwrite OFFSET LENGTH FIRST_BYTE`, `fsync` or `write LENGTH`, in decimal.
+ * named in CALLS_NOTED. `open TRUNCATES`, `pwrite OFFSET LENGTH FIRST_BYTE`, `fsync` or `write LENGTH`, in decimal. What is
+ * opened to hold the place of a closed standard stream isn't noted.
  */
 #define _GNU_SOURCE
 #include <dlfcn.h>
@@ -8,6 +9,7 @@
 #include <stdarg.h>
 #include <stdio.h>
 #include <stdlib.h>
+#include <string.h>
 #include <sys/types.h>
 #include <unistd.h>
 
@@ -40,7 +42,7 @@ int open(const char *path, int flags, ...) {
     va_start(words, flags);
     mode_t mode = (flags & O_CREAT) ? va_arg(words, mode_t) : 0;
     va_end(words);
-    note("open %d\n", (flags & O_TRUNC) != 0);
+    if (strcmp(path, "/dev/null") != 0) note("open %d\n", (flags & O_TRUNC) != 0);
     return real_open(path, flags, mode);
 }
 
