@@ -59,6 +59,7 @@ impl<D: Disk + Drop, R: Rules> Log<D, R> {
             → MeetsFullFile self.new (T.tables tables.now) (length line.now) }
         ensures long { IsErrOf result Fault.HalfFull → ticks_left self.old ≡ 0 → (place_of self.old).begun ≡ None
             → IsTooLong (length line.now) }
+        ensures memory { IsErrOf result Fault.OutOfMemory → (ticks_left self.old ≡ 0) × IsDue (place_of self.old) }
         ensures fault { CountsFault (D.fault_count (disk_of self.old)) (D.fault_count (disk_of self.new)) result }
         ensures device { OnDeviceFault result (D.Honest (disk_of self.new) → (world : World)
             → Carries R.takes self.old (D.state (disk_of self.old)) world → D.Works (disk_of self.new) → ⊥) }
@@ -95,6 +96,7 @@ impl<D: Disk + Drop, R: Rules> Log<D, R> {
             → world.tables ≡ T.tables tables.now → Carries R.takes self.old (D.state (disk_of self.old)) world
             → Carries R.takes self.new (D.state (disk_of self.new)) world }
         ensures full { IfOk result (λ full. IsWant full ⊎ (full ≡ Fault.HalfFull)) }
+        ensures want { IfOk result (λ full. IsWant full → (ticks_left self.old ≡ 0) × IsDue (place_of self.old)) }
         ensures err { IfErr result (λ fault. fault ≡ Fault.DeviceFailed) }
         ensures left { is_broken self.new ≡ false → 0 < ticks_left self.old
             → ticks_left self.old ≡ ticks_left self.new + 1 }

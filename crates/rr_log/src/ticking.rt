@@ -54,6 +54,7 @@ impl<D: Disk + Drop, R: Rules> Log<D, R> {
         ensures full { IsErrOf result Fault.FileFull → IsFileFull self.old (T.tables tables.now) }
         ensures full_behind { IsErrOf result Fault.FileFull → IsFileFull self.new (T.tables tables.now) }
         ensures first { IfErr result (λ fault. IsWant fault → ticks_left self.old ≡ 0) }
+        ensures due { IfErr result (λ fault. IsWant fault → IsDue (place_of self.old)) }
         ensures unchanged { IfErr result (λ fault. IsWant fault → IsUnchanged self.old self.new) }
         ensures room { IsErrOf result Fault.HalfFull → ⊥ }
         ensures fault { CountsFault (D.fault_count (disk_of self.old)) (D.fault_count (disk_of self.new)) result }
@@ -99,6 +100,7 @@ impl<D: Disk + Drop, R: Rules> Log<D, R> {
         ensures full { IsErrOf result Fault.FileFull → IsFileFull self.old (T.tables tables.now) }
         ensures full_behind { IsErrOf result Fault.FileFull → IsFileFull self.new (T.tables tables.now) }
         ensures first { IfErr result (λ fault. IsWant fault → ticks_left self.old ≡ 0) }
+        ensures due { IfErr result (λ fault. IsWant fault → IsDue (place_of self.old)) }
         ensures unchanged { IfErr result (λ fault. IsWant fault → IsUnchanged self.old self.new) }
         ensures fault { CountsFault (D.fault_count (disk_of self.old)) (D.fault_count (disk_of self.new)) result }
         ensures device { OnDeviceFault result (D.Honest (disk_of self.new) → (world : World)

@@ -4,12 +4,13 @@ use rr_checkpoint::Writer;
 use rr_dir::{ChainRef, KitChains};
 use rr_disk::{Disk, FaultyDisk, MemoryDisk};
 use rr_format::format;
+use rr_journal::RecordBuffer;
 use rr_opening::{Opened, open_file};
-use rr_pages::ReadChain;
+use rr_pages::{FreePages, PageSet, ReadChain};
 use rr_reading::{Fault, KitTexts};
 use rr_snapshot::{KitPages, TextPages};
 use rr_worlds::Worlds;
-use std::alloc::Global;
+use std::alloc::{AllocError, Global};
 use std::test::Fail;
 
 // The bytes at which slot 0 of half 0 and of half 1 begin.
@@ -76,6 +77,20 @@ pub(crate) fn parts(opened: Opened<Worlds<AnyLine>>) -> (Writer<Worlds<AnyLine>>
         far: _,
     } = opened;
     (writer, kit_pages(&dir.kit, texts))
+}
+
+// What goes on with the same file, of whose pages none is free.
+pub(crate) fn without_pages(
+    alloc: Global,
+    writer: &Writer<Worlds<AnyLine>>,
+) -> Result<Writer<Worlds<AnyLine>>, AllocError> {
+    let mut reached = PageSet::new(alloc)?;
+    for page in 514..65536 {
+        reached.take(page);
+    }
+    let free = FreePages::new(alloc, reached)?;
+    let record = RecordBuffer::new(alloc)?;
+    Ok(Writer::new(writer.taken(), writer.place(), free, record))
 }
 
 fn kit_pages(kit: &KitChains, texts: KitTexts) -> KitPages {

@@ -1,4 +1,6 @@
-use crate::files::{FAR, FIRST, Found, failing_after, found, new_file, open, parts, write};
+use crate::files::{
+    FAR, FIRST, Found, failing_after, found, new_file, open, parts, without_pages, write,
+};
 use crate::tables::{AnyLine, OneTable, one_table, snapshot_of};
 use rr_checkpoint::Tick;
 use rr_disk::{Disk, FaultyDisk, MemoryDisk};
@@ -217,8 +219,8 @@ fn a_record_takes_two_slots_at_most(rt: HostRuntime) -> Result<(), Fail> {
     Ok(())
 }
 
-// How a record and a tick end where a half is used up and no memory is there for a checkpoint, and what is told then.
-fn without_memory(
+// How a record and a tick end where a half is used up and no checkpoint can begin, and what is told then.
+fn behind_a_full_half(
     log: &mut Log<MemoryDisk, AnyLine>,
     tables: &OneTable,
 ) -> Result<(Option<Fault>, Option<Fault>, State), Fault> {
@@ -233,10 +235,27 @@ fn without_memory(
 fn the_want_of_a_tick_is_put_off(rt: HostRuntime) -> Result<(), Fail> {
     let want = Some(Fault::OutOfMemory);
     let mut log = new_log(rt.alloc())?;
-    let told = without_memory(&mut log, &one_table(true)?)?;
+    let told = behind_a_full_half(&mut log, &one_table(true)?)?;
     assert!(rt; told == (want, want, (255, 0, false)));
     keep_all(&mut log, &one_table(false)?, 1)?;
     assert!(rt; state(&log) == (256, 5, false));
+    Ok(())
+}
+
+// A log on a new file of whose pages none is free.
+fn full_log(alloc: Global) -> Result<Log<MemoryDisk, AnyLine>, Fail> {
+    let mut disk = new_file(alloc)?;
+    let (writer, kit) = parts(open(alloc, &mut disk)?);
+    let full = without_pages(alloc, &writer)?;
+    Ok(Log::new(alloc, disk, full, kit, None))
+}
+
+#[test]
+fn a_file_without_free_pages_is_told_to_be_full(rt: HostRuntime) -> Result<(), Fail> {
+    let full = Some(Fault::FileFull);
+    let mut log = full_log(rt.alloc())?;
+    let told = behind_a_full_half(&mut log, &one_table(false)?)?;
+    assert!(rt; told == (full, full, (255, 0, false)));
     Ok(())
 }
 

@@ -1,5 +1,5 @@
 -- What a reading of a file says of its base: the directory names the chains, and what these tell is what they spell.
-use Rattle.std.proofs.Common.{◌≡◌, ◌↔◌, ℕ, suc, List, [], ◌∷◌, length, map, refl, sym, ap, subst, ◌∙◌}
+use Rattle.std.proofs.Common.{◌≡◌, ℕ, suc, List, [], ◌∷◌, length, map, refl, sym, ap, subst, ◌∙◌}
 use Rattle.rr_dir.specs.declared.directory.ChainRef.{ChainRef}
 use Rattle.rr_dir.specs.declared.directory.TableEntry.{TableEntry}
 use Rattle.rr_dir.specs.declared.version.Version.{Version}
@@ -10,19 +10,17 @@ use Rattle.rr_dir.proofs.TableLemmas.{one_directory, one_heads}
 use Rattle.rr_images.specs.Codec.{Codec}
 use Rattle.rr_images.specs.Holding.{HeldChain, heads_of, texts_of}
 use Rattle.rr_images.proofs.Following.{read_there}
-use Rattle.rr_kit.specs.Kits.{KitTexts}
 use Rattle.rr_pages.specs.Laying.{head_of}
 use Rattle.rr_reading.specs.Held.{Held, chains_of, holding_of}
 use Rattle.rr_reading.specs.Laws.{NamesChains}
 use Rattle.rr_reading.specs.Reading.{Holds, IsDirectory}
 use Rattle.rr_reading.proofs.Standing.{held_is_read}
-use Rattle.rr_records.specs.Words.{AreInWords, IsTableInWords, SpellCommands, kit_texts}
+use Rattle.rr_records.specs.Words.{AreInWords, IsTableInWords, kit_texts}
 use Rattle.rr_records.specs.World.{TableState, World}
-use Rattle.rr_worlds.specs.Spelling.{Spells, SpellsTable, SpellsTables, ref_of, worlds}
+use Rattle.rr_worlds.specs.Spelling.{SpellsTable, SpellsTables, ref_of, worlds}
 use Rattle.rr_worlds.specs.World.{Table}
 use Rattle.rr_worlds.specs.World as words
 use Rattle.rr_worlds.proofs.Exact.{one_version}
-use Rattle.rr_recovery.specs.Kept.{HoldsCommands}
 use Rattle.rr_recovery.specs.Recovery.{IsBase}
 use Rattle.rr_recovery.specs.Texts.{NameTexts, texts_in}
 use Rattle.rr_recovery.specs.Told.{TellTables, TellsTable}

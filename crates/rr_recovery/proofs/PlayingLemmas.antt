@@ -1,5 +1,5 @@
 -- A table whose kept commands are played again, one after another.
-use Rattle.std.proofs.Common.{◌≡◌, ◌⊎◌, ℕ, ◌+◌, ◌<◌, ◌≤◌, ◌==◌, Bool, true, false, not, nat_le, if◌then◌else◌, List, [], ◌∷◌, ◌++◌, length, Option, None, Some, inl, inr, refl, sym, ap, subst, ◌∙◌, append-nil, append_assoc, length-append, arith}
+use Rattle.std.proofs.Common.{◌≡◌, ◌⊎◌, ℕ, ◌+◌, ◌<◌, ◌≤◌, ◌==◌, Bool, true, false, not, nat_le, if◌then◌else◌, List, [], ◌∷◌, ◌++◌, length, None, Some, inl, inr, refl, sym, ap, subst, ◌∙◌, append-nil, append_assoc, length-append, arith}
 use Rattle.std.proofs.lemmas.Bool.Decides.{nat_tests}
 use Rattle.std.proofs.Math.Logic.{∥∥₁_elim}
 use mathlib.Core.HLevel.{⊥_prop}
@@ -21,15 +21,14 @@ use Rattle.rr_kit.specs.declared.kit.Kit.{Kit}
 use Rattle.rr_records.specs.Words.{SpellCommands}
 use Rattle.rr_turns.specs.declared.request.Request.TheVariants.{Play}
 use Rattle.rr_turns.specs.Judgement.{MayFind}
-use Rattle.rr_turns.specs.Kept.{Kept, kept_after, kept_of}
-use Rattle.rr_turns.specs.Turns.{AreLawful}
+use Rattle.rr_turns.specs.Kept.{Kept, kept_of}
 use Rattle.rr_turns.proofs.JudgementLemmas.{only-wanting}
 use Rattle.rr_turns.proofs.LawfulLemmas.{lawful-at}
 use Rattle.rr_recovery.specs.declared.fault.Damage.TheVariants.{Kept as NotPlayed}
 use Rattle.rr_recovery.specs.declared.fault.Fault.{Fault}
 use Rattle.rr_recovery.specs.declared.fault.Fault.TheVariants as F
 use Rattle.rr_recovery.specs.Fault.{of_table}
-use Rattle.rr_recovery.specs.Kept.{HasPlayed, HasRoom, HoldsCommands, HoldsPlayed, IsBegunBy, IsRestored, IsUnlawfulAfter, SpellsNoOpening}
+use Rattle.rr_recovery.specs.Kept.{HasPlayed, HasRoom, HoldsPlayed, IsBegunBy, IsRestored, IsUnlawfulAfter, SpellsNoOpening}
 use Rattle.rr_recovery.proofs.WordLemmas.{as_many, cut, one_command, one_list, spell_push}
 
 -- of the commands that the bytes hold some were played by a table, and these are left

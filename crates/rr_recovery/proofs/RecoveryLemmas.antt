@@ -1,5 +1,5 @@
 -- What a file tells, from what is told of its root's entries and chains.
-use Rattle.std.proofs.Common.{◌≡◌, ◌⊎◌, ℕ, List, ◌++◌, length, inl, inr, refl, sym, ap, subst, ◌∙◌}
+use Rattle.std.proofs.Common.{◌≡◌, ◌⊎◌, ℕ, List, ◌++◌, length, inl, inr, sym, ap, subst, ◌∙◌}
 use Rattle.std.proofs.lemmas.List.{length-map}
 use Rattle.std.specs.Prelude.{Option}
 use Rattle.rr_dir.specs.declared.directory.TableEntry.{TableEntry}
@@ -11,7 +11,6 @@ use Rattle.rr_pages.specs.declared.reading.ReadChain.{ReadChain}
 use Rattle.rr_reading.specs.Chains.{all_held, held}
 use Rattle.rr_reading.specs.Held.{Held}
 use Rattle.rr_reading.specs.Reading.{Holds}
-use Rattle.rr_records.specs.Played.{ArePlayedTables}
 use Rattle.rr_records.specs.World.{World}
 use Rattle.rr_snapshot.specs.declared.kit.KitPages.{KitPages}
 use Rattle.rr_snapshot.specs.declared.snapshot.Snapshot.{Snapshot}
@@ -21,7 +20,6 @@ use Rattle.rr_tables.specs.Tables.{world_of}
 use Rattle.rr_recovery.specs.declared.fault.Damage.TheVariants as D
 use Rattle.rr_recovery.specs.declared.fault.Fault.{Fault}
 use Rattle.rr_recovery.specs.declared.fault.Fault.TheVariants as F
-use Rattle.rr_recovery.specs.declared.recovery.Recovered.{Recovered}
 use Rattle.rr_recovery.specs.Base.{IsRightBase, RefusesBase}
 use Rattle.rr_recovery.specs.Recovered.{IsRecoveredFrom}
 use Rattle.rr_recovery.specs.Recovery.{HasBadRecord, IsRecovered, Refuses}
@@ -55,7 +53,10 @@ module _ (file : List ℕ) (has : Held) (holds : Holds file has) where
             unplayed = λ played. unplayed.unplayed (played_each unplayed.kit has.directory.tables has.tables told.0 told.1 played);
           }
       by_fault (F.Damaged D.Records) none = absurd none
-      by_fault F.OutOfMemory any = tt
+      by_fault F.OutOfMemory spelled =
+          let told = hold_tables has.directory.tables has.tables (each_chain file has holds) spelled in
+          let base = told_base file has holds told.0 told.1 in
+          λ bad. bad told.0 base.world base.is_base
 
   -- the same of what was read
   pub refuses_read : (entries : List TableEntry) (read : List ReadChain) (fault : Fault) → entries ≡ has.directory.tables → all_held read ≡ has.tables
@@ -90,12 +91,15 @@ module _ (file : List ℕ) (has : Held) (holds : Holds file has) where
         bad = bad;
       }
 
-  pub refuses_memory : (fault : Fault) → fault ≡ F.OutOfMemory → Refuses has fault
-  refuses_memory fault memory = subst (λ (f : Fault). Refuses has f) (sym memory) tt
+  pub refuses_memory : (kit : Kit) (base : World) (fault : Fault) → IsRightBase has.directory.tables has.texts has.tables kit base → fault ≡ F.OutOfMemory → Refuses has fault
+  refuses_memory kit base fault right memory =
+      let told = told_base file has holds base right.told in
+      let some : Refuses has F.OutOfMemory = λ bad. bad base told.world told.is_base in
+      subst (λ (f : Fault). Refuses has f) (sym memory) some
 
   pub refuses_records : (kit : Kit) (base : World) (near far : List (List ℕ)) (fault : Fault) → near ≡ has.near → far ≡ has.far
       → IsRightBase has.directory.tables has.texts has.tables kit base → StopsAt kit base (near ++ far) fault → Refuses has fault
-  refuses_records kit base near far fault near_is far_is right (inl memory) = refuses_memory fault memory
+  refuses_records kit base near far fault near_is far_is right (inl memory) = refuses_memory kit base fault right memory
   refuses_records kit base near far fault near_is far_is right (inr breaks) =
       let lines : near ++ far ≡ has.near ++ has.far = λ i. near_is i ++ far_is i in
       let there = subst (λ (l : List (List ℕ)). BreaksOff kit base l) lines breaks.1 in

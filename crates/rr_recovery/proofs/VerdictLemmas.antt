@@ -21,7 +21,6 @@ use Rattle.rr_turns.specs.declared.request.Request.TheVariants.{Play}
 use Rattle.rr_turns.specs.Judgement.{HasOneVerdict, IsVerdict, MayFind}
 use Rattle.rr_turns.proofs.JudgementLemmas.{map-one, settled-one}
 use Rattle.rr_recovery.specs.declared.fault.Damage.TheVariants.{Records}
-use Rattle.rr_recovery.specs.declared.fault.Fault.{Fault}
 use Rattle.rr_recovery.specs.declared.fault.Fault.TheVariants as F
 use Rattle.rr_recovery.specs.Taking.{of_tables}
 

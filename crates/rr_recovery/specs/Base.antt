@@ -32,10 +32,10 @@ pub record HasUnplayed (entries : List TableEntry) (texts : TextChains) (chains 
   pub right : SpellsKit (texts_in texts) kit
   pub unplayed : EachHas (HoldsPlayed kit) entries chains → ⊥
 
--- why there are no such tables
+-- why there are no such tables: the words are read without memory, so that is wanted behind right ones alone
 abbrev pub RefusesBase : List TableEntry → TextChains → List HeldChain → Fault → Type 0
 RefusesBase entries texts chains (F.Damaged D.Words) = EachHas TellsCommands entries chains → ⊥
 RefusesBase entries texts chains (F.Damaged D.Kit) = HasNoKit entries texts chains
 RefusesBase entries texts chains (F.Damaged D.Kept) = HasUnplayed entries texts chains
 RefusesBase entries texts chains (F.Damaged D.Records) = ⊥
-RefusesBase entries texts chains F.OutOfMemory = Unit {0}
+RefusesBase entries texts chains F.OutOfMemory = EachHas TellsCommands entries chains

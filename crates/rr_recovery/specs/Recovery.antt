@@ -1,5 +1,5 @@
 -- The world that a file tells, and why one tells none.
-use Rattle.std.specs.Prelude.{◌≡◌, ◌⊎◌, ℕ, List, [], ◌∷◌, ◌++◌}
+use Rattle.std.specs.Prelude.{◌≡◌, ◌⊎◌, ◌++◌}
 use Rattle.rr_images.specs.Holding.{texts_of}
 use Rattle.rr_kit.specs.declared.kit.Kit.{Kit}
 use Rattle.rr_kit.specs.Kits.{IsWrongKit, KitTexts, SpellsKit}
@@ -72,7 +72,7 @@ IsDamage has D.Kit = HasWrongKit has
 IsDamage has D.Kept = HasUnplayedTable has
 IsDamage has D.Records = HasBadRecord has
 
--- why no tables are recovered: want of memory may come at any file
+-- why no tables are recovered: want of memory may come at any file whose kept words spell commands
 abbrev pub Refuses : Held → Fault → Type 0
 Refuses has (F.Damaged damage) = IsDamage has damage
-Refuses has F.OutOfMemory = Unit {0}
+Refuses has F.OutOfMemory = HasBadWords has → ⊥

@@ -1,4 +1,4 @@
-ghost use Rattle.std.specs.Prelude.{◌≡◌, ◌+◌, ◌*◌, ◌<◌, ◌≤◌, length, List, ℕ, IfSome, None, Some, [], ◌∷◌, ◌++◌, IfOk, IfErr, MatchResult, bytes_eq, option_map, slice_get, take};
+ghost use Rattle.std.specs.Prelude.{◌≡◌, ◌+◌, ◌*◌, ◌<◌, ◌≤◌, length, List, ℕ, IfSome, None, Some, [], ◌∷◌, ◌++◌, IfOk, IfErr, MatchResult, bytes_eq, slice_get, take};
 ghost use Rattle.std.specs.Option.{option_copied};
 ghost use Rattle.std.proofs.Props.{props};
 ghost use Rattle.indexmap.specs.IndexMap.{get, index_map_len, spare};

@@ -1,5 +1,5 @@
 //! Requests: judged, their records kept, and then taken.
-ghost use Rattle.std.specs.Prelude.{◌≡◌, ◌<◌, ℕ, false, All, List, IfOk, IfErr, OnOk, OnErr, MatchOption, MatchResult, None, Some, bytes_eq, map, option_map, option_to_list};
+ghost use Rattle.std.specs.Prelude.{◌≡◌, ◌<◌, ℕ, false, All, List, IsTrue, IfOk, IfErr, OnOk, OnErr, MatchOption, MatchResult, None, Some, bytes_eq, map, option_map, option_to_list};
 ghost use Rattle.indexmap.specs.IndexMap.{get, index_map_len};
 ghost use Rattle.rr_code.specs.Command.{text};
 ghost use Rattle.rr_code.specs.Request.{IsRequest, record_text};
@@ -226,7 +226,8 @@ fn judge_at(
 
 // Whether the command that a change adds is too long for a chain.
 fn adds_long_command(change: &Change) -> bool
-    ensures { result ≡ false → All IsShort (map text (option_to_list change.now.added)) }
+    ensures short { result ≡ false → All IsShort (map text (option_to_list change.now.added)) }
+    ensures long { IsTrue result → All IsShort (map text (option_to_list change.now.added)) → ⊥ }
 {
     match change.added() {
         Some(command) => command.as_bytes().len() > LONGEST_COMMAND,

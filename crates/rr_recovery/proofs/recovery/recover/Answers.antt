@@ -35,7 +35,11 @@ returns-then-is_damaged-clause-refused g c = λ file holds.
 pub returns-in_err-kit-clause-refused : goal.returns-in_err-kit-clause-refused
 returns-in_err-kit-clause-refused g c =
     let p = err_from_is_err_and c.from_residual-in_err-kit.result c.from_residual-in_err-kit.ensures.1 in
-    rw (p.1, p.2) (λ file holds. refuses_memory file (held_by c.args.opened.now) holds _ c.in_err-kit.ensures.memory)
+    rw (p.1, p.2)
+    (λ file holds.
+    let right = right_read file (held_by c.args.opened.now) holds c.deref.result.now c.deref-2.result.now c.in_ok-tables.tables.kit (world_of c.in_ok-tables.tables)
+    c.deref.ensures.value (ap all_held c.deref-2.ensures.value) c.in_ok-tables.ensures.right in
+    refuses_memory file (held_by c.args.opened.now) holds c.in_ok-tables.tables.kit (world_of c.in_ok-tables.tables) _ right c.in_err-kit.ensures.memory)
 
 pub returns-clause-recovered : goal.returns-clause-recovered
 returns-clause-recovered g c = λ file holds.

@@ -20,5 +20,5 @@ returns-clause-change c =
       by = c.in_ok-change.ensures.change;
       writable = writable_changed c.accepted_turns_are_kept.ensures c.args.kit.now (kept_in table) c.args.stamp c.args.request.now c.in_ok-change.change
           c.in_ok-change.ensures.verdict c.in_ok-change.ensures.change (omega (arith, table.few, table.commands.ok)) c.requires.writable
-          (c.adds_long_command.ensures c.if-adds_long_command.false);
+          (c.adds_long_command.ensures.short c.if-adds_long_command.false);
     }

@@ -1,4 +1,4 @@
-use Rattle.std.proofs.Common.{◌≡◌, ◌⊎◌, inl, ◌∙◌, Err, length, sym, ap, subst}
+use Rattle.std.proofs.Common.{◌≡◌, ◌⊎◌, inl, inr, ◌∙◌, Err, length, sym, ap, subst}
 use Rattle.std.proofs.lemmas.Result.{err_from_is_err_and}
 use Rattle.rr_disk.proofs.MomentLemmas.{started, joins, weaker}
 use Rattle.rr_images.specs.Layout.{Keeps}
@@ -70,3 +70,10 @@ returns-in_err-append-clause-full_file g c = λ full.
     let same = is_put_off c.in_err-append.field-0.0 c.in_ok-full.full F.FileFull c.in_err-append.ensures.err is (λ failed. cc failed) in
     full_on c.tick_before.new.self c.append.new.self (g.T.TablesInWords.tables c.args.tables.now) (length c.args.line.now)
     (c.in_err-append.ensures.same (ap (λ f. Err f) same)) (c.in_err-append.ensures.full (ap (λ f. Err f) same)) (c.in_ok-full.ensures.full_file (sym same ∙ is))
+
+pub returns-in_err-append-clause-memory : goal.returns-in_err-append-clause-memory
+returns-in_err-append-clause-memory g c = λ wanted.
+    let told = err_from_is_err_and c.from_residual-in_err-append.result c.from_residual-in_err-append.ensures.1 in
+    let is : c.in_err-append.field-0.0 ≡ F.OutOfMemory = cc (told.1, told.2, wanted) in
+    let same = is_put_off c.in_err-append.field-0.0 c.in_ok-full.full F.OutOfMemory c.in_err-append.ensures.err is (λ failed. cc failed) in
+    c.in_ok-full.ensures.want (inr (sym same ∙ is))
