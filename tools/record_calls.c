@@ -1,9 +1,10 @@
 /*
  * Records what a program asks of its device, by LD_PRELOAD, and lets one of those calls fail.
  *
- * Each write at a place, sync, read at a place and write to standard output is appended to the file named in
- * CALLS_RECORDED: its kind (W, S, G or R), whether it was made to fail (0 or 1), its place and its length in eight bytes
- * each, the least one first, and the bytes of a W or an R.
+ * Each opening, write at a place, sync, read at a place and write to standard output is appended to the file named in
+ * CALLS_RECORDED: its kind (O, W, S, G or R), whether it was made to fail (0 or 1), its place and its length in eight bytes
+ * each, the least one first, and the bytes of a W or an R. The place of an O is 1 where it empties the file, and else 0. What
+ * is opened to hold the place of a closed standard stream isn't recorded. tools/calls_file.py reads all this.
  *
  * With CALL_FAILS=N the write or sync of number N, counted from 1, fails as a faulty device does; with CALL_KEEPS=K the
  * first K bytes of such a write go out before. With READ_FAILS=N the read of number N fails. With CALLS_SHORT=K no write and no
@@ -13,6 +14,7 @@
 #include <dlfcn.h>
 #include <errno.h>
 #include <fcntl.h>
+#include <stdarg.h>
 #include <stdint.h>
 #include <stdlib.h>
 #include <string.h>
@@ -25,6 +27,7 @@ static ssize_t (*real_write)(int, const void *, size_t);
 static ssize_t (*real_pwrite)(int, const void *, size_t, off_t);
 static ssize_t (*real_pread)(int, void *, size_t, off_t);
 static int (*real_fsync)(int);
+static int (*real_open)(const char *, int, ...);
 
 static long number_in(const char *name) {
     const char *text = getenv(name);
@@ -36,12 +39,13 @@ __attribute__((constructor)) static void begin(void) {
     real_pwrite = dlsym(RTLD_NEXT, "pwrite");
     real_pread = dlsym(RTLD_NEXT, "pread");
     real_fsync = dlsym(RTLD_NEXT, "fsync");
+    real_open = dlsym(RTLD_NEXT, "open");
     failing_call = number_in("CALL_FAILS");
     kept_bytes = number_in("CALL_KEEPS");
     failing_read = number_in("READ_FAILS");
     most = number_in("CALLS_SHORT");
     const char *path = getenv("CALLS_RECORDED");
-    if (path != NULL) record = open(path, O_WRONLY | O_CREAT | O_APPEND | O_CLOEXEC, 0600);
+    if (path != NULL) record = real_open(path, O_WRONLY | O_CREAT | O_APPEND | O_CLOEXEC, 0600);
 }
 
 static void put(const void *bytes, size_t length) {
@@ -68,6 +72,15 @@ static int fault(void) {
     return -1;
 }
 
+int open(const char *path, int flags, ...) {
+    va_list words;
+    va_start(words, flags);
+    mode_t mode = (flags & O_CREAT) ? va_arg(words, mode_t) : 0;
+    va_end(words);
+    if (strcmp(path, "/dev/null") != 0) note('O', 0, (flags & O_TRUNC) != 0, 0, NULL);
+    return real_open(path, flags, mode);
+}
+
 ssize_t pwrite(int file, const void *bytes, size_t length, off_t place) {
     int fails = ++calls == failing_call;
     length = moved(length);
@@ -87,11 +100,12 @@ int fsync(int file) {
     return fails ? fault() : real_fsync(file);
 }
 
+/* No call of the store syncs less than all of a file, or changes its length otherwise than by a write. */
 int fdatasync(int file) {
-    return fsync(file);
+    (void)file;
+    abort();
 }
 
-/* No call of the store changes a file's length otherwise than by a write. */
 int ftruncate(int file, off_t length) {
     (void)file, (void)length;
     abort();

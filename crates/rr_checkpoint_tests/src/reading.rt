@@ -1,12 +1,9 @@
-use crate::calls::{failing_after, in_memory, write};
-use rr_dir::KeptCommands;
-use rr_disk::{Disk, MemoryDisk};
+use crate::calls::{Bytes, in_memory, written};
+use rr_disk::{FaultyDisk, MemoryDisk};
 use rr_journal::RunEnd;
 use rr_reading::laws::files_have_one_answer;
 use rr_reading::{Contents, Damage, Fault, read_file};
 use std::alloc::Global;
-use std::process::Abort;
-use std::test::Fail;
 
 const PAGE: usize = 4096;
 
@@ -25,227 +22,192 @@ const DIRECTORY: &[u8] = b"\0\0\0\0\0\0\x02\x03\0\0\0\x05\0\0\0\0\0\0\x02\x04\0\
 // The table's commands, each with the length of its words before it.
 const KEPT: &[u8] = b"\0\x08open a b\0\x05buy a";
 
-// Records of number 1 and 2.
-const FIRST: &[u8] = b"\xa5\0\0\0\0\0\0\0\x01\0\0\0\x0bg1 open a b";
+// A right file without a record. Each page ends its chain, and says how many of its bytes are used.
+const RIGHT: [Bytes; 9] = [
+    (0, ROOT),
+    (4096 * 514 + 8, b"\0\x51"),
+    (4096 * 514 + 10, DIRECTORY),
+    (4096 * 515 + 8, b"\0\x05chart"),
+    (4096 * 516 + 8, b"\0\x06roster"),
+    (4096 * 517 + 8, b"\0\x05tiles"),
+    (4096 * 518 + 8, b"\0\x05board"),
+    (4096 * 519 + 8, b"\0\x11"),
+    (4096 * 519 + 10, KEPT),
+];
 
-const SECOND: &[u8] = b"\xa5\0\0\0\0\0\0\0\x02\0\0\0\x08g1 buy a";
+// The calls below have no contracts, so that what a test does costs its proof little.
 
-// The bytes at which slot 0 of half 0 and of half 1 begin.
-const NEAR: u64 = 8_192;
-
-const FAR: u64 = 1_056_768;
-
-// The calls below have almost no contracts, so that what a test does costs its proof little.
-
-// Puts bytes into a page that ends its chain.
-fn lay(disk: &mut MemoryDisk, page: u16, bytes: &[u8]) -> Result<(), Fail> {
-    let place = 4096 * u64::from(page);
-    let used = bytes.len().min(4086) as u16;
-    write(disk, place + 8, &used.to_be_bytes())?;
-    write(disk, place + 10, bytes)?;
-    Ok(())
-}
-
-// A right file without a record.
-fn right_file(alloc: Global) -> Result<MemoryDisk, Fail> {
+// A right file that is altered, on a device that fails behind so many calls.
+fn file(
+    alloc: Global,
+    alterations: &[Bytes],
+    calls: u64,
+) -> Result<FaultyDisk<MemoryDisk>, rr_disk::Fault> {
     let bytes = vec![in alloc; 0u8; 520 * PAGE]?;
     let mut disk = in_memory(alloc, ROOM, &bytes)?;
-    write(&mut disk, 0, ROOT)?;
-    lay(&mut disk, 514, DIRECTORY)?;
-    lay(&mut disk, 515, b"chart")?;
-    lay(&mut disk, 516, b"roster")?;
-    lay(&mut disk, 517, b"tiles")?;
-    lay(&mut disk, 518, b"board")?;
-    lay(&mut disk, 519, KEPT)?;
-    Ok(disk)
+    written(&mut disk, &RIGHT);
+    written(&mut disk, alterations);
+    Ok(FaultyDisk::after(disk, calls))
 }
 
-fn read<D: Disk>(alloc: Global, disk: &mut D) -> Result<Contents, Fault> {
-    read_file(alloc, disk)
+fn read(alloc: Global, alterations: &[Bytes], calls: u64) -> Result<Contents, Fault> {
+    match file(alloc, alterations, calls) {
+        Ok(disk) => {
+            let mut failing = disk;
+            read_file(alloc, &mut failing)
+        }
+        Err(_) => Err(Fault::OutOfMemory),
+    }
 }
 
-// Whether the bytes are these two commands.
-fn are_kept(bytes: &[u8], first: &[u8], second: &[u8]) -> Result<bool, Fail> {
-    let mut kept = KeptCommands::read(bytes, 2)?;
-    Ok(kept.next() == Some(first) && kept.next() == Some(second) && kept.next().is_none())
+pub(crate) fn has_texts(has: &Contents) -> bool {
+    has.texts.chart.bytes.as_slice() == b"chart".as_slice()
+        && has.texts.roster.bytes.as_slice() == b"roster".as_slice()
+        && has.texts.tiles.bytes.as_slice() == b"tiles".as_slice()
+        && has.texts.board.bytes.as_slice() == b"board".as_slice()
 }
 
-fn check_damage(rt: &impl Abort, alloc: Global, disk: &mut MemoryDisk, damage: Damage, clause: u8) {
-    let fault = read(alloc, disk).err().expect(rt, "a damaged file");
-    assert_eq!(rt; fault, Fault::Damaged(damage));
-    assert_eq!(rt; fault.number(), 63);
-    assert_eq!(rt; damage.clause(), clause);
+// Whether the directory and its only table have their bytes, and the pages 514 to 519 are reached.
+fn has_the_table(has: &Contents) -> bool {
+    match has.tables.as_slice() {
+        [table] => {
+            has.directory.bytes.as_slice() == DIRECTORY
+                && table.bytes.as_slice() == KEPT
+                && table.pages.as_slice() == [519].as_slice()
+                && has.reached.has(514)
+                && has.reached.has(519)
+                && !has.reached.has(513)
+                && !has.reached.has(520)
+        }
+        _ => false,
+    }
 }
 
+fn front<'a>(all: &'a [Bytes<'a>], count: usize) -> &'a [Bytes<'a>] {
+    &all[..count.min(all.len())]
+}
+
+// Whether an altered file has its texts and its table, and why the records of both halves end and how many there are.
+fn told(alloc: Global, alterations: &[Bytes]) -> Result<([bool; 2], [(RunEnd, usize); 2]), Fault> {
+    let has = read(alloc, alterations, u64::MAX)?;
+    let near = (has.near.end, has.near.records.len());
+    let far = (has.far.end, has.far.records.len());
+    Ok(([has_texts(&has), has_the_table(&has)], [near, far]))
+}
+
+// Records of number 1 in slot 0 of half 0, and of number 2 in that of half 1; the root names the other half; and the record
+// there has number 1 and length 0.
+const RECORDS: [Bytes; 4] = [
+    (8_192, b"\xa5\0\0\0\0\0\0\0\x01\0\0\0\x0bg1 open a b"),
+    (1_056_768, b"\xa5\0\0\0\0\0\0\0\x02\0\0\0\x08g1 buy a"),
+    (17, b"\x01"),
+    (1_056_776, b"\x01\0\0\0\0"),
+];
+
+// Where the root names the other half, its record isn't the expected one, and the other's is the first. A record of length
+// 0 is told by the end of its half.
 #[test]
-fn a_right_file_is_read(rt: HostRuntime) -> Result<(), Fail> {
-    let alloc = rt.alloc();
+fn a_right_file_is_read(rt: HostRuntime) {
     files_have_one_answer();
-    let mut disk = right_file(alloc)?;
-    let has = read(alloc, &mut disk)?;
-    assert!(rt; !has.taken.side);
-    assert_eq!(rt; has.taken.root.directory, 514);
-    assert_eq!(rt; has.directory.bytes.as_slice(), DIRECTORY);
-    assert_eq!(rt; has.texts.chart.bytes.as_slice(), b"chart".as_slice());
-    assert_eq!(rt; has.texts.roster.bytes.as_slice(), b"roster".as_slice());
-    assert_eq!(rt; has.texts.tiles.bytes.as_slice(), b"tiles".as_slice());
-    assert_eq!(rt; has.texts.board.bytes.as_slice(), b"board".as_slice());
-    assert_eq!(rt; has.dir.tables.len(), 1);
-    assert_eq!(rt; has.tables.len(), 1);
-    for table in &has.tables {
-        assert!(rt; are_kept(&table.bytes, b"open a b", b"buy a")?);
-        assert_eq!(rt; table.pages.as_slice(), [519].as_slice());
-    }
-    for page in 514..520 {
-        assert!(rt; has.reached.has(page), "{page}");
-    }
-    assert!(rt; !has.reached.has(513) && !has.reached.has(520));
-    assert_eq!(rt; has.near.end, RunEnd::Closed);
-    assert_eq!(rt; has.far.end, RunEnd::Closed);
-    assert!(rt; has.near.records.is_empty() && has.far.records.is_empty());
-    Ok(())
+    let alloc = rt.alloc();
+    let one = (RunEnd::Closed, 1);
+    assert!(rt; told(alloc, &[]) == Ok(([true; 2], [(RunEnd::Closed, 0); 2])));
+    assert!(rt; told(alloc, front(&RECORDS, 2)) == Ok(([true; 2], [one, one])));
+    let other = [(RunEnd::OtherNumber, 0), one];
+    assert!(rt; told(alloc, front(&RECORDS, 3)) == Ok(([true; 2], other)));
+    let empty = [(RunEnd::Damaged, 0), one];
+    assert!(rt; told(alloc, &RECORDS) == Ok(([true; 2], empty)));
 }
 
-#[test]
-fn records_of_both_halves_are_read(rt: HostRuntime) -> Result<(), Fail> {
-    let alloc = rt.alloc();
-    let mut disk = right_file(alloc)?;
-    write(&mut disk, NEAR, FIRST)?;
-    write(&mut disk, FAR, SECOND)?;
-    let has = read(alloc, &mut disk)?;
-    assert_eq!(rt; has.near.records.len(), 1);
-    assert_eq!(rt; has.far.records.len(), 1);
-    for bytes in &has.near.records {
-        assert_eq!(rt; bytes.as_slice(), b"g1 open a b".as_slice());
+// What is damaged of an altered file.
+fn damage(alloc: Global, alterations: &[Bytes]) -> Option<Damage> {
+    match read(alloc, alterations, u64::MAX) {
+        Err(Fault::Damaged(damage)) => Some(damage),
+        _ => None,
     }
-    for bytes in &has.far.records {
-        assert_eq!(rt; bytes.as_slice(), b"g1 buy a".as_slice());
-    }
-    // The root names the other half: its record isn't the expected one, and neither is the other's behind it.
-    write(&mut disk, 17, &[1])?;
-    let has = read(alloc, &mut disk)?;
-    assert!(rt; has.near.records.is_empty());
-    assert_eq!(rt; has.near.end, RunEnd::OtherNumber);
-    assert_eq!(rt; has.far.records.len(), 1);
-    assert_eq!(rt; has.far.end, RunEnd::Closed);
-    // A record of length 0 is told by the end of its half.
-    write(&mut disk, FAR + 8, &[1, 0, 0, 0, 0])?;
-    assert_eq!(rt; read(alloc, &mut disk)?.near.end, RunEnd::Damaged);
-    Ok(())
 }
 
-// Each alteration stands alone in a file that was right.
+// Each alteration stands alone in a file that was right: the roster begins on the chart's page; the chart is a byte longer
+// or shorter than stated; and three commands are kept, of which two are there.
 #[test]
-fn damage_has_its_clause(rt: HostRuntime) -> Result<(), Fail> {
+fn damage_has_its_clause(rt: HostRuntime) {
     let alloc = rt.alloc();
-    let rows = [
-        // Half 2.
-        (17, b"\x02".as_slice(), Damage::RootField, 1),
-        // The directory on the page that has the page count's number.
-        (
-            9,
-            b"\0\0\0\0\0\0\x02\x08".as_slice(),
-            Damage::PageOutside,
-            2,
-        ),
-        // The chart's page leads to itself; the roster begins on the chart's page.
-        (
-            2_109_440,
-            b"\0\0\0\0\0\0\x02\x03".as_slice(),
-            Damage::PageTwice,
-            3,
-        ),
-        (
-            2_105_366,
-            b"\0\0\0\0\0\0\x02\x03".as_slice(),
-            Damage::PageTwice,
-            3,
-        ),
-        // The chart's page with 4,087 used bytes.
-        (2_109_448, b"\x0f\xf7".as_slice(), Damage::UsedBytes, 4),
-        // The directory cut behind its table count.
-        (2_105_352, b"\0\x32".as_slice(), Damage::Form, 5),
-        // The chart a byte longer or shorter than stated.
-        (2_105_365, b"\x04".as_slice(), Damage::Form, 5),
-        (2_105_365, b"\x06".as_slice(), Damage::Form, 5),
-        // Three kept commands, of which two are there.
-        (2_105_422, b"\x03".as_slice(), Damage::Form, 5),
+    let told = [
+        damage(alloc, &[(2_105_366, b"\0\0\0\0\0\0\x02\x03")]),
+        damage(alloc, &[(2_105_365, b"\x04")]),
+        damage(alloc, &[(2_105_365, b"\x06")]),
+        damage(alloc, &[(2_105_422, b"\x03")]),
     ];
-    for (at, bytes, damage, clause) in rows {
-        let mut disk = right_file(alloc)?;
-        write(&mut disk, at, bytes)?;
-        check_damage(&rt, alloc, &mut disk, damage, clause);
-    }
-    Ok(())
+    let form = Some(Damage::Form);
+    assert!(rt; told == [Some(Damage::PageTwice), form, form, form]);
 }
+
+// The chart is a byte longer than stated; behind it the roster's page has 4,087 used bytes; the tiles begin on the chart's
+// page; the last chain, the table's, begins outside; the directory is cut behind its table count, so that none of them can
+// be found; and the root names half 2.
+const IN_TURN: [Bytes; 6] = [
+    (2_105_365, b"\x04"),
+    (2_113_544, b"\x0f\xf7"),
+    (2_105_378, b"\0\0\0\0\0\0\x02\x03"),
+    (2_105_423, b"\0\0\0\0\0\0\x02\x08"),
+    (2_105_352, b"\0\x32"),
+    (17, b"\x02"),
+];
 
 // Of several clauses the least is told, wherever it is broken: each alteration comes to those before it.
 #[test]
-fn the_least_damage_is_told(rt: HostRuntime) -> Result<(), Fail> {
+fn the_least_damage_is_told(rt: HostRuntime) {
     let alloc = rt.alloc();
-    let mut disk = right_file(alloc)?;
-    let rows = [
-        // The chart a byte longer than stated.
-        (2_105_365, b"\x04".as_slice(), Damage::Form, 5),
-        // Behind it the roster's page, with 4,087 used bytes.
-        (2_113_544, b"\x0f\xf7".as_slice(), Damage::UsedBytes, 4),
-        // The tiles begin on the chart's page.
-        (
-            2_105_378,
-            b"\0\0\0\0\0\0\x02\x03".as_slice(),
-            Damage::PageTwice,
-            3,
-        ),
-        // The last chain, the table's, begins outside.
-        (
-            2_105_423,
-            b"\0\0\0\0\0\0\x02\x08".as_slice(),
-            Damage::PageOutside,
-            2,
-        ),
-        // The directory cut behind its table count: none of them can be found.
-        (2_105_352, b"\0\x32".as_slice(), Damage::Form, 5),
-        // Half 2.
-        (17, b"\x02".as_slice(), Damage::RootField, 1),
+    let told = [
+        damage(alloc, front(&IN_TURN, 1)),
+        damage(alloc, front(&IN_TURN, 2)),
+        damage(alloc, front(&IN_TURN, 3)),
+        damage(alloc, front(&IN_TURN, 4)),
+        damage(alloc, front(&IN_TURN, 5)),
+        damage(alloc, &IN_TURN),
     ];
-    for (at, bytes, damage, clause) in rows {
-        write(&mut disk, at, bytes)?;
-        check_damage(&rt, alloc, &mut disk, damage, clause);
-    }
-    Ok(())
+    let wanted = [
+        Some(Damage::Form),
+        Some(Damage::UsedBytes),
+        Some(Damage::PageTwice),
+        Some(Damage::PageOutside),
+        Some(Damage::Form),
+        Some(Damage::RootField),
+    ];
+    assert!(rt; told == wanted);
 }
 
-// Another version, no open root, and a file that is too short.
-#[test]
-fn other_files_are_no_stores(rt: HostRuntime) -> Result<(), Fail> {
-    let alloc = rt.alloc();
-    for (at, byte) in [(35, 3), (0, 0)] {
-        let mut disk = right_file(alloc)?;
-        write(&mut disk, at, &[byte])?;
-        assert_eq!(rt; read(alloc, &mut disk).err(), Some(Fault::NotAStore));
-    }
-    let mut short = in_memory(alloc, 1 << 16, ROOT)?;
-    assert_eq!(rt; read(alloc, &mut short).err(), Some(Fault::NotAStore));
-    Ok(())
+fn fault(alloc: Global, alterations: &[Bytes], calls: u64) -> Option<Fault> {
+    read(alloc, alterations, calls).err()
 }
 
+fn is_told(alloc: Global, fault: Fault, number: u8, text: &str) -> bool {
+    match fault.to_string(alloc) {
+        Ok(shown) => fault.number() == number && shown.as_str() == text,
+        Err(_) => false,
+    }
+}
+
+// Where the root is shut, and where the device fails.
 #[test]
-fn a_failing_device_is_told(rt: HostRuntime) -> Result<(), Fail> {
+fn faults_are_told(rt: HostRuntime) {
     let alloc = rt.alloc();
-    let failed = Fault::Disk(rr_disk::Fault::DeviceFailed);
-    for calls in [0, 2, 5, 15] {
-        let mut disk = failing_after(right_file(alloc)?, calls);
-        assert_eq!(rt; read(alloc, &mut disk).err(), Some(failed));
-    }
-    let table = [
-        (failed, 60, "device failed"),
-        (Fault::Damaged(Damage::Form), 63, "damaged 5"),
-        (Fault::NotAStore, 64, "not a store"),
-        (Fault::OutOfMemory, 70, "out of memory"),
+    let device = Fault::Disk(rr_disk::Fault::DeviceFailed);
+    assert!(rt; fault(alloc, &[(0, b"\0")], u64::MAX) == Some(Fault::NotAStore));
+    assert!(rt; fault(alloc, &[], 5) == Some(device));
+    let are_told = [
+        is_told(alloc, device, 60, "device failed"),
+        is_told(alloc, Fault::Damaged(Damage::Form), 63, "damaged 5"),
+        is_told(alloc, Fault::NotAStore, 64, "not a store"),
+        is_told(alloc, Fault::OutOfMemory, 70, "out of memory"),
     ];
-    for (fault, number, text) in table {
-        assert_eq!(rt; fault.number(), number);
-        assert_eq!(rt; fault.to_string(alloc)?.as_str(), text);
-    }
-    Ok(())
+    assert!(rt; are_told == [true; 4]);
+    let clauses = [
+        Damage::RootField.clause(),
+        Damage::PageOutside.clause(),
+        Damage::PageTwice.clause(),
+        Damage::UsedBytes.clause(),
+        Damage::Form.clause(),
+    ];
+    assert!(rt; clauses == [1, 2, 3, 4, 5]);
 }

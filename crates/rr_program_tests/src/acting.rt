@@ -1,8 +1,9 @@
-//! What the program does with a plan, over a disk in memory. Whole games stand in the folder `games` of the repository,
-//! and what is refused at the start is tried on the built program by `tools/try-the-program`.
-use crate::kits::{OPENING, ROOM, ROSTER, formatted, texts};
+//! What the program does with a plan, over a disk in memory. Whole games stand in the folder `games` of the repository.
+//! What is refused at the start and what becomes of the standard streams is tried on the built program by
+//! `tools/try-the-program`, failures of the device by `tools/stop-anywhere`.
+use crate::kits::{ROOM, ROSTER, formatted, texts};
 use rr_cli::{Ending, Plan, act, refuse, status};
-use rr_disk::{Disk, FaultyDisk, MemoryDisk};
+use rr_disk::{Disk, MemoryDisk};
 use rr_moderator::Fault;
 use rr_serve::{CountingReader, CountingWriter, Input, Output};
 use std::alloc::{AllocError, Global};
@@ -44,81 +45,57 @@ fn act_on<D: Disk + Drop, I: Input, O: Output>(
     act(alloc, plan, texts(roster), disk, reader, writer)
 }
 
-/// Carries a plan out: the status, what is written, and the disk.
+/// Carries a plan out: whether it ends with this status and writes this, and the disk.
 fn acted<D: Disk + Drop>(
     alloc: Global,
     plan: &Plan,
     roster: &[u8],
     disk: D,
     input: &[u8],
-) -> (u8, Vec<u8>, D) {
+    expected: (u8, &[u8]),
+) -> (bool, D) {
     let mut reader = CountingReader::new(input);
     let mut output = CountingWriter::new(Vec::new(alloc));
     let (status, disk) = act_on(alloc, plan, roster, disk, &mut reader, &mut output);
-    (status, output.into_inner(), disk)
+    let right = status == expected.0 && output.into_inner().as_slice() == expected.1;
+    (right, disk)
 }
 
 /// Whether the disk isn't made a file with another roster, is made one with this roster, and not again.
-fn is_formatted_once(alloc: Global) -> Result<bool, Fail> {
-    let plan = format_plan(alloc)?;
-    let empty = MemoryDisk::new(alloc, ROOM)?;
-    let (status, told, disk) = acted(alloc, &plan, b"private = []", empty, b"");
-    if status != 3
-        || told.as_slice() != b"no 4 bad roster\n".as_slice()
-        || !disk.content().is_empty()
-    {
-        return Ok(false);
-    }
-    let (status, told, disk) = acted(alloc, &plan, ROSTER, disk, b"");
-    if status != 0 || told.as_slice() != b"ok\n".as_slice() {
-        return Ok(false);
-    }
-    let (status, told, _) = acted(alloc, &plan, ROSTER, disk, b"");
-    Ok(status == 3 && told.as_slice() == b"no 64 not empty\n".as_slice())
-}
-
-/// Whether so many device calls go through and the next one ends serving, behind which the file is served again.
-fn is_ended_by_device(alloc: Global, calls: u64) -> Result<bool, Fail> {
-    let plan = serve_plan(alloc)?;
-    let disk = FaultyDisk::after(formatted(alloc)?, calls);
-    let (status, told, disk) = acted(alloc, &plan, b"", disk, b"0 g1 open a b\ntables\n");
-    if status != 4 || told.as_slice() != b"no 60 device failed\n".as_slice() {
-        return Ok(false);
-    }
-    let disk = disk.into_inner();
-    let (status, told, _) = acted(alloc, &plan, b"", disk, b"tables\n0 g1 open a b\n");
-    Ok(status == 0 && told.as_slice() == b"= -\nok g1 1\n".as_slice())
+fn is_formatted_once(alloc: Global, plan: &Plan, empty: MemoryDisk) -> bool {
+    let refused = (3, b"no 4 bad roster\n".as_slice());
+    let (first, disk) = acted(alloc, plan, b"private = []", empty, b"", refused);
+    let untouched = disk.content().is_empty();
+    let (second, disk) = acted(alloc, plan, ROSTER, disk, b"", (0, b"ok\n"));
+    let again = (3, b"no 64 not empty\n".as_slice());
+    let (third, _) = acted(alloc, plan, ROSTER, disk, b"", again);
+    first && untouched && second && third
 }
 
 #[test]
-fn formats_and_serves(rt: HostRuntime) -> Result<(), Fail> {
-    assert!(rt; is_formatted_once(rt.alloc())?);
-    assert!(rt; is_ended_by_device(rt.alloc(), OPENING)?);
+fn formats_once(rt: HostRuntime) -> Result<(), Fail> {
+    let empty = MemoryDisk::new(rt.alloc(), ROOM)?;
+    let plan = format_plan(rt.alloc())?;
+    assert!(rt; is_formatted_once(rt.alloc(), &plan, empty));
     Ok(())
 }
 
-/// Whether a check of the disk ends with this status and writes this, whatever there is to read.
-fn is_checked(alloc: Global, disk: MemoryDisk, status: u8, told: &[u8]) -> Result<bool, Fail> {
-    let plan = check_plan(alloc)?;
-    let (ended, written, _) = acted(alloc, &plan, b"", disk, b"0 g3 open a b\n");
-    Ok(ended == status && written.as_slice() == told)
-}
-
-/// A disk whose file has two tables and three commands.
-fn played(alloc: Global) -> Result<MemoryDisk, Fail> {
-    let plan = serve_plan(alloc)?;
+/// Whether a new file is served, and a check then tells what it holds and reads no line.
+fn is_served_and_checked(alloc: Global, serve: &Plan, check: &Plan, new: MemoryDisk) -> bool {
     let input = b"0 g1 open a b\n1 g1 buy a\n0 g2 open c d\n";
-    let (_, _, disk) = acted(alloc, &plan, b"", formatted(alloc)?, input);
-    Ok(disk)
+    let replies = (0, b"ok g1 1\nok g1 2\nok g2 1\n".as_slice());
+    let (served, disk) = acted(alloc, serve, b"", new, input, replies);
+    let told = (0, b"ok 2 3\n".as_slice());
+    let (checked, _) = acted(alloc, check, b"", disk, b"0 g3 open a b\n", told);
+    served && checked
 }
 
 #[test]
-fn checks(rt: HostRuntime) -> Result<(), Fail> {
-    let alloc = rt.alloc();
-    let empty = MemoryDisk::new(alloc, ROOM)?;
-    assert!(rt; is_checked(alloc, empty, 3, b"no 64 not a store\n")?);
-    assert!(rt; is_checked(alloc, formatted(alloc)?, 0, b"ok 0 0\n")?);
-    assert!(rt; is_checked(alloc, played(alloc)?, 0, b"ok 2 3\n")?);
+fn serves_and_checks(rt: HostRuntime) -> Result<(), Fail> {
+    let new = formatted(rt.alloc())?;
+    let serve = serve_plan(rt.alloc())?;
+    let check = check_plan(rt.alloc())?;
+    assert!(rt; is_served_and_checked(rt.alloc(), &serve, &check, new));
     Ok(())
 }
 

@@ -4,12 +4,8 @@ use rr_moderator::{Fault, Moderator, Refused, Texts, format};
 use std::alloc::Global;
 use std::test::Fail;
 
-/// Room for a file of 519 pages, for all that is written when it is made, and for the records of a whole half.
+/// Room for a file of 519 pages and for all that is written when it is made.
 pub(crate) const ROOM: usize = 1 << 23;
-
-/// The device calls of an opening of a new file: a sync, and 14 reads, of the two roots, of the front and the bytes of the page
-/// of the directory and of each text (ten, also where a text is empty), and of slot 0 of each of the journal's halves.
-pub(crate) const OPENING: u64 = 15;
 
 pub(crate) const CHART: &[u8] = b"# two rows\n90 100p 112\n. 80y\n";
 

@@ -1,8 +1,6 @@
-//! The numbers and texts of faults, and the laws.
-use rr_disk::{Disk, MemoryDisk};
+//! The numbers and texts of faults.
 use rr_recovery::Damage;
 use rr_store::Fault;
-use rr_store::laws::{calls_are_events, one_world, sessions_are_safe};
 use std::alloc::Global;
 use std::test::Fail;
 
@@ -52,16 +50,4 @@ fn faults_have_numbers_and_texts(rt: HostRuntime) -> Result<(), Fail> {
     assert!(rt; unlike(rt.alloc())? == None);
     assert!(rt; numbers() == [68, 62, 63, 70, 5, 6, 7, 8]);
     Ok(())
-}
-
-// The laws do nothing. Called for any disk they cost their proof less than for a certain one.
-fn call_laws_of_disks<D: Disk>() {
-    calls_are_events::<D>();
-    sessions_are_safe::<D>();
-}
-
-#[test]
-fn laws_are_called() {
-    one_world();
-    call_laws_of_disks::<MemoryDisk>();
 }

@@ -1,7 +1,7 @@
 //! Files in memory and the stores on them, by calls without their contracts, so that what a test does costs its proof
 //! little.
 use rr_code::read_record;
-use rr_disk::{Choice, Disk, FaultyDisk, Kept, MemoryDisk};
+use rr_disk::{Disk, FaultyDisk, MemoryDisk};
 use rr_store::{Fault, Refused, Store, Table, Texts, Tick, format, open};
 use rr_words::Name;
 use std::alloc::Global;
@@ -10,7 +10,7 @@ use std::test::Fail;
 // The byte at which slot 0 of the second half begins.
 pub(crate) const FAR: u64 = 1_056_768;
 
-// Room for a file of 521 pages, for what is written when it is made, and for the records of a half.
+// Room for a file of 521 pages and for what is written when it is made.
 const ROOM: usize = 1 << 23;
 
 pub(crate) const CHART: &[u8] = b"60y 67 71 76 82 90 100p\n";
@@ -68,46 +68,8 @@ pub(crate) fn content(disk: &MemoryDisk) -> &[u8] {
     disk.content()
 }
 
-// What a disk has at a place.
-pub(crate) fn read<const N: usize>(
-    disk: &mut MemoryDisk,
-    at: u64,
-) -> Result<[u8; N], rr_disk::Fault> {
-    let mut bytes = [0; N];
-    disk.read_at(at, &mut bytes)?;
-    Ok(bytes)
-}
-
 pub(crate) fn failing_after(disk: MemoryDisk, calls: u64) -> FaultyDisk<MemoryDisk> {
     FaultyDisk::after(disk, calls)
-}
-
-pub(crate) fn beneath(disk: FaultyDisk<MemoryDisk>) -> MemoryDisk {
-    disk.into_inner()
-}
-
-// Stops a disk with one choice for every unsynced range, if it takes it.
-pub(crate) fn stopped(
-    alloc: Global,
-    disk: &MemoryDisk,
-    kept: Kept,
-    len: u64,
-) -> Result<Option<MemoryDisk>, rr_disk::Fault> {
-    let choices = vec![in alloc; kept; disk.unsynced().len()]?;
-    let choice = Choice {
-        kept: &choices,
-        len,
-    };
-    if !disk.allows(choice) {
-        return Ok(None);
-    }
-    let left = disk.stop(choice)?;
-    Ok(Some(left))
-}
-
-// The writes and the syncs that a disk has seen.
-pub(crate) fn calls(disk: &MemoryDisk) -> (u64, u64) {
-    (disk.writes(), disk.syncs())
 }
 
 fn open_on<D: Disk + Drop>(alloc: Global, disk: D) -> Result<Store<D>, Refused<D>> {
@@ -226,31 +188,13 @@ pub(crate) fn is_named<D: Disk + Drop>(store: &Store<D>, place: usize, word: &[u
     }
 }
 
-// The passes of t1 behind its opening by a and b and a's purchase, which is what its first two stamps take.
-pub(crate) fn pass_at(stamp: u64) -> &'static [u8] {
-    if stamp % 2 == 0 {
-        return b"t1 pass b";
-    }
-    b"t1 pass a"
-}
+const PLAYED: [Row; 2] = [(0, b"t1 open a b", Ok(1)), (1, b"t1 buy a", Ok(2))];
 
-// Passes from this stamp until that one is the table's.
-pub(crate) fn pass_until<D: Disk + Drop>(
-    store: &mut Store<D>,
-    from: u64,
-    until: u64,
-) -> Result<(), Fault> {
-    for stamp in from..until {
-        commit(store, stamp, pass_at(stamp))?;
-    }
-    Ok(())
-}
-
-// A store with the table t1, which has accepted so many requests: two at least.
-pub(crate) fn played_store(alloc: Global, requests: u64) -> Result<Store<MemoryDisk>, Fail> {
+// A store with the table t1, which has accepted two requests.
+pub(crate) fn played_store(alloc: Global) -> Result<Store<MemoryDisk>, Fail> {
     let mut store = new_store(alloc)?;
-    commit(&mut store, 0, b"t1 open a b")?;
-    commit(&mut store, 1, b"t1 buy a")?;
-    pass_until(&mut store, 2, requests)?;
-    Ok(store)
+    match first_other(&mut store, &PLAYED) {
+        None => Ok(store),
+        Some(_) => Err(Fail::from("a request isn't accepted")),
+    }
 }

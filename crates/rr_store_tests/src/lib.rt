@@ -1,5 +1,6 @@
-//! Tests of the store of a club's tables: new files, what is kept and opened again, checkpoints, stops and failures of the
-//! device, damaged files, and below it the tables in memory and their recovery.
+//! Tests of the store of a club's tables: what is kept and opened again, refusals, a checkpoint, a device that fails; below
+//! it the tables in memory and their recovery; and the laws on files and worlds. Damaged files, and what every stop and
+//! failure leaves, are tried on the built program by `tools/try-the-file` and `tools/stop-anywhere`.
 #![tactic(auto)]
 
 #[cfg(test)]
@@ -7,12 +8,10 @@ mod checkpoints;
 #[cfg(test)]
 mod commits;
 #[cfg(test)]
-mod damage;
-#[cfg(test)]
 mod faults;
 #[cfg(test)]
 mod files;
 #[cfg(test)]
-mod stops;
+mod laws;
 #[cfg(test)]
 mod tables;

@@ -56,40 +56,63 @@ fn state(tables: &Tables, first: &Name, second: &Name) -> State {
     )
 }
 
-// What is told of no table, of one with two requests and one that was opened behind it, and how requests are refused.
-fn told(alloc: Global) -> Result<(State, State, [Option<Fault>; 3]), Fail> {
+// A stamp, a record, and how its request ends.
+type Row = (u64, &'static [u8], Result<u64, Fault>);
+
+const ROWS: [Row; 6] = [
+    (0, b"t1 open a b", Ok(1)),
+    (1, b"t1 buy a", Ok(2)),
+    (0, b"t2 open c d e", Ok(1)),
+    (
+        1,
+        b"t1 pass b",
+        Err(Fault::Rules(rr_records::Fault::StaleStamp(2))),
+    ),
+    (
+        0,
+        b"t3 pass b",
+        Err(Fault::Rules(rr_records::Fault::NoSuchTable)),
+    ),
+    (
+        2,
+        b"t1 forget 2",
+        Err(Fault::Rules(rr_records::Fault::TurnNotKept)),
+    ),
+];
+
+// The place of the first row that ends otherwise.
+fn first_other(alloc: Global, tables: &mut Tables) -> Option<usize> {
+    for (index, (stamp, record, end)) in ROWS.iter().enumerate() {
+        if take(alloc, tables, *stamp, record) != *end {
+            return Some(index);
+        }
+    }
+    None
+}
+
+// What is told of no table, the first row that ends otherwise, and what is told behind the rows.
+fn told(alloc: Global, first: &Name, second: &Name) -> Result<(State, Option<usize>, State), Fail> {
     let mut tables = no_tables(alloc)?;
-    let first = Name::table(b"t1").ok_or("no name")?;
-    let second = Name::table(b"t2").ok_or("no name")?;
-    let none = state(&tables, &first, &second);
-    take(alloc, &mut tables, 0, b"t1 open a b")?;
-    take(alloc, &mut tables, 1, b"t1 buy a")?;
-    take(alloc, &mut tables, 0, b"t2 open c d e")?;
-    let refused = [
-        take(alloc, &mut tables, 1, b"t1 pass b").err(),
-        take(alloc, &mut tables, 0, b"t3 pass b").err(),
-        take(alloc, &mut tables, 2, b"t1 forget 2").err(),
-    ];
-    Ok((none, state(&tables, &first, &second), refused))
+    let none = state(&tables, first, second);
+    let other = first_other(alloc, &mut tables);
+    Ok((none, other, state(&tables, first, second)))
 }
 
 #[test]
 fn tables_take_requests(rt: HostRuntime) -> Result<(), Fail> {
-    let refused = [
-        Some(Fault::Rules(rr_records::Fault::StaleStamp(2))),
-        Some(Fault::Rules(rr_records::Fault::NoSuchTable)),
-        Some(Fault::Rules(rr_records::Fault::TurnNotKept)),
-    ];
+    let first = Name::table(b"t1").ok_or("no name")?;
+    let second = Name::table(b"t2").ok_or("no name")?;
     let none = (0, 0, 0, 0, None, false);
-    assert!(rt; told(rt.alloc())? == (none, (2, 3, 2, 1, Some(0), true), refused));
+    let told = told(rt.alloc(), &first, &second)?;
+    assert!(rt; told == (none, None, (2, 3, 2, 1, Some(0), true)));
     Ok(())
 }
 
 // How many tables and requests are recovered, and whether a checkpoint is to be made anew of other tables.
 type Found = Result<(usize, u64, bool), rr_recovery::Fault>;
 
-fn recovered(alloc: Global, disk: &mut MemoryDisk) -> Result<Found, Fail> {
-    let opened = read(alloc, disk)?;
+fn recovered(alloc: Global, mut disk: MemoryDisk) -> Result<Found, Fail> {
+    let opened = read(alloc, &mut disk)?;
     Ok(match recover_tables(alloc, &opened) {
         Ok(found) => Ok(told_of(&found)),
         Err(fault) => Err(fault),
@@ -116,17 +139,20 @@ fn told_of(found: &Recovered) -> (usize, u64, bool) {
     )
 }
 
-// A new file, one whose roster has a wrong key, one with a record in either half, and one with two in the first.
-fn recoveries(alloc: Global) -> Result<[Found; 4], Fail> {
+// A new file whose roster has a wrong key.
+fn file_of_a_wrong_kit(alloc: Global) -> Result<MemoryDisk, Fail> {
     let mut new = new_file(alloc)?;
-    let none = recovered(alloc, &mut new)?;
     write(&mut new, 4096 * 515 + 10, b"q")?;
-    let mut played = disk_of(played_store(alloc, 2)?);
+    Ok(new)
+}
+
+// A new file, that one, one with a record in either half, and one with two in the first.
+fn recoveries(alloc: Global) -> Result<[Found; 4], Fail> {
     Ok([
-        none,
-        recovered(alloc, &mut new)?,
-        recovered(alloc, &mut begun_file(alloc)?)?,
-        recovered(alloc, &mut played)?,
+        recovered(alloc, new_file(alloc)?)?,
+        recovered(alloc, file_of_a_wrong_kit(alloc)?)?,
+        recovered(alloc, begun_file(alloc)?)?,
+        recovered(alloc, disk_of(played_store(alloc)?))?,
     ])
 }
 

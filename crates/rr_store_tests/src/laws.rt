@@ -1,0 +1,40 @@
+//! The laws on files and worlds: each is called, beside a store on a new file.
+use crate::files::{new_store, table_count};
+use rr_disk::Disk;
+use rr_store::Store;
+use rr_store::laws::{calls_are_events, one_world, sessions_are_safe};
+use std::test::Fail;
+
+// The calls below have no contracts, so that what the test does costs its proof little.
+
+fn call_laws_of_worlds() {
+    one_world();
+    rr_world_laws::whatever_comes_is_sound();
+    rr_world_laws::worlds_are_sound();
+    rr_world_laws::files_are_sound();
+    rr_world_laws::right_kits_are_not_wrong();
+    rr_world_laws::standing_files_open();
+    rr_world_laws::worlds_differ();
+}
+
+fn call_laws_of_sessions<D: Disk, E: Disk>() {
+    calls_are_events::<D>();
+    sessions_are_safe::<D>();
+    rr_world_laws::sessions_are_sound::<D>();
+    rr_world_laws::sessions_go_on::<D, E>();
+    rr_world_laws::sessions_that_go_on_are_sound::<D, E>();
+}
+
+fn call_laws_of_a_store<D: Disk + Drop>(store: &Store<D>) {
+    rr_world_laws::carried_files_stand(store);
+    call_laws_of_sessions::<D, D>();
+}
+
+#[test]
+fn laws_are_called(rt: HostRuntime) -> Result<(), Fail> {
+    let store = new_store(rt.alloc())?;
+    call_laws_of_worlds();
+    call_laws_of_a_store(&store);
+    assert!(rt; table_count(&store) == Ok(0));
+    Ok(())
+}
