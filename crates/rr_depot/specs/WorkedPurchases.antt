@@ -114,7 +114,8 @@ with_presidents =
 abbrev pub from_erie : ℕ → ℕ → ℕ → Act
 from_erie price one other = A.BuyTrainFrom C.Bo K.Three C.Erie price (seat one) (seat other)
 
--- the B&O buys a 3 of the ERIE for all that it has, both presidents agreeing; its first train closes its private
+-- the B&O buys a 3 of the ERIE for all that it has, both presidents agreeing; its first train closes its private; wrong
+-- presidents are told before a price of nothing, and that before the train limit
 pub record WorkedSale : Type 0 where
   pub lawful : refusal with_presidents (from_erie 100 1 0) ≡ None
   pub entries : added with_presidents (from_erie 100 1 0)
@@ -125,17 +126,21 @@ pub record WorkedSale : Type 0 where
   pub not_held : refusal with_presidents (A.BuyTrainFrom C.Bo K.Two C.Erie 100 (seat 1) (seat 0)) ≡ Some F.NotOnSale
   pub of_itself : refusal with_presidents (A.BuyTrainFrom C.Erie K.Three C.Erie 100 (seat 0) (seat 0)) ≡ Some F.NotOnSale
   pub full : refusal with_presidents (A.BuyTrainFrom C.Erie K.Two C.Nyc 1 (seat 0) (seat 1)) ≡ Some F.TrainLimit
+  pub presidents_first : refusal with_presidents (from_erie 0 0 1) ≡ Some F.NotYourTurn
+  pub price_before_limit : refusal with_presidents (A.BuyTrainFrom C.Erie K.Two C.Nyc 0 (seat 0) (seat 1)) ≡ Some F.PriceOutOfBounds
 
 abbrev pub takes_sv : ℕ → Act
 takes_sv price = A.TakePrivate C.Bo V.Sv price
 
--- the B&O buys the SV, of a face of 20, for 10 to 40; a corporation's private and the B&O's aren't sold
+-- the B&O buys the SV, of a face of 20, for 10 to 40; a corporation's private and the B&O's aren't sold; a price out of
+-- bounds is told also where the money isn't there
 pub record WorkedPrivate : Type 0 where
   pub half : refusal with_presidents (takes_sv 10) ≡ None
   pub twice : refusal with_presidents (takes_sv 40) ≡ None
   pub too_low : refusal with_presidents (takes_sv 9) ≡ Some F.PriceOutOfBounds
   pub too_high : refusal with_presidents (takes_sv 41) ≡ Some F.PriceOutOfBounds
   pub too_dear : refusal with_presidents (A.TakePrivate C.Nyc V.Sv 40) ≡ Some F.TooLittleCash
+  pub bounds_first : refusal with_presidents (A.TakePrivate C.Nyc V.Sv 41) ≡ Some F.PriceOutOfBounds
   pub of_another : refusal with_presidents (A.TakePrivate C.Bo V.Csl 40) ≡ Some F.NotForSale
   pub own_private : refusal with_presidents (A.TakePrivate C.Bo V.Bo 220) ≡ Some F.NotForSale
   pub too_early : refusal (E.Move (Cert.Private V.Sv) (L.Seat (seat 0)) ∷ []) (takes_sv 20) ≡ Some F.NotOnSale

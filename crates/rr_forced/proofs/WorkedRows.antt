@@ -46,7 +46,7 @@ worked_raise = record {
 
 pub worked_presidency : WorkedPresidency
 unfolding cheapest are_smaller_sold lowest_train has_train_at trains_at trains_held phase is_sold balance holder players train_holder opening_trains share mark_of first_mark_of arrival fallen_by heir percents_after_sale handover_after_sale hands_over moves_lowest_shares presidency_after_sale sale_shares progress has_successor pays_seller raises can_raise share_verdict
-worked_presidency = record { changes = refl; keeps = refl; too_many = refl }
+worked_presidency = record { changes = refl; keeps = refl; too_many = refl; pool_first = refl; shares_first = refl }
 
 pub worked_bankruptcy : WorkedBankruptcy
 unfolding cheapest are_smaller_sold lowest_train has_train_at trains_at trains_held phase is_sold balance holder players train_holder opening_trains share mark_of first_mark_of arrival fallen_by heir percents_after_sale handover_after_sale hands_over moves_lowest_shares presidency_after_sale sale_shares progress has_successor pays_seller raises can_raise share_verdict

@@ -83,11 +83,14 @@ rivals =
     ++ shares_to Corp.Prr (L.Seat (seat 0)) (N.One ∷ [])
     ++ shares_to Corp.Prr (L.Seat (seat 1)) (N.Two ∷ N.Three ∷ N.Four ∷ [])
 
--- it sells no share by which the corporation that is due would change its president; with 40% it may sell one, not two
+-- it sells no share by which the corporation that is due would change its president; with 40% it may sell one, not two; a
+-- pool over 50% comes before that, and so do more shares than it has
 pub record WorkedPresidency : Type 0 where
   pub changes : raise_in rivals Corp.Prr 1 ≡ Some F.PresidencyWouldChange
   pub keeps : raise_in (rivals ++ shares_to Corp.Prr (L.Seat (seat 0)) (N.Five ∷ [])) Corp.Prr 1 ≡ None
   pub too_many : raise_in (rivals ++ shares_to Corp.Prr (L.Seat (seat 0)) (N.Five ∷ [])) Corp.Prr 2 ≡ Some F.PresidencyWouldChange
+  pub pool_first : raise_in (rivals ++ shares_to Corp.Prr L.Pool (N.Five ∷ N.Six ∷ N.Seven ∷ N.Eight ∷ [])) Corp.Prr 2 ≡ Some F.PoolOverHalf
+  pub shares_first : raise_in rivals Corp.Prr 5 ≡ Some F.NotForSale
 
 -- a president that can sell a share isn't bankrupt, nor one that has the money
 pub record WorkedBankruptcy : Type 0 where

@@ -41,6 +41,8 @@ pub worked_turn_end : WorkedTurnEnd
 unfolding verdict_at step_verdict is_any_over_limit could_buy_first has_train_at trains_at trains_held ends_turn goes_on_in_operating_round passes_rounds passes_round begins_round ends_set places_first_token places_first_token_of stations pays_income pay_incomes_of progress due as_turn_began phase is_sold balance holder players train_holder order_by mark_of arrival stock.progress
 worked_turn_end = record {
   lawful = inl (λ h. untrue h.0, refl);
+  pool_alone = refl;
+  nowhere = refl;
   entries = refl;
   revenue = refl;
 }

@@ -1,21 +1,23 @@
 -- Commands of two corporations' turns, worked.
-use Rattle.std.specs.Prelude.{◌≡◌, [], ◌∷◌, ◌++◌, None, Some}
+use Rattle.std.specs.Prelude.{◌≡◌, true, false, [], ◌∷◌, ◌++◌, None, Some}
 use Rattle.rr_roster.specs.declared.company.Corp.{Corp}
 use Rattle.rr_roster.specs.declared.company.Kind.TheVariants as K
+use Rattle.rr_books.specs.declared.parties.Place.TheVariants as L
 use Rattle.rr_books.specs.declared.entries.Entry.{Entry}
 use Rattle.rr_books.specs.declared.entries.Entry.TheVariants as E
 use Rattle.rr_books.specs.declared.entries.Marker.TheVariants as M
 use Rattle.rr_books.specs.declared.acts.Act.{Act}
 use Rattle.rr_books.specs.declared.acts.Act.TheVariants as A
-use Rattle.rr_books.specs.Book.{Book}
+use Rattle.rr_books.specs.Book.{Book, train_holder}
 use Rattle.rr_board.specs.Plan.{bare}
 use Rattle.rr_kit.specs.declared.kit.Kit.{Kit}
 use Rattle.rr_desk.specs.Incomes.{dollars}
+use Rattle.rr_operations.specs.Phases.{train}
 use Rattle.rr_operations.specs.OperatingLaws.{end}
 use Rattle.rr_operations.specs.WorkedRound.{one_row, sells, set_begun}
 use Rattle.rr_sets.specs.WorkedSets.{usual_terms}
 use Rattle.rr_operate.specs.declared.fault.Fault.TheVariants as F
-use Rattle.rr_operate.specs.Rows.{IsVerdict, first_verdict}
+use Rattle.rr_operate.specs.Rows.{IsVerdict, could_buy_first, first_verdict}
 use Rattle.rr_operate.specs.Effects.{entries_of, revenue_after}
 
 -- the usual numbers, a chart of one row, and a board without a hex
@@ -48,11 +50,14 @@ pub record WorkedOrder : Type 0 where
   pub unpaid : first_verdict kit has_run (dollars 0) (A.PayOut Corp.Prr) ≡ Some F.WrongStep
   pub paid : first_verdict kit has_run (dollars 30) (A.PayOut Corp.Prr) ≡ None
 
--- a corporation with a train ends its turn, and the next round begins; what its trains earned is forgotten
+-- a corporation with a train ends its turn, and the next round begins; what its trains earned is forgotten; one without a
+-- train could buy one where the only train is in the pool, and not where there is none
 pub record WorkedTurnEnd : Type 0 where
   pub lawful : IsVerdict kit nyc_buys (dollars 30) (A.End Corp.Nyc) None
   pub entries : entries_of kit (dollars 30) nyc_buys (A.End Corp.Nyc) ≡ end Corp.Nyc ∷ E.Step M.Operating ∷ []
   pub revenue : revenue_after kit nyc_buys (dollars 30) (A.End Corp.Nyc) ≡ dollars 0
+  pub pool_alone : could_buy_first (train_holder (E.Train (train K.Two 1) L.Pool ∷ [])) Corp.Prr ≡ true
+  pub nowhere : could_buy_first (train_holder []) Corp.Prr ≡ false
 
 -- a run is its words, behind the certificate where there is one
 pub record WorkedRun : Type 0 where

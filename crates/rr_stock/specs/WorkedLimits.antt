@@ -62,27 +62,33 @@ from_pool = A.BuyShare a Corp.Prr S.Pool
 abbrev pub with_sixty : Book
 with_sixty = opening ++ president_with (N.One ∷ N.Two ∷ N.Three ∷ N.Four ∷ [])
 
--- nobody buys more than 60% in white and yellow, and in orange and brown anybody may
+-- nobody buys more than 60% in white and yellow, also where the money isn't there, and in orange and brown anybody may
 pub record WorkedSixty : Type 0 where
   pub white : verdict (above Z.Orange) (with_sixty ++ at_par ++ first_round) from_offer ≡ Some F.OverSixty
   pub yellow : verdict (above Z.Yellow) (with_sixty ++ below_par ++ first_round) from_offer ≡ Some F.OverSixty
   pub orange : verdict (above Z.Orange) (with_sixty ++ below_par ++ first_round) from_offer ≡ None
   pub brown : verdict (above Z.Brown) (with_sixty ++ below_par ++ first_round) from_offer ≡ None
+  pub poor : verdict (above Z.Orange) (with_sixty ++ E.Pay (P.Seat a) P.Bank (dollars 600) ∷ at_par ++ first_round) from_offer ≡ Some F.OverSixty
 
 -- a holds 70% of the PRR
 abbrev pub with_seventy : Book
 with_seventy = opening ++ president_with (N.One ∷ N.Two ∷ N.Three ∷ N.Four ∷ N.Five ∷ [])
+
+-- it has sold one of them in the second stock round, and holds 60%
+abbrev pub sold_to_sixty : Book
+sold_to_sixty = with_seventy ++ at_par ++ second_round ++ entries_of corner (with_seventy ++ at_par ++ second_round) (A.Sell a Corp.Prr 1)
 
 -- a purchase, the end of the turn, and a sale
 abbrev pub three_ways : List Act
 three_ways = from_offer ∷ A.Done a ∷ A.Sell a Corp.Prr 1 ∷ []
 
 -- who has more than 60% in white has to sell before all else, but not in the first stock round, in which nobody sells,
--- and not in orange
+-- and not in orange; what it sold it doesn't buy back in that round, which is told before the 60%
 pub record WorkedMustSell : Type 0 where
   pub white : verdicts_in (above Z.Orange) (with_seventy ++ at_par ++ second_round) three_ways ≡ Some F.MustSellFirst ∷ Some F.MustSellFirst ∷ None ∷ []
   pub first : verdicts_in (above Z.Orange) (with_seventy ++ at_par ++ first_round) three_ways ≡ Some F.OverSixty ∷ None ∷ Some F.FirstStockRound ∷ []
   pub orange : verdicts_in (above Z.Orange) (with_seventy ++ below_par ++ second_round) three_ways ≡ None ∷ None ∷ None ∷ []
+  pub sold : verdict corner sold_to_sixty from_offer ≡ Some F.SoldThisRound
 
 -- a has bought a share from the pool, which still has two, on a chart on which the PRR stands in this zone
 abbrev pub pool_of_three : Book

@@ -17,11 +17,13 @@ use Rattle.rr_books.specs.declared.entries.Entry.TheVariants as E
 use Rattle.rr_books.specs.declared.entries.Marker.TheVariants as M
 use Rattle.rr_books.specs.declared.acts.Act.{Act}
 use Rattle.rr_books.specs.declared.acts.Act.TheVariants as A
+use Rattle.rr_books.specs.declared.acts.ShareSource.{ShareSource}
 use Rattle.rr_books.specs.declared.acts.ShareSource.TheVariants as S
 use Rattle.rr_books.specs.Book.{Book, balance, holder}
 use Rattle.rr_books.specs.Shares.{certificates_of, share}
 use Rattle.rr_market.specs.Marks.{price_of}
 use Rattle.rr_stock.specs.declared.fault.Fault.{Fault}
+use Rattle.rr_stock.specs.declared.fault.Fault.TheVariants as F
 use Rattle.rr_desk.specs.Incomes.{dollars}
 use Rattle.rr_stock.specs.Rules.{verdict}
 use Rattle.rr_stock.specs.Effects.{entries_of}
@@ -122,7 +124,45 @@ before_presidency =
 abbrev pub fifth_share : Act
 fifth_share = A.BuyShare b Corp.Prr S.Offer
 
--- b buys a fifth share and gets the presidency for two of its shares: a keeps 40%, and b has 50%
+-- two sit down with 600 each, and the NYC's certificates, whose par is 100, are offered
+abbrev pub opening_of_nyc : Book
+opening_of_nyc =
+    E.Pay P.Bank (P.Seat a) (dollars 600)
+    ∷ E.Pay P.Bank (P.Seat b) (dollars 600)
+    ∷ map (λ c. E.Move c L.Offer) (certificates_of Corp.Nyc)
+    ++ E.Mark Corp.Nyc (cell_in_row 0)
+    ∷ []
+
+-- a is the NYC's president with 20%, b has as much and the M&H, the pool has 10%, and b is in turn
+abbrev pub before_swap : Book
+before_swap =
+    opening_of_nyc
+    ++ E.Move (C.President Corp.Nyc) (L.Seat a)
+    ∷ E.Move (C.Share Corp.Nyc N.One) (L.Seat b)
+    ∷ E.Move (C.Share Corp.Nyc N.Two) (L.Seat b)
+    ∷ E.Move (C.Share Corp.Nyc N.Three) L.Pool
+    ∷ E.Move (C.Private Private.Mh) (L.Seat b)
+    ∷ E.Step M.Stock
+    ∷ E.Step (M.Act (A.Done a))
+    ∷ []
+
+-- a holds 60% of the NYC and the M&H, and is in turn
+abbrev pub sixty_of_nyc : Book
+sixty_of_nyc =
+    opening_of_nyc
+    ++ E.Move (C.President Corp.Nyc) (L.Seat a)
+    ∷ map (λ n. E.Move (C.Share Corp.Nyc n) (L.Seat a)) (N.One ∷ N.Two ∷ N.Three ∷ N.Four ∷ [])
+    ++ E.Move (C.Private Private.Mh) (L.Seat a)
+    ∷ E.Step M.Stock
+    ∷ E.Step (M.Act (A.Done b))
+    ∷ []
+
+abbrev pub swap_from : ShareSource → Act
+swap_from source = A.Swap b source
+
+-- b buys a fifth share and gets the presidency for two of its shares: a keeps 40%, and b has 50%; b gives up the M&H
+-- for a third share of the NYC and gets that presidency too: with a share of the offer 60% has left it and the NYC
+-- floats, with one of the pool it doesn't; nobody gets more than 60% for the M&H
 pub record WorkedPresidency : Type 0 where
   pub lawful : verdict corner before_presidency fifth_share ≡ None
   pub entries : entries_of corner before_presidency fifth_share ≡ E.Step (M.Act fifth_share)
@@ -133,6 +173,24 @@ pub record WorkedPresidency : Type 0 where
       ∷ E.Move (C.President Corp.Prr) (L.Seat b)
       ∷ []
   pub percents : map (λ s. share (holder (after_act before_presidency fifth_share)) (L.Seat s) Corp.Prr) (a ∷ b ∷ []) ≡ 40 ∷ 50 ∷ []
+  pub swap : verdict corner before_swap (swap_from S.Offer) ≡ None
+  pub swap_entries : entries_of corner before_swap (swap_from S.Offer) ≡ E.Step (M.Act (swap_from S.Offer))
+      ∷ E.Move (C.Private Private.Mh) L.Gone
+      ∷ E.Move (C.Share Corp.Nyc N.Four) (L.Seat b)
+      ∷ E.Move (C.Share Corp.Nyc N.One) (L.Seat a)
+      ∷ E.Move (C.Share Corp.Nyc N.Two) (L.Seat a)
+      ∷ E.Move (C.President Corp.Nyc) (L.Seat b)
+      ∷ E.Pay P.Bank (P.Corp Corp.Nyc) (dollars 1000)
+      ∷ E.Step (M.Float Corp.Nyc)
+      ∷ []
+  pub swap_of_pool : entries_of corner before_swap (swap_from S.Pool) ≡ E.Step (M.Act (swap_from S.Pool))
+      ∷ E.Move (C.Private Private.Mh) L.Gone
+      ∷ E.Move (C.Share Corp.Nyc N.Three) (L.Seat b)
+      ∷ E.Move (C.Share Corp.Nyc N.One) (L.Seat a)
+      ∷ E.Move (C.Share Corp.Nyc N.Two) (L.Seat a)
+      ∷ E.Move (C.President Corp.Nyc) (L.Seat b)
+      ∷ []
+  pub swap_over_sixty : verdict corner sixty_of_nyc (A.Swap a S.Offer) ≡ Some F.OverSixty
 
 -- a has 580 as the first stock round begins
 abbrev pub before_par : Book

@@ -99,7 +99,11 @@ before_first_six =
 abbrev pub after_first_six : Book
 after_first_six = before_first_six ++ trains_to (L.Corp C.Co) K.Six 1 1
 
--- a D is on sale once one 6 was sold, while the other is still offered
+abbrev pub after_first_diesel : Book
+after_first_diesel = after_first_six ++ trains_to (L.Corp C.Co) K.Diesel 1 1
+
+-- a D is on sale once one 6 was sold, while the other is still offered; the limit of two trains and the three rounds in a
+-- set stay as the first D is bought
 pub record WorkedDiesel : Type 0 where
   pub too_early : is_on_sale (train_holder before_first_six) K.Diesel S.Bank ≡ false
   pub six : cheapest (train_holder before_first_six) usual_terms ≡ Some (record { kind = K.Six; source = S.Bank })
@@ -108,6 +112,8 @@ pub record WorkedDiesel : Type 0 where
   pub limit : train_limit (phase (train_holder after_first_six)) ≡ 2
   pub rounds : rounds_in_set (phase (train_holder after_first_six)) ≡ 3
   pub rusted : first_train true K.Six C.Co after_first_six ≡ trains_to L.Gone K.Three 1 5
+  pub last_limit : train_limit (phase (train_holder after_first_diesel)) ≡ 2
+  pub last_rounds : rounds_in_set (phase (train_holder after_first_diesel)) ≡ 3
 
 -- of a train in the bank and one of its kind in the pool the bank's is the cheapest; sold trains aren't on sale
 pub record WorkedTie : Type 0 where

@@ -12,4 +12,4 @@ use Rattle.rr_depot.proofs.laws.worked_private.Goals as goal
 
 pub returns : goal.returns
 unfolding holder train_holder balance players opening_trains has_train_at lowest_train trains_at trains_held is_sold phase are_smaller_sold all_close all_rust closes first_train rusts is_any_over_limit train_verdict deal_verdict trade_verdict discard_verdict private_verdict gets_train buys_train buys_train_from trades_train discards_train takes_private
-returns c = record { half = refl; twice = refl; too_low = refl; too_high = refl; too_dear = refl; of_another = refl; own_private = refl; too_early = refl; entries = refl }
+returns c = record { half = refl; twice = refl; too_low = refl; too_high = refl; too_dear = refl; bounds_first = refl; of_another = refl; own_private = refl; too_early = refl; entries = refl }

@@ -12,4 +12,4 @@ use Rattle.rr_depot.proofs.laws.worked_sale.Goals as goal
 
 pub returns : goal.returns
 unfolding holder train_holder balance players opening_trains has_train_at lowest_train trains_at trains_held is_sold phase are_smaller_sold all_close all_rust closes first_train rusts is_any_over_limit train_verdict deal_verdict trade_verdict discard_verdict private_verdict gets_train buys_train buys_train_from trades_train discards_train takes_private
-returns c = record { lawful = refl; entries = refl; nothing = refl; too_dear = refl; other_way = refl; not_held = refl; of_itself = refl; full = refl }
+returns c = record { lawful = refl; entries = refl; nothing = refl; too_dear = refl; other_way = refl; not_held = refl; of_itself = refl; full = refl; presidents_first = refl; price_before_limit = refl }

@@ -11,10 +11,10 @@ use Rattle.rr_shares.specs.Effects.{float, float_if_due, hands_over, moves_lowes
 use Rattle.rr_rounds.specs.Round.{progress}
 use Rattle.rr_holdings.specs.Limits.{certificates_counted, is_over_sixty_of_any}
 use Rattle.rr_holdings.specs.Sales.{has_lawful_sale, has_successor}
-use Rattle.rr_stock.specs.Rules.{done_verdict, par_verdict, purchase_verdict, sale_verdict, turn_verdict}
-use Rattle.rr_stock.specs.Effects.{buys_share, ends_stock_round, ends_turn, gets_share, pays_seller, rises, rises_among, rises_if_sold_out, sells, sets_par, settles_corporation, takes_presidency}
+use Rattle.rr_stock.specs.Rules.{done_verdict, par_verdict, purchase_verdict, sale_verdict, swap_verdict, turn_verdict}
+use Rattle.rr_stock.specs.Effects.{buys_share, ends_stock_round, ends_turn, gets_share, gives_up_private, pays_seller, rises, rises_among, rises_if_sold_out, sells, sets_par, settles_corporation, swaps, takes_presidency}
 use Rattle.rr_stock.proofs.laws.worked_presidency.Goals as goal
 
 pub returns : goal.returns
-unfolding balance holder players share counted progress mark_of first_mark_of arrival order_by fallen_by pars_in pars_of certificates_counted is_over_sixty_of_any has_successor has_lawful_sale percents percents_after_sale heir handover_due handover_after_sale moves_lowest_shares hands_over presidency presidency_after_sale sale_shares float float_if_due turn_verdict par_verdict purchase_verdict sale_verdict done_verdict sets_par takes_presidency buys_share gets_share settles_corporation sells pays_seller rises_if_sold_out rises_among rises ends_stock_round ends_turn
-returns c = record { lawful = refl; entries = refl; percents = refl }
+unfolding balance holder players share counted progress mark_of first_mark_of arrival order_by fallen_by pars_in pars_of certificates_counted is_over_sixty_of_any has_successor has_lawful_sale percents percents_after_sale heir handover_due handover_after_sale moves_lowest_shares hands_over presidency presidency_after_sale sale_shares float float_if_due turn_verdict par_verdict purchase_verdict sale_verdict swap_verdict done_verdict sets_par takes_presidency buys_share gets_share settles_corporation sells pays_seller swaps gives_up_private rises_if_sold_out rises_among rises ends_stock_round ends_turn
+returns c = record { lawful = refl; entries = refl; percents = refl; swap = refl; swap_entries = refl; swap_of_pool = refl; swap_over_sixty = refl }

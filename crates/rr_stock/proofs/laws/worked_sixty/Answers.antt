@@ -17,4 +17,4 @@ use Rattle.rr_stock.proofs.laws.worked_sixty.Goals as goal
 
 pub returns : goal.returns
 unfolding balance holder players share counted progress mark_of first_mark_of arrival order_by fallen_by pars_in pars_of certificates_counted is_over_sixty_of_any has_successor has_lawful_sale percents percents_after_sale heir handover_due handover_after_sale moves_lowest_shares hands_over presidency presidency_after_sale sale_shares float float_if_due turn_verdict par_verdict purchase_verdict sale_verdict done_verdict sets_par takes_presidency buys_share gets_share settles_corporation sells pays_seller rises_if_sold_out rises_among rises ends_stock_round ends_turn
-returns c = record { white = refl; yellow = refl; orange = refl; brown = refl }
+returns c = record { white = refl; yellow = refl; orange = refl; brown = refl; poor = refl }

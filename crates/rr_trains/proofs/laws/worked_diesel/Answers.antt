@@ -9,4 +9,4 @@ use Rattle.rr_trains.proofs.laws.worked_diesel.Goals as goal
 
 pub returns : goal.returns
 unfolding holder train_holder opening_trains has_train_at lowest_train trains_at trains_held is_sold phase are_smaller_sold cheapest all_close all_rust closes first_train rusts
-returns c = record { too_early = refl; six = refl; early = refl; still_six = refl; limit = refl; rounds = refl; rusted = refl }
+returns c = record { too_early = refl; six = refl; early = refl; still_six = refl; limit = refl; rounds = refl; rusted = refl; last_limit = refl; last_rounds = refl }
