@@ -159,7 +159,7 @@ pub refused-wrong : (text : List ℕ) (rows : List NumberedWords) (fault : Fault
 refused-wrong text rows (BadBoard line) small rows_are wrong =
     let here : IsFirstWrong (rows_of text) line = subst (λ all. IsFirstWrong all line) rows_are wrong in
     (WrongLine line small here, λ plan spelled. no_board-wrong (rows_of text) line here plan spelled.rows_spelled)
-refused-wrong text rows OutOfMemory small rows_are wrong = tt
+refused-wrong text rows OutOfMemory small rows_are wrong = small
 
 pub refused-not_ascii : (text : List ℕ) → ¬ IsSmallAscii text → IsBadAt text 0 × ((plan : Plan) → ¬ Spells text plan)
 refused-not_ascii text large = (NotSmallAscii large, λ plan spelled. large spelled.small_ascii)

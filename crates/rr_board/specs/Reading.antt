@@ -41,10 +41,10 @@ pub data IsBadAt (text : List ℕ) : ℕ → Type 0 where
   WithoutHex : (plan : Plan) → IsSmallAscii text → SpellsRows (rows_of text) plan → length plan.hexes ≡ 0 → IsBadAt text 0
   WrongLine : (line : ℕ) → IsSmallAscii text → IsFirstWrong (rows_of text) line → IsBadAt text line
 
--- only memory may be wanting, or no board is spelled
+-- no board is spelled; or memory is wanting, which it may be only of a text of at most 64 KiB, and of ASCII alone
 abbrev pub IsRefusal : List ℕ → Fault → Type 0
 IsRefusal text (BadBoard line) = IsBadAt text line × ((plan : Plan) → ¬ Spells text plan)
-IsRefusal text OutOfMemory = Unit {0}
+IsRefusal text OutOfMemory = IsSmallAscii text
 
 -- why rows spell no hexes, homes and blocks
 abbrev pub IsRowsFault : List NumberedWords → Fault → Type 0

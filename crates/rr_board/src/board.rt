@@ -46,7 +46,7 @@ impl Board {
     /// # Errors
     ///
     /// `BadBoard` with the first wrong line, or with 0 where the text is not ASCII, is longer than
-    /// 65,536 bytes or has no hex; `OutOfMemory` at any text.
+    /// 65,536 bytes or has no hex; `OutOfMemory` at any text of ASCII that is no longer.
     pub fn read(alloc: Global, text: &str) -> Result<Board, Fault>
         ensures read { MatchResult result (λ board. Spells text.now board) (λ fault. IsRefusal text.now fault) }
         ensures only { IfOk result (λ board. (other : Plan) → Spells text.now other → other ≡ board) }

@@ -127,7 +127,7 @@ pub refused-wrong : (text : List ℕ) (lines : List NumberedWords) (fault : Faul
 refused-wrong text lines (BadChart line place) small lines_are wrong =
     let here : IsFirstWrong (rows_of text) line place = subst (λ l. IsFirstWrong l line place) lines_are wrong in
     (WrongWord line place small here, no_chart-wrong text line place here)
-refused-wrong text lines OutOfMemory small lines_are wrong = tt
+refused-wrong text lines OutOfMemory small lines_are wrong = small
 
 pub Spells-read : (text : List ℕ) (lines : List NumberedWords) (rows : List Row) (pars : List ParCell) → IsSmallAscii text → lines ≡ rows_of text → AreRowsRead lines rows pars → 1 ≤ length pars → Spells text rows
 Spells-read text lines rows pars small lines_are read some = record {

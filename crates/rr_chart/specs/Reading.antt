@@ -56,10 +56,10 @@ pub data IsBadAt (text : List ℕ) : ℕ → ℕ → Type 0 where
   WithoutPar : IsSmallAscii text → IsWithoutPar (rows_of text) → IsBadAt text 0 0
   WrongWord : (line place : ℕ) → IsSmallAscii text → IsFirstWrong (rows_of text) line place → IsBadAt text line place
 
--- only memory may be wanting, or no chart is spelled
+-- no chart is spelled; or memory is wanting, which it may be only of a text of at most 64 KiB, and of ASCII alone
 abbrev pub IsRefusal : List ℕ → Fault → Type 0
 IsRefusal text (BadChart line place) = IsBadAt text line place × ((chart : List Row) → ¬ Spells text chart)
-IsRefusal text OutOfMemory = Unit {0}
+IsRefusal text OutOfMemory = IsSmallAscii text
 
 abbrev pub has_price : List ParCell → ℕ → Bool
 has_price pars price = list_any (λ par. par.price == price) pars

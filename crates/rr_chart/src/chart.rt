@@ -41,7 +41,7 @@ impl Chart {
     /// # Errors
     ///
     /// `BadChart` with the place of the first wrong word, or with 0 and 0 where the text is not ASCII,
-    /// is longer than 65,536 bytes or has no par cell; `OutOfMemory` at any text.
+    /// is longer than 65,536 bytes or has no par cell; `OutOfMemory` at any text of ASCII that is no longer.
     pub fn read(alloc: Global, text: &str) -> Result<Chart, Fault>
         ensures read { MatchResult result (λ chart. Spells text.now chart) (λ fault. IsRefusal text.now fault) }
         ensures only { IfOk result (λ chart. (other : List Row) → Spells text.now other → other ≡ chart) }

@@ -1,7 +1,7 @@
 //! What a purchase adds, once what it reads of the books is known.
-ghost use Rattle.std.specs.Prelude.{◌≡◌, ◌<◌, ◌≤◌, ◌≤ℤ◌, pos, OnOk, IfErr, IfSome};
+ghost use Rattle.std.specs.Prelude.{◌≡◌, ◌<◌, ◌≤◌, ◌≤ℤ◌, pos, OnOk, OnErr, IfErr, IfSome};
 ghost use Rattle.rr_books.specs.State.{party_index};
-ghost use Rattle.rr_desk.specs.Desk.{Takes};
+ghost use Rattle.rr_desk.specs.Desk.{AddsSome, Takes};
 ghost use Rattle.rr_desk.specs.Incomes.{dollars};
 ghost use Rattle.rr_depot.specs.Effects.{gets_train, pays, pays_player};
 
@@ -26,7 +26,7 @@ pub(crate) fn get_train(desk: &mut Desk, purchase: Purchase) -> Result<(), Fault
     Ok(())
 }
 
-/// The corporation pays the player, if there is one.
+/// The corporation pays the player, if there is one. Where there is none, no memory is wanted.
 pub(crate) fn pay_player(
     desk: &mut Desk,
     corp: Corp,
@@ -37,6 +37,7 @@ pub(crate) fn pay_player(
     requires small { amount ≤ 10000000000 }
     ensures fault { IfErr result (λ fault. fault ≡ Fault.OutOfMemory) }
     ensures takes { OnOk result (Takes (pays_player corp player amount) desk.old desk.new) }
+    ensures needed { OnErr result (AddsSome (pays_player corp player amount) desk.old) }
 {
     match player {
         Some(seat) => pay(desk, corp, Party::Seat(seat), amount),

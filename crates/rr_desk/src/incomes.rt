@@ -1,9 +1,9 @@
-ghost use Rattle.std.specs.Prelude.{◌≡◌, ◌<◌, ◌≤ℤ◌, pos, OnOk, IfErr, IfSome};
+ghost use Rattle.std.specs.Prelude.{◌≡◌, ◌<◌, ◌≤ℤ◌, pos, OnOk, OnErr, IfErr, IfSome};
 ghost use Rattle.rr_roster.specs.Terms.{income_of};
 ghost use Rattle.rr_books.specs.Book.{Book, holder, players};
 ghost use Rattle.rr_books.specs.State.{IsStateOf, party_index};
 ghost use Rattle.rr_desk.specs.Incomes.{owner, pay_incomes, pays_income};
-ghost use Rattle.rr_desk.specs.Desk.{Takes};
+ghost use Rattle.rr_desk.specs.Desk.{AddsSome, Takes};
 
 use crate::desk::Desk;
 use rr_books::{Books, Cert, Entry, Fault, Money, Party, Place, Private};
@@ -25,11 +25,12 @@ pub fn pay_incomes(desk: &mut Desk, roster: &Roster) -> Result<(), Fault>
     Ok(())
 }
 
-// The private pays its owner.
+// The private pays its owner. One without an owner wants no memory.
 #[tactic(auto, unfolding(crate::specs::Incomes::pays_income))]
 fn pay_income(private: Private, desk: &mut Desk, roster: &Roster) -> Result<(), Fault>
     ensures fault { IfErr result (λ fault. fault ≡ Fault.OutOfMemory) }
     ensures takes { OnOk result (Takes (pays_income roster.now private) desk.old desk.new) }
+    ensures needed { OnErr result (AddsSome (pays_income roster.now private) desk.old) }
 {
     let income = income(private, roster);
     match owner(private, desk.books()) {

@@ -1,9 +1,9 @@
-ghost use Rattle.std.specs.Prelude.{◌≡◌, OnOk, IfErr};
+ghost use Rattle.std.specs.Prelude.{◌≡◌, OnOk, OnErr, IfErr};
 ghost use Rattle.rr_books.specs.Book.{Book, holder};
 ghost use Rattle.rr_books.specs.Shares.{is_at};
 ghost use Rattle.rr_books.specs.State.{IsStateOf, holder_in};
 ghost use Rattle.rr_desk.specs.Effects.{lowest_share, moves_lowest_share};
-ghost use Rattle.rr_desk.specs.Desk.{Takes};
+ghost use Rattle.rr_desk.specs.Desk.{AddsSome, Takes};
 
 use crate::desk::Desk;
 use rr_books::{Books, Cert, Corp, Entry, Fault, Place, ShareNumber};
@@ -12,10 +12,12 @@ use rr_books::{Books, Cert, Corp, Entry, Fault, Place, ShareNumber};
 ///
 /// # Errors
 ///
-/// `OutOfMemory`; the desk is as before then.
+/// `OutOfMemory`, where there is one; the desk is as before then.
 pub fn give_lowest_share(desk: &mut Desk, corp: Corp, from: Place, to: Place) -> Result<(), Fault>
     ensures fault { IfErr result (λ fault. fault ≡ Fault.OutOfMemory) }
     ensures takes { OnOk result (Takes (moves_lowest_share corp from to) desk.old desk.new) }
+    ensures err { OnErr result (desk.new ≡ desk.old) }
+    ensures needed { OnErr result (AddsSome (moves_lowest_share corp from to) desk.old) }
 {
     match lowest_share(desk.books(), corp, from) {
         Some(cert) => desk.push(Entry::Move { cert, to }),

@@ -10,7 +10,7 @@ use Rattle.rr_dir.specs.declared.directory.TableEntry.{TableEntry}
 use Rattle.rr_dir.specs.declared.version.Version.{Version}
 use Rattle.rr_dir.specs.declared.version.Version.TheVariants.{One}
 use Rattle.rr_dir.specs.Number.{spelled_number}
-use Rattle.rr_dir.specs.Directory.{Directory, Spells, spelled_chain, spelled_kit, spelled_name, spelled_state, spelled_table, spelled_tables, HasChains, FitsBytes, HaveOwnNames, IsChain, IsText, IsKit, IsTable, AreTables}
+use Rattle.rr_dir.specs.Directory.{Directory, Spells, spelled_chain, spelled_kit, spelled_name, spelled_state, spelled_table, spelled_tables, HasChains, FitsBytes, HaveOwnNames, IsChain, IsText, IsKit, IsTable, AreTables, BeginsTables}
 use Rattle.rr_dir.specs.Heads.{Heads, heads_of}
 use Rattle.rr_dir.proofs.NumberLemmas.{length-spelled_number, cut_number}
 use Rattle.rr_dir.proofs.PieceLemmas.{cut_same, front_of, same_front, one_list}
@@ -156,6 +156,22 @@ tables_more bytes tables i rest table new so_far is read other_name =
           so_far.spelled ∙ ap (λ (xs : List ℕ). flat_map spelled_table tables ++ xs) read
           ∙ sym (append_assoc (flat_map spelled_table tables) (spelled_table table) new)
           ∙ ap (λ (xs : List ℕ). xs ++ new) (flat_map_more spelled_table [] tables table);
+    }
+
+-- one more was read, so that tables begin there
+pub tables_begun : (bytes mid : List ℕ) (tables : List TableEntry) (i count : ℕ) (rest : List ℕ) (table : TableEntry) (new : List ℕ) → count ≤ 64 → bytes ≡ spelled_number 2 count ++ mid → ReadsTables mid tables i rest → i < count
+    → IsTable table → rest ≡ spelled_table table ++ new → BeginsTables bytes
+tables_begun bytes mid [] i count rest table new few read so_far more is here =
+    record { count = count; some = omega (arith, more); few = few; table = table; is_table = is; rest = new; spelled = read ∙ ap (λ (xs : List ℕ). spelled_number 2 count ++ xs) (so_far.spelled ∙ here) }
+tables_begun bytes mid (first ∷ tables) i count rest table new few read so_far more is here =
+    record {
+      count = count;
+      some = omega (arith, more);
+      few = few;
+      table = first;
+      is_table = so_far.each 0 first (omega arith);
+      rest = flat_map spelled_table tables ++ rest;
+      spelled = read ∙ ap (λ (xs : List ℕ). spelled_number 2 count ++ xs) (so_far.spelled ∙ append_assoc (spelled_table first) (flat_map spelled_table tables) rest);
     }
 
 -- of some tables so many were read, and more are left

@@ -97,6 +97,21 @@ pub record IsDirectory (directory : Directory) : Type 0 where
   pub is_kit : IsKit directory.kit
   pub are_tables : AreTables directory.tables
 
+-- the bytes begin with how many tables there are, from 1 to 64, and the first of them
+pub record BeginsTables (bytes : List ℕ) : Type 0 where
+  pub count : ℕ
+  pub some : 1 ≤ count
+  pub few : count ≤ 64
+  pub table : TableEntry
+  pub is_table : IsTable table
+  pub rest : List ℕ
+  pub spelled : bytes ≡ spelled_number 2 count ++ (spelled_table table ++ rest)
+
+-- in the form of the version a kit stands in front, and tables begin behind it
+abbrev pub BeginsDirectory : Version → List ℕ → Type 0
+BeginsDirectory One bytes =
+    (kit : KitChains) × (rest : List ℕ) × IsKit kit × (bytes ≡ spelled_kit kit ++ rest) × BeginsTables rest
+
 -- the bytes are those of this directory in the form of the version
 pub record Spells (version : Version) (bytes : List ℕ) (directory : Directory) : Type 0 where
   pub is_directory : IsDirectory directory

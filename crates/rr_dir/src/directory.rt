@@ -1,5 +1,5 @@
 ghost use Rattle.std.specs.Prelude.{◌≡◌, ◌++◌, ℕ, ◌<◌, ◌^◌, vec_len, IfOk, IsErrOf, OnOk, OnErr, IsOkUnless};
-ghost use Rattle.rr_dir.specs.Directory.{Directory, Spells, directory_of, spelling};
+ghost use Rattle.rr_dir.specs.Directory.{Directory, BeginsDirectory, Spells, directory_of, spelling};
 
 use crate::cursor::Cursor;
 use crate::fault::Fault;
@@ -63,10 +63,12 @@ impl Dir {
     /// Reads a directory in the form of this version. No byte may stand behind the last table.
     ///
     /// # Errors
-    /// `Damaged` where the bytes spell no directory, `OutOfMemory` where the tables find no room.
+    /// `Damaged` where the bytes spell no directory, `OutOfMemory` where the tables find no room. That is told only behind
+    /// a kit, a number of tables that may be, and a table.
     pub fn read(alloc: Global, version: Version, bytes: &[u8]) -> Result<Dir, Fault>
         ensures found { IfOk result (λ dir. Spells version bytes.now (directory_of dir)) }
         ensures damaged { IsErrOf result Fault.Damaged → (d : Directory) → Spells version bytes.now d → ⊥ }
+        ensures memory { IsErrOf result Fault.OutOfMemory → BeginsDirectory version bytes.now }
     {
         let mut cursor = Cursor::of(bytes);
         match version {

@@ -1,7 +1,7 @@
 //! How the parts of a directory are read.
 ghost use Rattle.std.specs.Prelude.{◌≡◌, ◌≢◌, ℕ, List, ◌<◌, ◌≤◌, ◌++◌, ◌↔◌, length, Any, IsTrue, MatchOption, IfOk, IsErrOf};
 ghost use Rattle.rr_words.specs.Name.{IsTableName};
-ghost use Rattle.rr_dir.specs.Directory.{Directory, Spells, directory_of, spelled_chain, spelled_kit, spelled_name, spelled_state, spelled_table, spelled_tables, HasChains, FitsBytes, IsChain, IsKit, IsTable, AreTables};
+ghost use Rattle.rr_dir.specs.Directory.{Directory, BeginsDirectory, BeginsTables, Spells, directory_of, spelled_chain, spelled_kit, spelled_name, spelled_state, spelled_table, spelled_tables, HasChains, FitsBytes, IsChain, IsKit, IsTable, AreTables};
 ghost use Rattle.rr_dir.specs.Number.{spelled_number};
 ghost use Rattle.rr_dir.specs.declared.directory.KitChains.{KitChains as OfKit};
 ghost use Rattle.rr_dir.specs.declared.directory.TableEntry.{TableEntry as OfTable};
@@ -19,6 +19,7 @@ use std::alloc::Global;
 pub(crate) fn read_last(alloc: Global, cursor: &mut Cursor) -> Result<Dir, Fault>
     ensures found { IfOk result (λ dir. Spells One cursor.old (directory_of dir)) }
     ensures damaged { IsErrOf result Fault.Damaged → (d : Directory) → Spells One cursor.old d → ⊥ }
+    ensures memory { IsErrOf result Fault.OutOfMemory → BeginsDirectory One cursor.old }
 {
     let Some(kit) = next_kit(cursor) else {
         return Err(Fault::Damaged);
@@ -75,6 +76,7 @@ fn next_tables(alloc: Global, cursor: &mut Cursor) -> Result<Vec<TableEntry>, Fa
     ensures found { IfOk result (λ tables. AreTables tables.items × (cursor.old ≡ spelled_tables tables.items ++ cursor.new)) }
     ensures damaged { IsErrOf result Fault.Damaged
         → (tables : List OfTable) (rest : List ℕ) → AreTables tables → cursor.old ≢ spelled_tables tables ++ rest }
+    ensures memory { IsErrOf result Fault.OutOfMemory → BeginsTables cursor.old }
 {
     let Some(count) = next_count(cursor) else {
         return Err(Fault::Damaged);

@@ -1,6 +1,7 @@
 -- The verdict on a command of a corporation that must own a train and can't pay it: the first check that refuses it.
 use Rattle.std.specs.Prelude.{◌≡◌, ◌⊎◌, ℕ, ◌==◌, Bool, true, false, not, ◌&&◌, Option, None, Some, if◌then◌else◌}
 use Rattle.std.specs.Bool.{Decides}
+use Rattle.std.specs.Option.{option_or}
 use Rattle.rr_roster.specs.declared.company.Corp.{Corp}
 use Rattle.rr_books.specs.declared.parties.Seat.{Seat}
 use Rattle.rr_books.specs.declared.acts.Act.{Act}
@@ -13,6 +14,7 @@ use Rattle.rr_operations.specs.Progress.{progress}
 use Rattle.rr_operations.specs.Due.{due}
 use Rattle.rr_depot.specs.Over.{is_any_over_limit}
 use Rattle.rr_operate.specs.Order.{is_due}
+use Rattle.rr_operate.specs.Rows.{could_buy_first}
 use Rattle.rr_forced.specs.declared.fault.Fault.{Fault}
 use Rattle.rr_forced.specs.declared.fault.Fault.TheVariants as F
 use Rattle.rr_forced.specs.declared.needs.Need.{Need}
@@ -32,6 +34,25 @@ order_verdict kit book act =
     if is_any_over_limit (train_holder book) then Some F.MustDiscardFirst
     else if not (takes (progress book).step act && is_forced act) then Some F.WrongStep
     else None
+
+-- the corporation has no train while one is on sale, so that it must own one if it has a route
+abbrev pub could_owe : Book → Option Corp → Bool
+could_owe book None = false
+could_owe book (Some c) = could_buy_first (train_holder book) c
+
+abbrev pub refused_unless : Bool → Fault → Option Fault
+refused_unless could_owe fault = if could_owe then None else Some fault
+
+-- the checks of a command's own row that take no memory: whether the buyer, or the corporation due, could owe a train
+abbrev pub row_first : Kit → Book → Act → Option Fault
+row_first kit book (A.Force c) = refused_unless (could_owe book (Some c)) F.WrongStep
+row_first kit book (A.Raise s c n) = refused_unless (could_owe book (due kit.chart book)) F.NotYourTurn
+row_first kit book (A.Bankrupt s) = refused_unless (could_owe book (due kit.chart book)) F.NotYourTurn
+row_first kit book _ = Some F.WrongStep
+
+-- all checks that take no memory: the order of commands, and then that of the row
+abbrev pub first_verdict : Kit → Book → Act → Option Fault
+first_verdict kit book act = option_or (order_verdict kit book act) (row_first kit book act)
 
 -- why the purchase isn't made, where the corporation that is due and what the buyer needs are these: the buyer needs no
 -- money, it isn't its turn, or its president hasn't enough
@@ -73,6 +94,6 @@ After None Next verdict = Next verdict
 abbrev pub IsVerdict : Kit → Book → Act → Option Fault → Type 0
 IsVerdict kit book act verdict = After (order_verdict kit book act) (IsRowVerdict kit book act) verdict
 
--- a fault with which a command may be refused: that of its verdict, or want of memory behind the order of commands
+-- a fault with which a command may be refused: that of its verdict, or want of memory behind all checks that take none
 abbrev pub MayJudge : Kit → Book → Act → Fault → Type 0
-MayJudge kit book act fault = IsVerdict kit book act (Some fault) ⊎ ((order_verdict kit book act ≡ None) × (fault ≡ F.OutOfMemory))
+MayJudge kit book act fault = IsVerdict kit book act (Some fault) ⊎ ((first_verdict kit book act ≡ None) × (fault ≡ F.OutOfMemory))

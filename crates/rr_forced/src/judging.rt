@@ -1,10 +1,11 @@
 //! Judges the commands of a corporation that must own a train and can't pay it.
-ghost use Rattle.std.specs.Prelude.{◌≡◌, ◌⊎◌, ◌≤◌, ◌<◌, ℕ, None, Some, MatchResult, OnOk};
+ghost use Rattle.std.specs.Prelude.{◌≡◌, ◌⊎◌, ◌≤◌, ◌<◌, ℕ, true, None, Some, MatchResult, OnOk};
 ghost use Rattle.rr_books.specs.Book.{Book};
+ghost use Rattle.rr_operations.specs.Due.{due};
 ghost use Rattle.rr_operations.specs.Progress.{progress};
 ghost use Rattle.rr_position.specs.Position.{IsPositionOf};
 ghost use Rattle.rr_operate.specs.Order.{is_due};
-ghost use Rattle.rr_forced.specs.Rules.{IsBankruptVerdict, IsForceVerdict, IsRaiseVerdict, IsRowVerdict, IsVerdict, MayJudge, force_verdict, is_forced, order_verdict};
+ghost use Rattle.rr_forced.specs.Rules.{IsBankruptVerdict, IsForceVerdict, IsRaiseVerdict, IsRowVerdict, IsVerdict, MayJudge, could_owe, force_verdict, is_forced, order_verdict, row_first};
 ghost use Rattle.rr_forced.specs.Small.{IsSmall};
 ghost use Rattle.rr_forced.specs.declared.fault.Fault.TheVariants.{OutOfMemory};
 
@@ -38,7 +39,8 @@ use std::alloc::Global;
 /// - `bankrupt`: `NotYourTurn` as for `raise`; `NotBankrupt` where the two have the price together, or some `raise` of
 ///   the seat's is lawful.
 ///
-/// `OutOfMemory` only where neither of the first two comes.
+/// `OutOfMemory` only where neither of the first two comes, and the corporation that buys, or of `raise` and `bankrupt`
+/// the one due, has no train while one is on sale.
 pub fn judge(alloc: Global, kit: &Kit, position: &Position, act: &Act) -> Result<(), Fault>
     ensures verdict { (book : Book) → IsPositionOf book position.now → MatchResult result
         (λ _. IsVerdict kit.now book act.now None)
@@ -70,7 +72,7 @@ fn judge_order(kit: &Kit, position: &Position, act: &Act) -> Result<(), Fault>
 fn judge_row(alloc: Global, kit: &Kit, position: &Position, act: &Act) -> Result<(), Fault>
     ensures verdict { (book : Book) → IsPositionOf book position.now → MatchResult result
         (λ _. IsRowVerdict kit.now book act.now None)
-        (λ fault. IsRowVerdict kit.now book act.now (Some fault) ⊎ (fault ≡ OutOfMemory)) }
+        (λ fault. IsRowVerdict kit.now book act.now (Some fault) ⊎ ((row_first kit.now book act.now ≡ None) × (fault ≡ OutOfMemory))) }
     ensures small { OnOk result (IsSmall act.now) }
 {
     match act {
@@ -87,7 +89,7 @@ fn judge_row(alloc: Global, kit: &Kit, position: &Position, act: &Act) -> Result
 fn judge_force(alloc: Global, kit: &Kit, position: &Position, corp: Corp) -> Result<(), Fault>
     ensures { (book : Book) → IsPositionOf book position.now → MatchResult result
         (λ _. IsForceVerdict kit.now book corp None)
-        (λ fault. IsForceVerdict kit.now book corp (Some fault) ⊎ (fault ≡ OutOfMemory)) }
+        (λ fault. IsForceVerdict kit.now book corp (Some fault) ⊎ ((could_owe book (Some corp) ≡ true) × (fault ≡ OutOfMemory))) }
 {
     let need = need_of(alloc, kit, position, Some(corp))?;
     judge_need(due(kit, position), need)?;
@@ -126,7 +128,7 @@ fn judge_raise(
 ) -> Result<(), Fault>
     ensures verdict { (book : Book) → IsPositionOf book position.now → MatchResult result
         (λ _. IsRaiseVerdict kit.now book seat corp count None)
-        (λ fault. IsRaiseVerdict kit.now book seat corp count (Some fault) ⊎ (fault ≡ OutOfMemory)) }
+        (λ fault. IsRaiseVerdict kit.now book seat corp count (Some fault) ⊎ ((could_owe book (due kit.now.chart book) ≡ true) × (fault ≡ OutOfMemory))) }
     ensures small { OnOk result ((seat.0 < 6) × (count ≤ 10)) }
 {
     let need = needed_train(alloc, kit, position)?;
@@ -138,7 +140,7 @@ fn judge_raise(
 fn judge_bankrupt(alloc: Global, kit: &Kit, position: &Position, seat: Seat) -> Result<(), Fault>
     ensures { (book : Book) → IsPositionOf book position.now → MatchResult result
         (λ _. IsBankruptVerdict kit.now book seat None)
-        (λ fault. IsBankruptVerdict kit.now book seat (Some fault) ⊎ (fault ≡ OutOfMemory)) }
+        (λ fault. IsBankruptVerdict kit.now book seat (Some fault) ⊎ ((could_owe book (due kit.now.chart book) ≡ true) × (fault ≡ OutOfMemory))) }
 {
     // There are at most six players, among whom one share tells of several.
     let _players = position.books().players();

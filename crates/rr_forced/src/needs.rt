@@ -1,5 +1,5 @@
 //! What a corporation that must own a train needs for it.
-ghost use Rattle.std.specs.Prelude.{◌≡◌, ◌≤◌, ◌<◌, ◌≤ℤ◌, ◌+ℤ◌, neg_ℤ, pos, Some, IfOk, IfSome};
+ghost use Rattle.std.specs.Prelude.{◌≡◌, ◌≤◌, ◌<◌, ◌≤ℤ◌, ◌+ℤ◌, neg_ℤ, pos, true, Some, IfOk, IfSome, OnErr};
 ghost use Rattle.std.specs.Bool.{Decides};
 ghost use Rattle.std.specs.List.{list_any};
 ghost use Rattle.rr_roster.specs.Company.{kinds};
@@ -14,6 +14,7 @@ ghost use Rattle.rr_running.specs.Running.{net_now};
 ghost use Rattle.rr_operate.specs.Rows.{OwesTrain, could_buy_first, is_kind_on_sale};
 ghost use Rattle.rr_depot.specs.Effects.{is_first_sold};
 ghost use Rattle.rr_depot.specs.Situation.{situation_in, situation_of};
+ghost use Rattle.rr_forced.specs.Rules.{could_owe};
 ghost use Rattle.rr_forced.specs.Needs.{IsNeed, IsNeedOf, cheapest_need, joint_cash, leader, missing, need_for};
 
 use rr_books::{Books, Corp, Kind, Money, Party, Place, Seat, TrainSource};
@@ -49,13 +50,14 @@ pub struct Need {
 ///
 /// # Errors
 ///
-/// Want of memory alone.
+/// Want of memory alone, and only where the corporation due has no train and one is on sale.
 pub fn needed_train(
     alloc: Global,
     kit: &Kit,
     position: &Position,
 ) -> Result<Option<Need>, AllocError>
     ensures need { (book : Book) → IsPositionOf book position.now → IfOk result (λ need. IsNeed kit.now book need) }
+    ensures memory { (book : Book) → IsPositionOf book position.now → OnErr result (could_owe book (due kit.now.chart book) ≡ true) }
     ensures seated { IfOk result (λ need. IfSome need (λ need. IfSome need.president (λ seat. seat.0 < 6))) }
 {
     need_of(alloc, kit, position, due(kit, position))
@@ -76,6 +78,7 @@ pub(crate) fn need_of(
     corp: Option<Corp>,
 ) -> Result<Option<Need>, AllocError>
     ensures need { (book : Book) → IsPositionOf book position.now → IfOk result (λ need. IsNeedOf kit.now book corp need) }
+    ensures memory { (book : Book) → IsPositionOf book position.now → OnErr result (could_owe book corp ≡ true) }
     ensures seated { IfOk result (λ need. IfSome need (λ need. IfSome need.president (λ seat. seat.0 < 6))) }
 {
     let Some(corp) = corp else {
@@ -89,7 +92,8 @@ pub(crate) fn need_of(
 
 // Whether the corporation must own a train.
 fn owes_train(alloc: Global, kit: &Kit, position: &Position, corp: Corp) -> Result<bool, AllocError>
-    ensures { (book : Book) → IsPositionOf book position.now → IfOk result (λ owes. Decides owes (OwesTrain kit.now book corp)) }
+    ensures owes { (book : Book) → IsPositionOf book position.now → IfOk result (λ owes. Decides owes (OwesTrain kit.now book corp)) }
+    ensures memory { (book : Book) → IsPositionOf book position.now → OnErr result (could_buy_first (train_holder book) corp ≡ true) }
 {
     if !could_buy_first(position, corp) {
         return Ok(false);

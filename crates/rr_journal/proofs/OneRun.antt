@@ -1,5 +1,5 @@
 -- Each file has a run of records.
-use Rattle.std.proofs.Common.{◌≡◌, ◌⊎◌, inl, inr, ℕ, zero, suc, ◌+◌, ◌<◌, ◌≤◌, List, [], ◌∷◌, length, map, slice_index, sym, subst, arith}
+use Rattle.std.proofs.Common.{◌≡◌, ◌⊎◌, inl, inr, ℕ, zero, suc, ◌+◌, ◌<◌, ◌≤◌, List, [], ◌∷◌, ◌++◌, length, map, slice_index, sym, subst, arith}
 use Rattle.std.specs.List.{range_with_len}
 use Rattle.std.proofs.lemmas.Bool.{cases_lt, cases_eq}
 use Rattle.std.proofs.lemmas.List.FromFn.{length-map-range_with_len, get_or-map-range_with_len}
@@ -7,7 +7,7 @@ use Rattle.rr_journal.specs.declared.layout.HalfIndex.{HalfIndex}
 use Rattle.rr_journal.specs.declared.reading.RunEnd.{RunEnd}
 use Rattle.rr_journal.specs.declared.reading.RunEnd.TheVariants.{Closed, OtherNumber, Damaged}
 use Rattle.rr_journal.specs.Layout.{gate_place, number_at, length_at, StandsAt, slots_for, HasRoom}
-use Rattle.rr_journal.specs.Run.{IsRecord, Run}
+use Rattle.rr_journal.specs.Run.{IsRecord, HasRecord, Run}
 use Rattle.rr_journal.proofs.Runs.{some_slot}
 
 cases_room : (slot count : ℕ) → HasRoom slot count ⊎ (HasRoom slot count → ⊥)
@@ -23,16 +23,16 @@ cases_room slot count = elim (cases_lt 0 count) [
 ]
 
 -- the bytes of a file from a place on
-cut : List ℕ → ℕ → ℕ → List ℕ
+pub cut : List ℕ → ℕ → ℕ → List ℕ
 cut file place count = map (λ k. slice_index file (place + k)) (range_with_len 0 count)
 
-cut_stands : (file : List ℕ) (place count : ℕ) → StandsAt file place (cut file place count)
+pub cut_stands : (file : List ℕ) (place count : ℕ) → StandsAt file place (cut file place count)
 unfolding cut
 cut_stands file place count i h =
     let within : i < count = omega (arith, h, length-map-range_with_len (λ k. slice_index file (place + k)) 0 count) in
     sym (get_or-map-range_with_len (λ k. slice_index file (place + k)) 0 count i i 0 within (omega arith))
 
-length-cut : (file : List ℕ) (place count : ℕ) → length (cut file place count) ≡ count
+pub length-cut : (file : List ℕ) (place count : ℕ) → length (cut file place count) ≡ count
 unfolding cut
 length-cut file place count = length-map-range_with_len (λ k. slice_index file (place + k)) 0 count
 
@@ -63,3 +63,15 @@ run_found (suc slots) file half slot number enough = elim (cases_lt slot 255) [
     ]
   ]
 ]
+
+-- what begins in a half with records begins with one
+run_first : (file : List ℕ) (half : HalfIndex) (first : ℕ) (lines : List (List ℕ)) (bytes : List ℕ) (more : List (List ℕ)) (end : RunEnd) → Run file half 0 first (lines ++ (bytes ∷ more)) end → HasRecord file half 0 first
+run_first file half first [] bytes more end run = (bytes, run.0)
+run_first file half first (line ∷ lines) bytes more end run = (line, run.0)
+
+-- so a record behind those that were read tells of one in the first slot
+pub first_record : (file : List ℕ) (half : HalfIndex) (slot number first : ℕ) (lines : List (List ℕ)) → HasRecord file half slot number
+    → ((more : List (List ℕ)) (end : RunEnd) → Run file half slot number more end → Run file half 0 first (lines ++ more) end) → HasRecord file half 0 first
+first_record file half slot number first lines has so_far =
+    let rest = run_found 255 file half (slot + slots_for (length has.0)) (suc number) (omega arith) in
+    run_first file half first lines has.0 rest.0 rest.1 (so_far (has.0 ∷ rest.0) rest.1 (has.1, rest.2))

@@ -29,7 +29,7 @@ same_bytes file half slot number a b is_a is_b =
     ext_get_or 0 a b len (λ i h. sym (is_a.standing i h) ∙ is_b.standing i (omega arith))
 
 -- where a run ends, no record begins
-no_record : (file : List ℕ) (half : HalfIndex) (slot number : ℕ) (end : RunEnd) (a : List ℕ) → Ends file half slot number end → IsRecord file half slot number a → ⊥
+pub no_record : (file : List ℕ) (half : HalfIndex) (slot number : ℕ) (end : RunEnd) (a : List ℕ) → Ends file half slot number end → IsRecord file half slot number a → ⊥
 no_record file half slot number Closed a ends is = ends (omega (arith, is.room.fits, some_slot (length a))) is.open_gate
 no_record file half slot number OtherNumber a ends is = ends.2 is.numbered
 no_record file half slot number Damaged a ends is = ends.3 (subst (λ (n : ℕ). HasRoom slot n) (sym is.count) is.room)

@@ -13,6 +13,10 @@ pub record IsRecord (file : List ℕ) (half : HalfIndex) (slot number : ℕ) (by
   pub room : HasRoom slot (length bytes)
   pub standing : StandsAt file (gate_place half slot + 13) bytes
 
+-- a record of this number begins in this slot
+abbrev pub HasRecord : List ℕ → HalfIndex → ℕ → ℕ → Type 0
+HasRecord file half slot number = (bytes : List ℕ) × IsRecord file half slot number bytes
+
 -- No record of the expected number begins in this slot: it is shut, as slot 255 always counts; or the record has another
 -- number; or it has that number and is damaged, with no bytes, too many, or running past slot 254.
 abbrev pub Ends : List ℕ → HalfIndex → ℕ → ℕ → RunEnd → Type 0

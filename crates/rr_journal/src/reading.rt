@@ -3,7 +3,7 @@ ghost use Rattle.rr_disk.specs.Disk.{IsAt};
 ghost use Rattle.rr_journal.specs.Faults.{CountsFault, OnDeviceFault};
 ghost use Rattle.rr_journal.specs.Layout.{gate_place};
 ghost use Rattle.rr_journal.specs.Reading.{lines, Tells, Begins, FitsThere};
-ghost use Rattle.rr_journal.specs.Run.{Run, slots_of};
+ghost use Rattle.rr_journal.specs.Run.{HasRecord, Run, slots_of};
 ghost use Rattle.rr_journal.specs.Stops.{next_gate, IsAtRest, Keeps};
 
 use crate::layout::{HEADER_BYTES, HalfIndex, LAST_SLOT, OPEN, fits_slots, gate_place, slots_for};
@@ -45,7 +45,8 @@ enum Found {
 /// where no such record begins. Slot 255 is never looked at. It writes nothing. A half has at most 255 records, so that
 /// their numbers are counted up to 2^64 - 1.
 ///
-/// `Disk` where a device call failed, as where the file ends within the half; `OutOfMemory` where the records don't fit.
+/// `Disk` where a device call failed, as where the file ends within the half; `OutOfMemory` where the records don't fit,
+/// and never of a half without one.
 pub fn scan<D: Disk>(
     alloc: Global,
     disk: &mut D,
@@ -71,6 +72,8 @@ pub fn scan<D: Disk>(
 
     ensures fault { CountsFault (D.fault_count disk.old) (D.fault_count disk.new) result }
     ensures never_full { IsErrOf result Fault.HalfFull → ⊥ }
+    ensures memory { IsErrOf result Fault.OutOfMemory → D.Honest disk.new
+        → HasRecord (D.state disk.old).content index 0 first_number }
 
     ensures honest { D.Honest disk.new → D.Honest disk.old }
     ensures same_state { D.Honest disk.new → D.state disk.new ≡ D.state disk.old }
@@ -121,6 +124,8 @@ fn read_record<D: Disk>(
 
     ensures fault { CountsFault (D.fault_count disk.old) (D.fault_count disk.new) result }
     ensures never_full { IsErrOf result Fault.HalfFull → ⊥ }
+    ensures memory { IsErrOf result Fault.OutOfMemory → D.Honest disk.new
+        → HasRecord (D.state disk.old).content half.index half.next_slot number }
 
     ensures honest { D.Honest disk.new → D.Honest disk.old }
     ensures same_state { D.Honest disk.new → D.state disk.new ≡ D.state disk.old }

@@ -46,22 +46,27 @@ IsManifestText text = (supplies : List Supply) × manifest.Spells text supplies
 abbrev pub IsBoardText : List ℕ → Type 0
 IsBoardText text = (plan : Plan) × board.Spells text plan
 
--- why a chart's text is refused: by its first wrong word, if one is wrong
+-- why a chart's text is refused: by its first wrong word, if one is wrong. Memory may be wanting only for ASCII
 abbrev pub RefusesChart : List ℕ → Fault → Type 0
 RefusesChart text fault = (cause : chart_fault.Fault) × (fault ≡ of_chart cause) × chart.IsRefusal text cause
 
--- why a roster's text is refused: it is too long, or no text, or else of another shape, or breaks a rule
+-- bytes that are a text, no longer than a kit's text may be
+pub record IsShortText (text : List ℕ) : Type 0 where
+  pub short : length text ≤ 65536
+  pub is_text : IsUtf8 text
+
+-- why a roster's text is refused: it is too long, or no text, or else of another shape, or breaks a rule, or memory is wanting
 abbrev pub RefusesRoster : List ℕ → Fault → Type 0
 RefusesRoster text fault =
     ((65536 < length text) × (fault ≡ F.BadRoster))
     ⊎ ((¬ IsUtf8 text) × (fault ≡ F.BadRoster))
-    ⊎ ((length text ≤ 65536) × (cause : roster_fault.Fault) × (fault ≡ of_roster cause) × IsAnswer text (Err cause))
+    ⊎ (IsShortText text × (cause : roster_fault.Fault) × (fault ≡ of_roster cause) × IsAnswer text (Err cause))
 
--- why a manifest's text is refused: by its first wrong line, if one is wrong
+-- why a manifest's text is refused: by its first wrong line, if one is wrong. Memory may be wanting only for ASCII
 abbrev pub RefusesManifest : List ℕ → Fault → Type 0
 RefusesManifest text fault = (cause : manifest_fault.Fault) × (fault ≡ of_manifest cause) × manifest.IsRefusal text cause
 
--- why a board's text is refused: by its first wrong line, if one is wrong
+-- why a board's text is refused: by its first wrong line, if one is wrong. Memory may be wanting only for ASCII
 abbrev pub RefusesBoard : List ℕ → Fault → Type 0
 RefusesBoard text fault = (cause : board_fault.Fault) × (fault ≡ of_board cause) × board.IsRefusal text cause
 

@@ -1,7 +1,19 @@
-//! A law of the definitions, the contract of a function that does nothing.
-ghost use Rattle.rr_kit.specs.Kits.{OneKit};
+//! Laws of the definitions, the contracts of functions that do nothing.
+ghost use Rattle.std.specs.Prelude.{ℕ, List};
+ghost use Rattle.rr_words.specs.Text.{IsSmallAscii};
+ghost use Rattle.rr_kit.specs.Kits.{IsShortText, OneKit, RefusesBoard, RefusesChart, RefusesManifest, RefusesRoster};
+
+use crate::fault::Fault;
 
 /// The four texts of a kit spell one kit.
 pub fn kits_are_told_apart()
     ensures { OneKit }
+{}
+
+/// Want of memory is told of no bytes that are no text, or too many: those have faults of their own.
+pub fn memory_is_wanted_for_texts()
+    ensures chart { (text : List ℕ) → RefusesChart text Fault.OutOfMemory → IsSmallAscii text }
+    ensures roster { (text : List ℕ) → RefusesRoster text Fault.OutOfMemory → IsShortText text }
+    ensures tiles { (text : List ℕ) → RefusesManifest text Fault.OutOfMemory → IsSmallAscii text }
+    ensures board { (text : List ℕ) → RefusesBoard text Fault.OutOfMemory → IsSmallAscii text }
 {}

@@ -164,7 +164,7 @@ row_from (Some fault) Next h = absurd cc
 
 need_lawful : (kit : Kit) (state : GameState) (act : Act) → IsVerdict (operating_judgement true kit state act) None → force.IsRowVerdict kit state.book act None
 need_lawful kit state act lawful =
-    row_from (force.order_verdict kit state.book act) (force.IsRowVerdict kit state.book act) (lawful-map of_forced (force_judgement kit state act) lawful)
+    row_from (force.first_verdict kit state.book act) (force.IsRowVerdict kit state.book act) (lawful-map of_forced (force_judgement kit state act) lawful)
 
 -- an act in an operating round
 by_operation : StockLaws → (n : ℕ) → 0 < n → n ≤ 6 → (kit : Kit) (state : GameState) (act : Act) (needs : Bool) → force.is_forced act ≡ needs → auction_is_over state.book ≡ true

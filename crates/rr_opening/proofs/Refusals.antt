@@ -1,5 +1,5 @@
 -- Why a file isn't opened.
-use Rattle.std.proofs.Common.{inl, inr, ℕ, ◌+◌, not, List, length, subst}
+use Rattle.std.proofs.Common.{◌≡◌, inl, inr, ℕ, ◌+◌, not, List, length, refl, sym, subst}
 use Rattle.rr_images.specs.Codec.{Codec, IsExact}
 use Rattle.rr_images.specs.Halves.{half_index}
 use Rattle.rr_images.specs.Layout.{Stands}
@@ -13,14 +13,21 @@ use Rattle.rr_reading.specs.declared.fault.Fault.TheVariants.{Damaged, NotAStore
 use Rattle.rr_reading.specs.Faults.{IsNoVerdict}
 use Rattle.rr_reading.specs.Held.{Held}
 use Rattle.rr_reading.specs.Laws.{NamesChains, SpellsForms}
-use Rattle.rr_reading.specs.Reading.{Holds, Refuses}
+use Rattle.rr_reading.specs.Reading.{HasRoot, Holds, Refuses}
 use Rattle.rr_reading.proofs.Standing.{all_refused}
 
-pub no_verdict_refuses : (file : List ℕ) (fault : Fault) → IsNoVerdict fault → Refuses file fault
-no_verdict_refuses file (Damaged damage) none = absurd none
-no_verdict_refuses file NotAStore none = absurd none
-no_verdict_refuses file (Disk fault) none = tt
-no_verdict_refuses file OutOfMemory none = tt
+-- a fault of the device alone says nothing of a file
+pub device_refuses : (file : List ℕ) (fault : Fault) → IsNoVerdict fault → (fault ≡ OutOfMemory → ⊥) → Refuses file fault
+device_refuses file (Damaged damage) none other = absurd none
+device_refuses file NotAStore none other = absurd none
+device_refuses file (Disk fault) none other = tt
+device_refuses file OutOfMemory none other = absurd (other refl)
+
+-- memory is wanted for a file that holds something
+pub memory_refuses : (file now : List ℕ) (has : Held) (fault : Fault) → now ≡ file → Holds now has → fault ≡ OutOfMemory → Refuses file fault
+memory_refuses file now has fault same holds wanted =
+    let root : HasRoot file = subst (λ (f : List ℕ). HasRoot f) same (has.side, has.root, holds.chains.has_directory.taken) in
+    subst (λ (f : Fault). Refuses file f) (sym wanted) root
 
 -- a file that stands for a world is refused by no verdict
 pub stands_no_verdict : (codec : Codec) (file : List ℕ) (fault : Fault) → Refuses file fault → IsExact codec → NamesChains codec → SpellsForms codec → (world : codec.World) → Stands codec file world → IsNoVerdict fault

@@ -1,4 +1,4 @@
-ghost use Rattle.std.specs.Prelude.{◌≡◌, ◌<◌, ◌^◌, not, IfOk, IfErr};
+ghost use Rattle.std.specs.Prelude.{◌≡◌, ◌<◌, ◌^◌, not, IfOk, IfErr, IsErrOf};
 ghost use Rattle.rr_checkpoint.specs.Writer.{free_of, place_of, ticks_left_of};
 ghost use Rattle.rr_disk.specs.Disk.{IsImage, counted};
 ghost use Rattle.rr_disk.specs.Moments.{LeavesOnly};
@@ -37,13 +37,16 @@ use std::alloc::Global;
 ///
 /// # Errors
 /// `Disk` where the sync failed, before anything was read, or a read did; where the disk works, neither does. `NotAStore`
-/// and `Damaged` as `read_file` tells them, with the least of the clauses 1 to 5 that is broken. Else `OutOfMemory` alone.
-/// After each of them the bytes are as they were.
+/// and `Damaged` as `read_file` tells them, with the least of the clauses 1 to 5 that is broken. Else `OutOfMemory` alone,
+/// and only where a root is taken. After each of them the bytes are as they were.
 pub fn open_file<D: Disk, C: Codec>(alloc: Global, disk: &mut D) -> Result<Opened<C>, Fault>
     // What is given is what the file holds, and the next record goes behind it.
     ensures holds { IfOk result (λ opened. D.Honest disk.new → Holds (D.state disk.old).content (held_by opened)) }
     ensures place { IfOk result (λ opened. D.Honest disk.new
         → GoesBehind (held_by opened).root (held_by opened).near (held_by opened).far (place_of opened.writer)) }
+    // The near records are in the half that the root names, and the far ones in the other.
+    ensures near { IfOk result (λ opened. GoesOn (held_by opened).root.half opened.near) }
+    ensures far { IfOk result (λ opened. GoesOn (not (held_by opened).root.half) opened.far) }
     ensures resting { IfOk result (λ opened. ticks_left_of opened.writer ≡ 0) }
     ensures coming { IfOk result (λ opened. IsEmpty (coming_of (free_of opened.writer))) }
 
@@ -84,6 +87,7 @@ fn sync<D: Disk>(disk: &mut D) -> Result<(), Fault>
     ensures synced { D.Honest disk.new
         → IsSynced result (D.past disk.old) (D.state disk.old) (D.past disk.new) (D.state disk.new) }
     ensures only { IfErr result IsNoVerdict }
+    ensures memory { IsErrOf result Fault.OutOfMemory → ⊥ }
     ensures fault { CountsFault (D.fault_count disk.old) (D.fault_count disk.new) result }
     ensures writes { D.write_count disk.new ≡ D.write_count disk.old }
     ensures syncs { D.sync_count disk.new ≡ counted (D.sync_count disk.old) }
@@ -105,6 +109,8 @@ fn begin<C: Codec>(alloc: Global, contents: Contents) -> Result<Opened<C>, Fault
     ensures held { IfOk result (λ opened. held_by opened ≡ held_of contents) }
     ensures place { IfOk result (λ opened. contents.taken.root.first < 2 ^ 63
         → GoesBehind (held_of contents).root (held_of contents).near (held_of contents).far (place_of opened.writer)) }
+    ensures near { IfOk result (λ opened. GoesOn contents.taken.root.half opened.near) }
+    ensures far { IfOk result (λ opened. GoesOn (not contents.taken.root.half) opened.far) }
     ensures resting { IfOk result (λ opened. ticks_left_of opened.writer ≡ 0) }
     ensures coming { IfOk result (λ opened. IsEmpty (coming_of (free_of opened.writer))) }
     ensures memory { IfErr result (λ fault. fault ≡ Fault.OutOfMemory) }

@@ -1,6 +1,7 @@
 //! Runs of PRR on the small board, with its token in A.
 use crate::fixtures::{small_kit, with_train};
 use rr_books::{Corp, Kind};
+use rr_running::laws::{best_earns_most, most_centres, one_verdict_on_a_run};
 use rr_running::{BestRun, Clause, Fault, judge_best_run, judge_run, kinds_held, net_now};
 use rr_sheets::{is_certificate, is_sheet};
 use std::alloc::Global;
@@ -83,4 +84,11 @@ fn a_net_has_the_trains_of_the_corporation(rt: HostRuntime) {
     assert!(rt; net.trains().len() == 1);
     assert!(rt; net.links().len() == 7);
     assert!(rt; Fault::OutOfMemory.number() == 70);
+}
+
+#[test]
+fn laws_are_called(_rt: HostRuntime) {
+    one_verdict_on_a_run();
+    best_earns_most();
+    most_centres();
 }

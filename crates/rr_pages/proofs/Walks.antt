@@ -9,13 +9,14 @@ use Rattle.rr_pages.specs.declared.fault.Damage.TheVariants.{PageOutside, PageTw
 use Rattle.rr_pages.specs.declared.fault.Fault.{Fault}
 use Rattle.rr_pages.specs.declared.fault.Fault.TheVariants.{FileFull, Damaged, NotAStore, Disk, OutOfMemory}
 use Rattle.rr_pages.specs.declared.reading.Link.{Link}
+use Rattle.rr_pages.specs.declared.reading.ReadChain.{ReadChain}
 use Rattle.rr_pages.specs.Pages.{IsData, IsIn, AllApart, AreData}
 use Rattle.rr_pages.specs.Chains.{next_of, used_of, Links, Chain}
 use Rattle.rr_pages.specs.Sets.{IsMarked, marked, all_marked, Has}
 use Rattle.rr_pages.specs.Walk.{Walk, length_damage, damage_of}
 use Rattle.rr_pages.specs.Faults.{OnDeviceFault}
 use Rattle.rr_pages.specs.Links.{pages_of, AreLinks, AreBelow, EndsPast, Gathers, AddsPiece, links_damage, judged, NoVerdict}
-use Rattle.rr_pages.specs.Reading.{IsWhole, IsBroken, Reads}
+use Rattle.rr_pages.specs.Reading.{BeginsAnew, IsWhole, IsBroken, Reads}
 use Rattle.rr_pages.proofs.SetLemmas.{not_both, in_last, has_more}
 
 few_of : (over : Bool) (other : Option Damage) → (if over then Some UsedBytes else other) ≡ None → over ≡ false
@@ -188,13 +189,40 @@ past_whole len count links None stated below is past =
     past_count len count links below
     (few_of (list_any (λ (link : Link). nat_lt 4086 link.used) links) (length_damage (sum_by (λ (link : Link). link.used) links) stated) (sym is)) past
 
--- a fault of the device or for want of memory says nothing of the file
-pub reads_nothing : (file : List ℕ) (count : ℕ) (reached : List Bool) (head : ℕ) (stated : Option ℕ) (after : List Bool) (fault : Fault) → NoVerdict {T = ℕ} (Err fault) → Reads file count reached head stated after (Err fault)
-reads_nothing file count reached head stated after FileFull none = none
-reads_nothing file count reached head stated after (Damaged damage) none = absurd none
-reads_nothing file count reached head stated after NotAStore none = none
-reads_nothing file count reached head stated after (Disk fault) none = tt
-reads_nothing file count reached head stated after OutOfMemory none = tt
+-- as far as a chain was followed, it is still at its first page, or that was a data page which wasn't reached before
+abbrev pub HasBegun : ℕ → List Bool → ℕ → List Bool → ℕ → Type 0
+HasBegun count start head reached page = ((reached ≡ start) × (page ≡ head)) ⊎ BeginsAnew count start head
+
+pub begins_there : (count : ℕ) (start : List Bool) (head : ℕ) (reached : List Bool) (page : ℕ) → HasBegun count start head reached page → IsData count page → get_or reached page false ≡ false → BeginsAnew count start head
+begins_there count start head reached page (inl at_first) is_data new =
+    (subst (λ (p : ℕ). IsData count p) at_first.1 is_data, λ marked_there. not_both (get_or reached page false) ((λ i. get_or (at_first.0 i) (at_first.1 i) false) ∙ marked_there) new)
+begins_there count start head reached page (inr begun) is_data new = begun
+
+-- a chain that was followed to a last page has a first one
+pub walk_begins : (file : List ℕ) (count : ℕ) (reached : List Bool) (head : ℕ) (pages : List ℕ) → Walk file count reached head pages None → BeginsAnew count reached head
+walk_begins file count reached head [] (inl outside) = absurd (cc (outside.1))
+walk_begins file count reached head [] (inr twice) = absurd (cc (twice.2))
+walk_begins file count reached head (p ∷ pages) walk =
+    (subst (λ (q : ℕ). IsData count q) (sym walk.0) walk.1, subst (λ (q : ℕ). IsMarked reached q → ⊥) (sym walk.0) walk.2)
+
+pub judged_begins : (file : List ℕ) (count : ℕ) (reached : List Bool) (head : ℕ) (links : List Link) (end : Option Damage) (stated : Option ℕ) → Walk file count reached head (pages_of links) end → None ≡ judged links end stated
+    → BeginsAnew count reached head
+judged_begins file count reached head links end stated walk none =
+    walk_begins file count reached head (pages_of links) (subst (λ (e : Option Damage). Walk file count reached head (pages_of links) e) (judged_end file links end stated (sym none)) walk)
+
+-- a fault of the device says nothing of the file, and want of memory that the chain has a page
+fault_failed : (T : Type 0) (file : List ℕ) (count : ℕ) (reached : List Bool) (head : ℕ) (stated : Option ℕ) (after : List Bool) (fault : Fault) → NoVerdict {T = T} (Err fault) → (fault ≡ OutOfMemory → BeginsAnew count reached head)
+    → Reads file count reached head stated after (Err fault)
+fault_failed T file count reached head stated after FileFull none begins = none
+fault_failed T file count reached head stated after (Damaged damage) none begins = absurd none
+fault_failed T file count reached head stated after NotAStore none begins = none
+fault_failed T file count reached head stated after (Disk fault) none begins = tt
+fault_failed T file count reached head stated after OutOfMemory none begins = begins refl
+
+pub reads_failed : (T : Type 0) (file : List ℕ) (count : ℕ) (reached : List Bool) (head : ℕ) (stated : Option ℕ) (after : List Bool) (result : Result ReadChain Fault) (fault : Fault) → result ≡ Err fault → NoVerdict {T = T} (Err fault)
+    → (fault ≡ OutOfMemory → BeginsAnew count reached head) → Reads file count reached head stated after result
+reads_failed T file count reached head stated after result fault is none begins =
+    subst (λ (r : Result ReadChain Fault). Reads file count reached head stated after r) (sym is) (fault_failed T file count reached head stated after fault none begins)
 
 -- a chain that stands is followed to its end, and breaks no clause
 module _ (file : List ℕ) (count : ℕ) (low : count ≤ 65536) where

@@ -5,7 +5,8 @@ use Rattle.rr_pages.specs.declared.fault.Damage.{Damage}
 use Rattle.rr_pages.specs.declared.fault.Fault.TheVariants.{FileFull, Damaged, NotAStore, Disk, OutOfMemory}
 use Rattle.rr_pages.specs.declared.reading.ReadChain.{ReadChain}
 use Rattle.rr_pages.specs.Chains.{Chain}
-use Rattle.rr_pages.specs.Sets.{all_marked}
+use Rattle.rr_pages.specs.Pages.{IsData}
+use Rattle.rr_pages.specs.Sets.{IsMarked, all_marked}
 use Rattle.rr_pages.specs.Walk.{Walk, damage_of}
 
 -- A chain that was followed over these pages breaks no clause; it has these bytes, and all its pages are reached now.
@@ -23,10 +24,15 @@ pub record IsBroken (file : List ℕ) (count : ℕ) (reached : List Bool) (head 
   pub broken : damage_of file pages end stated ≡ Some damage
   pub marks : after ≡ all_marked reached pages
 
+-- the page that a chain begins with is a data page, and wasn't reached before
+abbrev pub BeginsAnew : ℕ → List Bool → ℕ → Type 0
+BeginsAnew count reached head = IsData count head × (IsMarked reached head → ⊥)
+
+-- memory is wanted only for a chain that has a page
 abbrev pub Reads : List ℕ → ℕ → List Bool → ℕ → Option ℕ → List Bool → Result ReadChain Fault → Type 0
 Reads file count reached head stated after (Ok chain) = IsWhole file count reached head stated after chain.pages.items chain.bytes.items
 Reads file count reached head stated after (Err FileFull) = ⊥
 Reads file count reached head stated after (Err (Damaged damage)) = IsBroken file count reached head stated after damage
 Reads file count reached head stated after (Err NotAStore) = ⊥
 Reads file count reached head stated after (Err (Disk fault)) = Unit {0}
-Reads file count reached head stated after (Err OutOfMemory) = Unit {0}
+Reads file count reached head stated after (Err OutOfMemory) = BeginsAnew count reached head

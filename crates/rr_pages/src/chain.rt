@@ -1,7 +1,7 @@
 ghost use Rattle.std.specs.Prelude.{◌≡◌, ◌⊎◌, length, IfOk, IfErr, IsErrOf};
 ghost use Rattle.rr_pages.specs.FreePages.{present_of, coming_of};
 ghost use Rattle.rr_pages.specs.Laying.{pages_for};
-ghost use Rattle.rr_pages.specs.Sets.{TooFewFree};
+ghost use Rattle.rr_pages.specs.Sets.{NoneFree, TooFewFree};
 ghost use Rattle.rr_pages.specs.Writing.{IsLaid};
 
 use crate::page::{MOST_USED, lay_page};
@@ -18,8 +18,8 @@ pub struct FreshPage {
 /// Lays bytes into free pages, each but the last one filled, and gives the first of them. No bytes take one page. The
 /// new pages come behind those that are there, in the order of the chain. It makes no device call.
 ///
-/// `FileFull` where fewer pages are free than are needed; else `OutOfMemory` alone. After an error some pages may be
-/// taken and laid: `FreePages::abandon` frees all that were taken.
+/// `FileFull` where fewer pages are free than are needed; else `OutOfMemory` alone, and never where no page is free. After
+/// an error some pages may be taken and laid: `FreePages::abandon` frees all that were taken.
 pub fn chain_write(
     alloc: Global,
     free: &mut FreePages,
@@ -31,6 +31,8 @@ pub fn chain_write(
     ensures full { IsErrOf result Fault.FileFull
         → TooFewFree (present_of free.old) (coming_of free.old) (pages_for (length bytes.now)) }
     ensures err { IfErr result (λ fault. (fault ≡ Fault.FileFull) ⊎ (fault ≡ Fault.OutOfMemory)) }
+    ensures memory { IsErrOf result Fault.OutOfMemory
+        → NoneFree (present_of free.old) (coming_of free.old) → ⊥ }
     ensures present { present_of free.new ≡ present_of free.old }
 {
     let head = free.take()?;

@@ -1,8 +1,8 @@
-ghost use Rattle.std.specs.Prelude.{◌≡◌, ◌+◌, ◌*◌, ◌<◌, ◌≤◌, length, nat_lt, sum_by, IfOk, OnOk};
+ghost use Rattle.std.specs.Prelude.{◌≡◌, ◌+◌, ◌*◌, ◌<◌, ◌≤◌, length, nat_lt, sum_by, IfOk, IsErrOf, OnOk};
 ghost use Rattle.rr_pages.specs.Chains.{next_of, used_of};
 ghost use Rattle.rr_pages.specs.Faults.{CountsFault, OnDeviceFault};
 ghost use Rattle.rr_pages.specs.PageSet.{marks_of};
-ghost use Rattle.rr_pages.specs.Reading.{Reads};
+ghost use Rattle.rr_pages.specs.Reading.{BeginsAnew, Reads};
 ghost use Rattle.rr_pages.specs.Links.{pages_of, AreLinks, AreBelow, EndsPast, Gathers, AddsPiece, links_damage, judged, NoVerdict};
 ghost use Rattle.rr_pages.specs.Sets.{all_marked};
 ghost use Rattle.rr_pages.specs.Walk.{Walk};
@@ -43,7 +43,7 @@ struct Walked {
 /// count; `stated` is the length that the chain should have, `None` where none is stated.
 ///
 /// `Damaged` with the first clause that the chain breaks, as far as it can be followed; then too its pages are reached.
-/// It writes nothing, and reads no page that was reached before.
+/// `OutOfMemory` only where the chain has a page. It writes nothing, and reads no page that was reached before.
 pub fn chain_read<D: Disk>(
     alloc: Global,
     disk: &mut D,
@@ -92,6 +92,7 @@ fn walk<D: Disk>(
         ≡ all_marked (marks_of reached.old) (pages_of walked.links.items)) }
     ensures few { IfOk result (λ walked. length walked.links.items ≤ 65536) }
     ensures only { NoVerdict result }
+    ensures memory { IsErrOf result Fault.OutOfMemory → BeginsAnew count (marks_of reached.old) head }
     ensures fault { CountsFault (D.fault_count disk.old) (D.fault_count disk.new) result }
     ensures honest { D.Honest disk.new → D.Honest disk.old }
     ensures same_state { D.Honest disk.new → D.state disk.new ≡ D.state disk.old }

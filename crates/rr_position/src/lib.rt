@@ -4,6 +4,7 @@
 //! Stands on the views. Its promise: `Position::follow` keeps `IsPositionOf` for every book, with any entry that fits.
 #![tactic(auto)]
 
+pub mod laws;
 mod position;
 
 pub use position::{MOST_ENTRIES, Position};

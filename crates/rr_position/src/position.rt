@@ -1,4 +1,4 @@
-ghost use Rattle.std.specs.Prelude.{◌≡◌, ◌≤◌, ℕ, List, [], ◌∷◌, ◌++◌, OnOk, OnErr, IfErr};
+ghost use Rattle.std.specs.Prelude.{◌≡◌, ◌≤◌, ℕ, ◌+◌, List, [], ◌∷◌, ◌++◌, OnOk, OnErr, IfErr};
 ghost use Rattle.rr_books.specs.declared.entries.Marker.TheVariants as M;
 ghost use Rattle.rr_books.specs.Opening.{opening_entries};
 ghost use Rattle.rr_position.specs.Position.{Fits, Follows, HasRoom, IsPositionOf};
@@ -51,6 +51,7 @@ impl Position {
         ensures opening { IsPositionOf (opening_entries players roster.now) result }
         ensures auction { (names : List (List ℕ)) → IsPositionOf (opening_entries players roster.now ++ Entry.Step (M.Auction names) ∷ []) result }
         ensures players { result.books.players ≡ players }
+        ensures counted { result.entries ≡ players }
     {
         Position {
             books: Books::open(players, roster),
@@ -116,6 +117,7 @@ impl Position {
         requires { Fits self.old entry.now }
         ensures fault { IfErr result (λ fault. fault ≡ Fault.OutOfMemory) }
         ensures book { OnOk result (Follows self.old self.new (entry.now ∷ [])) }
+        ensures counted { OnOk result (self.new.entries ≡ self.old.entries + 1) }
         ensures err { OnErr result (self.new ≡ self.old) }
         ensures room { OnErr result (HasRoom self.old entry.now → ⊥) }
     {

@@ -21,9 +21,9 @@ use Rattle.rr_reading.specs.declared.fault.Damage.TheVariants.{RootField, PageOu
 use Rattle.rr_reading.specs.declared.fault.Fault.{Fault}
 use Rattle.rr_reading.specs.declared.fault.Fault.TheVariants.{Damaged, NotAStore, Disk, OutOfMemory}
 use Rattle.rr_reading.specs.Chains.{FoundChain, AllFollowed, HasOne, LeadsOutside, ReachesTwice, IsOverfull, HasOtherLength, damage_in, lower_of, least_in, AreOfForm}
-use Rattle.rr_reading.specs.Faults.{clause_of, of_page, of_pages, of_directory}
+use Rattle.rr_reading.specs.Faults.{clause_of, of_page, of_pages, of_directory, IsNoVerdict}
 use Rattle.rr_reading.specs.Held.{TextChains, Held, chains_of}
-use Rattle.rr_reading.specs.Reading.{TakesRoot, NoneReached, ReadsDirectory, directory_chain, IsDirectory, HasDirectory, HoldsChains, Holds, AreFound, Directory_alone, With_named, HasFound, IsOfNoForm, Of_directory, Of_length, Of_table, Breaks, IsDamage, Refuses}
+use Rattle.rr_reading.specs.Reading.{TakesRoot, HasRoot, NoneReached, ReadsDirectory, directory_chain, IsDirectory, HasDirectory, HoldsChains, Holds, AreFound, Directory_alone, With_named, HasFound, IsOfNoForm, Of_directory, Of_length, Of_table, Breaks, IsDamage, Refuses}
 use Rattle.rr_reading.specs.Told.{IsToldBroken}
 use Rattle.rr_reading.proofs.ChainLemmas.{all_right, read_followed}
 use Rattle.rr_reading.proofs.Least.{IsAtMost, least_is, least_low, least_none, BreaksBy, breaks_of, AllRight, walk_right, outside_low, twice_low, overfull_low, length_low, one_more, none_of}
@@ -170,12 +170,12 @@ module _ (file : List ℕ) where
 
   -- a root
   pub root_told : (fault : PageFault) → Chooses file (Err fault) → Refuses file (of_pages fault)
-  root_told pages.FileFull chosen = tt
+  root_told pages.FileFull chosen = absurd chosen
   root_told (pages.Damaged damage) chosen =
       subst (λ (d : PageDamage). IsDamage file (of_page d)) (sym chosen.0) (record { store = chosen.1; broken = chosen.2; least = λ other broken. clause_some other })
   root_told pages.NotAStore chosen = chosen
   root_told (pages.Disk fault) chosen = tt
-  root_told pages.OutOfMemory chosen = tt
+  root_told pages.OutOfMemory chosen = absurd chosen
 
   module _ (side : Bool) (root : Root) (taken : TakesRoot file side root) where
     -- a directory that is broken can't be read
@@ -199,12 +199,12 @@ module _ (file : List ℕ) where
       count_is = same taken.1.sound.pages_high
 
       pub directory_told : (before after : List Bool) (fault : PageFault) → NoneReached before → Reads file count before root.directory None after (Err fault) → Refuses file (of_pages fault)
-      directory_told before after pages.FileFull none read = tt
+      directory_told before after pages.FileFull none read = absurd read
       directory_told before after (pages.Damaged damage) none read =
           directory_broken before after none damage (subst (λ (n : ℕ). IsBroken file n before root.directory None after damage) count_is read)
       directory_told before after pages.NotAStore none read = absurd read
       directory_told before after (pages.Disk fault) none read = tt
-      directory_told before after pages.OutOfMemory none read = tt
+      directory_told before after pages.OutOfMemory none read = (side, root, taken)
 
     formless_directory : (reached : List Bool) (chain : HeldChain) → ReadsDirectory file root reached chain → ((directory : Directory) → IsDirectory root.version chain.text directory → ⊥) → IsDamage file Form
     formless_directory reached chain read none =
@@ -219,7 +219,7 @@ module _ (file : List ℕ) where
         → (fault ≡ form.Damaged → (directory : Directory) → Spells version chain.text directory → ⊥) → Refuses file (of_directory fault)
     form_told version reached chain form.Damaged read none =
         formless_directory reached chain read (λ directory is. none refl directory (subst (λ (v : Version). Spells v chain.text directory) (one_version is.version version) is.spelled))
-    form_told version reached chain form.OutOfMemory read none = tt
+    form_told version reached chain form.OutOfMemory read none = (side, root, taken)
 
   -- the chains that a directory names
   module _ (side : Bool) (root : Root) (reached : List Bool) (chain : HeldChain) (directory : Directory) (has : HasDirectory file side root reached chain directory) (count : ℕ) (few : root.pages ≤ 65536 → count ≡ root.pages) where
@@ -236,7 +236,7 @@ module _ (file : List ℕ) where
         (named_least side root reached broken.after chain directory broken.found has followed ∙ broken.is_least))
     chains_told NotAStore told = absurd told
     chains_told (Disk fault) told = tt
-    chains_told OutOfMemory told = tt
+    chains_told OutOfMemory told = (side, root, has.taken)
 
     module _ (after : List Bool) (texts : TextChains) (tables : List HeldChain) (read : AllRead file count reached (heads_of directory) after (chains_of texts tables)) where
       all_read : AllRead file root.pages reached (heads_of directory) after (chains_of texts tables)
@@ -306,3 +306,10 @@ module _ (file : List ℕ) where
 pub refused_later : (file now : List ℕ) (side : Bool) (root : Root) (fault : Fault) → now ≡ file → TakesRoot file side root → ((s : Bool) → TakesRoot now s root → Refuses now fault) → Refuses file fault
 refused_later file now side root fault same taken refuses =
     subst (λ (f : List ℕ). Refuses f fault) same (refuses side (subst (λ (f : List ℕ). TakesRoot f side root) (sym same) taken))
+
+-- a fault of the device says nothing of a file, and want of memory that a root is taken
+pub no_verdict_told : (file : List ℕ) (fault : Fault) → IsNoVerdict fault → HasRoot file → Refuses file fault
+no_verdict_told file (Damaged damage) none has = absurd none
+no_verdict_told file NotAStore none has = absurd none
+no_verdict_told file (Disk fault) none has = tt
+no_verdict_told file OutOfMemory none has = has

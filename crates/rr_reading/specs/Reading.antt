@@ -30,6 +30,10 @@ use Rattle.rr_reading.specs.Held.{TextChains, chains_of, Held, held_of}
 abbrev pub TakesRoot : List ℕ → Bool → Root → Type 0
 TakesRoot file side root = (stale : Stale) × IsTaken file side root stale
 
+-- one of the roots is taken
+abbrev pub HasRoot : List ℕ → Type 0
+HasRoot file = (side : Bool) × (root : Root) × TakesRoot file side root
+
 -- no page is reached
 pub record NoneReached (marks : List Bool) : Type 0 where
   pub empty : IsEmpty marks
@@ -133,12 +137,12 @@ pub record IsDamage (file : List ℕ) (damage : Damage) : Type 0 where
   pub broken : Breaks file damage
   pub least : (other : Damage) → Breaks file other → clause_of damage ≤ clause_of other
 
--- why a file isn't read. The device may fail and memory may be wanted at any file
+-- why a file isn't read. The device may fail at any file, and memory is wanted only where a root is taken
 abbrev pub Refuses : List ℕ → Fault → Type 0
 Refuses file (Damaged damage) = IsDamage file damage
 Refuses file NotAStore = IsNoStore file
 Refuses file (Disk fault) = Unit {0}
-Refuses file OutOfMemory = Unit {0}
+Refuses file OutOfMemory = HasRoot file
 
 -- what reading a file answers
 abbrev pub Reads : List ℕ → Result Contents Fault → Type 0

@@ -1,5 +1,6 @@
 -- The judgement on a command, from what the rules of each step say, and that there is one.
 use Rattle.std.specs.Bool.{Decides, one_answer}
+use Rattle.std.specs.Option.{option_or}
 use Rattle.std.proofs.Common.{◌≡◌, ◌∙◌, ◌⊎◌, inl, inr, Bool, true, false, Option, None, Some, ap, sym, subst, option_map, refl}
 use Rattle.rr_books.specs.declared.acts.Act.{Act}
 use Rattle.rr_books.specs.declared.acts.Act.TheVariants as A
@@ -19,6 +20,7 @@ use Rattle.rr_forced.specs.declared.fault.Fault.TheVariants as C
 use Rattle.rr_forced.specs.declared.needs.Need.{Need}
 use Rattle.rr_forced.specs.Needs.{IsNeedOf}
 use Rattle.rr_forced.specs.Rules as force
+use Rattle.rr_forced.proofs.FirstChecks.{row_told}
 use Rattle.rr_forced.specs.Sales.{CanRaise, bankrupt_verdict, raise_verdict}
 use Rattle.rr_holdings.specs.Holdings.{holdings_of}
 use Rattle.rr_roster.specs.declared.company.Corp.{Corp}
@@ -66,9 +68,17 @@ force_is : (first : Option forced.Fault) (Next : Option forced.Fault → Type 0)
 force_is None Next verdict h = h
 force_is (Some fault) Next verdict h = h
 
+force_behind : (order row : Option forced.Fault) (Next : Option forced.Fault → Type 0) (verdict : Option forced.Fault) → (Next verdict → IsFirstOrBehind row Next verdict)
+    → force.After order Next verdict → IsFirstOrBehind (option_or order row) Next verdict
+force_behind None row Next verdict behind h = behind h
+force_behind (Some fault) row Next verdict behind h = h
+
 force_verdict : (kit : Kit) (state : GameState) (act : Act) (verdict : Option forced.Fault) → force.IsVerdict kit state.book act verdict
     → IsVerdict (force_judgement kit state act) verdict
-force_verdict kit state act verdict h = force_is (force.order_verdict kit state.book act) (force.IsRowVerdict kit state.book act) verdict h
+force_verdict kit state act verdict h =
+    let row = force.row_first kit state.book act in
+    let Row = force.IsRowVerdict kit state.book act in
+    force_behind (force.order_verdict kit state.book act) row Row verdict (λ r. force_is row Row verdict (row_told kit state.book act verdict r)) h
 
 force_found : (kit : Kit) (state : GameState) (act : Act) (fault : forced.Fault) → force.MayJudge kit state.book act fault
     → MayFind (force_judgement kit state act) C.OutOfMemory fault
@@ -153,7 +163,7 @@ one_of (Some fault) Behind same a b one other = one ∙ sym other
 
 force_one : (kit : Kit) (state : GameState) (act : Act) → HasOneVerdict (force_judgement kit state act)
 force_one kit state act a b one other =
-    one_of (force.order_verdict kit state.book act) (force.IsRowVerdict kit state.book act) (forced_behind_one kit state.book act) a b one other
+    one_of (force.first_verdict kit state.book act) (force.IsRowVerdict kit state.book act) (forced_behind_one kit state.book act) a b one other
 
 operating_one : OneVerdict → (forced : Bool) (kit : Kit) (state : GameState) (act : Act) → HasOneVerdict (operating_judgement forced kit state act)
 operating_one law true kit state act = map-one of_forced (force_judgement kit state act) (force_one kit state act)

@@ -18,7 +18,7 @@ use Rattle.rr_sets.specs.Rounds.{round_is_over}
 use Rattle.rr_operate.specs.declared.fault.Fault as operate
 use Rattle.rr_operate.specs.Rows.{IsRowVerdict, first_verdict}
 use Rattle.rr_forced.specs.declared.fault.Fault as forced
-use Rattle.rr_forced.specs.Rules.{IsRowVerdict as IsForcedVerdict, is_forced, order_verdict}
+use Rattle.rr_forced.specs.Rules.{IsRowVerdict as IsForcedVerdict, first_verdict as first_forced, is_forced}
 use Rattle.rr_turns.specs.Judgement.{Judgement, judgement_behind, judgement_map, settled}
 use Rattle.rr_rules.specs.declared.fault.Fault.{Fault}
 use Rattle.rr_rules.specs.declared.fault.Fault.TheVariants as F
@@ -58,7 +58,7 @@ turn_judgement kit state act = record { first = first_verdict kit state.book sta
 
 -- the judgement on a command of a corporation that must own a train and can't pay it
 abbrev pub force_judgement : Kit → GameState → Act → Judgement forced.Fault
-force_judgement kit state act = record { first = order_verdict kit state.book act; Behind = IsForcedVerdict kit state.book act }
+force_judgement kit state act = record { first = first_forced kit state.book act; Behind = IsForcedVerdict kit state.book act }
 
 -- the judgement in an operating round, on such a command or any other
 abbrev pub operating_judgement : Bool → Kit → GameState → Act → Judgement Fault

@@ -15,7 +15,7 @@ use rr_trains::{phase, trains_at};
 use std::alloc::{AllocError, Global};
 
 /// The most centres over which a run is judged: more than boards have.
-const MOST_CENTRES: usize = 65_536;
+pub(crate) const MOST_CENTRES: usize = 65_536;
 
 /// The kinds of the corporation's trains, each as often as it has one, the smallest first.
 ///

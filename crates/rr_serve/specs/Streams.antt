@@ -22,14 +22,14 @@ HasEnded state = state.remaining ≡ Some []
 pub record Gives (before : InputState) (bytes : List ℕ) (after : InputState) : Type 0 where
   pub given : after.given ≡ before.given ++ bytes
   pub consumed : Consumes before.remaining after.remaining bytes
-  pub fewer : after.most + length bytes ≤ before.most
+  pub fewer : after.most + length bytes ≡ before.most
   pub none_failed : after.failures ≡ before.failures
 
 -- a read failed, and nothing was given
 pub record FailsToGive (before after : InputState) : Type 0 where
   pub given : after.given ≡ before.given
   pub kept : Keeps before.remaining after.remaining
-  pub fewer : after.most ≤ before.most
+  pub as_many : after.most ≡ before.most
   pub failed : after.failures ≡ counted before.failures
 
 pub record OutputState : Type 0 where
@@ -79,17 +79,22 @@ pub record IsCutShort (before : OutputState) (reply : List ℕ) (after : OutputS
   pub flushes : after.flushes ≡ before.flushes
   pub failed : after.failures ≡ counted before.failures
 
+-- a write failed: a front of the bytes was taken, and behind it some were left
+pub record FailsToTake (before : OutputState) (bytes : List ℕ) (after : OutputState) : Type 0 where
+  pub cut_short : IsCutShort before bytes after
+  pub some_left : 1 ≤ length cut_short.more
+
 -- the replies were sent, one after another: between them nothing is written, and nothing is held back
 abbrev pub AreSent : OutputState → List (List ℕ) → OutputState → Type 0
 AreSent before [] after = after ≡ before
 AreSent before (reply ∷ replies) after =
     (mid : OutputState) × IsSent before reply mid × AreSent mid replies after
 
--- the bytes were written and noted, or only a front of them, as a write failed
+-- the bytes were written and noted, or only a front of them, as a write failed of some that were left
 abbrev pub Writes : Option (List ℕ) → Option (List ℕ) → List ℕ → List ℕ → List ℕ → Bool → Type 0
 Writes contents held old new bytes true = Appends contents held bytes × (new ≡ old ++ bytes)
 Writes contents held old new bytes false =
-    (front : List ℕ) × (more : List ℕ) × (bytes ≡ front ++ more) × Appends contents held front × (new ≡ old ++ front)
+    (front : List ℕ) × (more : List ℕ) × (bytes ≡ front ++ more) × Appends contents held front × (new ≡ old ++ front) × (1 ≤ length more)
 
 -- Where a call ends so, a read or a write failed exactly if it says that a stream failed: then one did, and the other none.
 -- The counts are those of the input before and after it, and those of the output.

@@ -1,5 +1,5 @@
 ghost use Rattle.std.specs.Prelude.{◌≡◌, [], IfErr, OnOk, OnErr};
-ghost use Rattle.rr_serve.specs.Streams.{OutputState, Takes, Flushes, FailsToFlush, IsSent, IsCutShort, Writes};
+ghost use Rattle.rr_serve.specs.Streams.{OutputState, Takes, FailsToTake, Flushes, FailsToFlush, IsSent, IsCutShort, Writes};
 
 use crate::faults::Fault;
 use crate::record::StreamRecord;
@@ -11,9 +11,10 @@ pub trait Output {
     ghost state: { Self → OutputState };
 
     /// Writes all of the bytes. An error, `StreamFailed`, comes where a write failed or took nothing, and is counted.
+    /// Each write has bytes to take, so no bytes at all can't fail.
     fn write_all(&mut self, bytes: &[u8]) -> Result<(), Fault>
         ensures ok { OnOk result (Takes (state self.old) bytes.now (state self.new)) }
-        ensures err { OnErr result (IsCutShort (state self.old) bytes.now (state self.new)) }
+        ensures err { OnErr result (FailsToTake (state self.old) bytes.now (state self.new)) }
         ensures fault { IfErr result (λ fault. fault ≡ Fault.StreamFailed) };
 
     /// Holds back nothing of what was written. An error, `StreamFailed`, comes where this failed, and is counted.

@@ -75,7 +75,7 @@ pub refused-wrong : (text : List ℕ) (lines : List NumberedWords) (fault : Faul
 refused-wrong text lines (BadManifest line) small lines_are wrong =
     let here : IsFirstWrong (rows_of text) line = subst (λ all. IsFirstWrong all line) lines_are wrong in
     (WrongLine line small here, λ supplies spelled. no_manifest-wrong (rows_of text) line here supplies spelled.lines_spelled)
-refused-wrong text lines OutOfMemory small lines_are wrong = tt
+refused-wrong text lines OutOfMemory small lines_are wrong = small
 
 pub refused-not_ascii : (text : List ℕ) → ¬ IsSmallAscii text → IsBadAt text 0 × ((supplies : List Supply) → ¬ Spells text supplies)
 refused-not_ascii text large = (NotSmallAscii large, λ supplies spelled. large spelled.small_ascii)

@@ -65,10 +65,10 @@ pub data IsBadAt (text : List ℕ) : ℕ → Type 0 where
   NotSmallAscii : ¬ IsSmallAscii text → IsBadAt text 0
   WrongLine : (line : ℕ) → IsSmallAscii text → IsFirstWrong (rows_of text) line → IsBadAt text line
 
--- only memory may be wanting, or no manifest is spelled
+-- no manifest is spelled; or memory is wanting, which it may be only of a text of at most 64 KiB, and of ASCII alone
 abbrev pub IsRefusal : List ℕ → Fault → Type 0
 IsRefusal text (BadManifest line) = IsBadAt text line × ((supplies : List Supply) → ¬ Spells text supplies)
-IsRefusal text OutOfMemory = Unit {0}
+IsRefusal text OutOfMemory = IsSmallAscii text
 
 -- why lines spell no tiles
 abbrev pub IsLinesFault : List NumberedWords → Fault → Type 0

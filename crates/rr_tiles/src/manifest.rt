@@ -44,7 +44,7 @@ impl Manifest {
     /// # Errors
     ///
     /// `BadManifest` with the first wrong line, or with 0 where the text is not ASCII or is longer than
-    /// 65,536 bytes; `OutOfMemory` at any text.
+    /// 65,536 bytes; `OutOfMemory` at any text of ASCII that is no longer.
     pub fn read(alloc: Global, text: &str) -> Result<Manifest, Fault>
         ensures read { MatchResult result (λ manifest. Spells text.now manifest) (λ fault. IsRefusal text.now fault) }
         ensures only { IfOk result (λ manifest. (other : List Supply) → Spells text.now other → other ≡ manifest) }

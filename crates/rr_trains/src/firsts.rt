@@ -1,5 +1,5 @@
-ghost use Rattle.std.specs.Prelude.{◌≡◌, OnOk, IfErr};
-ghost use Rattle.rr_desk.specs.Desk.{Takes};
+ghost use Rattle.std.specs.Prelude.{◌≡◌, OnOk, OnErr, IfErr};
+ghost use Rattle.rr_desk.specs.Desk.{AddsSome, Takes};
 ghost use Rattle.rr_trains.specs.Effects.{all_close, all_rust, closes, closes_own_private, first_if, first_of_kind, first_train, is_in_game, moves_lowest_train, rusts};
 
 use crate::places::{NUMBERS, lowest_train};
@@ -10,10 +10,12 @@ use rr_desk::Desk;
 ///
 /// # Errors
 ///
-/// `OutOfMemory`; the desk is as before then.
+/// `OutOfMemory`, where there is one; the desk is as before then.
 pub fn give_lowest_train(desk: &mut Desk, kind: Kind, from: Place, to: Place) -> Result<(), Fault>
     ensures fault { IfErr result (λ fault. fault ≡ Fault.OutOfMemory) }
     ensures takes { OnOk result (Takes (moves_lowest_train kind from to) desk.old desk.new) }
+    ensures err { OnErr result (desk.new ≡ desk.old) }
+    ensures needed { OnErr result (AddsSome (moves_lowest_train kind from to) desk.old) }
 {
     match lowest_train(desk.books(), from, kind) {
         Some(train) => desk.push(Entry::Train { train, to }),

@@ -4,8 +4,8 @@ use rr_books::{Act, Books, Cell, Corp, Entry, Kind, Marker, Money, Party, Place,
 use rr_chart::Chart;
 use rr_market::Market;
 use rr_operations::laws::{
-    debts_are_remembered, due_stays, sets_keep_their_length, steps_never_go_back,
-    turns_are_of_their_round, turns_come_once, worked_round,
+    bankruptcies_are_remembered, debts_are_remembered, due_stays, sets_keep_their_length,
+    steps_never_go_back, turns_are_of_their_round, turns_come_once, worked_round,
 };
 use rr_operations::{Operations, Stage, TurnStep, is_sold, phase, rounds_in_set};
 use rr_rounds::Rounds;
@@ -329,5 +329,6 @@ fn laws() {
     turns_come_once();
     sets_keep_their_length();
     debts_are_remembered();
+    bankruptcies_are_remembered();
     worked_round();
 }

@@ -4,6 +4,7 @@ use crate::opening::{check, position};
 use rr_books::{Act, Cell, Corp, Entry, Fault, Kind, Marker, Place, Seat, Train};
 use rr_layout::MOST_LAYS;
 use rr_operations::Stage;
+use rr_position::laws::most_entries;
 
 #[test]
 fn each_view_follows_the_entries(rt: HostRuntime) {
@@ -68,4 +69,9 @@ fn a_full_board_takes_no_tile(rt: HostRuntime) {
         Err(Fault::OutOfMemory),
     );
     check(&rt, "tiles", table.layout().lays().len(), 600);
+}
+
+#[test]
+fn laws_are_called(_rt: HostRuntime) {
+    most_entries();
 }

@@ -1,5 +1,5 @@
 //! The rows of a text: its lines that say something, with their numbers.
-ghost use Rattle.std.specs.Prelude.{◌≡◌, ◌+◌, map, option_map, All, IfSome, IfOk, MatchOption, true};
+ghost use Rattle.std.specs.Prelude.{◌≡◌, ◌+◌, map, option_map, All, IfSome, IfOk, OnErr, MatchOption, true};
 ghost use Rattle.rr_words.specs.Text.{row_of, row_at, rows_in, is_comment, spaced_words, rows_of, IsRowUpTo, IsSmallAscii};
 
 use std::alloc::{AllocError, Global};
@@ -21,12 +21,13 @@ pub struct Row<'a> {
 /// A line ends with LF, or with CR and LF; the last line may lack it. A line that is empty, has
 /// only spaces or begins with `#` is no row, but is counted.
 ///
-/// Only memory can fail.
+/// Only memory can fail, and only of a text that has rows: no memory is asked for before that is known.
 pub fn rows(alloc: Global, text: &str) -> Result<Option<Vec<Row<'_>>>, AllocError>
     ensures rows { IfOk result (λ read. MatchOption read
         (¬ IsSmallAscii text.now)
         (λ rows. IsSmallAscii text.now × (map row_of rows.items ≡ rows_of text.now))) }
     ensures bounded { IfOk result (λ read. IfSome read (λ rows. All (λ row. IsRowUpTo 65536 (row_of row)) rows.items)) }
+    ensures memory { OnErr result (IsSmallAscii text.now) }
 {
     if text.len() > TEXT_BYTES || !text.is_ascii() {
         return Ok(None);

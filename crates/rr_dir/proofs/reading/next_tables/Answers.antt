@@ -1,7 +1,7 @@
 use Rattle.std.proofs.Common.{◌≡◌, ◌∷◌, ◌++◌, [], ◌+◌, sym, subst, true}
 use Rattle.std.specs.List.{Any}
 use Rattle.rr_dir.specs.declared.directory.TableEntry.{TableEntry}
-use Rattle.rr_dir.proofs.TableLemmas.{ReadsTables, tables_damaged, tables_twice, tables_more, counted_tables}
+use Rattle.rr_dir.proofs.TableLemmas.{ReadsTables, tables_damaged, tables_twice, tables_more, tables_begun, counted_tables}
 use Rattle.rr_dir.proofs.reading.next_tables.Goals as goal
 
 pub returns-in_default-next_table-clause-damaged : goal.returns-in_default-next_table-clause-damaged
@@ -24,3 +24,8 @@ loop-preserved c =
     tables_more c.next_count.new.cursor c.loop.tables.items c.loop.counter c.loop.cursor table c.next_table.new.cursor c.loop.invariant read.0 read.1
     (λ named. let is : c.is_named.result ≡ true = c.is_named.ensures.1 (subst (Any (λ (other : TableEntry). other.name ≡ table.name)) (sym c.deref.ensures.value) named) in absurd (cc)) in
     rw c.in_ok-push.ensures.items more
+
+pub returns-in_err-push-clause-memory : goal.returns-in_err-push-clause-memory
+returns-in_err-push-clause-memory c = λ e.
+    let read = c.in-Some-next_table.ensures in
+    tables_begun c.args.cursor.now c.next_count.new.cursor c.loop.tables.items c.loop.counter c.in-Some.count c.loop.cursor c.in-Some-next_table.table c.next_table.new.cursor c.in-Some.ensures.0 c.in-Some.ensures.1 c.loop.invariant c.loop-test.true read.0 read.1

@@ -27,3 +27,10 @@ returns-then-not-is_empty-clause-damaged c = λ e d spells.
     let end = tables_end c.in_ok-tables.tables.items d.tables c.next_tables.new.cursor read.0 spells.is_directory.are_tables (sym read.1 ∙ mid) in
     let empty : c.is_empty.result ≡ true = c.is_empty.ensures.1 end in
     absurd (cc)
+
+pub returns-in_err-tables-clause-memory : goal.returns-in_err-tables-clause-memory
+returns-in_err-tables-clause-memory c = λ e.
+    let given = err_from_is_err_and c.from_residual.result c.from_residual.ensures.1 in
+    let is = given.1 in
+    let from = given.2 in
+    (c.in-Some.kit, c.next_kit.new.cursor, c.in-Some.ensures.0, c.in-Some.ensures.1, c.in_err-tables.ensures.memory (cc))

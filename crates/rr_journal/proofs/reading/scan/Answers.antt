@@ -1,4 +1,5 @@
 use Rattle.std.proofs.Common.{◌≡◌, List, [], ◌∷◌, length, ◌∙◌, ap, subst, arith, rules, length-append}
+use Rattle.std.proofs.lemmas.Result.{err_from_is_err_and}
 use Rattle.rr_disk.specs.Disk.{DiskState}
 use Rattle.rr_journal.specs.declared.layout.HalfIndex.{HalfIndex}
 use Rattle.rr_journal.specs.declared.reading.RunEnd.TheVariants.{Closed}
@@ -6,8 +7,9 @@ use Rattle.rr_journal.specs.declared.reading.Found.{Found}
 use Rattle.rr_journal.specs.declared.reading.Found.TheVariants.{Record, End}
 use Rattle.rr_journal.specs.Layout.{slots_for}
 use Rattle.rr_journal.specs.Reading.{lines, Begins}
-use Rattle.rr_journal.specs.Run.{IsRecord, Ends, slots_of}
+use Rattle.rr_journal.specs.Run.{IsRecord, HasRecord, Ends, slots_of}
 use Rattle.rr_journal.proofs.Moments.{keeps_at_rest}
+use Rattle.rr_journal.proofs.OneRun.{first_record}
 use Rattle.rr_journal.proofs.Runs.{slots_more, some_slot, one_run, stepped, all_found}
 use Rattle.rr_journal.proofs.reading.scan.Goals as goal
 
@@ -77,3 +79,29 @@ pub returns-clause-keeps : goal.returns-clause-keeps
 returns-clause-keeps g c = λ honest rest closed within.
     let inv = c.loop-half.invariant in
     keeps_at_rest c.loop-half.half (g.D.Disk.state c.loop-half.disk) (g.D.Disk.state c.args.disk.now) c.args.index c.args.first_number (lines c.loop-half.records.items) Closed rest closed within inv.index inv.next (inv.same_state honest) (returns-clause-found g c honest)
+
+pub returns-in_err-bytes-clause-memory : goal.returns-in_err-bytes-clause-memory
+returns-in_err-bytes-clause-memory g c = λ e honest.
+    let inv = c.loop-half.invariant in
+    let file = (g.D.Disk.state c.args.disk.now).content in
+    let given = err_from_is_err_and c.from_residual.result c.from_residual.ensures.1 in
+    let is = given.1 in
+    let from = given.2 in
+    let before = c.in_err-bytes.ensures.honest honest in
+    let there : HasRecord (g.D.Disk.state c.loop-half.disk).content c.loop-half.half.index c.loop-half.half.next_slot c.loop-half.number = c.in_err-bytes.ensures.memory (cc) honest in
+    let has : HasRecord file c.args.index c.loop-half.half.next_slot c.loop-half.number =
+    subst (λ (half : HalfIndex). HasRecord file half c.loop-half.half.next_slot c.loop-half.number) inv.index
+    (subst (λ (state : DiskState). HasRecord state.content c.loop-half.half.index c.loop-half.half.next_slot c.loop-half.number) (inv.same_state before) there) in
+    first_record file c.args.index c.loop-half.half.next_slot c.loop-half.number c.args.first_number (lines c.loop-half.records.items) has (inv.rest before)
+
+pub returns-in_err-push-in-Record-clause-memory : goal.returns-in_err-push-in-Record-clause-memory
+returns-in_err-push-in-Record-clause-memory g c = λ e honest.
+    let inv = c.loop-half.invariant in
+    let file = (g.D.Disk.state c.args.disk.now).content in
+    let x = c.in-Record.bytes in
+    let before = c.in_ok-bytes.ensures.honest honest in
+    let found : Begins file c.loop-half.half c.loop-half.number (Record x) =
+    subst (λ (what : Found). Begins file c.loop-half.half c.loop-half.number what) c.in-Record.is
+    (subst (λ (state : DiskState). Begins state.content c.loop-half.half c.loop-half.number c.in_ok-bytes.field-0) (inv.same_state before) (c.in_ok-bytes.ensures.found honest)) in
+    let is : IsRecord file c.args.index c.loop-half.half.next_slot c.loop-half.number x.items = subst (λ (half : HalfIndex). IsRecord file half c.loop-half.half.next_slot c.loop-half.number x.items) inv.index found in
+    first_record file c.args.index c.loop-half.half.next_slot c.loop-half.number c.args.first_number (lines c.loop-half.records.items) (x.items, is) (inv.rest before)

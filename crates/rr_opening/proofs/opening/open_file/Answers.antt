@@ -1,4 +1,4 @@
-use Rattle.std.proofs.Common.{◌≡◌, ℕ, List, sym, ◌∙◌, ap, subst}
+use Rattle.std.proofs.Common.{◌≡◌, ℕ, List, Err, not, sym, ◌∙◌, ap, subst}
 use Rattle.std.proofs.lemmas.Result.{err_from_is_err_and}
 use Rattle.rr_checkpoint.specs.Writer.{place_of}
 use Rattle.rr_disk.specs.Disk.{DiskState}
@@ -6,9 +6,9 @@ use Rattle.rr_images.specs.Layout.{Stands}
 use Rattle.rr_opening.specs.Opened.{held_by}
 use Rattle.rr_opening.specs.Place.{GoesBehind}
 use Rattle.rr_opening.proofs.Layouts.{carries_read}
-use Rattle.rr_opening.proofs.Refusals.{stands_no_verdict}
+use Rattle.rr_opening.proofs.Refusals.{device_refuses, memory_refuses, stands_no_verdict}
 use Rattle.rr_opening.proofs.Syncs.{synced_left, read_left}
-use Rattle.rr_reading.specs.Held.{Held, held_of}
+use Rattle.rr_reading.specs.Held.{Held, GoesOn, held_of}
 use Rattle.rr_reading.specs.Reading.{Holds}
 use Rattle.rr_opening.proofs.opening.open_file.Goals as goal
 
@@ -67,3 +67,26 @@ returns-clause-stops g c = λ honest.
     let read = c.read_file.ensures.honest honest in
     read_left (g.D.Disk.past disk) (g.D.Disk.state disk) (c.in_ok-sync.ensures.synced read) (c.read_file.ensures.same_past honest) (c.read_file.ensures.same_state honest)
     (g.met.D.Disk.content_may_stay disk (c.sync.ensures.honest read))
+
+pub returns-in_err-sync-clause-refused : goal.returns-in_err-sync-clause-refused
+returns-in_err-sync-clause-refused g c =
+    let p = err_from_is_err_and c.from_residual.result c.from_residual.ensures.1 in
+    rw (p.1, p.2) (λ honest. device_refuses (g.D.Disk.state c.args.disk.now).content _ c.in_err-sync.ensures.only (λ is. c.in_err-sync.ensures.memory (ap (λ f. Err f) is)))
+
+pub returns-in_err-opened-clause-refused : goal.returns-in_err-opened-clause-refused
+unfolding content
+returns-in_err-opened-clause-refused g c =
+    let p = err_from_is_err_and c.from_residual-in_err-opened.result c.from_residual-in_err-opened.ensures.1 in
+    rw (p.1, p.2) (λ honest.
+    let was = c.in_ok-sync.ensures.synced (c.read_file.ensures.honest honest) in
+    memory_refuses (g.D.Disk.state c.args.disk.now).content (g.D.Disk.state c.sync.new.disk).content (held_of c.in_ok-contents.contents) _ (ap content was.settled) (c.in_ok-contents.ensures.read honest) c.in_err-opened.ensures.memory)
+
+pub returns-clause-near : goal.returns-clause-near
+returns-clause-near g c =
+    let opened = c.in_ok-opened.opened in
+    subst (λ (has : Held). GoesOn has.root.half opened.near) (sym c.in_ok-opened.ensures.held) c.in_ok-opened.ensures.near
+
+pub returns-clause-far : goal.returns-clause-far
+returns-clause-far g c =
+    let opened = c.in_ok-opened.opened in
+    subst (λ (has : Held). GoesOn (not has.root.half) opened.far) (sym c.in_ok-opened.ensures.held) c.in_ok-opened.ensures.far

@@ -4,7 +4,7 @@ use Rattle.rr_disk.specs.Disk.{DiskState}
 use Rattle.rr_pages.specs.declared.reading.Link.{Link}
 use Rattle.rr_pages.specs.PageSet.{marks_of}
 use Rattle.rr_pages.specs.Links.{EndsPast, Gathers, judged, pages_of}
-use Rattle.rr_pages.proofs.Walks.{device_so, past_whole, read_broken, read_whole}
+use Rattle.rr_pages.proofs.Walks.{device_so, judged_begins, past_whole, read_broken, read_whole, reads_failed}
 use Rattle.rr_pages.proofs.reading.chain_read.Goals as goal
 
 pub returns-in-Some-clause-read : goal.returns-in-Some-clause-read
@@ -39,3 +39,14 @@ returns-in_err-chain-in-None-clause-device g c =
     (c.in-None.ensures ∙ ap (λ (ls : List Link). judged ls walked.end c.args.stated) c.deref.ensures.value)
     (subst (λ (ls : List Link). EndsPast len ls) c.deref-in-None.ensures.value (subst (λ (n : ℕ). EndsPast n c.deref-in-None.result.now) same (past works))))
     c.in_err-chain-in-None.ensures.device
+
+pub returns-in_err-chain-in-None-clause-read : goal.returns-in_err-chain-in-None-clause-read
+returns-in_err-chain-in-None-clause-read g c = λ honest.
+    let walked = c.in_ok-walked.walked in
+    let told = err_from_is_err_and c.from_residual-in_err-chain-in-None.result c.from_residual-in_err-chain-in-None.ensures.1 in
+    let file = (g.D.Disk.state c.args.disk.now).content in
+    let before = c.in_err-chain-in-None.ensures.honest honest in
+    reads_failed (Unit {0}) file c.args.count (marks_of c.args.reached.now) c.args.head c.args.stated (marks_of c.walk.new.reached) c.from_residual-in_err-chain-in-None.result c.in_err-chain-in-None.field-0.0
+    (told.1 ∙ ap (λ f. Err f) told.2) c.in_err-chain-in-None.ensures.only
+    (λ wanted. judged_begins file c.args.count (marks_of c.args.reached.now) c.args.head walked.links.items walked.end c.args.stated (c.in_ok-walked.ensures.walk before)
+    (c.in-None.ensures ∙ ap (λ (ls : List Link). judged ls walked.end c.args.stated) c.deref.ensures.value))

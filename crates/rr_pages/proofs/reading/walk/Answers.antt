@@ -1,4 +1,4 @@
-use Rattle.std.proofs.Common.{◌≡◌, ℕ, ◌<◌, ◌∷◌, [], ◌++◌, List, length, None, sym, ◌∙◌, ap, subst, arith, rules, length-append}
+use Rattle.std.proofs.Common.{◌≡◌, inl, inr, ℕ, ◌<◌, ◌∷◌, [], ◌++◌, List, length, None, refl, sym, ◌∙◌, ap, subst, arith, rules, length-append}
 use Rattle.std.proofs.lemmas.Bool.{iff_false}
 use Rattle.rr_disk.specs.Disk.{DiskState}
 use Rattle.rr_pages.specs.declared.reading.Link.{Link}
@@ -8,7 +8,7 @@ use Rattle.rr_pages.specs.PageSet.{marks_of}
 use Rattle.rr_pages.specs.Sets.{all_marked, marked}
 use Rattle.rr_pages.specs.Walk.{Walk}
 use Rattle.rr_pages.proofs.SetLemmas.{unmarked, unmarked_within, unmarked_less, marked_last}
-use Rattle.rr_pages.proofs.Walks.{LeadsOn, are_links_last, are_below_last, at_page, leads_more, leads_end, leads_outside, leads_twice, pages_push}
+use Rattle.rr_pages.proofs.Walks.{LeadsOn, begins_there, are_links_last, are_below_last, at_page, leads_more, leads_end, leads_outside, leads_twice, pages_push}
 use Rattle.rr_pages.proofs.reading.walk.Goals as goal
 
 pub pages-init : goal.pages-init
@@ -19,6 +19,7 @@ pages-init g c =
     record {
       leads = λ honest more end walk. subst (λ (ls : List Link). Walk file c.args.count start c.args.head (pages_of ls ++ more) end) (sym none) walk;
       links = λ honest. subst (λ (ls : List Link). AreLinks file ls) (sym none) tt;
+      begins = inl (refl, refl);
       below = subst (λ (ls : List Link). AreBelow c.args.count ls) (sym none) tt;
       marks = sym (ap (λ (ls : List Link). all_marked start (pages_of ls)) none);
       few = omega (arith, ap length none, unmarked_within start, c.args.reached.now.whole);
@@ -111,6 +112,7 @@ pages-preserved g c =
           let used : c.in_ok-link.link.used ≡ used_of file page = subst (λ (s : DiskState). c.in_ok-link.link.used ≡ used_of s.content page) (c.pages.invariant.same_state before) read.1 in
           subst (λ (ls : List Link). AreLinks file ls) (sym c.in_ok-push.ensures.items)
           (are_links_last file c.pages.links.items c.in_ok-link.link (c.pages.invariant.links before) (at_page file c.in_ok-link.link page c.in_ok-link.ensures.page used));
+      begins = inr (begins_there c.args.count start c.args.head (marks_of c.pages.reached) page c.pages.invariant.begins is_data new);
       below = subst (λ (ls : List Link). AreBelow c.args.count ls) (sym c.in_ok-push.ensures.items)
           (are_below_last c.args.count c.pages.links.items c.in_ok-link.link c.pages.invariant.below (omega (arith, is_data.1, c.in_ok-link.ensures.page)));
       marks = c.take.ensures.marks ∙ (ap (λ (ms : List _). marked ms page) c.pages.invariant.marks ∙ (sym (marked_last start pages page) ∙ ap (λ (ps : List ℕ). all_marked start ps) (sym grown)));

@@ -3,7 +3,7 @@ use Rattle.rr_pages.specs.PageSet.{marks_of}
 use Rattle.rr_pages.specs.Sets.{all_marked}
 use Rattle.rr_pages.specs.Links.{pages_of, AreLinks, AreBelow}
 use Rattle.rr_pages.proofs.SetLemmas.{unmarked}
-use Rattle.rr_pages.proofs.Walks.{LeadsOn}
+use Rattle.rr_pages.proofs.Walks.{LeadsOn, HasBegun}
 use Rattle.rr_pages.proofs.reading.walk.Given as goal
 
 abbrev pub invariant-pages : goal.invariant-pages
@@ -11,6 +11,7 @@ invariant-pages g l =
     record {
       leads : g.D.Disk.Honest l.disk → LeadsOn (g.D.Disk.state l.fn.disk).content l.fn.count (marks_of l.fn.reached) l.fn.head (pages_of l.links.items) (marks_of l.reached) l.next;
       links : g.D.Disk.Honest l.disk → AreLinks (g.D.Disk.state l.fn.disk).content l.links.items;
+      begins : HasBegun l.fn.count (marks_of l.fn.reached) l.fn.head (marks_of l.reached) l.next;
       below : AreBelow l.fn.count l.links.items;
       marks : marks_of l.reached ≡ all_marked (marks_of l.fn.reached) (pages_of l.links.items);
       few : length l.links.items + unmarked (marks_of l.reached) ≤ 65536;

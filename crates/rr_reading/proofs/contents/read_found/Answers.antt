@@ -8,6 +8,8 @@ use Rattle.rr_dir.specs.Heads.{head_of}
 use Rattle.rr_disk.specs.Disk.{DiskState}
 use Rattle.rr_pages.specs.PageSet.{marks_of}
 use Rattle.rr_pages.specs.declared.reading.ReadChain.{ReadChain}
+use Rattle.rr_reading.specs.declared.fault.Fault.{Fault}
+use Rattle.rr_reading.specs.Reading.{Refuses}
 use Rattle.rr_reading.specs.Chains.{held, all_held, AreOfForm}
 use Rattle.rr_reading.specs.Held.{chains_held}
 use Rattle.rr_reading.proofs.Told.{told_later, read_later, table_told, all_held_there}
@@ -90,3 +92,9 @@ returns-clause-found g c = λ honest side taken.
     (marks_of c.read_chains.new.reached) (chains_held c.take_texts-texts.result) (all_held tables) read
     (subst (λ (P : Type 0). P) (forms_same c.deref-2.result.now found.dir.tables.items c.deref-3.result.now tables c.deref-2.ensures.value c.deref-3.ensures.value)
     (c.are_of_form.ensures.0 c.if-not-are_of_form.false))
+
+pub returns-in_err-named-clause-refused : goal.returns-in_err-named-clause-refused
+returns-in_err-named-clause-refused g c =
+    let p = err_from_is_err_and c.from_residual-in_err-named.result c.from_residual-in_err-named.ensures.1 in
+    rw (p.1, p.2) (λ honest side taken.
+    subst (λ (fault : Fault). Refuses (g.D.Disk.state c.args.disk.now).content fault) (sym c.in_err-named.ensures.memory) (side, c.args.root.now, taken))

@@ -35,6 +35,7 @@ returns-in_default-clause-writes g c =
       subst (Appends old new) (take-none written c.in-Ok.count bytes c.if-count-gt0.false)
           (Appends-trans old _ new _ _ c.loop-written.invariant.1 c.in-Ok.ensures.bytes),
       c.loop-written.invariant.2,
+      omega (arith, length-drop written bytes, c.loop-written-test.true),
     )
 
 pub returns-in_default-2-clause-writes : goal.returns-in_default-2-clause-writes
@@ -46,4 +47,5 @@ returns-in_default-2-clause-writes g c =
       sym (take-append-drop written bytes),
       Appends-kept _ _ _ _ c.loop-written.invariant.1 c.in_default.ensures.bytes,
       c.loop-written.invariant.2,
+      omega (arith, length-drop written bytes, c.loop-written-test.true),
     )
