@@ -35,7 +35,7 @@ places_laid [] pieces fit = refl
 places_laid (page ∷ pages) [] fit = absurd fit
 places_laid (page ∷ pages) (piece ∷ pieces) fit = ap (λ (ps : List ℕ). page ∷ ps) (places_laid pages pieces fit.3)
 
-places_all : (chains : List LaidChain) → AllFit chains → map (λ (fresh : ℕ × List ℕ). fresh.0) (all_laid chains) ≡ laid_pages chains
+pub places_all : (chains : List LaidChain) → AllFit chains → map (λ (fresh : ℕ × List ℕ). fresh.0) (all_laid chains) ≡ laid_pages chains
 places_all [] fit = refl
 places_all (chain ∷ chains) fit =
     map-append (λ (fresh : ℕ × List ℕ). fresh.0) (laid chain.pages chain.pieces) (all_laid chains)

@@ -36,6 +36,10 @@ pub isnt_begun : (begun : Option ℕ) (number : ℕ) (far : FarHalf) → is_some
 isnt_begun None number far none begun = begun
 isnt_begun (Some first) number far none begun = absurd (cc)
 
+pub none_there : (begun : Option ℕ) → is_some begun ≡ false → begun ≡ None
+none_there None none = refl
+none_there (Some first) none = absurd (cc)
+
 -- a record more
 module _ {C : Type 0} (codec : Codec) (file : OpenFile C) (checkpoint : Option Checkpoint) (state : DiskState) (old new : codec.World) (stays : IsImage state state.content) (carries : CarriesWith codec file checkpoint state old)
     (line : List ℕ) (takes : codec.Takes line old new) (room : HasRoom file.place.half.next_slot (length line)) (low : file.place.number < 2 ^ 63) where

@@ -45,6 +45,13 @@ pub none_left : (checkpoint : Option Checkpoint) → left_of checkpoint ≡ 0 �
 none_left None none = refl
 none_left (Some checkpoint) none = let some = some_left checkpoint.stage (length checkpoint.plan.fresh.items) in absurd (omega (arith, some, none))
 
+-- a checkpoint under way has ticks left
+pub never_none : (checkpoint : Option Checkpoint) (there : Checkpoint) → checkpoint ≡ Some there → left_of checkpoint ≡ 0 → ⊥
+never_none checkpoint there is none =
+    let some = some_left there.stage (length there.plan.fresh.items) in
+    let left : left_of (Some there) ≡ 0 = subst (λ (c : Option Checkpoint). left_of c ≡ 0) is none in
+    omega (arith, some, left)
+
 pub renews_told : (codec : Codec) (layout : Layout codec) (next : Option Checkpoint) (new : DiskState) (world : codec.World) → Renews codec layout next new world → RenewsAt codec (told_at next) layout new world
 renews_told codec layout None new world renews = renews
 renews_told codec layout (Some checkpoint) new world renews = tt

@@ -100,6 +100,7 @@ impl<C: Codec> OpenFile<C> {
         ensures number { self.new.place.number ≡ self.old.place.number }
         ensures slots { self.new.place.half.next_slot ≤ self.old.place.half.next_slot }
         ensures fresh { OnOk result (self.old.place.begun ≡ None → self.new.place.half.next_slot ≡ 0) }
+        ensures no_call { (self.old.place.begun ≡ None → ⊥) → disk.new ≡ disk.old }
         ensures taken { self.new.taken ≡ self.old.taken }
         ensures stops { D.Honest disk.new → (world : C.codec.World)
             → CarriesWith C.codec self.old None (D.state disk.old) world

@@ -204,7 +204,8 @@ impl<C: Codec> Writer<C> {
     }
 
     /// The plan of a checkpoint: behind chains that were laid or are kept comes the directory that names them, of version
-    /// 1. Errors are those of `lay`.
+    /// 1. Its fresh pages are those from before and the directory's, and its root is the coming one. Errors are those of
+    /// `lay`.
     pub fn plan(
         &mut self,
         alloc: Global,
@@ -220,6 +221,9 @@ impl<C: Codec> Writer<C> {
             → IsDirectory C.codec carries.layout drafts directory.now
             → (may : MayBegin C.codec carries.layout (free_of self.new) plan)
             × (may.holding.chains ≡ chains_of drafts)) }
+        ensures root { IfOk result (λ plan. plan.root ≡ coming_root_of self.old plan.root.directory plan.fresh.items) }
+        ensures laid { IfOk result (λ plan. IsLaid (present_of (free_of self.old)) (coming_of (free_of self.old))
+            (coming_of (free_of self.new)) directory.now fresh.items plan.fresh.items plan.root.directory) }
         ensures full { IsErrOf result pages.FileFull
             → TooFewFree (present_of (free_of self.old)) (coming_of (free_of self.old)) (pages_for (length directory.now)) }
         ensures err { IfErr result (λ fault. (fault ≡ pages.FileFull) ⊎ (fault ≡ pages.OutOfMemory)) }
@@ -251,7 +255,8 @@ impl<C: Codec> Writer<C> {
     }
 
     /// Makes the first tick of a checkpoint, after which records go to the other half. It and the ticks behind it take no
-    /// memory; a checkpoint of p fresh pages has p + 4 ticks, this one included.
+    /// memory; a checkpoint of p fresh pages has p + 4 ticks, this one included. Where an opening found the checkpoint begun,
+    /// this one makes no device call.
     pub fn begin<D: Disk>(&mut self, disk: &mut D, plan: Plan) -> Result<(), Fault>
         requires { ticks_left_of self.old ≡ 0 }
 
@@ -267,6 +272,7 @@ impl<C: Codec> Writer<C> {
         ensures number { (place_of self.new).number ≡ (place_of self.old).number }
         ensures slots { (place_of self.new).half.next_slot ≤ (place_of self.old).half.next_slot }
         ensures fresh { OnOk result ((place_of self.old).begun ≡ None → (place_of self.new).half.next_slot ≡ 0) }
+        ensures no_call { ((place_of self.old).begun ≡ None → ⊥) → disk.new ≡ disk.old }
 
         ensures fault { device.CountsFault (D.fault_count disk.old) (D.fault_count disk.new) result }
         // A disk that works doesn't fail here, where its file is one of a store.
@@ -286,7 +292,7 @@ impl<C: Codec> Writer<C> {
     }
 
     /// Makes the next step of the checkpoint under way: one fresh page, or the stale root's gate shut, or the coming root
-    /// without its gate, or its gate.
+    /// without its gate, or its gate. Without one under way nothing changes, and no device call is made.
     pub fn tick<D: Disk>(&mut self, disk: &mut D) -> Result<Tick, Fault>
         ensures carries { IfOk result (λ tick. D.Honest disk.new → (world : C.codec.World)
             → (carries : Carries C.codec self.old (D.state disk.old) world)
@@ -302,6 +308,8 @@ impl<C: Codec> Writer<C> {
         ensures rests { IfOk result (λ tick. RestsAt tick (place_of self.new).begun) }
         ensures number { (place_of self.new).number ≡ (place_of self.old).number }
         ensures half { (place_of self.new).half ≡ (place_of self.old).half }
+        ensures same { ticks_left_of self.old ≡ 0 → self.new ≡ self.old }
+        ensures no_call { ticks_left_of self.old ≡ 0 → disk.new ≡ disk.old }
 
         ensures fault { device.CountsFault (D.fault_count disk.old) (D.fault_count disk.new) result }
         ensures device { OnErr result (D.Honest disk.new → (world : C.codec.World)

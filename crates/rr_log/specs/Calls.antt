@@ -13,7 +13,7 @@ use Rattle.rr_pages.specs.Sets.{TooFewFree, all_marked}
 use Rattle.rr_reading.specs.Reading.{NoneReached}
 use Rattle.rr_snapshot.specs.declared.snapshot.Snapshot.{Snapshot}
 use Rattle.rr_snapshot.specs.Kit.{text_pages}
-use Rattle.rr_snapshot.specs.Laying.{needed_pages}
+use Rattle.rr_snapshot.specs.Laying.{most_laid_pages, needed_pages}
 use Rattle.rr_snapshot.specs.Snapshot.{tables_of}
 use Rattle.rr_worlds.specs.World.{Table, World}
 
@@ -53,6 +53,14 @@ LowersFrom Done old new = (old ≡ 1) × (new ≡ 0)
 abbrev pub tables_due : Option Snapshot → List Table → List Table
 tables_due None tables = tables
 tables_due (Some base) tables = tables_of base
+
+-- how many ticks a checkpoint of these tables has at most: one for each page that it lays, and four more
+abbrev pub most_ticks : List Table → ℕ
+most_ticks tables = most_laid_pages tables + 4
+
+-- how many ticks a checkpoint that is begun now has at most, its first one included
+abbrev pub ticks_due : {D R : Type 0} → Log D R → List Table → ℕ
+ticks_due log tables = most_ticks (tables_due log.base tables)
 
 -- beside those of the texts fewer pages are free than the chains and the directory of these tables take at most
 abbrev pub HasTooFewFree : {D R : Type 0} → Log D R → List Table → Type 0

@@ -1,5 +1,5 @@
 // The plan of a checkpoint.
-ghost use Rattle.std.specs.Prelude.{◌≡◌, ◌⊎◌, ◌^◌, ◌+◌, ◌<◌, Bool, List, IfOk, IfErr, IsErrOf, IsTrue, ◌↔◌};
+ghost use Rattle.std.specs.Prelude.{◌≡◌, ◌⊎◌, ◌^◌, ◌+◌, ◌<◌, ◌≤◌, Bool, List, length, IfOk, IfErr, IsErrOf, IsTrue, ◌↔◌};
 ghost use Rattle.rr_checkpoint.specs.Planning.{MayBegin};
 ghost use Rattle.rr_checkpoint.specs.Writer as file;
 ghost use Rattle.rr_disk.specs.Disk.{DiskState};
@@ -9,7 +9,7 @@ ghost use Rattle.rr_pages.specs.FreePages.{present_of};
 ghost use Rattle.rr_pages.specs.Sets.{TooFewFree, all_marked};
 ghost use Rattle.rr_reading.specs.Reading.{NoneReached};
 ghost use Rattle.rr_snapshot.specs.Kit.{text_pages};
-ghost use Rattle.rr_snapshot.specs.Laying.{needed_pages};
+ghost use Rattle.rr_snapshot.specs.Laying.{most_laid_pages, needed_pages};
 ghost use Rattle.rr_snapshot.specs.Planning.{IsOfLayout, HoldsTexts};
 ghost use Rattle.rr_snapshot.specs.Snapshot.{tables_of};
 ghost use Rattle.rr_snapshot.specs.Writing.{OnlyTakes};
@@ -48,6 +48,7 @@ fn plan_of<R: Rules>(
         → (of : IsOfLayout R.takes kit.now snapshot.now carries.layout)
         → (may : MayBegin (worlds R.takes) carries.layout (file.free_of writer.new) plan)
         × HoldsTexts of.texts may.holding) }
+    ensures few { IfOk result (λ plan. length plan.fresh.items ≤ most_laid_pages (tables_of snapshot.now)) }
     ensures full { IsErrOf result Fault.FileFull → (none : List Bool) → NoneReached none
         → TooFewFree (present_of (file.free_of writer.old)) (all_marked none (text_pages kit.now))
         (needed_pages (tables_of snapshot.now)) }
@@ -62,7 +63,7 @@ fn plan_of<R: Rules>(
 }
 
 impl<D: Disk + Drop, R: Rules> Log<D, R> {
-    ghost use Rattle.rr_log.specs.Calls.{IsFileFull, IsUnchanged};
+    ghost use Rattle.rr_log.specs.Calls.{IsFileFull, IsUnchanged, tables_due};
     ghost use Rattle.rr_log.specs.Carrying.{Carries, IsPlanned};
     ghost use Rattle.rr_log.specs.Log.{next_number, root_number, ticks_left};
 
@@ -72,6 +73,8 @@ impl<D: Disk + Drop, R: Rules> Log<D, R> {
         requires { ticks_left self.old ≡ 0 }
         ensures plan { IfOk result (λ plan. (state : DiskState) (world : World) → world.tables ≡ T.tables tables.now
             → Carries R.takes self.old state world → IsPlanned R.takes self.new plan state world) }
+        ensures few { IfOk result (λ plan. length plan.fresh.items
+            ≤ most_laid_pages (tables_due self.old.base (T.tables tables.now))) }
         ensures carries { (state : DiskState) (world : World) → Carries R.takes self.old state world
             → Carries R.takes self.new state world }
         ensures full { IsErrOf result Fault.FileFull → IsFileFull self.old (T.tables tables.now) }

@@ -16,7 +16,7 @@ use rr_worlds::Rules;
 const MANY_SLOTS: u8 = 128;
 
 impl<D: Disk + Drop, R: Rules> Log<D, R> {
-    ghost use Rattle.rr_log.specs.Calls.{IsFileFull, IsUnchanged, LowersFrom};
+    ghost use Rattle.rr_log.specs.Calls.{IsFileFull, IsUnchanged, LowersFrom, ticks_due};
     ghost use Rattle.rr_log.specs.Carrying.{Carries};
     ghost use Rattle.rr_log.specs.Log.{disk_of, is_broken, next_number, place_of, root_number, ticks_left, IsDue};
 
@@ -42,6 +42,8 @@ impl<D: Disk + Drop, R: Rules> Log<D, R> {
 
         // How far it comes.
         ensures left { IfOk result (λ tick. LowersFrom tick (ticks_left self.old) (ticks_left self.new)) }
+        ensures most { IfOk result (λ tick. ticks_left self.old ≡ 0
+            → ticks_left self.new < ticks_due self.old (T.tables tables.now)) }
         ensures idle { (result ≡ Ok Tick.Idle) ↔ ((is_broken self.old ≡ false) × (ticks_left self.old ≡ 0)
             × (IsDue (place_of self.old) → ⊥)) }
         ensures rests { result ≡ Ok Tick.Idle → self.new ≡ self.old }
@@ -86,6 +88,8 @@ impl<D: Disk + Drop, R: Rules> Log<D, R> {
             → (carries : Carries R.takes self.old (D.state (disk_of self.old)) world)
             → RenewsAt (worlds R.takes) tick carries.carried.layout (D.state (disk_of self.new)) world) }
         ensures left { IfOk result (λ tick. LowersFrom tick (ticks_left self.old) (ticks_left self.new)) }
+        ensures most { IfOk result (λ tick. ticks_left self.old ≡ 0
+            → ticks_left self.new < ticks_due self.old (T.tables tables.now)) }
         ensures idle { (result ≡ Ok Tick.Idle) ↔ ((ticks_left self.old ≡ 0) × (IsDue (place_of self.old) → ⊥)) }
         ensures rests { result ≡ Ok Tick.Idle → self.new ≡ self.old }
         ensures number { next_number self.new ≡ next_number self.old }
@@ -180,6 +184,7 @@ impl<D: Disk + Drop, R: Rules> Log<D, R> {
             → world.tables ≡ T.tables tables.now → Carries R.takes self.old (D.state (disk_of self.old)) world
             → Carries R.takes self.new (D.state (disk_of self.new)) world }
         ensures left { OnOk result (3 ≤ ticks_left self.new) }
+        ensures most { OnOk result (ticks_left self.new < ticks_due self.old (T.tables tables.now)) }
         ensures number { next_number self.new ≡ next_number self.old }
         ensures slots { (place_of self.new).half.next_slot ≤ (place_of self.old).half.next_slot }
         ensures fresh { OnOk result ((place_of self.old).begun ≡ None → (place_of self.new).half.next_slot ≡ 0) }
@@ -248,6 +253,15 @@ impl<D: Disk + Drop, R: Rules> Log<D, R> {
         ensures device { OnDeviceFault result (D.Honest (disk_of self.new) → (world : World) → world.tables ≡ T.tables tables.now
             → Carries R.takes self.old (D.state (disk_of self.old)) world → D.Works (disk_of self.new) → ⊥) }
 
+        // A write and a sync at most for each tick that is left, or for each of the checkpoint that begins.
+        ensures writes { 0 < ticks_left self.old
+            → D.write_count (disk_of self.new) ≤ D.write_count (disk_of self.old) + ticks_left self.old }
+        ensures syncs { 0 < ticks_left self.old
+            → D.sync_count (disk_of self.new) ≤ D.sync_count (disk_of self.old) + ticks_left self.old }
+        ensures all_writes { ticks_left self.old ≡ 0 → D.write_count (disk_of self.new)
+            ≤ D.write_count (disk_of self.old) + ticks_due self.old (T.tables tables.now) }
+        ensures all_syncs { ticks_left self.old ≡ 0 → D.sync_count (disk_of self.new)
+            ≤ D.sync_count (disk_of self.old) + ticks_due self.old (T.tables tables.now) }
         ensures honest { D.Honest (disk_of self.new) → D.Honest (disk_of self.old) }
         ensures works { D.Works (disk_of self.new) → D.Works (disk_of self.old) }
     {
@@ -285,6 +299,8 @@ impl<D: Disk + Drop, R: Rules> Log<D, R> {
         ensures fault { CountsFault (D.fault_count (disk_of self.old)) (D.fault_count (disk_of self.new)) result }
         ensures device { OnDeviceFault result (D.Honest (disk_of self.new) → (world : World)
             → Carries R.takes self.old (D.state (disk_of self.old)) world → D.Works (disk_of self.new) → ⊥) }
+        ensures writes { D.write_count (disk_of self.new) ≤ D.write_count (disk_of self.old) + ticks_left self.old }
+        ensures syncs { D.sync_count (disk_of self.new) ≤ D.sync_count (disk_of self.old) + ticks_left self.old }
         ensures honest { D.Honest (disk_of self.new) → D.Honest (disk_of self.old) }
         ensures works { D.Works (disk_of self.new) → D.Works (disk_of self.old) }
     {

@@ -24,7 +24,7 @@ ghost use Rattle.rr_store.specs.Files.{AreTablesOf};
 ghost use Rattle.rr_store.specs.Holding.{Carries, root_of, ticks_left};
 ghost use Rattle.rr_store.specs.Holding as held_in;
 ghost use Rattle.rr_store.specs.Opening.{IsNoVerdict, OpenAllows};
-ghost use Rattle.rr_store.specs.Ticking.{Steps};
+ghost use Rattle.rr_store.specs.Ticking.{MakesFew, Steps};
 ghost use Rattle.rr_store.specs.World.{TableState, World, table_named};
 ghost use Rattle.rr_game.specs.Play.{play};
 ghost use Rattle.std.specs.Fmt.{signed_decimal};
@@ -155,6 +155,8 @@ impl<D: Disk + Drop> Moderator<D> {
         // Then each file that a stop may leave takes a root of a greater number.
         ensures renews { OnOk result (D.Honest (disk_under self.new) → (texts : KitTexts) → Carries D.state (store_of self.old) texts
             → EachImage (D.state (disk_under self.new)) (TakesRootBehind table_files (root_of (store_of self.old)) (in_words texts (held_of self.old).tables))) }
+        ensures writes { MakesFew D.write_count (store_of self.old) (store_of self.new) }
+        ensures syncs { MakesFew D.sync_count (store_of self.old) (store_of self.new) }
     {
         self.state.store.checkpoint()
     }

@@ -1,5 +1,5 @@
 -- The directory of a snapshot's tables.
-use Rattle.std.proofs.Common.{Bool, ◌≡◌, ◌≢◌, ℕ, suc, ◌+◌, ◌^◌, ◌<◌, ◌≤◌, List, [], ◌∷◌, ◌++◌, length, map, ◌∙◌, ap, arith, length-append}
+use Rattle.std.proofs.Common.{Bool, ◌≡◌, ◌≢◌, ℕ, suc, ◌+◌, ◌^◌, ◌<◌, ◌≤◌, List, [], ◌∷◌, ◌++◌, length, map, refl, sym, ◌∙◌, ap, subst, arith, length-append}
 use Rattle.std.specs.List.{flat_map, All, AllPairs}
 use Rattle.std.proofs.lemmas.List.{length-map}
 use Rattle.std.proofs.lemmas.List.Elements.{All-nil, All-head, All-tail, All-cons}
@@ -13,17 +13,21 @@ use Rattle.rr_dir.specs.Number.{spelled_number}
 use Rattle.rr_dir.proofs.NumberLemmas.{length-spelled_number}
 use Rattle.rr_dir.proofs.KeptLemmas.{length-first_commands}
 use Rattle.rr_dir.proofs.TableLemmas.{length-spelled_kit, length-spelled_state}
+use Rattle.rr_checkpoint.proofs.Planning.{places_all}
 use Rattle.rr_images.specs.Holding.{HeldChain, texts_of}
+use Rattle.rr_images.specs.Laws.{OneLaid}
 use Rattle.rr_images.specs.Plans.{LaidChain, laid_as, laid_pages, AllFit}
+use Rattle.rr_images.proofs.Laid.{one_more_laid}
 use Rattle.rr_pages.specs.declared.chain.FreshPage.{FreshPage}
 use Rattle.rr_pages.specs.Laying.{head_of, joined, pages_for, FitEach}
-use Rattle.rr_pages.specs.Sets.{TooFewFree}
+use Rattle.rr_pages.specs.Sets.{TakesFree, TooFewFree}
+use Rattle.rr_pages.specs.Writing.{fresh_of, IsLaid}
 use Rattle.rr_snapshot.specs.declared.table.TableSnapshot.{TableSnapshot}
-use Rattle.rr_snapshot.specs.Laying.{directory_length, needed_pages, AreTablesLaid}
+use Rattle.rr_snapshot.specs.Laying.{directory_length, most_laid_pages, most_pages_for, needed_pages, AreTablesLaid}
 use Rattle.rr_snapshot.specs.Snapshot.{commands_of, table_of}
 use Rattle.rr_worlds.specs.Spelling.{entry_for, entries_for}
 use Rattle.rr_worlds.specs.World.{Table, text_for, AreShort}
-use Rattle.rr_snapshot.proofs.LaidTables.{too_few_behind}
+use Rattle.rr_snapshot.proofs.LaidTables.{fresh_count, laid_few, laid_length, too_few_behind}
 use Rattle.rr_snapshot.proofs.TableLemmas.{spelled_few}
 
 -- each entry is as long as its name asks
@@ -139,3 +143,31 @@ too_few_all present coming between fresh tables entries kit bytes laid is few =
     let counted = directory_counted kit (map laid_as laid.laid) tables entries bytes laid.texts laid.named is in
     too_few_behind present coming between (laid_pages laid.laid) (pages_for (length bytes)) (needed_pages tables) laid.in_turn.taken few
     (omega (arith, laid.few, ap pages_for counted))
+
+-- a plan of these tables and their directory has no more fresh pages than they take at most
+pub few_fresh : (present coming between after : List Bool) (fresh more : List FreshPage) (tables : List Table) (entries : List TableEntry) (kit : KitChains) (bytes : List ℕ) (head : ℕ) → AreTablesLaid present coming between fresh tables entries
+    → bytes ≡ spelling One (record { kit = kit; tables = entries }) → IsLaid present between after bytes fresh more head → length more ≤ most_laid_pages tables
+few_fresh present coming between after fresh more tables entries kit bytes head laid is directory =
+    let counted = directory_counted kit (map laid_as laid.laid) tables entries bytes laid.texts laid.named is in
+    omega (
+      arith,
+      laid.few,
+      fresh_count present coming between fresh laid.laid laid.in_turn,
+      laid_length present between after bytes fresh more head directory,
+      laid_few present between after bytes fresh more head directory,
+      ap most_pages_for counted,
+    )
+
+-- The pages of the tables and then those of their directory are taken one after another, and they are all that is written.
+pages_laid : (fresh : List FreshPage) → map (λ (page : FreshPage). page.page) fresh ≡ map (λ (one : ℕ × List ℕ). one.0) (map fresh_of fresh)
+pages_laid [] = refl
+pages_laid (page ∷ fresh) = ap (λ (pages : List ℕ). page.page ∷ pages) (pages_laid fresh)
+
+pub takes_fresh : (present coming between after : List Bool) (fresh more : List FreshPage) (tables : List Table) (entries : List TableEntry) (bytes : List ℕ) (head : ℕ) → AreTablesLaid present coming between fresh tables entries
+    → IsLaid present between after bytes fresh more head → TakesFree present coming (map (λ (page : FreshPage). page.page) more) after
+takes_fresh present coming between after fresh more tables entries bytes head laid is =
+    let one : OneLaid present coming after more laid.laid bytes head = one_more_laid present coming between after fresh more laid.laid bytes head laid.in_turn is in
+    let chains = laid.laid ++ one.chain ∷ [] in
+    let pages : map (λ (page : FreshPage). page.page) more ≡ laid_pages chains =
+    pages_laid more ∙ (ap (λ (all : List (ℕ × List ℕ)). map (λ (one : ℕ × List ℕ). one.0) all) one.laid.to_write ∙ places_all chains one.laid.fit) in
+    subst (λ (taken : List ℕ). TakesFree present coming taken after) (sym pages) one.laid.taken

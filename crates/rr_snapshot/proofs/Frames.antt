@@ -1,9 +1,13 @@
 -- What taking pages leaves as it was, over several calls.
-use Rattle.std.proofs.Common.{true, false, suc, arith, ◌≡◌, ℕ, ◌+◌, ◌<◌, Bool, List, [], ◌∷◌, ◌++◌, length, take, get_or, refl, sym, ◌∙◌, ap}
+use Rattle.std.proofs.Common.{true, false, not, suc, arith, ◌≡◌, ℕ, ◌+◌, ◌<◌, Bool, List, [], ◌∷◌, ◌++◌, length, take, get_or, refl, sym, ◌∙◌, ap}
 use Rattle.std.proofs.lemmas.List.{take_more}
+use Rattle.std.specs.Option.{unwrap_or}
 use Rattle.rr_checkpoint.specs.declared.writer.Writer.{Writer}
+use Rattle.rr_checkpoint.specs.Pages.{pages_with}
+use Rattle.rr_checkpoint.specs.Planning.{coming_root_of}
 use Rattle.rr_checkpoint.specs.Writer.{ticks_left_of}
 use Rattle.rr_images.specs.Codec.{Codec}
+use Rattle.rr_pages.specs.declared.chain.FreshPage.{FreshPage}
 use Rattle.rr_pages.specs.Sets.{Has, marked, all_marked}
 use Rattle.rr_pages.proofs.SetLemmas.{marked_last}
 use Rattle.rr_snapshot.specs.Writing.{OnlyTakes}
@@ -23,6 +27,18 @@ onward codec old between new first then =
           let one = first.carries state world carries in
           let two = then.carries state world one.0 in
           (two.0, two.1 ∙ one.1);
+    }
+
+-- and the coming root is the same
+pub same_root : {C : Type 0} (codec : Codec) (old new : Writer C) (head : ℕ) (fresh : List FreshPage) → OnlyTakes codec old new → coming_root_of new head fresh ≡ coming_root_of old head fresh
+same_root codec old new head fresh only = λ i.
+    record {
+      number = (only.taken i).root.number + 1;
+      directory = head;
+      half = not (only.taken i).root.half;
+      first = unwrap_or (only.place i).begun (only.place i).number;
+      pages = pages_with (only.taken i).root.pages fresh;
+      version = 1;
     }
 
 -- pages that are put into a set behind others

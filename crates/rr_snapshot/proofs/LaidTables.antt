@@ -37,12 +37,12 @@ within_most pages count few = omega arith
 pub for_within_most : (count : ℕ) → pages_for count ≤ most_pages_for count
 for_within_most count = omega arith
 
-laid_length : (present coming after : List Bool) (bytes : List ℕ) (old new : List FreshPage) (head : ℕ) → (is : IsLaid present coming after bytes old new head) → length new ≡ length old + length is.pages
+pub laid_length : (present coming after : List Bool) (bytes : List ℕ) (old new : List FreshPage) (head : ℕ) → (is : IsLaid present coming after bytes old new head) → length new ≡ length old + length is.pages
 laid_length present coming after bytes old new head is =
     sym (length-map new fresh_of) ∙ (ap (λ (xs : List (ℕ × List ℕ)). length xs) is.fresh ∙ (length-append (map fresh_of old) (laid is.pages is.pieces)
     ∙ (λ i. length-map old fresh_of i + laid_count is.pages is.pieces is.fit.each i)))
 
-laid_few : (present coming after : List Bool) (bytes : List ℕ) (old new : List FreshPage) (head : ℕ) → (is : IsLaid present coming after bytes old new head) → length is.pages ≤ most_pages_for (length bytes)
+pub laid_few : (present coming after : List Bool) (bytes : List ℕ) (old new : List FreshPage) (head : ℕ) → (is : IsLaid present coming after bytes old new head) → length is.pages ≤ most_pages_for (length bytes)
 laid_few present coming after bytes old new head is =
     within_most (length is.pages) (length bytes) (omega (arith, filled is.pages is.pieces is.fit.each is.fill, ap (λ (xs : List ℕ). length xs) is.whole))
 
@@ -52,7 +52,7 @@ all_count [] fit = refl
 all_count (chain ∷ chains) fit =
     omega (arith, length-append (laid chain.pages chain.pieces) (all_laid chains), length-append chain.pages (laid_pages chains), laid_count chain.pages chain.pieces fit.0.each, all_count chains fit.1)
 
-fresh_count : (present coming after : List Bool) (fresh : List FreshPage) (chains : List LaidChain) → AreLaid present coming after fresh chains → length fresh ≡ length (laid_pages chains)
+pub fresh_count : (present coming after : List Bool) (fresh : List FreshPage) (chains : List LaidChain) → AreLaid present coming after fresh chains → length fresh ≡ length (laid_pages chains)
 fresh_count present coming after fresh chains are =
     sym (length-map fresh fresh_of) ∙ (ap (λ (xs : List (ℕ × List ℕ)). length xs) are.to_write ∙ all_count chains are.fit)
 

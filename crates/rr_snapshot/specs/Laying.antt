@@ -1,5 +1,6 @@
 -- The chains of tables as they are laid.
 use Rattle.std.specs.Prelude.{◌≡◌, ℕ, ◌+◌, ◌/◌, ◌≤◌, Bool, List, length, map, sum_by}
+use Rattle.rr_checkpoint.specs.declared.checkpoint.Plan.{Plan}
 use Rattle.rr_dir.specs.declared.directory.TableEntry.{TableEntry}
 use Rattle.rr_images.specs.Holding.{texts_of}
 use Rattle.rr_images.specs.Plans.{LaidChain, laid_as, laid_pages, AreLaid}
@@ -34,6 +35,14 @@ directory_length tables = 50 + sum_by (λ table. 29 + length table.name) tables
 -- how many pages all of these take at most
 abbrev pub needed_pages : List Table → ℕ
 needed_pages tables = table_pages tables + pages_for (directory_length tables)
+
+-- how many pages a checkpoint of these tables lays at most
+abbrev pub most_laid_pages : List Table → ℕ
+most_laid_pages tables = table_pages tables + most_pages_for (directory_length tables)
+
+-- the pages of a plan that don't stand in the file yet
+abbrev pub fresh_pages : Plan → List ℕ
+fresh_pages plan = map (λ fresh. fresh.page) plan.fresh.items
 
 -- The chains of these tables were laid one after another, from these sets on, and nothing else is to be written; and the
 -- entries name them.

@@ -1,14 +1,14 @@
 ghost use Rattle.std.specs.Prelude.{◌≡◌, ◌⊎◌, ℕ, ◌+◌, ◌^◌, ◌<◌, ◌≤◌, Bool, List, length, IfOk, IfErr, IsErrOf, OnErr};
-ghost use Rattle.rr_checkpoint.specs.Planning.{MayBegin};
+ghost use Rattle.rr_checkpoint.specs.Planning.{MayBegin, coming_root_of};
 ghost use Rattle.rr_checkpoint.specs.Writer.{Carries, free_of, place_of, taken_of, ticks_left_of};
 ghost use Rattle.rr_dir.specs.Directory.{spelling};
 ghost use Rattle.rr_dir.specs.declared.version.Version.TheVariants.{One};
 ghost use Rattle.rr_disk.specs.Disk.{DiskState};
 ghost use Rattle.rr_pages.specs.FreePages.{present_of, coming_of};
-ghost use Rattle.rr_pages.specs.Sets.{IsEmpty, TooFewFree, all_marked};
+ghost use Rattle.rr_pages.specs.Sets.{IsEmpty, TakesFree, TooFewFree, all_marked};
 ghost use Rattle.rr_reading.specs.Reading.{NoneReached};
 ghost use Rattle.rr_snapshot.specs.Kit.{text_pages};
-ghost use Rattle.rr_snapshot.specs.Laying.{needed_pages};
+ghost use Rattle.rr_snapshot.specs.Laying.{fresh_pages, most_laid_pages, needed_pages};
 ghost use Rattle.rr_snapshot.specs.Planning.{IsOfLayout, HoldsTexts};
 ghost use Rattle.rr_snapshot.specs.Snapshot.{tables_of};
 ghost use Rattle.rr_snapshot.specs.Writing.{OnlyTakes};
@@ -25,7 +25,8 @@ use rr_worlds::{Rules, Worlds};
 use std::alloc::Global;
 
 /// Makes the plan of a checkpoint: the coming root keeps the texts of the kit where they stand, and holds the tables of the
-/// snapshot. No checkpoint is under way, and pages that were taken for one are given back first.
+/// snapshot. Its fresh pages are those that the tables and their directory take, and no others. No checkpoint is under way,
+/// and pages that were taken for one are given back first.
 ///
 /// # Errors
 /// `FileFull` where fewer pages are free, beside those of the texts, than the tables and the directory take; else
@@ -44,6 +45,11 @@ pub fn plan_checkpoint<R: Rules>(
         → (carries : Carries (worlds R.takes) writer.old state world)
         → (of : IsOfLayout R.takes kit.now snapshot.now carries.layout)
         → (may : MayBegin (worlds R.takes) carries.layout (free_of writer.new) plan) × HoldsTexts of.texts may.holding) }
+    ensures root { IfOk result (λ plan. plan.root ≡ coming_root_of writer.old plan.root.directory plan.fresh.items) }
+    ensures few { IfOk result (λ plan. length plan.fresh.items ≤ most_laid_pages (tables_of snapshot.now)) }
+    ensures laid { IfOk result (λ plan. (none : List Bool) → NoneReached none
+        → TakesFree (present_of (free_of writer.old)) (all_marked none (text_pages kit.now)) (fresh_pages plan)
+        (coming_of (free_of writer.new))) }
     ensures full { IsErrOf result Fault.FileFull → (none : List Bool) → NoneReached none
         → TooFewFree (present_of (free_of writer.old)) (all_marked none (text_pages kit.now))
         (needed_pages (tables_of snapshot.now)) }
@@ -76,6 +82,11 @@ fn make_plan<R: Rules>(
         → (carries : Carries (worlds R.takes) writer.old state world)
         → (of : IsOfLayout R.takes kit.now snapshot.now carries.layout)
         → (may : MayBegin (worlds R.takes) carries.layout (free_of writer.new) plan) × HoldsTexts of.texts may.holding) }
+    ensures root { IfOk result (λ plan. plan.root ≡ coming_root_of writer.old plan.root.directory plan.fresh.items) }
+    ensures few { IfOk result (λ plan. length plan.fresh.items ≤ most_laid_pages (tables_of snapshot.now)) }
+    ensures laid { IfOk result (λ plan. TakesFree (present_of (free_of writer.old))
+        (all_marked (coming_of (free_of writer.old)) (text_pages kit.now)) (fresh_pages plan)
+        (coming_of (free_of writer.new))) }
     ensures full { IsErrOf result Fault.FileFull → TooFewFree (present_of (free_of writer.old))
         (all_marked (coming_of (free_of writer.old)) (text_pages kit.now)) (needed_pages (tables_of snapshot.now)) }
     ensures err { IfErr result (λ fault. (fault ≡ Fault.FileFull) ⊎ (fault ≡ Fault.OutOfMemory)) }

@@ -1,5 +1,5 @@
 -- What a step of a checkpoint, or a whole one, does to a store.
-use Rattle.std.specs.Prelude.{◌≡◌, ◌↔◌, ℕ, false, List, map, Result, Ok, Err, IfErr, IsErrOf, IsTrue}
+use Rattle.std.specs.Prelude.{◌≡◌, ◌↔◌, ℕ, ◌+◌, ◌<◌, ◌≤◌, false, List, map, Result, Ok, Err, IfErr, IsErrOf, IsTrue}
 use Rattle.rr_disk.specs.Disk.{DiskState}
 use Rattle.rr_disk.specs.Moments.{LeavesOnly}
 use Rattle.rr_kit.specs.Kits.{KitTexts}
@@ -55,3 +55,9 @@ pub record Steps {D T : Type 0} (Honest Works : D → Type 0) (state : D → Dis
   pub counts : CountsEnd (faults (disk_of old)) (faults (disk_of new)) result
   pub works : Works (disk_of new) → Works (disk_of old)
   pub device : OnDeviceFault result (Honest (disk_of new) → (texts : KitTexts) → Carries state old texts → Works (disk_of new) → ⊥)
+
+-- A whole checkpoint makes one such call at most for each tick that was left, or for each that one begun then has.
+pub record MakesFew {D : Type 0} (calls : D → ℕ) (old new : Store D) : Type 0 where
+  pub under_way : 0 < ticks_left old → calls (disk_of new) ≤ calls (disk_of old) + ticks_left old
+  pub begun : ticks_left old ≡ 0
+      → calls (disk_of new) ≤ calls (disk_of old) + log.ticks_due (file_of old) (map table_in_words (held_of old).tables)

@@ -35,7 +35,7 @@ pub struct Store<D: Drop> {
 impl<D: Disk + Drop> Store<D> {
     ghost use Rattle.rr_store.specs.Committing.{Commits};
     ghost use Rattle.rr_store.specs.Holding.{Carries, IsUnchanged, Rests, disk_of, held_of, last_of, root_of, ticks_left};
-    ghost use Rattle.rr_store.specs.Ticking.{Steps};
+    ghost use Rattle.rr_store.specs.Ticking.{MakesFew, Steps};
 
     /// The disk on which the file stands, with all that it went through.
     pub fn into_disk(self) -> D
@@ -192,6 +192,8 @@ impl<D: Disk + Drop> Store<D> {
         // Then each file that a stop may leave takes a root of a greater number.
         ensures renews { OnOk result (D.Honest (disk_of self.new) → (texts : KitTexts) → Carries D.state self.old texts
             → EachImage (D.state (disk_of self.new)) (TakesRootBehind table_files (root_of self.old) (in_words texts (held_of self.old).tables))) }
+        ensures writes { MakesFew D.write_count self.old self.new }
+        ensures syncs { MakesFew D.sync_count self.old self.new }
     {
         self.journal.file.checkpoint(&self.tables)?;
         Ok(())

@@ -1,4 +1,4 @@
-use Rattle.std.proofs.Common.{◌≡◌, List, length, map, Result, Err, refl, sym, ◌∙◌, ap}
+use Rattle.std.proofs.Common.{◌≡◌, Bool, List, length, map, Result, Err, refl, sym, ◌∙◌, ap, subst}
 use Rattle.std.proofs.lemmas.Result.{err_from_is_err_and}
 use Rattle.rr_checkpoint.specs.Writer.{free_of}
 use Rattle.rr_checkpoint.specs.declared.checkpoint.Plan.{Plan}
@@ -10,12 +10,13 @@ use Rattle.rr_pages.specs.declared.fault.Fault.{Fault}
 use Rattle.rr_pages.specs.declared.fault.Fault.TheVariants.{FileFull}
 use Rattle.rr_pages.specs.FreePages.{present_of, coming_of}
 use Rattle.rr_pages.specs.Laying.{pages_for}
-use Rattle.rr_pages.specs.Sets.{all_marked}
+use Rattle.rr_pages.specs.Sets.{TakesFree, all_marked}
 use Rattle.rr_snapshot.specs.declared.table.TableSnapshot.{TableSnapshot}
 use Rattle.rr_snapshot.specs.Kit.{kit_chains, text_pages}
+use Rattle.rr_snapshot.specs.Laying.{fresh_pages}
 use Rattle.rr_snapshot.specs.Snapshot.{table_of, tables_of}
-use Rattle.rr_snapshot.proofs.DirectoryLemmas.{entries_within, too_few_all}
-use Rattle.rr_snapshot.proofs.Frames.{onward}
+use Rattle.rr_snapshot.proofs.DirectoryLemmas.{entries_within, few_fresh, takes_fresh, too_few_all}
+use Rattle.rr_snapshot.proofs.Frames.{onward, same_root}
 use Rattle.rr_snapshot.proofs.LaidTables.{laid_same, too_few_same}
 use Rattle.rr_snapshot.proofs.PlanLemmas.{planned}
 use Rattle.rr_worlds.specs.Spelling.{worlds}
@@ -97,3 +98,43 @@ returns-clause-plan g c = λ state world carries of.
     (laid_same (present_of (free_of kept)) (present_of (free_of laid)) (coming_of (free_of kept)) start (coming_of (free_of laid)) c.lay_tables.new.fresh.items (map table_of c.deref.result.now) (tables_of snapshot) entries
     (sym c.lay_tables.ensures.only.present) c.keep_texts.ensures.coming (ap (λ (parts : List TableSnapshot). map table_of parts) c.deref.ensures.value) c.in_ok-entries.ensures.laid)
     bytes then.0.layout (free_of c.plan.new.self) c.in_ok-plan.plan then.1 (c.in_ok-plan.ensures.plan state world then.0)
+
+pub returns-clause-root : goal.returns-clause-root
+returns-clause-root g c =
+    let codec = worlds g.R.Rules.takes in
+    let plan = c.in_ok-plan.plan in
+    let writer = c.args.writer.now in
+    let kept = c.keep_texts.new.writer in
+    let laid = c.lay_tables.new.writer in
+    c.in_ok-plan.ensures.root ∙ same_root codec writer laid plan.root.directory plan.fresh.items (onward codec writer kept laid c.keep_texts.ensures.only c.lay_tables.ensures.only)
+
+pub returns-clause-few : goal.returns-clause-few
+returns-clause-few g c =
+    let kept = c.keep_texts.new.writer in
+    let laid = c.lay_tables.new.writer in
+    let kit = c.args.kit.now in
+    let snapshot = c.args.snapshot.now in
+    let entries = c.in_ok-entries.entries.items in
+    let plan = c.in_ok-plan.plan in
+    let bytes : c.deref-2.result.now ≡ spelling One (record { kit = kit_chains kit; tables = entries }) =
+    c.deref-2.ensures.value ∙ (c.in_ok-directory.ensures.bytes ∙ ap (λ (chains : KitChains). spelling One (record { kit = chains; tables = entries })) c.chains.ensures) in
+    few_fresh (present_of (free_of laid)) (coming_of (free_of kept)) (coming_of (free_of laid)) (coming_of (free_of c.plan.new.self)) c.lay_tables.new.fresh.items plan.fresh.items (tables_of snapshot) entries (kit_chains kit) c.deref-2.result.now plan.root.directory
+    (laid_same (present_of (free_of kept)) (present_of (free_of laid)) (coming_of (free_of kept)) (coming_of (free_of kept)) (coming_of (free_of laid)) c.lay_tables.new.fresh.items (map table_of c.deref.result.now) (tables_of snapshot) entries
+    (sym c.lay_tables.ensures.only.present) refl (ap (λ (parts : List TableSnapshot). map table_of parts) c.deref.ensures.value) c.in_ok-entries.ensures.laid)
+    bytes c.in_ok-plan.ensures.laid
+
+pub returns-clause-laid : goal.returns-clause-laid
+returns-clause-laid g c =
+    let writer = c.args.writer.now in
+    let kept = c.keep_texts.new.writer in
+    let laid = c.lay_tables.new.writer in
+    let entries = c.in_ok-entries.entries.items in
+    let tables = tables_of c.args.snapshot.now in
+    let plan = c.in_ok-plan.plan in
+    let start = all_marked (coming_of (free_of writer)) (text_pages c.args.kit.now) in
+    let present : present_of (free_of laid) ≡ present_of (free_of writer) = c.lay_tables.ensures.only.present ∙ c.keep_texts.ensures.only.present in
+    subst (λ (reached : List Bool). TakesFree reached start (fresh_pages plan) (coming_of (free_of c.plan.new.self))) present
+    (takes_fresh (present_of (free_of laid)) start (coming_of (free_of laid)) (coming_of (free_of c.plan.new.self)) c.lay_tables.new.fresh.items plan.fresh.items tables entries c.deref-2.result.now plan.root.directory
+    (laid_same (present_of (free_of kept)) (present_of (free_of laid)) (coming_of (free_of kept)) start (coming_of (free_of laid)) c.lay_tables.new.fresh.items (map table_of c.deref.result.now) tables entries
+    (sym c.lay_tables.ensures.only.present) c.keep_texts.ensures.coming (ap (λ (parts : List TableSnapshot). map table_of parts) c.deref.ensures.value) c.in_ok-entries.ensures.laid)
+    c.in_ok-plan.ensures.laid)

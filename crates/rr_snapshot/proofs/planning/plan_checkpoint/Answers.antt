@@ -1,14 +1,14 @@
-use Rattle.std.proofs.Common.{◌∙◌, ap, subst}
+use Rattle.std.proofs.Common.{◌∙◌, Bool, List, ap, subst}
 use Rattle.rr_checkpoint.specs.Planning.{MayBegin}
 use Rattle.rr_checkpoint.specs.Writer.{free_of}
 use Rattle.rr_images.specs.Layout.{Layout}
 use Rattle.rr_pages.specs.FreePages.{present_of, coming_of}
-use Rattle.rr_pages.specs.Sets.{all_marked}
+use Rattle.rr_pages.specs.Sets.{TakesFree, all_marked}
 use Rattle.rr_snapshot.specs.Kit.{text_pages}
-use Rattle.rr_snapshot.specs.Laying.{needed_pages}
+use Rattle.rr_snapshot.specs.Laying.{fresh_pages, needed_pages}
 use Rattle.rr_snapshot.specs.Planning.{IsOfLayout, HoldsTexts}
 use Rattle.rr_snapshot.specs.Snapshot.{tables_of}
-use Rattle.rr_snapshot.proofs.Frames.{onward}
+use Rattle.rr_snapshot.proofs.Frames.{onward, same_root}
 use Rattle.rr_snapshot.proofs.LaidTables.{too_few_same}
 use Rattle.rr_snapshot.proofs.PlanLemmas.{one_start}
 use Rattle.rr_worlds.specs.Spelling.{worlds}
@@ -53,3 +53,20 @@ returns-in-Err-clause-only g c =
     (record { resting = c.abandon.ensures.resting; taken = c.abandon.ensures.taken; place = c.abandon.ensures.place; present = c.abandon.ensures.present; carries = c.abandon.ensures.carries })
     (onward codec begun planned ended c.make_plan.ensures.only
     (record { resting = c.abandon-in-Err.ensures.resting; taken = c.abandon-in-Err.ensures.taken; place = c.abandon-in-Err.ensures.place; present = c.abandon-in-Err.ensures.present; carries = c.abandon-in-Err.ensures.carries }))
+
+pub returns-in-Ok-clause-root : goal.returns-in-Ok-clause-root
+returns-in-Ok-clause-root g c =
+    let plan = c.in-Ok.plan in
+    c.in-Ok.ensures.root
+    ∙ same_root (worlds g.R.Rules.takes) c.args.writer.now c.abandon.new.self plan.root.directory plan.fresh.items
+    (record { resting = c.abandon.ensures.resting; taken = c.abandon.ensures.taken; place = c.abandon.ensures.place; present = c.abandon.ensures.present; carries = c.abandon.ensures.carries })
+
+pub returns-in-Ok-clause-laid : goal.returns-in-Ok-clause-laid
+returns-in-Ok-clause-laid g c = λ none reached.
+    let writer = c.args.writer.now in
+    let begun = c.abandon.new.self in
+    let pages = text_pages c.args.kit.now in
+    let plan = c.in-Ok.plan in
+    let after = coming_of (free_of c.make_plan.new.writer) in
+    subst (λ (start : List Bool). TakesFree (present_of (free_of writer)) start (fresh_pages plan) after) (one_start (coming_of (free_of begun)) none pages c.abandon.ensures.coming begun.file.free.coming.whole reached)
+    (subst (λ (present : List Bool). TakesFree present (all_marked (coming_of (free_of begun)) pages) (fresh_pages plan) after) c.abandon.ensures.present c.in-Ok.ensures.laid)

@@ -1,7 +1,7 @@
 use Rattle.std.proofs.Common.{◌∙◌, ◌+◌, length, None, sym}
 use Rattle.rr_disk.proofs.MomentLemmas.{started, weaker}
 use Rattle.rr_images.specs.Layout.{Keeps}
-use Rattle.rr_checkpoint.proofs.Records.{isnt_begun, found_carries, begin_stops, begin_carries}
+use Rattle.rr_checkpoint.proofs.Records.{isnt_begun, none_there, found_carries, begin_stops, begin_carries}
 use Rattle.rr_checkpoint.proofs.Working.{on_err, is_long, no_short_half}
 use Rattle.rr_checkpoint.proofs.open_file.OpenFile.begin.Goals as goal
 
@@ -49,3 +49,9 @@ returns-in_err-shut-clause-device g c =
     let before = c.in_err-shut.ensures.honest honest in
     let enough = is_long g.C.Codec.codec c.args.self.now None (g.D.Disk.state disk) world (g.met.D.Disk.content_may_stay disk before) carries (g.D.Disk.file_len disk) (g.met.D.Disk.length_is_told disk before) in
     no_short_half (g.D.Disk.file_len disk) c.next_gate.result enough c.next_gate.ensures.small (c.in_err-shut.ensures.refused works))
+
+pub returns-in_err-shut-clause-no_call : goal.returns-in_err-shut-clause-no_call
+returns-in_err-shut-clause-no_call g c = λ some. absurd (some (none_there c.args.self.now.place.begun (sym c.is_some.ensures ∙ c.if-is_some.false)))
+
+pub returns-clause-no_call : goal.returns-clause-no_call
+returns-clause-no_call g c = λ some. absurd (some (none_there c.args.self.now.place.begun (sym c.is_some.ensures ∙ c.if-is_some.false)))

@@ -4,7 +4,7 @@ use Rattle.rr_images.specs.Layout.{Keeps}
 use Rattle.rr_checkpoint.specs.declared.writer.Tick.{Tick}
 use Rattle.rr_checkpoint.specs.Holds.{HoldsAt, RestsAt}
 use Rattle.rr_checkpoint.specs.Writer.{RenewsAt, StaysTakenAt}
-use Rattle.rr_checkpoint.proofs.Writers.{carries_same, holds_told, renews_told, rests_told, taken_told}
+use Rattle.rr_checkpoint.proofs.Writers.{carries_same, holds_told, never_none, renews_told, rests_told, taken_told}
 use Rattle.rr_checkpoint.proofs.Working.{on_err}
 use Rattle.rr_checkpoint.proofs.writer.Writer.tick.Goals as goal
 
@@ -69,3 +69,21 @@ returns-in_err-self-in-Some-clause-device g c =
     let under_way = sym c.take.ensures.value ∙ c.in-Some.is in
     c.in_err-self-in-Some.ensures.device honest world
     (carries_same g.C.Codec.codec writer.file (g.D.Disk.state c.args.disk.now) world writer.checkpoint (Some c.in-Some.checkpoint) under_way carries))
+
+pub returns-in-None-clause-same : goal.returns-in-None-clause-same
+returns-in-None-clause-same g c = λ none.
+    let writer = c.args.self.now in
+    let resting = (sym c.take.ensures.value ∙ c.in-None.is) ∙ sym c.take.ensures.after in
+    λ i. record { file = writer.file; checkpoint = sym resting i }
+
+pub returns-in_ok-self-in-Some-clause-same : goal.returns-in_ok-self-in-Some-clause-same
+returns-in_ok-self-in-Some-clause-same g c = λ none. absurd (never_none c.args.self.now.checkpoint c.in-Some.checkpoint (sym c.take.ensures.value ∙ c.in-Some.is) none)
+
+pub returns-in_err-self-in-Some-clause-same : goal.returns-in_err-self-in-Some-clause-same
+returns-in_err-self-in-Some-clause-same g c = λ none. absurd (never_none c.args.self.now.checkpoint c.in-Some.checkpoint (sym c.take.ensures.value ∙ c.in-Some.is) none)
+
+pub returns-in_ok-self-in-Some-clause-no_call : goal.returns-in_ok-self-in-Some-clause-no_call
+returns-in_ok-self-in-Some-clause-no_call g c = λ none. absurd (never_none c.args.self.now.checkpoint c.in-Some.checkpoint (sym c.take.ensures.value ∙ c.in-Some.is) none)
+
+pub returns-in_err-self-in-Some-clause-no_call : goal.returns-in_err-self-in-Some-clause-no_call
+returns-in_err-self-in-Some-clause-no_call g c = λ none. absurd (never_none c.args.self.now.checkpoint c.in-Some.checkpoint (sym c.take.ensures.value ∙ c.in-Some.is) none)
