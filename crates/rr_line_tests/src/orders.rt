@@ -1,5 +1,6 @@
 //! What is ordered in a corporation's turn.
 use rr_orders::Order;
+use rr_orders::laws::one_spelling;
 use rr_roster::Corp;
 use std::alloc::Global;
 use std::process::Abort;
@@ -121,4 +122,9 @@ fn tells_whose_order_it_is(rt: HostRuntime) {
     ] {
         assert!(rt; is_order_of(text, corp));
     }
+}
+
+#[test]
+fn laws_are_called(_rt: HostRuntime) {
+    one_spelling();
 }

@@ -151,4 +151,5 @@ fn faults_have_numbers(rt: HostRuntime) {
     assert!(rt; Fault::OutOfMemory.number() == 70);
     laws::one_meaning();
     laws::accepted_is_spelled();
+    laws::read_is_spelled();
 }

@@ -2,6 +2,7 @@
 use crate::small::{links, net_of};
 use rr_checker::CentreLimit;
 use rr_trips::has_route;
+use rr_trips::laws::two_centres_are_enough;
 use std::alloc::Global;
 use std::process::Abort;
 
@@ -42,4 +43,9 @@ fn no_route_is_seen_where_a_hexside_is_used_twice(rt: HostRuntime) {
     assert!(rt; !has(&rt, alloc, "00c0 01c0 10s1", 0, two));
     // back into the same hex
     assert!(rt; !has(&rt, alloc, "00c0 00s1 11c1", 0, two));
+}
+
+#[test]
+fn laws_are_called(_rt: HostRuntime) {
+    two_centres_are_enough();
 }

@@ -23,7 +23,8 @@ use std::alloc::Global;
 /// # Errors
 /// `NotEmpty` first; then the first text that is refused, in the order chart, roster, tiles, board: a chart at its
 /// first wrong word, a roster that isn't right, a manifest or a board at its first wrong line, and any text of more
-/// than 65,536 bytes at line 0; then `DeviceFailed`. `OutOfMemory` may come at any text.
+/// than 65,536 bytes at line 0; then `DeviceFailed`. `OutOfMemory` may come at any text that is no longer and is ASCII, or
+/// UTF-8 as a roster's, and behind them.
 pub fn format<D: Disk>(alloc: Global, disk: &mut D, texts: Texts<'_>) -> Result<(), Fault>
     // Where it is done, the file keeps these texts and no table, whatever a stop leaves; and before, whatever it left.
     ensures allowed { D.Honest disk.new
