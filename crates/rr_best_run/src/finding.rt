@@ -30,7 +30,8 @@ const NODES: usize = 1024;
 const MOST_LINKS: usize = 9_999_999_999;
 
 /// Searches for the run of the corporation that earns most on the board as it lies, and gives it in the words of the
-/// command that runs it, in at most so many bytes. A corporation without trains has a sheet without words, which earns 0.
+/// command that runs it, in at most `most` bytes. A corporation without trains has a sheet without words, which
+/// earns 0.
 ///
 /// # Errors
 ///
@@ -55,7 +56,7 @@ pub fn best_run(
     Ok(run)
 }
 
-// the best run over the net, in at most so many bytes
+// The best run over the net, in at most so many bytes.
 fn best_over(alloc: Global, net: &Net, corp: Corp, most: usize) -> Result<BestRun, Fault>
     requires values { (centre : ℕ) → value net.now centre ≤ 990 }
     requires centres { length net.now.values ≤ 65536 }
@@ -73,7 +74,7 @@ fn best_over(alloc: Global, net: &Net, corp: Corp, most: usize) -> Result<BestRu
     Ok(run)
 }
 
-// the run of the sheet, in words
+// The run of the sheet, in words.
 fn worded(
     alloc: Global,
     net: &Net,
@@ -94,7 +95,7 @@ fn worded(
     Ok(BestRun::new(words, sheet, certificate, revenue))
 }
 
-// what a legal sheet earns
+// What a legal sheet earns.
 fn revenue_of(alloc: Global, net: &Net, sheet: &Sheet) -> Result<Money, Fault>
     requires values { (centre : ℕ) → value net.now centre ≤ 990 }
     requires centres { length net.now.values ≤ 65536 }

@@ -14,7 +14,7 @@ use rr_search::Fault;
 use rr_sheets::{Sheet, write_certificate};
 use std::alloc::{AllocError, Global};
 
-// the words of the sheet
+// The words of the sheet.
 pub(crate) fn sheet_text(alloc: Global, sheet: &Sheet) -> Result<Vec<u8>, Fault>
     ensures text { IfOk result (λ text. text.items ≡ text_of sheet.now) }
     ensures memory { IsOkUnless result OutOfMemory }
@@ -25,7 +25,7 @@ pub(crate) fn sheet_text(alloc: Global, sheet: &Sheet) -> Result<Vec<u8>, Fault>
     }
 }
 
-// the words of the certificate
+// The words of the certificate.
 pub(crate) fn certificate_text(alloc: Global, tree: &CertTree) -> Result<Vec<u8>, Fault>
     ensures text { IfOk result (λ text. text.items ≡ certificate_text tree.now) }
     ensures memory { IsOkUnless result OutOfMemory }
@@ -36,7 +36,7 @@ pub(crate) fn certificate_text(alloc: Global, tree: &CertTree) -> Result<Vec<u8>
     }
 }
 
-// the words of the command that runs by these words of a sheet and of a certificate
+// The words of the command that runs by these words of a sheet and of a certificate.
 pub(crate) fn command_text(
     alloc: Global,
     corp: Corp,
@@ -71,7 +71,7 @@ fn write_run(corp: Corp, sheet: &[u8], out: &mut Vec<u8>) -> Result<(), AllocErr
     write_part(sheet, out)
 }
 
-// appends a space and the words, if there are any
+// Appends a space and the words, if there are any.
 fn write_part(part: &[u8], out: &mut Vec<u8>) -> Result<(), AllocError>
     ensures { OnOk result (out.new.items ≡ out.old.items ++ added part.now) }
 {

@@ -56,7 +56,7 @@ impl Bidding {
         }
     }
 
-    /// The next entry of the book, by the books before it.
+    /// Follows the next entry of the book, by the books before it.
     pub fn follow(&mut self, entry: &Entry, books: &Books)
         requires commands { self.old.commands < 400000000 }
         requires small { amount_bid entry.now ≤ 10000000000 }

@@ -37,7 +37,7 @@ impl Draft {
     ghost use Rattle.rr_board.specs.Lines.{add_hex, add_home, add_block, add_line, block_of, home_of, with_hex};
     ghost use Rattle.rr_board.specs.Reading.{SpellsRows, IsRowsFault};
 
-    // what the rows of a text name, or the first wrong one
+    // What the rows of a text name, or the first wrong one.
     pub(crate) fn read_rows(alloc: Global, rows: &[Row]) -> Result<Draft, Fault>
         ensures { MatchResult result
             (λ draft. SpellsRows (map row_of rows.now) draft)
@@ -62,7 +62,7 @@ impl Draft {
         }
     }
 
-    // adds what a line says; `false` of a line that says nothing or what the board may not have
+    // Adds what a line says; `false` of a line that says nothing or what the board may not have.
     fn take(&mut self, alloc: Global, words: &[&[u8]]) -> Result<bool, AllocError>
         ensures { IfOk result (λ taken. (if taken then Some self.new else None) ≡ add_line self.old (map (λ word. word.now) words.now)) }
     {

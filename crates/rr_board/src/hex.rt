@@ -55,7 +55,7 @@ pub struct Block {
     pub hex: HexName,
 }
 
-// the hex of a name, if there is one
+// The hex of a name, if there is one.
 pub(crate) fn hex_named<'a>(hexes: &'a [Hex], name: &[u8]) -> Option<&'a Hex>
     ensures { option_map (λ hex. hex.now) result ≡ hex_named hexes.now name.now }
 {

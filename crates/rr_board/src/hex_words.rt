@@ -51,7 +51,7 @@ fn place_of(word: &[u8]) -> Option<Place>
     Some(Place { q, r })
 }
 
-// what stands before and behind the first of these characters
+// What stands before and behind the first of these characters.
 fn cut(word: &[u8], mark: u8) -> Option<(&[u8], &[u8])>
     ensures { option_map (λ parts. (parts.0.now, parts.1.now)) result ≡ cut_of mark word.now }
 {
@@ -108,7 +108,7 @@ fn colour_of(word: &[u8]) -> Option<Colour>
     None
 }
 
-// the cost, which is 0 where no word names it, and the words of the tile
+// The cost, which is 0 where no word names it, and the words of the tile.
 fn cost_and_tile<'a, 'b>(rest: &'a [&'b [u8]]) -> Option<(u16, &'a [&'b [u8]])>
     ensures { option_map (λ read. (read.0, map (λ word. word.now) read.1.now)) result ≡ cost_and_tile (map (λ word. word.now) rest.now) }
 {

@@ -33,6 +33,10 @@ impl Names {
     }
 
     /// Seats one player more.
+    ///
+    /// # Errors
+    ///
+    /// `OutOfMemory` alone; the names are as before then.
     pub fn push(&mut self, name: Name) -> Result<(), Fault>
         ensures ok { OnOk result (self.new ≡ self.old ++ name ∷ []) }
         ensures err { IfErr result (λ fault. (fault ≡ OutOfMemory) × (self.new ≡ self.old)) }
@@ -49,6 +53,10 @@ impl Names {
     }
 
     /// The same names once more.
+    ///
+    /// # Errors
+    ///
+    /// `OutOfMemory` alone.
     pub fn copy(&self) -> Result<Names, Fault>
         ensures ok { IfOk result (λ names. names ≡ self.now) }
         ensures err { IfErr result (λ fault. fault ≡ OutOfMemory) }
@@ -82,6 +90,10 @@ impl Words {
     }
 
     /// Keeps a copy of the words.
+    ///
+    /// # Errors
+    ///
+    /// `OutOfMemory` alone.
     pub fn of(alloc: Global, bytes: &[u8]) -> Result<Words, Fault>
         ensures ok { IfOk result (λ words. words ≡ bytes.now) }
         ensures err { IfErr result (λ fault. fault ≡ OutOfMemory) }
@@ -99,6 +111,10 @@ impl Words {
     }
 
     /// The same words once more.
+    ///
+    /// # Errors
+    ///
+    /// `OutOfMemory` alone.
     pub fn copy(&self) -> Result<Words, Fault>
         ensures ok { IfOk result (λ words. words ≡ self.now) }
         ensures err { IfErr result (λ fault. fault ≡ OutOfMemory) }
@@ -110,14 +126,18 @@ impl Words {
 /// Where a share is bought.
 #[derive(Clone, Copy, Debug, PartialEq, Eq)]
 pub enum ShareSource {
+    /// The initial offering, at par.
     Offer,
+    /// The bank's pool, at the market's price.
     Pool,
 }
 
 /// Where a train is bought, if not from a corporation.
 #[derive(Clone, Copy, Debug, PartialEq, Eq)]
 pub enum TrainSource {
+    /// The bank, at the price of its kind.
     Bank,
+    /// The bank's pool, at the same price.
     Pool,
 }
 
@@ -258,6 +278,10 @@ pub enum Act {
 
 impl Act {
     /// The same command once more.
+    ///
+    /// # Errors
+    ///
+    /// `OutOfMemory` alone.
     pub fn copy(&self) -> Result<Act, Fault>
         ensures ok { IfOk result (λ act. act ≡ self.now) }
         ensures err { IfErr result (λ fault. fault ≡ OutOfMemory) }

@@ -308,8 +308,8 @@ impl Books {
         Ok(())
     }
 
-    /// The next entry of the book, whatever it says: who pays may have less than the amount, and a seat that is paid is
-    /// at the table from then on.
+    /// Follows the next entry of the book, whatever it says: who pays may have less than the amount, and a seat that is
+    /// paid is at the table from then on.
     pub fn follow(&mut self, entry: &Entry)
         requires fits { Fits self.old entry.now }
         requires room { self.old.payments < 400000000 }

@@ -7,9 +7,13 @@ use rr_words::small_number;
 /// the cell at which its price stands.
 #[derive(Clone, Copy, Debug, PartialEq, Eq)]
 pub enum Zone {
+    /// All limits hold.
     White,
+    /// Shares don't count against the certificate limit.
     Yellow,
+    /// As yellow, and a player may hold more than 60%.
     Orange,
+    /// As orange, and a turn may hold several purchases from the pool.
     Brown,
 }
 
@@ -40,7 +44,7 @@ pub struct ParCell {
     pub place: Place,
 }
 
-// `Some(None)` of the word for a place without a cell, `None` of a word that spells nothing
+// `Some(None)` of the word for a place without a cell, `None` of a word that spells nothing.
 pub(crate) fn cell_of(word: &[u8]) -> Option<Option<Cell>>
     ensures { result ≡ cell_of word.now }
 {

@@ -95,7 +95,7 @@ fn read_row(
     Ok(CellRow { cells })
 }
 
-// the cell that a word spells, if it may stand at the place
+// The cell that a word spells, if it may stand at the place.
 fn next_cell(place: Place, word: &[u8], pars: &[ParCell]) -> Option<Option<Cell>>
     ensures { result ≡ next_cell place word.now pars.now }
 {

@@ -14,7 +14,7 @@ use crate::trips::centres_of;
 use rr_routes::{CentreLimit, Fate};
 use std::alloc::{AllocError, Global};
 
-// whether every link is decided and the run over the links, if there is one, earns at most the claim
+// Whether every link is decided and the run over the links, if there is one, earns at most the claim.
 pub(crate) fn is_full(
     alloc: Global,
     net: &Net,
@@ -50,7 +50,7 @@ fn is_undecided(fate: &Fate) -> bool
     }
 }
 
-// whether a link is of a train beyond so many
+// Whether a link is of a train beyond so many.
 fn has_stray(fates: &[Fate], count: usize) -> bool
     ensures { result ≡ list_any (is_stray count) fates.now }
 {
@@ -66,7 +66,7 @@ fn is_stray(count: usize, fate: &Fate) -> bool
     }
 }
 
-// the centres that each train counts in a run over just the links that are its own; none where there is no such run
+// The centres that each train counts in a run over just the links that are its own; none where there is no such run.
 fn run_over(alloc: Global, net: &Net, fates: &[Fate]) -> Result<Option<Vec<Counted>>, AllocError>
     ensures { IfOk result (λ found. MatchOption found (NoRunKeeps net.now fates.now) (λ all. AreCounted net.now fates.now (length net.now.trains) all.items)) }
 {
@@ -80,7 +80,7 @@ fn run_over(alloc: Global, net: &Net, fates: &[Fate]) -> Result<Option<Vec<Count
     Ok(Some(all))
 }
 
-// the centres that the train counts on a trip over just the links that are its own
+// The centres that the train counts on a trip over just the links that are its own.
 fn counted_by(
     alloc: Global,
     net: &Net,

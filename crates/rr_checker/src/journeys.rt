@@ -35,7 +35,7 @@ pub fn journey_over(
     Ok(None)
 }
 
-// such a trip that begins with the link
+// Such a trip that begins with the link.
 fn from_link(
     alloc: Global,
     net: &Net,
@@ -52,7 +52,7 @@ fn from_link(
     }
 }
 
-// such a trip that begins at the centre
+// Such a trip that begins at the centre.
 fn from_centre(
     alloc: Global,
     net: &Net,

@@ -78,7 +78,7 @@ fn is_open(fates: &[Fate], link: usize) -> bool
     }
 }
 
-// the cases of a split: denied to all, then of each train in turn
+// The cases of a split: denied to all, then of each train in turn.
 fn choice_at(place: usize) -> Fate
     ensures { result ≡ choice_at place }
 {

@@ -15,7 +15,7 @@ use crate::step::{Step, same_node};
 use rr_routes::{CentreLimit, Fate, Link, Node};
 use std::alloc::{AllocError, Global};
 
-// whether the train can't run over all the links that are its own
+// Whether the train can't run over all the links that are its own.
 pub(crate) fn is_bad(
     alloc: Global,
     net: &Net,
@@ -93,7 +93,7 @@ fn is_others(train: usize, fate: &Fate) -> bool
     }
 }
 
-// the centres that the links touch
+// The centres that the links touch.
 fn touched_centres(alloc: Global, net: &Net, own: &[usize]) -> Result<Vec<usize>, AllocError>
     ensures { IfOk result (λ touched. IsRankingOf net.now (IsTouched net.now own.now) touched.items) }
 {
@@ -131,7 +131,7 @@ pub(crate) fn is_over(limit: &CentreLimit, count: usize) -> bool
     }
 }
 
-// whether three of the links meet at a node
+// Whether three of the links meet at a node.
 fn is_crowded(net: &Net, own: &[usize]) -> bool
     ensures { result ≡ is_crowded net.now own.now }
 {
@@ -193,7 +193,7 @@ fn link_touches(node: &Node, link: &Link) -> bool
     same_node(node, &Node::Hexside(link.side)) || same_node(node, &link.other)
 }
 
-// whether no step goes over one of the links
+// Whether no step goes over one of the links.
 fn is_unreached(ends: &[Step], own: &[usize]) -> bool
     ensures { result ≡ is_unreached ends.now own.now }
 {

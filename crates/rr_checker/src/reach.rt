@@ -11,7 +11,7 @@ use rr_reach::{Followers, marked_items, reached};
 use rr_routes::Fate;
 use std::alloc::{AllocError, Global};
 
-// the steps with which walks of the train end
+// The steps with which walks of the train end.
 pub(crate) fn ends_of(
     alloc: Global,
     net: &Net,
@@ -28,7 +28,7 @@ pub(crate) fn ends_of(
     Ok(ends)
 }
 
-// the places of the steps by which a walk may begin
+// The places of the steps by which a walk may begin.
 fn starts_of(alloc: Global, net: &Net, steps: &[Step]) -> Result<Vec<usize>, AllocError>
     ensures { IfOk result (λ starts. ArePlaces (λ step. has_token net.now step.from) steps.now (length steps.now) starts.items) }
 {
@@ -42,7 +42,7 @@ fn starts_of(alloc: Global, net: &Net, steps: &[Step]) -> Result<Vec<usize>, All
     Ok(starts)
 }
 
-// for each step the places of those by which a walk that ends with it may go on
+// For each step the places of those by which a walk that ends with it may go on.
 fn graph_of(alloc: Global, net: &Net, steps: &[Step]) -> Result<Vec<Followers>, AllocError>
     ensures { IfOk result (λ graph. IsGraphOf (goes_on net.now) steps.now (length steps.now) graph.items) }
 {

@@ -18,7 +18,7 @@ pub struct Step {
     pub to: Node,
 }
 
-// both steps over each link that the train may use
+// Both steps over each link that the train may use.
 pub(crate) fn steps_of(
     alloc: Global,
     net: &Net,
@@ -79,7 +79,7 @@ fn backward(place: usize, link: &Link) -> Step
     }
 }
 
-// whether a walk may go on by the second step from the first, if its node isn't terminal
+// Whether a walk may go on by the second step from the first, if its node isn't terminal.
 pub(crate) fn may_follow(step: &Step, next: &Step) -> bool
     ensures { result ≡ may_follow step.now next.now }
 {
@@ -119,7 +119,7 @@ pub(crate) fn has_token(net: &Net, node: &Node) -> bool
     }
 }
 
-// whether no walk goes on from the node
+// Whether no walk goes on from the node.
 pub(crate) fn is_terminal(net: &Net, node: &Node) -> bool
     ensures { result ≡ is_terminal net.now node.now }
 {

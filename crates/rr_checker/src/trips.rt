@@ -48,7 +48,7 @@ pub(crate) fn follow(
     Ok(Journey { links, nodes })
 }
 
-// the first of the links that touches the node and wasn't taken
+// The first of the links that touches the node and wasn't taken.
 fn next_link(net: &Net, own: &[usize], taken: &[usize], at: &Node) -> Option<usize>
     ensures { MatchOption result ((link : ℕ) → Contains own.now link → Touches net.now link at.now → Contains taken.now link)
         (λ link. Contains own.now link × (Touches net.now link at.now × (Contains taken.now link → ⊥))) }
@@ -87,7 +87,7 @@ fn far(at: &Node, link: &Link) -> Node
     Node::Hexside(link.side)
 }
 
-// whether the links and nodes are a route of a train of the limit
+// Whether the links and nodes are a route of a train of the limit.
 pub(crate) fn is_route(
     alloc: Global,
     net: &Net,
@@ -134,7 +134,7 @@ fn push_centre(counted: &mut Vec<usize>, node: &Node) -> Result<(), AllocError>
     }
 }
 
-// whether it is a path between centres, with a token on it and no terminal node inside
+// Whether it is a path between centres, with a token on it and no terminal node inside.
 fn is_way(net: &Net, links: &[usize], nodes: &[Node]) -> bool
     ensures { Decides result (IsWay net.now links.now nodes.now) }
 {
@@ -215,7 +215,7 @@ fn are_nodes(from: &Node, to: &Node, first: &Node, second: &Node) -> bool
     same_node(from, first) && same_node(to, second)
 }
 
-// whether a walk may go on from the one link over the node into the other
+// Whether a walk may go on from the one link over the node into the other.
 fn passes_on(net: &Net, one: usize, node: &Node, other: usize) -> bool
     ensures { result ≡ passes_on net.now one node.now other }
 {

@@ -204,8 +204,10 @@ impl<C: Codec> Writer<C> {
     }
 
     /// The plan of a checkpoint: behind chains that were laid or are kept comes the directory that names them, of version
-    /// 1. Its fresh pages are those from before and the directory's, and its root is the coming one. Errors are those of
-    /// `lay`.
+    /// 1. Its fresh pages are those from before and the directory's, and its root is the coming one.
+    ///
+    /// # Errors
+    /// Those of `lay`.
     pub fn plan(
         &mut self,
         alloc: Global,
@@ -257,6 +259,9 @@ impl<C: Codec> Writer<C> {
     /// Makes the first tick of a checkpoint, after which records go to the other half. It and the ticks behind it take no
     /// memory; a checkpoint of p fresh pages has p + 4 ticks, this one included. Where an opening found the checkpoint begun,
     /// this one makes no device call.
+    ///
+    /// # Errors
+    /// `DeviceFailed` where a device call failed; no checkpoint is under way then.
     pub fn begin<D: Disk>(&mut self, disk: &mut D, plan: Plan) -> Result<(), Fault>
         requires { ticks_left_of self.old ≡ 0 }
 
@@ -293,6 +298,9 @@ impl<C: Codec> Writer<C> {
 
     /// Makes the next step of the checkpoint under way: one fresh page, or the stale root's gate shut, or the coming root
     /// without its gate, or its gate. Without one under way nothing changes, and no device call is made.
+    ///
+    /// # Errors
+    /// `DeviceFailed` where a device call failed; no checkpoint is under way then.
     pub fn tick<D: Disk>(&mut self, disk: &mut D) -> Result<Tick, Fault>
         ensures carries { IfOk result (λ tick. D.Honest disk.new → (world : C.codec.World)
             → (carries : Carries C.codec self.old (D.state disk.old) world)
@@ -338,6 +346,9 @@ impl<C: Codec> Writer<C> {
     }
 
     /// Makes all ticks that are left. Where one was, each file that a stop may leave then takes a newer root.
+    ///
+    /// # Errors
+    /// That of the first tick that fails, which is the last one made.
     pub fn finish<D: Disk>(&mut self, disk: &mut D) -> Result<(), Fault>
         ensures carries { OnOk result (D.Honest disk.new → (world : C.codec.World)
             → (carries : Carries C.codec self.old (D.state disk.old) world)

@@ -13,9 +13,9 @@ use rr_scan::{Words, write_word};
 use rr_words::Name;
 use std::alloc::AllocError;
 
-/// What a table is played with. A number that a command's words spell has one to ten
-/// digits, so it is below 10^10, and the first of several digits is not 0. The words of a
-/// sheet and of a certificate are lent from the line.
+/// A command of the game: what players or corporations do at a table. A number that a command's words spell has one to
+/// ten digits, so it is below 10^10, and the first of several digits is not 0. The words of a sheet and of a
+/// certificate are lent from the line.
 #[derive(Debug, Drop, PartialEq, Eq)]
 pub enum Command<'a> {
     /// The table is opened with these players.

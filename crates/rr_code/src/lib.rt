@@ -1,7 +1,7 @@
-//! The lines that a keeper of tables reads: one spelling for each request and each query.
+//! The lines that the moderator reads: one spelling for each request and each query.
 //!
-//! Stands on `rr_words`, `rr_roster`, `rr_turns`, `rr_scan` and `rr_orders`. Its promise: `Line::read` and `read_record` read exactly what is
-//! spelled, one text a line (`laws::one_spelling`).
+//! Stands on `rr_words`, `rr_roster`, `rr_turns`, `rr_scan` and `rr_orders`. Its promise: `Line::read` and
+//! `read_record` read exactly what is spelled, one text a line (`laws::one_spelling`).
 #![tactic(auto)]
 
 mod auction;

@@ -10,11 +10,11 @@ use rr_words::Name;
 pub enum Query {
     /// The names of all tables.
     Tables,
-    /// The stamp of a table's last command.
+    /// How many requests a table has accepted: the stamp that the next one has to have.
     Stamp {
         table: Name,
     },
-    /// How many turns of a table have ended, and the turn to which it can go back at most.
+    /// How many turns of a table have ended, and the least turn to which it can be taken back.
     Turns {
         table: Name,
     },

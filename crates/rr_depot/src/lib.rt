@@ -1,6 +1,8 @@
 //! What a corporation buys in its turn besides tiles and tokens: trains of the bank, the pool and other corporations, a D
-//! for a train handed in, privates; and the trains that it gives up over its limit. It stands on the trains and the
-//! desk. `judge` gives the exact verdict over the table's book, `play` adds the exact entries.
+//! for a train handed in, privates; and the trains that it gives up over its limit.
+//!
+//! Stands on `rr_trains` and `rr_desk`. Its promise: `judge` gives the exact verdict over the table's book, `play` adds
+//! the exact entries.
 #![tactic(auto)]
 
 mod fault;

@@ -1,5 +1,5 @@
 //! The desk on which one command of a table is worked out: a working copy of the position, and the entries so far. With
-//! it the lowest share of a place, what the privates pay their owners, and who sits on whose left.
+//! it the lowest share of a place, and what the privates pay their owners.
 //!
 //! Stands on `rr_position`. Its promise: `push` adds the entry and nothing else; `Takes` says what was done to every
 //! book.

@@ -44,7 +44,7 @@ pub struct TableEntry {
     pub name: Name,
     /// The table's stamp, at most 4,000,000,000.
     pub stamp: u64,
-    /// The turn to which the table can be taken back at most.
+    /// The least turn to which the table can be taken back.
     pub floor: u32,
     /// How many commands the table keeps, 1 to 4,096.
     pub kept: u32,

@@ -6,7 +6,7 @@ ghost use Rattle.rr_disk.specs.Disk.{written};
 // A file's length and offsets are signed numbers of 64 bits to the system.
 const GREATEST_END: u64 = 1 << 63;
 
-/// Where a call of so many bytes ends, if that is a place in a file.
+/// Where a call of `len` bytes ends, if that is a place in a file.
 pub fn end_of(at: u64, len: usize) -> Option<u64>
     ensures { SomeIff result (at + len ≤ 2 ^ 63) (at + len) }
 {
@@ -30,7 +30,7 @@ pub fn put(file: &mut [u8], at: usize, bytes: &[u8])
     copy_over(&mut file[at..at + bytes.len()], bytes);
 }
 
-/// Makes a file at least so long, by zeros.
+/// Makes a file at least `end` bytes long, by zeros.
 pub fn grow(file: &mut Vec<u8>, end: usize)
     requires { end ≤ vec_capacity file.old }
     ensures bytes { file.new.items ≡ file.old.items ++ replicate (end - length file.old.items) 0 }

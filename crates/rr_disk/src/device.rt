@@ -6,6 +6,10 @@ ghost use Rattle.rr_disk.specs.Moments.{LeavesOnly, TornFrom};
 use crate::{Disk, Fault};
 
 /// One write. It waits for a later sync: until then a stop may leave any bytes in its range.
+///
+/// # Errors
+/// `DeviceFailed` where the write fails, of which a part may have gone out. A disk that works refuses none but one that
+/// ends past byte 2^63.
 pub fn write<D: Disk>(disk: &mut D, at: u64, bytes: &[u8]) -> Result<(), Fault>
     ensures honest { D.Honest disk.new → D.Honest disk.old }
     ensures done { OnOk result (D.Honest disk.new
@@ -28,6 +32,10 @@ pub fn write<D: Disk>(disk: &mut D, at: u64, bytes: &[u8]) -> Result<(), Fault>
 }
 
 /// One write, and the sync that makes it durable.
+///
+/// # Errors
+/// `DeviceFailed` where one of the two fails; the bytes, or a part of them, may have gone out then. A disk that works
+/// refuses none but a write that ends past byte 2^63.
 pub fn put<D: Disk>(disk: &mut D, at: u64, bytes: &[u8]) -> Result<(), Fault>
     ensures honest { D.Honest disk.new → D.Honest disk.old }
     ensures done { OnOk result (D.Honest disk.new

@@ -21,7 +21,7 @@ pub struct FaultyDisk<D: Disk + Drop> {
 impl<D: Disk + Drop> FaultyDisk<D> {
     ghost use Rattle.rr_disk.specs.Faulty.{beneath, plan_of, is_struck, faults_of, writes_of, syncs_of};
 
-    /// So many device calls go through; the next and all later ones fail without reaching the disk.
+    /// `calls` device calls go through; the next and all later ones fail without reaching the disk.
     pub fn after(disk: D, calls: u64) -> FaultyDisk<D>
         ensures beneath { beneath result ≡ disk }
         ensures plan { plan_of result ≡ Plan.After calls }
@@ -40,7 +40,7 @@ impl<D: Disk + Drop> FaultyDisk<D> {
         }
     }
 
-    /// So many device calls go through and the next one alone fails, if it is a write after so many of its bytes went
+    /// `calls` device calls go through and the next one alone fails, if it is a write after `bytes` of its bytes went
     /// out. A read or a sync fails without reaching the disk.
     pub fn once(disk: D, calls: u64, bytes: usize) -> FaultyDisk<D>
         ensures beneath { beneath result ≡ disk }

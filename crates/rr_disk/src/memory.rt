@@ -41,6 +41,9 @@ impl MemoryDisk {
     ghost use Rattle.rr_disk.specs.Memory.{memory_state, room_of, IsFresh};
 
     /// An empty disk.
+    ///
+    /// # Errors
+    /// `OutOfMemory` alone.
     pub fn new(alloc: Global, room: usize) -> Result<MemoryDisk, Fault>
         ensures fresh { IfOk result (IsFresh [] room) }
         ensures err { IsOkUnless result Fault.OutOfMemory }
@@ -48,7 +51,10 @@ impl MemoryDisk {
         MemoryDisk::from_bytes(alloc, room, &[])
     }
 
-    /// A disk with these bytes, all of them settled. Where they pass the room, this is a fault.
+    /// A disk with these bytes, all of them settled.
+    ///
+    /// # Errors
+    /// `DeviceFailed` where they pass the room, and else `OutOfMemory` alone.
     pub fn from_bytes(alloc: Global, room: usize, bytes: &[u8]) -> Result<MemoryDisk, Fault>
         ensures fresh { IfOk result (IsFresh bytes.now room) }
         ensures past_room { IsErrOf result Fault.DeviceFailed ↔ (room < length bytes.now) }
@@ -97,6 +103,9 @@ impl MemoryDisk {
     }
 
     /// The disk as a stop with this choice leaves it, with the same room. Nothing is unsynced there.
+    ///
+    /// # Errors
+    /// `OutOfMemory` alone.
     pub fn stop(&self, choice: Choice<'_>) -> Result<MemoryDisk, Fault>
         requires { IsChoice (memory_state self.now) choice.kept.now choice.len }
         ensures fresh { IfOk result (IsFresh (chosen (memory_state self.now) choice.entry.kept.now choice.entry.len) (room_of self.now)) }

@@ -3,9 +3,10 @@ ghost use Rattle.std.specs.Prelude.{◌≡◌};
 /// Which device calls are still to fail.
 #[derive(Clone, Copy, Debug, PartialEq, Eq)]
 pub enum Plan {
-    /// So many go through, and all later ones fail.
+    /// As many go through as the number says, and all later ones fail.
     After(u64),
-    /// So many go through and the next one fails, a write among them after so many of its bytes.
+    /// As many go through as the first number says, and the next one alone fails: a write after as many of its bytes as
+    /// the second one says.
     Once(u64, usize),
     /// None.
     Never,

@@ -1,8 +1,8 @@
 //! What a corporation's run comes to in an operating round: its revenue is paid out to those who hold its shares, or it
 //! keeps it, and its token moves on the chart.
 //!
-//! It stands on `rr_desk`. `pay_out` and `withhold` take exactly the effects `pays_out` and `withholds` of
-//! `specs/Dividends.antt`, and `judge_pay` gives exactly the verdict `pay_verdict`.
+//! Stands on `rr_desk`. Its promise: `pay_out` and `withhold` take exactly the effects `pays_out` and `withholds`, and
+//! `judge_pay` gives exactly the verdict `pay_verdict`.
 #![tactic(auto)]
 
 mod fault;

@@ -68,7 +68,7 @@ fn judge_order(kit: &Kit, position: &Position, act: &Act) -> Result<(), Fault>
     Ok(())
 }
 
-// Judges by the row of the command.
+// Judges by the command's own rules.
 fn judge_row(alloc: Global, kit: &Kit, position: &Position, act: &Act) -> Result<(), Fault>
     ensures verdict { (book : Book) → IsPositionOf book position.now → MatchResult result
         (λ _. IsRowVerdict kit.now book act.now None)

@@ -11,14 +11,15 @@ use rr_runs::{Fault, legal};
 use rr_sheets::Sheet;
 use std::alloc::{AllocError, Global};
 
-// how the searches for a tree, one after the other, guess at the size of trees: what doubles it, and what a track
-// beside decided ones weighs in hundredths
+// How the searches for a tree, one after the other, guess at the size of trees: what doubles it, and what a track
+// beside decided ones weighs in hundredths.
 const WEIGHTS: [(u64, u64); 2] = [(10, 90), (5, 60)];
 
 /// A legal sheet of the net's trains, whose kinds these are in order, and a certificate of at most `limit` nodes that
 /// no legal sheet earns more, if a guess finds both. That none is found says nothing of the net.
 ///
-/// A guess tries so many routes and looks so often at what the trains reach, and no more. Only memory can fail.
+/// A guess tries at most 200,000 routes, and each of its two searches for a tree splits no track more once it has
+/// looked 8,000 times at what the trains reach, to choose one. Only memory can fail.
 pub fn guess(
     alloc: Global,
     net: &Net,
@@ -40,7 +41,7 @@ pub fn guess(
     Ok(None)
 }
 
-// whether the sheet is legal, and the tree within the limit and accepted for its revenue
+// Whether the sheet is legal, and the tree within the limit and accepted for its revenue.
 fn stands(
     alloc: Global,
     net: &Net,

@@ -7,7 +7,7 @@ use crate::sights::{Outlook, outlook_of};
 use crate::tracks::{Result, Tracks, set_mark};
 use rr_checker::{CertTree, Fate};
 
-// what becomes of a node
+// What becomes of a node.
 #[derive(Drop)]
 enum Finding {
     Leaf(CertTree),
@@ -15,7 +15,7 @@ enum Finding {
     GivenUp,
 }
 
-// a tree of at most so many nodes that shows that no run earns more than the claim, if one is found
+// A tree of at most so many nodes that shows that no run earns more than the claim, if one is found.
 pub(crate) fn tree_for(
     tracks: &Tracks,
     claim: u64,
@@ -32,7 +32,7 @@ pub(crate) fn tree_for(
     }
 }
 
-// the tree in front of which the links out of reach are denied
+// The tree in front of which the links out of reach are denied.
 fn with_outer(tracks: &Tracks, tree: CertTree) -> Result<CertTree> {
     let mut tree = tree;
     for (place, is_reached) in tracks.reached.iter().enumerate() {
@@ -43,7 +43,7 @@ fn with_outer(tracks: &Tracks, tree: CertTree) -> Result<CertTree> {
     Ok(tree)
 }
 
-// a split of a link that no train can have, with the tree where it is denied
+// A split of a link that no train can have, with the tree where it is denied.
 fn denied_before(tracks: &Tracks, tree: CertTree, place: usize) -> Result<CertTree> {
     let mut children = Vec::new(tracks.alloc);
     children.push(tree)?;
@@ -53,7 +53,7 @@ fn denied_before(tracks: &Tracks, tree: CertTree, place: usize) -> Result<CertTr
     Ok(CertTree::Split(place, children))
 }
 
-// a tree that shows the same under what is decided so far, if one is found; `last` is the track that was split last
+// A tree that shows the same under what is decided so far, if one is found; `last` is the track that was split last.
 fn tree_under(
     tracks: &Tracks,
     growth: &mut Growth,
@@ -84,7 +84,7 @@ fn tree_under(
     Ok(Some(tree))
 }
 
-// the case of a split at that place: denied to all, then given to each train in turn
+// The case of a split at that place: denied to all, then given to each train in turn.
 fn choice_at(place: usize) -> Fate {
     match place.checked_sub(1) {
         Some(train) => Fate::Of(train),
@@ -92,7 +92,7 @@ fn choice_at(place: usize) -> Fate {
     }
 }
 
-// the tree with what its level denies in front of it; the level is left
+// The tree with what its level denies in front of it; the level is left.
 fn left_level(tracks: &Tracks, growth: &mut Growth, tree: CertTree) -> Result<CertTree> {
     let mut tree = tree;
     if let Some(level) = growth.levels.pop() {
@@ -104,7 +104,7 @@ fn left_level(tracks: &Tracks, growth: &mut Growth, tree: CertTree) -> Result<Ce
     Ok(tree)
 }
 
-// a leaf where one stands, else the track to split, at a level of its own
+// A leaf where one stands, else the track to split, at a level of its own.
 fn node_at(tracks: &Tracks, growth: &mut Growth, last: Option<usize>) -> Result<Finding> {
     if !growth.spend(1) {
         return Ok(Finding::GivenUp);
@@ -127,7 +127,7 @@ fn leaf_of(growth: &Growth, outlook: &Outlook) -> Option<CertTree> {
     }
 }
 
-// the leaf where a train can't have the track that it was just given
+// The leaf where a train can't have the track that it was just given.
 fn clash_of(
     tracks: &Tracks,
     growth: &mut Growth,
@@ -150,7 +150,7 @@ fn clash_of(
     Ok(Some(CertTree::Bad(train)))
 }
 
-// a level for the node; a leaf where denying the lost tracks is enough, else the track to split
+// A level for the node; a leaf where denying the lost tracks is enough, else the track to split.
 fn grown(tracks: &Tracks, growth: &mut Growth, outlook: &Outlook) -> Result<Finding> {
     let holdings = holdings_of(tracks, &growth.fates)?;
     let lost = lost_tracks(tracks, &growth.fates, &holdings, outlook)?;
@@ -199,7 +199,7 @@ fn filled(tracks: &Tracks, growth: &mut Growth, lost: &[bool]) -> Result<Option<
     Ok(Some(Finding::Leaf(leaf)))
 }
 
-// the leaf that stands where enough of the lost tracks are denied
+// The leaf that stands where enough of the lost tracks are denied.
 fn closed(tracks: &Tracks, growth: &mut Growth, lost: Vec<bool>) -> Result<Finding> {
     let enough = enough_of(tracks, growth, lost)?;
     if !deny(tracks, growth, &enough)? {
@@ -230,7 +230,7 @@ fn enough_of(tracks: &Tracks, growth: &Growth, lost: Vec<bool>) -> Result<Vec<bo
     Ok(enough)
 }
 
-// the marked tracks, those of the lowest levels first
+// The marked tracks, those of the lowest levels first.
 fn order_of(tracks: &Tracks, growth: &Growth, marks: &[bool]) -> Result<Vec<Ranked>> {
     let mut order = Vec::new(tracks.alloc);
     for (track, is_marked) in marks.iter().enumerate() {
@@ -244,7 +244,7 @@ fn order_of(tracks: &Tracks, growth: &Growth, marks: &[bool]) -> Result<Vec<Rank
     Ok(order)
 }
 
-// denies the marked tracks, each at the highest level that can, and tells whether there were nodes for that
+// Denies the marked tracks, each at the highest level that can, and tells whether there were nodes for that.
 fn deny(tracks: &Tracks, growth: &mut Growth, marks: &[bool]) -> Result<bool> {
     let each = tracks.limits.len().saturating_add(1);
     for (track, is_marked) in marks.iter().enumerate() {

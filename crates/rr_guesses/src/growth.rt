@@ -2,7 +2,7 @@
 use crate::tracks::{Result, Tracks, has_mark};
 use rr_checker::Fate;
 
-// how often a search may look at what the trains reach
+// How often a search may look at what the trains reach.
 const LOOKS: usize = 8_000;
 
 // A node above the present one, or that one: the tracks that no train can have there, and those of them that are denied
@@ -13,20 +13,20 @@ pub(crate) struct Level {
     pub(crate) denied: Vec<usize>,
 }
 
-// what is decided so far, and what may still be spent: nodes of the tree, and looks at what the trains reach
+// What is decided so far, and what may still be spent: nodes of the tree, and looks at what the trains reach.
 #[derive(Drop)]
 pub(crate) struct Growth {
-    // what no run is to earn more than
+    // What no run is to earn more than.
     pub(crate) claim: u64,
-    // a tree doubles where the greatest values in reach exceed the claim by this much more
+    // A tree doubles where the greatest values in reach exceed the claim by this much more.
     pub(crate) doubling: u64,
-    // what a track beside decided ones weighs, in hundredths
+    // What a track beside decided ones weighs, in hundredths.
     pub(crate) near: u64,
     pub(crate) fates: Vec<Fate>,
     pub(crate) levels: Vec<Level>,
     pub(crate) nodes: usize,
     pub(crate) looks: usize,
-    // whether the tree has a full leaf, under which the links out of reach are decided too
+    // Whether the tree has a full leaf, under which the links out of reach are decided too.
     pub(crate) has_full: bool,
 }
 
@@ -55,14 +55,14 @@ impl Growth {
         }
     }
 
-    // spends so many nodes, if there are so many
+    // Spends so many nodes, if there are so many.
     pub(crate) fn spend(&mut self, nodes: usize) -> bool {
         let has_so_many = nodes <= self.nodes;
         self.nodes = self.nodes.saturating_sub(nodes);
         has_so_many
     }
 
-    // the highest level at which no train can have the track
+    // The highest level at which no train can have the track.
     pub(crate) fn level_of(&self, track: usize) -> usize {
         for (place, level) in self.levels.iter().enumerate() {
             if has_mark(&level.lost, track) {

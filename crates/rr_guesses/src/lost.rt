@@ -3,14 +3,14 @@ use crate::sights::{Outlook, worth_of};
 use crate::tracks::{Result, Tracks, has_mark, set_mark};
 use rr_checker::{CentreLimit, Fate};
 
-// the centres that the tracks of a train touch, and how many these are
+// The centres that the tracks of a train touch, and how many these are.
 #[derive(Drop)]
 pub(crate) struct Holding {
     stops: Vec<bool>,
     count: usize,
 }
 
-// what each train's tracks touch
+// What each train's tracks touch.
 pub(crate) fn holdings_of(tracks: &Tracks, fates: &[Fate]) -> Result<Vec<Holding>> {
     let mut holdings = Vec::new(tracks.alloc);
     for train in 0..tracks.limits.len() {
@@ -35,13 +35,13 @@ pub(crate) fn holding_of(tracks: &Tracks, fates: &[Fate], train: usize) -> Resul
     Ok(Holding { stops, count })
 }
 
-// the centre that the track touches: one of its ends at least is a hexside
+// The centre that the track touches: one of its ends at least is a hexside.
 fn stop_on(tracks: &Tracks, track: usize) -> Option<usize> {
     let way = tracks.ways.get(track.saturating_mul(2))?;
     way.stop
 }
 
-// what the trains count at least in a leaf `b`, whichever tracks they have besides
+// What the trains count at least in a leaf `b`, whichever tracks they have besides.
 pub(crate) fn least_worth(tracks: &Tracks, holdings: &[Holding]) -> u64 {
     let mut worth = 0u64;
     for (train, holding) in holdings.iter().enumerate() {
@@ -52,7 +52,7 @@ pub(crate) fn least_worth(tracks: &Tracks, holdings: &[Holding]) -> u64 {
     worth
 }
 
-// which open tracks no train can have: it doesn't reach them, or they clash with its own
+// Which open tracks no train can have: it doesn't reach them, or they clash with its own.
 pub(crate) fn lost_tracks(
     tracks: &Tracks,
     fates: &[Fate],
@@ -100,7 +100,7 @@ pub(crate) fn may_go_to(
         && !counts_over(tracks, holding, track, train)
 }
 
-// whether two tracks of the train meet where the way begins, or one of another train touches the hexside there
+// Whether two tracks of the train meet where the way begins, or one of another train touches the hexside there.
 fn meets_badly(tracks: &Tracks, fates: &[Fate], way: usize, train: usize) -> bool {
     let Some(way) = tracks.ways.get(way) else {
         return false;

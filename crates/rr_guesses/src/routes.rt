@@ -3,16 +3,16 @@ use crate::tracks::{Result, Tracks, has_counted, has_mark, set_mark};
 use rr_checker::CentreLimit;
 use smallvec::SmallVec;
 
-// how many paths from one token are followed at most
+// How many paths from one token are followed at most.
 const ARMS: usize = 4000;
 
-// how many of them, those that earn most, are joined in pairs
+// How many of them, those that earn most, are joined in pairs.
 const JOINED: usize = 400;
 
-// how many routes of a train are kept, those that earn most
+// How many routes of a train are kept, those that earn most.
 const LINES: usize = 5000;
 
-// a path from a token to a centre: its ways, the centres on it but for the token, and what these are worth
+// A path from a token to a centre: its ways, the centres on it but for the token, and what these are worth.
 #[derive(Drop)]
 struct Arm {
     ways: SmallVec<usize, 12>,
@@ -20,7 +20,7 @@ struct Arm {
     worth: u64,
 }
 
-// the path that is followed, the nodes on it or not to be on it, and the paths found
+// The path that is followed, the nodes on it or not to be on it, and the paths found.
 #[derive(Drop)]
 struct Walker {
     limit: CentreLimit,
@@ -31,14 +31,14 @@ struct Walker {
     arms: Vec<Arm>,
 }
 
-// a token, and the paths from it, the best first
+// A token, and the paths from it, the best first.
 #[derive(Drop)]
 struct Hub {
     token: usize,
     arms: Vec<Arm>,
 }
 
-// a route as the paths that it goes over, back over the first to a token and on over the second, and what it earns
+// A route as the paths that it goes over, back over the first to a token and on over the second, and what it earns.
 #[derive(Drop)]
 struct Draft<'a> {
     back: &'a [usize],
@@ -46,7 +46,7 @@ struct Draft<'a> {
     worth: u64,
 }
 
-// a route: its tracks in order, the hexsides on it, and what it earns
+// A route: its tracks in order, the hexsides on it, and what it earns.
 #[derive(Drop)]
 pub(crate) struct Line {
     pub(crate) tracks: Vec<usize>,
@@ -54,7 +54,7 @@ pub(crate) struct Line {
     pub(crate) worth: u64,
 }
 
-// routes of a train of the limit, the best first
+// Routes of a train of the limit, the best first.
 pub(crate) fn lines_of(tracks: &Tracks, limit: &CentreLimit) -> Result<Vec<Line>> {
     let hubs = hubs_of(tracks, limit)?;
     let mut drafts = Vec::new(tracks.alloc);
@@ -66,7 +66,7 @@ pub(crate) fn lines_of(tracks: &Tracks, limit: &CentreLimit) -> Result<Vec<Line>
     lines_over(tracks, &drafts)
 }
 
-// the tokens, each with the paths that pass none of the earlier ones
+// The tokens, each with the paths that pass none of the earlier ones.
 fn hubs_of(tracks: &Tracks, limit: &CentreLimit) -> Result<Vec<Hub>> {
     let mut hubs = Vec::new(tracks.alloc);
     let mut earlier = vec![in tracks.alloc; false; tracks.ways.len()]?;
@@ -80,7 +80,7 @@ fn hubs_of(tracks: &Tracks, limit: &CentreLimit) -> Result<Vec<Hub>> {
     Ok(hubs)
 }
 
-// adds the routes over the token
+// Adds the routes over the token.
 fn add_drafts<'a>(
     tracks: &Tracks,
     limit: &CentreLimit,
@@ -98,7 +98,7 @@ fn add_drafts<'a>(
     add_paired(tracks, limit, stop.worth, joined, drafts)
 }
 
-// adds the routes of one path each
+// Adds the routes of one path each.
 fn add_single<'a>(own: u64, arms: &'a [Arm], drafts: &mut Vec<Draft<'a>>) -> Result<()> {
     for arm in arms {
         drafts.push(Draft {
@@ -110,7 +110,7 @@ fn add_single<'a>(own: u64, arms: &'a [Arm], drafts: &mut Vec<Draft<'a>>) -> Res
     Ok(())
 }
 
-// adds the routes of two paths each
+// Adds the routes of two paths each.
 fn add_paired<'a>(
     tracks: &Tracks,
     limit: &CentreLimit,
@@ -124,7 +124,7 @@ fn add_paired<'a>(
     Ok(())
 }
 
-// adds the routes over the path and one of the others
+// Adds the routes over the path and one of the others.
 fn add_pairs<'a>(
     tracks: &Tracks,
     limit: &CentreLimit,
@@ -148,7 +148,7 @@ fn add_pairs<'a>(
     Ok(())
 }
 
-// marks of the nodes on the path
+// Marks of the nodes on the path.
 fn nodes_of(tracks: &Tracks, arm: &Arm) -> Result<Vec<bool>> {
     let mut nodes = vec![in tracks.alloc; false; tracks.ways.len()]?;
     for way in &arm.ways {
@@ -166,7 +166,7 @@ fn meets(tracks: &Tracks, nodes: &[bool], arm: &Arm) -> bool {
     false
 }
 
-// the paths from the token, within the limit, that pass none of the earlier tokens, the best first
+// The paths from the token, within the limit, that pass none of the earlier tokens, the best first.
 fn arms_of(
     tracks: &Tracks,
     limit: &CentreLimit,
@@ -204,7 +204,7 @@ fn follow(tracks: &Tracks, way: usize, walker: &mut Walker, depth: usize) -> Res
         walker.worth = worth.saturating_add(stop.worth);
         note(tracks, walker)?;
     }
-    // the token counts too
+    // The token counts too.
     if !has_counted(&walker.limit, walker.centres.saturating_add(1)) {
         if let Some(followers) = tracks.graph.get(way) {
             for next in followers.as_slice() {
@@ -219,7 +219,7 @@ fn follow(tracks: &Tracks, way: usize, walker: &mut Walker, depth: usize) -> Res
     Ok(())
 }
 
-// notes the path that is followed
+// Notes the path that is followed.
 fn note(tracks: &Tracks, walker: &mut Walker) -> Result<()> {
     let ways = SmallVec::from_slice(tracks.alloc, &walker.ways)?;
     walker.arms.push(Arm {
@@ -230,7 +230,7 @@ fn note(tracks: &Tracks, walker: &mut Walker) -> Result<()> {
     Ok(())
 }
 
-// the routes with their tracks, in the order of the drafts
+// The routes with their tracks, in the order of the drafts.
 fn lines_over(tracks: &Tracks, drafts: &[Draft]) -> Result<Vec<Line>> {
     let mut lines = Vec::new(tracks.alloc);
     for draft in drafts {
@@ -240,7 +240,7 @@ fn lines_over(tracks: &Tracks, drafts: &[Draft]) -> Result<Vec<Line>> {
     Ok(lines)
 }
 
-// the route in the direction that begins with the lower track
+// The route in the direction that begins with the lower track.
 fn line_over(tracks: &Tracks, draft: &Draft) -> Result<Line> {
     let mut line = Line {
         tracks: Vec::new(tracks.alloc),

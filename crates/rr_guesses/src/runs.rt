@@ -5,7 +5,7 @@ use rr_roster::Kind;
 use rr_sheets::{LinkNumbers, Sheet, TrainWord};
 use std::alloc::Global;
 
-// how many routes are tried beside others
+// How many routes are tried beside others.
 const TRIES: usize = 200_000;
 
 // The best run so far and the present one, in `picks`: for the trains from the last to the first the place of its route,
@@ -14,7 +14,7 @@ const TRIES: usize = 200_000;
 struct Trial {
     alloc: Global,
     best: Vec<Option<usize>>,
-    // what the best run earns; none where no run is found yet
+    // What the best run earns; none where no run is found yet.
     worth: Option<u64>,
     picks: Vec<Option<usize>>,
     taken: Vec<bool>,
@@ -33,13 +33,13 @@ impl Trial {
         })
     }
 
-    // the place of the train's route in the best run
+    // The place of the train's route in the best run.
     fn pick_of(&self, train: usize) -> Option<usize> {
         let place = self.best.len().checked_sub(train)?.checked_sub(1)?;
         *self.best.get(place)?
     }
 
-    // keeps the present run, if it earns more than the best so far
+    // Keeps the present run, if it earns more than the best so far.
     fn keep(&mut self, worth: u64) -> Result<()> {
         if self.worth < Some(worth) {
             self.best = Vec::from_slice(self.alloc, &self.picks)?;
@@ -58,7 +58,7 @@ impl Trial {
     }
 }
 
-// the sheet of a run that earns much, and what it earns
+// The sheet of a run that earns much, and what it earns.
 pub(crate) fn good_sheet(tracks: &Tracks, kinds: &[Kind]) -> Result<(Sheet, u64)> {
     let mut trains = Vec::new(tracks.alloc);
     for limit in &tracks.limits {
@@ -71,7 +71,7 @@ pub(crate) fn good_sheet(tracks: &Tracks, kinds: &[Kind]) -> Result<(Sheet, u64)
     Ok((sheet, trial.worth.unwrap_or(0)))
 }
 
-// the best run as a sheet
+// The best run as a sheet.
 fn written(tracks: &Tracks, trains: &[Vec<Line>], kinds: &[Kind], trial: &Trial) -> Result<Sheet> {
     let mut sheet = Sheet::new(tracks.alloc);
     for (train, kind) in kinds.iter().enumerate() {
@@ -139,7 +139,7 @@ fn give_back(trial: &mut Trial, line: &Line) {
     }
 }
 
-// what the first so many trains earn at most
+// What the first so many trains earn at most.
 fn most_of(trains: &[Vec<Line>], count: usize) -> u64 {
     let mut most = 0u64;
     for train in 0..count {

@@ -2,19 +2,19 @@
 use crate::tracks::{Result, Tracks, goes_over, has_counted, has_mark, may_use, set_mark};
 use rr_checker::{CentreLimit, Fate};
 
-// what the trains reach
+// What the trains reach.
 #[derive(Drop)]
 pub(crate) struct Outlook {
-    // for each train marks of the ways that it goes over
+    // For each train marks of the ways that it goes over.
     sights: Vec<Vec<bool>>,
-    // the greatest values that they count there, together
+    // The greatest values that they count there, together.
     pub(crate) worth: u64,
-    // a train that doesn't reach a track of its own
+    // A train that doesn't reach a track of its own.
     pub(crate) stranded: Option<usize>,
 }
 
 impl Outlook {
-    // whether no run keeps the fates and earns more than the claim
+    // Whether no run keeps the fates and earns more than the claim.
     pub(crate) fn is_closed(&self, claim: u64) -> bool {
         self.worth <= claim || self.stranded.is_some()
     }
@@ -26,7 +26,7 @@ impl Outlook {
         }
     }
 
-    // whether some train reaches the track
+    // Whether some train reaches the track.
     pub(crate) fn is_seen(&self, track: usize) -> bool {
         for ways in &self.sights {
             if goes_over(ways, track) {
@@ -36,7 +36,7 @@ impl Outlook {
         false
     }
 
-    // a train that doesn't reach a track of its own
+    // A train that doesn't reach a track of its own.
     fn stranded_train(&self, fates: &[Fate]) -> Option<usize> {
         for (track, fate) in fates.iter().enumerate() {
             if let Fate::Of(owner) = fate {
@@ -49,7 +49,7 @@ impl Outlook {
     }
 }
 
-// what the trains reach under the fates, without the marked tracks
+// What the trains reach under the fates, without the marked tracks.
 pub(crate) fn outlook_of(tracks: &Tracks, fates: &[Fate], without: &[bool]) -> Result<Outlook> {
     let mut outlook = Outlook {
         sights: Vec::new(tracks.alloc),
@@ -66,7 +66,7 @@ pub(crate) fn outlook_of(tracks: &Tracks, fates: &[Fate], without: &[bool]) -> R
     Ok(outlook)
 }
 
-// marks of the ways that the train goes over
+// Marks of the ways that the train goes over.
 fn reached_ways(
     tracks: &Tracks,
     fates: &[Fate],
@@ -89,7 +89,7 @@ fn reached_ways(
     Ok(ways)
 }
 
-// marks those of the ways that may be used, and notes the newly marked ones as pending
+// Marks those of the ways that may be used, and notes the newly marked ones as pending.
 fn visit(
     fates: &[Fate],
     without: &[bool],
@@ -107,7 +107,7 @@ fn visit(
     Ok(())
 }
 
-// the greatest values that a train of the limit counts where it goes over the marked ways
+// The greatest values that a train of the limit counts where it goes over the marked ways.
 fn sight_worth(tracks: &Tracks, limit: &CentreLimit, ways: &[bool]) -> Result<u64> {
     let mut stops = vec![in tracks.alloc; false; tracks.stops.len()]?;
     for (place, way) in tracks.ways.iter().enumerate() {
@@ -120,7 +120,7 @@ fn sight_worth(tracks: &Tracks, limit: &CentreLimit, ways: &[bool]) -> Result<u6
     Ok(worth_of(tracks, limit, &stops))
 }
 
-// the greatest values that a train of the limit counts among the marked centres and those with a token
+// The greatest values that a train of the limit counts among the marked centres and those with a token.
 pub(crate) fn worth_of(tracks: &Tracks, limit: &CentreLimit, marks: &[bool]) -> u64 {
     let mut counted = 0usize;
     let mut worth = 0u64;

@@ -5,20 +5,20 @@ use smallvec::SmallVec;
 use std::alloc::{AllocError, Global};
 use std::mem;
 
-// only memory can fail
+// Only memory can fail.
 pub(crate) type Result<T> = std::result::Result<T, AllocError>;
 
-// a link, gone over from one end to the other
+// A link, gone over from one end to the other.
 #[derive(Drop)]
 struct Leg {
-    // the link's place in the net
+    // The link's place in the net.
     place: usize,
     hex: usize,
     from: Node,
     to: Node,
 }
 
-// a centre
+// A centre.
 #[derive(Drop)]
 pub(crate) struct Stop {
     node: Node,
@@ -27,34 +27,34 @@ pub(crate) struct Stop {
     pub(crate) is_terminal: bool,
 }
 
-// a track, gone over from one end to the other: the ends of it, as walks meet them
+// A track, gone over from one end to the other: the ends of it, as walks meet them.
 #[derive(Drop)]
 pub(crate) struct Way {
-    // the link's place in the net
+    // The link's place in the net.
     place: usize,
     pub(crate) is_from_side: bool,
-    // the other tracks that touch the node where it begins
+    // The other tracks that touch the node where it begins.
     pub(crate) others: SmallVec<usize, 4>,
-    // the node where it ends, named by the first way that ends there
+    // The node where it ends, named by the first way that ends there.
     pub(crate) node: usize,
-    // the stop where it ends
+    // The stop where it ends.
     pub(crate) stop: Option<usize>,
 }
 
-// the links that matter, and how walks go on over them
+// The links that matter, and how walks go on over them.
 #[derive(Drop)]
 pub(crate) struct Tracks {
-    // where what is found about them is kept
+    // Where what is found about them is kept.
     pub(crate) alloc: Global,
-    // which links of the net they are
+    // Which links of the net they are.
     pub(crate) reached: Vec<bool>,
-    // two for each track
+    // Two for each track.
     pub(crate) ways: Vec<Way>,
-    // for each way those that may follow it
+    // For each way those that may follow it.
     pub(crate) graph: Vec<Followers>,
-    // the ways that begin at a token
+    // The ways that begin at a token.
     pub(crate) starts: Vec<usize>,
-    // the centres, the greatest value first
+    // The centres, the greatest value first.
     pub(crate) stops: Vec<Stop>,
     pub(crate) limits: Vec<CentreLimit>,
 }
@@ -64,7 +64,7 @@ impl Tracks {
         self.ways.len() / 2
     }
 
-    // the link's place in the net
+    // The link's place in the net.
     pub(crate) fn place_of(&self, track: usize) -> usize {
         match self.ways.get(track.saturating_mul(2)) {
             Some(way) => way.place,
@@ -72,7 +72,7 @@ impl Tracks {
         }
     }
 
-    // the node where the way ends
+    // The node where the way ends.
     pub(crate) fn ending(&self, way: usize) -> usize {
         match self.ways.get(way) {
             Some(way) => way.node,
@@ -80,19 +80,19 @@ impl Tracks {
         }
     }
 
-    // the node where the way begins: there the same track's other way ends
+    // The node where the way begins: there the same track's other way ends.
     pub(crate) fn beginning(&self, way: usize) -> usize {
         self.ending(way ^ 1)
     }
 
-    // the centre where the way ends
+    // The centre where the way ends.
     pub(crate) fn stop_at(&self, way: usize) -> Option<&Stop> {
         let stop = self.ways.get(way)?.stop?;
         self.stops.get(stop)
     }
 }
 
-// the tracks that the corporation reaches
+// The tracks that the corporation reaches.
 pub(crate) fn reached_tracks(alloc: Global, net: &Net) -> Result<Tracks> {
     let reached = reached_links(alloc, net)?;
     let legs = legs_over(alloc, net, &reached)?;
@@ -112,7 +112,7 @@ pub(crate) fn reached_tracks(alloc: Global, net: &Net) -> Result<Tracks> {
     })
 }
 
-// which links a walk from a token goes over
+// Which links a walk from a token goes over.
 fn reached_links(alloc: Global, net: &Net) -> Result<Vec<bool>> {
     let all = vec![in alloc; true; net.links().len()]?;
     let legs = legs_over(alloc, net, &all)?;
@@ -126,7 +126,7 @@ fn reached_links(alloc: Global, net: &Net) -> Result<Vec<bool>> {
     Ok(marks)
 }
 
-// both ways over each of the marked links
+// Both ways over each of the marked links.
 fn legs_over(alloc: Global, net: &Net, marks: &[bool]) -> Result<Vec<Leg>> {
     let mut legs = Vec::new(alloc);
     for (place, link) in net.links().iter().enumerate() {
@@ -151,7 +151,7 @@ fn legs_over(alloc: Global, net: &Net, marks: &[bool]) -> Result<Vec<Leg>> {
     Ok(legs)
 }
 
-// marks the place or takes its mark away, and tells whether that changed anything
+// Marks the place or takes its mark away, and tells whether that changed anything.
 pub(crate) fn set_mark(marks: &mut Vec<bool>, place: usize, mark: bool) -> bool {
     match marks.get_mut(place) {
         Some(old) => mem::replace(old, mark) != mark,
@@ -166,7 +166,7 @@ pub(crate) fn has_mark(marks: &[bool], place: usize) -> bool {
     }
 }
 
-// whether one of the track's two ways is marked
+// Whether one of the track's two ways is marked.
 pub(crate) fn goes_over(ways: &[bool], track: usize) -> bool {
     let first = track.saturating_mul(2);
     has_mark(ways, first) || has_mark(ways, first.saturating_add(1))
@@ -194,7 +194,7 @@ fn followers_of(alloc: Global, net: &Net, legs: &[Leg], leg: &Leg) -> Result<Fol
     Ok(followers)
 }
 
-// a walk passes a hexside from one hex into the other, and any node to another link
+// A walk passes a hexside from one hex into the other, and any node to another link.
 fn may_follow(leg: &Leg, next: &Leg) -> bool {
     leg.to == next.from && leg.place != next.place && (is_centre(leg.to) || leg.hex != next.hex)
 }
@@ -217,7 +217,7 @@ fn starts_of(alloc: Global, net: &Net, legs: &[Leg]) -> Result<Vec<usize>> {
     Ok(starts)
 }
 
-// the centres that have a token or where ways end, the greatest value first
+// The centres that have a token or where ways end, the greatest value first.
 fn stops_of(alloc: Global, net: &Net, legs: &[Leg]) -> Result<Vec<Stop>> {
     let mut stops = Vec::new(alloc);
     for centre in 0..net.values().len() {
@@ -236,7 +236,7 @@ fn stops_of(alloc: Global, net: &Net, legs: &[Leg]) -> Result<Vec<Stop>> {
     Ok(stops)
 }
 
-// the first way that ends at the node, or how many ways there are
+// The first way that ends at the node, or how many ways there are.
 fn first_to(legs: &[Leg], node: Node) -> usize {
     for (place, leg) in legs.iter().enumerate() {
         if leg.to == node {
@@ -261,7 +261,7 @@ fn ways_of(alloc: Global, legs: &[Leg], stops: &[Stop]) -> Result<Vec<Way>> {
     Ok(ways)
 }
 
-// the other tracks that touch the node where the way begins
+// The other tracks that touch the node where the way begins.
 fn others_at(alloc: Global, legs: &[Leg], leg: &Leg) -> Result<SmallVec<usize, 4>> {
     let mut others = SmallVec::new(alloc);
     for (way, other) in legs.iter().enumerate() {
@@ -281,7 +281,7 @@ fn place_of(stops: &[Stop], node: Node) -> Option<usize> {
     None
 }
 
-// whether the train may run over the track
+// Whether the train may run over the track.
 pub(crate) fn may_use(fates: &[Fate], train: usize, track: usize) -> bool {
     match fates.get(track) {
         Some(Fate::Open) => true,
@@ -290,7 +290,7 @@ pub(crate) fn may_use(fates: &[Fate], train: usize, track: usize) -> bool {
     }
 }
 
-// whether a train of the limit counts no more than so many
+// Whether a train of the limit counts no more than so many.
 pub(crate) fn has_counted(limit: &CentreLimit, counted: usize) -> bool {
     matches!(limit, CentreLimit::AtMost(most) if *most <= counted)
 }

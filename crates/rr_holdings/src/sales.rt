@@ -15,7 +15,7 @@ use rr_books::{Books, Cert, Corp, Place, Seat};
 use rr_chart::Chart;
 use rr_position::Position;
 
-/// Whether the seat may sell so many 10% shares of the corporation, in whatever round.
+/// Whether the seat may sell `count` 10% shares of the corporation, in whatever round.
 ///
 /// # Errors
 ///
@@ -56,7 +56,7 @@ pub fn judge_sale(
     Ok(())
 }
 
-/// Whether the seat may sell so many 10% shares of the corporation in the stock round under way.
+/// Whether the seat may sell `count` 10% shares of the corporation in the stock round under way.
 ///
 /// # Errors
 ///

@@ -24,12 +24,13 @@ impl Half {
     /// Writes a record behind those of the half, and returns once it is on the disk: its bytes and the closed gate
     /// behind them in one write, a sync, its gate in one write, a sync. It takes no memory.
     ///
+    /// The bytes are written before the gate. So where the next slot is open, as with an older record in it, a stop
+    /// could join them to that record: what is said of stops holds where the slot is shut, whatever a stop leaves.
+    ///
+    /// # Errors
     /// `HalfFull` where the half's slots don't suffice, or the bytes are more than two slots hold; then no device call
     /// was made. `Disk` where a device call failed: the record may be on the disk or not, and the half must be read
     /// again before anything is appended.
-    ///
-    /// The bytes are written before the gate. So where the next slot is open, as with an older record in it, a stop could
-    /// join them to that record: what is said of stops holds where the slot is shut, whatever a stop leaves.
     pub fn append<D: Disk>(
         &mut self,
         disk: &mut D,
@@ -93,7 +94,7 @@ impl Half {
         Ok(())
     }
 
-    /// Whether a record of so many bytes may begin in the next slot.
+    /// Whether a record of `count` bytes may begin in the next slot.
     pub fn has_room(&self, count: usize) -> bool
         ensures { IsTrue result ↔ HasRoom self.now.next_slot count }
     {

@@ -1,7 +1,7 @@
 //! The laws that every table is sound, whatever commands it accepted, and that each run paid as best was best.
 //!
-//! Stands on `rr_sound`, `rr_sound_turns`, `rr_runs` and `rr_game`; only laws stand on it. Its promises: `sound` and
-//! `best_runs_were_best`.
+//! Stands on `rr_sound`, `rr_sound_turns`, `rr_runs` and `rr_game`; nothing of the program stands on it. Its promises:
+//! `sound` and `best_runs_were_best`.
 #![tactic(auto)]
 
 ghost use Rattle.rr_laws.specs.Best.{BestCommandsWereBest, BestRunsWereBest};

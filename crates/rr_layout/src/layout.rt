@@ -109,7 +109,7 @@ impl Layout {
         }
     }
 
-    /// The next entry of the book, for which there is room.
+    /// Follows the next entry of the book, for which there is room.
     pub fn follow(&mut self, entry: &Entry)
         requires { has_room self.old entry.now ≡ true }
         ensures { Extends self.old self.new (entry.now ∷ []) }
@@ -129,7 +129,7 @@ impl Layout {
         }
     }
 
-    /// A tile more, for which there is room.
+    /// Lays a tile more, for which there is room.
     pub fn lay(&mut self, lay: Lay)
         requires { length self.old.lays < MOST_LAYS }
         ensures { self.new ≡ record { lays = self.old.lays ++ lay ∷ []; stations = self.old.stations } }
@@ -138,7 +138,7 @@ impl Layout {
         self.lay_count += 1;
     }
 
-    /// A token more, for which there is room.
+    /// Places a token more, for which there is room.
     pub fn station(&mut self, station: Station)
         requires { length self.old.stations < MOST_STATIONS }
         ensures { self.new ≡ record { lays = self.old.lays; stations = self.old.stations ++ station ∷ [] } }

@@ -1,4 +1,4 @@
-//! Tests of the lines that a keeper of tables reads, and of how they are served.
+//! Tests of the lines that the moderator reads, and of how they are served.
 #![tactic(auto)]
 
 #[cfg(test)]

@@ -113,8 +113,8 @@ impl Market {
         moves::after_withholding(chart, self.cell(corp)?)
     }
 
-    /// The cell to which a sale of so many 10% shares moves the corporation's token: a row down for each, stopping
-    /// above the first missing cell. None where it stays, or isn't on the chart.
+    /// The cell to which a sale of this number of 10% shares moves the corporation's token: a row down for each,
+    /// stopping above the first missing cell. None where it stays, or isn't on the chart.
     pub fn cell_after_sale(&self, chart: &Chart, corp: Corp, shares: u8) -> Option<Cell>
         ensures shown { result ≡ option_and_then (cell_after_sale chart.now shares) (cell_in self.now corp) }
         ensures book { (book : Book) → IsMarketOf book self.now → mark_at corp result ≡ sale_marks chart.now shares corp book }
@@ -178,8 +178,8 @@ impl Market {
         Some(cell)
     }
 
-    /// Moves the corporation's token for a sale of so many 10% shares: a row down for each, stopping above the first
-    /// missing cell. The result is the cell of its mark, if it moves.
+    /// Moves the corporation's token for a sale of this number of 10% shares: a row down for each, stopping above the
+    /// first missing cell. The result is the cell of its mark, if it moves.
     pub fn sold(&mut self, chart: &Chart, corp: Corp, shares: u8) -> Option<Cell>
         ensures cell { result ≡ option_and_then (cell_after_sale chart.now shares) (cell_in self.old corp) }
         ensures marked { MatchOption result (self.new ≡ self.old) (λ cell. IsMarked self.old self.new corp cell) }

@@ -56,7 +56,7 @@ struct State<D: Drop> {
     alloc: Global,
 }
 
-/// The keeper of many tables in one file.
+/// The moderator: it answers lines, and keeps many tables in one file.
 #[derive(Drop)]
 pub struct Moderator<D: Drop> {
     state: State<D>,

@@ -11,7 +11,7 @@ use rr_roster::{Corp, Kind as TrainKind};
 use rr_tiles::Kind;
 use std::alloc::{AllocError, Global};
 
-// the places of the centres that have a token of the corporation
+// The places of the centres that have a token of the corporation.
 pub(crate) fn token_places(
     alloc: Global,
     stops: &[Stop],
@@ -30,7 +30,7 @@ pub(crate) fn token_places(
     Ok(places)
 }
 
-// the places of the centres that none of its routes passes
+// The places of the centres that none of its routes passes.
 pub(crate) fn terminal_places(
     alloc: Global,
     stops: &[Stop],
@@ -77,7 +77,7 @@ fn ends_routes(stations: &[Station], corp: Corp, stop: &Stop) -> bool
     }
 }
 
-// whether the tokens of others take all slots
+// Whether the tokens of others take all slots.
 fn is_filled(stations: &[Station], corp: Corp, at: &CentreAt, slots: u8) -> bool
     ensures { result ≡ is_filled stations.now corp (N.Centre at.now) slots }
 {
@@ -94,7 +94,7 @@ fn is_other_at(corp: Corp, at: &CentreAt, station: &Station) -> bool
     station.corp.index() != corp.index() && stands_at(station, at)
 }
 
-// what each centre is worth in the phase
+// What each centre is worth in the phase.
 pub(crate) fn values_in(
     alloc: Global,
     phase: TrainKind,
@@ -120,7 +120,7 @@ fn value_in(phase: TrainKind, stop: &Stop) -> u16
     }
 }
 
-// whether the phase is that of a 5 or of a later train
+// Whether the phase is that of a 5 or of a later train.
 fn is_late(phase: TrainKind) -> bool
     ensures { result ≡ is_late phase }
 {

@@ -10,7 +10,7 @@ use rr_routes::{Link as PlacedLink, Node as PlacedNode};
 use rr_words::HexName;
 use std::alloc::{AllocError, Global};
 
-// the links in order, each with places in place of names
+// The links in order, each with places in place of names.
 pub(crate) fn placed_links(
     alloc: Global,
     hexes: &[Hex],
@@ -27,7 +27,7 @@ pub(crate) fn placed_links(
     Ok(links)
 }
 
-// the hexsides at the ends of links, one for each end
+// The hexsides at the ends of links, one for each end.
 fn sides_in(alloc: Global, links: &[Link]) -> Result<Vec<Hexside>, AllocError>
     ensures { IfOk result (λ sides. sides.items ≡ sides_in links.now) }
 {

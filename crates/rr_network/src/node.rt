@@ -106,7 +106,7 @@ pub fn same_node(node: &Node, other: &Node) -> bool
     }
 }
 
-// adds the links of a centre's edges
+// Adds the links of a centre's edges.
 pub(crate) fn add_edges(
     links: &mut Vec<Link>,
     hex: &Hex,

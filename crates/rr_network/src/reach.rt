@@ -72,7 +72,7 @@ impl Reach {
     }
 }
 
-// the steps with which a walk of the corporation ends
+// The steps with which a walk of the corporation ends.
 fn walks_of(alloc: Global, network: &Network, corp: Corp) -> Result<Vec<Step>, AllocError>
     ensures { IfOk result (λ ends. (step : Step) → Contains ends.items step ↔ EndsWalk network.now corp step) }
 {
@@ -84,7 +84,7 @@ fn walks_of(alloc: Global, network: &Network, corp: Corp) -> Result<Vec<Step>, A
     Ok(ends)
 }
 
-// the places of the steps by which a walk may begin
+// The places of the steps by which a walk may begin.
 fn starts_of(
     alloc: Global,
     network: &Network,
@@ -103,7 +103,7 @@ fn starts_of(
     Ok(starts)
 }
 
-// for each step the places of those by which a walk that ends with it may go on
+// For each step the places of those by which a walk that ends with it may go on.
 fn graph_of(
     alloc: Global,
     network: &Network,

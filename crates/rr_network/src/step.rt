@@ -20,7 +20,7 @@ pub struct Step {
     pub to: Node,
 }
 
-// each link in both directions
+// Each link in both directions.
 pub(crate) fn steps_of(alloc: Global, links: &[Link]) -> Result<Vec<Step>, AllocError>
     ensures { IfOk result (λ steps. steps.items ≡ steps_of links.now) }
 {
@@ -54,7 +54,7 @@ fn backward(number: usize, link: &Link) -> Step
     }
 }
 
-// whether a walk may go on by the second step from the first, if its node isn't terminal
+// Whether a walk may go on by the second step from the first, if its node isn't terminal.
 pub(crate) fn may_follow(step: &Step, next: &Step) -> bool
     ensures { result ≡ may_follow step.now next.now }
 {
@@ -92,7 +92,7 @@ pub fn node_of(station: &Station) -> Node
     })
 }
 
-// whether no walk of a corporation goes on from a node
+// Whether no walk of a corporation goes on from a node.
 pub(crate) fn is_terminal(stops: &[Stop], stations: &[Station], corp: Corp, node: &Node) -> bool
     ensures { result ≡ is_terminal stops.now stations.now corp node.now }
 {

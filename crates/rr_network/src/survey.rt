@@ -76,7 +76,7 @@ impl Survey {
         Ok(())
     }
 
-    // adds a part behind these centres of the hex, and says how many there are then
+    // Adds a part behind these centres of the hex, and says how many there are then.
     fn add_part(&mut self, hex: &Hex, seen: usize, part: &Part) -> Result<usize, AllocError>
         requires { seen + 1 < 2 ^ 64 }
         ensures count { IfOk result (λ after. after ≡ seen_after seen part.now) }

@@ -76,7 +76,7 @@ impl Operations {
         }
     }
 
-    /// The next entry of the book, by the books, the market and the stock rounds before it.
+    /// Follows the next entry of the book, by the books, the market and the stock rounds before it.
     pub fn follow(&mut self, entry: &Entry, books: &Books, market: &Market, stock: &Rounds)
         requires sets { self.old.progress.sets + 1 < 2 ^ 64 }
         requires round { self.old.progress.round + 1 < 2 ^ 64 }

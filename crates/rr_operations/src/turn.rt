@@ -6,18 +6,26 @@ use rr_books::Act;
 /// What is under way at a table.
 #[derive(Clone, Copy, Debug, PartialEq, Eq)]
 pub enum Stage {
+    /// The auction of the privates.
     Auction,
+    /// A stock round.
     Stock,
+    /// An operating round.
     Operating,
 }
 
 /// A step of a corporation's turn, in the order in which they come.
 #[derive(Clone, Copy, Debug, PartialEq, Eq)]
 pub enum TurnStep {
+    /// The turn has begun: a tile may be laid.
     Lay,
+    /// A tile was laid: a token may be placed.
     Station,
+    /// A token was placed: the trains may run.
     Run,
+    /// The trains ran: what they earned is to be paid out or kept.
     Pay,
+    /// That was done: trains may be bought, and the turn may end.
     Train,
 }
 

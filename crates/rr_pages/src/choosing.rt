@@ -31,8 +31,10 @@ struct Fields {
 
 /// Takes the open root of greater number. It writes nothing.
 ///
+/// # Errors
 /// `NotAStore` where the file has fewer than 515 pages, no open root, or an open root of another version than 1; else
-/// `Damaged` where a field of an open root is out of bounds, or both are open with one number.
+/// `Damaged` where a field of an open root is out of bounds, or both are open with one number. `Disk` where a read
+/// fails, which none of a disk that works does.
 pub fn take_root<D: Disk>(disk: &mut D) -> Result<Taken, Fault>
     ensures chosen { D.Honest disk.new → Chooses (D.state disk.old).content result }
     ensures within { IfOk result (λ taken. LiesWithin (D.file_len disk.old) taken.root) }

@@ -8,6 +8,10 @@ use rr_disk::{Disk, Fault, put};
 
 /// Shuts a gate and syncs. It writes only where the gate is open: a write to a shut gate that a stop cuts short could
 /// open it.
+///
+/// # Errors
+/// `DeviceFailed` where a device call fails. A disk that works refuses none but the read of a gate past the file's end,
+/// and a write that ends past byte 2^63.
 pub fn shut<D: Disk>(disk: &mut D, at: u64) -> Result<(), Fault>
     ensures done { OnOk result (D.Honest disk.new → Shuts (D.state disk.old) at (D.state disk.new)) }
     ensures any_moment { D.Honest disk.new

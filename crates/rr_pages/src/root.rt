@@ -40,6 +40,9 @@ pub struct Roots {
 
 impl Roots {
     /// Shuts the stale root's gate.
+    ///
+    /// # Errors
+    /// `DeviceFailed` where a device call fails. A disk that works refuses none, unless the file ends before that gate.
     pub fn close<D: Disk>(&self, disk: &mut D) -> Result<(), Fault>
         ensures done { OnOk result (D.Honest disk.new
             → Shuts (D.state disk.old) (root_gate (not self.now.taken)) (D.state disk.new)) }
@@ -58,6 +61,9 @@ impl Roots {
     }
 
     /// Writes a root behind the stale root's gate, which is shut.
+    ///
+    /// # Errors
+    /// `DeviceFailed` where a device call fails. A disk that works refuses none.
     pub fn fill<D: Disk>(&self, disk: &mut D, root: &Root) -> Result<(), Fault>
         ensures done { OnOk result (D.Honest disk.new
             → D.state disk.new
@@ -78,6 +84,10 @@ impl Roots {
     }
 
     /// Opens the stale root's gate, and so takes that root.
+    ///
+    /// # Errors
+    /// `DeviceFailed` where a device call fails; nothing changes here then, and the gate on the disk may be open or
+    /// not. A disk that works refuses none.
     pub fn open<D: Disk>(&mut self, disk: &mut D) -> Result<(), Fault>
         ensures done { OnOk result (D.Honest disk.new
             → D.state disk.new
@@ -100,6 +110,9 @@ impl Roots {
     }
 
     /// Closes, fills and opens: the root that was stale is this one then, and taken.
+    ///
+    /// # Errors
+    /// `DeviceFailed` of the first of the three that fails, which is the last one made; nothing changes here then.
     pub fn flip<D: Disk>(&mut self, disk: &mut D, root: &Root) -> Result<(), Fault>
         ensures done { OnOk result (D.Honest disk.new
             → Flips (D.state disk.old) (root_gate (not self.old.taken)) (root_bytes root.now) (D.state disk.new)) }

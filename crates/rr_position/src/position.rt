@@ -107,7 +107,7 @@ impl Position {
         &self.layout
     }
 
-    /// The next entry of the book, whatever it says.
+    /// Follows the next entry of the book, whatever it says.
     ///
     /// # Errors
     ///

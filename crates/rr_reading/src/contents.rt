@@ -58,6 +58,7 @@ struct FoundChains {
 
 /// Reads a store's file, as far as no rule of the game is needed. It writes nothing, and neither syncs.
 ///
+/// # Errors
 /// `NotAStore` where the file has fewer than 515 pages, no open root, or an open root of another version than 1; else
 /// `Damaged` with the least clause that it breaks: of each open root, and then over all chains that can be found, those of
 /// the directory and, where that can be read, of the texts and tables that it names. A chain that breaks off is judged as

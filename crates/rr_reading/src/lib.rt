@@ -1,6 +1,7 @@
 //! What an opening reads of a store's file before the rules judge it: the root that is taken, its directory, the chains
-//! that this names, and the records of both halves; or the least clause of damage that the bytes alone decide. `read_file`
-//! promises both exactly, of every file.
+//! that this names, and the records of both halves; or the least clause of damage that the bytes alone decide.
+//!
+//! Stands on `rr_images` and `rr_dir`. Its promise: `read_file` gives both exactly, of every file.
 #![tactic(auto)]
 
 mod chains;

@@ -16,7 +16,7 @@ use std::alloc::Global;
 /// A kept command that its table doesn't take.
 const UNPLAYED: Fault = Fault::Damaged(Damage::Kept);
 
-/// The table that keeps the commands of these bytes, so many. Its stamp is their number.
+/// The table that keeps the `count` commands of these bytes. Its stamp is their number.
 pub(crate) fn play_all(alloc: Global, kit: &Kit, bytes: &[u8], count: u32) -> Result<Table, Fault>
     ensures restored { IfOk result (λ table. IsRestored kit.now bytes.now count table) }
     ensures refused { IfErr result (λ fault. (fault ≡ Fault.OutOfMemory)

@@ -8,7 +8,7 @@ ghost use Rattle.rr_runs.specs.Tests.{is_side_in, shares_side};
 use crate::course::Journey;
 use rr_checker::{Node, has_node};
 
-// whether no hexside is in two of the journeys
+// Whether no hexside is in two of the journeys.
 pub(crate) fn are_apart(journeys: &[Journey]) -> bool
     ensures { Decides result (AreApart journeys.now) }
 {
@@ -26,7 +26,7 @@ fn meets_any(before: &[Journey], journey: &Journey) -> bool
     before.iter().any(|other| shares_side(other, journey))
 }
 
-// whether a hexside is in both
+// Whether a hexside is in both.
 fn shares_side(one: &Journey, other: &Journey) -> bool
     ensures { result ≡ shares_side one.now other.now }
 {

@@ -17,7 +17,7 @@ use rr_sheets::TrainWord;
 use std::alloc::{AllocError, Global};
 use std::marker::Model;
 
-// the links of a train in order, and the nodes along them
+// The links of a train in order, and the nodes along them.
 #[derive(Debug, Drop)]
 pub(crate) struct Journey {
     links: Vec<usize>,
@@ -40,7 +40,7 @@ impl Journey {
     }
 }
 
-// where the train's word leads
+// Where the train's word leads.
 pub(crate) fn journey_of(
     alloc: Global,
     net: &Net,
@@ -64,7 +64,7 @@ pub(crate) fn journey_of(
     Ok(journey)
 }
 
-// the route over the links
+// The route over the links.
 fn journey_over(
     alloc: Global,
     net: &Net,
@@ -95,7 +95,7 @@ fn start_of(net: &Net, links: &[usize]) -> Option<usize>
     }
 }
 
-// the nodes along the links, from the centre on
+// The nodes along the links, from the centre on.
 fn nodes_from(
     alloc: Global,
     net: &Net,
@@ -114,7 +114,7 @@ fn nodes_from(
     Ok(nodes)
 }
 
-// the first clause that the links break; none where they are a route
+// The first clause that the links break; none where they are a route.
 fn first_broken(
     alloc: Global,
     net: &Net,
@@ -145,7 +145,7 @@ fn first_broken(
     Ok(None)
 }
 
-// whether the links are a walk between centres along the nodes, written from the end with the lower number
+// Whether the links are a walk between centres along the nodes, written from the end with the lower number.
 fn is_course(net: &Net, links: &[usize], nodes: &[Node]) -> bool
     ensures { Decides result (IsCourse net.now links.now nodes.now) }
 {

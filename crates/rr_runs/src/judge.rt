@@ -18,10 +18,12 @@ use std::alloc::Global;
 /// train, in the order of the trains; links are numbered from 1 in the order of the net. A train without links stays
 /// where it is.
 ///
-/// What an illegal sheet breaks first is told by `Fault::IllegalSheet`: the clauses on one word are tried train by
-/// train, then whether words are left over, then whether two routes use one hexside.
-///
 /// A net has at most 1,000 trains and 65,536 centres, each worth at most 65,535.
+///
+/// # Errors
+///
+/// `IllegalSheet` with the clause that is broken first: the clauses on one word are tried train by train, then whether
+/// words are left over, then whether two routes use one hexside. `OutOfMemory` may come of any sheet.
 pub fn legal(alloc: Global, net: &Net, sheet: &Sheet) -> Result<usize, Fault>
     requires values { (centre : ℕ) → value net.now centre ≤ 65535 }
     requires centres { length net.now.values ≤ 65536 }
@@ -42,7 +44,7 @@ pub fn legal(alloc: Global, net: &Net, sheet: &Sheet) -> Result<usize, Fault>
     Ok(revenue)
 }
 
-// where the words of the trains lead
+// Where the words of the trains lead.
 fn journeys_of(alloc: Global, net: &Net, words: &[TrainWord]) -> Result<Vec<Journey>, Fault>
     ensures { MatchResult result (λ journeys. AreLawful net.now words.now (length net.now.trains) journeys.items)
         (λ fault. IsRefusal (BreaksAWord net.now words.now) fault) }
@@ -55,7 +57,7 @@ fn journeys_of(alloc: Global, net: &Net, words: &[TrainWord]) -> Result<Vec<Jour
     Ok(journeys)
 }
 
-// where the train of that place goes
+// Where the train of that place goes.
 fn journey_at(
     alloc: Global,
     net: &Net,

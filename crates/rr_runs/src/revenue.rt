@@ -6,7 +6,7 @@ use crate::course::Journey;
 use rr_checker::{Net, centres_of, value};
 use std::alloc::{AllocError, Global};
 
-// what the routes earn together
+// What the routes earn together.
 pub(crate) fn revenue_of(
     alloc: Global,
     net: &Net,
@@ -22,7 +22,7 @@ pub(crate) fn revenue_of(
     Ok(revenue)
 }
 
-// what one route earns
+// What one route earns.
 fn revenue_along(alloc: Global, net: &Net, journey: &Journey) -> Result<usize, AllocError>
     requires { worth net.now (centres journey.now.nodes) < 2 ^ 64 }
     ensures { IfOk result (λ revenue. revenue ≡ worth net.now (centres journey.now.nodes)) }

@@ -10,7 +10,7 @@ use rr_roster::Kind;
 use rr_sheets::TrainWord;
 use std::alloc::{AllocError, Global};
 
-// whether the word is of the train's kind and names links of the net
+// Whether the word is of the train's kind and names links of the net.
 pub(crate) fn is_its_word(net: &Net, limit: &CentreLimit, word: &TrainWord) -> bool
     ensures { Decides result (IsItsWord net.now limit.now word.now) }
 {
@@ -45,21 +45,21 @@ fn names_links(net: &Net, numbers: &[u64]) -> bool
     !names_no_link(net.links().len() as u64, numbers)
 }
 
-// whether one of the numbers is that of no link
+// Whether one of the numbers is that of no link.
 fn names_no_link(count: u64, numbers: &[u64]) -> bool
     ensures { result ≡ list_any (is_no_link count) numbers.now }
 {
     numbers.iter().any(|number| is_no_link(count, *number))
 }
 
-// links are numbered from 1
+// Links are numbered from 1.
 fn is_no_link(count: u64, number: u64) -> bool
     ensures { result ≡ is_no_link count number }
 {
     number == 0 || count < number
 }
 
-// the places of the links that the word names
+// The places of the links that the word names.
 pub(crate) fn links_of(alloc: Global, word: &TrainWord) -> Result<Vec<usize>, AllocError>
     ensures { IfOk result (λ links. links.items ≡ links_of word.now) }
 {

@@ -11,6 +11,7 @@ pub enum Fault {
     /// No certificate within the limit was found.
     #[error("no certificate found")]
     NoCertificate,
+    /// A request for memory was refused.
     #[error("out of memory")]
     OutOfMemory,
 }

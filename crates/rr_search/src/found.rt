@@ -1,7 +1,7 @@
 //! What a search has found so far.
 use rr_sheets::Sheet;
 
-// a legal sheet, and what it earns
+// A legal sheet, and what it earns.
 #[derive(Drop)]
 pub(crate) struct Found {
     pub(crate) sheet: Sheet,

@@ -19,7 +19,7 @@ use rr_roster::Kind;
 use rr_runs::{Fault as Refusal, legal};
 use std::alloc::{AllocError, Global};
 
-// what was found, or the run over the links that each train has, if that earns more
+// What was found, or the run over the links that each train has, if that earns more.
 pub(crate) fn best_over(
     alloc: Global,
     net: &Net,
@@ -42,7 +42,7 @@ pub(crate) fn best_over(
     }
 }
 
-// the one that earns more
+// The one that earns more.
 fn better_of(found: Option<Found>, other: Found) -> Found
     ensures better { ((amount : ℕ) → EarnsAtLeast found amount → amount ≤ result.revenue) }
     ensures other { other.revenue ≤ result.revenue }
@@ -59,7 +59,7 @@ fn better_of(found: Option<Found>, other: Found) -> Found
     }
 }
 
-// the sheet of the run over decided links, and what it earns
+// The sheet of the run over decided links, and what it earns.
 fn found_by(
     alloc: Global,
     net: &Net,
@@ -82,7 +82,7 @@ fn found_by(
     }
 }
 
-// the journeys of a run over just the links that each train has; none where there is no such run
+// The journeys of a run over just the links that each train has; none where there is no such run.
 fn run_over(alloc: Global, net: &Net, fates: &[Fate]) -> Result<Option<Vec<Journey>>, AllocError>
     ensures { IfOk result (λ found. MatchOption found (NoRunKeeps net.now fates.now)
         (λ journeys. AreOwnTrips net.now fates.now (length net.now.trains) (map trip_along journeys.items))) }
@@ -97,7 +97,7 @@ fn run_over(alloc: Global, net: &Net, fates: &[Fate]) -> Result<Option<Vec<Journ
     Ok(Some(journeys))
 }
 
-// the journey of the train over just the links that are its own
+// The journey of the train over just the links that are its own.
 fn journey_of(
     alloc: Global,
     net: &Net,

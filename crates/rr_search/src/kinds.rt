@@ -9,7 +9,7 @@ use rr_checker::{CentreLimit, Net};
 use rr_roster::Kind;
 use std::alloc::{AllocError, Global};
 
-// the kinds of the net's trains; none where a train is of no kind, and so no sheet is legal
+// The kinds of the net's trains; none where a train is of no kind, and so no sheet is legal.
 pub(crate) fn kinds_of(alloc: Global, net: &Net) -> Result<Option<Vec<Kind>>, AllocError>
     ensures { IfOk result (λ found. MatchOption found (HasNoSheet net.now) (λ kinds. AreKinds net.now kinds.items)) }
 {
@@ -23,7 +23,7 @@ pub(crate) fn kinds_of(alloc: Global, net: &Net) -> Result<Option<Vec<Kind>>, Al
     Ok(Some(kinds))
 }
 
-// the kind of the train at that place
+// The kind of the train at that place.
 fn kind_at(net: &Net, train: usize, limit: &CentreLimit) -> Option<Kind>
     requires inside { train < length net.now.trains }
     requires of { limit.now ≡ limit_of net.now train }
@@ -33,7 +33,7 @@ fn kind_at(net: &Net, train: usize, limit: &CentreLimit) -> Option<Kind>
     kind_of(limit)
 }
 
-// the kind of train that counts so many centres
+// The kind of train that counts so many centres.
 fn kind_of(limit: &CentreLimit) -> Option<Kind>
     ensures { MatchOption result ((kind : KindOfTrain) → limit_of_kind kind ≡ limit.now → ⊥) (λ kind. limit_of_kind kind ≡ limit.now) }
 {

@@ -16,10 +16,12 @@ use std::alloc::Global;
 
 /// A legal sheet of the net's trains, and a certificate of at most `limit` nodes that no legal sheet earns more.
 ///
-/// `Fault::NoCertificate` comes only where the whole tree, which splits every link of the net in turn, has more nodes
-/// than the limit, or where no sheet is legal, since a train of the net is of no kind.
-///
 /// A net has at most 1,000 trains and 65,536 centres, each worth at most 65,535.
+///
+/// # Errors
+///
+/// `NoCertificate` comes only where the whole tree, which splits every link of the net in turn, has more nodes than the
+/// limit, or where no sheet is legal, since a train of the net is of no kind; else `OutOfMemory`.
 pub fn best(alloc: Global, net: &Net, limit: usize) -> Result<(Sheet, CertTree), Fault>
     requires small { limit ≤ 1024 }
     requires values { (centre : ℕ) → value net.now centre ≤ 65535 }
@@ -56,7 +58,7 @@ fn certified(
     Ok(found)
 }
 
-// the best run over all leaves of the whole tree, and that tree
+// The best run over all leaves of the whole tree, and that tree.
 fn by_whole_tree(
     alloc: Global,
     net: &Net,

@@ -9,7 +9,7 @@ use rr_roster::Kind;
 use rr_sheets::{LinkNumbers, Sheet, TrainWord};
 use std::alloc::{AllocError, Global};
 
-// a word for each journey, of the train's kind
+// A word for each journey, of the train's kind.
 pub(crate) fn sheet_of(
     alloc: Global,
     kinds: &[Kind],
@@ -28,7 +28,7 @@ pub(crate) fn sheet_of(
     Ok(sheet)
 }
 
-// the numbers of the links, in the direction that begins with the lower one
+// The numbers of the links, in the direction that begins with the lower one.
 fn numbers_of(alloc: Global, links: &[usize]) -> Result<LinkNumbers, AllocError>
     requires { (link : ℕ) → Contains links.now link → link + 1 < 2 ^ 64 }
     ensures { IfOk result (λ numbers. numbers ≡ map suc (ascending links.now)) }
@@ -50,7 +50,7 @@ fn ascending(alloc: Global, links: &[usize]) -> Result<Vec<usize>, AllocError>
     Vec::from_slice(alloc, links)
 }
 
-// whether the last link's number is below the first's
+// Whether the last link's number is below the first's.
 fn is_backward(links: &[usize]) -> bool
     ensures { result ≡ is_backward links.now }
 {

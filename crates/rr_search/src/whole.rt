@@ -14,7 +14,7 @@ use rr_checker::{CertTree, Fate, Net};
 use rr_roster::Kind;
 use std::alloc::{AllocError, Global};
 
-// whether the whole tree of so many trains and links has at most so many nodes
+// Whether the whole tree of so many trains and links has at most so many nodes.
 pub(crate) fn whole_fits(trains: usize, links: usize, limit: usize) -> bool
     requires few { trains ≤ 1000 }
     requires small { limit ≤ 1024 }
@@ -30,7 +30,7 @@ pub(crate) fn whole_fits(trains: usize, links: usize, limit: usize) -> bool
     size <= limit
 }
 
-// how many nodes a split has over children of this size
+// How many nodes a split has over children of this size.
 fn size_above(size: usize, trains: usize) -> usize
     requires few { trains ≤ 1000 }
     requires small { size ≤ 1024 }
@@ -39,7 +39,7 @@ fn size_above(size: usize, trains: usize) -> usize
     size * (trains + 1) + 1
 }
 
-// the tree that splits the links from this place on
+// The tree that splits the links from this place on.
 pub(crate) fn whole_tree(alloc: Global, net: &Net, link: usize) -> Result<CertTree, AllocError>
     requires { link ≤ length net.now.links }
     ensures shows { IfOk result (λ tree. ShowsFrom net.now link tree) }
@@ -85,7 +85,7 @@ pub(crate) fn explore(
     Ok(found)
 }
 
-// the cases of a split: denied to all, then of each train in turn
+// The cases of a split: denied to all, then of each train in turn.
 pub(crate) fn choice_at(place: usize) -> Fate
     ensures { result ≡ choice_at place }
 {

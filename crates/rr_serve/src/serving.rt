@@ -17,11 +17,11 @@ const DEVICE_FAILURE: &[u8] = b"no 60 ";
 /// The reply to bytes at the end of the input that no line feed ends.
 const MALFORMED_LINE: &[u8] = b"no 55 malformed line\n";
 
-/// Answers each line that the reader gives, in turn: a reply is written, and the writer flushed, before
-/// the next line is read.
+/// Answers each line that the reader gives, in turn: a reply is written, and the writer flushed, before the next line
+/// is read. It ends with `Ok` at the end of the input.
 ///
-/// It ends with `Ok` at the end of the input, with `DeviceFailed` behind a reply that begins with `no 60 `,
-/// and with `StreamFailed` where a read, a write or a flush failed.
+/// # Errors
+/// `DeviceFailed` behind a reply that begins with `no 60 `, `StreamFailed` where a read, a write or a flush failed.
 pub fn serve<M: Machine, I: Input, O: Output>(
     machine: &mut M,
     reader: &mut I,

@@ -30,7 +30,7 @@ pub fn handover_due(books: &Books, corp: Corp) -> Option<Handover>
     handover_by(&percents(books, corp), books, corp)
 }
 
-/// Whether the corporation's presidency is to change hands once the seller has sold so many shares.
+/// Whether the corporation's presidency is to change hands once the seller has sold `count` 10% shares.
 #[tactic(auto, unfolding(crate::specs::Succession::handover_after_sale))]
 pub fn handover_after_sale(books: &Books, corp: Corp, seller: Seat, count: u8) -> Option<Handover>
     ensures shown { result ≡ handover_after_sale (holder_in books.now) books.now.players corp seller count }

@@ -89,7 +89,7 @@ fn write_tree(tree: &CertTree, out: &mut Vec<u8>) -> Result<(), AllocError>
     }
 }
 
-// the letter, and the number of what has this place
+// The letter, and the number of what has this place.
 fn write_numbered(letter: u8, place: usize, out: &mut Vec<u8>) -> Result<(), AllocError>
     ensures { OnOk result (out.new.items ≡ out.old.items ++ letter ∷ decimal (place + 1)) }
 {

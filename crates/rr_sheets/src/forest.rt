@@ -13,7 +13,7 @@ use std::marker::Model;
 /// The trees that stand behind a place in a certificate, in the order of its words.
 #[derive(Drop)]
 pub struct Forest {
-    // the last of them first
+    // The last of them first.
     trees: Vec<CertTree>,
 }
 
@@ -42,7 +42,8 @@ impl Forest {
     /// Puts the word before the words of the trees: a leaf is a tree more, a split takes the first trees as its children.
     ///
     /// # Errors
-    /// `CertificateRefused` where trees lack or the number is 0, `OutOfMemory` where the tree can't be held.
+    /// `CertificateRefused` where there are too few trees for the split, or the number is 0; `OutOfMemory` where the
+    /// tree can't be held.
     pub fn grow(&mut self, trains: usize, word: CertWord) -> Result<(), Fault>
         ensures grown { OnOk result ((behind : List CertWord) → IsForest trains behind self.old → IsForest trains (word ∷ behind) self.new) }
         ensures stopped { IfErr result (λ fault. IsStop fault ((behind : List CertWord) (other : List CertTree) →
@@ -77,7 +78,7 @@ impl Forest {
         Ok(())
     }
 
-    // the first trees, one more than the trains, if there are so many
+    // The first trees, one more than the trains, if there are so many.
     fn take_children(&mut self, trains: usize) -> Result<Option<Vec<CertTree>>, AllocError>
         ensures { IfOk result (λ taken. MatchOption taken
             (length self.old ≤ trains)
@@ -110,7 +111,7 @@ fn reversed(mut trees: Vec<CertTree>) -> Vec<CertTree>
     trees
 }
 
-// the place of what is numbered from 1
+// The place of what is numbered from 1.
 fn place_of(number: u64) -> Option<usize>
     ensures { MatchOption result (number ≡ 0) (λ place. place + 1 ≡ number) }
 {

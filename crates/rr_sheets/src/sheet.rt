@@ -18,7 +18,7 @@ use std::marker::Model;
 /// The numbers of the links of a route, in order along it. The board's links are numbered from 1.
 #[derive(Debug, Drop)]
 pub struct LinkNumbers {
-    // 12 are room for any route on the kit's board, and for nineteen in twenty of those in `games/`
+    // 12 are room for any route on the kit's board, and for nineteen in twenty of those in `games/`.
     numbers: SmallVec<u64, 12>,
 }
 
@@ -56,7 +56,7 @@ impl LinkNumbers {
         self.numbers.as_slice()
     }
 
-    // the numbers that a text spells, with a hyphen between each two; none for a hyphen alone
+    // The numbers that a text spells, with a hyphen between each two; none for a hyphen alone.
     fn read(alloc: Global, text: &[u8]) -> Result<Option<LinkNumbers>, AllocError>
         ensures { IfOk result (λ read. read ≡ links_of text.now) }
     {
@@ -239,7 +239,7 @@ impl Sheet {
     }
 }
 
-// words with one space between each two
+// Words with one space between each two.
 fn write_words(first: &TrainWord, rest: &[TrainWord], out: &mut Vec<u8>) -> Result<(), AllocError>
     ensures { OnOk result (out.new.items ≡ out.old.items ++ line_of (map train_text (first.now ∷ rest.now))) }
 {

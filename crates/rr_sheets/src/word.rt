@@ -39,7 +39,7 @@ fn leaf_of(word: &[u8]) -> Option<CertWord>
     None
 }
 
-// the words of a text, if each has one of the forms; no word in an empty text
+// The words of a text, if each has one of the forms; no word in an empty text.
 pub fn cert_words(alloc: Global, text: &[u8]) -> Result<Option<Vec<CertWord>>, AllocError>
     ensures { IfOk result (λ read. option_map (λ words. words.items) read ≡ cert_words_of text.now) }
 {

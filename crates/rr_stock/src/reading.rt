@@ -39,7 +39,7 @@ pub(crate) fn share_price(
     }
 }
 
-/// What a seller gets for so many 10% shares of the corporation, in dollars: the market price for each, and nothing
+/// What a seller gets for `count` 10% shares of the corporation, in dollars: the market price for each, and nothing
 /// before its token is on the chart.
 pub fn proceeds(position: &Position, chart: &Chart, corp: Corp, count: u8) -> u32
     ensures { (book : Book) → IsPositionOf book position.now → result ≡ count * unwrap_or (price_of chart.now book corp) 0 }

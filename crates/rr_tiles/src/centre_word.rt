@@ -5,7 +5,7 @@ ghost use Rattle.rr_tiles.specs.Reading.{cut_of, front_of, kind_of, place_of, va
 use crate::part::Kind;
 use rr_words::small_number;
 
-// what stands before and behind the first of these characters
+// What stands before and behind the first of these characters.
 pub(crate) fn cut(word: &[u8], mark: u8) -> Option<(&[u8], &[u8])>
     ensures { option_map (λ parts. (parts.0.now, parts.1.now)) result ≡ cut_of mark word.now }
 {
@@ -45,7 +45,7 @@ fn kind_of(letter: u8, word: &[u8]) -> Option<Kind>
     Some(Kind::OffBoard { later_value })
 }
 
-// a multiple of 10 from 0 to 990
+// A multiple of 10 from 0 to 990.
 fn value_of(word: &[u8]) -> Option<u16>
     ensures { result ≡ value_of word.now }
 {

@@ -73,7 +73,7 @@ impl Edges {
         }
     }
 
-    // the edges that a text spells, with a comma between each two
+    // The edges that a text spells, with a comma between each two.
     pub(crate) fn read(alloc: Global, text: &[u8]) -> Result<Option<Edges>, AllocError>
         ensures { IfOk result (λ read. read ≡ edges_of text.now) }
     {
@@ -109,7 +109,7 @@ impl Edges {
         self.edges.iter().any(|other| *other == edge)
     }
 
-    // where a turn takes the edges, in the same order
+    // Where a turn takes the edges, in the same order.
     pub(crate) fn turned(&self, alloc: Global, turn: u8) -> Result<Edges, AllocError>
         ensures { IfOk result (λ edges. edges ≡ map (turned_edge turn) self.now) }
     {
@@ -121,7 +121,7 @@ impl Edges {
         Ok(Edges { edges })
     }
 
-    // adds the edge that a word spells; `false` of a word that spells none or one that is here
+    // Adds the edge that a word spells; `false` of a word that spells none or one that is here.
     fn take(&mut self, word: &[u8]) -> Result<bool, AllocError>
         ensures { IfOk result (λ taken. (if taken then Some self.new else None) ≡ add_edge self.old word.now) }
     {
@@ -145,7 +145,7 @@ fn edge_of(word: &[u8]) -> Option<Edge>
     }
 }
 
-// the edge that a digit spells
+// The edge that a digit spells.
 pub(crate) fn edge_in(digit: u8) -> Option<Edge>
     ensures { result ≡ edge_in digit }
 {

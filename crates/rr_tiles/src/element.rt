@@ -60,7 +60,7 @@ fn different_edges(from: Edge, to: Edge) -> Option<Element>
     }
 }
 
-// the centre of a letter and of what stands behind it
+// The centre of a letter and of what stands behind it.
 fn read_centre(alloc: Global, letter: u8, rest: &[u8]) -> Result<Option<Element>, AllocError>
     ensures { IfOk result (λ read. read ≡ centre_in letter rest.now) }
 {

@@ -67,7 +67,7 @@ fn keeps_centres(old: &[Part], new: &[Part], turn: u8) -> bool
     keeps_centres(old_rest, new_rest, turn)
 }
 
-// the first centre, and the parts behind it
+// The first centre, and the parts behind it.
 fn first_centre(parts: &[Part]) -> Option<(&Centre, &[Part])>
     ensures { MatchOption result
         (centres_of parts.now ≡ [])

@@ -119,7 +119,7 @@ impl Manifest {
         }
     }
 
-    // adds what the words of a line spell; `false` where they spell nothing, or a number that is here
+    // Adds what the words of a line spell; `false` where they spell nothing, or a number that is here.
     fn take(&mut self, alloc: Global, words: &[&[u8]]) -> Result<bool, AllocError>
         ensures { IfOk result (λ taken. (if taken then Some self.new else None) ≡ add_line self.old (map (λ word. word.now) words.now)) }
     {

@@ -48,7 +48,7 @@ pub struct Label {
 }
 
 impl Track {
-    // where a turn takes the track
+    // Where a turn takes the track.
     pub(crate) fn turned(&self, turn: u8) -> Track
         ensures { result ≡ turned_track turn self.now }
     {
@@ -58,7 +58,7 @@ impl Track {
         }
     }
 
-    // 0-1 and 1-0 are one track
+    // 0-1 and 1-0 are one track.
     pub(crate) fn is_same(&self, other: &Track) -> bool
         ensures { result ≡ is_same_track self.now other.now }
     {
@@ -68,7 +68,7 @@ impl Track {
 }
 
 impl Part {
-    // whether the part is this track
+    // Whether the part is this track.
     pub(crate) fn is_track(&self, track: &Track) -> bool
         ensures { result ≡ is_track_of track.now self.now }
     {
@@ -78,7 +78,7 @@ impl Part {
         }
     }
 
-    // where a turn takes the part
+    // Where a turn takes the part.
     pub(crate) fn turned(&self, alloc: Global, turn: u8) -> Result<Part, AllocError>
         ensures { IfOk result (λ part. part ≡ turned_part turn self.now) }
     {

@@ -27,7 +27,7 @@ pub struct Supply {
     pub tile: Tile,
 }
 
-// the supply of a line's words
+// The supply of a line's words.
 pub(crate) fn read_supply(alloc: Global, words: &[&[u8]]) -> Result<Option<Supply>, AllocError>
     ensures { IfOk result (λ read. read ≡ supply_of (map (λ word. word.now) words.now)) }
 {

@@ -109,7 +109,7 @@ impl Tile {
         }
     }
 
-    // adds what a word spells; `false` of a word that spells nothing or what the tile may not have
+    // Adds what a word spells; `false` of a word that spells nothing or what the tile may not have.
     fn take(&mut self, alloc: Global, word: &[u8]) -> Result<bool, AllocError>
         ensures { IfOk result (λ taken. (if taken then Some self.new else None) ≡ add_word self.old word.now) }
     {
@@ -145,7 +145,7 @@ impl Tile {
     }
 }
 
-// whether the part is a track that is there already
+// Whether the part is a track that is there already.
 fn is_double(parts: &[Part], part: &Part) -> bool
     ensures { result ≡ is_double parts.now part.now }
 {

@@ -1,8 +1,8 @@
 //! Which trains are where, what is on sale, what the phase of the game allows, and what the first train of a kind brings
 //! about.
 //!
-//! Stands on `rr_desk`. Its promise: `phase`, `is_on_sale` and `first_train`, each exactly its definition over the
-//! book.
+//! Stands on `rr_desk` and `rr_operations`. Its promise: `train_limit`, `is_on_sale` and `first_train`, each exactly
+//! its definition.
 #![tactic(auto)]
 
 mod firsts;

@@ -9,7 +9,7 @@ ghost use Rattle.rr_trips.specs.Ways.{apart_from};
 use rr_checker::{Net, Node, far_end, is_walk};
 use std::alloc::{AllocError, Global};
 
-// whether the node is an end of the link
+// Whether the node is an end of the link.
 pub(crate) fn touches(net: &Net, link: usize, node: &Node) -> bool
     ensures { result ≡ touches net.now link node.now }
 {
@@ -25,7 +25,7 @@ pub(crate) fn is_centre(node: &Node) -> bool
     }
 }
 
-// those of the links that don't touch the node, in order
+// Those of the links that don't touch the node, in order.
 pub(crate) fn apart_from(
     alloc: Global,
     net: &Net,
@@ -41,7 +41,7 @@ pub(crate) fn apart_from(
         .collect(alloc)
 }
 
-// the places of so many links
+// The places of so many links.
 pub(crate) fn places(alloc: Global, count: usize) -> Result<Vec<usize>, AllocError>
     ensures { IfOk result (λ places. places.items ≡ range_with_len 0 count) }
 {

@@ -37,7 +37,7 @@ pub(crate) fn is_stranded(
     Ok(true)
 }
 
-// those of the links that meet the link, in order
+// Those of the links that meet the link, in order.
 fn meeting(alloc: Global, net: &Net, links: &[usize], link: usize) -> Result<Vec<usize>, AllocError>
     ensures { IfOk result (λ met. met.items ≡ filter (meets net.now link) links.now) }
 {
@@ -48,7 +48,7 @@ fn meeting(alloc: Global, net: &Net, links: &[usize], link: usize) -> Result<Vec
         .collect(alloc)
 }
 
-// the others, in order
+// The others, in order.
 fn not_meeting(
     alloc: Global,
     net: &Net,
@@ -64,7 +64,7 @@ fn not_meeting(
         .collect(alloc)
 }
 
-// whether a hexside is an end of both links
+// Whether a hexside is an end of both links.
 fn meets(net: &Net, link: usize, other: usize) -> bool
     ensures { result ≡ meets net.now link other }
 {

@@ -8,7 +8,7 @@ use crate::near::is_stranded;
 use rr_checker::{Net, Node, far_end, is_walk};
 use std::alloc::{AllocError, Global};
 
-// whether from one of the centres a way leads to another
+// Whether from one of the centres a way leads to another.
 pub(crate) fn some_leaves(
     alloc: Global,
     net: &Net,
@@ -26,7 +26,7 @@ pub(crate) fn some_leaves(
     Ok(false)
 }
 
-// whether a way leads from the node to a centre
+// Whether a way leads from the node to a centre.
 fn leaves(alloc: Global, net: &Net, own: &[usize], from: &Node) -> Result<bool, AllocError>
     ensures { IfOk result (λ found. Decides found (Leaves net.now own.now from.now)) }
 {
@@ -39,7 +39,7 @@ fn leaves(alloc: Global, net: &Net, own: &[usize], from: &Node) -> Result<bool, 
     Ok(false)
 }
 
-// whether a way leads over the link from the node to a centre
+// Whether a way leads over the link from the node to a centre.
 fn leads_on(
     alloc: Global,
     net: &Net,
@@ -74,7 +74,7 @@ fn leads_on(
     Ok(false)
 }
 
-// whether a walk over the link from one node to the other goes on over the next link
+// Whether a walk over the link from one node to the other goes on over the next link.
 fn goes_on(net: &Net, link: usize, from: &Node, to: &Node, next: usize) -> bool
     ensures { Decides result (GoesOn net.now link from.now to.now next) }
 {

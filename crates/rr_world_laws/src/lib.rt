@@ -2,7 +2,8 @@
 //! refused and never both; and two fronts of the accepted requests never have one world. The calls do nothing: their
 //! contracts hold of all files, worlds and schedules.
 //!
-//! Stands on `rr_store`, `rr_records` and `rr_laws`; nothing stands on it. Its promise: `whatever_comes_is_sound`.
+//! Stands on `rr_store`, `rr_records` and `rr_laws`; nothing of the program stands on it. Its promise:
+//! `whatever_comes_is_sound`.
 #![tactic(auto)]
 
 ghost use Rattle.rr_kit.specs.Kits.{KitTexts};
