@@ -15,7 +15,7 @@ use Rattle.rr_images.specs.Calls.{far_gate, Appends, Begins, part_behind}
 use Rattle.rr_images.specs.Codec.{Codec}
 use Rattle.rr_images.specs.Halves.{half_index}
 use Rattle.rr_images.specs.Holding.{Holding, reached_of}
-use Rattle.rr_images.specs.Layout.{Layout, FarHalf, Unused, Old, Begun, Keeps}
+use Rattle.rr_images.specs.Layout.{Layout, FarHalf, Unused, Old, Begun, far_lines, Keeps}
 use Rattle.rr_images.specs.Progress.{IsPlan, IsBegun, IsNotBegun, IsBetween}
 use Rattle.rr_images.specs.Steps.{with_far, with_line, with_line_at, GoesOnAt}
 use Rattle.rr_images.proofs.Calls.{appends, begins, not_begun}
@@ -24,7 +24,7 @@ use Rattle.rr_checkpoint.specs.declared.checkpoint.Checkpoint.{Checkpoint}
 use Rattle.rr_checkpoint.specs.declared.checkpoint.Plan.{Plan}
 use Rattle.rr_checkpoint.specs.declared.open_file.OpenFile.{OpenFile}
 use Rattle.rr_checkpoint.specs.Checkpoint.{plan_of, begun, progress_of}
-use Rattle.rr_checkpoint.specs.Holds.{HoldsOn, HoldsWithRecord}
+use Rattle.rr_checkpoint.specs.Holds.{HoldsAsBegun, HoldsWithRecord}
 use Rattle.rr_checkpoint.specs.OpenFile.{IsBegunAt, CarriesWith}
 
 -- what is known by whether it is begun
@@ -39,6 +39,15 @@ isnt_begun (Some first) number far none begun = absurd (cc)
 pub none_there : (begun : Option ℕ) → is_some begun ≡ false → begun ≡ None
 none_there None none = refl
 none_there (Some first) none = absurd (cc)
+
+-- the records of the other half
+found_far : {far : FarHalf} → IsBegun far → far ≡ Begun (far_lines far)
+found_far {far} begun = subst (λ (half : FarHalf). half ≡ Begun (far_lines half)) (sym begun.1) refl
+
+none_far : (far : FarHalf) → IsNotBegun far → far_lines far ≡ []
+none_far Unused none = refl
+none_far Old none = refl
+none_far (Begun lines) none = absurd none
 
 -- a record more
 module _ {C : Type 0} (codec : Codec) (file : OpenFile C) (checkpoint : Option Checkpoint) (state : DiskState) (old new : codec.World) (stays : IsImage state state.content) (carries : CarriesWith codec file checkpoint state old)
@@ -94,7 +103,7 @@ module _ {C : Type 0} (codec : Codec) (file : OpenFile C) (checkpoint : Option C
         codec = file.codec;
       })
       checkpoint after new)
-      × HoldsWithRecord carries.layout carries.holding then.layout then.holding
+      × HoldsWithRecord carries.layout carries.holding line new then.layout then.holding
   record_carries half buffer after behind is =
       let far = carries.layout.far in (
         record {
@@ -110,14 +119,17 @@ module _ {C : Type 0} (codec : Codec) (file : OpenFile C) (checkpoint : Option C
           between = subst (λ (s : DiskState). IsBetween codec (with_line carries.layout line new) s (progress_of checkpoint carries.holding) new) (sym is) record_next.done;
           coming = carries.coming;
         },
-        record { present = same_holding far; coming = refl; middle = same_middle far refl },
+        record { layout = refl; present = same_holding far; coming = refl; middle = same_middle far refl },
       )
 
 -- the first step of a checkpoint
 module _ {C : Type 0} (codec : Codec) (file : OpenFile C) (state : DiskState) (world : codec.World) (stays : IsImage state state.content) (carries : CarriesWith codec file None state world) where
   -- it was found begun
   module _ (plan : Plan) (holding : Holding) (is_plan : IsPlan codec carries.layout (plan_of plan holding)) (coming : Has (coming_of file.free) (reached_of holding)) where
-    pub found_carries : is_some file.place.begun ≡ true → (then : CarriesWith codec file (Some (begun plan)) state world) × HoldsOn carries.layout holding then.layout then.holding
+    begun_there : is_some file.place.begun ≡ true → IsBegun carries.layout.far
+    begun_there some = is_begun file.place.begun (carries.layout.root.first + length carries.layout.near) carries.layout.far some carries.tells.begun
+
+    pub found_carries : is_some file.place.begun ≡ true → (then : CarriesWith codec file (Some (begun plan)) state world) × HoldsAsBegun carries.layout holding then.layout then.holding
     found_carries some = (
       record {
         layout = carries.layout;
@@ -125,11 +137,11 @@ module _ {C : Type 0} (codec : Codec) (file : OpenFile C) (state : DiskState) (w
         tells = carries.tells;
         between = record {
           each = carries.between.each;
-          come = (is_plan, is_begun file.place.begun (carries.layout.root.first + length carries.layout.near) carries.layout.far some carries.tells.begun, refl, tt);
+          come = (is_plan, begun_there some, refl, tt);
         };
         coming = coming;
       },
-      record { present = refl; coming = refl; middle = refl },
+      record { root = refl; present = refl; coming = refl; middle = refl; far = found_far (begun_there some) },
     )
 
   module _ (none : IsNotBegun carries.layout.far) (index : HalfIndex) (other : index ≡ half_index (not file.taken.root.half)) (at : ℕ) (there : at ≡ next_gate (record { index = index; next_slot = 0 })) where
@@ -156,7 +168,7 @@ module _ {C : Type 0} (codec : Codec) (file : OpenFile C) (state : DiskState) (w
             codec = file.codec;
           })
           (Some (begun plan)) new world)
-          × HoldsOn carries.layout holding then.layout then.holding
+          × HoldsAsBegun carries.layout holding then.layout then.holding
       begin_carries new shuts =
           let layout = with_far carries.layout (Begun []) in
           let goes = goes_begun codec carries.layout file.place.half file.place.number carries.tells.goes_on (not_begun carries.layout.far none) in (
@@ -173,5 +185,5 @@ module _ {C : Type 0} (codec : Codec) (file : OpenFile C) (state : DiskState) (w
               between = begin_next.done (plan_of plan holding) new is_plan (subst (λ (n : ℕ). Shuts state n new) at_gate shuts);
               coming = coming;
             },
-            record { present = refl; coming = refl; middle = refl },
+            record { root = refl; present = refl; coming = refl; middle = refl; far = ap Begun (sym (none_far carries.layout.far none)) },
           )

@@ -25,7 +25,7 @@ use Rattle.rr_checkpoint.specs.declared.checkpoint.Stage.{Stage}
 use Rattle.rr_checkpoint.specs.declared.checkpoint.Stage.TheVariants as S
 use Rattle.rr_checkpoint.specs.declared.open_file.OpenFile.{OpenFile}
 use Rattle.rr_checkpoint.specs.Checkpoint.{plan_of, come_to}
-use Rattle.rr_checkpoint.specs.Holds.{HoldsOn}
+use Rattle.rr_checkpoint.specs.Holds.{HoldsOn, HoldsRenewed}
 use Rattle.rr_checkpoint.specs.OpenFile.{CarriesWith}
 
 -- lists cut at a place
@@ -107,7 +107,7 @@ module _ {C : Type 0} (codec : Codec) (file : OpenFile C) (checkpoint : Checkpoi
                 (next_taken fresh_of checkpoint.plan.fresh.items written fresh found) page_next.done));
             coming = carries.coming;
           },
-          record { present = refl; coming = refl; middle = refl },
+          record { root = refl; present = refl; coming = refl; middle = refl; far = refl },
         )
 
   -- the stale root's gate is shut
@@ -139,7 +139,7 @@ module _ {C : Type 0} (codec : Codec) (file : OpenFile C) (checkpoint : Checkpoi
         between = shut_next.done new (subst (λ (n : ℕ). Shuts state n new) gate_is shuts);
         coming = carries.coming;
       },
-      record { present = refl; coming = refl; middle = refl },
+      record { root = refl; present = refl; coming = refl; middle = refl; far = refl },
     )
 
   -- the coming root is written behind it
@@ -162,7 +162,7 @@ module _ {C : Type 0} (codec : Codec) (file : OpenFile C) (checkpoint : Checkpoi
             between = subst (λ (s : DiskState). IsBetween codec carries.layout s (Filling plan) world) (sym became) fill_next.done;
             coming = carries.coming;
           },
-          record { present = refl; coming = refl; middle = refl },
+          record { root = refl; present = refl; coming = refl; middle = refl; far = refl },
         )
 
   -- its gate is opened
@@ -193,7 +193,7 @@ module _ {C : Type 0} (codec : Codec) (file : OpenFile C) (checkpoint : Checkpoi
             codec = file.codec;
           })
           None new world)
-          × (then.layout.holding ≡ carries.holding)
+          × HoldsRenewed carries.layout carries.holding then.layout
       open_carries side free other reclaimed =
           let lines = filling.come.1.0 in (
             record {
@@ -209,5 +209,8 @@ module _ {C : Type 0} (codec : Codec) (file : OpenFile C) (checkpoint : Checkpoi
               between = subst (λ (s : DiskState). IsBetween codec (flipped carries.layout plan.root plan.holding lines world) s Resting world) (sym became) open_next.done;
               coming = tt;
             },
-            refl,
+            record {
+              present = refl;
+              renewed = record { newer = filling.come.0.next.number; base = refl; near = sym filling.come.1.1; rests = none_behind carries.layout.near };
+            },
           )

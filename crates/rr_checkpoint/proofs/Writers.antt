@@ -5,8 +5,10 @@ use Rattle.rr_disk.specs.Disk.{DiskState}
 use Rattle.rr_disk.specs.Moments.{EachImage}
 use Rattle.rr_pages.specs.declared.choosing.Taken.{Taken}
 use Rattle.rr_pages.specs.declared.free_pages.FreePages.{FreePages}
+use Rattle.rr_pages.specs.declared.root.Root.{Root}
 use Rattle.rr_pages.specs.FreePages.{present_of}
 use Rattle.rr_pages.specs.Sets.{Has}
+use Rattle.rr_images.specs.Calls.{TakesNewer}
 use Rattle.rr_images.specs.Codec.{Codec, Replays}
 use Rattle.rr_images.specs.Holding.{Holding, reached_of}
 use Rattle.rr_images.specs.Layout.{Layout, FarHalf, Unused, Old, Begun, far_lines, KeepsAt, Keeps}
@@ -18,7 +20,7 @@ use Rattle.rr_checkpoint.specs.declared.checkpoint.Stage.TheVariants as S
 use Rattle.rr_checkpoint.specs.declared.open_file.OpenFile.{OpenFile}
 use Rattle.rr_checkpoint.specs.declared.writer.Tick.{Tick}
 use Rattle.rr_checkpoint.specs.declared.writer.Tick.TheVariants.{Idle, More, Done}
-use Rattle.rr_checkpoint.specs.Calls.{Renews, StaysTaken, TakesRootBehind}
+use Rattle.rr_checkpoint.specs.Calls.{Renews, StaysTaken}
 use Rattle.rr_checkpoint.specs.Checkpoint.{progress_of, left_at, left_of}
 use Rattle.rr_checkpoint.specs.Holds.{HoldsOn, HoldsBehind, HoldsAt, RestsBehind, RestsAt}
 use Rattle.rr_checkpoint.specs.OpenFile.{IsBegunAt, HasComing, CarriesWith}
@@ -112,20 +114,20 @@ pub taken_told : (next : Option Checkpoint) (old new : Taken) → StaysTaken nex
 taken_told None old new stays = tt
 taken_told (Some checkpoint) old new stays = stays
 
--- a tick that isn't the last one leaves ticks, and the root
-pub taken_left : (tick : Tick) (left rest : ℕ) (old new : Taken) → Lowers tick left rest → StaysTakenAt tick old new → 0 < rest → new ≡ old
-taken_left Idle left rest old new lowers stays some = stays
-taken_left More left rest old new lowers stays some = stays
-taken_left Done left rest old new lowers stays some = absurd (omega (arith, lowers.1, some))
-
--- the last one renews the root
-pub renewed_behind : (codec : Codec) (tick : Tick) (left rest : ℕ) (layout : Layout codec) (number : ℕ) (new : DiskState) (world : codec.World) → Lowers tick left rest → 0 < left → rest ≡ 0 → layout.root.number ≡ number → RenewsAt codec tick layout new world
-    → EachImage new (TakesRootBehind codec number world)
-renewed_behind codec Idle left rest layout number new world lowers some none same renews = absurd (omega (arith, lowers.0, some))
-renewed_behind codec More left rest layout number new world lowers some none same renews = absurd (omega (arith, lowers.1, none))
-renewed_behind codec Done left rest layout number new world lowers some none same renews = λ image is.
+-- the last one renews the root, also of a layout from before it
+pub renewed_behind : (codec : Codec) (tick : Tick) (left rest : ℕ) (layout then : Layout codec) (coming coming_then : Holding) (new : DiskState) (world : codec.World) → Lowers tick left rest → 0 < left → rest ≡ 0
+    → HoldsOn layout coming then coming_then → RenewsAt codec tick then new world → EachImage new (TakesNewer codec layout world)
+renewed_behind codec Idle left rest layout then coming coming_then new world lowers some none on renews = absurd (omega (arith, lowers.0, some))
+renewed_behind codec More left rest layout then coming coming_then new world lowers some none on renews = absurd (omega (arith, lowers.1, none))
+renewed_behind codec Done left rest layout then coming coming_then new world lowers some none on renews = λ image is.
     let takes = renews image is in
-    record { stands = takes.stands; newer = omega (arith, takes.newer, same); nothing_far = takes.nothing_far }
+    record {
+      stands = takes.stands;
+      newer = subst (λ (root : Root). root.number < takes.stands.root.number) on.root takes.newer;
+      base = takes.base ∙ on.middle;
+      near = takes.near ∙ on.far;
+      nothing_far = takes.nothing_far;
+    }
 
 -- what the roots hold, as a tick tells it
 pub holds_told : {codec : Codec} (next : Option Checkpoint) (old : Layout codec) (coming_old : Holding) (new : Layout codec) (coming_new : Holding)
@@ -140,12 +142,18 @@ pub record HoldsSoFar {codec : Codec} (left rest : ℕ) (old : Layout codec) (co
 
 pub holds_at_first : {codec : Codec} (left : ℕ) (layout : Layout codec) (coming : Holding) → HoldsSoFar left left layout coming layout coming
 holds_at_first left layout coming =
-    record { under_way = λ some. record { present = refl; coming = refl; middle = refl }; done = λ some none. absurd (omega (arith, some, none)) }
+    record { under_way = λ some. record { root = refl; present = refl; coming = refl; middle = refl; far = refl }; done = λ some none. absurd (omega (arith, some, none)) }
 
 holds_twice : {codec : Codec} (old : Layout codec) (coming_old : Holding) (then : Layout codec) (coming_then : Holding) (new : Layout codec) (coming_new : Holding)
     → HoldsOn old coming_old then coming_then → HoldsOn then coming_then new coming_new → HoldsOn old coming_old new coming_new
 holds_twice old coming_old then coming_then new coming_new first second =
-    record { present = second.present ∙ first.present; coming = second.coming ∙ first.coming; middle = second.middle ∙ first.middle }
+    record {
+      root = second.root ∙ first.root;
+      present = second.present ∙ first.present;
+      coming = second.coming ∙ first.coming;
+      middle = second.middle ∙ first.middle;
+      far = second.far ∙ first.far;
+    }
 
 pub holds_more : {codec : Codec} (tick : Tick) (left rest new_rest : ℕ) (old : Layout codec) (coming_old : Holding) (then : Layout codec) (coming_then : Holding) (new : Layout codec) (coming_new : Holding)
     → 0 < rest → Lowers tick rest new_rest → HoldsSoFar left rest old coming_old then coming_then → HoldsAt tick then coming_then new coming_new
@@ -159,7 +167,7 @@ holds_more More left rest new_rest old coming_old then coming_then new coming_ne
 holds_more Done left rest new_rest old coming_old then coming_then new coming_new some lowers so_far holds =
     record {
       under_way = λ more. absurd (omega (arith, more, lowers.1));
-      done = λ some_left none. holds ∙ (so_far.under_way some).coming;
+      done = λ some_left none. holds.present ∙ (so_far.under_way some).coming;
     }
 
 -- the last of the ticks that were left is the one that rests

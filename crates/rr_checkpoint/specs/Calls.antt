@@ -1,10 +1,10 @@
 -- What the calls on an open file leave.
-use Rattle.std.specs.Prelude.{◌≡◌, ◌⊎◌, ℕ, ◌<◌, List, [], Option, None, Some}
+use Rattle.std.specs.Prelude.{◌≡◌, ◌⊎◌, ℕ, List, Option, None, Some}
 use Rattle.rr_disk.specs.Disk.{DiskState}
 use Rattle.rr_disk.specs.Moments.{EachImage, LeavesOnly}
 use Rattle.rr_images.specs.Calls.{TakesNewer}
 use Rattle.rr_images.specs.Codec.{Codec}
-use Rattle.rr_images.specs.Layout.{Keeps, Layout, Stands}
+use Rattle.rr_images.specs.Layout.{Keeps, Layout}
 use Rattle.rr_pages.specs.declared.choosing.Taken.{Taken}
 use Rattle.rr_checkpoint.specs.declared.checkpoint.Checkpoint.{Checkpoint}
 
@@ -28,10 +28,3 @@ Renews codec layout None new world = EachImage new (TakesNewer codec layout worl
 abbrev pub StaysTaken : Option Checkpoint → Taken → Taken → Type 0
 StaysTaken (Some checkpoint) old new = new ≡ old
 StaysTaken None old new = Unit {0}
-
--- A file takes a root of a greater number than this, and stands for the world without a record in the half that this root
--- doesn't name.
-pub record TakesRootBehind (codec : Codec) (number : ℕ) (world : codec.World) (file : List ℕ) : Type 0 where
-  pub stands : Stands codec file world
-  pub newer : number < stands.root.number
-  pub nothing_far : stands.far ≡ []

@@ -11,7 +11,7 @@ ghost use Rattle.rr_pages.specs.FreePages.{coming_of};
 ghost use Rattle.rr_pages.specs.Sets.{Has};
 ghost use Rattle.rr_checkpoint.specs.Calls.{LeavesKept, LeavesEither, Renews, StaysTaken};
 ghost use Rattle.rr_checkpoint.specs.Checkpoint.{plan_of, begun, left_of};
-ghost use Rattle.rr_checkpoint.specs.Holds.{HoldsOn, HoldsWithRecord, HoldsBehind, RestsBehind};
+ghost use Rattle.rr_checkpoint.specs.Holds.{HoldsOn, HoldsAsBegun, HoldsWithRecord, HoldsRenewed, HoldsBehind, RestsBehind};
 
 use crate::Place;
 use crate::checkpoint::{Checkpoint, Stage};
@@ -57,7 +57,7 @@ impl<C: Codec> OpenFile<C> {
         ensures carries { OnOk result (D.Honest disk.new → (old new : C.codec.World) → C.codec.Takes line.now old new
             → (checkpoint : _) → (carries : CarriesWith C.codec self.old checkpoint (D.state disk.old) old)
             → (then : CarriesWith C.codec self.new checkpoint (D.state disk.new) new)
-            × HoldsWithRecord carries.layout carries.holding then.layout then.holding) }
+            × HoldsWithRecord carries.layout carries.holding line.now new then.layout then.holding) }
         ensures stops { D.Honest disk.new → (old new : C.codec.World) → C.codec.Takes line.now old new
             → (checkpoint : _) → CarriesWith C.codec self.old checkpoint (D.state disk.old) old
             → LeavesEither C.codec (D.past disk.old) (D.state disk.old) (D.past disk.new) (D.state disk.new) old new }
@@ -96,7 +96,7 @@ impl<C: Codec> OpenFile<C> {
             → (plan : _) (holding : Holding) → IsPlan C.codec carries.layout (plan_of plan holding)
             → Has (coming_of self.old.free) (reached_of holding)
             → (then : CarriesWith C.codec self.new (Some (begun plan)) (D.state disk.new) world)
-            × HoldsOn carries.layout holding then.layout then.holding) }
+            × HoldsAsBegun carries.layout holding then.layout then.holding) }
         ensures number { self.new.place.number ≡ self.old.place.number }
         ensures slots { self.new.place.half.next_slot ≤ self.old.place.half.next_slot }
         ensures fresh { OnOk result (self.old.place.begun ≡ None → self.new.place.half.next_slot ≡ 0) }
@@ -273,7 +273,7 @@ impl<C: Codec> OpenFile<C> {
         ensures carries { OnOk result (D.Honest disk.new → (world : C.codec.World)
             → (carries : CarriesWith C.codec self.old (Some checkpoint.now) (D.state disk.old) world)
             → (then : CarriesWith C.codec self.new None (D.state disk.new) world)
-            × (then.layout.holding ≡ carries.holding)) }
+            × HoldsRenewed carries.layout carries.holding then.layout) }
         ensures renews { OnOk result (D.Honest disk.new → (world : C.codec.World)
             → (carries : CarriesWith C.codec self.old (Some checkpoint.now) (D.state disk.old) world)
             → Renews C.codec carries.layout None (D.state disk.new) world) }

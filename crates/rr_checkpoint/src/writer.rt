@@ -2,6 +2,7 @@ ghost use Rattle.std.specs.Prelude.{◌≡◌, ◌⊎◌, ◌↔◌, ◌+◌, �
 ghost use Rattle.rr_disk.specs.Disk as device;
 ghost use Rattle.rr_disk.specs.Disk.{DiskState, counted};
 ghost use Rattle.rr_disk.specs.Moments.{EachImage};
+ghost use Rattle.rr_images.specs.Calls.{TakesNewer};
 ghost use Rattle.rr_images.specs.Layout.{Layout};
 ghost use Rattle.rr_images.specs.Plans.{Draft, chains_of};
 ghost use Rattle.rr_images.specs.Progress.{Resting, IsBetween};
@@ -13,8 +14,8 @@ ghost use Rattle.rr_pages.specs.Laying.{pages_for};
 ghost use Rattle.rr_pages.specs.Sets.{IsEmpty, TooFewFree, marked};
 ghost use Rattle.rr_pages.specs.Writing.{IsLaid};
 ghost use Rattle.rr_pages.specs.declared.fault.Fault.TheVariants as pages;
-ghost use Rattle.rr_checkpoint.specs.Calls.{LeavesKept, LeavesEither, TakesRootBehind};
-ghost use Rattle.rr_checkpoint.specs.Holds.{HoldsOn, HoldsWithRecord, HoldsAt, RestsAt};
+ghost use Rattle.rr_checkpoint.specs.Calls.{LeavesKept, LeavesEither};
+ghost use Rattle.rr_checkpoint.specs.Holds.{HoldsAsBegun, HoldsWithRecord, HoldsAt, RestsAt};
 ghost use Rattle.rr_checkpoint.specs.OpenFile.{Tells};
 ghost use Rattle.rr_checkpoint.specs.Pages.{pages_with};
 
@@ -120,7 +121,7 @@ impl<C: Codec> Writer<C> {
         ensures carries { OnOk result (D.Honest disk.new → (old new : C.codec.World) → C.codec.Takes line.now old new
             → (carries : Carries C.codec self.old (D.state disk.old) old)
             → (then : Carries C.codec self.new (D.state disk.new) new)
-            × HoldsWithRecord carries.layout carries.holding then.layout then.holding) }
+            × HoldsWithRecord carries.layout carries.holding line.now new then.layout then.holding) }
         ensures stops { D.Honest disk.new → (old new : C.codec.World) → C.codec.Takes line.now old new
             → Carries C.codec self.old (D.state disk.old) old
             → LeavesEither C.codec (D.past disk.old) (D.state disk.old) (D.past disk.new) (D.state disk.new) old new }
@@ -269,7 +270,7 @@ impl<C: Codec> Writer<C> {
             → (carries : Carries C.codec self.old (D.state disk.old) world)
             → (may : MayBegin C.codec carries.layout (free_of self.old) plan)
             → (then : Carries C.codec self.new (D.state disk.new) world)
-            × HoldsOn carries.layout may.holding then.layout then.holding) }
+            × HoldsAsBegun carries.layout may.holding then.layout then.holding) }
         ensures stops { D.Honest disk.new → (world : C.codec.World) → Carries C.codec self.old (D.state disk.old) world
             → LeavesKept C.codec (D.past disk.old) (D.state disk.old) (D.past disk.new) (D.state disk.new) world }
         ensures left { OnOk result (ticks_left_of self.new ≡ length plan.fresh.items + 3) }
@@ -345,7 +346,8 @@ impl<C: Codec> Writer<C> {
         }
     }
 
-    /// Makes all ticks that are left. Where one was, each file that a stop may leave then takes a newer root.
+    /// Makes all ticks that are left. Where one was, each file that a stop may leave then takes a newer root, whose chains spell
+    /// the world before the first record of the other half, and behind it stand the records of that half.
     ///
     /// # Errors
     /// That of the first tick that fails, which is the last one made.
@@ -357,8 +359,8 @@ impl<C: Codec> Writer<C> {
         ensures stops { D.Honest disk.new → (world : C.codec.World) → Carries C.codec self.old (D.state disk.old) world
             → LeavesKept C.codec (D.past disk.old) (D.state disk.old) (D.past disk.new) (D.state disk.new) world }
         ensures renews { OnOk result (D.Honest disk.new → (world : C.codec.World)
-            → Carries C.codec self.old (D.state disk.old) world → 0 < ticks_left_of self.old
-            → EachImage (D.state disk.new) (TakesRootBehind C.codec (taken_of self.old).root.number world)) }
+            → (carries : Carries C.codec self.old (D.state disk.old) world) → 0 < ticks_left_of self.old
+            → EachImage (D.state disk.new) (TakesNewer C.codec carries.layout world)) }
         ensures left { OnOk result (ticks_left_of self.new ≡ 0) }
         ensures rests { OnOk result (0 < ticks_left_of self.old → (place_of self.new).begun ≡ None) }
         ensures number { (place_of self.new).number ≡ (place_of self.old).number }

@@ -4,8 +4,15 @@ use crate::calls::{Bytes, counts, given, in_memory};
 use rr_checkpoint::{Place, Plan, Tick, Writer};
 use rr_disk::MemoryDisk;
 use rr_images::Codec;
+use rr_images::laws::{
+    chains_are_laid_in_turn, chains_begin_with_their_pages, checkpoints_begin, example,
+    files_read_the_same_keep_the_same, files_stand_for_one_world, formatted_files_keep,
+    fresh_pages_are_written, kept_files_stand, made_plans_are_plans, records_are_appended,
+    refused_files_stand_for_nothing, roots_are_read, roots_change_places,
+};
 use rr_journal::{Fault, Half, HalfIndex, RecordBuffer};
 use rr_pages::{FreePages, FreshPage, PageSet, Root, Roots, Taken};
+use rr_reading::laws::{damaged_files_are_refused, held_files_stand};
 use std::alloc::{AllocError, Global};
 
 const PAGE: usize = 4096;
@@ -231,7 +238,32 @@ fn planned(alloc: Global) -> Result<Planned, rr_pages::Fault> {
 
 // Page 514 is reached now and kept, 515 has the chain's text, 516 the directory. The next root is of number 2, on the
 // other half, whose first record is the next one, number 1.
+// The laws do nothing.
+fn cite_laws_of_layouts() {
+    formatted_files_keep::<Lists>();
+    kept_files_stand::<Lists>();
+    files_stand_for_one_world::<Lists>();
+    roots_are_read::<Lists>();
+    refused_files_stand_for_nothing::<Lists>();
+    files_read_the_same_keep_the_same::<Lists>();
+    held_files_stand::<Lists>();
+    damaged_files_are_refused::<Lists>();
+    example();
+}
+
+fn cite_laws_of_steps() {
+    checkpoints_begin::<Lists>();
+    fresh_pages_are_written::<Lists>();
+    roots_change_places::<Lists>();
+    records_are_appended::<Lists>();
+    chains_begin_with_their_pages();
+    chains_are_laid_in_turn();
+    made_plans_are_plans::<Lists>();
+}
+
 #[test]
 fn a_plan_lays_its_directory_behind_its_chains(rt: HostRuntime) {
+    cite_laws_of_layouts();
+    cite_laws_of_steps();
     assert!(rt; planned(rt.alloc()) == Ok((515, 2, (2, 516, true, 1, 517, 1))));
 }

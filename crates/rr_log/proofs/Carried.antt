@@ -1,17 +1,22 @@
 -- What each call on the file leaves of what a log knows.
-use Rattle.std.proofs.Common.{◌≡◌, ◌⊎◌, inl, inr, ℕ, ◌+◌, ◌<◌, ◌≤◌, List, length, Option, None, Some, Result, Ok, Err, OnOk, refl, sym, ◌∙◌, ap, subst, arith}
+use Rattle.std.proofs.Common.{◌≡◌, ◌⊎◌, inl, inr, ℕ, ◌+◌, ◌<◌, ◌≤◌, true, false, List, [], ◌∷◌, ◌++◌, length, Option, None, Some, Result, Ok, Err, OnOk, refl, sym, ◌∙◌, ap, subst, arith}
 use Rattle.rr_disk.specs.Disk.{DiskState}
 use Rattle.rr_disk.specs.Moments.{EachImage}
+use Rattle.rr_images.specs.Calls.{TakesNewer}
 use Rattle.rr_images.specs.Codec.{Codec}
 use Rattle.rr_images.specs.Holding.{Holding}
-use Rattle.rr_images.specs.Layout.{Keeps, Layout}
+use Rattle.rr_images.specs.Layout.{Keeps, Layout, FarHalf, Unused, Old, Begun, far_lines}
+use Rattle.rr_images.specs.Progress.{IsNotBegun}
+use Rattle.rr_images.specs.Steps.{with_line, with_line_at}
+use Rattle.rr_images.proofs.OneWorld.{kept_stands}
+use Rattle.rr_pages.specs.declared.root.Root.{Root}
 use Rattle.rr_reading.specs.Held.{TextChains}
 use Rattle.rr_checkpoint.specs.declared.checkpoint.Plan.{Plan}
 use Rattle.rr_checkpoint.specs.declared.place.Place.{Place}
 use Rattle.rr_checkpoint.specs.declared.writer.Tick.{Tick}
 use Rattle.rr_checkpoint.specs.declared.writer.Tick.TheVariants.{Idle, More, Done}
 use Rattle.rr_checkpoint.specs.declared.writer.Writer.{Writer}
-use Rattle.rr_checkpoint.specs.Holds.{HoldsOn, HoldsWithRecord, HoldsAt, RestsAt}
+use Rattle.rr_checkpoint.specs.Holds.{HoldsOn, HoldsAsBegun, HoldsWithRecord, HoldsAt, IsRenewed, RestsAt}
 use Rattle.rr_checkpoint.specs.OpenFile.{IsBegunAt}
 use Rattle.rr_checkpoint.specs.Planning.{MayBegin}
 use Rattle.rr_checkpoint.specs.Writer as file
@@ -20,11 +25,11 @@ use Rattle.rr_checkpoint.proofs.Writers.{base_is_carried, carried_kept}
 use Rattle.rr_journal.specs.Layout.{HasRoom}
 use Rattle.rr_log.specs.declared.fault.Fault.{Fault}
 use Rattle.rr_log.specs.declared.fault.Fault.TheVariants as F
-use Rattle.rr_log.specs.Fault.{OnDeviceFault}
+use Rattle.rr_log.specs.Fault.{IsWant, OnDeviceFault, breaks}
 use Rattle.rr_log.specs.declared.log.Log.{Log}
-use Rattle.rr_log.specs.Calls.{IsFileFull, MeetsFullFile, world_behind}
+use Rattle.rr_log.specs.Calls.{IsBegunOn, IsFileFull, MeetsFullFile, TakesRootOf, as_begun, layout_behind, world_behind}
 use Rattle.rr_log.specs.Carrying.{HasTexts, HaveSameTexts, IsBase, Carries, IsPlanned}
-use Rattle.rr_log.specs.Log.{HasNoRoom, place_of, ticks_left}
+use Rattle.rr_log.specs.Log.{HasNoRoom, HasNoneBegun, disk_of, place_of, root_number, ticks_left}
 use Rattle.rr_snapshot.specs.declared.snapshot.Snapshot.{Snapshot}
 use Rattle.rr_snapshot.specs.Planning.{IsOfLayout, HoldsTexts, world_of}
 use Rattle.rr_snapshot.specs.Snapshot.{tables_of}
@@ -82,6 +87,87 @@ pub ok_so : {T E : Type 0} (result : Result T E) (P Q : Type 0) → (P → Q) �
 ok_so (Ok value) P Q so holds = so holds
 ok_so (Err fault) P Q so holds = tt
 
+-- no record stands in the other half where none goes there
+nothing_there : (far : FarHalf) → IsNotBegun far → far_lines far ≡ []
+nothing_there Unused none = refl
+nothing_there Old none = refl
+nothing_there (Begun lines) none = absurd none
+
+-- with a record more the renewed layout is that of the records since the checkpoint began, this one included
+line_renews : (codec : Codec) (before now : Layout codec) (line : List ℕ) (world : codec.World) (far_before far_now : FarHalf) → far_before ≡ Begun now.near → now.far ≡ far_now → IsNotBegun far_now
+    → before.root.number < now.root.number → now.base ≡ before.middle → IsRenewed (with_line_at before far_before line world) (with_line_at now far_now line world)
+line_renews codec before now line world Unused far_now is there none newer base = absurd (cc is)
+line_renews codec before now line world Old far_now is there none newer base = absurd (cc is)
+line_renews codec before now line world (Begun lines) Unused is there none newer base =
+    record {
+      newer = newer;
+      base = base;
+      near = ap (λ (half : FarHalf). Begun (far_lines half ++ line ∷ [])) (sym is);
+      rests = subst (λ (half : FarHalf). IsNotBegun half) (sym there) tt;
+    }
+line_renews codec before now line world (Begun lines) Old is there none newer base =
+    record {
+      newer = newer;
+      base = base;
+      near = ap (λ (half : FarHalf). Begun (far_lines half ++ line ∷ [])) (sym is);
+      rests = subst (λ (half : FarHalf). IsNotBegun half) (sym there) tt;
+    }
+line_renews codec before now line world (Begun lines) (Begun others) is there none newer base = absurd none
+
+pub renewed_line : (codec : Codec) (before now then : Layout codec) (line : List ℕ) (world : codec.World) → then ≡ with_line now line world → IsRenewed before now → IsRenewed (with_line before line world) then
+renewed_line codec before now then line world is renewed =
+    subst (λ (layout : Layout codec). IsRenewed (with_line before line world) layout) (sym is)
+    (line_renews codec before now line world before.far now.far (sym renewed.near) refl renewed.rests renewed.newer renewed.base)
+
+-- a record that was refused leaves the layout
+pub renews_refused : {T : Type 0} (takes : List ℕ → World → World → Type 0) (result : Result T Fault) (fault : Fault) → result ≡ Err fault → (layout : Layout (worlds takes)) (line : List ℕ) (old new : World) (state : DiskState)
+    → EachImage state (TakesNewer (worlds takes) layout old) → EachImage state (TakesNewer (worlds takes) (layout_behind result layout line new) (world_behind result old new))
+renews_refused {T} takes result fault is layout line old new state renews =
+    subst (λ (r : Result T Fault). EachImage state (TakesNewer (worlds takes) (layout_behind r layout line new) (world_behind r old new))) (sym is) renews
+
+-- a checkpoint that was under way, or that was begun
+pub newer_under_way : (codec : Codec) (layout : Layout codec) (world : codec.World) (file : List ℕ) → TakesNewer codec layout world file → TakesNewer codec (as_begun layout) world file
+newer_under_way codec layout world file takes =
+    record {
+      stands = takes.stands;
+      newer = takes.newer;
+      base = takes.base;
+      near = ap (λ (half : FarHalf). Begun (far_lines half)) takes.near;
+      nothing_far = takes.nothing_far;
+    }
+
+pub newer_begun : (codec : Codec) (layout then : Layout codec) (world : codec.World) (file : List ℕ) → IsBegunOn layout then → TakesNewer codec then world file → TakesNewer codec (as_begun layout) world file
+newer_begun codec layout then world file begun takes =
+    record {
+      stands = takes.stands;
+      newer = subst (λ (root : Root). root.number < takes.stands.root.number) begun.root takes.newer;
+      base = takes.base ∙ begun.middle;
+      near = takes.near ∙ begun.far;
+      nothing_far = takes.nothing_far;
+    }
+
+-- a fault that doesn't break the log is one that was put off
+pub only_breaks : {fault : Fault} → fault ≡ F.DeviceFailed → breaks fault ≡ false → ⊥
+only_breaks {fault} failed whole = let both : true ≡ false = sym (ap (λ (f : Fault). breaks f) failed) ∙ whole in cc both
+
+pub is_want : {fault : Fault} → IsWant fault ⊎ (fault ≡ F.DeviceFailed) → breaks fault ≡ false → IsWant fault
+is_want (inl want) whole = want
+is_want (inr failed) whole = absurd (only_breaks failed whole)
+
+pub is_full : {fault full : Fault} → (fault ≡ full) ⊎ (fault ≡ F.DeviceFailed) → breaks fault ≡ false → fault ≡ full
+is_full (inl same) whole = same
+is_full (inr failed) whole = absurd (only_breaks failed whole)
+
+-- what a log of the same disk has
+pub same_images : {D R : Type 0} (state : D → DiskState) (P : List ℕ → Type 0) (old new : Log D R) → new ≡ old → EachImage (state (disk_of old)) P → EachImage (state (disk_of new)) P
+same_images {D} {R} state P old new same each = subst (λ (log : Log D R). EachImage (state (disk_of log)) P) (sym same) each
+
+pub same_disk : {D R : Type 0} (old new : Log D R) → new ≡ old → disk_of new ≡ disk_of old
+same_disk {D} {R} old new same = ap (λ (log : Log D R). disk_of log) same
+
+pub same_count : {D R : Type 0} (calls : D → ℕ) (old new : Log D R) (most : ℕ) → new ≡ old → calls (disk_of old) ≤ most → calls (disk_of new) ≤ most
+same_count {D} {R} calls old new most same few = subst (λ (log : Log D R). calls (disk_of log) ≤ most) (sym same) few
+
 module _ {D R : Type 0} (takes : List ℕ → World → World → Type 0) (log : Log D R) (state : DiskState) (world : World) (carries : Carries takes log state world) where
   abbrev codec : Codec
   codec = worlds takes
@@ -95,6 +181,30 @@ module _ {D R : Type 0} (takes : List ℕ → World → World → Type 0) (log :
   -- each file that a stop may leave now keeps the world
   pub kept_now : EachImage state (λ image. Keeps codec image world)
   kept_now = carried_kept codec log.writer.file log.writer.checkpoint state world carries.carried
+
+  -- behind the last step of a checkpoint each takes a newer root
+  pub renews_now : (before : Layout codec) → IsRenewed before layout → EachImage state (TakesNewer codec before world)
+  unfolding kept_stands
+  renews_now before renewed = λ image is.
+      record {
+        stands = kept_stands codec layout image world (carries.carried.between.each image is);
+        newer = renewed.newer;
+        base = renewed.base;
+        near = renewed.near;
+        nothing_far = nothing_there layout.far renewed.rests;
+      }
+
+  -- where none was begun before, that is the root of the world itself
+  pub takes_root : HasNoneBegun (place_of log) → (file : List ℕ) → TakesNewer codec (as_begun layout) world file → TakesRootOf codec (root_number log) world file
+  takes_root none file newer =
+      let rests = subst (λ (begun : Option ℕ). IsBegunAt begun (layout.root.first + length layout.near) layout.far) none carries.carried.tells.begun in
+      record {
+        stands = newer.stands;
+        newer = subst (λ (root : Root). root.number < newer.stands.root.number) carries.carried.tells.root newer.newer;
+        base = newer.base ∙ base_is_carried codec log.writer.file log.writer.checkpoint state world carries.carried none;
+        nothing_near = ap (λ (half : FarHalf). far_lines half) newer.near ∙ nothing_there layout.far rests;
+        nothing_far = newer.nothing_far;
+      }
 
   -- the tables from before the first record of the other half, as a snapshot, are those that a checkpoint writes
   abbrev pub of_layout : (snapshot : Snapshot) → tables_of snapshot ≡ layout.middle.tables → IsOfLayout takes log.kit snapshot layout
@@ -141,15 +251,15 @@ module _ {D R : Type 0} (takes : List ℕ → World → World → Type 0) (log :
         }
 
     pub planned : (plan : Plan) → (may : MayBegin codec layout (file.free_of new) plan) × HoldsTexts texts may.holding
-        → IsPlanned takes (record { alloc = log.alloc; disk = log.disk; writer = new; kit = log.kit; base = log.base; broken = log.broken }) plan state world
+        → IsPlanned takes (record { alloc = log.alloc; disk = log.disk; writer = new; kit = log.kit; base = log.base; broken = log.broken }) plan state world layout
     planned plan may =
         let moved = subst (λ (l : Layout codec). (m : MayBegin codec l (file.free_of new) plan) × HoldsTexts texts m.holding) (sym then.1) may in
-        record { carries = taken_carries; may = moved.0; texts = moved.1 }
+        record { carries = taken_carries; same = then.1; may = moved.0; texts = moved.1 }
 
   module _ (disk : D) (new : Writer (Worlds R)) (after : DiskState) where
     -- the first tick of a checkpoint, whose coming root holds the texts
-    pub begun_carries : (holding : Holding) → HoldsTexts texts holding → 0 < file.ticks_left_of new
-        → (then : file.Carries codec new after world) × HoldsOn layout holding then.layout then.holding
+    abbrev pub begun_carries : (holding : Holding) → HoldsTexts texts holding → 0 < file.ticks_left_of new
+        → (then : file.Carries codec new after world) × HoldsAsBegun layout holding then.layout then.holding
         → Carries takes (record { alloc = log.alloc; disk = disk; writer = new; kit = log.kit; base = None; broken = log.broken }) after world
     begun_carries holding holds some then =
         record {
@@ -186,7 +296,7 @@ module _ {D R : Type 0} (takes : List ℕ → World → World → Type 0) (log :
         }
 
     -- the last one: nothing stands in the other half, and the base of a root to come is the world
-    pub done_carries : 0 < ticks_left log → file.ticks_left_of new ≡ 0 → (file.place_of new).begun ≡ None
+    abbrev pub done_carries : 0 < ticks_left log → file.ticks_left_of new ≡ 0 → (file.place_of new).begun ≡ None
         → (then : file.Carries codec new after world) × (then.layout.holding ≡ carries.carried.holding)
         → Carries takes (record { alloc = log.alloc; disk = disk; writer = new; kit = log.kit; base = log.base; broken = log.broken }) after world
     done_carries some none rests then =
@@ -210,25 +320,32 @@ module _ {D R : Type 0} (takes : List ℕ → World → World → Type 0) (log :
         → Carries takes (record { alloc = log.alloc; disk = disk; writer = new; kit = log.kit; base = log.base; broken = log.broken }) after world
     ticked_carries Idle some lowers rests then = absurd (omega (arith, some, lowers.0))
     ticked_carries More some lowers rests then = more_carries some lowers.1 then
-    ticked_carries Done some lowers rests then = done_carries some lowers.1 rests then
+    ticked_carries Done some lowers rests then = done_carries some lowers.1 rests (then.0, then.1.present)
+
+    pub last_carries : (tick : Tick) → ticks_left log ≡ 1 → Lowers tick (ticks_left log) (file.ticks_left_of new) → RestsAt tick (file.place_of new).begun
+        → (then : file.Carries codec new after world) × HoldsAt tick layout carries.carried.holding then.layout then.holding
+        → (then : Carries takes (record { alloc = log.alloc; disk = disk; writer = new; kit = log.kit; base = log.base; broken = log.broken }) after world) × IsRenewed layout then.carried.layout
+    last_carries Idle one lowers rests then = absurd (omega (arith, one, lowers.0))
+    last_carries More one lowers rests then = absurd (omega (arith, one, lowers.0, lowers.1))
+    last_carries Done one lowers rests then = (done_carries (omega (arith, one)) lowers.1 rests (then.0, then.1.present), then.1.renewed)
 
     -- a record: one in the root's half leads to another base of a root to come, one in the other half doesn't
-    module _ (next : World) (same : HaveSameTexts world next) (left : file.ticks_left_of new ≡ ticks_left log)
-        (then : (carried : file.Carries codec new after next) × HoldsWithRecord layout carries.carried.holding carried.layout carried.holding) where
-      texts_behind : (begun : Option ℕ) → (place_of log).begun ≡ begun → (file.place_of new).begun ≡ begun → HasTexts texts then.0.layout.middle
+    module _ (line : List ℕ) (next : World) (same : HaveSameTexts world next) (left : file.ticks_left_of new ≡ ticks_left log)
+        (then : (carried : file.Carries codec new after next) × HoldsWithRecord layout carries.carried.holding line next carried.layout carried.holding) where
+      pub texts_behind : (begun : Option ℕ) → (place_of log).begun ≡ begun → (file.place_of new).begun ≡ begun → HasTexts texts then.0.layout.middle
       texts_behind None before behind =
           texts_in texts next then.0.layout.middle (base_is_carried codec new.file new.checkpoint after next then.0 behind) (texts_on texts world next same carries.kit.of_world)
       texts_behind (Some first) before behind =
           let begun : IsBegunAt (Some first) (layout.root.first + length layout.near) layout.far = subst (λ (b : Option ℕ). IsBegunAt b (layout.root.first + length layout.near) layout.far) before carries.carried.tells.begun in
           texts_in texts layout.middle then.0.layout.middle (then.1.middle begun.0) carries.kit.of_middle
 
-      base_behind : (begun : Option ℕ) → (place_of log).begun ≡ begun → IsBase begun log.base layout.middle.tables → IsBase begun log.base then.0.layout.middle.tables
+      pub base_behind : (begun : Option ℕ) → (place_of log).begun ≡ begun → IsBase begun log.base layout.middle.tables → IsBase begun log.base then.0.layout.middle.tables
       base_behind None before is = is
       base_behind (Some first) before is =
           let begun : IsBegunAt (Some first) (layout.root.first + length layout.near) layout.far = subst (λ (b : Option ℕ). IsBegunAt b (layout.root.first + length layout.near) layout.far) before carries.carried.tells.begun in
           (is.0, is.1, is.2 ∙ ap (λ (w : World). w.tables) (sym (then.1.middle begun.0)))
 
-      pub kept_carries : (file.place_of new).begun ≡ (place_of log).begun
+      abbrev pub kept_carries : (file.place_of new).begun ≡ (place_of log).begun
           → Carries takes (record { alloc = log.alloc; disk = disk; writer = new; kit = log.kit; base = log.base; broken = log.broken }) after next
       kept_carries begun =
           record {

@@ -1,9 +1,12 @@
 -- What the calls on a log do, and when they are refused.
-use Rattle.std.specs.Prelude.{◌≡◌, ◌⊎◌, ℕ, ◌+◌, ◌<◌, ◌≤◌, Bool, List, Option, None, Some, Result, Ok, Err}
+use Rattle.std.specs.Prelude.{◌≡◌, ◌⊎◌, ℕ, ◌+◌, ◌<◌, ◌≤◌, Bool, List, [], Option, None, Some, Result, Ok, Err}
 use Rattle.rr_checkpoint.specs.declared.place.Place.{Place}
 use Rattle.rr_checkpoint.specs.declared.writer.Tick.{Tick}
 use Rattle.rr_checkpoint.specs.declared.writer.Tick.TheVariants.{Idle, More, Done}
 use Rattle.rr_checkpoint.specs.Writer as file
+use Rattle.rr_images.specs.Codec.{Codec}
+use Rattle.rr_images.specs.Layout.{Layout, Stands, Begun, far_lines}
+use Rattle.rr_images.specs.Steps.{with_far, with_line}
 use Rattle.rr_log.specs.declared.fault.Fault.{Fault}
 use Rattle.rr_log.specs.declared.fault.Fault.TheVariants as F
 use Rattle.rr_log.specs.declared.log.Log.{Log}
@@ -31,6 +34,29 @@ NumberBehind (Err F.FileFull) old new = new ≡ old
 NumberBehind (Err F.OpenAgain) old new = new ≡ old
 NumberBehind (Err F.OutOfMemory) old new = new ≡ old
 
+-- the layout of its file behind a record whose keeping ended so
+abbrev pub layout_behind : {T : Type 0} {codec : Codec} → Result T Fault → Layout codec → List ℕ → codec.World → Layout codec
+layout_behind (Ok value) layout line world = with_line layout line world
+layout_behind (Err fault) layout line world = layout
+
+-- the layout on which a checkpoint begins: the other half has the records that an opening found there, and else none
+abbrev pub as_begun : {codec : Codec} → Layout codec → Layout codec
+as_begun layout = with_far layout (Begun (far_lines layout.far))
+
+-- a checkpoint is begun on a layout: the root stays, and so does the world before the first record of the other half
+pub record IsBegunOn {codec : Codec} (old new : Layout codec) : Type 0 where
+  pub root : new.root ≡ old.root
+  pub middle : new.middle ≡ old.middle
+  pub far : new.far ≡ (as_begun old).far
+
+-- A file takes a root of a greater number than this, whose chains spell the world, and no record stands behind it.
+pub record TakesRootOf (codec : Codec) (number : ℕ) (world : codec.World) (file : List ℕ) : Type 0 where
+  pub stands : Stands codec file world
+  pub newer : number < stands.root.number
+  pub base : stands.base ≡ world
+  pub nothing_near : stands.near ≡ []
+  pub nothing_far : stands.far ≡ []
+
 -- but for pages that were taken for a checkpoint and given back, all is as it was
 pub record IsUnchanged {D R : Type 0} (old new : Log D R) : Type 0 where
   pub disk : disk_of new ≡ disk_of old
@@ -46,7 +72,7 @@ pub record IsUnchanged {D R : Type 0} (old new : Log D R) : Type 0 where
 -- its pages, at least one, and three more.
 abbrev pub LowersFrom : Tick → ℕ → ℕ → Type 0
 LowersFrom Idle old new = (old ≡ 0) × (new ≡ 0)
-LowersFrom More old new = (0 < new) × (0 < old → old ≡ new + 1) × (old ≡ 0 → 3 ≤ new)
+LowersFrom More old new = (0 < new) × (0 < old → old ≡ new + 1) × (old ≡ 0 → 4 ≤ new)
 LowersFrom Done old new = (old ≡ 1) × (new ≡ 0)
 
 -- the tables that a checkpoint begun now writes: those from before the first record of the other half, or those that are lent

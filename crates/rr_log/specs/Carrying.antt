@@ -56,9 +56,10 @@ pub record Carries {D R : Type 0} (takes : List ℕ → World → World → Type
   pub base : ticks_left log ≡ 0 → IsBase (place_of log).begun log.base carried.layout.middle.tables
   pub no_base : 0 < ticks_left log → log.base ≡ None
 
--- the plan of a checkpoint is one for the file of this log, and keeps the texts where they stand
+-- the plan of a checkpoint is one for the file of this log, of this layout, and keeps the texts where they stand
 pub record IsPlanned {D R : Type 0} (takes : List ℕ → World → World → Type 0) (log : Log D R) (plan : Plan)
-    (state : DiskState) (world : World) : Type 0 where
+    (state : DiskState) (world : World) (layout : Layout (worlds takes)) : Type 0 where
   pub carries : Carries takes log state world
+  pub same : carries.carried.layout ≡ layout
   pub may : MayBegin (worlds takes) carries.carried.layout (file.free_of log.writer) plan
   pub texts : HoldsTexts carries.kit.texts may.holding

@@ -32,6 +32,10 @@ root_number log = (file.taken_of log.writer).root.number
 abbrev pub ticks_left : {D R : Type 0} → Log D R → ℕ
 ticks_left log = file.ticks_left_of log.writer
 
+-- no checkpoint is under way, nor did an opening find one begun: records go on in the half that the root names
+abbrev pub HasNoneBegun : Place → Type 0
+HasNoneBegun place = place.begun ≡ None
+
 -- without a checkpoint under way a tick begins one: an opening found it begun, or at least 128 slots of the half are used
 abbrev pub IsDue : Place → Type 0
 IsDue place = (place.begun ≡ None → ⊥) ⊎ (128 ≤ place.half.next_slot)

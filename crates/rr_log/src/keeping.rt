@@ -1,6 +1,10 @@
 // Records.
 ghost use Rattle.std.specs.Prelude.{◌≡◌, ◌⊎◌, ◌↔◌, ◌+◌, ◌^◌, ◌<◌, ◌≤◌, false, length, IfOk, IfErr, IsErrOf, IsTrue, OnOk, None, Ok, Err};
 ghost use Rattle.rr_checkpoint.specs.Calls.{LeavesKept, LeavesEither};
+ghost use Rattle.rr_checkpoint.specs.Holds.{IsRenewed};
+ghost use Rattle.rr_disk.specs.Moments.{EachImage};
+ghost use Rattle.rr_images.specs.Calls.{TakesNewer};
+ghost use Rattle.rr_images.specs.Steps.{with_line};
 ghost use Rattle.rr_log.specs.Fault.{CountsFault, IsWant, OnDeviceFault, ends_broken};
 ghost use Rattle.rr_worlds.specs.Spelling.{worlds};
 ghost use Rattle.rr_worlds.specs.World.{World};
@@ -11,7 +15,7 @@ use rr_disk::Disk;
 use rr_worlds::Rules;
 
 impl<D: Disk + Drop, R: Rules> Log<D, R> {
-    ghost use Rattle.rr_log.specs.Calls.{IsFileFull, MayRefuse, MeetsFullFile, NumberBehind, world_behind};
+    ghost use Rattle.rr_log.specs.Calls.{IsFileFull, MayRefuse, MeetsFullFile, NumberBehind, layout_behind, ticks_due, world_behind};
     ghost use Rattle.rr_log.specs.Carrying.{Carries, HaveSameTexts};
     ghost use Rattle.rr_log.specs.Log.{disk_of, is_broken, next_number, place_of, ticks_left, HasNoRoom, IsDue, IsTooLong};
 
@@ -39,15 +43,27 @@ impl<D: Disk + Drop, R: Rules> Log<D, R> {
             → Carries R.takes self.new (D.state (disk_of self.new)) (world_behind result old new) }
         ensures number { NumberBehind result (next_number self.old) (next_number self.new) }
 
-        // How far a checkpoint comes.
+        // How far a checkpoint comes. Where the tick was its last, each file that a stop may leave takes a newer root: its chains
+        // spell the world as the checkpoint began, and only the records since then stand behind it, this one too if it is kept.
+        ensures renews { is_broken self.new ≡ false → ticks_left self.old ≡ 1 → ticks_left self.new ≡ 0
+            → D.Honest (disk_of self.new) → (old new : World) → R.takes line.now old new → HaveSameTexts old new
+            → (carries : Carries R.takes self.old (D.state (disk_of self.old)) old)
+            → EachImage (D.state (disk_of self.new)) (TakesNewer (worlds R.takes)
+            (layout_behind result carries.carried.layout line.now new) (world_behind result old new)) }
+        ensures most { is_broken self.new ≡ false → ticks_left self.old ≡ 0
+            → ticks_left self.new < ticks_due self.old (T.tables tables.now) }
         ensures left { is_broken self.new ≡ false → next_number self.old + 1 < 2 ^ 63 → 0 < ticks_left self.old
+            → ticks_left self.old ≡ ticks_left self.new + 1 }
+        ensures comes { IsErrOf result Fault.HalfFull → 0 < ticks_left self.old
             → ticks_left self.old ≡ ticks_left self.new + 1 }
         ensures rests { ticks_left self.old ≡ 0 → (IsDue (place_of self.old) → ⊥) → ticks_left self.new ≡ 0 }
         ensures begins { is_broken self.new ≡ false → ticks_left self.old ≡ 0
-            → (ticks_left self.new ≡ 0) ⊎ (3 ≤ ticks_left self.new) }
+            → (ticks_left self.new ≡ 0) ⊎ (4 ≤ ticks_left self.new) }
         ensures resting { IsErrOf result Fault.HalfFull → ticks_left self.new ≡ 0 → (place_of self.new).begun ≡ None }
+        ensures nothing { IfErr result (λ fault. is_broken self.new ≡ false → ticks_left self.old ≡ 0
+            → ticks_left self.new ≡ 0 → disk_of self.new ≡ disk_of self.old) }
         // Room is made by a checkpoint that begins.
-        ensures makes_room { OnOk result (HasNoRoom (place_of self.old) (length line.now) → 3 ≤ ticks_left self.new) }
+        ensures makes_room { OnOk result (HasNoRoom (place_of self.old) (length line.now) → 4 ≤ ticks_left self.new) }
 
         // When each refusal comes.
         ensures again { IsErrOf result Fault.OpenAgain ↔ IsTrue (is_broken self.old) }
@@ -64,9 +80,14 @@ impl<D: Disk + Drop, R: Rules> Log<D, R> {
         ensures device { OnDeviceFault result (D.Honest (disk_of self.new) → (world : World)
             → Carries R.takes self.old (D.state (disk_of self.old)) world → D.Works (disk_of self.new) → ⊥) }
 
-        // Two of each are the record's, and one the tick's, where it is one of a checkpoint.
+        // Two of each are the record's, and one the tick's, where it is one of a checkpoint. Where the half is full only the
+        // tick's are made.
         ensures writes { D.write_count (disk_of self.new) ≤ D.write_count (disk_of self.old) + 3 }
         ensures syncs { D.sync_count (disk_of self.new) ≤ D.sync_count (disk_of self.old) + 3 }
+        ensures tick_writes { IsErrOf result Fault.HalfFull
+            → D.write_count (disk_of self.new) ≤ D.write_count (disk_of self.old) + 1 }
+        ensures tick_syncs { IsErrOf result Fault.HalfFull
+            → D.sync_count (disk_of self.new) ≤ D.sync_count (disk_of self.old) + 1 }
         ensures own_writes { ticks_left self.old ≡ 0 → (IsDue (place_of self.old) → ⊥)
             → D.write_count (disk_of self.new) ≤ D.write_count (disk_of self.old) + 2 }
         ensures own_syncs { ticks_left self.old ≡ 0 → (IsDue (place_of self.old) → ⊥)
@@ -95,6 +116,10 @@ impl<D: Disk + Drop, R: Rules> Log<D, R> {
         ensures carries { D.Honest (disk_of self.new) → is_broken self.new ≡ false → (world : World)
             → world.tables ≡ T.tables tables.now → Carries R.takes self.old (D.state (disk_of self.old)) world
             → Carries R.takes self.new (D.state (disk_of self.new)) world }
+        ensures renewed { is_broken self.new ≡ false → ticks_left self.old ≡ 1 → D.Honest (disk_of self.new)
+            → (world : World) → (carries : Carries R.takes self.old (D.state (disk_of self.old)) world)
+            → (then : Carries R.takes self.new (D.state (disk_of self.new)) world)
+            × IsRenewed carries.carried.layout then.carried.layout }
         ensures full { IfOk result (λ full. IsWant full ⊎ (full ≡ Fault.HalfFull)) }
         ensures want { IfOk result (λ full. IsWant full → (ticks_left self.old ≡ 0) × IsDue (place_of self.old)) }
         ensures err { IfErr result (λ fault. fault ≡ Fault.DeviceFailed) }
@@ -102,13 +127,17 @@ impl<D: Disk + Drop, R: Rules> Log<D, R> {
             → ticks_left self.old ≡ ticks_left self.new + 1 }
         ensures idle { ticks_left self.old ≡ 0 → (IsDue (place_of self.old) → ⊥) → self.new ≡ self.old }
         ensures begins { is_broken self.new ≡ false → ticks_left self.old ≡ 0
-            → (ticks_left self.new ≡ 0) ⊎ (3 ≤ ticks_left self.new) }
+            → (ticks_left self.new ≡ 0) ⊎ (4 ≤ ticks_left self.new) }
+        ensures nothing { is_broken self.new ≡ false → ticks_left self.old ≡ 0 → ticks_left self.new ≡ 0
+            → disk_of self.new ≡ disk_of self.old }
+        ensures most { is_broken self.new ≡ false → ticks_left self.old ≡ 0
+            → ticks_left self.new < ticks_due self.old (T.tables tables.now) }
         ensures few { IfOk result (λ full. full ≡ Fault.HalfFull → ticks_left self.old ≡ 0
             → (place_of self.old).begun ≡ None → (place_of self.new).half.next_slot < 128) }
         ensures resting { IfOk result (λ full. full ≡ Fault.HalfFull → ticks_left self.new ≡ 0
             → (place_of self.new).begun ≡ None) }
         ensures half { IfOk result (λ full. ((place_of self.new).half ≡ (place_of self.old).half)
-            ⊎ (3 ≤ ticks_left self.new)) }
+            ⊎ (4 ≤ ticks_left self.new)) }
         ensures full_file { IfOk result (λ full. full ≡ Fault.FileFull
             → (ticks_left self.new ≡ 0) × IsFileFull self.new (T.tables tables.now)) }
         ensures number { next_number self.new ≡ next_number self.old }
@@ -142,6 +171,10 @@ impl<D: Disk + Drop, R: Rules> Log<D, R> {
             → R.takes line.now old new → HaveSameTexts old new
             → Carries R.takes self.old (D.state (disk_of self.old)) old
             → Carries R.takes self.new (D.state (disk_of self.new)) (world_behind result old new) }
+        ensures appends { OnOk result (D.Honest (disk_of self.new) → (old new : World) → R.takes line.now old new
+            → HaveSameTexts old new → (carries : Carries R.takes self.old (D.state (disk_of self.old)) old)
+            → (then : Carries R.takes self.new (D.state (disk_of self.new)) new)
+            × (then.carried.layout ≡ with_line carries.carried.layout line.now new)) }
         ensures number { NumberBehind result (next_number self.old) (next_number self.new) }
         ensures left { ticks_left self.new ≡ ticks_left self.old }
         ensures broken { is_broken self.new ≡ ends_broken result }

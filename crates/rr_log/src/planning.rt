@@ -48,6 +48,7 @@ fn plan_of<R: Rules>(
         → (of : IsOfLayout R.takes kit.now snapshot.now carries.layout)
         → (may : MayBegin (worlds R.takes) carries.layout (file.free_of writer.new) plan)
         × HoldsTexts of.texts may.holding) }
+    ensures some { IfOk result (λ plan. 0 < length plan.fresh.items) }
     ensures few { IfOk result (λ plan. length plan.fresh.items ≤ most_laid_pages (tables_of snapshot.now)) }
     ensures full { IsErrOf result Fault.FileFull → (none : List Bool) → NoneReached none
         → TooFewFree (present_of (file.free_of writer.old)) (all_marked none (text_pages kit.now))
@@ -72,7 +73,9 @@ impl<D: Disk + Drop, R: Rules> Log<D, R> {
     pub(crate) fn plan<T: TablesInWords>(&mut self, tables: &T) -> Result<Plan, Fault>
         requires { ticks_left self.old ≡ 0 }
         ensures plan { IfOk result (λ plan. (state : DiskState) (world : World) → world.tables ≡ T.tables tables.now
-            → Carries R.takes self.old state world → IsPlanned R.takes self.new plan state world) }
+            → (carries : Carries R.takes self.old state world)
+            → IsPlanned R.takes self.new plan state world carries.carried.layout) }
+        ensures some { IfOk result (λ plan. 0 < length plan.fresh.items) }
         ensures few { IfOk result (λ plan. length plan.fresh.items
             ≤ most_laid_pages (tables_due self.old.base (T.tables tables.now))) }
         ensures carries { (state : DiskState) (world : World) → Carries R.takes self.old state world

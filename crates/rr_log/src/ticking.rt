@@ -1,8 +1,10 @@
 // Checkpoints, in ticks.
 ghost use Rattle.std.specs.Prelude.{◌≡◌, ◌⊎◌, ◌↔◌, ◌+◌, ◌<◌, ◌≤◌, false, OnOk, IfOk, IfErr, IsErrOf, IsTrue, None};
-ghost use Rattle.rr_checkpoint.specs.Calls.{LeavesKept, TakesRootBehind};
+ghost use Rattle.rr_checkpoint.specs.Calls.{LeavesKept};
+ghost use Rattle.rr_checkpoint.specs.Holds.{IsRenewed};
 ghost use Rattle.rr_checkpoint.specs.Writer.{RenewsAt, Lowers};
 ghost use Rattle.rr_disk.specs.Moments.{EachImage};
+ghost use Rattle.rr_images.specs.Calls.{TakesNewer};
 ghost use Rattle.rr_log.specs.Fault.{CountsFault, IsWant, OnDeviceFault, ends_broken};
 ghost use Rattle.rr_worlds.specs.Spelling.{worlds};
 ghost use Rattle.rr_worlds.specs.World.{World};
@@ -16,9 +18,9 @@ use rr_worlds::Rules;
 const MANY_SLOTS: u8 = 128;
 
 impl<D: Disk + Drop, R: Rules> Log<D, R> {
-    ghost use Rattle.rr_log.specs.Calls.{IsFileFull, IsUnchanged, LowersFrom, ticks_due};
+    ghost use Rattle.rr_log.specs.Calls.{IsBegunOn, IsFileFull, IsUnchanged, LowersFrom, TakesRootOf, as_begun, ticks_due};
     ghost use Rattle.rr_log.specs.Carrying.{Carries};
-    ghost use Rattle.rr_log.specs.Log.{disk_of, is_broken, next_number, place_of, root_number, ticks_left, IsDue};
+    ghost use Rattle.rr_log.specs.Log.{disk_of, is_broken, next_number, place_of, root_number, ticks_left, HasNoneBegun, IsDue};
 
     /// Makes one step of a checkpoint: it goes on with the one under way, or begins one where an opening found it begun or
     /// at least 128 slots of the half in use are used. The tables are those of the world that the log carries: a first tick
@@ -87,9 +89,15 @@ impl<D: Disk + Drop, R: Rules> Log<D, R> {
         ensures renews { IfOk result (λ tick. D.Honest (disk_of self.new) → (world : World)
             → (carries : Carries R.takes self.old (D.state (disk_of self.old)) world)
             → RenewsAt (worlds R.takes) tick carries.carried.layout (D.state (disk_of self.new)) world) }
+        ensures renewed { is_broken self.new ≡ false → ticks_left self.old ≡ 1 → D.Honest (disk_of self.new)
+            → (world : World) → (carries : Carries R.takes self.old (D.state (disk_of self.old)) world)
+            → (then : Carries R.takes self.new (D.state (disk_of self.new)) world)
+            × IsRenewed carries.carried.layout then.carried.layout }
         ensures left { IfOk result (λ tick. LowersFrom tick (ticks_left self.old) (ticks_left self.new)) }
         ensures most { IfOk result (λ tick. ticks_left self.old ≡ 0
             → ticks_left self.new < ticks_due self.old (T.tables tables.now)) }
+        ensures nothing { is_broken self.new ≡ false → ticks_left self.old ≡ 0 → ticks_left self.new ≡ 0
+            → disk_of self.new ≡ disk_of self.old }
         ensures idle { (result ≡ Ok Tick.Idle) ↔ ((ticks_left self.old ≡ 0) × (IsDue (place_of self.old) → ⊥)) }
         ensures rests { result ≡ Ok Tick.Idle → self.new ≡ self.old }
         ensures number { next_number self.new ≡ next_number self.old }
@@ -98,7 +106,7 @@ impl<D: Disk + Drop, R: Rules> Log<D, R> {
             → (place_of self.new).half.next_slot < 128) }
         ensures resting { IfOk result (λ tick. ticks_left self.new ≡ 0 → (place_of self.new).begun ≡ None) }
         ensures half { IfOk result (λ tick. ((place_of self.new).half ≡ (place_of self.old).half)
-            ⊎ (3 ≤ ticks_left self.new)) }
+            ⊎ (4 ≤ ticks_left self.new)) }
         ensures broken { is_broken self.new ≡ ends_broken result }
         ensures err { IfErr result (λ fault. IsWant fault ⊎ (fault ≡ Fault.DeviceFailed)) }
         ensures full { IsErrOf result Fault.FileFull → IsFileFull self.old (T.tables tables.now) }
@@ -149,6 +157,10 @@ impl<D: Disk + Drop, R: Rules> Log<D, R> {
         ensures renews { IfOk result (λ tick. D.Honest (disk_of self.new) → (world : World)
             → (carries : Carries R.takes self.old (D.state (disk_of self.old)) world)
             → RenewsAt (worlds R.takes) tick carries.carried.layout (D.state (disk_of self.new)) world) }
+        ensures renewed { is_broken self.new ≡ false → ticks_left self.old ≡ 1 → D.Honest (disk_of self.new)
+            → (world : World) → (carries : Carries R.takes self.old (D.state (disk_of self.old)) world)
+            → (then : Carries R.takes self.new (D.state (disk_of self.new)) world)
+            × IsRenewed carries.carried.layout then.carried.layout }
         ensures left { IfOk result (λ tick. Lowers tick (ticks_left self.old) (ticks_left self.new)) }
         ensures resting { IfOk result (λ tick. ticks_left self.new ≡ 0 → (place_of self.new).begun ≡ None) }
         ensures number { next_number self.new ≡ next_number self.old }
@@ -183,7 +195,11 @@ impl<D: Disk + Drop, R: Rules> Log<D, R> {
         ensures carries { D.Honest (disk_of self.new) → is_broken self.new ≡ false → (world : World)
             → world.tables ≡ T.tables tables.now → Carries R.takes self.old (D.state (disk_of self.old)) world
             → Carries R.takes self.new (D.state (disk_of self.new)) world }
-        ensures left { OnOk result (3 ≤ ticks_left self.new) }
+        ensures starts { OnOk result (D.Honest (disk_of self.new) → (world : World) → world.tables ≡ T.tables tables.now
+            → (carries : Carries R.takes self.old (D.state (disk_of self.old)) world)
+            → (then : Carries R.takes self.new (D.state (disk_of self.new)) world)
+            × IsBegunOn carries.carried.layout then.carried.layout) }
+        ensures left { OnOk result (4 ≤ ticks_left self.new) }
         ensures most { OnOk result (ticks_left self.new < ticks_due self.old (T.tables tables.now)) }
         ensures number { next_number self.new ≡ next_number self.old }
         ensures slots { (place_of self.new).half.next_slot ≤ (place_of self.old).half.next_slot }
@@ -231,10 +247,14 @@ impl<D: Disk + Drop, R: Rules> Log<D, R> {
             → world.tables ≡ T.tables tables.now → Carries R.takes self.old (D.state (disk_of self.old)) world
             → Carries R.takes self.new (D.state (disk_of self.new)) world }
 
-        // Then each file that a stop may leave takes a root of a greater number.
+        // Then each file that a stop may leave takes a newer root. Its chains spell the world as the checkpoint began, and only
+        // the records since then stand behind it. Where none was begun before, that is the world itself, and no record.
         ensures renews { OnOk result (D.Honest (disk_of self.new) → (world : World) → world.tables ≡ T.tables tables.now
-            → Carries R.takes self.old (D.state (disk_of self.old)) world
-            → EachImage (D.state (disk_of self.new)) (TakesRootBehind (worlds R.takes) (root_number self.old) world)) }
+            → (carries : Carries R.takes self.old (D.state (disk_of self.old)) world)
+            → EachImage (D.state (disk_of self.new)) (TakesNewer (worlds R.takes) (as_begun carries.carried.layout) world)) }
+        ensures whole { OnOk result (HasNoneBegun (place_of self.old) → D.Honest (disk_of self.new) → (world : World)
+            → world.tables ≡ T.tables tables.now → Carries R.takes self.old (D.state (disk_of self.old)) world
+            → EachImage (D.state (disk_of self.new)) (TakesRootOf (worlds R.takes) (root_number self.old) world)) }
         ensures left { OnOk result (ticks_left self.new ≡ 0) }
         ensures rests { OnOk result ((place_of self.new).begun ≡ None) }
         ensures half { 0 < ticks_left self.old → (place_of self.new).half ≡ (place_of self.old).half }
@@ -288,8 +308,8 @@ impl<D: Disk + Drop, R: Rules> Log<D, R> {
             → Carries R.takes self.old (D.state (disk_of self.old)) world
             → Carries R.takes self.new (D.state (disk_of self.new)) world }
         ensures renews { OnOk result (D.Honest (disk_of self.new) → (world : World)
-            → Carries R.takes self.old (D.state (disk_of self.old)) world
-            → EachImage (D.state (disk_of self.new)) (TakesRootBehind (worlds R.takes) (root_number self.old) world)) }
+            → (carries : Carries R.takes self.old (D.state (disk_of self.old)) world)
+            → EachImage (D.state (disk_of self.new)) (TakesNewer (worlds R.takes) carries.carried.layout world)) }
         ensures left { OnOk result (ticks_left self.new ≡ 0) }
         ensures rests { OnOk result ((place_of self.new).begun ≡ None) }
         ensures number { next_number self.new ≡ next_number self.old }

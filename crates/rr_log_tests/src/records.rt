@@ -1,8 +1,10 @@
-use rr_records::Fault;
 use rr_records::laws::{
-    lawful_requests_are_taken, played_worlds_stay_played, prefix, records_are_of_requests,
-    records_lead_to_one_world, records_move_on, spelled_worlds_are_one, tables_are_worlds,
+    lawful_requests_are_taken, played_worlds_have_played_bases, played_worlds_stay_played, prefix,
+    records_are_of_requests, records_lead_to_one_world, records_move_on, spelled_worlds_are_one,
+    tables_are_worlds,
 };
+use rr_records::{Fault, TableRules};
+use rr_schedules::laws as schedules;
 use std::alloc::Global;
 use std::test::Fail;
 
@@ -14,8 +16,12 @@ fn cite_laws() {
     lawful_requests_are_taken();
     records_are_of_requests();
     played_worlds_stay_played();
+    played_worlds_have_played_bases();
     tables_are_worlds();
     prefix();
+    schedules::prefix::<TableRules>();
+    schedules::calls_are_events::<TableRules>();
+    schedules::example();
 }
 
 // The number of the first fault that has another number or text than it is to have.

@@ -1,7 +1,8 @@
 -- What answering a line does to the file, from what the store's commit does.
-use Rattle.std.proofs.Common.{◌≡◌, ◌⊎◌, ◌∙◌, ℕ, ◌+◌, ◌≤◌, Bool, false, true, List, None, Some, Result, Ok, Err, inl, inr, refl, sym, ap, subst, length, arith}
+use Rattle.std.proofs.Common.{◌≡◌, ◌⊎◌, ◌∙◌, ℕ, ◌+◌, ◌≤◌, Bool, false, true, List, Option, None, Some, Result, Ok, Err, inl, inr, refl, sym, ap, subst, length, map, arith}
 use Rattle.rr_disk.specs.Disk.{DiskState}
-use Rattle.rr_disk.specs.Moments.{LeavesOnly}
+use Rattle.rr_disk.specs.Moments.{EachImage, LeavesOnly}
+use Rattle.rr_images.specs.Calls.{TakesNewer}
 use Rattle.rr_disk.proofs.MomentLemmas.{started, weaker}
 use Rattle.rr_kit.specs.Kits.{KitTexts}
 use Rattle.rr_code.specs.declared.command.Command.{Command}
@@ -11,6 +12,8 @@ use Rattle.rr_log.specs.declared.log.Log.{Log}
 use Rattle.rr_log.specs.Log as log
 use Rattle.rr_records.specs.declared.rules.TableRules.{TableRules}
 use Rattle.rr_records.specs.Headline.{KeepsTablesOr}
+use Rattle.rr_records.specs.Taking.{table_files}
+use Rattle.rr_records.specs.Words.{in_words, table_in_words}
 use Rattle.rr_roster.specs.declared.company.Corp.{Corp}
 use Rattle.rr_serve.specs.Serving.{tells_failure}
 use Rattle.rr_store.specs.declared.fault.Fault as store
@@ -20,7 +23,7 @@ use Rattle.rr_store.specs.Allowing.{BeforeOrAfter}
 use Rattle.rr_store.specs.Committing.{Commits, Spares}
 use Rattle.rr_store.specs.Held.{Held, Takes, Accepted, Refused, Wants, NoRoom, Fails, Again, stamp_after, with_tables}
 use Rattle.rr_store.specs.Holding.{Carries, HasNoRoom, IsFull, IsFullFor, IsUnchanged, Rests, disk_of, file_of, held_of, number_of_next, ticks_left}
-use Rattle.rr_store.specs.Keeping.{ComesOn}
+use Rattle.rr_store.specs.Keeping.{ComesOn, MakesAtMost}
 use Rattle.rr_store.specs.World.{TableRequest, TableState, for_table, judgement_in, state_after, table_named, world_after}
 use Rattle.rr_store.proofs.Standing.{carried_keeps, carried_now, stands_either}
 use Rattle.rr_store.proofs.Worlds.{kept_stand}
@@ -32,7 +35,7 @@ use Rattle.rr_moderator.specs.declared.fault.Fault.TheVariants as F
 use Rattle.rr_moderator.specs.Answer.{accepted_text}
 use Rattle.rr_moderator.specs.Best.{best_run}
 use Rattle.rr_moderator.specs.Choosing.{CommitsBest, Stays, Goes_on}
-use Rattle.rr_moderator.specs.Durability.{CannotKeep, CountsTold, HasNoPlace, IsTaken, Lasts, number_behind, reaches_file, tells_acceptance, tells_full}
+use Rattle.rr_moderator.specs.Durability.{CannotKeep, CountsTold, HasNoPlace, IsTaken, Lasts, layout_behind, number_behind, reaches_file, tells_acceptance, tells_full}
 use Rattle.rr_moderator.specs.Fault.{of_store, refusal_of}
 use Rattle.rr_moderator.specs.Serving.{AsksFor, AsBest, Gives, reply_to, text_of}
 use Rattle.rr_moderator.proofs.Telling.{SaysNeither, accepted_calm, accepted_reaches, accepted_told, counts_told, failure_calm, failure_reaches, failure_told, full_calm, full_reaches, lacks_calm, memory_calm, memory_reaches, refusal_calm, verdict_calm}
@@ -75,6 +78,16 @@ module _ {D : Type 0} (Honest Works : D → Type 0) (state : D → DiskState) (p
   at_most_two : (count : D → ℕ) → disk_of new ≡ disk_of old → count (disk_of new) ≤ count (disk_of old) + 2
   at_most_two count is = let e : count (disk_of new) ≡ count (disk_of old) = ap count is in omega arith
 
+  -- nor any number of such calls
+  within : (count : D → ℕ) → disk_of new ≡ disk_of old → MakesAtMost count (map table_in_words (held_of old).tables) (file_of old) (file_of new)
+  within count is = let few = at_most count is in record { under_way = λ some. omega (arith, few); begun = λ none. omega (arith, few) }
+
+  -- what is known of the root behind the last step of a checkpoint, by whether the reply tells of an acceptance
+  abbrev Renewed : Option TableRequest → Bool → Type 0
+  Renewed pending told =
+      (held_of new).broken ≡ false → ticks_left old ≡ 1 → ticks_left new ≡ 0 → Honest (disk_of new) → (texts : KitTexts) → (carries : Carries state old texts)
+      → EachImage (state (disk_of new)) (TakesNewer table_files (layout_behind told pending carries.file.carried.layout (in_words texts (held_of new).tables)) (in_words texts (held_of new).tables))
+
   -- the disk counted no fault, and the reply says nothing of one
   counts_none : tells_failure reply ≡ false → faults (disk_of new) ≡ faults (disk_of old) → CountsTold (faults (disk_of old)) (faults (disk_of new)) (tells_failure reply)
   counts_none calm same = subst (λ (b : Bool). CountsTold (faults (disk_of old)) (faults (disk_of new)) b) (sym calm) same
@@ -101,6 +114,7 @@ module _ {D : Type 0} (Honest Works : D → Type 0) (state : D → DiskState) (p
             (started (past (disk_of old)) (state (disk_of old)) (KeepsTablesOr texts (held_of old).kit (held_of old).tables None)
             (carried_now (file_of old) (state (disk_of old)) texts (held_of old).tables s.file));
         carries = goes_on;
+        renews = λ whole one none h texts s. let left : ticks_left new ≡ ticks_left old = ap (λ (l : Log D TableRules). log.ticks_left l) same.same_file in absurd (omega (arith, one, none, left));
         number = λ _. same_number calm.2 (ap (λ (l : Log D TableRules). log.next_number l) same.same_file);
         spares = λ _. same;
         untouched = λ _. same;
@@ -112,6 +126,8 @@ module _ {D : Type 0} (Honest Works : D → Type 0) (state : D → DiskState) (p
         few_syncs = λ _. at_most syncs (same_disk same);
         own_writes = λ _ _. at_most_two writes (same_disk same);
         own_syncs = λ _ _. at_most_two syncs (same_disk same);
+        most_writes = within writes (same_disk same);
+        most_syncs = within syncs (same_disk same);
         comes_on = λ told. both_ways (tells_acceptance reply) told calm.2;
         makes_room = λ told. both_ways (tells_acceptance reply) told calm.2;
         full = λ told. both_ways (tells_full reply) told calm.1;
@@ -157,12 +173,13 @@ module _ {D : Type 0} (Honest Works : D → Type 0) (state : D → DiskState) (p
     record Ends : Type 0 where
       pub accepted : tells_acceptance reply ≡ true → IsTaken (held_of old) line (Some asked) (held_of new) reply
       pub reaches : reaches_file reply ≡ true
+      pub renews : Renewed (Some asked) (tells_acceptance reply)
       pub number : tells_failure reply ≡ false → number_of_next new ≡ number_behind (tells_acceptance reply) (number_of_next old)
       pub breaks : tells_failure reply ≡ false → (held_of new).broken ≡ (held_of old).broken
       pub counts : CountsTold (faults (disk_of old)) (faults (disk_of new)) (tells_failure reply)
       pub device : tells_failure reply ≡ true → Honest (disk_of new) → (texts : KitTexts) → Carries state old texts → Works (disk_of new) → ⊥
       pub comes_on : tells_acceptance reply ≡ true → (IsFull old name c → ⊥) → ComesOn (file_of old) (file_of new)
-      pub makes_room : tells_acceptance reply ≡ true → HasNoRoom old name c → 3 ≤ ticks_left new
+      pub makes_room : tells_acceptance reply ≡ true → HasNoRoom old name c → 4 ≤ ticks_left new
       pub full : tells_full reply ≡ true → IsFullFor new name c
 
     reached : (taking : Result ℕ store.Fault) → Lawful → Committed taking → Ends → Lasting
@@ -175,6 +192,7 @@ module _ {D : Type 0} (Honest Works : D → Type 0) (state : D → DiskState) (p
           stops = λ h texts s. weaker (k.keeps h texts s) (BeforeOrAfter texts (held_of old).kit (held_of old).tables (Some asked)) (stands texts s lawful);
           keeps = k.keeps;
           carries = k.carries;
+          renews = ends.renews;
           number = ends.number;
           spares = λ alone. both_ways (reaches_file reply) ends.reaches alone;
           untouched = λ unlawful. absurd (unlawful (asked, gives lawful));
@@ -186,6 +204,8 @@ module _ {D : Type 0} (Honest Works : D → Type 0) (state : D → DiskState) (p
           few_syncs = λ room. k.few_syncs (λ full. room (no_place lawful old full));
           own_writes = λ room. k.own_writes (λ full. room (no_place lawful old full));
           own_syncs = λ room. k.own_syncs (λ full. room (no_place lawful old full));
+          most_writes = k.most_writes;
+          most_syncs = k.most_syncs;
           comes_on = λ told room. ends.comes_on told (λ full. room (no_place lawful old full));
           makes_room = ends.makes_room;
           full = λ told. cannot_keep lawful new (ends.full told);
@@ -198,6 +218,7 @@ module _ {D : Type 0} (Honest Works : D → Type 0) (state : D → DiskState) (p
         (record {
           accepted = λ _. record { asked = asked; pends = refl; gives = gives lawful; held = held_is; told = told };
           reaches = ap reaches_file told ∙ accepted_reaches (held_of old).kit name behind c sheet;
+          renews = subst (λ (b : Bool). Renewed (Some asked) b) (sym (ap tells_acceptance told ∙ accepted_told (held_of old).kit name behind c sheet)) k.renews;
           number = λ _. subst (λ (b : Bool). number_of_next new ≡ number_behind b (number_of_next old)) (sym (ap tells_acceptance told ∙ accepted_told (held_of old).kit name behind c sheet)) k.number;
           breaks = λ _. ap (λ (h : Held). h.broken) held_is;
           counts = counts_none calm.0 k.counts;
@@ -216,6 +237,7 @@ module _ {D : Type 0} (Honest Works : D → Type 0) (state : D → DiskState) (p
         (record {
           accepted = λ is. both_ways (tells_acceptance reply) is (ap tells_acceptance told ∙ refusal_calm F.DeviceFailed);
           reaches = ap reaches_file told ∙ failure_reaches;
+          renews = subst (λ (b : Bool). Renewed (Some asked) b) (sym (ap tells_acceptance told ∙ refusal_calm F.DeviceFailed)) k.renews;
           number = λ calm. both_ways (tells_failure reply) (ap tells_failure told ∙ failure_told) calm;
           breaks = λ calm. both_ways (tells_failure reply) (ap tells_failure told ∙ failure_told) calm;
           counts = subst (λ (r : List ℕ). CountsTold (faults (disk_of old)) (faults (disk_of new)) (tells_failure r)) (sym told)
@@ -233,6 +255,7 @@ module _ {D : Type 0} (Honest Works : D → Type 0) (state : D → DiskState) (p
         (record {
           accepted = λ is. both_ways (tells_acceptance reply) is refused;
           reaches = ap reaches_file told ∙ full_reaches;
+          renews = subst (λ (b : Bool). Renewed (Some asked) b) (sym refused) k.renews;
           number = λ _. same_number refused k.number;
           breaks = λ _. ap (λ (h : Held). h.broken) same;
           counts = counts_none calm k.counts;
@@ -256,6 +279,7 @@ module _ {D : Type 0} (Honest Works : D → Type 0) (state : D → DiskState) (p
         (record {
           accepted = λ is. both_ways (tells_acceptance reply) is calm.2;
           reaches = ap reaches_file told ∙ memory_reaches;
+          renews = subst (λ (b : Bool). Renewed (Some asked) b) (sym calm.2) k.renews;
           number = λ _. same_number calm.2 k.number;
           breaks = λ _. ap (λ (h : Held). h.broken) same;
           counts = counts_none calm.0 k.counts;

@@ -10,3 +10,4 @@ pub mod AlongLemmas
 pub mod SessionLemmas
 pub mod Accepting
 pub mod AloneLemmas
+pub mod OpeningLemmas

@@ -1,21 +1,28 @@
 -- What the file has of a moderator's tables, whatever a stop leaves.
-use Rattle.std.specs.Prelude.{◌≡◌, ◌⊎◌, ℕ, ◌+◌, ◌≤◌, ◌||◌, Bool, false, true, List, [], ◌∷◌, Option, None, Some, nat_eq, codes}
+use Rattle.std.specs.Prelude.{◌≡◌, ◌⊎◌, ℕ, ◌+◌, ◌≤◌, ◌||◌, Bool, false, true, List, [], ◌∷◌, Option, None, Some, nat_eq, codes, map}
 use Rattle.std.specs.List.{starts_with}
+use Rattle.rr_code.specs.Request.{record_text}
 use Rattle.rr_disk.specs.Disk.{DiskState, counted}
-use Rattle.rr_disk.specs.Moments.{LeavesOnly}
+use Rattle.rr_disk.specs.Moments.{EachImage, LeavesOnly}
+use Rattle.rr_images.specs.Calls.{TakesNewer}
+use Rattle.rr_images.specs.Layout.{Layout}
+use Rattle.rr_images.specs.Steps.{with_line}
 use Rattle.rr_kit.specs.Kits.{KitTexts, SpellsKit}
 use Rattle.rr_records.specs.Headline.{KeepsTablesOr}
+use Rattle.rr_records.specs.Taking.{table_files}
+use Rattle.rr_records.specs.Words.{in_words, table_in_words}
 use Rattle.rr_store.specs.declared.store.Store.{Store}
 use Rattle.rr_store.specs.Allowing.{BeforeOrAfter}
 use Rattle.rr_store.specs.Files.{StandsFor}
 use Rattle.rr_store.specs.Held.{Held, with_tables}
 use Rattle.rr_store.specs.Holding.{Carries, HasNoRoom, IsFull, IsFullFor, IsUnchanged, Rests, disk_of, file_of, held_of, number_of_next, ticks_left}
-use Rattle.rr_store.specs.Keeping.{ComesOn}
+use Rattle.rr_store.specs.Keeping.{ComesOn, MakesAtMost}
 use Rattle.rr_store.specs.World.{TableRequest, state_after, table_named, world_after}
 use Rattle.rr_moderator.specs.Answer.{accepted_text}
 use Rattle.rr_moderator.specs.Serving.{Answers, Gives}
 use Rattle.rr_moderator.specs.Serving.{MayAppend}
 use Rattle.rr_serve.specs.Serving.{NoneFails, Served, tells_failure}
+use Rattle.rr_worlds.specs.World as words
 
 -- the file stands for what is held: its kit's texts spell the kit, and what was accepted into it makes the tables
 pub record Opens (file : List ℕ) (held : Held) : Type 0 where
@@ -75,6 +82,12 @@ abbrev pub MeetsFullHalf : {D : Type 0} → Store D → Option TableRequest → 
 MeetsFullHalf store None = ⊥
 MeetsFullHalf store (Some c) = HasNoRoom store c.name c.request
 
+-- the layout of the file behind a reply: where that tells of an acceptance, with the record of the pending request
+abbrev pub layout_behind : Bool → Option TableRequest → Layout table_files → words.World → Layout table_files
+layout_behind true (Some c) layout world = with_line layout (record_text c.name c.request) world
+layout_behind true None layout world = layout
+layout_behind false pending layout world = layout
+
 -- the number of the next record behind a reply, by whether that tells of an acceptance
 abbrev pub number_behind : Bool → ℕ → ℕ
 number_behind true number = number + 1
@@ -88,9 +101,11 @@ number_behind false number = number
 -- request, all is as it was; the reply says that the device failed exactly where the disk counts a fault and the store is
 -- broken by it, and never on an honest disk that works and carries what is held; where the half in use has room for the
 -- line's lawful request, three writes and three syncs are made at most, and two of each where no checkpoint is under way or to
--- begin; an `ok` then comes with the next step of a checkpoint that is under way; where the half has no room, an `ok` comes
--- behind the first step of another checkpoint; and the reply says that the file is full only where, behind the call, no
--- checkpoint makes room for the request.
+-- begin; an `ok` then comes with the next step of a checkpoint that is under way, and where that was its last, each file that a
+-- stop may leave takes a newer root, whose chains spell the world as the checkpoint began, and only the records since then stand
+-- behind it; where the half has no room, an `ok` comes behind the first step of another checkpoint; whatever is to be done, three
+-- of each are made at most, and one for each step left of the checkpoint under way, or of one begun then; and the reply says that
+-- the file is full only where, behind the call, no checkpoint makes room for the request.
 pub record Lasts {D : Type 0} (Honest Works : D → Type 0) (state : D → DiskState) (past : D → List DiskState) (faults writes syncs : D → ℕ)
     (old : Store D) (line : List ℕ) (new : Store D) (reply : List ℕ) : Type 0 where
   pub pending : Option TableRequest
@@ -102,6 +117,9 @@ pub record Lasts {D : Type 0} (Honest Works : D → Type 0) (state : D → DiskS
   pub keeps : Honest (disk_of new) → (texts : KitTexts) → Carries state old texts
       → LeavesOnly (past (disk_of old)) (state (disk_of old)) (past (disk_of new)) (state (disk_of new)) (KeepsTablesOr texts (held_of old).kit (held_of old).tables pending)
   pub carries : Honest (disk_of new) → (held_of new).broken ≡ false → (texts : KitTexts) → Carries state old texts → Carries state new texts
+  pub renews : (held_of new).broken ≡ false → ticks_left old ≡ 1 → ticks_left new ≡ 0 → Honest (disk_of new) → (texts : KitTexts) → (carries : Carries state old texts)
+      → EachImage (state (disk_of new)) (TakesNewer table_files
+      (layout_behind (tells_acceptance reply) pending carries.file.carried.layout (in_words texts (held_of new).tables)) (in_words texts (held_of new).tables))
   pub number : tells_failure reply ≡ false → number_of_next new ≡ number_behind (tells_acceptance reply) (number_of_next old)
   pub spares : reaches_file reply ≡ false → IsUnchanged old new
   pub untouched : ¬ MayAppend (held_of old) line → IsUnchanged old new
@@ -113,8 +131,10 @@ pub record Lasts {D : Type 0} (Honest Works : D → Type 0) (state : D → DiskS
   pub few_syncs : (HasNoPlace old line old → ⊥) → syncs (disk_of new) ≤ syncs (disk_of old) + 3
   pub own_writes : (HasNoPlace old line old → ⊥) → Rests old → writes (disk_of new) ≤ writes (disk_of old) + 2
   pub own_syncs : (HasNoPlace old line old → ⊥) → Rests old → syncs (disk_of new) ≤ syncs (disk_of old) + 2
+  pub most_writes : MakesAtMost writes (map table_in_words (held_of old).tables) (file_of old) (file_of new)
+  pub most_syncs : MakesAtMost syncs (map table_in_words (held_of old).tables) (file_of old) (file_of new)
   pub comes_on : tells_acceptance reply ≡ true → (HasNoPlace old line old → ⊥) → ComesOn (file_of old) (file_of new)
-  pub makes_room : tells_acceptance reply ≡ true → MeetsFullHalf old pending → 3 ≤ ticks_left new
+  pub makes_room : tells_acceptance reply ≡ true → MeetsFullHalf old pending → 4 ≤ ticks_left new
   pub full : tells_full reply ≡ true → CannotKeep old line new
 
 -- a store, and the reply made last over it

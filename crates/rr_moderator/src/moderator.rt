@@ -3,10 +3,11 @@ ghost use Rattle.std.specs.Borrow.{sem};
 ghost use Rattle.std.specs.Io.BufRead.{Rests};
 ghost use Rattle.rr_code.specs.Request.{IsRequest};
 ghost use Rattle.rr_disk.specs.Disk.{counted};
-ghost use Rattle.rr_checkpoint.specs.Calls.{TakesRootBehind};
 ghost use Rattle.rr_disk.specs.Moments.{EachImage, LeavesOnly};
+ghost use Rattle.rr_images.specs.Calls.{TakesNewer};
 ghost use Rattle.rr_kit.specs.declared.kit.Kit.{Kit};
 ghost use Rattle.rr_kit.specs.Kits.{KitTexts, SpellsKit};
+ghost use Rattle.rr_log.specs.Calls.{TakesRootOf, as_begun};
 ghost use Rattle.rr_records.specs.Headline.{KeepsTables};
 ghost use Rattle.rr_records.specs.Taking.{table_files};
 ghost use Rattle.rr_records.specs.Words.{in_words};
@@ -21,7 +22,7 @@ ghost use Rattle.rr_store.specs.Allowing.{Between};
 ghost use Rattle.rr_store.specs.Committing.{Commits};
 ghost use Rattle.rr_store.specs.Fault.{CountsFailure, OnDevice};
 ghost use Rattle.rr_store.specs.Files.{AreTablesOf};
-ghost use Rattle.rr_store.specs.Holding.{Carries, root_of, ticks_left};
+ghost use Rattle.rr_store.specs.Holding.{Carries, HasNoneBegun, root_of, ticks_left};
 ghost use Rattle.rr_store.specs.Holding as held_in;
 ghost use Rattle.rr_store.specs.Opening.{IsNoVerdict, OpenAllows};
 ghost use Rattle.rr_store.specs.Ticking.{MakesFew, Steps};
@@ -68,7 +69,7 @@ impl<D: Disk + Drop> Moderator<D> {
     ///
     /// # Errors
     /// `DeviceFailed`; `NotAStore` where the file has no roots of this version; `Damaged` with the least clause that it breaks;
-    /// `OutOfMemory`.
+    /// `OutOfMemory`, and only where a root is taken.
     pub fn open(alloc: Global, disk: D) -> Result<Moderator<D>, Refused<D>>
         // The moderator holds what the file stands for; else the file breaks a clause, or the device failed or memory was
         // wanted.
@@ -112,12 +113,12 @@ impl<D: Disk + Drop> Moderator<D> {
         ensures works { IfOk result (λ moderator. D.Works (disk_under moderator) → D.Works disk) }
         ensures works_left { IfErr result (λ refused. D.Works refused.disk → D.Works disk) }
     {
-        let (reply, buffer) = match make_buffers(alloc) {
-            Ok(buffers) => buffers,
-            Err(fault) => return Err(Refused { fault, disk }),
+        let store = match rr_store::open(alloc, disk) {
+            Ok(store) => store,
+            Err(refused) => return Err(refused),
         };
-        match rr_store::open(alloc, disk) {
-            Ok(store) => Ok(Moderator {
+        match make_buffers(alloc) {
+            Ok((reply, buffer)) => Ok(Moderator {
                 state: State {
                     store,
                     reply,
@@ -125,7 +126,10 @@ impl<D: Disk + Drop> Moderator<D> {
                 },
                 buffer,
             }),
-            Err(refused) => Err(refused),
+            Err(fault) => Err(Refused {
+                fault,
+                disk: store.into_disk(),
+            }),
         }
     }
 
@@ -143,7 +147,8 @@ impl<D: Disk + Drop> Moderator<D> {
     }
 
     /// Makes a whole checkpoint: all steps of the one under way that are left, or those of a new one. Lines make one step each
-    /// where one is due, so no call is needed; behind this one an opening finds no record to play again.
+    /// where one is due, so no call is needed. Where none was begun, an opening behind this one finds no record to play again;
+    /// else it finds those since the one under way began.
     ///
     /// # Errors
     /// `OpenAgain`; `DeviceFailed`, after which the file has to be opened again; `FileFull` and `OutOfMemory` before any
@@ -152,9 +157,12 @@ impl<D: Disk + Drop> Moderator<D> {
         ensures steps { Steps D.Honest D.Works D.state D.past D.fault_count (store_of self.old) result (store_of self.new) }
         ensures left { OnOk result (ticks_left (store_of self.new) ≡ 0) }
 
-        // Then each file that a stop may leave takes a root of a greater number.
-        ensures renews { OnOk result (D.Honest (disk_under self.new) → (texts : KitTexts) → Carries D.state (store_of self.old) texts
-            → EachImage (D.state (disk_under self.new)) (TakesRootBehind table_files (root_of (store_of self.old)) (in_words texts (held_of self.old).tables))) }
+        // Then each file that a stop may leave takes a newer root. Its chains spell the world as the checkpoint began, and only
+        // the records since then stand behind it. Where none was begun before, that is what is held, and no record.
+        ensures renews { OnOk result (D.Honest (disk_under self.new) → (texts : KitTexts) → (carries : Carries D.state (store_of self.old) texts)
+            → EachImage (D.state (disk_under self.new)) (TakesNewer table_files (as_begun carries.file.carried.layout) (in_words texts (held_of self.old).tables))) }
+        ensures whole { OnOk result (HasNoneBegun (store_of self.old) → D.Honest (disk_under self.new) → (texts : KitTexts) → Carries D.state (store_of self.old) texts
+            → EachImage (D.state (disk_under self.new)) (TakesRootOf table_files (root_of (store_of self.old)) (in_words texts (held_of self.old).tables))) }
         ensures writes { MakesFew D.write_count (store_of self.old) (store_of self.new) }
         ensures syncs { MakesFew D.sync_count (store_of self.old) (store_of self.new) }
     {

@@ -1,5 +1,5 @@
 -- Tables that were played, after a lawful request, and worlds of such tables.
-use Rattle.std.proofs.Common.{◌≡◌, ℕ, zero, suc, Bool, true, false, cond, List, [], ◌∷◌, ◌++◌, Option, None, Some, bytes_eq, if◌then◌else◌, length, refl, sym, subst}
+use Rattle.std.proofs.Common.{◌≡◌, ℕ, zero, suc, Bool, true, false, cond, List, [], ◌∷◌, ◌++◌, ◌≤◌, Option, None, Some, bytes_eq, if◌then◌else◌, length, refl, sym, subst, arith}
 use Rattle.std.proofs.Math.Logic.{∥∥₁_map}
 use Rattle.indexmap.specs.IndexMap.{insert_entry}
 use Rattle.rr_code.specs.declared.command.Command.{Command}
@@ -7,6 +7,7 @@ use Rattle.rr_code.specs.declared.command.Command.TheVariants.{Open}
 use Rattle.rr_hist.specs.Fault.{of_game}
 use Rattle.rr_hist.specs.Playing.{ArePlayed, IsLawfulAfter, ends_turn, game_judgement}
 use Rattle.rr_hist.specs.Verdict.{own_judgement, request_judgement, room_verdict, stamp_verdict}
+use Rattle.rr_hist.proofs.Turnings.{accepted_turn}
 use Rattle.rr_kit.specs.declared.kit.Kit.{Kit}
 use Rattle.rr_images.specs.Layout.{far_lines}
 use Rattle.rr_kit.specs.Kits.{KitTexts, SpellsKit}
@@ -14,13 +15,14 @@ use Rattle.rr_kit.proofs.OneKit.{one_kit}
 use Rattle.rr_turns.specs.declared.request.Request.{Request}
 use Rattle.rr_turns.specs.declared.request.Request.TheVariants.{Play, Back, Forget}
 use Rattle.rr_turns.specs.Judgement.{IsVerdict, judgement_map}
-use Rattle.rr_turns.specs.Turns.{AreLawful, first_turns, next_turns}
+use Rattle.rr_turns.specs.Turns.{AreLawful, ended_turns, first_turns, next_turns}
 use Rattle.rr_turns.proofs.JudgementLemmas.{lawful-behind, lawful-map}
 use Rattle.rr_turns.proofs.LawfulLemmas.{lawful-push}
+use Rattle.rr_turns.proofs.TurnLemmas.{floors}
 use Rattle.rr_worlds.specs.World as words
 use Rattle.rr_records.specs.Fault.{of_table}
 use Rattle.rr_records.specs.Laws.{KeptHavePlayedBases, NewWorldsArePlayed, PlayedStayPlayed, ReadHavePlayedBases, ReplayedArePlayed, ReplayedWerePlayed, StandingHavePlayedBases, TablesOfPlayedArePlayed}
-use Rattle.rr_records.specs.Played.{ArePlayedTables, IsPlayedWorld}
+use Rattle.rr_records.specs.Played.{ArePlayedTables, IsPlayedTable, IsPlayedWorld}
 use Rattle.rr_records.specs.Records.{TakesRecord, record_judgement}
 use Rattle.rr_records.specs.Taking.{Takes}
 use Rattle.rr_records.specs.Words.{kit_texts}
@@ -63,28 +65,40 @@ step_played kit t stamp (Play c) lawful played = push_played kit t.commands c (p
 step_played kit t stamp (Back k) lawful played = turns_played kit k t.commands played
 step_played kit t stamp (Forget k) lawful played = played
 
+-- a lawful request leaves no floor above the turns that have ended
+step_floored : (kit : Kit) (t : TableState) (stamp : ℕ) (r : Request Command) → IsVerdict (step_judgement kit (Some t) stamp r) None
+    → t.floor ≤ ended_turns (ends_turn kit) t.commands
+    → (state_after kit (Some t) r).floor ≤ ended_turns (ends_turn kit) (state_after kit (Some t) r).commands
+step_floored kit t stamp r lawful floored =
+    let by_table = lawful-map of_table (request_judgement kit t stamp r) lawful in
+    (floors (ends_turn kit) t (r ∷ []) floored (accepted_turn kit t stamp r by_table, tt)).1
+
 state_played : (kit : Kit) (there : Option TableState) (n stamp : ℕ) (r : Request Command) → IsVerdict (world_judgement kit there n stamp r) None
-    → ((t : TableState) → there ≡ Some t → ∥ ArePlayed kit t.commands ∥₁) → ∥ ArePlayed kit (state_after kit there r).commands ∥₁
-state_played kit None n stamp (Play (Open players)) lawful all = ∣ (refl, tt) ∣₁
+    → ((t : TableState) → there ≡ Some t → IsPlayedTable kit t) → IsPlayedTable kit (state_after kit there r)
+state_played kit None n stamp (Play (Open players)) lawful all = record { lawful = ∣ (refl, tt) ∣₁; floored = omega arith }
 state_played kit (Some t) n stamp (Play (Open players)) lawful all = absurd cc
 state_played kit None n stamp r lawful all = absurd cc
-state_played kit (Some t) n stamp r lawful all = ∥∥₁_map (all t refl) (λ played. step_played kit t stamp r lawful played)
+state_played kit (Some t) n stamp r lawful all =
+    record {
+      lawful = ∥∥₁_map (all t refl).lawful (λ played. step_played kit t stamp r lawful played);
+      floored = step_floored kit t stamp r lawful (all t refl).floored;
+    }
 
 named_step : (kit : Kit) (b : Bool) (e : List ℕ × TableState) (rest : Option TableState) (t : TableState) → cond b (Some e.1) rest ≡ Some t
-    → ∥ ArePlayed kit e.1.commands ∥₁ → (rest ≡ Some t → ∥ ArePlayed kit t.commands ∥₁) → ∥ ArePlayed kit t.commands ∥₁
-named_step kit true e rest t is here others = let same : e.1 ≡ t = cc in subst (λ (x : TableState). ∥ ArePlayed kit x.commands ∥₁) same here
+    → IsPlayedTable kit e.1 → (rest ≡ Some t → IsPlayedTable kit t) → IsPlayedTable kit t
+named_step kit true e rest t is here others = let same : e.1 ≡ t = cc in subst (λ (x : TableState). IsPlayedTable kit x) same here
 named_step kit false e rest t is here others = others is
 
-named_played : (kit : Kit) (tables : World) (name : List ℕ) (t : TableState) → ArePlayedTables kit tables → table_named tables name ≡ Some t → ∥ ArePlayed kit t.commands ∥₁
+named_played : (kit : Kit) (tables : World) (name : List ℕ) (t : TableState) → ArePlayedTables kit tables → table_named tables name ≡ Some t → IsPlayedTable kit t
 named_played kit [] name t all is = absurd cc
 named_played kit (e ∷ es) name t all is = named_step kit (bytes_eq name e.0) e (table_named es name) t is all.0 (λ found. named_played kit es name t all.1 found)
 
-insert_step : (kit : Kit) (b : Bool) (e : List ℕ × TableState) (es rest : World) (v : TableState) → ∥ ArePlayed kit v.commands ∥₁ → ArePlayedTables kit (e ∷ es)
+insert_step : (kit : Kit) (b : Bool) (e : List ℕ × TableState) (es rest : World) (v : TableState) → IsPlayedTable kit v → ArePlayedTables kit (e ∷ es)
     → ArePlayedTables kit rest → ArePlayedTables kit (if b then (e.0, v) ∷ es else e ∷ rest)
 insert_step kit true e es rest v here all more = (here, all.1)
 insert_step kit false e es rest v here all more = (all.0, more)
 
-insert_played : (kit : Kit) (tables : World) (name : List ℕ) (v : TableState) → ∥ ArePlayed kit v.commands ∥₁ → ArePlayedTables kit tables
+insert_played : (kit : Kit) (tables : World) (name : List ℕ) (v : TableState) → IsPlayedTable kit v → ArePlayedTables kit tables
     → ArePlayedTables kit (insert_entry bytes_eq tables name v)
 insert_played kit [] name v here all = (here, tt)
 insert_played kit (e ∷ es) name v here all =

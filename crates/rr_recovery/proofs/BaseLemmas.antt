@@ -1,5 +1,5 @@
 -- What a reading of a file says of its base: the directory names the chains, and what these tell is what they spell.
-use Rattle.std.proofs.Common.{◌≡◌, ℕ, suc, List, [], ◌∷◌, length, map, refl, sym, ap, subst, ◌∙◌}
+use Rattle.std.proofs.Common.{◌≡◌, ℕ, suc, List, [], ◌∷◌, length, map, refl, sym, ap, subst, ◌∙◌, arith}
 use Rattle.rr_dir.specs.declared.directory.ChainRef.{ChainRef}
 use Rattle.rr_dir.specs.declared.directory.TableEntry.{TableEntry}
 use Rattle.rr_dir.specs.declared.version.Version.{Version}
@@ -15,15 +15,16 @@ use Rattle.rr_reading.specs.Held.{Held, chains_of, holding_of}
 use Rattle.rr_reading.specs.Laws.{NamesChains}
 use Rattle.rr_reading.specs.Reading.{Holds, IsDirectory}
 use Rattle.rr_reading.proofs.Standing.{held_is_read}
-use Rattle.rr_records.specs.Words.{AreInWords, IsTableInWords, kit_texts}
+use Rattle.rr_records.specs.Words.{AreInWords, IsInWords, IsTableInWords, kit_texts}
 use Rattle.rr_records.specs.World.{TableState, World}
-use Rattle.rr_worlds.specs.Spelling.{SpellsTable, SpellsTables, ref_of, worlds}
+use Rattle.rr_worlds.specs.Spelling.{Spells, SpellsTable, SpellsTables, ref_of, worlds}
 use Rattle.rr_worlds.specs.World.{Table}
 use Rattle.rr_worlds.specs.World as words
 use Rattle.rr_worlds.proofs.Exact.{one_version}
-use Rattle.rr_recovery.specs.Recovery.{IsBase}
+use Rattle.rr_recovery.specs.Recovery.{IsBase, IsWritten}
 use Rattle.rr_recovery.specs.Texts.{NameTexts, texts_in}
-use Rattle.rr_recovery.specs.Told.{TellTables, TellsTable}
+use Rattle.rr_recovery.specs.Told.{EachHas, KeepSpelled, TellTables, TellsTable, TellsWords}
+use Rattle.rr_recovery.proofs.WordLemmas.{commands_spelled}
 
 -- tables that are told are spelled, and what is spelled is told
 
@@ -82,6 +83,47 @@ told_spelled (entry ∷ entries) (chain ∷ chains) (table ∷ tables) told =
       are = (here.2, more.are);
     }
 
+-- the same of words alone
+
+pub words_told : (entries : List TableEntry) (chains : List HeldChain) (written : List Table) → SpellsTables entries (texts_of chains) written → KeepSpelled written → EachHas TellsWords entries chains
+words_told [] chains written spells kept = tt
+words_told (entry ∷ entries) [] written spells kept = absurd (cc (spells.4))
+words_told (entry ∷ entries) (chain ∷ chains) written spells kept =
+    let text : spells.0 ≡ chain.text = cc (spells.4) in
+    let more : spells.2 ≡ texts_of chains = cc (spells.4) in
+    let here = subst (λ (t : List ℕ). SpellsTable entry t spells.1) text spells.6 in
+    let others = subst (λ (ts : List (List ℕ)). SpellsTables entries ts spells.3) more spells.7 in
+    let all : KeepSpelled (spells.1 ∷ spells.3) = subst (λ (ws : List Table). KeepSpelled ws) spells.5 kept in (
+      record { kept_words = spells.1.kept.commands; kept = here.spelled; counted = sym here.counted; spelled = all.0 },
+      words_told entries chains spells.3 others all.1,
+    )
+
+pub record AreKept (entries : List TableEntry) (chains : List HeldChain) : Type 0 where
+  pub written : List Table
+  pub spells : SpellsTables entries (texts_of chains) written
+  pub kept : KeepSpelled written
+
+pub told_words : (entries : List TableEntry) (chains : List HeldChain) → length entries ≡ length chains → EachHas TellsWords entries chains → AreKept entries chains
+told_words [] [] same all = record { written = []; spells = (refl, refl); kept = tt }
+told_words [] (chain ∷ chains) same all = absurd (omega (arith, same))
+told_words (entry ∷ entries) [] same all = absurd all
+told_words (entry ∷ entries) (chain ∷ chains) same all =
+    let here : Table = record { name = entry.name; kept = record { commands = all.0.kept_words; floor = entry.floor; stamp = entry.stamp } } in
+    let spells : SpellsTable entry chain.text here = record { named = refl; stamped = refl; floored = refl; counted = sym all.0.counted; spelled = all.0.kept } in
+    let more = told_words entries chains (omega (arith, same)) all.1 in
+    record {
+      written = here ∷ more.written;
+      spells = (chain.text, here, texts_of chains, more.written, refl, refl, spells, more.spells);
+      kept = (all.0.spelled, more.kept);
+    }
+
+-- tables in words keep the words of their commands
+pub keep_spelled : (tables : World) (written : List Table) → AreInWords tables written → KeepSpelled written
+keep_spelled [] [] are = tt
+keep_spelled [] (w ∷ ws) are = absurd are
+keep_spelled (table ∷ tables) [] are = absurd are
+keep_spelled (table ∷ tables) (w ∷ ws) are = (commands_spelled w.kept.commands table.1.commands are.0.spelled, keep_spelled tables ws are.1)
+
 -- files whose records aren't judged
 abbrev unjudged : Codec
 unjudged = worlds (λ line old new. ⊥)
@@ -137,16 +179,23 @@ module _ (file : List ℕ) (has : Held) (holds : Holds file has) where
   pub tables_limited : AreTables has.directory.tables
   tables_limited = form.spelled.is_directory.are_tables
 
-  pub base_told : (base : World) (world : words.World) → IsBase has base world → TellTables has.directory.tables has.tables base
-  base_told base world is =
-      let spells = is.spells in
+  abbrev SpelledBy : words.World → Type 0
+  SpelledBy world = Spells has.root.version has.chain.text (texts_of (chains_of has.texts has.tables)) world
+
+  tables_spelled : (world : words.World) → SpelledBy world → SpellsTables has.directory.tables (texts_of has.tables) world.tables
+  tables_spelled world spells =
       let there : dir.Spells form.version has.chain.text spells.directory =
       subst (λ (v : Version). dir.Spells v has.chain.text spells.directory) (one_version spells.version form.version) spells.spelled in
       let same = one_directory form.version has.chain.text has.directory spells.directory form.spelled there in
       let of_tables : spells.of_tables ≡ texts_of has.tables = cc (spells.of_chains) in
       let here = subst (λ (d : Directory). SpellsTables d.tables spells.of_tables world.tables) (sym same) spells.tables in
-      spelled_told has.directory.tables has.tables base world.tables
-      (subst (λ (ts : List (List ℕ)). SpellsTables has.directory.tables ts world.tables) of_tables here) is.based
+      subst (λ (ts : List (List ℕ)). SpellsTables has.directory.tables ts world.tables) of_tables here
+
+  pub base_told : (base : World) (world : words.World) → SpelledBy world → IsInWords base world → TellTables has.directory.tables has.tables base
+  base_told base world spells based = spelled_told has.directory.tables has.tables base world.tables (tables_spelled world spells) based
+
+  pub written_told : (world : words.World) → IsWritten has world → EachHas TellsWords has.directory.tables has.tables
+  written_told world is = words_told has.directory.tables has.tables world.tables (tables_spelled world is.spells) is.kept
 
   -- the world of these tables in words, with the texts
   pub record IsToldBase (base : World) : Type 0 where
@@ -154,29 +203,41 @@ module _ (file : List ℕ) (has : Held) (holds : Holds file has) where
     pub is_base : IsBase has base world
     pub texts : kit_texts world ≡ texts_in has.texts
 
+  -- the world in words of these tables
+  abbrev world_with : List Table → words.World
+  world_with tables = record {
+    chart = has.texts.chart.text;
+    roster = has.texts.roster.text;
+    tiles = has.texts.tiles.text;
+    board = has.texts.board.text;
+    tables = tables;
+  }
+
+  spelled_with : (tables : List Table) → SpellsTables has.directory.tables (texts_of has.tables) tables → SpelledBy (world_with tables)
+  spelled_with tables spells = record {
+    version = form.version;
+    numbered = form.numbered;
+    directory = has.directory;
+    spelled = form.spelled;
+    of_tables = texts_of has.tables;
+    of_chains = refl;
+    tables = spells;
+  }
+
   pub told_base : (base : World) → TellTables has.directory.tables has.tables base → IsToldBase base
   told_base base told =
       let all = told_spelled has.directory.tables has.tables base told in
-      let world : words.World = record {
-        chart = has.texts.chart.text;
-        roster = has.texts.roster.text;
-        tiles = has.texts.tiles.text;
-        board = has.texts.board.text;
-        tables = all.written;
-      } in
       record {
-        world = world;
-        is_base = record {
-          spells = record {
-            version = form.version;
-            numbered = form.numbered;
-            directory = has.directory;
-            spelled = form.spelled;
-            of_tables = texts_of has.tables;
-            of_chains = refl;
-            tables = all.spells;
-          };
-          based = all.are;
-        };
+        world = world_with all.written;
+        is_base = record { spells = spelled_with all.written all.spells; based = all.are };
         texts = refl;
       }
+
+  pub told_written : EachHas TellsWords has.directory.tables has.tables → (world : words.World) × IsWritten has world
+  told_written told =
+      let all = told_words has.directory.tables has.tables each_chain told in
+      (world_with all.written, record { spells = spelled_with all.written all.spells; kept = all.kept })
+
+-- a world of tables is written
+pub base_written : (has : Held) (base : World) (world : words.World) → IsBase has base world → IsWritten has world
+base_written has base world is = record { spells = is.spells; kept = keep_spelled base world.tables is.based }

@@ -1,4 +1,5 @@
 pub mod WordLemmas
+pub mod FormLemmas
 pub mod PlayingLemmas
 pub mod TellingLemmas
 pub mod BaseLemmas

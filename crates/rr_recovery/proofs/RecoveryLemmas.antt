@@ -25,9 +25,9 @@ use Rattle.rr_recovery.specs.Recovered.{IsRecoveredFrom}
 use Rattle.rr_recovery.specs.Recovery.{HasBadRecord, IsRecovered, Refuses}
 use Rattle.rr_recovery.specs.Replaying.{AreReplayed, BreaksOff, IsSnapshotBefore, Replays}
 use Rattle.rr_recovery.specs.Texts.{NameTexts, texts_in}
-use Rattle.rr_recovery.proofs.BaseLemmas.{base_told, each_chain, tables_limited, texts_named, told_base}
+use Rattle.rr_recovery.proofs.BaseLemmas.{base_told, base_written, each_chain, tables_limited, texts_named, told_base, told_written, written_told}
 use Rattle.rr_recovery.proofs.ReplayLemmas.{StopsAt}
-use Rattle.rr_recovery.proofs.TellingLemmas.{hold_tables, played_each, tables_hold}
+use Rattle.rr_recovery.proofs.TellingLemmas.{played_each}
 
 module _ (file : List ℕ) (has : Held) (holds : Holds file has) where
   -- the root is refused, and so is the file
@@ -36,27 +36,21 @@ module _ (file : List ℕ) (has : Held) (holds : Holds file has) where
   refuses_base fault refused = by_fault fault (refused (each_chain file has holds) (tables_limited file has holds))
     where
       by_fault : (fault : Fault) → RefusesBase has.directory.tables has.texts has.tables fault → Refuses has fault
-      by_fault (F.Damaged D.Words) no_words = λ base world is. no_words (tables_hold has.directory.tables has.tables base (base_told file has holds base world is))
+      by_fault (F.Damaged D.Words) no_words = λ world is. no_words (written_told file has holds world is)
       by_fault (F.Damaged D.Kit) no_kit =
-          let told = hold_tables has.directory.tables has.tables (each_chain file has holds) no_kit.spelled in
-          let base = told_base file has holds told.0 told.1 in
-          record { base = told.0; world = base.world; is_base = base.is_base; wrong = no_kit.wrong }
+          let there = told_written file has holds no_kit.spelled in record { world = there.0; written = there.1; wrong = no_kit.wrong }
       by_fault (F.Damaged D.Kept) unplayed =
-          let told = hold_tables has.directory.tables has.tables (each_chain file has holds) unplayed.spelled in
-          let base = told_base file has holds told.0 told.1 in
+          let there = told_written file has holds unplayed.spelled in
           record {
-            base = told.0;
-            world = base.world;
-            is_base = base.is_base;
+            world = there.0;
+            written = there.1;
             kit = unplayed.kit;
             right = unplayed.right;
-            unplayed = λ played. unplayed.unplayed (played_each unplayed.kit has.directory.tables has.tables told.0 told.1 played);
+            unplayed = λ base based played.
+                unplayed.unplayed (played_each unplayed.kit has.directory.tables has.tables base (base_told file has holds base there.0 there.1.spells based) played);
           }
       by_fault (F.Damaged D.Records) none = absurd none
-      by_fault F.OutOfMemory spelled =
-          let told = hold_tables has.directory.tables has.tables (each_chain file has holds) spelled in
-          let base = told_base file has holds told.0 told.1 in
-          λ bad. bad told.0 base.world base.is_base
+      by_fault F.OutOfMemory spelled = let there = told_written file has holds spelled in λ bad. bad there.0 there.1
 
   -- the same of what was read
   pub refuses_read : (entries : List TableEntry) (read : List ReadChain) (fault : Fault) → entries ≡ has.directory.tables → all_held read ≡ has.tables
@@ -94,7 +88,7 @@ module _ (file : List ℕ) (has : Held) (holds : Holds file has) where
   pub refuses_memory : (kit : Kit) (base : World) (fault : Fault) → IsRightBase has.directory.tables has.texts has.tables kit base → fault ≡ F.OutOfMemory → Refuses has fault
   refuses_memory kit base fault right memory =
       let told = told_base file has holds base right.told in
-      let some : Refuses has F.OutOfMemory = λ bad. bad base told.world told.is_base in
+      let some : Refuses has F.OutOfMemory = λ bad. bad told.world (base_written has base told.world told.is_base) in
       subst (λ (f : Fault). Refuses has f) (sym memory) some
 
   pub refuses_records : (kit : Kit) (base : World) (near far : List (List ℕ)) (fault : Fault) → near ≡ has.near → far ≡ has.far

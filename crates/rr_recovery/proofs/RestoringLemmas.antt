@@ -7,22 +7,27 @@ use Rattle.rr_code.specs.declared.command.Command.{Command}
 use Rattle.rr_dir.specs.Kept.{IsShort}
 use Rattle.rr_dir.specs.declared.directory.TableEntry.{TableEntry}
 use Rattle.rr_dir.specs.Directory.{AreTables, HaveOwnNames, IsTable}
-use Rattle.rr_hist.specs.Playing.{ArePlayed}
+use Rattle.rr_hist.specs.declared.table.Table.{Table}
+use Rattle.rr_hist.specs.Playing.{ends_turn}
+use Rattle.rr_hist.specs.Tables.{kept_in}
 use Rattle.rr_images.specs.Holding.{HeldChain}
 use Rattle.rr_kit.specs.declared.kit.Kit.{Kit}
 use Rattle.rr_pages.specs.declared.reading.ReadChain.{ReadChain}
 use Rattle.rr_reading.specs.Chains.{all_held, held}
-use Rattle.rr_records.specs.Played.{ArePlayedTables}
+use Rattle.rr_records.specs.Played.{ArePlayedTables, IsPlayedTable}
 use Rattle.rr_records.specs.Words.{SpellCommands}
 use Rattle.rr_records.specs.World.{TableState, World, table_named}
 use Rattle.rr_tables.specs.Writable.{IsWritable}
+use Rattle.rr_turns.specs.Turns.{ended_turns}
 use Rattle.rr_recovery.specs.declared.fault.Damage.TheVariants.{Kept as NotPlayed}
 use Rattle.rr_recovery.specs.declared.fault.Fault.{Fault}
 use Rattle.rr_recovery.specs.declared.fault.Fault.TheVariants as F
-use Rattle.rr_recovery.specs.Kept.{HoldsCommands, HoldsPlayed}
+use Rattle.rr_recovery.specs.Kept.{HoldsCommands, TellsPlayed, IsRestored}
 use Rattle.rr_recovery.specs.Restoring.{AreRestored, HasRestored, IsFreeFor}
 use Rattle.rr_recovery.specs.Told.{EachHas, TellTables, TellsTable}
+use Rattle.rr_recovery.proofs.PlayingLemmas.{held_words}
 use Rattle.rr_recovery.proofs.TellingLemmas.{each_at, played_more, told_more}
+use Rattle.rr_recovery.proofs.WordLemmas.{one_list}
 
 -- there are as many tables as entries
 told_count : (entries : List TableEntry) (chains : List HeldChain) (tables : World) → TellTables entries chains tables → length tables ≡ length entries
@@ -103,7 +108,7 @@ restored_more kit now entries chains i entry chain bytes old new entry_in chain_
     let front : take (i + 1) entries ≡ take i entries ++ entry ∷ [] = take_more entries i entry entry_in ∙ ap (λ (e : TableEntry). take i entries ++ e ∷ []) (sym entry_is) in
     let links : take (i + 1) chains ≡ take i chains ++ chain ∷ [] = take_more chains i chain chain_in ∙ ap (λ (c : ReadChain). take i chains ++ c ∷ []) (sym chain_is) in
     let texts : all_held (take (i + 1) chains) ≡ all_held (take i chains) ++ held chain ∷ [] = ap all_held links ∙ map-append held (take i chains) (chain ∷ []) in
-    let played_here = subst (λ (k : Kit). ∥ ArePlayed k has.table.1.commands ∥₁) same has.played in
+    let played_here = subst (λ (k : Kit). IsPlayedTable k has.table.1) same has.played in
     let here = subst (λ (b : List ℕ). TellsTable entry b has.table) bytes_are has.told in
     let told = told_more (take i entries) (all_held (take i chains)) old entry (held chain) has.table so_far.told here in
     let played = played_more kit old has.table so_far.played played_here in
@@ -118,15 +123,15 @@ restored_more kit now entries chains i entry chain bytes old new entry_in chain_
 pub restored_end : (kit now : Kit) (entries : List TableEntry) (chains : List ReadChain) (i : ℕ) (entry : TableEntry) (chain : ReadChain) (bytes : List ℕ) (old : World) (fault : Fault) → i < length entries
     → i < length chains → entry ≡ get_or entries i entry → chain ≡ get_or chains i chain → bytes ≡ chain.bytes.items → now ≡ kit → AreRestored kit (take i entries) (all_held (take i chains)) old
     → (fault ≡ F.OutOfMemory)
-    ⊎ ((fault ≡ F.Damaged NotPlayed) × (IsFreeFor old entry → entry.kept ≤ 4096 → HoldsPlayed now bytes entry.kept → ⊥))
-    → (fault ≡ F.OutOfMemory) ⊎ ((fault ≡ F.Damaged NotPlayed) × (AreTables entries → EachHas (HoldsPlayed kit) entries (all_held chains) → ⊥))
+    ⊎ ((fault ≡ F.Damaged NotPlayed) × (IsFreeFor old entry → entry.kept ≤ 4096 → TellsPlayed now entry bytes → ⊥))
+    → (fault ≡ F.OutOfMemory) ⊎ ((fault ≡ F.Damaged NotPlayed) × (AreTables entries → EachHas (TellsPlayed kit) entries (all_held chains) → ⊥))
 restored_end kit now entries chains i entry chain bytes old fault entry_in chain_in entry_is chain_is bytes_are same so_far (inl memory) = inl memory
 restored_end kit now entries chains i entry chain bytes old fault entry_in chain_in entry_is chain_is bytes_are same so_far (inr refused) = inr (
   refused.0,
   λ are all.
-      let here = each_at (HoldsPlayed kit) entries chains i entry chain entry_in chain_in entry_is chain_is all in
+      let here = each_at (TellsPlayed kit) entries chains i entry chain entry_in chain_in entry_is chain_is all in
       refused.1 (is_free entries chains i entry old are entry_in entry_is so_far.told) (few_kept entries i entry are entry_in entry_is)
-      (subst (λ (b : List ℕ). HoldsPlayed now b entry.kept) (sym bytes_are) (subst (λ (k : Kit). HoldsPlayed k chain.bytes.items entry.kept) (sym same) here)),
+      (subst (λ (b : List ℕ). TellsPlayed now entry b) (sym bytes_are) (subst (λ (k : Kit). TellsPlayed k entry chain.bytes.items) (sym same) here)),
 )
 
 pub restored_all : (kit : Kit) (entries : List TableEntry) (chains : List ReadChain) (n : ℕ) (tables : World) → length entries ≡ length chains → length entries ≤ n
@@ -136,6 +141,15 @@ restored_all kit entries chains n tables same past restored =
     let back = take_all n chains (omega (arith, same, past)) in
     subst (λ (es : List TableEntry). AreRestored kit es (all_held chains) tables) front
     (subst (λ (cs : List ReadChain). AreRestored kit (take n entries) (all_held cs) tables) back restored)
+
+-- a floor above the turns that ended in what a table keeps
+pub above_turns : (kit : Kit) (entry : TableEntry) (bytes : List ℕ) (table : Table) (floor turns : ℕ) → IsRestored kit bytes entry.kept table → floor ≡ entry.floor
+    → turns ≡ ended_turns (ends_turn kit) (kept_in table).commands → turns < floor → TellsPlayed kit entry bytes → ⊥
+above_turns kit entry bytes table floor turns restored floor_is counted above there =
+    let words = held_words kit bytes entry.kept restored.kept.words restored.kept.kept there.holds in
+    let same = one_list restored.kept.words there.holds.commands (kept_in table).commands words restored.kept.spelled in
+    let floored = subst (λ (cs : List Command). entry.floor ≤ ended_turns (ends_turn kit) cs) same there.floored in
+    omega (arith, floored, counted, above, floor_is)
 
 -- what a checkpoint can write of a table that was restored
 

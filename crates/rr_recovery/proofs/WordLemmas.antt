@@ -1,12 +1,14 @@
--- The commands that words spell: there is one list of them, and it is cut where the words are.
-use Rattle.std.proofs.Common.{◌≡◌, ◌↔◌, ℕ, suc, List, [], ◌∷◌, ◌++◌, length, refl, sym, ap, subst, ◌∙◌}
+-- The commands that words spell: there is one list of them, and it is cut where the words are; and which words are those of lines.
+use Rattle.std.proofs.Common.{◌≡◌, ◌↔◌, ℕ, suc, List, [], ◌∷◌, ◌++◌, length, inl, refl, sym, ap, subst, ◌∙◌}
 use Rattle.rr_code.specs.declared.command.Command.{Command}
 use Rattle.rr_code.specs.Command.{SpellsCommand}
 use Rattle.rr_code.proofs.TextLemmas.{command-unique}
+use Rattle.rr_dir.specs.declared.directory.TableEntry.{TableEntry}
 use Rattle.rr_dir.specs.Kept.{SpellsKept}
 use Rattle.rr_dir.proofs.KeptLemmas.{one_kept}
 use Rattle.rr_records.specs.Words.{SpellCommands}
-use Rattle.rr_recovery.specs.Told.{AreSpelled, IsSpelled, TellsCommands}
+use Rattle.rr_turns.specs.declared.request.Request.TheVariants.{Play}
+use Rattle.rr_recovery.specs.Told.{AreSpelled, IsSpelled, TellsWords}
 
 pub one_command : (words : List ℕ) (first second : Command) → SpellsCommand words first → SpellsCommand words second → first ≡ second
 one_command words first second a b = command-unique first second a.command b.command (sym a.spelled ∙ b.spelled)
@@ -71,35 +73,39 @@ cut (w ∷ ws) word back (c ∷ cs) a =
       spelled_behind = more.spelled_behind;
     }
 
--- that the words left are spelled decides that all are
+-- that the words left are those of lines decides that all are
 
 pub spelled_same : (left all : List (List ℕ)) → left ≡ all → AreSpelled left ↔ AreSpelled all
 spelled_same left all same =
     let P : List (List ℕ) → Type 0 = λ ws. AreSpelled ws in (subst P same, subst P (sym same))
 
-first_spelled : (words : List ℕ) (rest : List (List ℕ)) (commands : List Command) → SpellCommands (words ∷ rest) commands → IsSpelled words × AreSpelled rest
-first_spelled words rest [] spelled = absurd spelled
-first_spelled words rest (first ∷ commands) spelled = ((first, spelled.0), (commands, spelled.1))
-
 pub spelled_more : (left rest all : List (List ℕ)) (words : List ℕ) → left ≡ words ∷ rest → IsSpelled words → AreSpelled left ↔ AreSpelled all → AreSpelled rest ↔ AreSpelled all
 spelled_more left rest all words same here decides =
     let P : List (List ℕ) → Type 0 = λ ws. AreSpelled ws in (
-      λ more. decides.0 (subst P (sym same) (here.0 ∷ more.0, (here.1, more.1))),
-      λ whole. let those = subst P same (decides.1 whole) in (first_spelled words rest those.0 those.1).1,
+      λ more. decides.0 (subst P (sym same) (here, more)),
+      λ whole. let those : AreSpelled (words ∷ rest) = subst P same (decides.1 whole) in those.1,
     )
 
 pub spelled_not : (left rest all : List (List ℕ)) (words : List ℕ) → left ≡ words ∷ rest → (IsSpelled words → ⊥) → AreSpelled left ↔ AreSpelled all → AreSpelled all → ⊥
 spelled_not left rest all words same none decides whole =
     let P : List (List ℕ) → Type 0 = λ ws. AreSpelled ws in
-    let those = subst P same (decides.1 whole) in none (first_spelled words rest those.0 those.1).0
+    let those : AreSpelled (words ∷ rest) = subst P same (decides.1 whole) in none those.0
 
 pub spelled_all : (left all : List (List ℕ)) → left ≡ [] → AreSpelled left ↔ AreSpelled all → AreSpelled all
 spelled_all left all none decides =
-    let P : List (List ℕ) → Type 0 = λ ws. AreSpelled ws in decides.0 (subst P (sym none) ([], tt))
+    let P : List (List ℕ) → Type 0 = λ ws. AreSpelled ws in decides.0 (subst P (sym none) tt)
 
--- what the bytes of a chain tell is what its words spell
-pub tells_spelled : (bytes : List ℕ) (count : ℕ) (words : List (List ℕ)) → SpellsKept bytes words → length words ≡ count → AreSpelled words ↔ TellsCommands bytes count
-tells_spelled bytes count words kept counted = (
-  λ spelled. (spelled.0, record { words = words; kept = kept; counted = counted; spelled = spelled.1 }),
-  λ tells. (tells.0, subst (λ (ws : List (List ℕ)). SpellCommands ws tells.0) (one_kept bytes tells.1.words words tells.1.kept kept) tells.1.spelled),
+-- what the bytes of a chain tell is what its words are
+pub tells_spelled : (entry : TableEntry) (bytes : List ℕ) (words : List (List ℕ)) → SpellsKept bytes words → length words ≡ entry.kept → AreSpelled words ↔ TellsWords entry bytes
+tells_spelled entry bytes words kept counted = (
+  λ spelled. record { kept_words = words; kept = kept; counted = counted; spelled = spelled },
+  λ tells. subst (λ (ws : List (List ℕ)). AreSpelled ws) (one_kept bytes tells.kept_words words tells.kept kept) tells.spelled,
 )
+
+-- a command's words are those of a request
+pub commands_spelled : (words : List (List ℕ)) (commands : List Command) → SpellCommands words commands → AreSpelled words
+commands_spelled [] [] spelled = tt
+commands_spelled [] (c ∷ cs) spelled = absurd spelled
+commands_spelled (w ∷ ws) [] spelled = absurd spelled
+commands_spelled (w ∷ ws) (c ∷ cs) spelled =
+    (inl (Play c, record { request = spelled.0.command; spelled = spelled.0.spelled }), commands_spelled ws cs spelled.1)

@@ -1,8 +1,9 @@
 -- What the chain of a table tells of its kept commands.
-use Rattle.std.specs.Prelude.{◌≡◌, ℕ, ◌<◌, List, [], ◌∷◌, length}
+use Rattle.std.specs.Prelude.{◌≡◌, ℕ, ◌<◌, ◌≤◌, List, [], ◌∷◌, length}
 use Rattle.rr_code.specs.Command.{SpellsCommand}
 use Rattle.rr_code.specs.declared.command.Command.{Command}
 use Rattle.rr_code.specs.declared.command.Command.TheVariants.{Open}
+use Rattle.rr_dir.specs.declared.directory.TableEntry.{TableEntry}
 use Rattle.rr_dir.specs.Kept.{SpellsKept}
 use Rattle.rr_hist.specs.declared.table.Table.{Table}
 use Rattle.rr_hist.specs.Playing.{ArePlayed, IsLawfulAfter, ends_turn}
@@ -11,6 +12,7 @@ use Rattle.rr_kit.specs.declared.kit.Kit.{Kit}
 use Rattle.rr_records.specs.Words.{SpellCommands}
 use Rattle.rr_turns.specs.declared.request.Request.TheVariants.{Play}
 use Rattle.rr_turns.specs.Kept.{kept_after}
+use Rattle.rr_turns.specs.Turns.{ended_turns}
 
 -- the bytes of a chain are so many kept commands, whose words spell these
 pub record HoldsCommands (bytes : List ℕ) (count : ℕ) (commands : List Command) : Type 0 where
@@ -55,3 +57,9 @@ pub record HoldsPlayed (kit : Kit) (bytes : List ℕ) (count : ℕ) : Type 0 whe
   pub commands : List Command
   pub kept : HoldsCommands bytes count commands
   pub played : ∥ ArePlayed kit commands ∥₁
+
+-- an entry and its bytes tell a table that was played: the bytes hold commands that were, and the entry's floor isn't above
+-- the turns that ended in them
+pub record TellsPlayed (kit : Kit) (entry : TableEntry) (bytes : List ℕ) : Type 0 where
+  pub holds : HoldsPlayed kit bytes entry.kept
+  pub floored : entry.floor ≤ ended_turns (ends_turn kit) holds.commands

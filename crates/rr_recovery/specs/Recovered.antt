@@ -21,7 +21,7 @@ pub record IsRecoveredFrom (has : Held) (recovered : Recovered) : Type 0 where
   pub before : IsSnapshotBefore has.far middle recovered.base
 
 -- Texts spell the kit, and by its rules the tables were played: what each keeps is an opening and then commands that are
--- lawful, each after those before it.
+-- lawful, each after those before it, and its floor isn't above the turns that ended in them.
 pub record HoldsPlayedTables (recovered : Recovered) : Type 0 where
   pub texts : KitTexts
   pub right : SpellsKit texts recovered.tables.kit

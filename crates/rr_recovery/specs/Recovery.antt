@@ -16,6 +16,7 @@ use Rattle.rr_recovery.specs.declared.fault.Fault.{Fault}
 use Rattle.rr_recovery.specs.declared.fault.Fault.TheVariants as F
 use Rattle.rr_recovery.specs.Replaying.{BreaksOff, Replays}
 use Rattle.rr_recovery.specs.Texts.{texts_in}
+use Rattle.rr_recovery.specs.Told.{KeepSpelled}
 
 -- the chains of the root spell a world, whose tables by their commands are these
 pub record IsBase (has : Held) (base : World) (world : words.World) : Type 0 where
@@ -35,25 +36,28 @@ pub record IsRecovered (has : Held) (texts : KitTexts) (kit : Kit) (base middle 
   pub far : Replays kit middle has.far now
   pub whole : HasDamagedRecord has → ⊥
 
--- kept words of some table spell no command: no tables are in these words
+-- the chains of the root spell this world in words, and what its tables keep are words of lines
+pub record IsWritten (has : Held) (world : words.World) : Type 0 where
+  pub spells : Spells has.root.version has.chain.text (texts_of (chains_of has.texts has.tables)) world
+  pub kept : KeepSpelled world.tables
+
+-- kept words of some table are no request's, and no `best`
 abbrev pub HasBadWords : Held → Type 0
-HasBadWords has = (base : World) (world : words.World) → IsBase has base world → ⊥
+HasBadWords has = (world : words.World) → IsWritten has world → ⊥
 
 -- the words are right, and the texts spell no kit
 pub record HasWrongKit (has : Held) : Type 0 where
-  pub base : World
   pub world : words.World
-  pub is_base : IsBase has base world
+  pub written : IsWritten has world
   pub wrong : IsWrongKit (texts_in has.texts)
 
--- words and kit are right, and some table's kept commands weren't played
+-- words and kit are right, and no tables in these words were played
 pub record HasUnplayedTable (has : Held) : Type 0 where
-  pub base : World
   pub world : words.World
-  pub is_base : IsBase has base world
+  pub written : IsWritten has world
   pub kit : Kit
   pub right : SpellsKit (texts_in has.texts) kit
-  pub unplayed : ArePlayedTables kit base → ⊥
+  pub unplayed : (base : World) → IsInWords base world → ArePlayedTables kit base → ⊥
 
 -- the tables are right, and a near or a far record has no lawful request at its turn, or a record is damaged
 pub record HasBadRecord (has : Held) : Type 0 where
@@ -72,7 +76,7 @@ IsDamage has D.Kit = HasWrongKit has
 IsDamage has D.Kept = HasUnplayedTable has
 IsDamage has D.Records = HasBadRecord has
 
--- why no tables are recovered: want of memory may come at any file whose kept words spell commands
+-- why no tables are recovered: want of memory may come at any file whose kept words are right
 abbrev pub Refuses : Held → Fault → Type 0
 Refuses has (F.Damaged damage) = IsDamage has damage
 Refuses has F.OutOfMemory = HasBadWords has → ⊥

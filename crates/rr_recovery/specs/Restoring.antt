@@ -1,10 +1,9 @@
 -- The tables of a directory, put one behind another.
 use Rattle.std.specs.Prelude.{◌≡◌, ℕ, ◌<◌, ◌≤◌, List, [], ◌∷◌, ◌++◌, length, None}
 use Rattle.rr_dir.specs.declared.directory.TableEntry.{TableEntry}
-use Rattle.rr_hist.specs.Playing.{ArePlayed}
 use Rattle.rr_images.specs.Holding.{HeldChain}
 use Rattle.rr_kit.specs.declared.kit.Kit.{Kit}
-use Rattle.rr_records.specs.Played.{ArePlayedTables}
+use Rattle.rr_records.specs.Played.{ArePlayedTables, IsPlayedTable}
 use Rattle.rr_records.specs.World.{TableState, World, table_named}
 use Rattle.rr_recovery.specs.Told.{TellTables, TellsTable}
 
@@ -18,7 +17,7 @@ pub record IsFreeFor (tables : World) (entry : TableEntry) : Type 0 where
 pub record HasRestored (kit : Kit) (entry : TableEntry) (bytes : List ℕ) (old new : World) : Type 0 where
   pub table : List ℕ × TableState
   pub told : TellsTable entry bytes table
-  pub played : ∥ ArePlayed kit table.1.commands ∥₁
+  pub played : IsPlayedTable kit table.1
   pub last : new ≡ old ++ table ∷ []
 
 -- the tables of these entries, which were played with this kit

@@ -4,13 +4,14 @@ use thiserror::Error;
 /// Which clause a damaged file breaks, of those that the rules of the game decide. Of several the least is told.
 #[derive(Clone, Copy, Debug, Drop, PartialEq, Eq, Error)]
 pub enum Damage {
-    /// Kept words of a table spell no command.
+    /// Kept words of a table are no request's, and no `best`.
     #[error("5")]
     Words,
     /// A text of the kit is wrong.
     #[error("6")]
     Kit,
-    /// What a table keeps isn't an opening and then commands that are lawful, each after those before it.
+    /// What a table keeps isn't an opening and then commands that are lawful, each after those before it; or its floor is
+    /// above the turns that ended in them.
     #[error("7")]
     Kept,
     /// A record spells no request that its table may take, or is damaged.

@@ -12,7 +12,7 @@ ghost use Rattle.rr_tables.specs.Tables.{world_of};
 use crate::records::replay_halves;
 use crate::tables::restore_tables;
 use crate::texts::{kit_pages, read_kit};
-use crate::words::tell_commands;
+use crate::words::tell_words;
 use crate::{Damage, Fault};
 use rr_dir::TableEntry;
 use rr_opening::Opened;
@@ -39,9 +39,10 @@ pub struct Recovered {
 /// and then the records are taken. A table's floor and stamp are as the file has them.
 ///
 /// # Errors
-/// `Damaged` with the least of the clauses 5 to 8 that is broken: `Words` where kept words spell no command, `Kit` where a
-/// text of the kit is wrong, `Kept` where what a table keeps isn't an opening and then commands that are lawful, `Records`
-/// where a record has no lawful request at its turn, or is damaged. Else `OutOfMemory` alone.
+/// `Damaged` with the least of the clauses 5 to 8 that is broken: `Words` where kept words are no request's and no `best`,
+/// `Kit` where a text of the kit is wrong, `Kept` where what a table keeps isn't an opening and then commands that are
+/// lawful, or its floor is above the turns that ended in them, `Records` where a record has no lawful request at its turn,
+/// or is damaged. Else `OutOfMemory` alone.
 pub fn recover<R: Rules>(alloc: Global, opened: &Opened<Worlds<R>>) -> Result<Recovered, Fault>
     // The opened file is what some file holds: an opening ensures that where its disk is honest.
     ensures recovered { IfOk result (λ recovered. (file : List ℕ) → Holds file (held_by opened.now)
@@ -77,7 +78,7 @@ fn recover_base(
     ensures refused { IfErr result (λ fault. length entries.now ≡ length chains.now → AreTables entries.now
         → RefusesBase entries.now (chains_held texts.now) (all_held chains.now) fault) }
 {
-    if !tell_commands(entries, chains) {
+    if !tell_words(entries, chains) {
         return Err(Fault::Damaged(Damage::Words));
     }
     let kit = read_kit(alloc, texts)?;

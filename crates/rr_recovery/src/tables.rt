@@ -3,8 +3,9 @@ ghost use Rattle.std.specs.Prelude.{◌≡◌, ◌⊎◌, ◌↔◌, ◌≤◌, 
 ghost use Rattle.rr_dir.specs.Directory.{AreTables};
 ghost use Rattle.rr_hist.specs.Tables.{IsPlayed, kept_in};
 ghost use Rattle.rr_reading.specs.Chains.{all_held};
-ghost use Rattle.rr_recovery.specs.Kept.{HoldsPlayed};
+ghost use Rattle.rr_recovery.specs.Kept.{TellsPlayed};
 ghost use Rattle.rr_recovery.specs.Restoring.{AreRestored, HasRestored, IsFreeFor};
+ghost use Rattle.rr_records.specs.Played.{IsPlayedTable};
 ghost use Rattle.rr_recovery.specs.Told.{EachHas, TellsTable};
 ghost use Rattle.rr_tables.specs.Tables.{world_of};
 ghost use Rattle.rr_tables.specs.Writable.{IsWritable};
@@ -36,7 +37,7 @@ pub(crate) fn restore_tables(
     ensures kit { IfOk result (λ tables. tables.kit ≡ kit) }
     ensures refused { IfErr result (λ fault. (fault ≡ Fault.OutOfMemory)
         ⊎ ((fault ≡ Fault.Damaged Damage.Kept) × (AreTables entries.now
-        → EachHas (HoldsPlayed kit) entries.now (all_held chains.now) → ⊥))) }
+        → EachHas (TellsPlayed kit) entries.now (all_held chains.now) → ⊥))) }
 {
     let mut tables = no_tables(alloc, kit)?;
     for (index, entry) in entries.iter().enumerate() {
@@ -66,7 +67,7 @@ fn restore_table(
     ensures restored { OnOk result (HasRestored tables.old.kit entry.now bytes.now (world_of tables.old) (world_of tables.new)) }
     ensures refused { IfErr result (λ fault. (fault ≡ Fault.OutOfMemory)
         ⊎ ((fault ≡ Fault.Damaged Damage.Kept) × (IsFreeFor (world_of tables.old) entry.now → entry.now.kept ≤ 4096
-        → HoldsPlayed tables.old.kit bytes.now entry.now.kept → ⊥))) }
+        → TellsPlayed tables.old.kit entry.now bytes.now → ⊥))) }
     ensures kit { tables.new.kit ≡ tables.old.kit }
 {
     if !is_free_for(tables, entry) {
@@ -92,13 +93,18 @@ fn restore(alloc: Global, kit: &Kit, entry: &TableEntry, bytes: &[u8]) -> Result
     requires { entry.now.stamp ≤ 4000000000 }
     ensures told { IfOk result (λ table. TellsTable entry.now bytes.now (entry.now.name, kept_in table.value)) }
     ensures played { IfOk result (λ table. IsPlayed kit.now table.value) }
+    ensures floored { IfOk result (λ table. IsPlayedTable kit.now (kept_in table.value)) }
     ensures writable { IfOk result (λ table. IsWritable (kept_in table.value)) }
     ensures refused { IfErr result (λ fault. (fault ≡ Fault.OutOfMemory)
         ⊎ ((fault ≡ Fault.Damaged Damage.Kept) × (entry.now.kept ≤ 4096
-        → HoldsPlayed kit.now bytes.now entry.now.kept → ⊥))) }
+        → TellsPlayed kit.now entry.now bytes.now → ⊥))) }
 {
     let mut table = play_all(alloc, kit, bytes, entry.kept)?;
-    table.resume(u64::from(entry.floor), entry.stamp);
+    let floor = u64::from(entry.floor);
+    if floor > table.turns() {
+        return Err(Fault::Damaged(Damage::Kept));
+    }
+    table.resume(floor, entry.stamp);
     let table = Box::new(alloc, table)?;
     Ok(table)
 }

@@ -42,6 +42,9 @@ laid_length present coming after bytes old new head is =
     sym (length-map new fresh_of) ∙ (ap (λ (xs : List (ℕ × List ℕ)). length xs) is.fresh ∙ (length-append (map fresh_of old) (laid is.pages is.pieces)
     ∙ (λ i. length-map old fresh_of i + laid_count is.pages is.pieces is.fit.each i)))
 
+pub some_laid : (present coming after : List Bool) (bytes : List ℕ) (old new : List FreshPage) (head : ℕ) → IsLaid present coming after bytes old new head → 0 < length new
+some_laid present coming after bytes old new head is = omega (arith, laid_length present coming after bytes old new head is, is.fit.some)
+
 pub laid_few : (present coming after : List Bool) (bytes : List ℕ) (old new : List FreshPage) (head : ℕ) → (is : IsLaid present coming after bytes old new head) → length is.pages ≤ most_pages_for (length bytes)
 laid_few present coming after bytes old new head is =
     within_most (length is.pages) (length bytes) (omega (arith, filled is.pages is.pieces is.fit.each is.fill, ap (λ (xs : List ℕ). length xs) is.whole))

@@ -46,6 +46,7 @@ pub fn plan_checkpoint<R: Rules>(
         → (of : IsOfLayout R.takes kit.now snapshot.now carries.layout)
         → (may : MayBegin (worlds R.takes) carries.layout (free_of writer.new) plan) × HoldsTexts of.texts may.holding) }
     ensures root { IfOk result (λ plan. plan.root ≡ coming_root_of writer.old plan.root.directory plan.fresh.items) }
+    ensures some { IfOk result (λ plan. 0 < length plan.fresh.items) }
     ensures few { IfOk result (λ plan. length plan.fresh.items ≤ most_laid_pages (tables_of snapshot.now)) }
     ensures laid { IfOk result (λ plan. (none : List Bool) → NoneReached none
         → TakesFree (present_of (free_of writer.old)) (all_marked none (text_pages kit.now)) (fresh_pages plan)
@@ -83,6 +84,7 @@ fn make_plan<R: Rules>(
         → (of : IsOfLayout R.takes kit.now snapshot.now carries.layout)
         → (may : MayBegin (worlds R.takes) carries.layout (free_of writer.new) plan) × HoldsTexts of.texts may.holding) }
     ensures root { IfOk result (λ plan. plan.root ≡ coming_root_of writer.old plan.root.directory plan.fresh.items) }
+    ensures some { IfOk result (λ plan. 0 < length plan.fresh.items) }
     ensures few { IfOk result (λ plan. length plan.fresh.items ≤ most_laid_pages (tables_of snapshot.now)) }
     ensures laid { IfOk result (λ plan. TakesFree (present_of (free_of writer.old))
         (all_marked (coming_of (free_of writer.old)) (text_pages kit.now)) (fresh_pages plan)

@@ -1,7 +1,8 @@
 -- What a commit does, from what the tables and the keeping of its record did.
 use Rattle.std.proofs.Common.{◌≡◌, ◌⊎◌, ℕ, ◌+◌, ◌≤◌, Bool, false, true, List, [], ◌∷◌, length, map, None, Some, Result, Ok, Err, option_map, inl, inr, refl, sym, ap, subst, ◌∙◌, arith}
 use Rattle.rr_disk.specs.Disk.{DiskState}
-use Rattle.rr_disk.specs.Moments.{LeavesOnly}
+use Rattle.rr_disk.specs.Moments.{EachImage, LeavesOnly}
+use Rattle.rr_images.specs.Calls.{TakesNewer}
 use Rattle.rr_disk.proofs.MomentLemmas.{EachImageOf-weaker, weaker}
 use Rattle.rr_kit.specs.declared.kit.Kit.{Kit}
 use Rattle.rr_kit.specs.Kits.{KitTexts, SpellsKit}
@@ -18,7 +19,7 @@ use Rattle.rr_log.specs.Calls.{MeetsFullFile}
 use Rattle.rr_log.specs.Log.{IsTooLong, is_broken, next_number}
 use Rattle.rr_log.specs.Log as file
 use Rattle.rr_log.specs.Carrying as carrying
-use Rattle.rr_records.specs.Taking.{Takes as Takes_line}
+use Rattle.rr_records.specs.Taking.{Takes as Takes_line, table_files}
 use Rattle.rr_records.specs.declared.fault.Fault as rules
 use Rattle.rr_records.specs.declared.fault.Fault.TheVariants as R
 use Rattle.rr_records.specs.declared.rules.TableRules.{TableRules}
@@ -34,12 +35,12 @@ use Rattle.rr_store.specs.declared.fault.Fault.TheVariants as F
 use Rattle.rr_store.specs.declared.journal.FileJournal.{FileJournal}
 use Rattle.rr_store.specs.declared.store.Store.{Store}
 use Rattle.rr_store.specs.Allowing.{BeforeOrAfter, Between, CommitAllows, CommitEnds, IsLawful, Keeps}
-use Rattle.rr_store.specs.Committing.{Commits, NumberBehind, Spares}
+use Rattle.rr_store.specs.Committing.{Commits, NumberBehind, Spares, layout_behind}
 use Rattle.rr_store.specs.Fault.{CountsEnd, OnDeviceFault, of_log, of_rules, of_tables}
 use Rattle.rr_store.specs.Files.{AreTablesOf}
 use Rattle.rr_store.specs.Held.{Accepted, Again, Fails, Held, NoRoom, Refused, Takes, Wants, stamp_after, with_tables}
-use Rattle.rr_store.specs.Holding.{Carries, IsUnchanged, disk_of, file_of, held_of, number_of_next}
-use Rattle.rr_store.specs.Keeping.{Keeping}
+use Rattle.rr_store.specs.Holding.{Carries, IsUnchanged, disk_of, file_of, held_of, number_of_next, ticks_left}
+use Rattle.rr_store.specs.Keeping.{Keeping, MakesAtMost}
 use Rattle.rr_store.specs.World.{World, for_table, judgement_in, world_after}
 use Rattle.rr_store.proofs.Standing.{carried_keeps, carried_now, keeps_either, record_leads, stands_either, tables_after}
 use Rattle.rr_store.proofs.Verdicts.{no_failure, no_full}
@@ -130,6 +131,7 @@ module _ {D : Type 0} (Honest Works : D → Type 0) (state : D → DiskState) (p
           each = tt;
         };
         carries = λ h whole texts s. carried texts s;
+        renews = λ whole one none h texts s. let left : ticks_left new ≡ ticks_left old = ap (λ (f : Log D TableRules). file.ticks_left f) same.same_file in absurd (omega (arith, one, none, left));
         number = number_same fault (number_of_next old) (number_of_next new) (ap (λ (f : Log D TableRules). next_number f) same.same_file);
         spares = spares_same old new fault same;
         wanting = λ is. inl same;
@@ -139,6 +141,8 @@ module _ {D : Type 0} (Honest Works : D → Type 0) (state : D → DiskState) (p
         few_syncs = λ room. at_most syncs 3;
         own_writes = λ room rests. at_most writes 2;
         own_syncs = λ room rests. at_most syncs 2;
+        most_writes = within writes;
+        most_syncs = within syncs;
         comes_on = tt;
         makes_room = tt;
         full = λ is. absurd (room (let one : fault ≡ F.FileFull = cc is in one));
@@ -150,6 +154,9 @@ module _ {D : Type 0} (Honest Works : D → Type 0) (state : D → DiskState) (p
 
       at_most : (count : D → ℕ) (more : ℕ) → count (disk_of new) ≤ count (disk_of old) + more
       at_most count more = let e : count (disk_of new) ≡ count (disk_of old) = ap count same_disk in omega arith
+
+      within : (count : D → ℕ) → MakesAtMost count (map table_in_words tables_now) (file_of old) (file_of new)
+      within count = let few = at_most count 3 in record { under_way = λ some. omega (arith, few); begun = λ none. omega (arith, few) }
 
       carried : (texts : KitTexts) → Carries state old texts → Carries state new texts
       carried texts s = record {
@@ -208,6 +215,9 @@ module _ {D : Type 0} (Honest Works : D → Type 0) (state : D → DiskState) (p
               (λ moments. (lawful_in texts s lawful, subst (λ (w : World). Keeps (state (disk_of new)) texts w) (ap (λ (x : Held). x.tables) held_is) (carried_keeps state new texts (on h texts s))));
           keeps = kept_by (Ok tt) lawful k;
           carries = λ h whole texts s. on h texts s;
+          renews = λ whole one none h texts s.
+              subst (λ (x : Held). EachImage (state (disk_of new)) (TakesNewer table_files (layout_behind (Ok n) s.file.carried.layout bytes_of (in_words texts x.tables)) (in_words texts x.tables))) (sym held_is)
+              (k.renews k.broken one none h (in_words texts tables_now) (in_words texts behind) (record_leads texts kit_now tables_now stamp (for_table name c) (lawful_in texts s lawful) s.tables_of_kit) s.file);
           number = k.number;
           spares = tt;
           wanting = λ is. absurd (cc is);
@@ -217,6 +227,8 @@ module _ {D : Type 0} (Honest Works : D → Type 0) (state : D → DiskState) (p
           few_syncs = k.few_syncs;
           own_writes = k.own_writes;
           own_syncs = k.own_syncs;
+          most_writes = k.most_writes;
+          most_syncs = k.most_syncs;
           comes_on = k.comes_on;
           makes_room = k.makes_room;
           full = λ is. absurd (cc is);
@@ -241,6 +253,7 @@ module _ {D : Type 0} (Honest Works : D → Type 0) (state : D → DiskState) (p
           allowed = λ h texts s. passed_by (Err L.DeviceFailed) (Err F.DeviceFailed) lawful k h texts s (λ moments. lawful_in texts s lawful);
           keeps = kept_by (Err L.DeviceFailed) lawful k;
           carries = λ h whole texts s. let both : true ≡ false = sym k.broken ∙ whole in absurd (cc both);
+          renews = λ whole one none h texts s. let both : true ≡ false = sym k.broken ∙ whole in absurd (cc both);
           number = tt;
           spares = tt;
           wanting = λ is. absurd (cc is);
@@ -250,6 +263,8 @@ module _ {D : Type 0} (Honest Works : D → Type 0) (state : D → DiskState) (p
           few_syncs = k.few_syncs;
           own_writes = k.own_writes;
           own_syncs = k.own_syncs;
+          most_writes = k.most_writes;
+          most_syncs = k.most_syncs;
           comes_on = tt;
           makes_room = tt;
           full = λ is. absurd (cc is);
@@ -268,6 +283,12 @@ module _ {D : Type 0} (Honest Works : D → Type 0) (state : D → DiskState) (p
                 (k.carries h whole (in_words texts tables_now) (in_words texts behind) (record_leads texts kit_now tables_now stamp (for_table name c) is_lawful s.tables_of_kit) refl s.file);
           }
 
+      renews_on : ticks_left old ≡ 1 → ticks_left new ≡ 0 → Honest (disk_of new) → (texts : KitTexts) → (s : Carries state old texts)
+          → EachImage (state (disk_of new)) (TakesNewer table_files s.file.carried.layout (in_words texts (held_of new).tables))
+      renews_on one none h texts s =
+          subst (λ (x : Held). EachImage (state (disk_of new)) (TakesNewer table_files s.file.carried.layout (in_words texts x.tables))) (sym held_is)
+          (k.renews whole one none h (in_words texts tables_now) (in_words texts behind) (record_leads texts kit_now tables_now stamp (for_table name c) (lawful_in texts s lawful) s.tables_of_kit) s.file)
+
       keeps_on : Honest (disk_of new) → (texts : KitTexts) → Carries state old texts → Keeps (state (disk_of new)) texts tables_now
       keeps_on h texts s = subst (λ (w : World). Keeps (state (disk_of new)) texts w) (ap (λ (x : Held). x.tables) held_is) (carried_keeps state new texts (goes_on h texts s))
 
@@ -279,6 +300,7 @@ module _ {D : Type 0} (Honest Works : D → Type 0) (state : D → DiskState) (p
           allowed = λ h texts s. passed_by (Err L.FileFull) (Err F.FileFull) lawful k h texts s (λ moments. keeps_on L.FileFull lawful k k.broken held_is h texts s);
           keeps = kept_by (Err L.FileFull) lawful k;
           carries = λ h whole texts s. goes_on L.FileFull lawful k whole held_is h texts s;
+          renews = λ whole one none h texts s. renews_on L.FileFull lawful k whole held_is one none h texts s;
           number = k.number;
           spares = tt;
           wanting = λ is. absurd (cc is);
@@ -288,6 +310,8 @@ module _ {D : Type 0} (Honest Works : D → Type 0) (state : D → DiskState) (p
           few_syncs = k.few_syncs;
           own_writes = k.own_writes;
           own_syncs = k.own_syncs;
+          most_writes = k.most_writes;
+          most_syncs = k.most_syncs;
           comes_on = tt;
           makes_room = tt;
           full = λ is. subst (λ (x : Held). IsTooLong (length bytes_of) ⊎ MeetsFullFile (file_of new) (map table_in_words x.tables) (length bytes_of)) (sym held_is) (k.full refl);
@@ -302,6 +326,7 @@ module _ {D : Type 0} (Honest Works : D → Type 0) (state : D → DiskState) (p
           allowed = λ h texts s. passed_by (Err L.OutOfMemory) (Err F.OutOfMemory) lawful k h texts s (λ moments. keeps_on L.OutOfMemory lawful k k.broken held_is h texts s);
           keeps = kept_by (Err L.OutOfMemory) lawful k;
           carries = λ h whole texts s. goes_on L.OutOfMemory lawful k whole held_is h texts s;
+          renews = λ whole one none h texts s. renews_on L.OutOfMemory lawful k whole held_is one none h texts s;
           number = k.number;
           spares = tt;
           wanting = λ is. inr lawful;
@@ -311,6 +336,8 @@ module _ {D : Type 0} (Honest Works : D → Type 0) (state : D → DiskState) (p
           few_syncs = k.few_syncs;
           own_writes = k.own_writes;
           own_syncs = k.own_syncs;
+          most_writes = k.most_writes;
+          most_syncs = k.most_syncs;
           comes_on = tt;
           makes_room = tt;
           full = λ is. absurd (cc is);

@@ -3,14 +3,16 @@ use Rattle.std.proofs.Common.{◌≡◌, ◌⊎◌, ◌↔◌, ℕ, ◌+◌, ◌
 use Rattle.rr_checkpoint.specs.Calls.{LeavesEither, LeavesKept}
 use Rattle.rr_checkpoint.proofs.Writers.{carried_kept}
 use Rattle.rr_disk.specs.Disk.{DiskState}
+use Rattle.rr_disk.specs.Moments.{EachImage}
 use Rattle.rr_disk.proofs.MomentLemmas.{joins, started, weaker}
+use Rattle.rr_images.specs.Calls.{TakesNewer}
 use Rattle.rr_images.specs.Layout.{Keeps}
 use Rattle.rr_journal.specs.declared.half.Half.{Half}
 use Rattle.rr_journal.specs.Layout.{HasRoom}
 use Rattle.rr_log.specs.declared.fault.Fault.{Fault}
 use Rattle.rr_log.specs.declared.fault.Fault.TheVariants as F
 use Rattle.rr_log.specs.declared.log.Log.{Log}
-use Rattle.rr_log.specs.Calls.{MayRefuse, MeetsFullFile, NumberBehind, world_behind}
+use Rattle.rr_log.specs.Calls.{MayRefuse, MeetsFullFile, NumberBehind, layout_behind, ticks_due, world_behind}
 use Rattle.rr_log.specs.Carrying.{Carries, HaveSameTexts}
 use Rattle.rr_log.specs.Fault.{CountsFault, IsWant, OnDeviceFault, ends_broken}
 use Rattle.rr_log.specs.Log.{HasNoRoom, IsDue, IsPastLast, IsTooLong, disk_of, is_broken, next_number, place_of, ticks_left}
@@ -20,7 +22,7 @@ use Rattle.rr_records.specs.Taking.{Takes, table_files}
 use Rattle.rr_kit.specs.Kits.{KitTexts}
 use Rattle.rr_worlds.specs.World.{Table}
 use Rattle.rr_worlds.specs.World as words
-use Rattle.rr_store.specs.Keeping.{ComesOn, IsFull, Keeping, told_of}
+use Rattle.rr_store.specs.Keeping.{ComesOn, IsFull, Keeping, MakesAtMost, told_of}
 
 abbrev Kept : Type 0
 Kept = Result (Unit {0}) Fault
@@ -63,23 +65,31 @@ module _ {D : Type 0} (Honest Works : D → Type 0) (state : D → DiskState) (p
         → LeavesEither table_files (past (disk_of old)) (state (disk_of old)) (past (disk_of new)) (state (disk_of new)) before behind
     pub carries : Honest (disk_of new) → is_broken new ≡ false → (before behind : words.World) → Takes bytes before behind → HaveSameTexts before behind → before.tables ≡ tables
         → Carries Takes old (state (disk_of old)) before → Carries Takes new (state (disk_of new)) (world_behind result before behind)
+    pub renews : is_broken new ≡ false → ticks_left old ≡ 1 → ticks_left new ≡ 0 → Honest (disk_of new) → (before behind : words.World) → Takes bytes before behind → HaveSameTexts before behind
+        → (carries : Carries Takes old (state (disk_of old)) before)
+        → EachImage (state (disk_of new)) (TakesNewer table_files (layout_behind result carries.carried.layout bytes behind) (world_behind result before behind))
+    pub nothing : IfErr result (λ fault. is_broken new ≡ false → ticks_left old ≡ 0 → ticks_left new ≡ 0 → disk_of new ≡ disk_of old)
     pub number : NumberBehind result (next_number old) (next_number new)
     pub again : IsErrOf result F.OpenAgain ↔ IsTrue (is_broken old)
     pub untouched : IsErrOf result F.OpenAgain → new ≡ old
     pub broken : is_broken new ≡ ends_broken result
     pub refused : IfErr result (MayRefuse (place_of new) (length bytes))
     pub full_half : IsErrOf result F.HalfFull → HasNoRoom (place_of old) (length bytes)
-    pub makes_room : OnOk result (HasNoRoom (place_of old) (length bytes) → 3 ≤ ticks_left new)
+    pub makes_room : OnOk result (HasNoRoom (place_of old) (length bytes) → 4 ≤ ticks_left new)
     pub full_file : IsErrOf result F.FileFull → MeetsFullFile new tables (length bytes)
     pub long : IsErrOf result F.HalfFull → ticks_left old ≡ 0 → (place_of old).begun ≡ None → IsTooLong (length bytes)
     pub resting : IsErrOf result F.HalfFull → ticks_left new ≡ 0 → (place_of new).begun ≡ None
     pub left : is_broken new ≡ false → next_number old + 1 < 2 ^ 63 → 0 < ticks_left old → ticks_left old ≡ ticks_left new + 1
+    pub comes : IsErrOf result F.HalfFull → 0 < ticks_left old → ticks_left old ≡ ticks_left new + 1
+    pub most : is_broken new ≡ false → ticks_left old ≡ 0 → ticks_left new < ticks_due old tables
     pub rests : ticks_left old ≡ 0 → (IsDue (place_of old) → ⊥) → ticks_left new ≡ 0
-    pub begins : is_broken new ≡ false → ticks_left old ≡ 0 → (ticks_left new ≡ 0) ⊎ (3 ≤ ticks_left new)
+    pub begins : is_broken new ≡ false → ticks_left old ≡ 0 → (ticks_left new ≡ 0) ⊎ (4 ≤ ticks_left new)
     pub device : OnDeviceFault result (Honest (disk_of new) → (world : words.World) → Carries Takes old (state (disk_of old)) world → Works (disk_of new) → ⊥)
     pub fault : CountsFault (faults (disk_of old)) (faults (disk_of new)) result
     pub few_writes : writes (disk_of new) ≤ writes (disk_of old) + 3
     pub few_syncs : syncs (disk_of new) ≤ syncs (disk_of old) + 3
+    pub tick_writes : IsErrOf result F.HalfFull → writes (disk_of new) ≤ writes (disk_of old) + 1
+    pub tick_syncs : IsErrOf result F.HalfFull → syncs (disk_of new) ≤ syncs (disk_of old) + 1
     pub own_writes : ticks_left old ≡ 0 → (IsDue (place_of old) → ⊥) → writes (disk_of new) ≤ writes (disk_of old) + 2
     pub own_syncs : ticks_left old ≡ 0 → (IsDue (place_of old) → ⊥) → syncs (disk_of new) ≤ syncs (disk_of old) + 2
     pub honest : Honest (disk_of new) → Honest (disk_of old)
@@ -99,7 +109,10 @@ module _ {D : Type 0} (Honest Works : D → Type 0) (state : D → DiskState) (p
     pub half : (place_of new).half ≡ (place_of old).half
     pub first : IfErr result (λ fault. IsWant fault → ticks_left old ≡ 0)
     pub room : IsErrOf result F.HalfFull → ⊥
+    pub idle : ticks_left old ≡ 0 → new ≡ old
     pub fault : CountsFault (faults (disk_of old)) (faults (disk_of new)) result
+    pub all_writes : writes (disk_of new) ≤ writes (disk_of old) + ticks_left old
+    pub all_syncs : syncs (disk_of new) ≤ syncs (disk_of old) + ticks_left old
     pub honest : Honest (disk_of new) → Honest (disk_of old)
     pub works : Works (disk_of new) → Works (disk_of old)
     pub device : OnDeviceFault result (Honest (disk_of new) → (world : words.World) → world.tables ≡ tables → Carries Takes old (state (disk_of old)) world
@@ -130,11 +143,18 @@ module _ {D : Type 0} (Honest Works : D → Type 0) (state : D → DiskState) (p
         half = refl;
         first = tt;
         room = λ is. absurd (cc is);
+        idle = λ none. refl;
         fault = refl;
+        all_writes = omega arith;
+        all_syncs = omega arith;
         honest = λ h. h;
         works = λ w. w;
         device = tt;
       }
+
+  -- so few calls are among the most
+  few_at_most : (calls : D → ℕ) (old new : Logs) → calls (disk_of new) ≤ calls (disk_of old) + 3 → MakesAtMost calls tables old new
+  few_at_most calls old new few = record { under_way = λ some. omega (arith, few); begun = λ none. omega (arith, few) }
 
   -- nothing is tried for want of memory, or on a broken file
   pub keeps_nothing : (log : Logs) → is_broken log ≡ false → Done log (Err F.OutOfMemory) log
@@ -143,6 +163,7 @@ module _ {D : Type 0} (Honest Works : D → Type 0) (state : D → DiskState) (p
         honest = λ h. h;
         stops = λ h before behind takes lent carries. kept_now log before behind carries;
         carries = λ h still before behind takes lent carries. carries;
+        renews = λ still one none h before behind takes carries. absurd (omega (arith, one, none));
         number = refl;
         again = (λ is. absurd (cc is), λ broken. let both : true ≡ false = sym broken ∙ whole in absurd (cc both));
         untouched = λ is. absurd (cc is);
@@ -156,6 +177,8 @@ module _ {D : Type 0} (Honest Works : D → Type 0) (state : D → DiskState) (p
         few_syncs = λ room. omega arith;
         own_writes = λ room rests. omega arith;
         own_syncs = λ room rests. omega arith;
+        most_writes = few_at_most writes log log (omega arith);
+        most_syncs = few_at_most syncs log log (omega arith);
         comes_on = tt;
         makes_room = tt;
       }
@@ -166,6 +189,7 @@ module _ {D : Type 0} (Honest Works : D → Type 0) (state : D → DiskState) (p
         honest = λ h. h;
         stops = λ h before behind takes lent carries. kept_now log before behind carries;
         carries = λ h still before behind takes lent carries. carries;
+        renews = λ still one none h before behind takes carries. absurd (omega (arith, one, none));
         number = refl;
         again = (λ is. broken, λ was. refl);
         untouched = λ is. refl;
@@ -179,6 +203,8 @@ module _ {D : Type 0} (Honest Works : D → Type 0) (state : D → DiskState) (p
         few_syncs = λ room. omega arith;
         own_writes = λ room rests. omega arith;
         own_syncs = λ room rests. omega arith;
+        most_writes = few_at_most writes log log (omega arith);
+        most_syncs = few_at_most syncs log log (omega arith);
         comes_on = tt;
         makes_room = tt;
       }
@@ -201,6 +227,7 @@ module _ {D : Type 0} (Honest Works : D → Type 0) (state : D → DiskState) (p
         honest = t.honest;
         stops = λ h before behind takes lent carries. t.stops h before behind takes (same_texts bytes before behind takes) lent carries;
         carries = λ h whole before behind takes lent carries. t.carries h whole before behind takes (same_texts bytes before behind takes) lent carries;
+        renews = λ whole one none h before behind takes carries. t.renews whole one none h before behind takes (same_texts bytes before behind takes) carries;
         number = t.number;
         again = t.again;
         untouched = t.untouched;
@@ -214,6 +241,8 @@ module _ {D : Type 0} (Honest Works : D → Type 0) (state : D → DiskState) (p
         few_syncs = λ room. t.few_syncs;
         own_writes = λ room rests. t.own_writes rests.none_left rests.none_due;
         own_syncs = λ room rests. t.own_syncs rests.none_left rests.none_due;
+        most_writes = few_at_most writes old new t.few_writes;
+        most_syncs = few_at_most syncs old new t.few_syncs;
         comes_on = comes_on old new result t;
         makes_room = t.makes_room;
       }
@@ -228,6 +257,22 @@ module _ {D : Type 0} (Honest Works : D → Type 0) (state : D → DiskState) (p
     carried : Honest (disk_of mid) → (before behind : words.World) → Takes bytes before behind → before.tables ≡ tables
         → Carries Takes old (state (disk_of old)) before → Carries Takes mid (state (disk_of mid)) before
     carried h before behind takes lent carries = t.carries h t.broken before behind takes (same_texts bytes before behind takes) lent carries
+
+    -- one tick, all that are then left, and a second attempt
+    in_all : (calls : D → ℕ) (made new : Logs) → calls (disk_of mid) ≤ calls (disk_of old) + 1 → calls (disk_of made) ≤ calls (disk_of mid) + ticks_left mid → calls (disk_of new) ≤ calls (disk_of made) + 3
+        → MakesAtMost calls tables old new
+    in_all calls made new tick all again =
+        record {
+          under_way = λ some. let one = t.comes refl some in omega (arith, tick, all, again, one);
+          begun = λ none. let most = t.most t.broken none in omega (arith, tick, all, again, most);
+        }
+
+    never_whole : (fault : Fault) (new : Logs) → 0 < ticks_left mid → Made mid (Err fault) new → is_broken new ≡ false → ⊥
+    never_whole F.DeviceFailed new some m whole = let both : true ≡ false = sym m.broken ∙ whole in cc both
+    never_whole F.HalfFull new some m whole = m.room refl
+    never_whole F.FileFull new some m whole = let none = m.first (inl refl) in omega (arith, some, none)
+    never_whole F.OpenAgain new some m whole = let both : true ≡ false = sym m.broken ∙ whole in cc both
+    never_whole F.OutOfMemory new some m whole = let none = m.first (inr refl) in omega (arith, some, none)
 
     told : (fault : Fault) (new : Logs) → 0 < ticks_left mid → Made mid (Err fault) new → (fault ≡ F.OpenAgain → ⊥) × (fault ≡ F.FileFull → ⊥)
     told F.DeviceFailed new some m = (λ is. cc is, λ is. cc is)
@@ -245,6 +290,7 @@ module _ {D : Type 0} (Honest Works : D → Type 0) (state : D → DiskState) (p
               joins (t.stops (m.honest h) before behind takes (same_texts bytes before behind takes) lent carries)
               (weaker (m.stops h before lent (carried (m.honest h) before behind takes lent carries)) (λ image. Keeps table_files image before ⊎ Keeps table_files image behind) (λ image keeps. inl keeps));
           carries = λ h whole before behind takes lent carries. m.carries h whole before lent (carried (m.honest h) before behind takes lent carries);
+          renews = λ whole one none h before behind takes carries. absurd (never_whole fault new some m whole);
           number = number_same fault (next_number old) (next_number new) (m.number ∙ t.number);
           again = (λ is. absurd (same_fault is), λ broken. never_again broken);
           untouched = λ is. absurd (same_fault is);
@@ -258,6 +304,8 @@ module _ {D : Type 0} (Honest Works : D → Type 0) (state : D → DiskState) (p
           few_syncs = λ room. has_none room;
           own_writes = λ room rests. has_none room;
           own_syncs = λ room rests. has_none room;
+          most_writes = in_all writes new new (t.tick_writes refl) m.all_writes (omega arith);
+          most_syncs = in_all syncs new new (t.tick_syncs refl) m.all_syncs (omega arith);
           comes_on = tt;
           makes_room = tt;
         }
@@ -290,6 +338,20 @@ module _ {D : Type 0} (Honest Works : D → Type 0) (state : D → DiskState) (p
       same_count : faults (disk_of made) ≡ faults (disk_of old)
       same_count = m.fault ∙ t.fault
 
+      -- a record that is kept then stands behind the first step of another checkpoint
+      begins_another : Tried made (Ok tt) new → 4 ≤ ticks_left new
+      begins_another again = again.makes_room (λ room. t.refused (subst (λ (half : Half). HasRoom half.next_slot (length bytes)) m.half room))
+
+      -- and where it is refused behind the last tick the disk is as that left it
+      renews_still : (fault : Fault) → Tried made (Err fault) new → is_broken new ≡ false → ticks_left old ≡ 1 → ticks_left new ≡ 0 → Honest (disk_of new) → (before behind : words.World) → Takes bytes before behind
+          → (carries : Carries Takes old (state (disk_of old)) before) → EachImage (state (disk_of new)) (TakesNewer table_files carries.carried.layout before)
+      renews_still fault again whole one none h before behind takes carries =
+          let left = t.comes refl (omega (arith, one)) in
+          let rested : ticks_left mid ≡ 0 = omega (arith, one, left) in
+          let same = again.nothing whole m.left none ∙ ap (λ (log : Logs). disk_of log) (m.idle rested) in
+          subst (λ (disk : D). EachImage (state disk) (TakesNewer table_files carries.carried.layout before)) (sym same)
+          (t.renews t.broken one rested (m.honest (again.honest h)) before behind takes (same_texts bytes before behind takes) carries)
+
       -- a second attempt
       pub kept_twice : Tried made (Ok tt) new → Done old (Ok tt) new
       kept_twice again =
@@ -297,6 +359,7 @@ module _ {D : Type 0} (Honest Works : D → Type 0) (state : D → DiskState) (p
             honest = λ h. t.honest (m.honest (again.honest h));
             stops = stops_by (Ok tt) again;
             carries = carries_by (Ok tt) again;
+            renews = λ whole one none h before behind takes carries. let some = begins_another again in absurd (omega (arith, none, some));
             number = subst (λ (n : ℕ). next_number new ≡ n + 1) same_number again.number;
             again = (λ is. absurd (cc is), λ broken. never_again broken);
             untouched = λ is. absurd (cc is);
@@ -310,8 +373,10 @@ module _ {D : Type 0} (Honest Works : D → Type 0) (state : D → DiskState) (p
             few_syncs = λ room. has_none room;
             own_writes = λ room rests. has_none room;
             own_syncs = λ room rests. has_none room;
+            most_writes = in_all writes made new (t.tick_writes refl) m.all_writes again.few_writes;
+            most_syncs = in_all syncs made new (t.tick_syncs refl) m.all_syncs again.few_syncs;
             comes_on = λ room. has_none room;
-            makes_room = λ none. again.makes_room (λ room. t.refused (subst (λ (half : Half). HasRoom half.next_slot (length bytes)) m.half room));
+            makes_room = λ none. begins_another again;
           }
 
       -- one that isn't kept either
@@ -333,6 +398,7 @@ module _ {D : Type 0} (Honest Works : D → Type 0) (state : D → DiskState) (p
             honest = λ h. t.honest (m.honest (again.honest h));
             stops = stops_by (Err fault) again;
             carries = carries_by (Err fault) again;
+            renews = renews_still fault again;
             number = subst (λ (n : ℕ). NumberBehind {T = Unit {0}} (Err (told_of fault)) n (next_number new)) same_number so.4;
             again = (λ is. absurd (so.0 (let same : told_of fault ≡ F.OpenAgain = cc is in same)), λ broken. never_again broken);
             untouched = λ is. absurd (so.0 (let same : told_of fault ≡ F.OpenAgain = cc is in same));
@@ -350,6 +416,8 @@ module _ {D : Type 0} (Honest Works : D → Type 0) (state : D → DiskState) (p
             few_syncs = λ room. has_none room;
             own_writes = λ room rests. has_none room;
             own_syncs = λ room rests. has_none room;
+            most_writes = in_all writes made new (t.tick_writes refl) m.all_writes again.few_writes;
+            most_syncs = in_all syncs made new (t.tick_syncs refl) m.all_syncs again.few_syncs;
             comes_on = tt;
             makes_room = tt;
           }

@@ -16,6 +16,7 @@ use Rattle.rr_reading.specs.declared.fault.Fault as reading
 use Rattle.rr_reading.specs.declared.fault.Fault.TheVariants as R
 use Rattle.rr_reading.specs.Faults as reading_of
 use Rattle.rr_reading.specs.Held.{Held}
+use Rattle.rr_reading.specs.Reading as reading_says
 use Rattle.rr_reading.specs.Reading.{Holds}
 use Rattle.rr_records.specs.Headline.{KeepsTables}
 use Rattle.rr_records.specs.Taking.{table_files}
@@ -28,6 +29,7 @@ use Rattle.rr_recovery.specs.Recovery as recovers
 use Rattle.rr_tables.specs.Tables.{world_of}
 use Rattle.rr_worlds.specs.World as words
 use Rattle.rr_store.specs.declared.fault.Fault.{Fault}
+use Rattle.rr_store.specs.declared.fault.Fault.TheVariants as F
 use Rattle.rr_store.specs.declared.found.Found.{Found}
 use Rattle.rr_store.specs.declared.store.Store.{Store}
 use Rattle.rr_store.specs.Allowing.{Between, Keeps}
@@ -50,7 +52,19 @@ calm_read R.OutOfMemory none = inr refl
 module _ (file : List ℕ) (has : Held) (holds : Holds file has) where
   pub refuses_recovered : (fault : recovery.Fault) → recovers.Refuses has fault → Refuses file (of_recovery fault)
   refuses_recovered (C.Damaged damage) broken = inr (record { has = has; holds = holds; damage = damage; broken = broken; numbered = refl })
-  refuses_recovered C.OutOfMemory broken = tt
+  refuses_recovered C.OutOfMemory broken = (has.side, has.root, holds.chains.has_directory.taken)
+
+  -- memory is wanted for a file that holds something
+  pub wants_memory : (fault : Fault) → fault ≡ F.OutOfMemory → Refuses file fault
+  wants_memory fault wanted = subst (λ (f : Fault). Refuses file f) (sym wanted) (has.side, has.root, holds.chains.has_directory.taken)
+
+-- a disk's fault is the device's
+pub refuses_read : (file : List ℕ) (old new : ℕ) (fault : reading.Fault) → reading_of.CountsFault {T = Unit {0}} old new (Err fault) → reading_says.Refuses file fault → Refuses file (of_reading fault)
+refuses_read file old new (R.Damaged damage) counts refused = inl (damage, refused, refl)
+refuses_read file old new R.NotAStore counts refused = refused
+refuses_read file old new (R.Disk D.DeviceFailed) counts refused = tt
+refuses_read file old new (R.Disk D.OutOfMemory) counts refused = let never : D.OutOfMemory ≡ D.DeviceFailed = counts.0 in absurd (cc never)
+refuses_read file old new R.OutOfMemory counts refused = refused
 
 pub calm_recovered : (has : Held) → ((damage : Damage) → recovers.IsDamage has damage → ⊥) → (fault : recovery.Fault) → recovers.Refuses has fault → IsNoVerdict (of_recovery fault)
 calm_recovered has never (C.Damaged damage) broken = absurd (never damage broken)

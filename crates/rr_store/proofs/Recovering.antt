@@ -29,6 +29,7 @@ use Rattle.rr_recovery.specs.Recovery.{IsBase, IsDamage}
 use Rattle.rr_recovery.specs.Replaying as recovery
 use Rattle.rr_recovery.specs.Replaying.{BreaksOff, IsSnapshotBefore}
 use Rattle.rr_recovery.specs.Texts.{texts_in}
+use Rattle.rr_recovery.proofs.BaseLemmas.{base_written}
 use Rattle.rr_snapshot.specs.declared.snapshot.Snapshot.{Snapshot}
 use Rattle.rr_tables.specs.Tables.{world_of}
 use Rattle.rr_worlds.specs.Spelling.{Spells}
@@ -217,10 +218,13 @@ module _ (texts : KitTexts) (kit : Kit) (tables : World) (right : SpellsKit text
       tables_of_played_are_played other base layout.base (subst (λ (t : KitTexts). SpellsKit t other) (sym base_texts) right_too) based was_played
 
   pub no_damage : (damage : Damage) → IsDamage has damage → ⊥
-  no_damage D.Words bad = bad was_played.tables layout.base (record { spells = is_read.spells; based = was_played.spelled })
+  no_damage D.Words bad = bad layout.base (base_written has was_played.tables layout.base (record { spells = is_read.spells; based = was_played.spelled }))
   no_damage D.Kit bad =
       right_is_not_wrong texts kit right (subst (λ (t : KitTexts). IsWrongKit t) same_texts bad.wrong)
-  no_damage D.Kept bad = bad.unplayed (of_one_kit bad.kit bad.base bad.world bad.is_base bad.right)
+  no_damage D.Kept bad =
+      let worlds_same = one_world has.root.version has.chain.text (texts_of (chains_of has.texts has.tables)) layout.base bad.world is_read.spells bad.written.spells in
+      let based = subst (λ (w : words.World). IsInWords was_played.tables w) worlds_same was_played.spelled in
+      bad.unplayed was_played.tables based (of_one_kit bad.kit was_played.tables bad.world (record { spells = bad.written.spells; based = based }) bad.right)
   no_damage D.Records bad = no_bad bad.bad
     where
       base_is : layout.base ≡ in_words (texts_in has.texts) bad.base

@@ -1,12 +1,18 @@
 -- What a commit does to a store.
-use Rattle.std.specs.Prelude.{◌≡◌, None, ◌⊎◌, ℕ, ◌+◌, ◌≤◌, false, List, Some, Result, Ok, Err, OnOk}
+use Rattle.std.specs.Prelude.{◌≡◌, None, ◌⊎◌, ℕ, ◌+◌, ◌≤◌, false, List, Some, Result, Ok, Err, OnOk, map}
 use Rattle.rr_disk.specs.Disk.{DiskState}
-use Rattle.rr_disk.specs.Moments.{LeavesOnly}
+use Rattle.rr_disk.specs.Moments.{EachImage, LeavesOnly}
 use Rattle.rr_code.specs.declared.command.Command.{Command}
+use Rattle.rr_code.specs.Request.{record_text}
+use Rattle.rr_images.specs.Calls.{TakesNewer}
+use Rattle.rr_images.specs.Layout.{Layout}
+use Rattle.rr_images.specs.Steps.{with_line}
 use Rattle.rr_turns.specs.declared.request.Request.{Request}
 use Rattle.rr_turns.specs.Judgement.{IsVerdict}
 use Rattle.rr_kit.specs.Kits.{KitTexts}
 use Rattle.rr_records.specs.Headline.{KeepsTablesOr}
+use Rattle.rr_records.specs.Taking.{table_files}
+use Rattle.rr_records.specs.Words.{in_words, table_in_words}
 use Rattle.rr_store.specs.declared.fault.Fault.{Fault}
 use Rattle.rr_store.specs.declared.fault.Fault.TheVariants as F
 use Rattle.rr_store.specs.declared.store.Store.{Store}
@@ -14,14 +20,20 @@ use Rattle.rr_store.specs.Allowing.{Between, CommitAllows}
 use Rattle.rr_store.specs.Fault.{CountsEnd, OnDeviceFault}
 use Rattle.rr_store.specs.Held.{Takes}
 use Rattle.rr_store.specs.Holding.{Carries, HasNoRoom, IsFull, IsFullFor, IsUnchanged, Rests, disk_of, file_of, held_of, number_of_next, ticks_left}
-use Rattle.rr_store.specs.Keeping.{ComesOn}
+use Rattle.rr_store.specs.Keeping.{ComesOn, MakesAtMost}
 use Rattle.rr_store.specs.World.{for_table, judgement_in}
+use Rattle.rr_worlds.specs.World as words
 
 -- the number of the next record: one more behind a request that was taken; where the device failed it isn't known
 abbrev pub NumberBehind : Result ℕ Fault → ℕ → ℕ → Type 0
 NumberBehind (Ok _) old new = new ≡ old + 1
 NumberBehind (Err F.DeviceFailed) old new = Unit {0}
 NumberBehind (Err fault) old new = new ≡ old
+
+-- the layout of the file behind a request: with its record, which leads to this world, where it was taken
+abbrev pub layout_behind : Result ℕ Fault → Layout table_files → List ℕ → words.World → Layout table_files
+layout_behind (Ok _) layout record_of world = with_line layout record_of world
+layout_behind (Err _) layout record_of world = layout
 
 -- a refusal by the rules, or of a store that is broken, leaves all as it was; where the file is full or memory was wanted,
 -- steps of a checkpoint may have been made
@@ -40,10 +52,12 @@ Spares old (Err fault) new = IsUnchanged old new
 -- behind the call its number would be past the last, or the half in use has no room for it and a checkpoint finds too few free
 -- pages or no number for its root. Where the half had room for the record, and there was a number for it, three writes and three
 -- syncs are made at most, and two of each where no checkpoint was under way or to begin; and if the request was taken, a
--- checkpoint that was under way came on by a step, and else none is begun, or one that has three steps left at least, but none
+-- checkpoint that was under way came on by a step, and else none is begun, or one that has four steps left at least, but none
 -- where none was to begin. Where the half had no room, and the request was taken, its record stands behind the first step of a
--- checkpoint, which has three left at least. And an honest disk that works, and carries what was held, is never told to have
--- failed.
+-- checkpoint, which has four left at least. Whatever is to be done, three of each are made at most, and one for each step left of
+-- the checkpoint under way, or of one begun then. Where the last step of a checkpoint was made, and no other is begun, each file
+-- that a stop may leave takes a newer root, whose chains spell the world as the checkpoint began; only the records since then stand
+-- behind it. And an honest disk that works, and carries what was held, is never told to have failed.
 pub record Commits {D : Type 0} (Honest Works : D → Type 0) (state : D → DiskState) (past : D → List DiskState) (faults writes syncs : D → ℕ)
     (old : Store D) (name : List ℕ) (stamp : ℕ) (request : Request Command) (new : Store D) (result : Result ℕ Fault) : Type 0 where
   pub takes : Takes (held_of old) stamp name request (held_of new) result
@@ -55,6 +69,9 @@ pub record Commits {D : Type 0} (Honest Works : D → Type 0) (state : D → Dis
       → LeavesOnly (past (disk_of old)) (state (disk_of old)) (past (disk_of new)) (state (disk_of new))
       (KeepsTablesOr texts (held_of old).kit (held_of old).tables (Some (for_table name request)))
   pub carries : Honest (disk_of new) → (held_of new).broken ≡ false → (texts : KitTexts) → Carries state old texts → Carries state new texts
+  pub renews : (held_of new).broken ≡ false → ticks_left old ≡ 1 → ticks_left new ≡ 0 → Honest (disk_of new) → (texts : KitTexts) → (carries : Carries state old texts)
+      → EachImage (state (disk_of new)) (TakesNewer table_files
+      (layout_behind result carries.file.carried.layout (record_text name request) (in_words texts (held_of new).tables)) (in_words texts (held_of new).tables))
   pub number : NumberBehind result (number_of_next old) (number_of_next new)
   pub spares : Spares old result new
   pub wanting : result ≡ Err F.OutOfMemory → IsUnchanged old new
@@ -65,7 +82,9 @@ pub record Commits {D : Type 0} (Honest Works : D → Type 0) (state : D → Dis
   pub few_syncs : (IsFull old name request → ⊥) → syncs (disk_of new) ≤ syncs (disk_of old) + 3
   pub own_writes : (IsFull old name request → ⊥) → Rests old → writes (disk_of new) ≤ writes (disk_of old) + 2
   pub own_syncs : (IsFull old name request → ⊥) → Rests old → syncs (disk_of new) ≤ syncs (disk_of old) + 2
+  pub most_writes : MakesAtMost writes (map table_in_words (held_of old).tables) (file_of old) (file_of new)
+  pub most_syncs : MakesAtMost syncs (map table_in_words (held_of old).tables) (file_of old) (file_of new)
   pub comes_on : OnOk result ((IsFull old name request → ⊥) → ComesOn (file_of old) (file_of new))
-  pub makes_room : OnOk result (HasNoRoom old name request → 3 ≤ ticks_left new)
+  pub makes_room : OnOk result (HasNoRoom old name request → 4 ≤ ticks_left new)
   pub full : result ≡ Err F.FileFull → IsFullFor new name request
   pub device : OnDeviceFault result (Honest (disk_of new) → (texts : KitTexts) → Carries state old texts → Works (disk_of new) → ⊥)

@@ -9,7 +9,7 @@ use Rattle.rr_records.specs.Words.{KeepCommands, in_words}
 use Rattle.rr_store.specs.World.{World}
 
 -- The tables keep commands that words spell, and were played by the rules of this kit: what each keeps is an opening and then
--- commands that are lawful, each after those before it.
+-- commands that are lawful, each after those before it, and its floor isn't above the turns that ended in them.
 pub record AreTablesOf (kit : Kit) (tables : World) : Type 0 where
   pub spelled : KeepCommands tables
   pub played : ArePlayedTables kit tables

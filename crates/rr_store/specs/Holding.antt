@@ -52,6 +52,10 @@ IsFull store name request = keeping.IsFull store.journal.file (record_text name 
 abbrev pub HasNoRoom : {D : Type 0} → Store D → List ℕ → Request Command → Type 0
 HasNoRoom store name request = log.HasNoRoom (log.place_of store.journal.file) (length (record_text name request))
 
+-- no checkpoint is under way, nor did the opening find one begun
+abbrev pub HasNoneBegun : {D : Type 0} → Store D → Type 0
+HasNoneBegun store = log.HasNoneBegun (log.place_of store.journal.file)
+
 -- No checkpoint makes room for the record of this request: it takes more than two slots, or its number would be past the last,
 -- or the half in use has no room for it and a checkpoint finds too few free pages or no number for its root.
 abbrev pub IsFullFor : {D : Type 0} → Store D → List ℕ → Request Command → Type 0

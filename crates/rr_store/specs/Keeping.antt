@@ -2,10 +2,12 @@
 use Rattle.std.specs.Prelude.{◌≡◌, ◌⊎◌, ◌↔◌, ℕ, ◌+◌, ◌<◌, ◌≤◌, false, List, length, Result, IsErrOf, IsTrue, OnOk}
 use Rattle.rr_checkpoint.specs.Calls.{LeavesEither}
 use Rattle.rr_disk.specs.Disk.{DiskState}
+use Rattle.rr_disk.specs.Moments.{EachImage}
+use Rattle.rr_images.specs.Calls.{TakesNewer}
 use Rattle.rr_log.specs.declared.fault.Fault.{Fault}
 use Rattle.rr_log.specs.declared.fault.Fault.TheVariants as F
 use Rattle.rr_log.specs.declared.log.Log.{Log}
-use Rattle.rr_log.specs.Calls.{MeetsFullFile, NumberBehind, world_behind}
+use Rattle.rr_log.specs.Calls.{MeetsFullFile, NumberBehind, layout_behind, ticks_due, world_behind}
 use Rattle.rr_log.specs.Carrying.{Carries}
 use Rattle.rr_log.specs.Fault.{CountsFault, OnDeviceFault, ends_broken}
 use Rattle.rr_log.specs.Log.{HasNoRoom, IsDue, IsPastLast, IsTooLong, disk_of, is_broken, next_number, place_of, ticks_left}
@@ -31,12 +33,19 @@ pub record Rests {D R : Type 0} (log : Log D R) : Type 0 where
   pub none_left : ticks_left log ≡ 0
   pub none_due : IsDue (place_of log) → ⊥
 
--- How far a checkpoint comes: one that was under way by a step. Else none is begun, or one that has three steps left at least;
+-- How far a checkpoint comes: one that was under way by a step. Else none is begun, or one that has four steps left at least;
 -- and where none was to begin, none is.
 pub record ComesOn {D R : Type 0} (old new : Log D R) : Type 0 where
   pub left : 0 < ticks_left old → ticks_left old ≡ ticks_left new + 1
-  pub begins : ticks_left old ≡ 0 → (ticks_left new ≡ 0) ⊎ (3 ≤ ticks_left new)
+  pub begins : ticks_left old ≡ 0 → (ticks_left new ≡ 0) ⊎ (4 ≤ ticks_left new)
   pub rests : Rests old → ticks_left new ≡ 0
+
+-- How many such calls a record takes at most, whatever is to be done to make room for it: one for each step that is left of the
+-- checkpoint under way, or for each that one begun now has, and three more. Two of these are the record's, and one is the next
+-- checkpoint's.
+pub record MakesAtMost {D R : Type 0} (calls : D → ℕ) (tables : List Table) (old new : Log D R) : Type 0 where
+  pub under_way : 0 < ticks_left old → calls (disk_of new) ≤ calls (disk_of old) + ticks_left old + 3
+  pub begun : ticks_left old ≡ 0 → calls (disk_of new) ≤ calls (disk_of old) + ticks_due old tables + 3
 
 -- What keeping a record does to an honest disk that carries a world of these tables: a stop at any moment leaves a file that
 -- keeps this world, or the one to which the record leads; and behind it the file carries the one that the answer tells. Of
@@ -46,8 +55,10 @@ pub record ComesOn {D R : Type 0} (old new : Log D R) : Type 0 where
 -- for it and a checkpoint finds too few free pages or no number for its root. Where there was room and a number, three writes and
 -- three syncs are made at most, two of each where no checkpoint was under way or to begin, and a checkpoint comes on with a
 -- record that was kept. Where there was no room, one that was under way may be ended, and a record that was kept stands behind
--- the first step of another, which has three left at least. And an honest disk that works, and carries such a world, is never
--- told to have failed.
+-- the first step of another, which has four left at least. Whatever is to be done, it makes at most the calls of `MakesAtMost`.
+-- Where the last step of a checkpoint was made, and no other is begun, each file that a stop may leave takes a newer root, whose
+-- chains spell the world as the checkpoint began; only the records since then stand behind it. And an honest disk that works, and
+-- carries such a world, is never told to have failed.
 pub record Keeping {D : Type 0} (Honest Works : D → Type 0) (state : D → DiskState) (past : D → List DiskState) (faults writes syncs : D → ℕ)
     (old : Log D TableRules) (tables : List Table) (bytes : List ℕ) (result : Result (Unit {0}) Fault) (new : Log D TableRules) : Type 0 where
   pub honest : Honest (disk_of new) → Honest (disk_of old)
@@ -56,6 +67,9 @@ pub record Keeping {D : Type 0} (Honest Works : D → Type 0) (state : D → Dis
       → LeavesEither table_files (past (disk_of old)) (state (disk_of old)) (past (disk_of new)) (state (disk_of new)) before behind
   pub carries : Honest (disk_of new) → is_broken new ≡ false → (before behind : words.World) → Takes bytes before behind → before.tables ≡ tables
       → Carries Takes old (state (disk_of old)) before → Carries Takes new (state (disk_of new)) (world_behind result before behind)
+  pub renews : is_broken new ≡ false → ticks_left old ≡ 1 → ticks_left new ≡ 0 → Honest (disk_of new) → (before behind : words.World) → Takes bytes before behind
+      → (carries : Carries Takes old (state (disk_of old)) before)
+      → EachImage (state (disk_of new)) (TakesNewer table_files (layout_behind result carries.carried.layout bytes behind) (world_behind result before behind))
   pub number : NumberBehind result (next_number old) (next_number new)
   pub again : IsErrOf result F.OpenAgain ↔ IsTrue (is_broken old)
   pub untouched : IsErrOf result F.OpenAgain → new ≡ old
@@ -70,5 +84,7 @@ pub record Keeping {D : Type 0} (Honest Works : D → Type 0) (state : D → Dis
   pub few_syncs : (IsFull old bytes → ⊥) → syncs (disk_of new) ≤ syncs (disk_of old) + 3
   pub own_writes : (IsFull old bytes → ⊥) → Rests old → writes (disk_of new) ≤ writes (disk_of old) + 2
   pub own_syncs : (IsFull old bytes → ⊥) → Rests old → syncs (disk_of new) ≤ syncs (disk_of old) + 2
+  pub most_writes : MakesAtMost writes tables old new
+  pub most_syncs : MakesAtMost syncs tables old new
   pub comes_on : OnOk result ((IsFull old bytes → ⊥) → ComesOn old new)
-  pub makes_room : OnOk result (HasNoRoom (place_of old) (length bytes) → 3 ≤ ticks_left new)
+  pub makes_room : OnOk result (HasNoRoom (place_of old) (length bytes) → 4 ≤ ticks_left new)

@@ -8,7 +8,7 @@ use Rattle.rr_reading.specs.declared.fault.Damage as bytes
 use Rattle.rr_reading.specs.Faults as bytes_of
 use Rattle.rr_reading.specs.Held.{Held}
 use Rattle.rr_reading.specs.Reading as reading
-use Rattle.rr_reading.specs.Reading.{Holds}
+use Rattle.rr_reading.specs.Reading.{HasRoot, Holds}
 use Rattle.rr_recovery.specs.declared.fault.Damage as rules
 use Rattle.rr_recovery.specs.Fault as rules_of
 use Rattle.rr_recovery.specs.Recovered.{IsRecoveredFrom}
@@ -35,10 +35,10 @@ pub record BreaksRules (file : List ℕ) (clause : ℕ) : Type 0 where
 abbrev pub IsDamagedFile : List ℕ → ℕ → Type 0
 IsDamagedFile file clause = BreaksForm file clause ⊎ BreaksRules file clause
 
--- why a file isn't opened. Memory may be wanted and the device may fail at any file
+-- why a file isn't opened. The device may fail at any file, and memory is wanted only where a root is taken
 abbrev pub Refuses : List ℕ → Fault → Type 0
 Refuses file F.DeviceFailed = Unit {0}
-Refuses file F.OutOfMemory = Unit {0}
+Refuses file F.OutOfMemory = HasRoot file
 Refuses file F.NotAStore = IsNoStore file
 Refuses file (F.Damaged clause) = IsDamagedFile file clause
 Refuses file _ = ⊥

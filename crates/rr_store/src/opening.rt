@@ -49,8 +49,9 @@ pub struct Refused<D: Drop> {
 ///
 /// # Errors
 /// `DeviceFailed`; `NotAStore` where the file has no roots of this version; `Damaged` with the least clause that it breaks:
-/// 1 to 5 of its bytes, 5 where kept words spell no command, 6 where a text of the kit is wrong, 7 where a table keeps what
-/// wasn't played, and 8 where a record isn't a request that its table could take; `OutOfMemory`.
+/// 1 to 5 of its bytes, 5 where kept words are no request's, 6 where a text of the kit is wrong, 7 where a table keeps what
+/// wasn't played or a floor above its turns, and 8 where a record isn't a request that its table could take. Else
+/// `OutOfMemory` alone, and only where a root is taken.
 pub fn open<D: Disk + Drop>(alloc: Global, disk: D) -> Result<Store<D>, Refused<D>>
     // The store holds the world for which the file stands; else the file breaks a clause, or the device failed or memory was
     // wanted.
@@ -122,9 +123,9 @@ fn find<D: Disk>(alloc: Global, disk: &mut D) -> Result<Found, Fault>
     ensures honest { D.Honest disk.new → D.Honest disk.old }
     ensures works { D.Works disk.new → D.Works disk.old }
 {
-    let buffer = make_buffer(alloc)?;
     let opened = open_file::<D, Worlds<TableRules>>(alloc, disk)?;
     let recovered = recover::<TableRules>(alloc, &opened)?;
+    let buffer = make_buffer(alloc)?;
     Ok(Found {
         opened,
         recovered,

@@ -1,14 +1,14 @@
-ghost use Rattle.std.specs.Prelude.{◌≡◌, ◌↔◌, ◌+◌, ◌≤◌, true, false, IfOk, MatchResult, OnOk, Some, slice_get, length};
+ghost use Rattle.std.specs.Prelude.{◌≡◌, ◌↔◌, ◌+◌, ◌<◌, ◌≤◌, true, false, IfOk, MatchResult, OnOk, Some, slice_get, length, map};
 ghost use Rattle.std.specs.Option.{option_copied};
-ghost use Rattle.rr_checkpoint.specs.Calls.{TakesRootBehind};
 ghost use Rattle.rr_checkpoint.specs.Writer.{RenewsAt};
 ghost use Rattle.rr_code.specs.Request.{IsRequest};
 ghost use Rattle.rr_disk.specs.Moments.{EachImage};
 ghost use Rattle.rr_hist.specs.Tables.{IsPlayed, kept_in};
+ghost use Rattle.rr_images.specs.Calls.{TakesNewer};
 ghost use Rattle.rr_kit.specs.Kits.{KitTexts};
-ghost use Rattle.rr_log.specs.Calls.{LowersFrom};
+ghost use Rattle.rr_log.specs.Calls.{LowersFrom, TakesRootOf, as_begun, ticks_due};
 ghost use Rattle.rr_records.specs.Taking.{table_files};
-ghost use Rattle.rr_records.specs.Words.{in_words};
+ghost use Rattle.rr_records.specs.Words.{in_words, table_in_words};
 ghost use Rattle.rr_store.specs.Held.{LacksTable};
 ghost use Rattle.rr_store.specs.World.{names, table_named};
 ghost use Rattle.rr_words.specs.Name.{IsTableName};
@@ -34,7 +34,7 @@ pub struct Store<D: Drop> {
 
 impl<D: Disk + Drop> Store<D> {
     ghost use Rattle.rr_store.specs.Committing.{Commits};
-    ghost use Rattle.rr_store.specs.Holding.{Carries, IsUnchanged, Rests, disk_of, held_of, last_of, root_of, ticks_left};
+    ghost use Rattle.rr_store.specs.Holding.{Carries, HasNoneBegun, IsUnchanged, Rests, disk_of, file_of, held_of, last_of, root_of, ticks_left};
     ghost use Rattle.rr_store.specs.Ticking.{MakesFew, Steps};
 
     /// The disk on which the file stands, with all that it went through.
@@ -168,10 +168,13 @@ impl<D: Disk + Drop> Store<D> {
     pub fn tick(&mut self) -> Result<Tick, Fault>
         ensures steps { Steps D.Honest D.Works D.state D.past D.fault_count self.old result self.new }
         ensures left { IfOk result (λ tick. LowersFrom tick (ticks_left self.old) (ticks_left self.new)) }
+        ensures most { IfOk result (λ tick. ticks_left self.old ≡ 0
+            → ticks_left self.new < ticks_due (file_of self.old) (map table_in_words (held_of self.old).tables)) }
         ensures idle { (result ≡ Ok Tick.Idle) ↔ (((held_of self.old).broken ≡ false) × Rests self.old) }
         ensures rests { result ≡ Ok Tick.Idle → IsUnchanged self.old self.new }
 
-        // Behind the last step each file that a stop may leave takes a root of a greater number.
+        // Behind the last step each file that a stop may leave takes a newer root. Its chains spell the world as the checkpoint
+        // began, and only the records since then stand behind it.
         ensures renews { IfOk result (λ tick. D.Honest (disk_of self.new) → (texts : KitTexts) → (carries : Carries D.state self.old texts)
             → RenewsAt table_files tick carries.file.carried.layout (D.state (disk_of self.new)) (in_words texts (held_of self.old).tables)) }
         ensures writes { D.write_count (disk_of self.new) ≤ D.write_count (disk_of self.old) + 1 }
@@ -189,9 +192,12 @@ impl<D: Disk + Drop> Store<D> {
         ensures steps { Steps D.Honest D.Works D.state D.past D.fault_count self.old result self.new }
         ensures left { OnOk result (ticks_left self.new ≡ 0) }
 
-        // Then each file that a stop may leave takes a root of a greater number.
-        ensures renews { OnOk result (D.Honest (disk_of self.new) → (texts : KitTexts) → Carries D.state self.old texts
-            → EachImage (D.state (disk_of self.new)) (TakesRootBehind table_files (root_of self.old) (in_words texts (held_of self.old).tables))) }
+        // Then each file that a stop may leave takes a newer root. Its chains spell the world as the checkpoint began, and only
+        // the records since then stand behind it. Where none was begun before, that is what the store holds, and no record.
+        ensures renews { OnOk result (D.Honest (disk_of self.new) → (texts : KitTexts) → (carries : Carries D.state self.old texts)
+            → EachImage (D.state (disk_of self.new)) (TakesNewer table_files (as_begun carries.file.carried.layout) (in_words texts (held_of self.old).tables))) }
+        ensures whole { OnOk result (HasNoneBegun self.old → D.Honest (disk_of self.new) → (texts : KitTexts) → Carries D.state self.old texts
+            → EachImage (D.state (disk_of self.new)) (TakesRootOf table_files (root_of self.old) (in_words texts (held_of self.old).tables))) }
         ensures writes { MakesFew D.write_count self.old self.new }
         ensures syncs { MakesFew D.sync_count self.old self.new }
     {

@@ -138,7 +138,7 @@ played_of kit (c ∷ commands) spelled played = absurd cc
 has_played : (kit : Kit) (tables : World) → KeepCommands tables → ArePlayedTables kit tables → ∥ HasPlayed kit tables ∥₁
 has_played kit [] spelled all = ∣ tt ∣₁
 has_played kit (t ∷ ts) spelled all =
-    ∥∥₁_map₂ all.0 (has_played kit ts spelled.1 all.1) (λ here more. (played_of kit t.1.commands spelled.0 here, more))
+    ∥∥₁_map₂ all.0.lawful (has_played kit ts spelled.1 all.1) (λ here more. (played_of kit t.1.commands spelled.0 here, more))
 
 -- a table that is sound, where it is known that some proof says so
 
@@ -212,7 +212,7 @@ module _ (sound : TablesStaySound) (best : BestRunsWereBest) where
   kept_in_order : (kit : Kit) (tables : World) → NamesCorporations kit → KeepCommands tables → ArePlayedTables kit tables → AreInOrder kit tables
   kept_in_order kit [] order spelled all = tt
   kept_in_order kit (t ∷ ts) order spelled all = (
-    settled (length (players_of t.1.commands)) (play kit t.1.commands).book (∥∥₁_map all.0 (λ played. sound kit t.1.commands order (played_of kit t.1.commands spelled.0 played))),
+    settled (length (players_of t.1.commands)) (play kit t.1.commands).book (∥∥₁_map all.0.lawful (λ played. sound kit t.1.commands order (played_of kit t.1.commands spelled.0 played))),
     kept_in_order kit ts order spelled.1 all.1,
   )
 

@@ -30,6 +30,7 @@ use Rattle.rr_recovery.specs.declared.fault.Damage.TheVariants as D
 use Rattle.rr_recovery.specs.Recovery.{HasBadRecord, IsBase, IsDamage}
 use Rattle.rr_recovery.specs.Replaying.{BreaksOff}
 use Rattle.rr_recovery.specs.Texts.{texts_in}
+use Rattle.rr_recovery.proofs.BaseLemmas.{base_written}
 use Rattle.rr_store.specs.declared.fault.Fault.TheVariants as S
 use Rattle.rr_store.specs.Files.{AreTablesOf}
 use Rattle.rr_store.proofs.Kits.{right_is_not_wrong}
@@ -121,9 +122,12 @@ module _ (file : List ℕ) (texts : KitTexts) (kit : Kit) (tables : World) (righ
       stands_is_not_refused table_files files_are_exact file (in_words texts tables) stands (damaged_record_refused table_files file has holds damaged)
 
   keeps_rules : (damage : Damage) → IsDamage has damage → ⊥
-  keeps_rules D.Words bad = bad was_played.tables stands.base (record { spells = spells_base; based = was_played.spelled })
+  keeps_rules D.Words bad = bad stands.base (base_written has was_played.tables stands.base (record { spells = spells_base; based = was_played.spelled }))
   keeps_rules D.Kit bad = right_kits_are_not_wrong texts kit right (subst (λ (t : KitTexts). IsWrongKit t) same_texts bad.wrong)
-  keeps_rules D.Kept bad = bad.unplayed (all_played bad.kit bad.base bad.world bad.is_base bad.right)
+  keeps_rules D.Kept bad =
+      let same = one_world has.root.version has.chain.text (texts_of (chains_of has.texts has.tables)) stands.base bad.world spells_base bad.written.spells in
+      let based = subst (λ (w : words.World). IsInWords was_played.tables w) same was_played.spelled in
+      bad.unplayed was_played.tables based (all_played bad.kit was_played.tables bad.world (record { spells = bad.written.spells; based = based }) bad.right)
   keeps_rules D.Records bad = all_taken bad bad.bad
 
 pub standing_files_open : StandingFilesOpen

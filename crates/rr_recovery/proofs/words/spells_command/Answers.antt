@@ -4,11 +4,10 @@ use Rattle.rr_code.specs.Command.{SpellsCommand}
 use Rattle.rr_code.specs.declared.command.Command.{Command}
 use Rattle.rr_code.specs.declared.fault.Fault.{Fault}
 use Rattle.rr_code.specs.declared.fault.Fault.TheVariants.{Malformed}
-use Rattle.rr_recovery.specs.Told.{IsSpelled}
 use Rattle.rr_recovery.proofs.words.spells_command.Goals as goal
 
 read_tells : (words : List ℕ) (read : Result Command Fault) (ok : Bool) → MatchResult read (λ command. SpellsCommand words command) (λ fault. fault ≡ Malformed)
-    → ((command : Command) → SpellsCommand words command → read ≡ Ok command) → ok ≡ is_ok read → (ok ≡ true → IsSpelled words) × (IsSpelled words → ok ≡ true)
+    → ((command : Command) → SpellsCommand words command → read ≡ Ok command) → ok ≡ is_ok read → (ok ≡ true → (command : Command) × SpellsCommand words command) × ((command : Command) × SpellsCommand words command → ok ≡ true)
 read_tells words (Ok command) ok found only same = (λ h. (command, found), λ h. same)
 read_tells words (Err fault) ok found only same = (λ h. absurd (cc (sym same ∙ h)), λ spelled. absurd (cc (only spelled.0 spelled.1)))
 

@@ -17,7 +17,7 @@ use Rattle.rr_snapshot.specs.Laying.{fresh_pages}
 use Rattle.rr_snapshot.specs.Snapshot.{table_of, tables_of}
 use Rattle.rr_snapshot.proofs.DirectoryLemmas.{entries_within, few_fresh, takes_fresh, too_few_all}
 use Rattle.rr_snapshot.proofs.Frames.{onward, same_root}
-use Rattle.rr_snapshot.proofs.LaidTables.{laid_same, too_few_same}
+use Rattle.rr_snapshot.proofs.LaidTables.{laid_same, some_laid, too_few_same}
 use Rattle.rr_snapshot.proofs.PlanLemmas.{planned}
 use Rattle.rr_worlds.specs.Spelling.{worlds}
 use Rattle.rr_snapshot.proofs.planning.make_plan.Goals as goal
@@ -107,6 +107,11 @@ returns-clause-root g c =
     let kept = c.keep_texts.new.writer in
     let laid = c.lay_tables.new.writer in
     c.in_ok-plan.ensures.root ∙ same_root codec writer laid plan.root.directory plan.fresh.items (onward codec writer kept laid c.keep_texts.ensures.only c.lay_tables.ensures.only)
+
+pub returns-clause-some : goal.returns-clause-some
+returns-clause-some g c =
+    let laid = c.lay_tables.new.writer in
+    some_laid (present_of (free_of laid)) (coming_of (free_of laid)) (coming_of (free_of c.plan.new.self)) c.deref-2.result.now c.lay_tables.new.fresh.items c.in_ok-plan.plan.fresh.items c.in_ok-plan.plan.root.directory c.in_ok-plan.ensures.laid
 
 pub returns-clause-few : goal.returns-clause-few
 returns-clause-few g c =

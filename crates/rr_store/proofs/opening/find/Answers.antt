@@ -6,7 +6,7 @@ use Rattle.rr_records.specs.Taking.{table_files}
 use Rattle.rr_records.specs.Words.{in_words}
 use Rattle.rr_records.proofs.TakingLemmas.{files_are_exact}
 use Rattle.rr_worlds.proofs.Exact.{forms_spelled}
-use Rattle.rr_store.proofs.Openings.{calm_read, calm_recovered, refuses_recovered}
+use Rattle.rr_store.proofs.Openings.{calm_read, calm_recovered, refuses_read, refuses_recovered, wants_memory}
 use Rattle.rr_store.proofs.Recovering.{no_damage}
 use Rattle.rr_store.proofs.opening.find.Goals as goal
 
@@ -15,11 +15,18 @@ names_chains version bytes heads = (λ named. named, λ named. named)
 
 pub returns-in_err-opened-clause-only : goal.returns-in_err-opened-clause-only
 returns-in_err-opened-clause-only g c =
-    let p = err_from_is_err_and c.from_residual-in_err-opened.result c.from_residual-in_err-opened.ensures.1 in
+    let p = err_from_is_err_and c.from_residual.result c.from_residual.ensures.1 in
     let content = (g.D.Disk.state c.args.disk.now).content in
     rw (p.1, p.2) (λ honest texts kit tables right of_kit keeps.
     calm_read c.in_err-opened.field-0.0 (c.in_err-opened.ensures.only honest files_are_exact names_chains forms_spelled (in_words texts tables)
     (kept_stands table_files keeps.layout content (in_words texts tables) keeps.kept)))
+
+pub returns-in_err-opened-clause-refused : goal.returns-in_err-opened-clause-refused
+returns-in_err-opened-clause-refused g c =
+    let p = err_from_is_err_and c.from_residual.result c.from_residual.ensures.1 in
+    let disk = c.args.disk.now in
+    rw (p.1, p.2) (λ honest.
+    refuses_read (g.D.Disk.state disk).content (g.D.Disk.fault_count disk) (g.D.Disk.fault_count c.open_file.new.disk) c.in_err-opened.field-0.0 c.in_err-opened.ensures.fault (c.in_err-opened.ensures.refused honest))
 
 pub returns-in_err-recovered-clause-refused : goal.returns-in_err-recovered-clause-refused
 returns-in_err-recovered-clause-refused g c =
@@ -38,6 +45,12 @@ returns-in_err-recovered-clause-only g c =
     let has = held_by c.in_ok-opened.opened in
     let read = c.in_ok-opened.ensures.carries honest files_are_exact names_chains (in_words texts tables) keeps in
     calm_recovered has (no_damage texts kit tables right of_kit has read.carries.layout read.is_read) c.in_err-recovered.field-0.0 (c.in_err-recovered.ensures.refused content holds))
+
+pub returns-in_err-buffer-clause-refused : goal.returns-in_err-buffer-clause-refused
+returns-in_err-buffer-clause-refused g c =
+    let p = err_from_is_err_and c.from_residual-in_err-buffer.result c.from_residual-in_err-buffer.ensures.1 in
+    rw (p.1, p.2) (λ honest.
+    wants_memory (g.D.Disk.state c.args.disk.now).content (held_by c.in_ok-opened.opened) (c.in_ok-opened.ensures.holds honest) c.in_err-buffer.field-0.0 c.in_err-buffer.ensures)
 
 pub returns-clause-found : goal.returns-clause-found
 returns-clause-found g c = λ honest.

@@ -1,10 +1,8 @@
-use Rattle.std.proofs.Common.{◌∙◌, sym, refl, ap, arith}
+use Rattle.std.proofs.Common.{◌∙◌, sym, refl, arith}
 use Rattle.rr_disk.proofs.MomentLemmas.{started, joins}
 use Rattle.rr_images.specs.Layout.{Keeps}
-use Rattle.rr_pages.specs.declared.choosing.Taken.{Taken}
-use Rattle.rr_pages.specs.declared.root.Root.{Root}
-use Rattle.rr_checkpoint.specs.Writer.{place_of, ticks_left_of, taken_of}
-use Rattle.rr_checkpoint.proofs.Writers.{left_some, lowers_one, none_is_left, taken_left, renewed_behind, holds_at_first, holds_more, rests_behind}
+use Rattle.rr_checkpoint.specs.Writer.{place_of, ticks_left_of}
+use Rattle.rr_checkpoint.proofs.Writers.{left_some, lowers_one, none_is_left, renewed_behind, holds_at_first, holds_more, rests_behind}
 use Rattle.rr_checkpoint.proofs.Working.{on_err}
 use Rattle.rr_checkpoint.proofs.writer.Writer.finish.Goals as goal
 
@@ -18,7 +16,6 @@ loop-self-init g c =
       stops = λ honest world carries.
           started (g.D.Disk.past disk) (g.D.Disk.state disk) (λ image. Keeps g.C.Codec.codec image world)
           (λ image is. record { layout = carries.layout; kept = carries.between.each image is });
-      taken = λ some. refl;
       renews = λ honest world carries some none. absurd (omega (arith, some, none));
       rests = λ some none. absurd (omega (arith, some, none));
       number = refl;
@@ -46,14 +43,10 @@ loop-self-preserved g c =
       stops = λ honest world carries.
           let then = c.tick.ensures.honest honest in
           joins (so_far.stops then world carries) (c.tick.ensures.stops honest world (so_far.carries then world carries).0);
-      taken = λ some.
-          taken_left c.in_ok-tick.field-0 (ticks_left_of c.loop-self.self) (ticks_left_of c.tick.new.self) (taken_of c.loop-self.self) (taken_of c.tick.new.self) c.in_ok-tick.ensures.left c.in_ok-tick.ensures.taken some
-          ∙ so_far.taken under_way;
       renews = λ honest world carries some none.
-          let carried = (so_far.carries (c.tick.ensures.honest honest) world carries).0 in
-          renewed_behind g.C.Codec.codec c.in_ok-tick.field-0 (ticks_left_of c.loop-self.self) (ticks_left_of c.tick.new.self) carried.layout (taken_of c.args.self.now).root.number (g.D.Disk.state c.tick.new.disk) world
-          c.in_ok-tick.ensures.left under_way none
-          (ap (λ (root : Root). root.number) carried.tells.root ∙ ap (λ (taken : Taken). taken.root.number) (so_far.taken under_way)) (c.in_ok-tick.ensures.renews honest world carried);
+          let carried = so_far.carries (c.tick.ensures.honest honest) world carries in
+          renewed_behind g.C.Codec.codec c.in_ok-tick.field-0 (ticks_left_of c.loop-self.self) (ticks_left_of c.tick.new.self) carries.layout carried.0.layout carries.holding carried.0.holding (g.D.Disk.state c.tick.new.disk) world
+          c.in_ok-tick.ensures.left under_way none (carried.1.under_way under_way) (c.in_ok-tick.ensures.renews honest world carried.0);
       rests = λ some none. rests_behind c.in_ok-tick.field-0 (ticks_left_of c.loop-self.self) (ticks_left_of c.tick.new.self) (place_of c.tick.new.self).begun c.in_ok-tick.ensures.left under_way none c.in_ok-tick.ensures.rests;
       number = c.tick.ensures.number ∙ so_far.number;
       half = c.tick.ensures.half ∙ so_far.half;

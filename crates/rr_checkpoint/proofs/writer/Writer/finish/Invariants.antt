@@ -1,8 +1,9 @@
 use Rattle.std.proofs.Common.{◌≡◌, ◌+◌, ◌<◌, ◌≤◌, None}
 use Rattle.rr_disk.specs.Moments.{EachImage}
+use Rattle.rr_images.specs.Calls.{TakesNewer}
 use Rattle.rr_checkpoint.proofs.Writers.{HoldsSoFar}
-use Rattle.rr_checkpoint.specs.Calls.{LeavesKept, TakesRootBehind}
-use Rattle.rr_checkpoint.specs.Writer.{Carries, place_of, taken_of, ticks_left_of}
+use Rattle.rr_checkpoint.specs.Calls.{LeavesKept}
+use Rattle.rr_checkpoint.specs.Writer.{Carries, place_of, ticks_left_of}
 use Rattle.rr_checkpoint.proofs.writer.Writer.finish.Given as goal
 
 abbrev pub invariant-loop-self : goal.invariant-loop-self
@@ -15,9 +16,8 @@ invariant-loop-self g l =
           × HoldsSoFar (ticks_left_of l.fn.self) (ticks_left_of l.self) carries.layout carries.holding then.layout then.holding;
       stops : g.D.Disk.Honest l.disk → (world : g.C.Codec.codec.World) → Carries g.C.Codec.codec l.fn.self (g.D.Disk.state l.fn.disk) world
           → LeavesKept g.C.Codec.codec (g.D.Disk.past l.fn.disk) (g.D.Disk.state l.fn.disk) (g.D.Disk.past l.disk) (g.D.Disk.state l.disk) world;
-      taken : 0 < ticks_left_of l.self → taken_of l.self ≡ taken_of l.fn.self;
-      renews : g.D.Disk.Honest l.disk → (world : g.C.Codec.codec.World) → Carries g.C.Codec.codec l.fn.self (g.D.Disk.state l.fn.disk) world → 0 < ticks_left_of l.fn.self → ticks_left_of l.self ≡ 0
-          → EachImage (g.D.Disk.state l.disk) (TakesRootBehind g.C.Codec.codec (taken_of l.fn.self).root.number world);
+      renews : g.D.Disk.Honest l.disk → (world : g.C.Codec.codec.World) → (carries : Carries g.C.Codec.codec l.fn.self (g.D.Disk.state l.fn.disk) world) → 0 < ticks_left_of l.fn.self → ticks_left_of l.self ≡ 0
+          → EachImage (g.D.Disk.state l.disk) (TakesNewer g.C.Codec.codec carries.layout world);
       rests : 0 < ticks_left_of l.fn.self → ticks_left_of l.self ≡ 0 → (place_of l.self).begun ≡ None;
       number : (place_of l.self).number ≡ (place_of l.fn.self).number;
       half : (place_of l.self).half ≡ (place_of l.fn.self).half;

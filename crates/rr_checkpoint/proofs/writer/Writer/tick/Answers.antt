@@ -39,7 +39,7 @@ returns-in-None-clause-carries g c = λ honest world carries.
     let state = g.D.Disk.state c.args.disk.now in
     let resting = (sym c.take.ensures.value ∙ c.in-None.is) ∙ sym c.take.ensures.after in (
       carries_same codec writer.file state world writer.checkpoint c.take.new.self resting carries,
-      record { present = refl; coming = refl; middle = refl },
+      record { root = refl; present = refl; coming = refl; middle = refl; far = refl },
     )
 
 pub returns-in_ok-self-in-Some-clause-carries : goal.returns-in_ok-self-in-Some-clause-carries

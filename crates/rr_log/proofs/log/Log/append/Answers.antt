@@ -4,8 +4,17 @@ use Rattle.rr_log.proofs.log.Log.append.Goals as goal
 pub returns-in-Ok-clause-carries : goal.returns-in-Ok-clause-carries
 returns-in-Ok-clause-carries g c = λ honest whole old new takes same carries.
     let log = c.args.self.now in
-    kept_carries g.R.Rules.takes log (g.D.Disk.state log.disk) old carries c.append.new.disk c.append.new.self (g.D.Disk.state c.append.new.disk) new same c.in-Ok.ensures.left
+    kept_carries g.R.Rules.takes log (g.D.Disk.state log.disk) old carries c.append.new.disk c.append.new.self (g.D.Disk.state c.append.new.disk) c.args.line.now new same c.in-Ok.ensures.left
     (c.in-Ok.ensures.carries honest old new takes carries.carried) c.in-Ok.ensures.begun
+
+pub returns-in-Ok-clause-appends : goal.returns-in-Ok-clause-appends
+returns-in-Ok-clause-appends g c = λ honest old new takes same carries.
+    let log = c.args.self.now in
+    let appended = c.in-Ok.ensures.carries honest old new takes carries.carried in (
+      kept_carries g.R.Rules.takes log (g.D.Disk.state log.disk) old carries c.append.new.disk c.append.new.self (g.D.Disk.state c.append.new.disk) c.args.line.now new same c.in-Ok.ensures.left
+          appended c.in-Ok.ensures.begun,
+      appended.1.layout,
+    )
 
 pub returns-in-Err-HalfFull-clause-carries : goal.returns-in-Err-HalfFull-clause-carries
 returns-in-Err-HalfFull-clause-carries g c = λ honest whole old new takes same carries.

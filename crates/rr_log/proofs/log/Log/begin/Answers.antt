@@ -1,7 +1,7 @@
-use Rattle.std.proofs.Common.{sym, ap, subst, arith}
+use Rattle.std.proofs.Common.{◌∙◌, sym, ap, subst, arith}
 use Rattle.rr_checkpoint.specs.Calls.{LeavesKept}
 use Rattle.rr_disk.proofs.MomentLemmas.{started, stays}
-use Rattle.rr_images.specs.Layout.{Keeps}
+use Rattle.rr_images.specs.Layout.{Keeps, Layout, Begun, far_lines}
 use Rattle.rr_log.specs.Carrying.{Carries, IsPlanned}
 use Rattle.rr_log.proofs.Carried.{kept_now, begun_carries}
 use Rattle.rr_worlds.specs.Spelling.{worlds}
@@ -41,11 +41,28 @@ returns-in-Err-clause-stops g c = λ honest world carries.
 pub returns-in-Ok-clause-carries : goal.returns-in-Ok-clause-carries
 returns-in-Ok-clause-carries g c = λ honest whole world lent carries.
     let log = c.args.self.now in
-    let planned = subst (λ (disk : g.row.D.Denot). IsPlanned g.R.Rules.takes c.plan.new.self c.in_ok-plan.plan (g.D.Disk.state disk) world) (sym c.plan.ensures.unchanged.disk)
+    let planned = subst (λ (disk : g.row.D.Denot). IsPlanned g.R.Rules.takes c.plan.new.self c.in_ok-plan.plan (g.D.Disk.state disk) world carries.carried.layout) (sym c.plan.ensures.unchanged.disk)
     (c.in_ok-plan.ensures.plan (g.D.Disk.state log.disk) world lent carries) in
     let left = c.in-Ok.ensures.left in
     begun_carries g.R.Rules.takes c.plan.new.self (g.D.Disk.state c.plan.new.self.disk) world planned.carries c.begin.new.disk c.begin.new.self (g.D.Disk.state c.begin.new.disk)
     planned.may.holding planned.texts (omega (arith, left)) (c.in-Ok.ensures.carries honest world planned.carries.carried planned.may)
+
+pub returns-in-Ok-clause-starts : goal.returns-in-Ok-clause-starts
+returns-in-Ok-clause-starts g c = λ honest world lent carries.
+    let log = c.args.self.now in
+    let codec = worlds g.R.Rules.takes in
+    let planned = subst (λ (disk : g.row.D.Denot). IsPlanned g.R.Rules.takes c.plan.new.self c.in_ok-plan.plan (g.D.Disk.state disk) world carries.carried.layout) (sym c.plan.ensures.unchanged.disk)
+    (c.in_ok-plan.ensures.plan (g.D.Disk.state log.disk) world lent carries) in
+    let left = c.in-Ok.ensures.left in
+    let begun = c.in-Ok.ensures.carries honest world planned.carries.carried planned.may in (
+      begun_carries g.R.Rules.takes c.plan.new.self (g.D.Disk.state c.plan.new.self.disk) world planned.carries c.begin.new.disk c.begin.new.self (g.D.Disk.state c.begin.new.disk)
+          planned.may.holding planned.texts (omega (arith, left)) begun,
+      record {
+        root = begun.1.root ∙ ap (λ (l : Layout codec). l.root) planned.same;
+        middle = begun.1.middle ∙ ap (λ (l : Layout codec). l.middle) planned.same;
+        far = begun.1.far ∙ ap (λ (l : Layout codec). Begun (far_lines l.far)) planned.same;
+      },
+    )
 
 pub returns-in-Err-clause-device : goal.returns-in-Err-clause-device
 returns-in-Err-clause-device g c = λ honest world carries.

@@ -1,9 +1,7 @@
-use Rattle.std.proofs.Common.{◌∙◌, ℕ, Err, ap, subst}
-use Rattle.rr_checkpoint.specs.Calls.{TakesRootBehind}
+use Rattle.std.proofs.Common.{◌∙◌, Err, ap}
 use Rattle.rr_disk.proofs.MomentLemmas.{started, joins}
-use Rattle.rr_disk.specs.Moments.{EachImage}
 use Rattle.rr_images.specs.Layout.{Keeps}
-use Rattle.rr_log.proofs.Carried.{device_more, device_so, kept_now, ok_so}
+use Rattle.rr_log.proofs.Carried.{device_more, device_so, kept_now, newer_begun, newer_under_way, ok_so, takes_root}
 use Rattle.rr_worlds.specs.Spelling.{worlds}
 use Rattle.std.proofs.lemmas.Result.{err_from_is_err_and}
 use Rattle.rr_log.proofs.log.Log.checkpoint.Goals as goal
@@ -17,7 +15,16 @@ pub returns-then-ticks_left-gt0-clause-carries : goal.returns-then-ticks_left-gt
 returns-then-ticks_left-gt0-clause-carries g c = λ honest whole world lent carries. c.finish.ensures.carries honest whole world carries
 
 pub returns-then-ticks_left-gt0-clause-renews : goal.returns-then-ticks_left-gt0-clause-renews
-returns-then-ticks_left-gt0-clause-renews g c = ok_so c.finish.result _ _ (λ renews honest world lent carries. renews honest world carries) c.finish.ensures.renews
+returns-then-ticks_left-gt0-clause-renews g c = ok_so c.finish.result _ _ (λ renews honest world lent carries. λ image is.
+    newer_under_way (worlds g.R.Rules.takes) carries.carried.layout world image (renews honest world carries image is))
+    c.finish.ensures.renews
+
+pub returns-then-ticks_left-gt0-clause-whole : goal.returns-then-ticks_left-gt0-clause-whole
+returns-then-ticks_left-gt0-clause-whole g c = ok_so c.finish.result _ _ (λ renews none honest world lent carries. λ image is.
+    let log = c.args.self.now in
+    takes_root g.R.Rules.takes log (g.D.Disk.state log.disk) world carries none image
+    (newer_under_way (worlds g.R.Rules.takes) carries.carried.layout world image (renews honest world carries image is)))
+    c.finish.ensures.renews
 
 pub returns-in_err-finish-clause-stops : goal.returns-in_err-finish-clause-stops
 returns-in_err-finish-clause-stops g c = λ honest world lent carries.
@@ -35,11 +42,16 @@ returns-clause-carries g c = λ honest whole world lent carries.
     c.in_ok-finish.ensures.carries honest whole world (c.in_ok-begin.ensures.carries then c.in_ok-begin.ensures.broken world lent carries)
 
 pub returns-clause-renews : goal.returns-clause-renews
-returns-clause-renews g c = λ honest world lent carries.
-    let then = c.in_ok-finish.ensures.honest honest in
-    let after = g.D.Disk.state c.finish-2.new.self.disk in
-    subst (λ (number : ℕ). EachImage after (TakesRootBehind (worlds g.R.Rules.takes) number world)) c.in_ok-begin.ensures.root
-    (c.in_ok-finish.ensures.renews honest world (c.in_ok-begin.ensures.carries then c.in_ok-begin.ensures.broken world lent carries))
+returns-clause-renews g c = λ honest world lent carries. λ image is.
+    let begun = c.in_ok-begin.ensures.starts (c.in_ok-finish.ensures.honest honest) world lent carries in
+    newer_begun (worlds g.R.Rules.takes) carries.carried.layout begun.0.carried.layout world image begun.1 (c.in_ok-finish.ensures.renews honest world begun.0 image is)
+
+pub returns-clause-whole : goal.returns-clause-whole
+returns-clause-whole g c = λ none honest world lent carries. λ image is.
+    let log = c.args.self.now in
+    let begun = c.in_ok-begin.ensures.starts (c.in_ok-finish.ensures.honest honest) world lent carries in
+    takes_root g.R.Rules.takes log (g.D.Disk.state log.disk) world carries none image
+    (newer_begun (worlds g.R.Rules.takes) carries.carried.layout begun.0.carried.layout world image begun.1 (c.in_ok-finish.ensures.renews honest world begun.0 image is))
 
 pub returns-then-ticks_left-gt0-clause-device : goal.returns-then-ticks_left-gt0-clause-device
 returns-then-ticks_left-gt0-clause-device g c =

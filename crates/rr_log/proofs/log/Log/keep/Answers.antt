@@ -1,10 +1,12 @@
-use Rattle.std.proofs.Common.{◌≡◌, ◌⊎◌, inl, inr, ◌∙◌, Err, length, sym, ap, subst}
+use Rattle.std.proofs.Common.{◌≡◌, ◌⊎◌, inl, inr, ◌+◌, ◌∙◌, Err, length, sym, ap, subst, arith}
 use Rattle.std.proofs.lemmas.Result.{err_from_is_err_and}
 use Rattle.rr_disk.proofs.MomentLemmas.{started, joins, weaker}
+use Rattle.rr_images.specs.Calls.{TakesNewer}
 use Rattle.rr_images.specs.Layout.{Keeps}
+use Rattle.rr_images.specs.Steps.{with_line}
 use Rattle.rr_log.specs.Carrying.{Carries}
 use Rattle.rr_log.specs.declared.fault.Fault.TheVariants as F
-use Rattle.rr_log.proofs.Carried.{full_on, is_put_off, kept_now, no_more_room, told_behind}
+use Rattle.rr_log.proofs.Carried.{full_on, is_full, is_put_off, kept_now, no_more_room, only_breaks, renewed_line, renews_now, renews_refused, same_count, same_disk, same_images, told_behind}
 use Rattle.rr_worlds.specs.Spelling.{worlds}
 use Rattle.rr_worlds.specs.World.{World}
 use Rattle.rr_log.specs.Log.{place_of}
@@ -77,3 +79,58 @@ returns-in_err-append-clause-memory g c = λ wanted.
     let is : c.in_err-append.field-0.0 ≡ F.OutOfMemory = cc (told.1, told.2, wanted) in
     let same = is_put_off c.in_err-append.field-0.0 c.in_ok-full.full F.OutOfMemory c.in_err-append.ensures.err is (λ failed. cc failed) in
     c.in_ok-full.ensures.want (inr (sym same ∙ is))
+
+pub returns-then-self-clause-renews : goal.returns-then-self-clause-renews
+returns-then-self-clause-renews g c = λ whole one none honest old new takes same carries. absurd (omega (arith, one, none))
+
+pub returns-then-is_past_last-clause-renews : goal.returns-then-is_past_last-clause-renews
+returns-then-is_past_last-clause-renews g c = λ whole one none honest old new takes same carries. absurd (omega (arith, one, none))
+
+pub returns-in_err-full-clause-renews : goal.returns-in_err-full-clause-renews
+returns-in_err-full-clause-renews g c = λ whole one none honest old new takes same carries. absurd (only_breaks c.in_err-full.ensures.err (sym c.in_err-full.ensures.broken ∙ whole))
+
+pub returns-in_err-append-clause-renews : goal.returns-in_err-append-clause-renews
+returns-in_err-append-clause-renews g c = λ whole one none honest old new takes same carries.
+    let codec = worlds g.R.Rules.takes in
+    let ticked = c.tick_before.new.self in
+    let told = err_from_is_err_and c.from_residual-in_err-append.result c.from_residual-in_err-append.ensures.1 in
+    let unchanged = c.in_err-append.ensures.same (ap (λ f. Err f) (is_full c.in_err-append.ensures.err (sym c.in_err-append.ensures.broken ∙ whole))) in
+    let renewed = c.in_ok-full.ensures.renewed c.in_ok-full.ensures.broken one (c.in_err-append.ensures.honest honest) old carries in
+    renews_refused g.R.Rules.takes c.from_residual-in_err-append.result told.0 told.1 carries.carried.layout c.args.line.now old new (g.D.Disk.state c.append.new.self.disk)
+    (same_images g.D.Disk.state (TakesNewer codec carries.carried.layout old) ticked c.append.new.self unchanged
+    (renews_now g.R.Rules.takes ticked (g.D.Disk.state ticked.disk) old renewed.0 carries.carried.layout renewed.1))
+
+pub returns-clause-renews : goal.returns-clause-renews
+returns-clause-renews g c = λ whole one none honest old new takes same carries.
+    let codec = worlds g.R.Rules.takes in
+    let line = c.args.line.now in
+    let renewed = c.in_ok-full.ensures.renewed c.in_ok-full.ensures.broken one (c.in_ok-append.ensures.honest honest) old carries in
+    let appended = c.in_ok-append.ensures.appends honest old new takes same renewed.0 in
+    renews_now g.R.Rules.takes c.append.new.self (g.D.Disk.state c.append.new.self.disk) new appended.0 (with_line carries.carried.layout line new)
+    (renewed_line codec carries.carried.layout renewed.0.carried.layout appended.0.carried.layout line new appended.1 renewed.1)
+
+pub returns-in_err-append-clause-tick_writes : goal.returns-in_err-append-clause-tick_writes
+returns-in_err-append-clause-tick_writes g c = λ half.
+    let told = err_from_is_err_and c.from_residual-in_err-append.result c.from_residual-in_err-append.ensures.1 in
+    let is : c.in_err-append.field-0.0 ≡ F.HalfFull = cc (told.1, told.2, half) in
+    let same = is_put_off c.in_err-append.field-0.0 c.in_ok-full.full F.HalfFull c.in_err-append.ensures.err is (λ failed. cc failed) in
+    same_count g.D.Disk.write_count c.tick_before.new.self c.append.new.self (g.D.Disk.write_count c.args.self.now.disk + 1) (c.in_err-append.ensures.same (ap (λ f. Err f) same)) c.tick_before.ensures.writes
+
+pub returns-in_err-append-clause-tick_syncs : goal.returns-in_err-append-clause-tick_syncs
+returns-in_err-append-clause-tick_syncs g c = λ half.
+    let told = err_from_is_err_and c.from_residual-in_err-append.result c.from_residual-in_err-append.ensures.1 in
+    let is : c.in_err-append.field-0.0 ≡ F.HalfFull = cc (told.1, told.2, half) in
+    let same = is_put_off c.in_err-append.field-0.0 c.in_ok-full.full F.HalfFull c.in_err-append.ensures.err is (λ failed. cc failed) in
+    same_count g.D.Disk.sync_count c.tick_before.new.self c.append.new.self (g.D.Disk.sync_count c.args.self.now.disk + 1) (c.in_err-append.ensures.same (ap (λ f. Err f) same)) c.tick_before.ensures.syncs
+
+pub returns-in_err-full-clause-nothing : goal.returns-in_err-full-clause-nothing
+returns-in_err-full-clause-nothing g c =
+    let told = err_from_is_err_and c.from_residual.result c.from_residual.ensures.1 in
+    rw told.1 (λ whole none left. absurd (only_breaks c.in_err-full.ensures.err (sym c.in_err-full.ensures.broken ∙ whole)))
+
+pub returns-in_err-append-clause-nothing : goal.returns-in_err-append-clause-nothing
+returns-in_err-append-clause-nothing g c =
+    let told = err_from_is_err_and c.from_residual-in_err-append.result c.from_residual-in_err-append.ensures.1 in
+    rw told.1 (λ whole none left.
+    same_disk c.tick_before.new.self c.append.new.self (c.in_err-append.ensures.same (ap (λ f. Err f) (is_full c.in_err-append.ensures.err (sym c.in_err-append.ensures.broken ∙ whole))))
+    ∙ c.in_ok-full.ensures.nothing c.in_ok-full.ensures.broken none (sym c.in_err-append.ensures.left ∙ left))

@@ -1,6 +1,7 @@
+use Rattle.std.proofs.Common.{◌∙◌, sym, arith}
 use Rattle.rr_disk.proofs.MomentLemmas.{started}
 use Rattle.rr_images.specs.Layout.{Keeps}
-use Rattle.rr_log.proofs.Carried.{kept_now}
+use Rattle.rr_log.proofs.Carried.{is_want, kept_now}
 use Rattle.rr_worlds.specs.Spelling.{worlds}
 use Rattle.rr_log.proofs.log.Log.step.Goals as goal
 
@@ -11,3 +12,21 @@ pub returns-then-not-is_due-clause-stops : goal.returns-then-not-is_due-clause-s
 returns-then-not-is_due-clause-stops g c = λ honest world carries.
     let log = c.args.self.now in
     started (g.D.Disk.past log.disk) (g.D.Disk.state log.disk) (λ image. Keeps (worlds g.R.Rules.takes) image world) (kept_now g.R.Rules.takes log (g.D.Disk.state log.disk) world carries)
+
+pub returns-then-not-is_due-clause-renewed : goal.returns-then-not-is_due-clause-renewed
+returns-then-not-is_due-clause-renewed g c = λ whole one honest world carries. absurd (omega (arith, one, c.ticks_left.ensures, c.if-ticks_left-gt0.false))
+
+pub returns-in_err-begin-clause-renewed : goal.returns-in_err-begin-clause-renewed
+returns-in_err-begin-clause-renewed g c = λ whole one honest world carries. absurd (omega (arith, one, c.ticks_left.ensures, c.if-ticks_left-gt0.false))
+
+pub returns-clause-renewed : goal.returns-clause-renewed
+returns-clause-renewed g c = λ whole one honest world carries. absurd (omega (arith, one, c.ticks_left.ensures, c.if-ticks_left-gt0.false))
+
+pub returns-then-ticks_left-gt0-clause-nothing : goal.returns-then-ticks_left-gt0-clause-nothing
+returns-then-ticks_left-gt0-clause-nothing g c = λ whole none left. absurd (omega (arith, none, c.ticks_left.ensures, c.if-ticks_left-gt0.true))
+
+pub returns-in_err-begin-clause-nothing : goal.returns-in_err-begin-clause-nothing
+returns-in_err-begin-clause-nothing g c = λ whole none left. (c.in_err-begin.ensures.unchanged (is_want c.in_err-begin.ensures.err (sym c.in_err-begin.ensures.broken ∙ whole))).disk
+
+pub returns-clause-nothing : goal.returns-clause-nothing
+returns-clause-nothing g c = λ whole none left. let some = c.in_ok-begin.ensures.left in absurd (omega (arith, some, left))

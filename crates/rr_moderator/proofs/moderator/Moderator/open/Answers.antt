@@ -1,6 +1,15 @@
+use Rattle.std.proofs.Common.{subst}
+use Rattle.rr_store.specs.Holding.{disk_of, held_of}
+use Rattle.rr_moderator.proofs.OpeningLemmas.{wants_memory}
 use Rattle.rr_moderator.proofs.moderator.Moderator.open.Goals as goal
 
-pub returns-in-Ok-open-clause-opened : goal.returns-in-Ok-open-clause-opened
-returns-in-Ok-open-clause-opened g c = λ honest.
-    let found = c.in-Ok-open.ensures.opened honest in
-    record { texts = found.0; right = found.2; stands = found.1.allowed.0; whole = c.in-Ok-open.ensures.whole }
+pub returns-in-Ok-make_buffers-clause-opened : goal.returns-in-Ok-make_buffers-clause-opened
+returns-in-Ok-make_buffers-clause-opened g c = λ honest.
+    let found = c.in-Ok.ensures.opened honest in
+    record { texts = found.0; right = found.2; stands = found.1.allowed.0; whole = c.in-Ok.ensures.whole }
+
+pub returns-in-Err-make_buffers-clause-left : goal.returns-in-Err-make_buffers-clause-left
+returns-in-Err-make_buffers-clause-left g c = λ honest.
+    let store = c.in-Ok.store in
+    let found = c.in-Ok.ensures.opened (subst g.D.Disk.Honest c.into_disk.ensures honest) in
+    wants_memory g.D.Disk.state g.D.Disk.past c.args.disk (disk_of store) c.into_disk.result found.0 (held_of store).tables c.in-Err-make_buffers.fault c.in-Err-make_buffers.ensures c.into_disk.ensures found.1

@@ -19,3 +19,7 @@ returns-clause-steps g c =
 pub returns-clause-renews : goal.returns-clause-renews
 returns-clause-renews g c = λ honest texts carries.
     c.in_ok-checkpoint.ensures.renews honest (in_words texts (held_of c.args.self.now).tables) refl carries.file
+
+pub returns-clause-whole : goal.returns-clause-whole
+returns-clause-whole g c = λ none honest texts carries.
+    c.in_ok-checkpoint.ensures.whole none honest (in_words texts (held_of c.args.self.now).tables) refl carries.file

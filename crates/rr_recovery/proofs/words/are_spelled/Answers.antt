@@ -1,22 +1,22 @@
 use Rattle.std.proofs.Common.{refl}
 use Rattle.rr_recovery.proofs.WordLemmas.{spelled_all, spelled_more, spelled_not, spelled_same}
-use Rattle.rr_recovery.proofs.words.spell_commands.Goals as goal
+use Rattle.rr_recovery.proofs.words.are_spelled.Goals as goal
 
 pub loop-words-init : goal.loop-words-init
 loop-words-init c = spelled_same _ _ c.into_iter-words-iterator.ensures.into_iter_gives
 
-pub returns-then-not-spells_command : goal.returns-then-not-spells_command
-returns-then-not-spells_command c = (
+pub returns-then-not-is_spelled : goal.returns-then-not-is_spelled
+returns-then-not-is_spelled c = (
   λ h. absurd (cc h),
   λ all.
       absurd (spelled_not c.loop-words.words-iterator c.next.new.self c.args.kept c.in-Some.words.now c.in-Some.ensures.steps
-      (λ here. absurd (cc (c.if-not-spells_command.ensures.1 here))) c.loop-words.invariant all),
+      (λ here. absurd (cc (c.if-not-is_spelled.ensures.1 here))) c.loop-words.invariant all),
 )
 
 pub loop-words-preserved : goal.loop-words-preserved
 loop-words-preserved c =
     spelled_more c.loop-words.words-iterator c.next.new.self c.args.kept c.in-Some.words.now c.in-Some.ensures.steps
-    (c.if-not-spells_command.ensures.0 refl) c.loop-words.invariant
+    (c.if-not-is_spelled.ensures.0 refl) c.loop-words.invariant
 
 pub returns : goal.returns
 returns c =
