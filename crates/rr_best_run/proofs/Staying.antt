@@ -6,12 +6,10 @@ use Rattle.rr_board.specs.Plan.{Plan}
 use Rattle.rr_board.specs.declared.hex.Hex.{Hex}
 use Rattle.rr_books.specs.Book.{Book, train_holder}
 use Rattle.rr_net.specs.Running.{net_of}
-use Rattle.rr_net.specs.Trains.{centre_limit}
 use Rattle.rr_network.specs.Network.{Net as Network, network}
 use Rattle.rr_operations.specs.Phases.{phase}
 use Rattle.rr_roster.specs.declared.company.Corp.{Corp}
 use Rattle.rr_roster.specs.declared.company.Kind.{Kind}
-use Rattle.rr_roster.specs.declared.company.Kind.TheVariants.{Two, Three, Four, Five, Six, Diesel}
 use Rattle.rr_routes.specs.Net.{Net, limit_of}
 use Rattle.rr_routes.specs.Routes.{Trip, no_trip, Run, earned}
 use Rattle.rr_routes.specs.declared.net.CentreLimit.TheVariants.{AtMost}
@@ -28,21 +26,12 @@ use Rattle.rr_best_run.specs.Worded.{HasLegal}
 abbrev staying_word : Kind → TrainWord
 staying_word kind = record { kind = kind; links = [] }
 
--- nets and sheets ask the same of a kind
-same_limit : (kind : Kind) → limit_of_kind kind ≡ centre_limit kind
-same_limit Two = refl
-same_limit Three = refl
-same_limit Four = refl
-same_limit Five = refl
-same_limit Six = refl
-same_limit Diesel = refl
-
 word_stays : (kinds : List Kind) (train : ℕ) (word : TrainWord) → slice_get (map staying_word kinds) train ≡ Some word
-    → (limit_of_kind word.kind ≡ slice_index_or (map centre_limit kinds) train (AtMost 0)) × (word.links ≡ [])
+    → (limit_of_kind word.kind ≡ slice_index_or (map limit_of_kind kinds) train (AtMost 0)) × (word.links ≡ [])
 word_stays [] train word at = cc
 word_stays (kind ∷ kinds) zero word at =
     let is : staying_word kind ≡ word = cc in
-    (ap (λ (w : TrainWord). limit_of_kind w.kind) (sym is) ∙ same_limit kind, ap (λ (w : TrainWord). w.links) (sym is))
+    (ap (λ (w : TrainWord). limit_of_kind w.kind) (sym is), ap (λ (w : TrainWord). w.links) (sym is))
 word_stays (kind ∷ kinds) (suc train) word at = word_stays kinds train word at
 
 nothing_twice : (n train : ℕ) → slice_index_or (replicate n no_trip) train no_trip ≡ no_trip
@@ -70,7 +59,7 @@ staying_sheet hexes network c kinds phase =
       run = staying net;
       is_run = staying_runs net;
       is_sheet = record {
-        complete = length-map kinds staying_word ∙ sym (length-map kinds centre_limit) ∙ sym (length-replicate (length net.trains) no_trip);
+        complete = length-map kinds staying_word ∙ sym (length-map kinds limit_of_kind) ∙ sym (length-replicate (length net.trains) no_trip);
         each = λ train word at.
             let is = word_stays kinds train word at in
             subst (λ (trip : Trip). IsWordOf (limit_of net train) word trip) (sym (nothing_twice (length net.trains) train))

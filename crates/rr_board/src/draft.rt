@@ -230,7 +230,7 @@ fn may_take_home(homes: &[Home], home: &Home, slots: u8) -> bool
 fn has_home(homes: &[Home], corp: Corp) -> bool
     ensures { result ≡ list_any (is_home_of corp) homes.now }
 {
-    homes.iter().any(|home| home.corp.index() == corp.index())
+    homes.iter().any(|home| home.corp == corp)
 }
 
 fn count_at(homes: &[Home], hex: &HexName, centre: u16) -> usize

@@ -5,7 +5,8 @@ use Rattle.std.specs.List.{Contains, list_any, slice_get}
 use Rattle.std.proofs.lemmas.Bool.{false≢true, cases_eq, cases_lt}
 use Rattle.std.proofs.lemmas.Bool.Decides.{Decides-eqb, Decides-ltb, Decides-like, Decides-not, Decides-and, Decides-or}
 use Rattle.std.proofs.lemmas.List.{take_more, take_all, get_or_past}
-use Rattle.std.proofs.lemmas.List.Elements.{Contains-push, Contains-push_cases, Contains-append_left}
+use Rattle.std.proofs.lemmas.List.Elements.{Contains-push, Contains-push_cases, Contains-append_left, Contains-get_or}
+use Rattle.std.proofs.lemmas.List.Quantifiers.{all_pairs_push}
 use Rattle.std.proofs.lemmas.Option.{same_Some}
 use Rattle.rr_routes.specs.declared.net.Node.{Node}
 use Rattle.rr_routes.specs.declared.net.Node.TheVariants.{Hexside, Centre}
@@ -15,16 +16,15 @@ use Rattle.rr_routes.specs.declared.net.CentreLimit.TheVariants.{AtMost, Unlimit
 use Rattle.rr_routes.specs.declared.certificate.Fate.{Fate}
 use Rattle.rr_routes.specs.declared.certificate.Fate.TheVariants.{Open, Denied, Of}
 use Rattle.rr_routes.specs.Net.{Net, LinkAt, Touches, IsWithin, limit_of}
-use Rattle.rr_routes.specs.Routes.{NoneTwice}
-use Rattle.rr_routes.specs.Reach.{WalkTo, LinkReached}
+use Rattle.rr_routes.specs.Reach.{LinkReached}
 use Rattle.rr_routes.specs.Certificates.{fate_of, MayUse, IsBad, three_links, too_many_centres, not_reached, side_shared}
-use Rattle.rr_routes.proofs.Elements.{Contains-here, Contains-there, Contains-cases, Contains-nil, length_within}
+use Rattle.rr_routes.proofs.Elements.{Contains-nil, length_within}
 use Rattle.rr_checker.specs.declared.step.Step.{Step}
 use Rattle.rr_checker.specs.Steps.{same_node}
 use Rattle.rr_checker.specs.Searching.{AreEnds}
-use Rattle.rr_checker.specs.Ranked.{IsRanked, AddsNode, IsRankingOf}
+use Rattle.rr_checker.specs.Ranked.{AddsNode, IsRankingOf}
 use Rattle.rr_checker.specs.Own.{is_of, is_others, AreSelected, AreLinksWith, some_link, link_touches, touches, is_third, is_second, crowds, crowds_end, is_crowded_by, is_crowded, is_over, goes_over, is_unreached, is_side_of, shares_end, shares_side, is_shared, AddsTouched, IsTouched}
-use Rattle.rr_checker.proofs.StepLemmas.{yes, no, to_true, to_false, Decides-never, Decides-same_node, Decides-list_any}
+use Rattle.rr_checker.proofs.StepLemmas.{yes, to_true, Decides-never, Decides-same_node, Decides-list_any}
 
 pub Decides-is_of : (train : ℕ) (fate : Fate) → Decides (is_of train fate) (fate ≡ Of train)
 Decides-is_of train Open = Decides-never (λ e. cc)
@@ -41,23 +41,13 @@ Decides-is_others train (Of owner) =
     Decides-like (not (owner == train)) (λ differ. (owner, λ e. differ (sym e), refl))
     (λ o e. let same : owner ≡ o.0 = let f = o.2 in cc in o.1 (sym e ∙ same)) (Decides-not (owner == train) (Decides-eqb owner train))
 
-NoneTwice-push : (xs : List ℕ) (x : ℕ) → NoneTwice xs → (Contains xs x → ⊥) → NoneTwice (xs ++ x ∷ [])
-NoneTwice-push [] x none out = (λ c. Contains-nil x c, tt)
-NoneTwice-push (y ∷ ys) x none out = (
-  λ c. elim (Contains-push_cases ys x y c) [
-    | inl old ↦ none.0 old
-    | inr is ↦ out (subst (λ e. Contains (y ∷ ys) e) (sym is) (Contains-here y ys))
-  ],
-  NoneTwice-push ys x none.1 (λ c. out (Contains-there y ys x c)),
-)
-
 module _ (test : Fate → Bool) (fates : List Fate) where
   pub selected_first : AreSelected test fates 0 []
-  selected_first = record { none_twice = tt; exact = λ link. (λ c. absurd (Contains-nil link c), λ d. absurd (omega (arith, d.0))) }
+  selected_first = record { ascending = λ i j d less inside. absurd (omega (arith, inside)); exact = λ link. (λ c. absurd (Contains-nil link c), λ d. absurd (omega (arith, d.0))) }
 
   pub selected_no : (n : ℕ) (places : List ℕ) → AreSelected test fates n places → test (fate_of fates n) ≡ false → AreSelected test fates (n + 1) places
   selected_no n places s fails = record {
-    none_twice = s.none_twice;
+    ascending = s.ascending;
     exact = λ link. (
       λ c. let d = (s.exact link).0 c in (omega (arith, d.0), d.1),
       λ d. elim (cases_eq link n) [
@@ -69,7 +59,7 @@ module _ (test : Fate → Bool) (fates : List Fate) where
 
   pub selected_yes : (n : ℕ) (places new : List ℕ) → AreSelected test fates n places → test (fate_of fates n) ≡ true → new ≡ places ++ n ∷ [] → AreSelected test fates (n + 1) new
   selected_yes n places new s passes pushed = rw pushed (record {
-    none_twice = NoneTwice-push places n s.none_twice (λ c. omega (arith, ((s.exact n).0 c).0));
+    ascending = all_pairs_push (λ a b. a < b) places n s.ascending (λ k d inside. ((s.exact (get_or places k d)).0 (Contains-get_or places k d inside)).0);
     exact = λ link. (
       λ c. elim (Contains-push_cases places n link c) [
         | inl old ↦ let d = (s.exact link).0 old in (omega (arith, d.0), d.1)
@@ -84,7 +74,7 @@ module _ (test : Fate → Bool) (fates : List Fate) where
 
   pub selected_all : (n : ℕ) (places : List ℕ) → test Denied ≡ false → length fates ≤ n → AreSelected test fates n places → AreLinksWith test fates places
   selected_all n places denied h s = record {
-    none_twice = s.none_twice;
+    ascending = s.ascending;
     exact = λ link. (
       λ c. ((s.exact link).0 c).1,
       λ t. (s.exact link).1 (

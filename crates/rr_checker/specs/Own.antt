@@ -1,5 +1,5 @@
 -- The tests on the links that are a train's own.
-use Rattle.std.specs.Prelude.{◌≡◌, ℕ, ◌<◌, ◌==◌, ◌&&◌, ◌||◌, ◌⊎◌, ◌↔◌, not, nat_lt, Bool, true, false, Option, None, Some, List, Contains, slice_get}
+use Rattle.std.specs.Prelude.{◌≡◌, ℕ, ◌<◌, ◌==◌, ◌&&◌, ◌||◌, ◌⊎◌, ◌↔◌, not, nat_lt, Bool, true, false, Option, None, Some, List, AllPairs, Contains, slice_get}
 use Rattle.std.specs.List.{list_any}
 use Rattle.rr_routes.specs.declared.net.Node.{Node}
 use Rattle.rr_routes.specs.declared.net.Node.TheVariants.{Hexside, Centre}
@@ -9,7 +9,6 @@ use Rattle.rr_routes.specs.declared.net.CentreLimit.TheVariants.{AtMost, Unlimit
 use Rattle.rr_routes.specs.declared.certificate.Fate.{Fate}
 use Rattle.rr_routes.specs.declared.certificate.Fate.TheVariants.{Open, Denied, Of}
 use Rattle.rr_routes.specs.Net.{Net, Touches}
-use Rattle.rr_routes.specs.Routes.{NoneTwice}
 use Rattle.rr_routes.specs.Certificates.{fate_of}
 use Rattle.rr_checker.specs.declared.step.Step.{Step}
 use Rattle.rr_checker.specs.Steps.{same_node}
@@ -27,14 +26,14 @@ is_others train Open = false
 is_others train Denied = false
 is_others train (Of owner) = not (owner == train)
 
--- these are the places, among the first n, of the fates that pass the test
+-- these are the places, among the first n, of the fates that pass the test, in ascending order
 pub record AreSelected (test : Fate → Bool) (fates : List Fate) (n : ℕ) (places : List ℕ) : Type 0 where
-  pub none_twice : NoneTwice places
+  pub ascending : AllPairs (λ a b. a < b) places
   pub exact : (link : ℕ) → Contains places link ↔ ((link < n) × (test (fate_of fates link) ≡ true))
 
--- the links whose fates pass the test, none twice
+-- the links whose fates pass the test, each below those behind it
 pub record AreLinksWith (test : Fate → Bool) (fates : List Fate) (places : List ℕ) : Type 0 where
-  pub none_twice : NoneTwice places
+  pub ascending : AllPairs (λ a b. a < b) places
   pub exact : (link : ℕ) → Contains places link ↔ (test (fate_of fates link) ≡ true)
 
 abbrev pub some_link : Option Link → (Link → Bool) → Bool

@@ -7,6 +7,9 @@ use rr_journal::RunEnd;
 use rr_pages::Fault;
 use rr_reading::{Contents, read_file};
 use rr_worlds::Rules;
+use rr_worlds::laws::{
+    checkpoints_spell_worlds, worlds_are_exact, worlds_are_read, worlds_are_read_back,
+};
 use std::alloc::Global;
 
 // Room for a file of 519 pages, and for the calls of a test.
@@ -97,6 +100,10 @@ fn made(
 #[test]
 fn a_formatted_disk_is_read_back(rt: HostRuntime) {
     new_files_stand::<NoRecords>();
+    worlds_are_exact::<NoRecords>();
+    worlds_are_read::<NoRecords>();
+    worlds_are_read_back();
+    checkpoints_spell_worlds();
     let told = (true, 1, [0, 5, 3, 2_125_824]);
     assert!(rt; made(rt.alloc(), false, &[(0, ROOT)]) == Ok(told));
     assert!(rt; made(rt.alloc(), true, &[(0, ROOT)]) == Ok(told));

@@ -9,5 +9,3 @@ mod checkpoint;
 mod formatting;
 #[cfg(test)]
 mod reading;
-#[cfg(test)]
-mod worlds;

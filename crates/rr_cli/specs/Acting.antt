@@ -18,11 +18,11 @@ use Rattle.rr_store.specs.Holding.{Carries}
 use Rattle.rr_store.specs.Opening.{IsNoVerdict, OpenAllows, Refuses}
 use Rattle.rr_store.specs.World.{World}
 use Rattle.rr_moderator.specs.declared.fault.Fault.{Fault}
-use Rattle.rr_moderator.specs.declared.fault.Fault.TheVariants.{OutOfMemory}
+use Rattle.rr_moderator.specs.declared.fault.Fault.TheVariants.{OutOfMemory, StreamFailed}
 use Rattle.rr_moderator.specs.declared.moderator.Moderator.{Moderator}
 use Rattle.rr_moderator.specs.declared.summary.Summary.{Summary}
 use Rattle.rr_moderator.specs.Answer.{summary_text}
-use Rattle.rr_moderator.specs.Fault.{number_of, of_store, refusal_of}
+use Rattle.rr_moderator.specs.Fault.{of_store, refusal_of}
 use Rattle.rr_moderator.specs.Holding.{IsSummary, disk_under, held_of, store_of, told_of}
 use Rattle.rr_moderator.specs.Durability.{Opens, SpeaksAndLasts, StandsAlong, told}
 use Rattle.rr_moderator.specs.Serving.{EndsAs}
@@ -35,12 +35,12 @@ use Rattle.rr_cli.specs.declared.plans.Plan.TheVariants.{Check, Format, Serve}
 -- the line was sent and all is done, or it was cut short, as a write or the flush failed
 abbrev pub IsAcknowledged : List ℕ → OutputState → OutputState → Ending → Type 0
 IsAcknowledged line before after ending =
-    ((ending ≡ Done) × IsSent before line after) ⊎ ((ending ≡ Faulted 69) × IsCutShort before line after)
+    ((ending ≡ Done) × IsSent before line after) ⊎ ((ending ≡ Faulted StreamFailed) × IsCutShort before line after)
 
--- the refusal was sent and the program ends with its number, or it was cut short, as a write or the flush failed
+-- the refusal was sent and the program ends with it, or it was cut short, as a write or the flush failed
 abbrev pub IsRefused : Fault → OutputState → OutputState → Ending → Type 0
 IsRefused fault before after ending =
-    ((ending ≡ Faulted (number_of fault)) × IsSent before (refusal_of fault) after) ⊎ ((ending ≡ Faulted 69) × IsCutShort before (refusal_of fault) after)
+    ((ending ≡ Faulted fault) × IsSent before (refusal_of fault) after) ⊎ ((ending ≡ Faulted StreamFailed) × IsCutShort before (refusal_of fault) after)
 
 -- the refusal was sent, or that of want of memory where there was no room for it, or it was cut short
 abbrev pub IsRefusedOr70 : Fault → OutputState → OutputState → Ending → Type 0
@@ -83,7 +83,7 @@ pub data Formats {D : Type 0} (Honest Works : D → Type 0) (state : D → DiskS
 -- how a run ends whose serving ended so
 abbrev pub ending_of : Result (Unit {0}) Fault → Ending
 ending_of (Ok _) = Done
-ending_of (Err fault) = Faulted (number_of fault)
+ending_of (Err fault) = Faulted fault
 
 -- Why the tables that are served or told are those of the file: it stands for them, on an honest disk that was synced and not
 -- written, and that carries them where the file is one of ours; and of every disk they were played by the rules of a right

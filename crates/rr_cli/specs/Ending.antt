@@ -1,4 +1,5 @@
 use Rattle.std.specs.Prelude.{ℕ, Bool, ◌==◌, ◌||◌, ◌&&◌, nat_le, if◌then◌else◌}
+use Rattle.rr_moderator.specs.Fault.{number_of}
 use Rattle.rr_cli.specs.declared.ending.Ending.{Ending}
 use Rattle.rr_cli.specs.declared.ending.Ending.TheVariants.{Done, WordsRefused, Faulted}
 
@@ -9,4 +10,4 @@ is_bad_file number = (nat_le 3 number && nat_le number 7) || (number == 63 || nu
 abbrev pub status_of : Ending → ℕ
 status_of Done = 0
 status_of WordsRefused = 2
-status_of (Faulted number) = if is_bad_file number then 3 else 4
+status_of (Faulted fault) = if is_bad_file (number_of fault) then 3 else 4

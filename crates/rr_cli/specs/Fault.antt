@@ -1,4 +1,5 @@
 use Rattle.std.specs.Prelude.{ℕ, Option, Some, None}
+use Rattle.rr_moderator.specs.declared.fault.Fault.TheVariants as moderator
 use Rattle.rr_cli.specs.declared.fault.Fault.{Fault}
 use Rattle.rr_cli.specs.declared.fault.Fault.TheVariants.{OutOfMemory, Words}
 use Rattle.rr_cli.specs.declared.ending.Ending.{Ending}
@@ -11,4 +12,4 @@ number_of OutOfMemory = Some 70
 
 abbrev pub ending_of : Fault → Ending
 ending_of (Words text) = WordsRefused
-ending_of OutOfMemory = Faulted 70
+ending_of OutOfMemory = Faulted moderator.OutOfMemory

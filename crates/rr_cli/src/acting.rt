@@ -118,7 +118,7 @@ fn ending_of(served: Result<(), Fault>) -> Ending
 {
     match served {
         Ok(()) => Ending::Done,
-        Err(fault) => Ending::Faulted(fault.number()),
+        Err(fault) => Ending::Faulted(fault),
     }
 }
 
@@ -149,7 +149,7 @@ fn acknowledge<O: Output>(line: &[u8], writer: &mut O) -> Ending
 {
     match send(writer, line) {
         Ok(()) => Ending::Done,
-        Err(_) => Ending::Faulted(69),
+        Err(_) => Ending::Faulted(Fault::StreamFailed),
     }
 }
 
@@ -178,7 +178,7 @@ fn write_refusal<O: Output>(fault: Fault, refusal: &[u8], writer: &mut O) -> End
     ensures { IsRefused fault (O.state writer.old) (O.state writer.new) result }
 {
     match send(writer, refusal) {
-        Ok(()) => Ending::Faulted(fault.number()),
-        Err(_) => Ending::Faulted(69),
+        Ok(()) => Ending::Faulted(fault),
+        Err(_) => Ending::Faulted(Fault::StreamFailed),
     }
 }

@@ -2,6 +2,8 @@
 ghost use Rattle.std.specs.Prelude.{◌≡◌};
 ghost use Rattle.rr_cli.specs.Ending.{status_of};
 
+use rr_moderator::Fault;
+
 /// How a run of the program ends.
 #[derive(Clone, Copy, Debug, PartialEq, Eq)]
 pub enum Ending {
@@ -9,8 +11,8 @@ pub enum Ending {
     Done,
     /// The words were refused.
     WordsRefused,
-    /// It ended with the fault of this number.
-    Faulted(u8),
+    /// It ended with this fault.
+    Faulted(Fault),
 }
 
 /// The exit status of a run that ends so: 0 where it did its work, 2 where the words were refused,
@@ -22,7 +24,9 @@ pub fn status(ending: Ending) -> u8
     match ending {
         Ending::Done => 0,
         Ending::WordsRefused => 2,
-        Ending::Faulted(3..=7 | 63 | 64) => 3,
-        Ending::Faulted(_) => 4,
+        Ending::Faulted(fault) => match fault.number() {
+            3..=7 | 63 | 64 => 3,
+            _ => 4,
+        },
     }
 }

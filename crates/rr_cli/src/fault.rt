@@ -36,7 +36,7 @@ impl Fault {
     {
         match self {
             Fault::Words(_) => Ending::WordsRefused,
-            Fault::OutOfMemory => Ending::Faulted(70),
+            Fault::OutOfMemory => Ending::Faulted(rr_moderator::Fault::OutOfMemory),
         }
     }
 }

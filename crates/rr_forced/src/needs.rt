@@ -1,30 +1,21 @@
 //! What a corporation that must own a train needs for it.
 ghost use Rattle.std.specs.Prelude.{◌≡◌, ◌≤◌, ◌<◌, ◌≤ℤ◌, ◌+ℤ◌, neg_ℤ, pos, true, Some, IfOk, IfSome, OnErr};
-ghost use Rattle.std.specs.Bool.{Decides};
-ghost use Rattle.std.specs.List.{list_any};
-ghost use Rattle.rr_roster.specs.Company.{kinds};
 ghost use Rattle.rr_roster.specs.Terms.{price_of};
-ghost use Rattle.rr_books.specs.Book.{Book, train_holder};
+ghost use Rattle.rr_books.specs.Book.{Book};
 ghost use Rattle.rr_books.specs.State.{IsStateOf, train_place_of};
 ghost use Rattle.rr_position.specs.Position.{IsPositionOf};
 ghost use Rattle.rr_operations.specs.Due.{due};
-ghost use Rattle.rr_routes.specs.declared.net.CentreLimit.TheVariants.{AtMost};
-ghost use Rattle.rr_trips.specs.Having.{HasRoute};
-ghost use Rattle.rr_running.specs.Running.{net_now};
-ghost use Rattle.rr_operate.specs.Rows.{OwesTrain, could_buy_first, is_kind_on_sale};
 ghost use Rattle.rr_depot.specs.Effects.{is_first_sold};
 ghost use Rattle.rr_depot.specs.Situation.{situation_in, situation_of};
 ghost use Rattle.rr_forced.specs.Rules.{could_owe};
 ghost use Rattle.rr_forced.specs.Needs.{IsNeed, IsNeedOf, cheapest_need, joint_cash, leader, missing, need_for};
 
-use rr_books::{Books, Corp, Kind, Money, Party, Place, Seat, TrainSource};
-use rr_checker::CentreLimit;
+use rr_books::{Books, Corp, Kind, Money, Party, Seat, TrainSource};
 use rr_desk::Position;
 use rr_kit::Kit;
+use rr_operate::owes_train;
 use rr_roster::Roster;
-use rr_running::net_now;
-use rr_trains::{TrainOnSale, cheapest, is_on_sale, is_sold, trains_held};
-use rr_trips::has_route;
+use rr_trains::{TrainOnSale, cheapest, is_sold};
 use std::alloc::{AllocError, Global};
 
 /// What a corporation that must own a train needs for the cheapest on sale. Amounts are whole dollars.
@@ -88,56 +79,6 @@ pub(crate) fn need_of(
         return Ok(None);
     }
     Ok(cheapest_need(kit.roster(), position.books(), corp))
-}
-
-// Whether the corporation must own a train.
-fn owes_train(alloc: Global, kit: &Kit, position: &Position, corp: Corp) -> Result<bool, AllocError>
-    ensures owes { (book : Book) → IsPositionOf book position.now → IfOk result (λ owes. Decides owes (OwesTrain kit.now book corp)) }
-    ensures memory { (book : Book) → IsPositionOf book position.now → OnErr result (could_buy_first (train_holder book) corp ≡ true) }
-{
-    if !could_buy_first(position, corp) {
-        return Ok(false);
-    }
-    has_route_now(alloc, kit, position, corp)
-}
-
-// Whether the corporation has a route as the board lies.
-fn has_route_now(
-    alloc: Global,
-    kit: &Kit,
-    position: &Position,
-    corp: Corp,
-) -> Result<bool, AllocError>
-    ensures { (book : Book) → IsPositionOf book position.now → IfOk result (λ found. Decides found (HasRoute (net_now kit.now.board kit.now.tiles book corp) (AtMost 2))) }
-{
-    let net = net_now(alloc, kit, position, corp)?;
-    has_route(alloc, &net, &CentreLimit::AtMost(2))
-}
-
-// Whether the corporation has no train, and one is on sale.
-fn could_buy_first(position: &Position, corp: Corp) -> bool
-    ensures { (book : Book) → IsPositionOf book position.now → result ≡ could_buy_first (train_holder book) corp }
-{
-    could_buy_shown(position.books(), corp)
-}
-
-#[tactic(auto, unfolding(rr_operate::specs::Rows::could_buy_first))]
-fn could_buy_shown(books: &Books, corp: Corp) -> bool
-    ensures { result ≡ could_buy_first (train_place_of books.now) corp }
-{
-    trains_held(books, Place::Corp(corp)) == 0 && is_any_on_sale(books)
-}
-
-fn is_any_on_sale(books: &Books) -> bool
-    ensures { result ≡ list_any (is_kind_on_sale (train_place_of books.now)) kinds }
-{
-    Kind::ALL.iter().any(|kind| is_kind_on_sale(books, *kind))
-}
-
-fn is_kind_on_sale(books: &Books, kind: Kind) -> bool
-    ensures { result ≡ is_kind_on_sale (train_place_of books.now) kind }
-{
-    is_on_sale(books, kind, TrainSource::Bank) || is_on_sale(books, kind, TrainSource::Pool)
 }
 
 /// What the corporation needs for the cheapest train on sale.

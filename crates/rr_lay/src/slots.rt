@@ -26,7 +26,7 @@ pub(crate) fn placed_by(stations: &[Station], corp: Corp) -> usize
 fn is_token_of(corp: Corp, station: &Station) -> bool
     ensures { result ≡ is_token_of corp station.now }
 {
-    station.corp.index() == corp.index()
+    station.corp == corp
 }
 
 fn has_placed(stations: &[Station], corp: Corp) -> bool

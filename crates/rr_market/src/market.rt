@@ -204,18 +204,18 @@ impl Market {
         Some(cell)
     }
 
-    /// Reads the marks among the next entries of the book, such as those of a command.
-    pub fn follow(&mut self, entries: &[Entry])
+    /// Follows the next entries of the book, such as those of a command.
+    pub fn follow_all(&mut self, entries: &[Entry])
         ensures value { self.new ≡ fold after self.old entries.now }
         ensures book { (book : Book) → IsMarketOf book self.old → IsMarketOf (book ++ entries.now) self.new }
     {
         for entry in entries {
-            self.read(entry);
+            self.follow(entry);
         }
     }
 
-    /// Reads the next entry of the book, of which a mark alone moves a token.
-    pub fn read(&mut self, entry: &Entry)
+    /// Follows the next entry of the book, of which a mark alone moves a token.
+    pub fn follow(&mut self, entry: &Entry)
         ensures value { self.new ≡ after self.old entry.now }
         ensures book { (book : Book) → IsMarketOf book self.old → IsMarketOf (book ++ entry.now ∷ []) self.new }
     {

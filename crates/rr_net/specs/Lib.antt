@@ -1,6 +1,5 @@
 pub mod Joining
 pub mod Centres
-pub mod Trains
 pub mod Running
 pub mod Telling
 pub mod Reaching

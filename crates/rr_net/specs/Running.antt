@@ -5,9 +5,9 @@ use Rattle.rr_roster.specs.declared.company.Corp.{Corp}
 use Rattle.rr_roster.specs.declared.company.Kind.{Kind}
 use Rattle.rr_network.specs.Network.{Net as Network}
 use Rattle.rr_routes.specs.Net.{Net}
+use Rattle.rr_runs.specs.Sheets.{limit_of_kind}
 use Rattle.rr_net.specs.Joining.{placed_link, sides_in}
 use Rattle.rr_net.specs.Centres.{ends_routes, has_own_token, places, value_in}
-use Rattle.rr_net.specs.Trains.{centre_limit}
 
 -- the net over which the corporation runs these trains in the phase
 abbrev pub net_of : List Hex → Network → Corp → List Kind → Kind → Net
@@ -16,5 +16,5 @@ net_of hexes network corp trains phase = record {
   tokens = places (has_own_token network.stations corp) network.stops;
   terminals = places (ends_routes network.stations corp) network.stops;
   values = map (value_in phase) network.stops;
-  trains = map centre_limit trains;
+  trains = map limit_of_kind trains;
 }

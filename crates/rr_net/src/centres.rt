@@ -58,7 +58,7 @@ fn has_token(stations: &[Station], corp: Corp, at: &CentreAt) -> bool
 fn is_own_at(corp: Corp, at: &CentreAt, station: &Station) -> bool
     ensures { result ≡ token_at corp (N.Centre at.now) station.now }
 {
-    station.corp.index() == corp.index() && stands_at(station, at)
+    station.corp == corp && stands_at(station, at)
 }
 
 fn stands_at(station: &Station, at: &CentreAt) -> bool
@@ -91,7 +91,7 @@ fn is_filled(stations: &[Station], corp: Corp, at: &CentreAt, slots: u8) -> bool
 fn is_other_at(corp: Corp, at: &CentreAt, station: &Station) -> bool
     ensures { result ≡ is_other_at corp (N.Centre at.now) station.now }
 {
-    station.corp.index() != corp.index() && stands_at(station, at)
+    station.corp != corp && stands_at(station, at)
 }
 
 // What each centre is worth in the phase.

@@ -79,7 +79,7 @@ pub(crate) fn has_token(stations: &[Station], corp: Corp, node: &Node) -> bool
 fn token_at(corp: Corp, node: &Node, station: &Station) -> bool
     ensures { result ≡ token_at corp node.now station.now }
 {
-    station.corp.index() == corp.index() && same_node(node, &node_of(station))
+    station.corp == corp && same_node(node, &node_of(station))
 }
 
 /// Where a token stands.
@@ -135,5 +135,5 @@ fn is_filled(stations: &[Station], corp: Corp, node: &Node, slots: u8) -> bool
 fn is_other_at(corp: Corp, node: &Node, station: &Station) -> bool
     ensures { result ≡ is_other_at corp node.now station.now }
 {
-    station.corp.index() != corp.index() && same_node(node, &node_of(station))
+    station.corp != corp && same_node(node, &node_of(station))
 }

@@ -55,7 +55,6 @@ row_same run best kit book (A.BuyShare s c source) one other a b = a ∙ sym b
 row_same run best kit book (A.Sell s c count) one other a b = a ∙ sym b
 row_same run best kit book (A.Swap s source) one other a b = a ∙ sym b
 row_same run best kit book (A.Done s) one other a b = a ∙ sym b
-row_same run best kit book (A.Best c) one other a b = a ∙ sym b
 row_same run best kit book (A.PayOut c) one other a b = a ∙ sym b
 row_same run best kit book (A.Hold c) one other a b = a ∙ sym b
 row_same run best kit book (A.BuyTrain c kind source) one other a b = a ∙ sym b

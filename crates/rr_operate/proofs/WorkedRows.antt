@@ -29,7 +29,6 @@ worked_order = record {
   within = refl;
   step = refl;
   turn = refl;
-  unspelled = refl;
   unpaid = refl;
   paid = refl;
 }

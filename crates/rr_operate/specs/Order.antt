@@ -24,7 +24,6 @@ actor (A.Lay c hex tile turn) = Some c
 actor (A.Station c hex centre) = Some c
 actor (A.Run c sheet) = Some c
 actor (A.RunBest c sheet certificate) = Some c
-actor (A.Best c) = Some c
 actor (A.PayOut c) = Some c
 actor (A.Hold c) = Some c
 actor (A.BuyTrain c kind source) = Some c

@@ -46,7 +46,6 @@ pub record WorkedOrder : Type 0 where
   pub within : first_verdict kit erie_over (dollars 0) (A.Discard Corp.Prr K.Three) ≡ Some F.WrongStep
   pub step : first_verdict kit set_begun (dollars 0) (A.End Corp.Nyc) ≡ Some F.WrongStep
   pub turn : first_verdict kit set_begun (dollars 0) (A.Hold Corp.Nyc) ≡ Some F.NotYourTurn
-  pub unspelled : first_verdict kit set_begun (dollars 0) (A.Best Corp.Prr) ≡ Some F.WrongStep
   pub unpaid : first_verdict kit has_run (dollars 0) (A.PayOut Corp.Prr) ≡ Some F.WrongStep
   pub paid : first_verdict kit has_run (dollars 30) (A.PayOut Corp.Prr) ≡ None
 

@@ -1,5 +1,5 @@
-//! Whether a corporation may end its turn.
-ghost use Rattle.std.specs.Prelude.{◌≡◌, IfOk, None, MatchResult};
+//! Whether a corporation must own a train, and so may not end its turn.
+ghost use Rattle.std.specs.Prelude.{◌≡◌, true, None, IfOk, OnErr, MatchResult};
 ghost use Rattle.std.specs.Bool.{Decides};
 ghost use Rattle.std.specs.List.{list_any};
 ghost use Rattle.rr_roster.specs.Company.{kinds};
@@ -10,7 +10,7 @@ ghost use Rattle.rr_position.specs.Position.{IsPositionOf};
 ghost use Rattle.rr_routes.specs.declared.net.CentreLimit.TheVariants.{AtMost};
 ghost use Rattle.rr_trips.specs.Having.{HasRoute};
 ghost use Rattle.rr_running.specs.Running.{net_now};
-ghost use Rattle.rr_operate.specs.Rows.{IsVerdictOfRow, MayJudgeRow, could_buy_first, is_kind_on_sale};
+ghost use Rattle.rr_operate.specs.Rows.{IsVerdictOfRow, MayJudgeRow, OwesTrain, could_buy_first, is_kind_on_sale};
 
 use crate::fault::Fault;
 use rr_books::{Books, Corp, Kind, Place, TrainSource};
@@ -22,7 +22,7 @@ use rr_trains::{is_on_sale, trains_held};
 use rr_trips::has_route;
 use std::alloc::{AllocError, Global};
 
-// Whether the corporation may end its turn: it has a train, or none is on sale, or it has no route.
+// Whether the corporation may end its turn: not where it must own a train.
 pub(crate) fn judge_end(
     alloc: Global,
     kit: &Kit,
@@ -33,13 +33,31 @@ pub(crate) fn judge_end(
         (λ _. IsVerdictOfRow kit.now book (A.End corp) None)
         (λ fault. MayJudgeRow kit.now book (A.End corp) fault) }
 {
-    if !could_buy_first(position, corp) {
-        return Ok(());
-    }
-    if has_route_now(alloc, kit, position, corp)? {
+    if owes_train(alloc, kit, position, corp)? {
         return Err(Fault::MustOwnTrain);
     }
     Ok(())
+}
+
+/// Whether the corporation must own a train: it has none, one is on sale at the bank or in the pool, whatever it costs,
+/// and it has a route.
+///
+/// # Errors
+///
+/// Want of memory alone, and only where it has no train and one is on sale.
+pub fn owes_train(
+    alloc: Global,
+    kit: &Kit,
+    position: &Position,
+    corp: Corp,
+) -> Result<bool, AllocError>
+    ensures owes { (book : Book) → IsPositionOf book position.now → IfOk result (λ owes. Decides owes (OwesTrain kit.now book corp)) }
+    ensures memory { (book : Book) → IsPositionOf book position.now → OnErr result (could_buy_first (train_holder book) corp ≡ true) }
+{
+    if !could_buy_first(position, corp) {
+        return Ok(false);
+    }
+    has_route_now(alloc, kit, position, corp)
 }
 
 // Whether the corporation has a route as the board lies.

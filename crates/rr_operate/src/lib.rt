@@ -12,6 +12,7 @@ mod order;
 mod playing;
 mod rows;
 
+pub use ending::owes_train;
 pub use fault::Fault;
 pub use judging::judge;
 pub use order::judge_order;

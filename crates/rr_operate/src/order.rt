@@ -133,7 +133,6 @@ fn actor(act: &Act) -> Option<Corp>
         | Act::Station { corp, .. }
         | Act::Run { corp, .. }
         | Act::RunBest { corp, .. }
-        | Act::Best { corp }
         | Act::PayOut { corp }
         | Act::Hold { corp }
         | Act::BuyTrain { corp, .. }

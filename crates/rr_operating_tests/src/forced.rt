@@ -11,6 +11,7 @@ use rr_forced::laws::{
 };
 use rr_forced::{Fault, TrainOnSale, judge, needed_train, play};
 use rr_kit::Kit;
+use rr_operate::owes_train;
 use std::alloc::Global;
 use std::process::Abort;
 
@@ -94,6 +95,7 @@ fn with(rt: &impl Abort, alloc: Global, table: Position, act: &Act) -> (usize, P
 fn amounts(rt: &impl Abort, alloc: Global, table: &Position) -> Option<[u64; 3]> {
     let kit = need_kit(rt, alloc);
     let need = needed_train(alloc, &kit, table).expect(rt, "memory")?;
+    assert!(rt; owes_train(alloc, &kit, table, need.corp).expect(rt, "memory"));
     let two = TrainOnSale {
         kind: Kind::Two,
         source: TrainSource::Bank,

@@ -26,7 +26,6 @@ takes step (A.Lay c hex tile turn) = is_at step T.Lay
 takes step (A.Station c hex centre) = is_up_to step T.Station
 takes step (A.Run c sheet) = is_up_to step T.Run
 takes step (A.RunBest c sheet certificate) = is_up_to step T.Run
-takes step (A.Best c) = is_up_to step T.Run
 takes step (A.PayOut c) = is_at step T.Pay
 takes step (A.Hold c) = is_up_to step T.Pay
 takes step (A.BuyTrain c kind source) = is_at step T.Train

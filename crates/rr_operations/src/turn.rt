@@ -39,9 +39,7 @@ impl TurnStep {
         match act {
             Act::Lay { .. } => self.is_at(TurnStep::Lay),
             Act::Station { .. } => self.is_up_to(TurnStep::Station),
-            Act::Run { .. } | Act::RunBest { .. } | Act::Best { .. } => {
-                self.is_up_to(TurnStep::Run)
-            }
+            Act::Run { .. } | Act::RunBest { .. } => self.is_up_to(TurnStep::Run),
             Act::PayOut { .. } => self.is_at(TurnStep::Pay),
             Act::Hold { .. } => self.is_up_to(TurnStep::Pay),
             Act::BuyTrain { .. } | Act::BuyTrainFrom { .. } | Act::Trade { .. } => {

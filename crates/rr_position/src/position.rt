@@ -132,8 +132,8 @@ impl Position {
         self.operations
             .follow(entry, &self.books, &self.market, &self.rounds);
         self.books.follow(entry);
-        self.market.read(entry);
-        self.rounds.read(entry);
+        self.market.follow(entry);
+        self.rounds.follow(entry);
         self.layout.follow(entry);
         self.entries += 1;
         Ok(())

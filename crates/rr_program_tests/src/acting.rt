@@ -108,7 +108,8 @@ fn refused(alloc: Global, fault: Fault) -> (Ending, Vec<u8>) {
 
 fn is_told(alloc: Global) -> bool {
     let (ending, told) = refused(alloc, Fault::StreamFailed);
-    ending == Ending::Faulted(69) && told.as_slice() == b"no 69 stream failed\n".as_slice()
+    ending == Ending::Faulted(Fault::StreamFailed)
+        && told.as_slice() == b"no 69 stream failed\n".as_slice()
 }
 
 /// The first of the endings that has another status.
@@ -127,13 +128,13 @@ fn refusals_and_statuses(rt: HostRuntime) {
     let endings = [
         (Ending::Done, 0),
         (Ending::WordsRefused, 2),
-        (Ending::Faulted(3), 3),
-        (Ending::Faulted(7), 3),
-        (Ending::Faulted(63), 3),
-        (Ending::Faulted(64), 3),
-        (Ending::Faulted(60), 4),
-        (Ending::Faulted(69), 4),
-        (Ending::Faulted(70), 4),
+        (Ending::Faulted(Fault::Kit(rr_kit::Fault::BadRoster)), 3),
+        (Ending::Faulted(Fault::Damaged(4)), 3),
+        (Ending::Faulted(Fault::NotAStore), 3),
+        (Ending::Faulted(Fault::NotEmpty), 3),
+        (Ending::Faulted(Fault::DeviceFailed), 4),
+        (Ending::Faulted(Fault::StreamFailed), 4),
+        (Ending::Faulted(Fault::OutOfMemory), 4),
     ];
     assert!(rt; first_other_status(&endings).is_none());
 }

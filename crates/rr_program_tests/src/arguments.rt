@@ -71,7 +71,7 @@ fn is_want_of_memory_told(alloc: Global) -> Result<bool, Fail> {
     Ok(
         words.as_str() == "out of memory"
             && fault.number() == Some(70)
-            && fault.ending() == Ending::Faulted(70),
+            && fault.ending() == Ending::Faulted(rr_moderator::Fault::OutOfMemory),
     )
 }
 

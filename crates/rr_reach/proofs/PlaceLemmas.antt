@@ -1,11 +1,11 @@
 -- The places of the items that pass a test, and of those with a mark.
-use Rattle.std.proofs.Common.{◌≡◌, ℕ, ◌+◌, ◌<◌, Bool, true, false, List, [], ◌∷◌, ◌++◌, length, get_or, refl, sym, ◌∙◌, ap, subst, inl, inr, arith}
+use Rattle.std.proofs.Common.{◌≡◌, ℕ, zero, suc, ◌+◌, ◌<◌, Bool, true, false, List, [], ◌∷◌, ◌++◌, length, get_or, take, refl, sym, ◌∙◌, ap, subst, inl, inr, arith}
 use Rattle.std.specs.List.{Contains}
-use Rattle.std.proofs.lemmas.List.{get_or_default, get_or_append_left, get_or_push, length_push}
+use Rattle.std.proofs.lemmas.List.{get_or_default, get_or_append_left, get_or_past, get_or_push, length_push}
 use Rattle.std.proofs.lemmas.List.Elements.{Contains-push, Contains-push_cases, Contains-append_left}
 use Rattle.std.proofs.lemmas.Bool.{cases_eq, false≢true}
 use Rattle.rr_reach.specs.Reach.{followers, IsMarked}
-use Rattle.rr_reach.specs.Places.{ArePlaces, AreMarkedItems, HasMark, IsGraphOf}
+use Rattle.rr_reach.specs.Places.{ArePlaces, AreMarkedItems, HasMark, IsGraphOf, marked_of}
 
 pub none_here : {X : Type 0} (x : X) → Contains [] x → ⊥
 none_here x c = omega (arith, c.1)
@@ -109,3 +109,38 @@ places_done test items n places w e = subst (λ (m : ℕ). ArePlaces test items 
 
 pub marked_done : {X : Type 0} (items : List X) (marks : List Bool) (n : ℕ) (marked : List X) → AreMarkedItems items marks n marked → n ≡ length items → AreMarkedItems items marks (length items) marked
 marked_done items marks n marked w e = subst (λ (m : ℕ). AreMarkedItems items marks m marked) e w
+
+-- likewise the list of the marked ones
+pub exact_first : {X : Type 0} (marks : List Bool) → [] ≡ marked_of {X = X} [] marks
+unfolding marked_of
+exact_first marks = refl
+
+taken_yes : {X : Type 0} (items : List X) (marks : List Bool) (n : ℕ) (item : X) → n < length items → item ≡ get_or items n item → IsMarked marks n → marked_of (take (suc n) items) marks ≡ marked_of (take n items) marks ++ item ∷ []
+unfolding marked_of
+taken_yes [] marks n item h e is = absurd (omega (arith, h))
+taken_yes (x ∷ xs) [] n item h e is = absurd (false≢true (sym (get_or_past [] n false (omega arith)) ∙ is))
+taken_yes (x ∷ xs) (true ∷ marks) zero item h e is = ap (λ y. y ∷ []) (sym e)
+taken_yes (x ∷ xs) (false ∷ marks) zero item h e is = absurd (false≢true is)
+taken_yes (x ∷ xs) (true ∷ marks) (suc n) item h e is = ap (λ ys. x ∷ ys) (taken_yes xs marks n item (omega (arith, h)) e is)
+taken_yes (x ∷ xs) (false ∷ marks) (suc n) item h e is = taken_yes xs marks n item (omega (arith, h)) e is
+
+taken_no : {X : Type 0} (items : List X) (marks : List Bool) (n : ℕ) → get_or marks n false ≡ false → marked_of (take (suc n) items) marks ≡ marked_of (take n items) marks
+unfolding marked_of
+taken_no [] marks zero is = refl
+taken_no [] marks (suc n) is = refl
+taken_no (x ∷ xs) [] zero is = refl
+taken_no (x ∷ xs) [] (suc n) is = refl
+taken_no (x ∷ xs) (true ∷ marks) zero is = absurd (false≢true (sym is))
+taken_no (x ∷ xs) (false ∷ marks) zero is = refl
+taken_no (x ∷ xs) (true ∷ marks) (suc n) is = ap (λ ys. x ∷ ys) (taken_no xs marks n is)
+taken_no (x ∷ xs) (false ∷ marks) (suc n) is = taken_no xs marks n is
+
+pub exact_next_yes : {X : Type 0} (items : List X) (marks : List Bool) (n : ℕ) (marked new : List X) (item : X) → marked ≡ marked_of (take n items) marks → n < length items → item ≡ get_or items n item → IsMarked marks n → new ≡ marked ++ item ∷ [] → new ≡ marked_of (take (n + 1) items) marks
+exact_next_yes items marks n marked new item was h e is pushed =
+    let next : suc n ≡ n + 1 = omega arith in
+    pushed ∙ ap (λ ys. ys ++ item ∷ []) was ∙ sym (taken_yes items marks n item h e is) ∙ ap (λ m. marked_of (take m items) marks) next
+
+pub exact_next_no : {X : Type 0} (items : List X) (marks : List Bool) (n : ℕ) (marked : List X) → marked ≡ marked_of (take n items) marks → get_or marks n false ≡ false → marked ≡ marked_of (take (n + 1) items) marks
+exact_next_no items marks n marked was is =
+    let next : suc n ≡ n + 1 = omega arith in
+    was ∙ sym (taken_no items marks n is) ∙ ap (λ m. marked_of (take m items) marks) next

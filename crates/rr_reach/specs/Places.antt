@@ -1,5 +1,5 @@
 -- Items of a list by their places: those that pass a test, those with a mark, and the graph in which some may follow others.
-use Rattle.std.specs.Prelude.{◌≡◌, ℕ, ◌<◌, ◌↔◌, Bool, true, List, Contains, length, slice_index_or}
+use Rattle.std.specs.Prelude.{◌≡◌, ℕ, ◌<◌, ◌↔◌, Bool, true, false, List, [], ◌∷◌, Contains, length, slice_index_or}
 use Rattle.rr_reach.specs.Reach.{followers, IsMarked}
 
 -- these are the places, among the first n, of the items that pass the test
@@ -22,3 +22,10 @@ pub record HasMark {X : Type 0} (items : List X) (marks : List Bool) (n : ℕ) (
 -- these are the marked ones of the first n items
 abbrev pub AreMarkedItems : {X : Type 0} → List X → List Bool → ℕ → List X → Type 0
 AreMarkedItems {X} items marks n marked = (item : X) → Contains marked item ↔ HasMark items marks n item
+
+-- the items that have a mark, in their order; an item past the marks' end has none
+unfoldable pub marked_of : {X : Type 0} → List X → List Bool → List X
+marked_of [] marks = []
+marked_of (item ∷ items) [] = []
+marked_of (item ∷ items) (true ∷ marks) = item ∷ marked_of items marks
+marked_of (item ∷ items) (false ∷ marks) = marked_of items marks

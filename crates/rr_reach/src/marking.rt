@@ -1,5 +1,5 @@
 ghost use Rattle.std.specs.Prelude.{◌≡◌, IfOk, false, length, slice_index_or};
-ghost use Rattle.rr_reach.specs.Places.{AreMarkedItems};
+ghost use Rattle.rr_reach.specs.Places.{AreMarkedItems, marked_of};
 
 use std::alloc::{AllocError, Global};
 
@@ -10,7 +10,8 @@ pub fn marked_items<T: Copy>(
     items: &[T],
     marks: &[bool],
 ) -> Result<Vec<T>, AllocError>
-    ensures { IfOk result (λ marked. AreMarkedItems items.now marks.now (length items.now) marked.items) }
+    ensures exact { IfOk result (λ marked. marked.items ≡ marked_of items.now marks.now) }
+    ensures members { IfOk result (λ marked. AreMarkedItems items.now marks.now (length items.now) marked.items) }
 {
     let mut marked = Vec::new(alloc);
     for (place, item) in items.iter().enumerate() {

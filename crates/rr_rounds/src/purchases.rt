@@ -53,7 +53,7 @@ impl Purchases {
 fn pool_of_both(before: Corp, corp: Corp) -> Purchases
     ensures { result ≡ with_pool_purchase corp (Purchases.PoolOf before) }
 {
-    if corp.index() == before.index() {
+    if corp == before {
         return Purchases::PoolOf(before);
     }
     Purchases::Other
@@ -63,7 +63,7 @@ fn pool_of_both(before: Corp, corp: Corp) -> Purchases
 fn allows_again(before: Corp, corp: Corp, source: ShareSource, in_brown: bool) -> bool
     ensures { result ≡ allows_purchase in_brown source corp (Purchases.PoolOf before) }
 {
-    in_brown && is_pool(source) && corp.index() == before.index()
+    in_brown && is_pool(source) && corp == before
 }
 
 fn is_pool(source: ShareSource) -> bool

@@ -82,8 +82,8 @@ impl Rounds {
         }
     }
 
-    /// Reads the next entry of the book.
-    pub fn read(&mut self, entry: &Entry)
+    /// Follows the next entry of the book.
+    pub fn follow(&mut self, entry: &Entry)
         requires turns { self.old.turns + 1 < 2 ^ 64 }
         requires begun { self.old.begun + 1 < 2 ^ 64 }
         ensures value { self.new ≡ after self.old entry.now }
@@ -94,8 +94,8 @@ impl Rounds {
         *self = self.after(entry);
     }
 
-    /// Reads the next entries of the book, such as those of a command.
-    pub fn follow(&mut self, entries: &[Entry])
+    /// Follows the next entries of the book, such as those of a command.
+    pub fn follow_all(&mut self, entries: &[Entry])
         requires turns { self.old.turns ≤ 4000000000 }
         requires begun { self.old.begun ≤ 4000000000 }
         ensures value { self.new ≡ fold after self.old entries.now }
@@ -104,7 +104,7 @@ impl Rounds {
         ensures begun { self.new.begun ≡ self.old.begun + count_by begins_stock_round entries.now }
     {
         for entry in entries {
-            self.read(entry);
+            self.follow(entry);
         }
     }
 

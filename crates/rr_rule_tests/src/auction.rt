@@ -126,7 +126,7 @@ fn end_with_the_par(entries: &[Entry]) -> bool {
 /// The price of the corporation by the marks among these entries.
 fn price_after(entries: &[Entry], chart: &Chart, corp: Corp) -> Option<u16> {
     let mut market = Market::new();
-    market.follow(entries);
+    market.follow_all(entries);
     market.price(chart, corp)
 }
 

@@ -2,7 +2,8 @@
 ghost use Rattle.rr_search.specs.Found.{IsModest};
 
 use crate::small::{links, net_of, row, small_net};
-use rr_runs::{CentreLimit, Clause, Fault, Net, Sheet, check, laws, legal};
+use rr_roster::Kind;
+use rr_runs::{CentreLimit, Clause, Fault, Net, Sheet, check, laws, legal, limit_of_kind};
 use rr_sheets::read_certificate;
 use std::alloc::Global;
 use std::process::Abort;
@@ -17,6 +18,20 @@ fn judged(rt: &impl Abort, alloc: Global, net: &Net, sheet: &str) -> Result<usiz
 
 fn broken(clause: Clause) -> Result<usize, Fault> {
     Err(Fault::IllegalSheet(clause))
+}
+
+#[test]
+fn a_train_counts_the_number_of_its_kind(rt: HostRuntime) {
+    for (kind, wanted) in [
+        (Kind::Two, CentreLimit::AtMost(2)),
+        (Kind::Three, CentreLimit::AtMost(3)),
+        (Kind::Four, CentreLimit::AtMost(4)),
+        (Kind::Five, CentreLimit::AtMost(5)),
+        (Kind::Six, CentreLimit::AtMost(6)),
+        (Kind::Diesel, CentreLimit::Unlimited),
+    ] {
+        assert!(rt; limit_of_kind(kind) == wanted);
+    }
 }
 
 #[test]

@@ -10,11 +10,13 @@ mod course;
 mod fault;
 mod judge;
 pub mod laws;
+mod limit;
 mod revenue;
 mod word;
 
 pub use clause::Clause;
 pub use fault::Fault;
 pub use judge::legal;
+pub use limit::limit_of_kind;
 pub use rr_checker::{CentreLimit, CertTree, Fate, Link, Net, Node, check};
 pub use rr_sheets::{LinkNumbers, Sheet, TrainWord};

@@ -5,6 +5,7 @@ ghost use Rattle.std.specs.List.{list_any};
 ghost use Rattle.rr_runs.specs.Sheets.{IsItsWord, limit_of_kind, links_of};
 ghost use Rattle.rr_runs.specs.Tests.{is_no_link};
 
+use crate::limit::limit_of_kind;
 use rr_checker::{CentreLimit, Net};
 use rr_roster::Kind;
 use rr_sheets::TrainWord;
@@ -24,19 +25,6 @@ fn is_of_kind(limit: &CentreLimit, kind: Kind) -> bool
     ensures { Decides result (limit_of_kind kind ≡ limit.now) }
 {
     limit_of_kind(kind) == *limit
-}
-
-fn limit_of_kind(kind: Kind) -> CentreLimit
-    ensures { result ≡ limit_of_kind kind }
-{
-    match kind {
-        Kind::Two => CentreLimit::AtMost(2),
-        Kind::Three => CentreLimit::AtMost(3),
-        Kind::Four => CentreLimit::AtMost(4),
-        Kind::Five => CentreLimit::AtMost(5),
-        Kind::Six => CentreLimit::AtMost(6),
-        Kind::Diesel => CentreLimit::Unlimited,
-    }
 }
 
 fn names_links(net: &Net, numbers: &[u64]) -> bool

@@ -68,17 +68,12 @@ fn has_token(position: &Position, corp: Corp) -> bool
 fn is_among(stations: &[Station], corp: Corp) -> bool
     ensures { result ≡ has_token stations.now corp }
 {
-    stations
-        .iter()
-        .any(|station| station.corp.index() == corp.index())
+    stations.iter().any(|station| station.corp == corp)
 }
 
 // The city at which the corporation begins.
 fn home_of(homes: &[Home], corp: Corp) -> Option<Home>
     ensures { result ≡ find (is_home_of corp) homes.now }
 {
-    homes
-        .iter()
-        .copied()
-        .find(|home| home.corp.index() == corp.index())
+    homes.iter().copied().find(|home| home.corp == corp)
 }

@@ -267,7 +267,7 @@ fn follows_the_marks_of_a_book(rt: HostRuntime) {
             cell: at(2, 7),
         },
     ];
-    market.follow(&entries);
+    market.follow_all(&entries);
     check(
         &rt,
         "standing",
@@ -305,9 +305,9 @@ fn a_token_that_stays_has_no_next_cell(rt: HostRuntime) {
 fn one_entry_is_read_at_a_time(rt: HostRuntime) {
     let chart = shipped(&rt);
     let mut market = Market::new();
-    market.read(&Entry::Step(Marker::Stock));
+    market.follow(&Entry::Step(Marker::Stock));
     check(&rt, "cell", market.cell(PRR), None);
-    market.read(&Entry::Mark {
+    market.follow(&Entry::Mark {
         corp: PRR,
         cell: at(2, 6),
     });

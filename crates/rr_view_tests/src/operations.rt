@@ -110,7 +110,7 @@ fn opened(rt: &(impl Abort + AllocGlobal)) -> Table {
 
 fn floated() -> Rounds {
     let mut rounds = Rounds::open(2);
-    rounds.follow(&[
+    rounds.follow_all(&[
         Entry::Step(Marker::Float(PRR)),
         Entry::Step(Marker::Float(NYC)),
     ]);
@@ -130,15 +130,15 @@ fn after_one(rt: &(impl Abort + AllocGlobal), table: Table, event: Event) -> Tab
     let entry = entry(rt, event);
     Table {
         books: table.books,
-        market: read(table.market, &entry),
+        market: market_after(table.market, &entry),
         rounds: table.rounds,
         operations: follow(rt, &table, &entry),
     }
 }
 
-fn read(market: Market, entry: &Entry) -> Market {
+fn market_after(market: Market, entry: &Entry) -> Market {
     let mut next = market;
-    next.read(entry);
+    next.follow(entry);
     next
 }
 

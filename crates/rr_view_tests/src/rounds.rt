@@ -85,7 +85,7 @@ fn after(rt: &(impl Abort + AllocGlobal), events: &[Event]) -> Rounds {
 
 fn followed(entries: &[Entry]) -> Rounds {
     let mut rounds = Rounds::open(3);
-    rounds.follow(entries);
+    rounds.follow_all(entries);
     rounds
 }
 
@@ -242,12 +242,12 @@ fn a_float_is_remembered(rt: HostRuntime) {
 /// A table before its first entry, after a payment to `B` that opens it and a private for `B`.
 fn opened_by_payment() -> Rounds {
     let mut rounds = Rounds::new();
-    rounds.read(&Entry::Pay {
+    rounds.follow(&Entry::Pay {
         from: Party::Bank,
         to: Party::Seat(B),
         amount: Money(1200),
     });
-    rounds.read(&entry(Event::Private(B)));
+    rounds.follow(&entry(Event::Private(B)));
     rounds
 }
 

@@ -1,4 +1,3 @@
 pub mod Exact
 pub mod ReadBack
 pub mod Drafts
-pub mod KeptBytes

@@ -1,6 +1,5 @@
 -- What a store's file holds, by the words of its commands.
-use Rattle.std.specs.Prelude.{ℕ, List, [], ◌∷◌, map, All}
-use Rattle.std.specs.Global.{Vec}
+use Rattle.std.specs.Prelude.{ℕ, List, [], ◌∷◌, All}
 use Rattle.std.specs.List.{flat_map}
 use Rattle.rr_dir.specs.Kept.{IsShort, spelled_command}
 use Rattle.rr_turns.specs.Kept.{Kept}
@@ -21,10 +20,6 @@ pub record World : Type 0 where
 -- what a table's chain holds: its commands, each with the length of its words
 abbrev pub text_for : Table → List ℕ
 text_for table = flat_map spelled_command table.kept.commands
-
--- the words of these commands
-abbrev pub words_of : List (Vec ℕ) → List (List ℕ)
-words_of commands = map (λ (command : Vec ℕ). command.items) commands
 
 -- each command of each table is short enough for that
 abbrev pub AreShort : List Table → Type 0

@@ -8,7 +8,5 @@
 
 pub mod laws;
 mod worlds;
-mod writing;
 
 pub use worlds::{Rules, Worlds};
-pub use writing::kept_bytes;

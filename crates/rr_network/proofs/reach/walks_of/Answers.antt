@@ -14,5 +14,5 @@ returns c =
       first = rw c.deref-2.ensures.value at c.in_ok-starts.ensures;
     } in
     let found = rw (c.deref-3.ensures.value, c.deref-4.ensures.value) at c.in_ok-marks.ensures.reached in
-    let kept = rw (c.deref-5.ensures.value, c.deref-6.ensures.value) at c.in_ok-ends.ensures in
+    let kept = rw (c.deref-5.ensures.value, c.deref-6.ensures.value) at c.in_ok-ends.ensures.members in
     marked-EndsWalk net c.args.corp steps c.in_ok-graph.graph.items c.in_ok-starts.starts.items c.in_ok-marks.marks.items c.in_ok-ends.ends.items searched found kept

@@ -6,7 +6,7 @@ use Rattle.rr_books.specs.declared.entries.Entry.TheVariants as E
 use Rattle.rr_market.specs.MarkLaws.{is_mark}
 use Rattle.rr_market.specs.State.{IsMarketOf, State, after}
 use Rattle.rr_market.specs.StateLaws.{marked, stays}
-use Rattle.rr_market.proofs.market.Market.read.Goals as goal
+use Rattle.rr_market.proofs.market.Market.follow.Goals as goal
 
 -- what is no mark of any token is no mark
 no_mark : (e : Entry) → ((corp : Corp) (cell : Cell) → e ≡ E.Mark corp cell → ⊥) → is_mark e ≡ false

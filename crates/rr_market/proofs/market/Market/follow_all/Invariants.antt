@@ -2,7 +2,7 @@ use Rattle.std.proofs.Common.{◌≡◌, ◌++◌, take}
 use Rattle.std.specs.Prelude.{fold}
 use Rattle.rr_books.specs.Book.{Book}
 use Rattle.rr_market.specs.State.{IsMarketOf, after}
-use Rattle.rr_market.proofs.market.Market.follow.Given as goal
+use Rattle.rr_market.proofs.market.Market.follow_all.Given as goal
 
 abbrev pub invariant-loop-entry : goal.invariant-loop-entry
 invariant-loop-entry l = record {
