@@ -1,10 +1,10 @@
 use crate::opening::{self, check};
 use rr_books::laws::money_is_kept;
 use rr_books::{
-    Act, Books, Cert, Corp, Entry, Fault, Kind, Marker, Money, Names, Party, Place, Private, Seat,
-    ShareNumber, Train, Words, certificate_limit, starting_money,
+    Books, Cert, Corp, Fault, Kind, Money, Names, Party, Place, Private, Seat, ShareNumber, Train,
+    Words, certificate_limit, starting_money,
 };
-use rr_words::{HexName, Name};
+use rr_words::Name;
 use std::process::Abort;
 
 const A: Party = Party::Seat(Seat(0));
@@ -58,10 +58,6 @@ fn holder(books: &Books, cert: Cert) -> Place {
 
 fn train_holder(books: &Books, train: Train) -> Option<Place> {
     books.train_holder(train)
-}
-
-fn copied(rt: &impl Abort, entry: &Entry) -> Entry {
-    entry.copy().expect(rt, "memory")
 }
 
 #[test]
@@ -210,69 +206,16 @@ fn names(rt: &(impl Abort + AllocGlobal)) -> Names {
     names
 }
 
-/// How many names a copy of `open` has.
-fn count_of_copy(rt: &impl Abort, open: &Act) -> usize {
-    match &open.copy().expect(rt, "memory") {
-        Act::Open { names } => names.as_slice().len(),
-        _ => 0,
-    }
+#[test]
+fn words_are_copied(rt: HostRuntime) {
+    let sheet = Words::of(rt.alloc(), b"2 1>2").expect(&rt, "memory");
+    let copy = sheet.copy().expect(&rt, "memory");
+    check(&rt, "bytes of the copy", copy.as_bytes(), sheet.as_bytes());
 }
 
 #[test]
-fn commands_are_copied(rt: HostRuntime) {
-    let open = Act::Open { names: names(&rt) };
-    check(&rt, "names", count_of_copy(&rt, &open), 2);
-}
-
-#[test]
-fn markers_are_copied(rt: HostRuntime) {
-    let copy = names(&rt).copy().expect(&rt, "memory");
-    let marker = Marker::Auction(copy).copy().expect(&rt, "memory");
-    assert!(rt; matches!(marker, Marker::Auction(_)));
-}
-
-/// A run whose certificate is a copy of its sheet.
-fn run(rt: &(impl Abort + AllocGlobal)) -> Entry {
-    let sheet = Words::of(rt.alloc(), b"2 1>2").expect(rt, "memory");
-    let certificate = sheet.copy().expect(rt, "memory");
-    Entry::Best {
-        corp: Corp::Co,
-        sheet,
-        certificate,
-    }
-}
-
-fn has_certificate(entry: &Entry, bytes: &[u8]) -> bool {
-    match entry {
-        Entry::Best { certificate, .. } => certificate.as_bytes() == bytes,
-        _ => false,
-    }
-}
-
-#[test]
-fn certificates_are_copied(rt: HostRuntime) {
-    let copy = copied(&rt, &run(&rt));
-    assert!(rt; has_certificate(&copy, b"2 1>2"));
-}
-
-#[test]
-fn tiles_are_copied(rt: HostRuntime) {
-    let hex = HexName::read(b"D10").expect(&rt, "a hex");
-    let laid = Entry::Lay {
-        hex,
-        tile: 57,
-        turn: 3,
-    };
-    assert!(rt;
-        matches!(
-            copied(&rt, &laid),
-            Entry::Lay {
-                tile: 57,
-                turn: 3,
-                ..
-            }
-        )
-    );
+fn names_are_seated_in_turn(rt: HostRuntime) {
+    check(&rt, "names", names(&rt).as_slice().len(), 2);
 }
 
 #[test]

@@ -12,7 +12,7 @@ ghost use Rattle.rr_forced.specs.declared.fault.Fault.TheVariants.{OutOfMemory};
 use crate::bankruptcy::judge_bankrupt_for;
 use crate::fault::Fault;
 use crate::needs::{Need, due, need_of, needed_train};
-use crate::raising::{can_raise, judge_raise_for};
+use crate::raising::{Raise, can_raise, judge_raise_for};
 use rr_books::{Act, Corp, Seat};
 use rr_depot::is_over_limit_somewhere;
 use rr_desk::Position;
@@ -78,7 +78,12 @@ fn judge_row(alloc: Global, kit: &Kit, position: &Position, act: &Act) -> Result
     match act {
         Act::Force { corp } => judge_force(alloc, kit, position, *corp),
         Act::Raise { seat, corp, count } => {
-            judge_raise(alloc, kit, position, *seat, *corp, *count)
+            let raise = Raise {
+                seat: *seat,
+                corp: *corp,
+                count: *count,
+            };
+            judge_raise(alloc, kit, position, raise)
         }
         Act::Bankrupt { seat } => judge_bankrupt(alloc, kit, position, *seat),
         _ => Err(Fault::WrongStep),
@@ -118,21 +123,14 @@ fn judge_need(due: Option<Corp>, need: Option<Need>) -> Result<(), Fault>
 }
 
 // Judges a sale of shares by what the corporation due needs.
-fn judge_raise(
-    alloc: Global,
-    kit: &Kit,
-    position: &Position,
-    seat: Seat,
-    corp: Corp,
-    count: u64,
-) -> Result<(), Fault>
+fn judge_raise(alloc: Global, kit: &Kit, position: &Position, raise: Raise) -> Result<(), Fault>
     ensures verdict { (book : Book) → IsPositionOf book position.now → MatchResult result
-        (λ _. IsRaiseVerdict kit.now book seat corp count None)
-        (λ fault. IsRaiseVerdict kit.now book seat corp count (Some fault) ⊎ ((could_owe book (due kit.now.chart book) ≡ true) × (fault ≡ OutOfMemory))) }
-    ensures small { OnOk result ((seat.0 < 6) × (count ≤ 10)) }
+        (λ _. IsRaiseVerdict kit.now book raise.seat raise.corp raise.count None)
+        (λ fault. IsRaiseVerdict kit.now book raise.seat raise.corp raise.count (Some fault) ⊎ ((could_owe book (due kit.now.chart book) ≡ true) × (fault ≡ OutOfMemory))) }
+    ensures small { OnOk result ((raise.seat.0 < 6) × (raise.count ≤ 10)) }
 {
     let need = needed_train(alloc, kit, position)?;
-    judge_raise_for(kit.chart(), position, need, seat, corp, count)?;
+    judge_raise_for(kit.chart(), position, need, raise)?;
     Ok(())
 }
 

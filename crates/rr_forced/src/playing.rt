@@ -17,7 +17,7 @@ use rr_chart::Chart;
 use rr_desk::Desk;
 use rr_roster::Roster;
 use rr_shares::sell_shares;
-use rr_stock::{pay_seller, proceeds};
+use rr_stock::{Sale, pay_seller, proceeds};
 use rr_trains::{first_train, give_lowest_train};
 
 /// Adds to the desk what a command of a corporation brings about that must own a train and can't pay it. Any other
@@ -60,9 +60,15 @@ fn play_raise(
 {
     let shares = count as u8;
     let amount = proceeds(desk.position(), chart, corp, shares);
+    let sale = Sale {
+        seat,
+        corp,
+        count: shares,
+        amount,
+    };
     desk.push(Entry::Step(Marker::Act(Act::Raise { seat, corp, count })))?;
     sell_shares(desk, corp, seat, shares)?;
-    pay_seller(desk, chart, seat, corp, shares, amount)?;
+    pay_seller(desk, chart, sale)?;
     Ok(())
 }
 

@@ -14,50 +14,50 @@ use rr_desk::Position;
 use rr_holdings::judge_sale;
 use rr_shares::handover_after_sale;
 
+// What a president would sell for the train that is needed: so many 10% shares of a corporation.
+#[derive(Clone, Copy)]
+pub(crate) struct Raise {
+    pub(crate) seat: Seat,
+    pub(crate) corp: Corp,
+    pub(crate) count: u64,
+}
+
 // Whether the seat may sell so many shares for the train that is needed.
 pub(crate) fn judge_raise_for(
     chart: &Chart,
     position: &Position,
     need: Option<Need>,
-    seat: Seat,
-    corp: Corp,
-    count: u64,
+    raise: Raise,
 ) -> Result<(), Fault>
     requires { IfSome need (λ need. IfSome need.president (λ seat. seat.0 < 6)) }
     ensures shown { MatchResult result
-        (λ _. raise_verdict (holdings_in chart.now position.now) need seat corp count ≡ None)
-        (λ fault. raise_verdict (holdings_in chart.now position.now) need seat corp count ≡ Some fault) }
-    ensures seated { OnOk result (seat.0 < 6) }
-    ensures small { OnOk result (count ≤ 10) }
+        (λ _. raise_verdict (holdings_in chart.now position.now) need raise.seat raise.corp raise.count ≡ None)
+        (λ fault. raise_verdict (holdings_in chart.now position.now) need raise.seat raise.corp raise.count ≡ Some fault) }
+    ensures seated { OnOk result (raise.seat.0 < 6) }
+    ensures small { OnOk result (raise.count ≤ 10) }
 {
     let Some(need) = need else {
         return Err(Fault::NotYourTurn);
     };
-    if !is_seat(need.president, seat) {
+    if !is_seat(need.president, raise.seat) {
         return Err(Fault::NotYourTurn);
     }
     if need.shortfall == 0 {
         return Err(Fault::SaleNotNeeded);
     }
-    judge_shares(chart, position, need.corp, seat, corp, count)?;
+    judge_shares(chart, position, need.corp, raise)?;
     Ok(())
 }
 
 // Whether the seat may sell so many shares where a corporation is due, whatever money there is.
 #[tactic(auto, unfolding(crate::specs::Sales::share_verdict))]
-fn judge_shares(
-    chart: &Chart,
-    position: &Position,
-    due: Corp,
-    seat: Seat,
-    corp: Corp,
-    count: u64,
-) -> Result<(), Fault>
+fn judge_shares(chart: &Chart, position: &Position, due: Corp, raise: Raise) -> Result<(), Fault>
     ensures verdict { MatchResult result
-        (λ _. share_verdict (holdings_in chart.now position.now) due seat corp count ≡ None)
-        (λ fault. share_verdict (holdings_in chart.now position.now) due seat corp count ≡ Some fault) }
-    ensures small { OnOk result (count ≤ 10) }
+        (λ _. share_verdict (holdings_in chart.now position.now) due raise.seat raise.corp raise.count ≡ None)
+        (λ fault. share_verdict (holdings_in chart.now position.now) due raise.seat raise.corp raise.count ≡ Some fault) }
+    ensures small { OnOk result (raise.count ≤ 10) }
 {
+    let Raise { seat, corp, count } = raise;
     judge_count(chart, position, seat, corp, count)?;
     judge_president(position.books(), due, seat, corp, count as u8)?;
     Ok(())
@@ -131,5 +131,10 @@ fn raises_one(
     requires { IfSome need (λ need. IfSome need.president (λ seat. seat.0 < 6)) }
     ensures { result ≡ raises_one (holdings_in chart.now position.now) need seat corp }
 {
-    judge_raise_for(chart, position, need, seat, corp, 1).is_ok()
+    let raise = Raise {
+        seat,
+        corp,
+        count: 1,
+    };
+    judge_raise_for(chart, position, need, raise).is_ok()
 }

@@ -5,7 +5,9 @@ ghost use Rattle.rr_stock.specs.Situation.{situation_of};
 
 use crate::ending::end_if;
 use crate::reading::{ends_with_done, has_floated, par, proceeds, share_price};
-use crate::trading::{get_share, give_up_private, pay_seller, settle_corporation, take_presidency};
+use crate::trading::{
+    Sale, get_share, give_up_private, pay_seller, settle_corporation, take_presidency,
+};
 use rr_books::{Act, Corp, Entry, Fault, Marker, Seat, ShareSource};
 use rr_chart::Chart;
 use rr_desk::Desk;
@@ -68,9 +70,15 @@ pub(crate) fn play_sale(
 {
     let shares = count as u8;
     let amount = proceeds(desk.position(), chart, corp, shares);
+    let sale = Sale {
+        seat,
+        corp,
+        count: shares,
+        amount,
+    };
     desk.push(Entry::Step(Marker::Act(Act::Sell { seat, corp, count })))?;
     sell_shares(desk, corp, seat, shares)?;
-    pay_seller(desk, chart, seat, corp, shares, amount)?;
+    pay_seller(desk, chart, sale)?;
     Ok(())
 }
 

@@ -18,5 +18,5 @@ pub use fault::Fault;
 pub use judging::judge;
 pub use playing::play;
 pub use reading::proceeds;
-pub use trading::pay_seller;
+pub use trading::{Sale, pay_seller};
 pub use waiting::due;

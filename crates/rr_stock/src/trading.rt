@@ -118,28 +118,30 @@ pub(crate) fn settle_corporation(
     Ok(())
 }
 
-/// The bank pays the seller of so many 10% shares the amount, and the corporation's token falls a row for each of them,
-/// stopping above the first missing cell. The amount is what `proceeds` tells before the sale; the shares themselves are
-/// moved elsewhere.
+/// A sale of 10% shares: who sells how many of which corporation, and what the bank pays for all of them.
+#[derive(Clone, Copy)]
+pub struct Sale {
+    pub seat: Seat,
+    pub corp: Corp,
+    pub count: u8,
+    /// What `proceeds` tells before the sale.
+    pub amount: u32,
+}
+
+/// The bank pays the seller, and the corporation's token falls a row for each share sold, stopping above the first
+/// missing cell. The shares themselves are moved elsewhere.
 ///
 /// # Errors
 ///
 /// `OutOfMemory`; the seller may have been paid then.
 #[tactic(auto, unfolding(crate::specs::Effects::pays_seller))]
-pub fn pay_seller(
-    desk: &mut Desk,
-    chart: &Chart,
-    seat: Seat,
-    corp: Corp,
-    count: u8,
-    amount: u32,
-) -> Result<(), Fault>
-    requires { seat.0 < 6 }
+pub fn pay_seller(desk: &mut Desk, chart: &Chart, sale: Sale) -> Result<(), Fault>
+    requires { sale.seat.0 < 6 }
     ensures fault { IfErr result (λ fault. fault ≡ Fault.OutOfMemory) }
-    ensures takes { OnOk result (Takes (pays_seller chart.now seat corp count amount) desk.old desk.new) }
+    ensures takes { OnOk result (Takes (pays_seller chart.now sale.seat sale.corp sale.count sale.amount) desk.old desk.new) }
 {
-    pay_seat(desk, seat, amount)?;
-    fall(desk, chart, corp, count)?;
+    pay_seat(desk, sale.seat, sale.amount)?;
+    fall(desk, chart, sale.corp, sale.count)?;
     Ok(())
 }
 
