@@ -12,9 +12,7 @@ use Rattle.rr_books.specs.Book.{Book}
 use Rattle.rr_auction.specs.Effects as auction
 use Rattle.rr_code.specs.declared.command.Command.{Command}
 use Rattle.rr_code.specs.declared.command.Command.TheVariants.{Open}
-use Rattle.rr_depot.specs.Situation.{situation_of}
 use Rattle.rr_forced.specs.Effects as forced
-use Rattle.rr_forced.specs.Needs.{cheapest_need}
 use Rattle.rr_forced.specs.Rules.{is_forced}
 use Rattle.rr_kit.specs.declared.kit.Kit.{Kit}
 use Rattle.rr_operate.specs.Effects.{entries_of, runs_best}
@@ -25,7 +23,6 @@ use Rattle.rr_rules.specs.Judging.{judgement, judgement_in, name_verdict, stage}
 use Rattle.rr_rules.specs.Playing.{operating_entries, state_after, state_in, stock_entries}
 use Rattle.rr_rules.specs.State.{GameState}
 use Rattle.rr_rules.proofs.Judging.{at_stage}
-use Rattle.rr_stock.specs.Situation as stock
 use Rattle.rr_game.specs.Fault.{of_rules}
 use Rattle.rr_game.specs.Names.{act_of}
 use Rattle.rr_game.specs.Play.{opened_state, play, played_on, state_with}
@@ -34,10 +31,11 @@ use Rattle.rr_turns.specs.Judgement.{IsVerdict, Judgement}
 use Rattle.rr_turns.proofs.JudgementLemmas.{lawful-behind, lawful-map}
 use Rattle.rr_laws.specs.Best.{HasBestRuns, IsBestRun}
 use Rattle.rr_laws.specs.Sound.{AreAccepted, ArePlayed}
-use Rattle.rr_laws.proofs.AuctionAdds.{auction_adds, opening_has_none}
+use Rattle.rr_laws.proofs.AuctionAdds.{auction_adds}
 use Rattle.rr_laws.proofs.BestCommands.{CertifiedAreOptimal, at_its_stage}
-use Rattle.rr_laws.proofs.ForcedLeaves.{forced_leaves, raise_leaves}
-use Rattle.rr_laws.proofs.LeavesAuction.{has_no_best, plain_have_none}
+use Rattle.rr_laws.proofs.ForcedLeaves.{need_goes}
+use Rattle.rr_laws.proofs.LeavesAuction.{bare_have_none, has_no_best, plain_have_none, still_plain}
+use Rattle.rr_laws.proofs.Opened.{opening_meets}
 use Rattle.rr_laws.proofs.RoundLeaves.{stock_leaves}
 use Rattle.rr_laws.proofs.Soundness.{in_play}
 use Rattle.rr_laws.proofs.TurnLeaves.{is_best_run, turn_plain}
@@ -76,16 +74,9 @@ found_there kit before (e ∷ front) after c sheet certificate h =
 more_were : (kit : Kit) (book es : Book) → list_all has_no_best es ≡ true → WereBest kit [] book → WereBest kit [] (book ++ es)
 more_were kit book es none h = both_were kit [] book es h (none_were kit es book none)
 
--- a forced purchase, a sale for it, or a bankruptcy
-need_adds : (kit : Kit) (book : Book) (act : Act) → list_all has_no_best (forced.entries_of kit.roster kit.chart book act) ≡ true
-need_adds kit book (A.Force c) = plain_have_none (forced.forces_if (cheapest_need kit.roster (situation_of book) c) book) (forced_leaves (cheapest_need kit.roster (situation_of book) c) book)
-need_adds kit book (A.Raise s c n) = plain_have_none (forced.raises kit.chart (stock.situation_of kit.chart book) s c n book) (raise_leaves kit.chart (stock.situation_of kit.chart book) s c n book)
-need_adds kit book (A.Bankrupt s) = refl
-need_adds kit book _ = refl
-
 -- a command of an operating round but a run as best
 operation_adds : (needs : Bool) (kit : Kit) (state : GameState) (act : Act) → is_best_run act ≡ false → list_all has_no_best (operating_entries needs kit state act) ≡ true
-operation_adds true kit state act other = need_adds kit state.book act
+operation_adds true kit state act other = plain_have_none (forced.entries_of kit.roster kit.chart state.book act) (need_goes kit.roster kit.chart state.book act).plain
 operation_adds false kit state act other = plain_have_none (entries_of kit state.revenue state.book act) (turn_plain kit state.revenue state.book act other)
 
 best_first : (kit : Kit) (book : Book) (c : Corp) (sheet certificate : List ℕ) → IsBestRun kit book c sheet → WereBest kit book (runs_best c sheet certificate book)
@@ -102,9 +93,11 @@ module _ (law : CertifiedAreOptimal) where
 
   by_stage : (s : Stage) (kit : Kit) (state : GameState) (act : Act) → IsVerdict (judgement_in s kit state act) None → WereBest kit [] state.book → WereBest kit [] (state_in s kit state act).book
   by_stage G.Auction kit state act lawful h =
-      more_were kit state.book (auction.entries_of kit.roster kit.chart state.book act) (auction_adds kit.roster kit.chart state.book act) h
+      let es = auction.entries_of kit.roster kit.chart state.book act in
+      more_were kit state.book es (bare_have_none es (auction_adds kit.roster kit.chart state.book act)) h
   by_stage G.Stock kit state act lawful h =
-      more_were kit state.book (stock_entries kit state.book act) (plain_have_none (stock_entries kit state.book act) (stock_leaves kit state.book act)) h
+      let es = stock_entries kit state.book act in
+      more_were kit state.book es (plain_have_none es (still_plain es (stock_leaves kit state.book act))) h
   by_stage G.Operating kit state act lawful h = by_operation kit state act lawful h
 
   by_act : (kit : Kit) (state : GameState) (act : Act) → IsVerdict (judgement kit state act) None → WereBest kit [] state.book → WereBest kit [] (state_after kit state act).book
@@ -129,7 +122,7 @@ module _ (law : CertifiedAreOptimal) where
   were_along kit [] played = absurd played
   were_along kit (Open players ∷ commands) played =
       let state = opened_state players kit.roster in
-      by_commands kit players commands state played.2 (none_were kit state.book [] (opening_has_none players kit.roster))
+      by_commands kit players commands state played.2 (none_were kit state.book [] (opening_meets has_no_best (record { payments = λ n seat. refl; moves = λ cert. refl; trains = λ t. refl; begins = λ names. refl }) players kit.roster))
   were_along kit (command ∷ commands) played = absurd played
 
   pub runs_were_best : (kit : Kit) (commands : List Command) → ArePlayed kit commands → HasBestRuns kit (play kit commands).book

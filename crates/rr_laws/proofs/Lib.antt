@@ -1,4 +1,6 @@
 pub mod Adding
+mod Opened
+mod TrainSales
 pub mod LeavesAuction
 pub mod Leaving
 pub mod StockLeaves
@@ -13,3 +15,7 @@ mod Soundness
 mod AuctionAdds
 mod BestCommands
 mod BestEntries
+mod SheetVerdicts
+mod EachVerdict
+mod Wanting
+mod SoldAlong

@@ -1,5 +1,5 @@
--- What follows by itself on a command leaves an auction that is over as it is.
-use Rattle.std.specs.Prelude.{◌≡◌, Bool, true, false, List, [], ◌∷◌, Option, None, Some, find, refl, if◌then◌else◌}
+-- What follows by itself on a command leaves an auction that is over as it is, and moves no train.
+use Rattle.std.specs.Prelude.{◌≡◌, Bool, true, false, List, [], Option, None, Some, find, refl, if◌then◌else◌}
 use Rattle.std.specs.List.{list_all}
 use Rattle.rr_roster.specs.declared.company.Corp.{Corp}
 use Rattle.rr_roster.specs.Terms.{Terms}
@@ -22,7 +22,7 @@ use Rattle.rr_sets.specs.Following.{begins_set, goes_on_in_operating_round, goes
 use Rattle.rr_sets.specs.Rounds.{begins_round, ends_round, ends_set, passes_round, passes_rounds, round_is_over}
 use Rattle.rr_sets.specs.Tokens.{has_token, is_home_of, places_at, places_first_token, places_first_token_if, places_first_token_of}
 use Rattle.rr_stock.specs.Effects as stock
-use Rattle.rr_laws.proofs.LeavesAuction.{is_plain}
+use Rattle.rr_laws.proofs.LeavesAuction.{is_still}
 use Rattle.rr_laws.proofs.StockLeaves.{Leaves, act_leaves, incomes_leave, none_leaves, three_leave, two_leave}
 
 either_leaves : (b : Bool) (f g : Book → Book) → Leaves f → Leaves g → Leaves (λ book. (if b then f else g) book)
@@ -83,6 +83,6 @@ stock_goes_on : (kit : Kit) → Leaves (goes_on_in_stock_round kit)
 unfolding goes_on_in_stock_round
 stock_goes_on kit book = either_leaves (rounds.progress book).under_way (in_turn []) (begins_set kit) none_leaves (set_begins kit) book
 
-pub stock_leaves : (kit : Kit) (book : Book) (act : Act) → list_all is_plain (stock_entries kit book act) ≡ true
+pub stock_leaves : (kit : Kit) (book : Book) (act : Act) → list_all is_still (stock_entries kit book act) ≡ true
 stock_leaves kit book act =
     two_leave (λ so_far. stock.entries_of kit.chart so_far act) (goes_on_in_stock_round kit) (act_leaves kit.chart act) (stock_goes_on kit) book

@@ -1,10 +1,9 @@
 -- What stays true of a table's book, whatever commands the table accepts.
-use Rattle.std.specs.Prelude.{◌≡◌, ℕ, ◌≤◌, ◌<◌, pos, Bool, true, false, List, [], ◌∷◌, ◌++◌, Option, None, Some, fold, length, option_map, refl}
+use Rattle.std.specs.Prelude.{◌≡◌, ℕ, ◌≤◌, ◌<◌, Bool, true, false, List, [], ◌∷◌, ◌++◌, Option, None, Some, fold, length, option_map, refl}
 use Rattle.std.specs.List.{list_all}
-use Rattle.std.proofs.Common.{sym, ◌∙◌, ap, subst, arith}
+use Rattle.std.proofs.Common.{sym, ◌∙◌, subst, arith}
 use Rattle.std.proofs.lemmas.Bool.{false≢true}
 use Rattle.std.proofs.lemmas.Int.{ints}
-use Rattle.rr_roster.specs.Terms.{Terms}
 use Rattle.rr_books.specs.declared.acts.Act.{Act}
 use Rattle.rr_books.specs.declared.acts.Act.TheVariants as A
 use Rattle.rr_books.specs.declared.entries.Entry.TheVariants as E
@@ -58,10 +57,10 @@ use Rattle.rr_game.specs.Verdict.{act_judgement, command_judgement, command_judg
 use Rattle.rr_turns.specs.Judgement.{IsFirstOrBehind, IsVerdict, Judgement}
 use Rattle.rr_turns.proofs.JudgementLemmas.{is-settled, lawful-behind, lawful-map}
 use Rattle.rr_laws.specs.Sound.{AreAccepted, ArePlayed, IsSoundTable, NamesCorporations}
-use Rattle.rr_laws.proofs.ForcedLeaves.{forced_leaves, raise_leaves}
+use Rattle.rr_laws.proofs.ForcedLeaves.{need_goes}
 use Rattle.rr_laws.proofs.ForcedOrder.{order_by_bankruptcy, order_by_force}
 use Rattle.rr_laws.proofs.RaiseOrder.{order_by_raise}
-use Rattle.rr_laws.proofs.LeavesAuction.{leaves_auction, plain_leave}
+use Rattle.rr_laws.proofs.LeavesAuction.{leaves_auction, plain_leave, still_plain}
 use Rattle.rr_laws.proofs.Leaving.{auction_left}
 use Rattle.rr_laws.proofs.RoundLeaves.{stock_leaves}
 use Rattle.rr_laws.proofs.StockOrder.{StockLaws, order_by_stock}
@@ -118,7 +117,7 @@ stands_over n book es revenue over leaves order earned =
 by_trade : StockLaws → (n : ℕ) → 0 < n → n ≤ 6 → (kit : Kit) (state : GameState) (act : Act) → auction_is_over state.book ≡ true → trading.verdict kit.chart state.book act ≡ None
     → Stands n state → Stands n (state_in G.Stock kit state act)
 by_trade laws n some few kit state act over lawful h =
-    stands_over n state.book _ state.revenue over (plain_leave (stock_entries kit state.book act) (stock_leaves kit state.book act)) (order_by_stock laws n some few kit state.book act lawful h.order) h.earned
+    stands_over n state.book _ state.revenue over (plain_leave (stock_entries kit state.book act) (still_plain (stock_entries kit state.book act) (stock_leaves kit state.book act))) (order_by_stock laws n some few kit state.book act lawful h.order) h.earned
 
 -- a command of a corporation's turn
 by_turn : (n : ℕ) (kit : Kit) (state : GameState) (act : Act) → auction_is_over state.book ≡ true → force.is_forced act ≡ false → rows.IsVerdict kit state.book state.revenue act None
@@ -135,9 +134,9 @@ by_turn n kit state act over plain lawful h =
 by_need : StockLaws → (n : ℕ) → 0 < n → n ≤ 6 → (kit : Kit) (state : GameState) (act : Act) → auction_is_over state.book ≡ true → force.is_forced act ≡ true → force.IsRowVerdict kit state.book act None
     → Stands n state → Stands n (state_in G.Operating kit state act)
 by_need laws n some few kit state (A.Force c) over is lawful h =
-    stands_over n state.book _ state.revenue over (plain_leave (forces_if (cheapest_need kit.roster (situation_of state.book) c) state.book) (forced_leaves (cheapest_need kit.roster (situation_of state.book) c) state.book)) (order_by_force n kit state.book c lawful h.order) h.earned
+    stands_over n state.book _ state.revenue over (plain_leave (forces_if (cheapest_need kit.roster (situation_of state.book) c) state.book) (need_goes kit.roster kit.chart state.book (A.Force c)).plain) (order_by_force n kit state.book c lawful h.order) h.earned
 by_need laws n some few kit state (A.Raise s c m) over is lawful h =
-    stands_over n state.book _ state.revenue over (plain_leave (raises kit.chart (stock.situation_of kit.chart state.book) s c m state.book) (raise_leaves kit.chart (stock.situation_of kit.chart state.book) s c m state.book))
+    stands_over n state.book _ state.revenue over (plain_leave (raises kit.chart (stock.situation_of kit.chart state.book) s c m state.book) (need_goes kit.roster kit.chart state.book (A.Raise s c m)).plain)
     (order_by_raise laws.shares n some few kit state.book s c m lawful h.order) h.earned
 by_need laws n some few kit state (A.Bankrupt s) over is lawful h =
     stands_over n state.book _ state.revenue over refl (order_by_bankruptcy n state.book s h.order) h.earned

@@ -1,4 +1,4 @@
--- What a command of a stock round adds of itself leaves an auction that is over as it is.
+-- What a command of a stock round adds of itself leaves an auction that is over as it is, and moves no train.
 use Rattle.std.specs.Prelude.{◌≡◌, ℕ, zero, suc, ◌*◌, Bool, true, false, cond, List, [], ◌∷◌, Option, None, Some, find, map, option_and_then, option_map, refl, if◌then◌else◌}
 use Rattle.std.specs.List.{list_all}
 use Rattle.rr_roster.specs.declared.company.Private.{Private}
@@ -35,37 +35,37 @@ use Rattle.rr_stock.specs.Situation.{Situation, situation_of}
 use Rattle.rr_stock.specs.Rules.{place_of_source, share_price}
 use Rattle.rr_stock.specs.Effects.{buys_share, ends_if, ends_stock_round, ends_turn, entries_of, gets_share, gives_up_private, is_sold_out, pays_bank, pays_seller, proceeds, rises, rises_among, rises_if_sold_out, row, sells, sets_par, settles_corporation, settles_in, swaps, takes_presidency}
 use Rattle.rr_laws.proofs.Adding.{Adds, none_adds, one_adds, then_adds, three_add, two_add}
-use Rattle.rr_laws.proofs.LeavesAuction.{is_plain}
+use Rattle.rr_laws.proofs.LeavesAuction.{is_still}
 
--- whatever the book, the effect leaves the auction alone and has no run as best
+-- whatever the book, the effect leaves the auction alone, has no run as best and moves no train
 abbrev pub Leaves : Effect → Type 0
-Leaves f = Adds is_plain f
+Leaves f = Adds is_still f
 
 pub none_leaves : Leaves (in_turn [])
-none_leaves = none_adds is_plain
+none_leaves = none_adds is_still
 
 pub then_leaves : (f : Effect) (fs : List Effect) → Leaves f → Leaves (in_turn fs) → Leaves (in_turn (f ∷ fs))
-then_leaves f fs h k = then_adds is_plain f fs h k
+then_leaves f fs h k = then_adds is_still f fs h k
 
 pub two_leave : (f g : Effect) → Leaves f → Leaves g → Leaves (in_turn (f ∷ g ∷ []))
-two_leave f g h k = two_add is_plain f g h k
+two_leave f g h k = two_add is_still f g h k
 
 pub three_leave : (f g i : Effect) → Leaves f → Leaves g → Leaves i → Leaves (in_turn (f ∷ g ∷ i ∷ []))
-three_leave f g i h k l = three_add is_plain f g i h k l
+three_leave f g i h k l = three_add is_still f g i h k l
 
-pub one_leaves : (e : Entry) → is_plain e ≡ true → Leaves (adds e)
-one_leaves e h = one_adds is_plain e h
+pub one_leaves : (e : Entry) → is_still e ≡ true → Leaves (adds e)
+one_leaves e h = one_adds is_still e h
 
 pub test_leaves : (b : Bool) (f : Effect) → Leaves f → Leaves (λ book. (if b then f else in_turn []) book)
 test_leaves true f h book = h book
 test_leaves false f h book = refl
 
 -- of the certificates of a corporation the lowest that meets a test
-share_leaves : (test : Cert → Bool) (c : Corp) (to : Place) (ns : List ShareNumber) → list_all is_plain (moves_if (find test (map (λ n. C.Share c n) ns)) to) ≡ true
+share_leaves : (test : Cert → Bool) (c : Corp) (to : Place) (ns : List ShareNumber) → list_all is_still (moves_if (find test (map (λ n. C.Share c n) ns)) to) ≡ true
 share_leaves test c to [] = refl
 share_leaves test c to (n ∷ ns) = by_test (test (C.Share c n)) n _ (share_leaves test c to ns)
   where
-    by_test : (b : Bool) (n : ShareNumber) (others : Option Cert) → list_all is_plain (moves_if others to) ≡ true → list_all is_plain (moves_if (cond b (Some (C.Share c n)) others) to) ≡ true
+    by_test : (b : Bool) (n : ShareNumber) (others : Option Cert) → list_all is_still (moves_if others to) ≡ true → list_all is_still (moves_if (cond b (Some (C.Share c n)) others) to) ≡ true
     by_test true n others h = refl
     by_test false n others h = h
 
@@ -116,7 +116,7 @@ incomes_leave roster [] = none_leaves
 incomes_leave roster (x ∷ xs) =
     then_leaves (pays_income roster x) (map (pays_income roster) xs) (λ book. pays_if_leaves (owner (players book) (holder book (C.Private x))) (income_of roster x) book) (incomes_leave roster xs)
 
-pub mark_leaves : (c : Corp) (cell : Option Cell) → list_all is_plain (mark_at c cell) ≡ true
+pub mark_leaves : (c : Corp) (cell : Option Cell) → list_all is_still (mark_at c cell) ≡ true
 mark_leaves c None = refl
 mark_leaves c (Some cell) = refl
 

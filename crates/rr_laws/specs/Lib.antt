@@ -1,2 +1,4 @@
 pub mod Sound
 pub mod Best
+pub mod Verdicts
+pub mod SoldTrains

@@ -1,11 +1,15 @@
-//! The laws that every table is sound, whatever commands it accepted, and that each run paid as best was best.
+//! The laws that every table is sound, whatever commands it accepted, that each run paid as best was best, that each
+//! command has a verdict, and that the phase is the greatest kind of which a train was ever sold.
 //!
 //! Stands on `rr_sound`, `rr_sound_turns`, `rr_runs` and `rr_game`; nothing of the program stands on it. Its promises:
-//! `sound` and `best_runs_were_best`.
+//! `sound`, `best_runs_were_best`, `each_command_has_a_verdict` and `phases_are_greatest_sold`.
 #![tactic(auto)]
 
+ghost use Rattle.rr_game.specs.Laws.{CommandsHaveOneVerdict};
 ghost use Rattle.rr_laws.specs.Best.{BestCommandsWereBest, BestRunsWereBest};
+ghost use Rattle.rr_laws.specs.SoldTrains.{PhasesAreGreatestSold};
 ghost use Rattle.rr_laws.specs.Sound.{KitsNameCorporations, PlaysGoOn, TablesStaySound};
+ghost use Rattle.rr_laws.specs.Verdicts.{EachCommandHasAVerdict, NoRuleWantsMemory};
 
 /// Whatever two to six players open a table, with a kit whose roster names each corporation, and whatever commands it
 /// accepts then, the balances of bank, seats and corporations sum to 12,000 and only the bank's may be negative, each
@@ -37,4 +41,20 @@ pub fn kits_name_corporations()
 /// What a table was played with, and one command more that isn't refused in its state, is what a table is played with.
 pub fn plays_go_on()
     ensures { PlaysGoOn }
+{}
+
+/// Each command has a verdict, whatever the kit, the players and the state of the table are, and only one: it is lawful,
+/// or it is refused with one fault, which is never want of memory. It can't be that it is neither.
+pub fn each_command_has_a_verdict()
+    ensures some { EachCommandHasAVerdict }
+    ensures one { CommandsHaveOneVerdict }
+    ensures never_memory { NoRuleWantsMemory }
+{
+    rr_game::laws::commands_have_one_verdict();
+}
+
+/// Whatever commands a table is played with, the phase, which is told by where the trains are, is the greatest kind of
+/// which some entry of the book took a train out of the offering, or the 2 where no entry did.
+pub fn phases_are_greatest_sold()
+    ensures { PhasesAreGreatestSold }
 {}

@@ -196,5 +196,7 @@ fn laws_are_called(_rt: HostRuntime) {
     rr_laws::best_runs_were_best();
     rr_laws::kits_name_corporations();
     rr_laws::plays_go_on();
+    rr_laws::each_command_has_a_verdict();
+    rr_laws::phases_are_greatest_sold();
     rr_game::laws::commands_have_one_verdict();
 }
