@@ -22,7 +22,7 @@ use Rattle.rr_store.specs.declared.store.Store.{Store}
 use Rattle.rr_store.specs.Allowing.{BeforeOrAfter}
 use Rattle.rr_store.specs.Committing.{Commits, Spares}
 use Rattle.rr_store.specs.Held.{Held, Takes, Accepted, Refused, Wants, NoRoom, Fails, Again, stamp_after, with_tables}
-use Rattle.rr_store.specs.Holding.{Carries, HasNoRoom, IsFull, IsFullFor, IsUnchanged, Rests, disk_of, file_of, held_of, number_of_next, ticks_left}
+use Rattle.rr_store.specs.Holding.{Carries, HasNoRoom, IsFull, IsFullFor, IsUnchanged, disk_of, file_of, held_of, number_of_next, ticks_left}
 use Rattle.rr_store.specs.Keeping.{ComesOn, MakesAtMost}
 use Rattle.rr_store.specs.World.{TableRequest, TableState, for_table, judgement_in, state_after, table_named, world_after}
 use Rattle.rr_store.proofs.Standing.{carried_keeps, carried_now, stands_either}
@@ -35,7 +35,7 @@ use Rattle.rr_moderator.specs.declared.fault.Fault.TheVariants as F
 use Rattle.rr_moderator.specs.Answer.{accepted_text}
 use Rattle.rr_moderator.specs.Best.{best_run}
 use Rattle.rr_moderator.specs.Choosing.{CommitsBest, Stays, Goes_on}
-use Rattle.rr_moderator.specs.Durability.{CannotKeep, CountsTold, HasNoPlace, IsTaken, Lasts, layout_behind, number_behind, reaches_file, tells_acceptance, tells_full}
+use Rattle.rr_moderator.specs.Durability.{CannotKeep, CommitsOnce, CountsTold, HasNoPlace, IsTaken, IsToldOf, Lasts, Makes_none, Makes_one, layout_behind, number_behind, reaches_file, tells_acceptance, tells_full}
 use Rattle.rr_moderator.specs.Fault.{of_store, refusal_of}
 use Rattle.rr_moderator.specs.Serving.{AsksFor, AsBest, Gives, reply_to, text_of}
 use Rattle.rr_moderator.proofs.Telling.{SaysNeither, accepted_calm, accepted_reaches, accepted_told, counts_told, failure_calm, failure_reaches, failure_told, full_calm, full_reaches, lacks_calm, memory_calm, memory_reaches, refusal_calm, verdict_calm}
@@ -61,6 +61,10 @@ is_memory _ = inr (λ e. absurd (cc e))
 module _ {D : Type 0} (Honest Works : D → Type 0) (state : D → DiskState) (past : D → List DiskState) (faults writes syncs : D → ℕ) (old new : Store D) (line reply : List ℕ) where
   abbrev pub Lasting : Type 0
   Lasting = Lasts Honest Works state past faults writes syncs old line new reply
+
+  -- the line makes one commit at most
+  abbrev Once : Option TableRequest → Type 0
+  Once pending = CommitsOnce Honest Works state past faults writes syncs old line pending new reply
 
   abbrev GoesOn : Type 0
   GoesOn = Honest (disk_of new) → (held_of new).broken ≡ false → (texts : KitTexts) → Carries state old texts → Carries state new texts
@@ -101,8 +105,8 @@ module _ {D : Type 0} (Honest Works : D → Type 0) (state : D → DiskState) (p
   at_rest P same here = subst (λ (d : D). LeavesOnly (past (disk_of old)) (state (disk_of old)) (past d) (state d) P) (sym same) here
 
   -- all is as it was, and the reply tells neither of an acceptance, nor of a fault, nor of a full file
-  lasts_unchanged : IsUnchanged old new → GoesOn → SaysNeither reply → Lasting
-  lasts_unchanged same goes_on calm =
+  lasts_unchanged : IsUnchanged old new → GoesOn → SaysNeither reply → Once None → Lasting
+  lasts_unchanged same goes_on calm commits =
       record {
         pending = None;
         pends = tt;
@@ -131,13 +135,14 @@ module _ {D : Type 0} (Honest Works : D → Type 0) (state : D → DiskState) (p
         comes_on = λ told. both_ways (tells_acceptance reply) told calm.2;
         makes_room = λ told. both_ways (tells_acceptance reply) told calm.2;
         full = λ told. both_ways (tells_full reply) told calm.1;
+        commits = commits;
       }
 
   -- the store stays, and the reply says nothing of it
   pub lasts_alone : new ≡ old → SaysNeither reply → Lasting
   lasts_alone same calm =
       lasts_unchanged (record { same_file = ap (λ (x : Store D). file_of x) same; same_held = ap (λ (x : Store D). held_of x) same })
-      (λ h whole texts s. subst (λ (x : Store D). Carries state x texts) (sym same) s) calm
+      (λ h whole texts s. subst (λ (x : Store D). Carries state x texts) (sym same) s) calm (Makes_none same calm.2)
 
   module _ (stamp : ℕ) (name : List ℕ) (c : Request Command) (sheet : List ℕ) (short : length line ≤ 8000) (asks : AsksFor (held_of old) line stamp (for_table name c) sheet) (whole : (held_of old).broken ≡ false) where
     abbrev asked : TableRequest
@@ -151,6 +156,9 @@ module _ {D : Type 0} (Honest Works : D → Type 0) (state : D → DiskState) (p
 
     abbrev Committed : Result ℕ store.Fault → Type 0
     Committed taking = Commits Honest Works state past faults writes syncs old name stamp c new taking
+
+    by_commit : (taking : Result ℕ store.Fault) (pending : Option TableRequest) → Committed taking → IsToldOf asked pending taking reply → Once pending
+    by_commit taking pending k tells = Makes_one asked stamp sheet taking asks k tells
 
     no_place : Lawful → (at : Store D) → IsFull at name c → HasNoPlace old line at
     no_place lawful at full = record { asked = asked; lawful = gives lawful; full = full }
@@ -182,8 +190,8 @@ module _ {D : Type 0} (Honest Works : D → Type 0) (state : D → DiskState) (p
       pub makes_room : tells_acceptance reply ≡ true → HasNoRoom old name c → 4 ≤ ticks_left new
       pub full : tells_full reply ≡ true → IsFullFor new name c
 
-    reached : (taking : Result ℕ store.Fault) → Lawful → Committed taking → Ends → Lasting
-    reached taking lawful k ends =
+    reached : (taking : Result ℕ store.Fault) → Lawful → Committed taking → IsToldOf asked (Some asked) taking reply → Ends → Lasting
+    reached taking lawful k tells ends =
         record {
           pending = Some asked;
           pends = gives lawful;
@@ -209,12 +217,13 @@ module _ {D : Type 0} (Honest Works : D → Type 0) (state : D → DiskState) (p
           comes_on = λ told room. ends.comes_on told (λ full. room (no_place lawful old full));
           makes_room = ends.makes_room;
           full = λ told. cannot_keep lawful new (ends.full told);
+          commits = by_commit taking (Some asked) k tells;
         }
 
     taken : (n : ℕ) → reply ≡ accepted_text (held_of old).kit name behind c sheet → Lawful → held_of new ≡ with_tables (held_of old) (world_after (held_of old).kit (held_of old).tables name c)
         → Committed (Ok n) → Lasting
     taken n told lawful held_is k =
-        reached (Ok n) lawful k
+        reached (Ok n) lawful k (refl, ap tells_acceptance told ∙ accepted_told (held_of old).kit name behind c sheet)
         (record {
           accepted = λ _. record { asked = asked; pends = refl; gives = gives lawful; held = held_is; told = told };
           reaches = ap reaches_file told ∙ accepted_reaches (held_of old).kit name behind c sheet;
@@ -233,7 +242,7 @@ module _ {D : Type 0} (Honest Works : D → Type 0) (state : D → DiskState) (p
 
     failed : reply ≡ refusal_of F.DeviceFailed → Lawful → Committed (Err T.DeviceFailed) → Lasting
     failed told lawful k =
-        reached (Err T.DeviceFailed) lawful k
+        reached (Err T.DeviceFailed) lawful k (ap tells_acceptance told ∙ refusal_calm F.DeviceFailed)
         (record {
           accepted = λ is. both_ways (tells_acceptance reply) is (ap tells_acceptance told ∙ refusal_calm F.DeviceFailed);
           reaches = ap reaches_file told ∙ failure_reaches;
@@ -251,7 +260,7 @@ module _ {D : Type 0} (Honest Works : D → Type 0) (state : D → DiskState) (p
     -- there was no room in the file
     no_space : reply ≡ refusal_of F.FileFull → Lawful → held_of new ≡ held_of old → Committed (Err T.FileFull) → Lasting
     no_space told lawful same k =
-        reached (Err T.FileFull) lawful k
+        reached (Err T.FileFull) lawful k refused
         (record {
           accepted = λ is. both_ways (tells_acceptance reply) is refused;
           reaches = ap reaches_file told ∙ full_reaches;
@@ -273,9 +282,11 @@ module _ {D : Type 0} (Honest Works : D → Type 0) (state : D → DiskState) (p
 
     -- memory was wanted
     wanting : reply ≡ refusal_of F.OutOfMemory → held_of new ≡ held_of old → Committed (Err T.OutOfMemory) → IsUnchanged old new ⊎ Lawful → Lasting
-    wanting told same k (inl unchanged) = lasts_unchanged unchanged k.carries (subst SaysNeither (sym told) memory_calm)
+    wanting told same k (inl unchanged) =
+        let calm = subst SaysNeither (sym told) memory_calm in
+        lasts_unchanged unchanged k.carries calm (by_commit (Err T.OutOfMemory) None k calm.2)
     wanting told same k (inr lawful) =
-        reached (Err T.OutOfMemory) lawful k
+        reached (Err T.OutOfMemory) lawful k calm.2
         (record {
           accepted = λ is. both_ways (tells_acceptance reply) is calm.2;
           reaches = ap reaches_file told ∙ memory_reaches;
@@ -303,8 +314,9 @@ module _ {D : Type 0} (Honest Works : D → Type 0) (state : D → DiskState) (p
         let by_rule = refused_by_rules (held_of old).kit (held_of old).tables stamp name c fault verdict in
         let calm = verdict_calm (held_of old).kit (table_named (held_of old).tables name) (length (held_of old).tables) stamp c by_rule.0 by_rule.1 in
         let Calm : store.Fault → Type 0 = λ f. SaysNeither (refusal_of (of_store f)) in
+        let own = subst SaysNeither (sym told) (subst Calm (sym by_rule.2) calm) in
         lasts_unchanged (unchanged_by old new fault (λ e. no_failure by_rule.0 (sym by_rule.2 ∙ e)) (λ e. no_full by_rule.0 (sym by_rule.2 ∙ e)) other k.spares) k.carries
-        (subst SaysNeither (sym told) (subst Calm (sym by_rule.2) calm))
+        own (by_commit (Err fault) None k own.2)
 
     lasts_by : (taking : Result ℕ store.Fault) → reply ≡ reply_to (text_of (held_of old) name c sheet taking) → Takes (held_of old) stamp name c (held_of new) taking → Committed taking → Lasting
     lasts_by taking told (Accepted was lawful held_is) k = taken (stamp_after (held_of old).kit (held_of old).tables name c) told lawful held_is k

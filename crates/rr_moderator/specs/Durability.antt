@@ -1,5 +1,5 @@
 -- What the file has of a moderator's tables, whatever a stop leaves.
-use Rattle.std.specs.Prelude.{◌≡◌, ◌⊎◌, ℕ, ◌+◌, ◌≤◌, ◌||◌, Bool, false, true, List, [], ◌∷◌, Option, None, Some, nat_eq, codes, map}
+use Rattle.std.specs.Prelude.{◌≡◌, ◌⊎◌, ℕ, ◌+◌, ◌≤◌, ◌||◌, Bool, false, true, List, [], ◌∷◌, Option, None, Some, Result, Ok, Err, nat_eq, codes, map}
 use Rattle.std.specs.List.{starts_with}
 use Rattle.rr_code.specs.Request.{record_text}
 use Rattle.rr_disk.specs.Disk.{DiskState, counted}
@@ -11,15 +11,17 @@ use Rattle.rr_kit.specs.Kits.{KitTexts, SpellsKit}
 use Rattle.rr_records.specs.Headline.{KeepsTablesOr}
 use Rattle.rr_records.specs.Taking.{table_files}
 use Rattle.rr_records.specs.Words.{in_words, table_in_words}
+use Rattle.rr_store.specs.declared.fault.Fault as store
 use Rattle.rr_store.specs.declared.store.Store.{Store}
 use Rattle.rr_store.specs.Allowing.{BeforeOrAfter}
+use Rattle.rr_store.specs.Committing.{Commits}
 use Rattle.rr_store.specs.Files.{StandsFor}
 use Rattle.rr_store.specs.Held.{Held, with_tables}
 use Rattle.rr_store.specs.Holding.{Carries, HasNoRoom, IsFull, IsFullFor, IsUnchanged, Rests, disk_of, file_of, held_of, number_of_next, ticks_left}
 use Rattle.rr_store.specs.Keeping.{ComesOn, MakesAtMost}
 use Rattle.rr_store.specs.World.{TableRequest, state_after, table_named, world_after}
 use Rattle.rr_moderator.specs.Answer.{accepted_text}
-use Rattle.rr_moderator.specs.Serving.{Answers, Gives}
+use Rattle.rr_moderator.specs.Serving.{Answers, AsksFor, Gives}
 use Rattle.rr_moderator.specs.Serving.{MayAppend}
 use Rattle.rr_serve.specs.Serving.{NoneFails, Served, tells_failure}
 use Rattle.rr_worlds.specs.World as words
@@ -93,6 +95,23 @@ abbrev pub number_behind : Bool → ℕ → ℕ
 number_behind true number = number + 1
 number_behind false number = number
 
+-- a request that was taken is the one that was pending, and the reply is `ok`; of no other is it
+abbrev pub IsToldOf : TableRequest → Option TableRequest → Result ℕ store.Fault → List ℕ → Type 0
+IsToldOf asked pending (Ok stamp) reply = (pending ≡ Some asked) × (tells_acceptance reply ≡ true)
+IsToldOf asked pending (Err fault) reply = tells_acceptance reply ≡ false
+
+-- A line makes one call at most that may write: none, and then the store stays and the reply isn't `ok`; or one commit, of a
+-- request for which the line asks.
+pub data CommitsOnce {D : Type 0} (Honest Works : D → Type 0) (state : D → DiskState) (past : D → List DiskState) (faults writes syncs : D → ℕ)
+    (old : Store D) (line : List ℕ) (pending : Option TableRequest) (new : Store D) (reply : List ℕ) : Type 0 where
+  Makes_none : new ≡ old → tells_acceptance reply ≡ false
+      → CommitsOnce Honest Works state past faults writes syncs old line pending new reply
+  Makes_one : (asked : TableRequest) (stamp : ℕ) (sheet : List ℕ) (result : Result ℕ store.Fault)
+      → AsksFor (held_of old) line stamp asked sheet
+      → Commits Honest Works state past faults writes syncs old asked.name stamp asked.request new result
+      → IsToldOf asked pending result reply
+      → CommitsOnce Honest Works state past faults writes syncs old line pending new reply
+
 -- What answering a line does. There is one request, or none, that is pending while it is answered, and a reply `ok` tells of
 -- just that one. On an honest disk that carries what is held: a stop at any moment leaves a file that stands for the world
 -- before the line, or for that with the pending request, and that keeps it, so that the next record may be written; and the
@@ -105,7 +124,8 @@ number_behind false number = number
 -- stop may leave takes a newer root, whose chains spell the world as the checkpoint began, and only the records since then stand
 -- behind it; where the half has no room, an `ok` comes behind the first step of another checkpoint; whatever is to be done, three
 -- of each are made at most, and one for each step left of the checkpoint under way, or of one begun then; and the reply says that
--- the file is full only where, behind the call, no checkpoint makes room for the request.
+-- the file is full only where, behind the call, no checkpoint makes room for the request. All this by one call on the store at
+-- most, a commit.
 pub record Lasts {D : Type 0} (Honest Works : D → Type 0) (state : D → DiskState) (past : D → List DiskState) (faults writes syncs : D → ℕ)
     (old : Store D) (line : List ℕ) (new : Store D) (reply : List ℕ) : Type 0 where
   pub pending : Option TableRequest
@@ -136,6 +156,7 @@ pub record Lasts {D : Type 0} (Honest Works : D → Type 0) (state : D → DiskS
   pub comes_on : tells_acceptance reply ≡ true → (HasNoPlace old line old → ⊥) → ComesOn (file_of old) (file_of new)
   pub makes_room : tells_acceptance reply ≡ true → MeetsFullHalf old pending → 4 ≤ ticks_left new
   pub full : tells_full reply ≡ true → CannotKeep old line new
+  pub commits : CommitsOnce Honest Works state past faults writes syncs old line pending new reply
 
 -- a store, and the reply made last over it
 abbrev pub Told : Type 0 → Type 0

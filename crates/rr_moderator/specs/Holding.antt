@@ -1,5 +1,6 @@
 -- What a moderator holds.
-use Rattle.std.specs.Prelude.{◌≡◌, ℕ, false, List, length}
+use Rattle.std.specs.Prelude.{◌≡◌, ℕ, false, List, length, Result, Ok, Err}
+use Rattle.rr_store.specs.declared.opening.Refused as opening
 use Rattle.rr_store.specs.declared.store.Store.{Store}
 use Rattle.rr_store.specs.Held.{Held}
 use Rattle.rr_store.specs.Holding.{disk_of}
@@ -34,6 +35,11 @@ told_of moderator = (moderator.state.store, moderator.state.reply)
 -- the disk on which its file stands
 abbrev pub disk_under : {D : Type 0} → Moderator D → D
 disk_under moderator = disk_of moderator.state.store
+
+-- what an opening gave, as the opening of its store gives it
+abbrev pub as_of_store : {D : Type 0} → Result (Moderator D) (opening.Refused D) → Result (Store D) (opening.Refused D)
+as_of_store (Ok moderator) = Ok (store_of moderator)
+as_of_store (Err refused) = Err refused
 
 -- it holds so many tables, and the last request that was accepted has this number
 abbrev pub IsSummary : {D : Type 0} → Moderator D → Summary → Type 0

@@ -20,6 +20,7 @@ ghost use Rattle.rr_store.specs.declared.fault.Fault as stored;
 ghost use Rattle.rr_store.specs.declared.fault.Fault.TheVariants as Stored;
 ghost use Rattle.rr_store.specs.Allowing.{Between};
 ghost use Rattle.rr_store.specs.Committing.{Commits};
+ghost use Rattle.rr_store.specs.Events as calls;
 ghost use Rattle.rr_store.specs.Fault.{CountsFailure, OnDevice};
 ghost use Rattle.rr_store.specs.Files.{AreTablesOf};
 ghost use Rattle.rr_store.specs.Holding.{Carries, HasNoneBegun, root_of, ticks_left};
@@ -31,7 +32,7 @@ ghost use Rattle.rr_game.specs.Play.{play};
 ghost use Rattle.std.specs.Fmt.{signed_decimal};
 ghost use Rattle.rr_moderator.specs.Choosing.{CommitsBest};
 ghost use Rattle.rr_moderator.specs.Durability.{Lasts, Opens, SpeaksAndLasts, StandsAlong, told};
-ghost use Rattle.rr_moderator.specs.Holding.{IsSummary, disk_under, held_of, last_reply, spoken_of, store_of, told_of};
+ghost use Rattle.rr_moderator.specs.Holding.{IsSummary, as_of_store, disk_under, held_of, last_reply, spoken_of, store_of, told_of};
 ghost use Rattle.rr_moderator.specs.Serving.{Answers, EndsAs, MayAppend, Responds, Speaks, outcome_of, reply_to, said, text_of};
 ghost use Rattle.rr_moderator.specs.contracts.moderator.Moderator.{the_row};
 
@@ -90,6 +91,9 @@ impl<D: Disk + Drop> Moderator<D> {
         ensures only { IfErr result (λ refused. D.Honest refused.disk → (texts : KitTexts) (kit : Kit) (tables : World)
             → SpellsKit texts kit → AreTablesOf kit tables
             → KeepsTables texts tables (D.state disk).content → IsNoVerdict refused.fault) }
+
+        // As a call on the store it is an opening of a session.
+        ensures opening { calls.Opens D.Honest D.state D.past disk (as_of_store result) }
 
         // Of every disk: nothing is held that the rules of a right kit don't allow, and the device hasn't failed.
         ensures played { IfOk result (λ moderator. (texts : KitTexts)

@@ -23,6 +23,8 @@ fn call_laws_of_sessions<D: Disk, E: Disk>() {
     rr_world_laws::sessions_are_sound::<D>();
     rr_world_laws::sessions_go_on::<D, E>();
     rr_world_laws::sessions_that_go_on_are_sound::<D, E>();
+    rr_world_laws::services_go_on::<D, E>();
+    rr_world_laws::services_keep_in_time::<D>();
 }
 
 fn call_laws_of_a_store<D: Disk + Drop>(store: &Store<D>) {

@@ -2,3 +2,5 @@ pub mod Sounding
 pub mod Telling
 pub mod Stamps
 pub mod Sessions
+pub mod Services
+pub mod Times

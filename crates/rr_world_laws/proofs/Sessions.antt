@@ -82,7 +82,7 @@ module _ {D : Type 0} (Honest Works : D → Type 0) (state : D → DiskState) (p
     (faults_then writes_then syncs_then : E → ℕ)
     (stays_then : (disk : E) → Honest_then disk → IsImage (state_then disk) (state_then disk).content) where
   -- the schedule asks nothing of who had the disk before
-  on_behind : (texts : KitTexts) (kit : Kit) (first : World) (start : DiskState) (events more : List (EventOf of_tables)) (last : Owner D) (last_then : Owner E)
+  pub on_behind : (texts : KitTexts) (kit : Kit) (first : World) (start : DiskState) (events more : List (EventOf of_tables)) (last : Owner D) (last_then : Owner E)
       → (right : SpellsKit texts kit) (of_kit : AreTablesOf kit first) (each : EachImage start (KeepsTables texts first))
       → IsSafeSession Honest Works state past faults writes syncs texts kit first start events last
       → Session Honest_then Works_then state_then past_then faults_then writes_then syncs_then texts (left_by state last) more last_then

@@ -2,13 +2,14 @@
 //! refused and never both; and two fronts of the accepted requests never have one world. The calls do nothing: their
 //! contracts hold of all files, worlds and schedules.
 //!
-//! Stands on `rr_store`, `rr_records` and `rr_laws`; nothing of the program stands on it. Its promise:
+//! Stands on `rr_moderator`, `rr_store`, `rr_records` and `rr_laws`; nothing of the program stands on it. Its promise:
 //! `whatever_comes_is_sound`.
 #![tactic(auto)]
 
 ghost use Rattle.rr_kit.specs.Kits.{KitTexts};
 ghost use Rattle.rr_store.specs.Allowing.{Keeps};
 ghost use Rattle.rr_store.specs.Holding.{Carries, disk_of, held_of};
+ghost use Rattle.rr_world_laws.specs.Services.{ProgramsGoOn, ServicesGoOn, ServicesKeepInTime, SessionsJoin};
 ghost use Rattle.rr_world_laws.specs.Sessions.{SafeSessionsGoOn, SessionsAreSound, SessionsGoOn, SoundSessionsGoOn};
 ghost use Rattle.rr_world_laws.specs.Worlds.{FilesAreSound, RightKitsAreNotWrong, StandingFilesOpen, WhateverComesIsSound, WorldsAreSound, WorldsDiffer};
 
@@ -57,6 +58,28 @@ pub fn sessions_that_go_on_are_sound<D: Disk, E: Disk>()
 {
     whatever_comes_is_sound();
 }
+
+/// Whatever lines a moderator answers, over a store that was opened behind whatever was done before: what that made of the
+/// store's calls is a session, one commit for a line at most, and goes on safely with all before it. So it is of all lines,
+/// and wherever a stop cuts them off, or their program is killed: the tables that each image keeps are those of the requests
+/// that were acknowledged before and of the lines that were answered `ok` by then, or these with a request for which the line
+/// then under way asks.
+pub fn services_go_on<D: Disk, E: Disk>()
+    ensures services { ServicesGoOn D.Honest D.Works D.state D.past D.fault_count D.write_count D.sync_count
+        E.Honest E.Works E.state E.past E.fault_count E.write_count E.sync_count }
+    // And where a program opens what was left, by an opening's contract, and then serves.
+    ensures programs { ProgramsGoOn D.Honest D.Works D.state D.past D.fault_count D.write_count D.sync_count
+        E.Honest E.Works E.state E.past E.fault_count E.write_count E.sync_count }
+    // Behind a service comes another one, or a checkpoint.
+    ensures join { SessionsJoin E.Honest E.Works E.state E.past E.fault_count E.write_count E.sync_count }
+{}
+
+/// Whatever lines a moderator answers whose disk carries what it holds: at each moment each file that a stop may leave keeps the
+/// tables of the requests that were accepted by then, or those with the request that is pending of the line under way; and
+/// between two lines just the former, unless the device failed.
+pub fn services_keep_in_time<D: Disk>()
+    ensures { ServicesKeepInTime D.Honest D.Works D.state D.past D.fault_count D.write_count D.sync_count }
+{}
 
 /// Whatever lawful requests led to a world, each of its tables is in order and had no run as best but one that was, with a
 /// kit whose roster names each corporation.

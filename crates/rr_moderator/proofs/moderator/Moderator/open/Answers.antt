@@ -1,4 +1,4 @@
-use Rattle.std.proofs.Common.{subst}
+use Rattle.std.proofs.Common.{inr, subst}
 use Rattle.rr_store.specs.Holding.{disk_of, held_of}
 use Rattle.rr_moderator.proofs.OpeningLemmas.{wants_memory}
 use Rattle.rr_moderator.proofs.moderator.Moderator.open.Goals as goal
@@ -13,3 +13,27 @@ returns-in-Err-make_buffers-clause-left g c = λ honest.
     let store = c.in-Ok.store in
     let found = c.in-Ok.ensures.opened (subst g.D.Disk.Honest c.into_disk.ensures honest) in
     wants_memory g.D.Disk.state g.D.Disk.past c.args.disk (disk_of store) c.into_disk.result found.0 (held_of store).tables c.in-Err-make_buffers.fault c.in-Err-make_buffers.ensures c.into_disk.ensures found.1
+
+pub returns-in-Ok-make_buffers-clause-opening : goal.returns-in-Ok-make_buffers-clause-opening
+returns-in-Ok-make_buffers-clause-opening g c =
+    record {
+      opened = c.in-Ok.ensures.opened;
+      left = tt;
+      carries = c.in-Ok.ensures.carries;
+      only = tt;
+      whole = c.in-Ok.ensures.whole;
+      honest = c.in-Ok.ensures.honest;
+      honest_left = tt;
+    }
+
+pub returns-in-Err-make_buffers-clause-opening : goal.returns-in-Err-make_buffers-clause-opening
+returns-in-Err-make_buffers-clause-opening g c =
+    record {
+      opened = tt;
+      left = returns-in-Err-make_buffers-clause-left g c;
+      carries = tt;
+      only = λ honest texts kit tables right of_kit keeps. inr c.in-Err-make_buffers.ensures;
+      whole = tt;
+      honest = tt;
+      honest_left = λ honest. c.in-Ok.ensures.honest (subst g.D.Disk.Honest c.into_disk.ensures honest);
+    }
