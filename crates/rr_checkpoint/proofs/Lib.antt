@@ -3,3 +3,4 @@ pub mod Records
 pub mod Writers
 pub mod Planning
 pub mod Working
+pub mod PlanLemmas

@@ -28,6 +28,7 @@ use Rattle.rr_checkpoint.specs.declared.checkpoint.Plan.{Plan}
 use Rattle.rr_checkpoint.specs.OpenFile.{IsBegunAt, CarriesWith}
 use Rattle.rr_checkpoint.specs.Pages.{pages_with}
 use Rattle.rr_checkpoint.specs.Planning.{MayBegin, AreDrafted, IsDirectory}
+use Rattle.rr_pages.specs.Journal.Layout.{other_half}
 
 -- the pages that were laid, as they are to be written
 places_laid : (pages : List ℕ) (pieces : List (List ℕ)) → FitEach pages pieces → map (λ (fresh : ℕ × List ℕ). fresh.0) (laid pages pieces) ≡ pages
@@ -94,7 +95,7 @@ module _ {C : Type 0} (codec : Codec) (file : OpenFile C) (state : DiskState) (w
         record {
           number = file.taken.root.number + 1;
           directory = head;
-          half = not file.taken.root.half;
+          half = other_half file.taken.root.half;
           first = unwrap_or file.place.begun file.place.number;
           pages = pages_with file.taken.root.pages more;
           version = 1;
@@ -119,7 +120,7 @@ module _ {C : Type 0} (codec : Codec) (file : OpenFile C) (state : DiskState) (w
         let behind = not_behind layout.far layout.root.first file.place.number layout.near carries.tells.goes_on.numbered in
         let most : pages_up_to (laid_pages (written_chains one.chain drafts)) ≤ 65536 = up_to_within 65536 (laid_pages (written_chains one.chain drafts)) (λ page inside. (free_now.0.data_pages page inside).1) in
         record {
-          next = record { number = omega arith; half = ap (λ (r : Root). not r.half) (sym carries.tells.root); first = first_is };
+          next = record { number = omega arith; half = ap (λ (r : Root). other_half r.half) (sym carries.tells.root); first = first_is };
           number = root_low;
           first_low = omega (arith, first_is, sound.first_low);
           first_high = omega (arith, first_is, behind, number_low);

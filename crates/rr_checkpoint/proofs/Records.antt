@@ -2,18 +2,17 @@
 use Rattle.std.proofs.Common.{◌≡◌, ◌⊎◌, ℕ, ◌+◌, ◌^◌, ◌<◌, true, false, not, List, [], ◌∷◌, ◌++◌, length, Option, None, Some, refl, sym, ◌∙◌, ap, subst, arith}
 use Rattle.std.specs.Option.{is_some}
 use Rattle.rr_disk.specs.Disk.{DiskState, IsImage, after_write, after_sync}
-use Rattle.rr_journal.specs.declared.buffer.RecordBuffer.{RecordBuffer}
-use Rattle.rr_journal.specs.declared.layout.HalfIndex.{HalfIndex}
-use Rattle.rr_journal.specs.declared.half.Half.{Half}
-use Rattle.rr_journal.specs.Layout.{HasRoom, gate_place, spelling}
-use Rattle.rr_journal.specs.Stops.{next_gate, IsReady, MayLeave}
+use Rattle.rr_pages.specs.declared.journal.buffer.RecordBuffer.{RecordBuffer}
+use Rattle.rr_pages.specs.declared.journal.layout.HalfIndex.{HalfIndex}
+use Rattle.rr_pages.specs.declared.journal.half.Half.{Half}
+use Rattle.rr_pages.specs.Journal.Layout.{HasRoom, gate_place, spelling, other_half}
+use Rattle.rr_pages.specs.Journal.Stops.{next_gate, IsReady, MayLeave}
 use Rattle.rr_pages.specs.declared.root.Root.{Root}
 use Rattle.rr_pages.specs.Device.{Shuts, MayShut}
 use Rattle.rr_pages.specs.FreePages.{present_of, coming_of}
 use Rattle.rr_pages.specs.Sets.{Has}
 use Rattle.rr_images.specs.Calls.{far_gate, Appends, Begins, part_behind}
 use Rattle.rr_images.specs.Codec.{Codec}
-use Rattle.rr_images.specs.Halves.{half_index}
 use Rattle.rr_images.specs.Holding.{Holding, reached_of}
 use Rattle.rr_images.specs.Layout.{Layout, FarHalf, Unused, Old, Begun, far_lines, Keeps}
 use Rattle.rr_images.specs.Progress.{IsPlan, IsBegun, IsNotBegun, IsBetween}
@@ -144,12 +143,12 @@ module _ {C : Type 0} (codec : Codec) (file : OpenFile C) (state : DiskState) (w
       record { root = refl; present = refl; coming = refl; middle = refl; far = found_far (begun_there some) },
     )
 
-  module _ (none : IsNotBegun carries.layout.far) (index : HalfIndex) (other : index ≡ half_index (not file.taken.root.half)) (at : ℕ) (there : at ≡ next_gate (record { index = index; next_slot = 0 })) where
+  module _ (none : IsNotBegun carries.layout.far) (index : HalfIndex) (other : index ≡ other_half file.taken.root.half) (at : ℕ) (there : at ≡ next_gate (record { index = index; next_slot = 0 })) where
     begin_next : Begins codec carries.layout state world
     begin_next = begins codec carries.layout state world stays carries.between.each none
 
-    other_part : index ≡ half_index (not carries.layout.root.half)
-    other_part = other ∙ ap (λ (root : Root). half_index (not root.half)) (sym carries.tells.root)
+    other_part : index ≡ other_half carries.layout.root.half
+    other_part = other ∙ ap (λ (root : Root). other_half root.half) (sym carries.tells.root)
 
     at_gate : at ≡ far_gate carries.layout
     at_gate = there ∙ ap (λ (i : HalfIndex). gate_place i 0) other_part

@@ -5,3 +5,4 @@ pub mod Pages
 pub mod Writer
 pub mod Planning
 pub mod Holds
+pub mod Plan

@@ -17,6 +17,7 @@ use Rattle.rr_checkpoint.specs.declared.writer.Writer.{Writer}
 use Rattle.rr_checkpoint.specs.Checkpoint.{plan_of}
 use Rattle.rr_checkpoint.specs.Pages.{pages_with}
 use Rattle.rr_checkpoint.specs.Writer.{Carries, place_of, taken_of}
+use Rattle.rr_pages.specs.Journal.Layout.{other_half}
 
 -- The plan is one for this layout, and the pages that were taken are those that its root will reach.
 pub record MayBegin (codec : Codec) (layout : Layout codec) (free : FreePages) (plan : Plan) : Type 0 where
@@ -50,7 +51,7 @@ coming_root_of writer head fresh =
     record {
       number = (taken_of writer).root.number + 1;
       directory = head;
-      half = not (taken_of writer).root.half;
+      half = other_half (taken_of writer).root.half;
       first = unwrap_or (place_of writer).begun (place_of writer).number;
       pages = pages_with (taken_of writer).root.pages fresh;
       version = 1;

@@ -1,12 +1,11 @@
 ghost use Rattle.std.specs.Prelude.{◌≡◌, ◌⊎◌, ◌↔◌, ◌+◌, ◌*◌, ◌^◌, ◌<◌, ◌≤◌, not, length, OnOk, OnErr, IfOk, IsErrOf, None};
 ghost use Rattle.rr_disk.specs.Disk as device;
 ghost use Rattle.rr_disk.specs.Disk.{counted};
-ghost use Rattle.rr_images.specs.Halves.{half_index};
 ghost use Rattle.rr_images.specs.Holding.{Holding, reached_of};
 ghost use Rattle.rr_images.specs.Progress.{IsPlan};
-ghost use Rattle.rr_journal.specs.Faults.{CountsFault, OnDeviceFault};
-ghost use Rattle.rr_journal.specs.Layout.{HasRoom};
-ghost use Rattle.rr_journal.specs.declared.fault.Fault.TheVariants as journal;
+ghost use Rattle.rr_pages.specs.Journal.Faults.{CountsFault, OnDeviceFault};
+ghost use Rattle.rr_pages.specs.Journal.Layout.{HasRoom};
+ghost use Rattle.rr_pages.specs.declared.journal.fault.Fault.TheVariants as journal;
 ghost use Rattle.rr_pages.specs.FreePages.{coming_of};
 ghost use Rattle.rr_pages.specs.Sets.{Has};
 ghost use Rattle.rr_checkpoint.specs.Calls.{LeavesKept, LeavesEither, Renews, StaysTaken};
@@ -17,8 +16,8 @@ use crate::Place;
 use crate::checkpoint::{Checkpoint, Stage};
 use rr_disk::{Disk, Fault, write};
 use rr_images::Codec;
-use rr_journal::{Half, HalfIndex, RecordBuffer};
-use rr_pages::{FreePages, Roots, Taken, shut};
+use rr_pages::journal::{self, Half, RecordBuffer};
+use rr_pages::{FreePages, PAGE_BYTES, Roots, Taken, shut};
 use std::marker::PhantomData;
 
 // What is known of the file of a store between two calls.
@@ -32,16 +31,6 @@ pub(crate) struct OpenFile<C> {
 }
 
 // The half of the journal that is a half of it.
-fn half_of(half: bool) -> HalfIndex
-    ensures { result ≡ half_index half }
-{
-    if half {
-        HalfIndex::Second
-    } else {
-        HalfIndex::First
-    }
-}
-
 impl<C: Codec> OpenFile<C> {
     ghost use Rattle.rr_checkpoint.specs.OpenFile.{CarriesWith};
 
@@ -50,7 +39,7 @@ impl<C: Codec> OpenFile<C> {
         &mut self,
         disk: &mut D,
         line: &[u8],
-    ) -> Result<(), rr_journal::Fault>
+    ) -> Result<(), journal::Fault>
         requires some { 0 < length line.now }
         requires number { self.old.place.number < 2 ^ 63 }
 
@@ -79,7 +68,7 @@ impl<C: Codec> OpenFile<C> {
         ensures works { D.Works disk.new → D.Works disk.old }
     {
         if !self.place.half.has_room(line.len()) {
-            return Err(rr_journal::Fault::HalfFull);
+            return Err(journal::Fault::HalfFull);
         }
         self.place
             .half
@@ -117,7 +106,7 @@ impl<C: Codec> OpenFile<C> {
             return Ok(());
         }
         let half = Half {
-            index: half_of(!self.taken.root.half),
+            index: self.taken.root.half.other(),
             next_slot: 0,
         };
         shut(disk, half.next_gate())?;
@@ -201,7 +190,7 @@ impl<C: Codec> OpenFile<C> {
         match checkpoint.plan.fresh.get(written) {
             None => self.shut_stale(disk, checkpoint, written),
             Some(fresh) => {
-                write(disk, 4096 * u64::from(fresh.page), &fresh.bytes)?;
+                write(disk, PAGE_BYTES * u64::from(fresh.page), &fresh.bytes)?;
                 checkpoint.stage = Stage::Writing(written + 1);
                 Ok(checkpoint)
             }

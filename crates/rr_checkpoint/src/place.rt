@@ -1,4 +1,4 @@
-use rr_journal::Half;
+use rr_pages::journal::Half;
 
 /// Where the next record goes.
 #[derive(Clone, Copy, Debug)]

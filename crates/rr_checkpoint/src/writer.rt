@@ -6,9 +6,9 @@ ghost use Rattle.rr_images.specs.Calls.{TakesNewer};
 ghost use Rattle.rr_images.specs.Layout.{Layout};
 ghost use Rattle.rr_images.specs.Plans.{Draft, chains_of};
 ghost use Rattle.rr_images.specs.Progress.{Resting, IsBetween};
-ghost use Rattle.rr_journal.specs.Faults.{CountsFault, OnDeviceFault};
-ghost use Rattle.rr_journal.specs.Layout.{HasRoom};
-ghost use Rattle.rr_journal.specs.declared.fault.Fault.TheVariants as journal;
+ghost use Rattle.rr_pages.specs.Journal.Faults.{CountsFault, OnDeviceFault};
+ghost use Rattle.rr_pages.specs.Journal.Layout.{HasRoom};
+ghost use Rattle.rr_pages.specs.declared.journal.fault.Fault.TheVariants as journal;
 ghost use Rattle.rr_pages.specs.FreePages.{present_of, coming_of};
 ghost use Rattle.rr_pages.specs.Laying.{pages_for};
 ghost use Rattle.rr_pages.specs.Sets.{IsEmpty, TooFewFree, marked};
@@ -24,7 +24,7 @@ use crate::open_file::OpenFile;
 use crate::{Place, Plan};
 use rr_disk::{Disk, Fault};
 use rr_images::Codec;
-use rr_journal::RecordBuffer;
+use rr_pages::journal::RecordBuffer;
 use rr_pages::{FreePages, FreshPage, Root, Taken, chain_write};
 use std::alloc::Global;
 use std::marker::PhantomData;
@@ -114,7 +114,11 @@ impl<C: Codec> Writer<C> {
     /// # Errors
     /// `HalfFull` where the half has no room for it; then no device call was made. After `Disk` the record is on the disk
     /// or not.
-    pub fn append<D: Disk>(&mut self, disk: &mut D, line: &[u8]) -> Result<(), rr_journal::Fault>
+    pub fn append<D: Disk>(
+        &mut self,
+        disk: &mut D,
+        line: &[u8],
+    ) -> Result<(), rr_pages::journal::Fault>
         requires some { 0 < length line.now }
         requires number { (place_of self.old).number < 2 ^ 63 }
 
@@ -250,7 +254,7 @@ impl<C: Codec> Writer<C> {
         Root {
             number: old.number + 1,
             directory: u64::from(head),
-            half: !old.half,
+            half: old.half.other(),
             first: place.begun.unwrap_or(place.number),
             pages: page_count(old.pages, fresh),
             version: 1,

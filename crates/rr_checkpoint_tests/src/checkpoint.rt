@@ -10,7 +10,7 @@ use rr_images::laws::{
     fresh_pages_are_written, kept_files_stand, made_plans_are_plans, records_are_appended,
     refused_files_stand_for_nothing, roots_are_read, roots_change_places,
 };
-use rr_journal::{Fault, Half, HalfIndex, RecordBuffer};
+use rr_pages::journal::{Fault, Half, HalfIndex, RecordBuffer};
 use rr_pages::{FreePages, FreshPage, PageSet, Root, Roots, Taken};
 use rr_reading::laws::{damaged_files_are_refused, held_files_stand};
 use std::alloc::{AllocError, Global};
@@ -28,7 +28,7 @@ impl Codec for Lists {
 }
 
 // A root whose directory is on this page, with which records begin at number 1.
-fn root_of(number: u64, directory: u64, half: bool) -> Root {
+fn root_of(number: u64, directory: u64, half: HalfIndex) -> Root {
     Root {
         number,
         directory,
@@ -46,7 +46,7 @@ fn formatted(alloc: Global) -> Result<MemoryDisk, rr_disk::Fault> {
     let bytes = vec![in alloc; 0u8; 517 * PAGE]?;
     let mut disk = in_memory(alloc, ROOM, &bytes)?;
     let mut roots = Roots { taken: true };
-    roots.flip(&mut disk, &root_of(1, 514, false))?;
+    roots.flip(&mut disk, &root_of(1, 514, HalfIndex::First))?;
     Ok(disk)
 }
 
@@ -66,7 +66,7 @@ fn opened(alloc: Global) -> Result<Writer<Lists>, AllocError> {
     };
     let taken = Taken {
         side: false,
-        root: root_of(1, 514, false),
+        root: root_of(1, 514, HalfIndex::First),
     };
     Ok(Writer::new(taken, place, free, RecordBuffer::new(alloc)?))
 }
@@ -92,7 +92,7 @@ fn begin(
     if writer.ticks_left() > 0 {
         return Err(rr_disk::Fault::OutOfMemory);
     }
-    let root = root_of(2, 515, true);
+    let root = root_of(2, 515, HalfIndex::Second);
     writer.begin(disk, Plan { root, fresh })
 }
 
@@ -219,7 +219,7 @@ fn laid(alloc: Global, writer: &mut Writer<Lists>) -> Result<(u32, Plan), rr_pag
 }
 
 // That page, how many pages are fresh, and the root's number, directory, half, first record, page count and version.
-type Planned = (u32, usize, (u64, u64, bool, u64, u64, u16));
+type Planned = (u32, usize, (u64, u64, HalfIndex, u64, u64, u16));
 
 fn planned(alloc: Global) -> Result<Planned, rr_pages::Fault> {
     let mut writer = opened(alloc)?;
@@ -265,5 +265,5 @@ fn cite_laws_of_steps() {
 fn a_plan_lays_its_directory_behind_its_chains(rt: HostRuntime) {
     cite_laws_of_layouts();
     cite_laws_of_steps();
-    assert!(rt; planned(rt.alloc()) == Ok((515, 2, (2, 516, true, 1, 517, 1))));
+    assert!(rt; planned(rt.alloc()) == Ok((515, 2, (2, 516, HalfIndex::Second, 1, 517, 1))));
 }

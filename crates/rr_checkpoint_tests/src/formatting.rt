@@ -1,15 +1,15 @@
 use crate::calls::{Bytes, counts, given, in_memory};
 use crate::reading::has_texts;
 use rr_disk::{Disk, MemoryDisk};
-use rr_format::laws::new_files_stand;
-use rr_format::{format, new_file, write_new_file};
-use rr_journal::RunEnd;
+use rr_log::formatting::laws::new_files_stand;
+use rr_log::formatting::{format, new_file, write_new_file};
 use rr_pages::Fault;
-use rr_reading::{Contents, read_file};
-use rr_worlds::Rules;
-use rr_worlds::laws::{
+use rr_pages::journal::RunEnd;
+use rr_reading::worlds::Rules;
+use rr_reading::worlds::laws::{
     checkpoints_spell_worlds, worlds_are_exact, worlds_are_read, worlds_are_read_back,
 };
+use rr_reading::{Contents, read_file};
 use std::alloc::Global;
 
 // Room for a file of 519 pages, and for the calls of a test.

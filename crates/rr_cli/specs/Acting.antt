@@ -4,7 +4,7 @@ use Rattle.rr_disk.specs.Disk.{DiskState, counted}
 use Rattle.rr_disk.specs.Moments.{EachImage, LeavesOnly}
 use Rattle.rr_kit.specs.declared.kit.Kit.{Kit}
 use Rattle.rr_kit.specs.Kits.{IsRightKit, KitTexts, SpellsKit}
-use Rattle.rr_records.specs.Headline.{KeepsTables}
+use Rattle.rr_tables.specs.Records.Headline.{KeepsTables}
 use Rattle.rr_serve.specs.declared.faults.Fault as serve
 use Rattle.rr_serve.specs.Serving.{Session}
 use Rattle.rr_serve.specs.Streams.{InputState, OutputState, CountsFailures, IsCutShort, IsSent}

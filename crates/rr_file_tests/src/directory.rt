@@ -1,4 +1,6 @@
-use rr_dir::{ChainRef, Dir, Fault, KeptCommands, KitChains, TableEntry, Version, write_kept};
+use rr_reading::dir::{
+    ChainRef, Dir, Fault, KeptCommands, KitChains, TableEntry, Version, write_kept,
+};
 use rr_words::Name;
 use std::alloc::Global;
 use std::test::Fail;

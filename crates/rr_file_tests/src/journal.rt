@@ -2,7 +2,7 @@ use crate::calls::{
     beneath, content, failing_after, failing_once, in_memory, stopped, sync, unsynced, write,
 };
 use rr_disk::{Disk, Kept, MemoryDisk};
-use rr_journal::{
+use rr_pages::journal::{
     Fault, Half, HalfIndex, RecordBuffer, RunEnd, Scanned, halves_have_one_run, scan,
 };
 use std::alloc::{AllocError, Global};

@@ -2,6 +2,7 @@ ghost use Rattle.std.specs.Prelude.{◌≤◌, ◌*◌};
 
 use crate::calls::{content, counts, in_memory, write};
 use rr_disk::MemoryDisk;
+use rr_pages::journal::HalfIndex;
 use rr_pages::{
     Damage, Fault, FreePages, FreshPage, PageSet, ReadChain, Root, Roots, Taken, chain_read,
     chain_write, laws, shut, take_root,
@@ -106,7 +107,7 @@ fn a_chain_has_its_stated_length(rt: HostRuntime) {
     assert!(rt; chain.pages.as_slice() == [515, 514].as_slice());
     for stated in [4, 6] {
         let answer = read(rt.alloc(), &mut disk, 515, Some(stated));
-        check_damage(&rt, answer, Damage::ChainLength, 5);
+        check_damage(&rt, answer, Damage::Form, 5);
     }
 }
 
@@ -134,11 +135,11 @@ fn the_root_that_was_written_last_is_taken(rt: HostRuntime) {
     let mut disk = blank(&rt, rt.alloc());
     assert!(rt; take(&mut disk).err() == Some(Fault::NotAStore));
     let mut roots = Roots { taken: true };
-    for (number, side) in [(7, false), (8, true)] {
+    for (number, side, half) in [(7, false, HalfIndex::First), (8, true, HalfIndex::Second)] {
         let root = Root {
             number,
             directory: 514,
-            half: side,
+            half,
             first: 1,
             pages: 516,
             version: 1,
@@ -147,7 +148,7 @@ fn the_root_that_was_written_last_is_taken(rt: HostRuntime) {
         let taken = take(&mut disk).expect(&rt, "a root");
         assert!(rt; taken.side == side);
         assert!(rt; taken.root.number == number);
-        assert!(rt; taken.root.half == side);
+        assert!(rt; taken.root.half == half);
     }
     write(&mut disk, 4096 + 26, &517u64.to_be_bytes()).expect(&rt, "room");
     assert!(rt; take(&mut disk).err() == Some(Fault::Damaged(Damage::RootField)));
@@ -199,5 +200,5 @@ fn laws_are_called() {
     laws::one_root_is_taken();
     laws::taken_pages_are_free();
     laws::standing_chains_are_read();
-    rr_dir::laws::one_meaning();
+    rr_reading::dir::laws::one_meaning();
 }

@@ -1,13 +1,13 @@
 -- A commit while a checkpoint has come anywhere.
-use Rattle.rr_journal.specs.Stops as journal
+use Rattle.rr_pages.specs.Journal.Stops as journal
 use Rattle.std.proofs.Common.{◌≡◌, ◌⊎◌, inl, inr, ℕ, ◌+◌, ◌*◌, ◌^◌, ◌<◌, ◌≤◌, not, List, [], ◌∷◌, ◌++◌, length, refl, sym, ap, subst, arith}
 use Rattle.std.proofs.lemmas.List.{append-nil}
 use Rattle.rr_disk.specs.Disk.{DiskState, IsImage, Torn, written, after_write, after_sync}
 use Rattle.rr_disk.specs.Moments.{EachImage}
 use Rattle.rr_disk.proofs.ImageLemmas.{torn_whole}
-use Rattle.rr_journal.specs.declared.half.Half.{Half}
-use Rattle.rr_journal.specs.Layout.{HasRoom, spelling, slots_for}
-use Rattle.rr_journal.specs.Stops.{next_gate, MayLeave}
+use Rattle.rr_pages.specs.declared.journal.half.Half.{Half}
+use Rattle.rr_pages.specs.Journal.Layout.{HasRoom, spelling, slots_for}
+use Rattle.rr_pages.specs.Journal.Stops.{next_gate, MayLeave}
 use Rattle.rr_images.specs.Codec.{Codec}
 use Rattle.rr_pages.specs.Roots.{root_gate}
 use Rattle.rr_images.specs.Holding.{reached_of}

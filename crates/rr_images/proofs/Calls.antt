@@ -3,11 +3,11 @@ use Rattle.std.proofs.Common.{◌≡◌, ◌≢◌, ◌⊎◌, inl, inr, ℕ, �
 use Rattle.rr_disk.specs.Disk.{DiskState, IsImage, after_write, after_sync}
 use Rattle.rr_disk.specs.Moments.{EachImage, TornFrom}
 use Rattle.rr_disk.proofs.ImageLemmas.{synced_may_stay}
-use Rattle.rr_journal.specs.declared.half.Half.{Half}
-use Rattle.rr_journal.specs.Layout.{HasRoom, slots_for, spelling}
-use Rattle.rr_journal.specs.Stops as journal
-use Rattle.rr_journal.specs.Stops.{next_gate, MayLeave}
-use Rattle.rr_journal.proofs.Moments.{keeps_ready, kept_after}
+use Rattle.rr_pages.specs.declared.journal.half.Half.{Half}
+use Rattle.rr_pages.specs.Journal.Layout.{HasRoom, slots_for, spelling, other_half}
+use Rattle.rr_pages.specs.Journal.Stops as journal
+use Rattle.rr_pages.specs.Journal.Stops.{next_gate, MayLeave}
+use Rattle.rr_pages.proofs.JournalLemmas.Moments.{keeps_ready, kept_after}
 use Rattle.rr_pages.specs.declared.root.Root.{Root}
 use Rattle.rr_pages.specs.Pages.{AreData, StandsAt}
 use Rattle.rr_pages.specs.Chains.{Links}
@@ -15,7 +15,6 @@ use Rattle.rr_pages.specs.Device.{Shuts, By_write, By_sync, MayShut, MayFlip, Wh
 use Rattle.rr_pages.specs.Roots.{Stale, Shut, Older, root_gate, root_bytes, HasFields, IsStale, FitsFields}
 use Rattle.rr_pages.proofs.RootSpelling.{length-root, root_stands}
 use Rattle.rr_images.specs.Codec.{Codec}
-use Rattle.rr_images.specs.Halves.{half_index}
 use Rattle.rr_images.specs.Holding.{pages_of}
 use Rattle.rr_images.specs.Layout.{Layout, FarHalf, Unused, Old, Begun, KeepsFar, KeepsAt, far_lines}
 use Rattle.rr_images.specs.Steps.{with_stale, with_far, flipped, behind_flip, lines_at, first_at, GoesOnAt}
@@ -44,19 +43,19 @@ nothing_in (line ∷ near) = refl
 module _ (codec : Codec) (layout : Layout codec) (state : DiskState) (world : codec.World) (stays : IsImage state state.content) where
   -- the other half's gate, as a read tells it
   module _ (each : EachImage state (λ image. KeepsAt codec layout image world)) (none : IsNotBegun layout.far) where
-    far_there : KeepsFar state.content (half_index (not layout.root.half)) (layout.root.first + length layout.near) layout.far
+    far_there : KeepsFar state.content (other_half layout.root.half) (layout.root.first + length layout.near) layout.far
     far_there = (each state.content stays).far_kept
 
     is_old : slice_index state.content (far_gate layout) ≡ 0xa5 → layout.far ≡ Old
     is_old open_gate = elim (not_begun layout.far none) [
-      | inl is ↦ absurd ((subst (λ (far : FarHalf). KeepsFar state.content (half_index (not layout.root.half)) (layout.root.first + length layout.near) far) is far_there) (omega arith) open_gate)
+      | inl is ↦ absurd ((subst (λ (far : FarHalf). KeepsFar state.content (other_half layout.root.half) (layout.root.first + length layout.near) far) is far_there) (omega arith) open_gate)
       | inr is ↦ is
     ]
 
     is_unused : slice_index state.content (far_gate layout) ≢ 0xa5 → layout.far ≡ Unused
     is_unused shut = elim (not_begun layout.far none) [
       | inl is ↦ is
-      | inr is ↦ absurd (shut (subst (λ (far : FarHalf). KeepsFar state.content (half_index (not layout.root.half)) (layout.root.first + length layout.near) far) is far_there).0)
+      | inr is ↦ absurd (shut (subst (λ (far : FarHalf). KeepsFar state.content (other_half layout.root.half) (layout.root.first + length layout.near) far) is far_there).0)
     ]
 
     begin_leaves : LeaveKept codec world (MayShut state (far_gate layout))

@@ -1,19 +1,18 @@
 -- What the append of a record leaves of what a file keeps.
-use Rattle.rr_journal.specs.Stops as journal
+use Rattle.rr_pages.specs.Journal.Stops as journal
 use Rattle.std.proofs.Common.{◌≡◌, ◌⊎◌, inl, inr, ℕ, ◌+◌, ◌^◌, ◌<◌, ◌≤◌, not, List, [], ◌∷◌, ◌++◌, length, refl, sym, subst, arith, length-append}
 use Rattle.rr_disk.specs.Disk.{DiskState, IsImage, Torn}
 use Rattle.rr_disk.specs.Moments.{EachImage}
-use Rattle.rr_journal.specs.declared.half.Half.{Half}
-use Rattle.rr_journal.specs.declared.layout.HalfIndex.{HalfIndex}
-use Rattle.rr_journal.specs.declared.reading.RunEnd.TheVariants.{Closed}
-use Rattle.rr_journal.specs.Layout.{gate_place, HasRoom, spelling}
-use Rattle.rr_journal.specs.Run.{Run, slots_of}
-use Rattle.rr_journal.specs.Stops.{next_gate, MayLeave}
-use Rattle.rr_journal.proofs.Moments.{before_or_after}
-use Rattle.rr_journal.proofs.Runs.{run_fits}
-use Rattle.rr_journal.proofs.Spelling.{length_behind}
+use Rattle.rr_pages.specs.declared.journal.half.Half.{Half}
+use Rattle.rr_pages.specs.declared.journal.layout.HalfIndex.{HalfIndex}
+use Rattle.rr_pages.specs.declared.journal.reading.RunEnd.TheVariants.{Closed}
+use Rattle.rr_pages.specs.Journal.Layout.{gate_place, HasRoom, spelling, other_half}
+use Rattle.rr_pages.specs.Journal.Run.{Run, slots_of}
+use Rattle.rr_pages.specs.Journal.Stops.{next_gate, MayLeave}
+use Rattle.rr_pages.proofs.JournalLemmas.Moments.{before_or_after}
+use Rattle.rr_pages.proofs.JournalLemmas.Runs.{run_fits}
+use Rattle.rr_pages.proofs.JournalLemmas.Spelling.{length_behind}
 use Rattle.rr_images.specs.Codec.{Codec, Replays}
-use Rattle.rr_images.specs.Halves.{half_index}
 use Rattle.rr_images.specs.Layout.{Layout, FarHalf, Unused, Old, Begun, KeepsFar, KeepsAt, far_lines}
 use Rattle.rr_images.specs.Steps.{with_line, with_line_at, half_at, lines_at, first_at, GoesOnAt}
 use Rattle.rr_images.proofs.Places.{half_high}
@@ -30,10 +29,10 @@ settled_may_stay state = record { no_shorter = omega arith; no_longer = omega ar
 
 module _ (codec : Codec) (layout : Layout codec) (world : codec.World) where
   -- the records where the next one goes
-  run_at : (file : List ℕ) (far : FarHalf) → layout.far ≡ far → KeepsAt codec layout file world → Run file (half_index (half_at layout.root.half far)) 0 (first_at layout.root.first layout.near far) (lines_at layout.near far) Closed
+  run_at : (file : List ℕ) (far : FarHalf) → layout.far ≡ far → KeepsAt codec layout file world → Run file (half_at layout.root.half far) 0 (first_at layout.root.first layout.near far) (lines_at layout.near far) Closed
   run_at file Unused is keeps = keeps.near_run
   run_at file Old is keeps = keeps.near_run
-  run_at file (Begun lines) is keeps = subst (λ (far : FarHalf). KeepsFar file (half_index (not layout.root.half)) (layout.root.first + length layout.near) far) is keeps.far_kept
+  run_at file (Begun lines) is keeps = subst (λ (far : FarHalf). KeepsFar file (other_half layout.root.half) (layout.root.first + length layout.near) far) is keeps.far_kept
 
   -- what the journal asks of the half where the next record goes
   pub journal_keeps : (state : DiskState) (half : Half) (number : ℕ) → GoesOnAt layout half number → EachImage state (λ image. KeepsAt codec layout image world)
@@ -41,7 +40,7 @@ module _ (codec : Codec) (layout : Layout codec) (world : codec.World) where
   journal_keeps state half number at each =
       let settled = each state.settled (settled_may_stay state) in
       let run = run_at state.settled layout.far refl settled in
-      let fits : 0 + slots_of (lines_at layout.near layout.far) ≤ 255 = run_fits state.settled (half_index (half_at layout.root.half layout.far)) 0 (first_at layout.root.first layout.near layout.far) (lines_at layout.near layout.far) Closed (omega arith) run in
+      let fits : 0 + slots_of (lines_at layout.near layout.far) ≤ 255 = run_fits state.settled (half_at layout.root.half layout.far) 0 (first_at layout.root.first layout.near layout.far) (lines_at layout.near layout.far) Closed (omega arith) run in
       let high = half_high (half_at layout.root.half layout.far) in
       let enough = long codec layout world state.settled state.settled settled in
       record {
@@ -52,12 +51,12 @@ module _ (codec : Codec) (layout : Layout codec) (world : codec.World) where
 
   -- a tear within the half where the next record goes, in front of the half's last slot
   module _ (line : List ℕ) (after : codec.World) (takes : codec.Takes line world after) (a b : List ℕ) (keeps : KeepsAt codec layout a world) (at n : ℕ) (torn : Torn at n a b) where
-    torn_at : (far : FarHalf) → layout.far ≡ far → gate_place (half_index (half_at layout.root.half far)) 0 ≤ at → at + n ≤ gate_place (half_index (half_at layout.root.half far)) 256
-        → Run b (half_index (half_at layout.root.half far)) 0 (first_at layout.root.first layout.near far) (lines_at layout.near far) Closed → KeepsAt codec layout b world
+    torn_at : (far : FarHalf) → layout.far ≡ far → gate_place (half_at layout.root.half far) 0 ≤ at → at + n ≤ gate_place (half_at layout.root.half far) 256
+        → Run b (half_at layout.root.half far) 0 (first_at layout.root.first layout.near far) (lines_at layout.near far) Closed → KeepsAt codec layout b world
     torn_at Unused is low high run = near_changed codec layout world a b keeps at n torn low high layout.near layout.middle world run keeps.near_replayed (omega arith) (λ kept. kept) keeps.far_replayed
     torn_at Old is low high run = near_changed codec layout world a b keeps at n torn low high layout.near layout.middle world run keeps.near_replayed (omega arith) (λ kept. kept) keeps.far_replayed
     torn_at (Begun lines) is low high run =
-        far_changed codec layout world a b keeps at n torn low high layout.far world (subst (λ (far : FarHalf). KeepsFar b (half_index (not layout.root.half)) (layout.root.first + length layout.near) far) (sym is) run) keeps.far_replayed
+        far_changed codec layout world a b keeps at n torn low high layout.far world (subst (λ (far : FarHalf). KeepsFar b (other_half layout.root.half) (layout.root.first + length layout.near) far) (sym is) run) keeps.far_replayed
 
     -- with no far lines the near ones lead to the world
     at_end : (far : FarHalf) → layout.far ≡ far → far_lines far ≡ [] → layout.middle ≡ world
@@ -66,17 +65,17 @@ module _ (codec : Codec) (layout : Layout codec) (world : codec.World) where
     longer : length (layout.near ++ line ∷ []) ≡ length layout.near + 1
     longer = omega (arith, length-append layout.near (line ∷ []))
 
-    grown_at : (far : FarHalf) → layout.far ≡ far → gate_place (half_index (half_at layout.root.half far)) 0 ≤ at → at + n ≤ gate_place (half_index (half_at layout.root.half far)) 256
-        → Run b (half_index (half_at layout.root.half far)) 0 (first_at layout.root.first layout.near far) (lines_at layout.near far ++ line ∷ []) Closed → KeepsAt codec (with_line_at layout far line after) b after
+    grown_at : (far : FarHalf) → layout.far ≡ far → gate_place (half_at layout.root.half far) 0 ≤ at → at + n ≤ gate_place (half_at layout.root.half far) 256
+        → Run b (half_at layout.root.half far) 0 (first_at layout.root.first layout.near far) (lines_at layout.near far ++ line ∷ []) Closed → KeepsAt codec (with_line_at layout far line after) b after
     grown_at Unused is low high run =
         near_changed codec layout world a b keeps at n torn low high (layout.near ++ line ∷ []) after after run (replays_more codec layout.near line layout.base world after (subst (λ (m : codec.World). Replays codec layout.base layout.near m) (at_end Unused is refl) keeps.near_replayed) takes) (omega (arith, longer))
-        (λ kept. subst (λ (far : FarHalf). KeepsFar b (half_index (not layout.root.half)) (layout.root.first + length (layout.near ++ line ∷ [])) far) (sym is)
-        (subst (λ (far : FarHalf). KeepsFar b (half_index (not layout.root.half)) (layout.root.first + length layout.near) far) is kept))
+        (λ kept. subst (λ (far : FarHalf). KeepsFar b (other_half layout.root.half) (layout.root.first + length (layout.near ++ line ∷ [])) far) (sym is)
+        (subst (λ (far : FarHalf). KeepsFar b (other_half layout.root.half) (layout.root.first + length layout.near) far) is kept))
         (subst (λ (far : FarHalf). Replays codec after (far_lines far) after) (sym is) refl)
     grown_at Old is low high run =
         near_changed codec layout world a b keeps at n torn low high (layout.near ++ line ∷ []) after after run (replays_more codec layout.near line layout.base world after (subst (λ (m : codec.World). Replays codec layout.base layout.near m) (at_end Old is refl) keeps.near_replayed) takes) (omega (arith, longer))
-        (λ kept. subst (λ (far : FarHalf). KeepsFar b (half_index (not layout.root.half)) (layout.root.first + length (layout.near ++ line ∷ [])) far) (sym is)
-        (let was : KeepsFar b (half_index (not layout.root.half)) (layout.root.first + length layout.near) Old = subst (λ (far : FarHalf). KeepsFar b (half_index (not layout.root.half)) (layout.root.first + length layout.near) far) is kept in (was.0, omega (arith, was.1, longer))))
+        (λ kept. subst (λ (far : FarHalf). KeepsFar b (other_half layout.root.half) (layout.root.first + length (layout.near ++ line ∷ [])) far) (sym is)
+        (let was : KeepsFar b (other_half layout.root.half) (layout.root.first + length layout.near) Old = subst (λ (far : FarHalf). KeepsFar b (other_half layout.root.half) (layout.root.first + length layout.near) far) is kept in (was.0, omega (arith, was.1, longer))))
         (subst (λ (far : FarHalf). Replays codec after (far_lines far) after) (sym is) refl)
     grown_at (Begun lines) is low high run =
         far_changed codec layout world a b keeps at n torn low high (Begun (lines ++ line ∷ [])) after run
@@ -85,15 +84,15 @@ module _ (codec : Codec) (layout : Layout codec) (world : codec.World) where
   -- an append may leave what the file kept, or that with the line
   module _ (line : List ℕ) (after : codec.World) (takes : codec.Takes line world after) (state : DiskState) (half : Half) (number : ℕ) (goes_on : GoesOnAt layout half number) (each : EachImage state (λ image. KeepsAt codec layout image world))
       (room : HasRoom half.next_slot (length line)) (fits : number < 256 ^ 8) where
-    pub low_end : gate_place (half_index (half_at layout.root.half layout.far)) 0 ≤ next_gate half
-    low_end = subst (λ (index : HalfIndex). gate_place (half_index (half_at layout.root.half layout.far)) 0 ≤ gate_place index half.next_slot) (sym goes_on.index) (omega arith)
+    pub low_end : gate_place (half_at layout.root.half layout.far) 0 ≤ next_gate half
+    low_end = subst (λ (index : HalfIndex). gate_place (half_at layout.root.half layout.far) 0 ≤ gate_place index half.next_slot) (sym goes_on.index) (omega arith)
 
-    pub high_end : next_gate half + length (spelling number line) ≤ gate_place (half_index (half_at layout.root.half layout.far)) 256
+    pub high_end : next_gate half + length (spelling number line) ≤ gate_place (half_at layout.root.half layout.far) 256
     high_end =
         let long_enough = length_behind number line in
-        subst (λ (index : HalfIndex). gate_place index half.next_slot + length (spelling number line) ≤ gate_place (half_index (half_at layout.root.half layout.far)) 256) (sym goes_on.index) (omega (arith, long_enough, room.fits))
+        subst (λ (index : HalfIndex). gate_place index half.next_slot + length (spelling number line) ≤ gate_place (half_at layout.root.half layout.far) 256) (sym goes_on.index) (omega (arith, long_enough, room.fits))
 
-    as_part : (file : List ℕ) (lines : List (List ℕ)) → Run file half.index 0 (first_at layout.root.first layout.near layout.far) lines Closed → Run file (half_index (half_at layout.root.half layout.far)) 0 (first_at layout.root.first layout.near layout.far) lines Closed
+    as_part : (file : List ℕ) (lines : List (List ℕ)) → Run file half.index 0 (first_at layout.root.first layout.near layout.far) lines Closed → Run file (half_at layout.root.half layout.far) 0 (first_at layout.root.first layout.near layout.far) lines Closed
     as_part file lines run = subst (λ (index : HalfIndex). Run file index 0 (first_at layout.root.first layout.near layout.far) lines Closed) goes_on.index run
 
     -- a whole record is there

@@ -17,6 +17,7 @@ use Rattle.rr_images.specs.Layout.{Spelled, Keeps, formatted}
 use Rattle.rr_images.specs.Example.{lists, IsExample}
 use Rattle.rr_images.proofs.OneWorld.{formatted_keep}
 use Rattle.rr_images.proofs.Ticks.{stands_written}
+use Rattle.rr_pages.specs.declared.journal.layout.HalfIndex.TheVariants.{First}
 
 is_exact : IsExact lists
 is_exact =
@@ -27,7 +28,7 @@ is_exact =
     }
 
 first_root : Root
-first_root = record { number = 0; directory = 514; half = false; first = 1; pages = 515; version = 1 }
+first_root = record { number = 0; directory = 514; half = First; first = 1; pages = 515; version = 1 }
 
 first_page : List ℕ
 first_page = page_spelling 0 (7 ∷ [])

@@ -4,7 +4,7 @@ use Rattle.std.specs.List.{list_any}
 use Rattle.std.proofs.lemmas.Bool.{cases_eq}
 use Rattle.std.proofs.lemmas.List.{append_assoc, append-nil, length-set}
 use Rattle.rr_pages.specs.declared.fault.Damage.{Damage}
-use Rattle.rr_pages.specs.declared.fault.Damage.TheVariants.{UsedBytes, ChainLength}
+use Rattle.rr_pages.specs.declared.fault.Damage.TheVariants.{UsedBytes, Form}
 use Rattle.rr_pages.specs.declared.root.Root.{Root}
 use Rattle.rr_pages.specs.Pages.{IsIn, AllApart, AreData}
 use Rattle.rr_pages.specs.Chains.{used_of, next_of, Chain}
@@ -64,7 +64,7 @@ module _ (file : List ℕ) (count : ℕ) (low : count ≤ 65536) where
   length-all_marked marks (page ∷ pages) = length-all_marked (marked marks page) pages ∙ length-set marks page true
 
   -- a chain that was read has the length that is stated
-  stated_is : (over test : Bool) (total stated : ℕ) → test ≡ (total == stated) → (if over then Some UsedBytes else (if test then None else Some ChainLength)) ≡ None → total ≡ stated
+  stated_is : (over test : Bool) (total stated : ℕ) → test ≡ (total == stated) → (if over then Some UsedBytes else (if test then None else Some Form)) ≡ None → total ≡ stated
   stated_is true test total stated is none = absurd (cc)
   stated_is false false total stated is none = absurd (cc)
   stated_is false true total stated is none = elim (cases_eq total stated) [ inl same ↦ same | inr differs ↦ absurd (grind (arith, is, differs)) ]

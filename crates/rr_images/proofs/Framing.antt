@@ -1,15 +1,14 @@
 -- On which bytes what a file keeps depends.
 use Rattle.std.proofs.Common.{◌≡◌, inl, inr, ℕ, ◌+◌, ◌*◌, ◌<◌, ◌≤◌, Bool, not, List, [], ◌∷◌, slice_index, length, refl, sym, ◌∙◌, subst, arith}
-use Rattle.rr_journal.specs.declared.layout.HalfIndex.{HalfIndex}
-use Rattle.rr_journal.specs.declared.reading.RunEnd.TheVariants.{Closed}
-use Rattle.rr_journal.specs.Layout.{gate_place, number_at}
-use Rattle.rr_journal.proofs.Bytes.{big_from-same}
-use Rattle.rr_journal.proofs.Runs.{run_same}
+use Rattle.rr_pages.specs.declared.journal.layout.HalfIndex.{HalfIndex}
+use Rattle.rr_pages.specs.declared.journal.reading.RunEnd.TheVariants.{Closed}
+use Rattle.rr_pages.specs.Journal.Layout.{gate_place, number_at, other_half}
+use Rattle.rr_pages.proofs.JournalLemmas.Bytes.{big_from-same}
+use Rattle.rr_pages.proofs.JournalLemmas.Runs.{run_same}
 use Rattle.rr_pages.proofs.SetLemmas.{in_front, in_back}
 use Rattle.rr_images.specs.Codec.{Codec}
 use Rattle.rr_pages.specs.declared.root.Root.{Root}
 use Rattle.rr_pages.specs.Roots.{Stale, Shut, Older, root_gate, field, HasFields, IsSound, IsStale}
-use Rattle.rr_images.specs.Halves.{half_index}
 use Rattle.rr_pages.specs.Pages.{number_in, IsIn, AreData}
 use Rattle.rr_pages.specs.Chains.{IsPage, Links, Chain}
 use Rattle.rr_pages.specs.Laying.{head_of}
@@ -122,15 +121,15 @@ reached_in count p (page ∷ pages) data_pages (inr inside) = reached_in count p
 -- a file that has all these bytes keeps the same
 pub keeps_same : (codec : Codec) (layout : Layout codec) (stale : Stale) (world : codec.World) (a b : List ℕ) → length a ≤ length b
     → Same a b (root_gate layout.side) (root_gate layout.side + 36) → IsStale b (not layout.side) layout.root.number stale
-    → SameHalf a b (half_index layout.root.half) → SameHalf a b (half_index (not layout.root.half)) → SamePages a b (reached_of layout.holding)
+    → SameHalf a b layout.root.half → SameHalf a b (other_half layout.root.half) → SamePages a b (reached_of layout.holding)
     → KeepsAt codec layout a world → KeepsAt codec (with_stale layout stale) b world
 keeps_same codec layout stale world a b longer root other near far pages keeps =
     record {
       taken = record { open_gate = (open_same a b layout.side root) ∙ keeps.taken.open_gate; fields = fields_same a b layout.side layout.root (λ i low high. root i (omega arith) (omega arith)) keeps.taken.fields; sound = sound_longer a b layout.root longer keeps.taken.sound; other = other };
       spelled = spelled_same a b codec layout.root layout.holding layout.base pages keeps.spelled;
-      near_run = run_same a b (half_index layout.root.half) layout.root.first layout.near Closed near keeps.near_run;
+      near_run = run_same a b layout.root.half layout.root.first layout.near Closed near keeps.near_run;
       near_replayed = keeps.near_replayed;
-      far_kept = far_same a b (half_index (not layout.root.half)) (layout.root.first + length layout.near) layout.far far keeps.far_kept;
+      far_kept = far_same a b (other_half layout.root.half) (layout.root.first + length layout.near) layout.far far keeps.far_kept;
       far_replayed = keeps.far_replayed;
     }
 

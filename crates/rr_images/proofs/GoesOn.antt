@@ -1,16 +1,16 @@
 -- Where records go on after each step.
 use Rattle.std.proofs.Common.{◌≡◌, ◌⊎◌, inl, inr, ℕ, ◌+◌, Bool, not, List, [], ◌∷◌, ◌++◌, length, refl, sym, ◌∙◌, ap, arith, length-append}
-use Rattle.rr_journal.specs.declared.half.Half.{Half}
-use Rattle.rr_journal.specs.Layout.{slots_for}
-use Rattle.rr_journal.specs.Run.{slots_of}
-use Rattle.rr_journal.proofs.Runs.{slots_of-append}
+use Rattle.rr_pages.specs.declared.journal.half.Half.{Half}
+use Rattle.rr_pages.specs.Journal.Layout.{slots_for, other_half}
+use Rattle.rr_pages.specs.Journal.Run.{slots_of}
+use Rattle.rr_pages.proofs.JournalLemmas.Runs.{slots_of-append}
 use Rattle.rr_images.specs.Codec.{Codec}
 use Rattle.rr_pages.specs.declared.root.Root.{Root}
 use Rattle.rr_pages.specs.Roots.{Stale}
-use Rattle.rr_images.specs.Halves.{half_index}
 use Rattle.rr_images.specs.Holding.{Holding}
 use Rattle.rr_images.specs.Layout.{Layout, FarHalf, Unused, Old, Begun, far_lines, opened_far}
 use Rattle.rr_images.specs.Steps.{with_stale, with_far, with_line, with_line_at, flipped, behind_flip, ComesNext, half_at, lines_at, first_at, GoesOnAt, read_half, read_lines}
+use Rattle.rr_pages.specs.declared.journal.layout.HalfIndex.{HalfIndex}
 
 module _ (codec : Codec) (layout : Layout codec) (half : Half) (number : ℕ) (goes_on : GoesOnAt layout half number) where
   pub goes_stale : (stale : Stale) → GoesOnAt (with_stale layout stale) half number
@@ -41,7 +41,7 @@ module _ (codec : Codec) (layout : Layout codec) (half : Half) (number : ℕ) (g
     goes_line_at far is =
         let lines = lines_after far is in
         record {
-          index = goes_on.index ∙ ap half_index (sym (half_after far is) ∙ ap (λ (r : Root). half_at r.half (with_line_at layout far line after).far) (sym (same_root far)));
+          index = goes_on.index ∙ (sym (half_after far is) ∙ ap (λ (r : Root). half_at r.half (with_line_at layout far line after).far) (sym (same_root far)));
           slot = omega (arith, goes_on.slot, ap slots_of lines, slots_of-append (lines_at layout.near layout.far) (line ∷ []));
           numbered = omega (arith, goes_on.numbered, first_after far is, ap (λ (r : Root). first_at r.first (with_line_at layout far line after).near (with_line_at layout far line after).far) (same_root far), ap (λ (ls : List (List ℕ)). length ls) lines, length-append (lines_at layout.near layout.far) (line ∷ []));
         }
@@ -50,14 +50,14 @@ module _ (codec : Codec) (layout : Layout codec) (half : Half) (number : ℕ) (g
     goes_line = goes_line_at layout.far refl
 
   -- the other half's slot 0 after the first step
-  pub goes_begun : layout.far ≡ Unused ⊎ layout.far ≡ Old → GoesOnAt (with_far layout (Begun [])) (record { index = half_index (not layout.root.half); next_slot = 0 }) number
+  pub goes_begun : layout.far ≡ Unused ⊎ layout.far ≡ Old → GoesOnAt (with_far layout (Begun [])) (record { index = other_half layout.root.half; next_slot = 0 }) number
   goes_begun (inl is) =
       record { index = refl; slot = refl; numbered = omega (arith, goes_on.numbered, ap (λ (far : FarHalf). first_at layout.root.first layout.near far + length (lines_at layout.near far)) is) }
   goes_begun (inr is) =
       record { index = refl; slot = refl; numbered = omega (arith, goes_on.numbered, ap (λ (far : FarHalf). first_at layout.root.first layout.near far + length (lines_at layout.near far)) is) }
 
   -- the flip leaves the place as it is
-  at_flip : (near : List (List ℕ)) (half : Bool) → half_at half (behind_flip near) ≡ half
+  at_flip : (near : List (List ℕ)) (half : HalfIndex) → half_at half (behind_flip near) ≡ half
   at_flip [] half = refl
   at_flip (line ∷ near) half = refl
 
@@ -72,13 +72,13 @@ module _ (codec : Codec) (layout : Layout codec) (half : Half) (number : ℕ) (g
   pub goes_flip : (root : Root) (holding : Holding) (lines : List (List ℕ)) (world : codec.World) → layout.far ≡ Begun lines → ComesNext layout root → GoesOnAt (flipped layout root holding lines world) half number
   goes_flip root holding lines world is next =
       record {
-        index = goes_on.index ∙ ap half_index (ap (λ (far : FarHalf). half_at layout.root.half far) is ∙ (sym next.half ∙ sym (at_flip layout.near root.half)));
+        index = goes_on.index ∙ (ap (λ (far : FarHalf). half_at layout.root.half far) is ∙ (sym next.half ∙ sym (at_flip layout.near root.half)));
         slot = goes_on.slot ∙ ap slots_of (ap (λ (far : FarHalf). lines_at layout.near far) is ∙ sym (lines_flip layout.near lines));
         numbered = omega (arith, goes_on.numbered, ap (λ (far : FarHalf). first_at layout.root.first layout.near far + length (lines_at layout.near far)) is, next.first, first_flip layout.near lines root.first, ap (λ (ls : List (List ℕ)). length ls) (lines_flip layout.near lines));
       }
 
 -- where an opening goes on
-at_read_half : (half : Bool) (far : FarHalf) → half_at half (opened_far far) ≡ read_half half (far_lines far)
+at_read_half : (half : HalfIndex) (far : FarHalf) → half_at half (opened_far far) ≡ read_half half (far_lines far)
 at_read_half half Unused = refl
 at_read_half half Old = refl
 at_read_half half (Begun []) = refl
@@ -96,11 +96,11 @@ at_read_number first near Old = omega arith
 at_read_number first near (Begun []) = omega arith
 at_read_number first near (Begun (line ∷ lines)) = omega arith
 
-pub goes_opened : (codec : Codec) (layout : Layout codec) (half : Half) (number : ℕ) → half.index ≡ half_index (read_half layout.root.half (far_lines layout.far)) → half.next_slot ≡ slots_of (read_lines layout.near (far_lines layout.far))
+pub goes_opened : (codec : Codec) (layout : Layout codec) (half : Half) (number : ℕ) → half.index ≡ read_half layout.root.half (far_lines layout.far) → half.next_slot ≡ slots_of (read_lines layout.near (far_lines layout.far))
     → number ≡ layout.root.first + length layout.near + length (far_lines layout.far) → GoesOnAt (with_far layout (opened_far layout.far)) half number
 goes_opened codec layout half number index slot numbered =
     record {
-      index = index ∙ ap half_index (sym (at_read_half layout.root.half layout.far));
+      index = index ∙ sym (at_read_half layout.root.half layout.far);
       slot = slot ∙ ap slots_of (sym (at_read_lines layout.near layout.far));
       numbered = numbered ∙ sym (at_read_number layout.root.first layout.near layout.far);
     }

@@ -12,3 +12,4 @@ pub mod Laid
 pub mod Following
 pub mod Refusing
 pub mod Example
+pub mod ScheduleLemmas

@@ -3,18 +3,17 @@ use Rattle.std.proofs.Common.{◌≡◌, ◌≢◌, ℕ, ◌+◌, Bool, not, Lis
 use Rattle.std.proofs.lemmas.List.{ext_get_or}
 use Rattle.rr_disk.specs.Disk.{DiskState, after_sync}
 use Rattle.rr_disk.proofs.ImageLemmas.{each_synced}
-use Rattle.rr_journal.specs.declared.layout.HalfIndex.{HalfIndex}
-use Rattle.rr_journal.specs.declared.reading.RunEnd.{RunEnd}
-use Rattle.rr_journal.specs.declared.reading.RunEnd.TheVariants.{Closed, OtherNumber, Damaged}
-use Rattle.rr_journal.specs.Layout.{IsOpen}
-use Rattle.rr_journal.specs.Run.{Run}
-use Rattle.rr_journal.proofs.Runs.{one_run}
+use Rattle.rr_pages.specs.declared.journal.layout.HalfIndex.{HalfIndex}
+use Rattle.rr_pages.specs.declared.journal.reading.RunEnd.{RunEnd}
+use Rattle.rr_pages.specs.declared.journal.reading.RunEnd.TheVariants.{Closed, OtherNumber, Damaged}
+use Rattle.rr_pages.specs.Journal.Layout.{IsOpen, other_half}
+use Rattle.rr_pages.specs.Journal.Run.{Run}
+use Rattle.rr_pages.proofs.JournalLemmas.Runs.{one_run}
 use Rattle.rr_pages.proofs.ChoosingLemmas.{one_taken}
 use Rattle.rr_images.specs.Codec.{Codec, Replays, IsExact}
 use Rattle.rr_pages.specs.declared.root.Root.{Root}
 use Rattle.rr_pages.specs.Roots.{Shut, IsTaken}
 use Rattle.rr_pages.specs.Laying.{head_of}
-use Rattle.rr_images.specs.Halves.{half_index}
 use Rattle.rr_pages.specs.Pages.{AreData}
 use Rattle.rr_pages.specs.Chains.{IsPage, Links, Chain}
 use Rattle.rr_images.specs.Holding.{HeldChain, Holding, heads_of, texts_of, pages_of, AllHeld, reached_of}
@@ -53,7 +52,7 @@ far_stands file half number (Begun lines) kept = (kept, closed_whole)
 
 unfoldable pub kept_stands : (codec : Codec) (layout : Layout codec) (file : List ℕ) (world : codec.World) → KeepsAt codec layout file world → Stands codec file world
 kept_stands codec layout file world keeps =
-    let far = far_stands file (half_index (not layout.root.half)) (layout.root.first + length layout.near) layout.far keeps.far_kept in
+    let far = far_stands file (other_half layout.root.half) (layout.root.first + length layout.near) layout.far keeps.far_kept in
     record {
       side = layout.side;
       root = layout.root;
@@ -159,10 +158,10 @@ module _ (codec : Codec) (exact : IsExact codec) where
   one_reading file after world a b =
       let taken = one_taken file a.side b.side a.root b.root a.stale b.stale a.taken b.taken in
       let spelled = one_spelled file a.root a.holding b.holding a.base b.base a.spelled (subst (λ (r : Root). Spelled codec file r b.holding b.base) (sym taken.1) b.spelled) in
-      let near = one_run file (half_index a.root.half) 0 a.root.first a.near b.near a.near_end b.near_end a.near_run (subst (λ (r : Root). Run file (half_index r.half) 0 r.first b.near b.near_end) (sym taken.1) b.near_run) in
-      let other : Run file (half_index (not a.root.half)) 0 (a.root.first + length a.near) b.far b.far_end = subst (λ (lines : List (List ℕ)). Run file (half_index (not a.root.half)) 0 (a.root.first + length lines) b.far b.far_end) near.0
-      (subst (λ (r : Root). Run file (half_index (not r.half)) 0 (r.first + length b.near) b.far b.far_end) (sym taken.1) b.far_run) in
-      let far = one_run file (half_index (not a.root.half)) 0 (a.root.first + length a.near) a.far b.far a.far_end b.far_end a.far_run other in
+      let near = one_run file a.root.half 0 a.root.first a.near b.near a.near_end b.near_end a.near_run (subst (λ (r : Root). Run file r.half 0 r.first b.near b.near_end) (sym taken.1) b.near_run) in
+      let other : Run file (other_half a.root.half) 0 (a.root.first + length a.near) b.far b.far_end = subst (λ (lines : List (List ℕ)). Run file (other_half a.root.half) 0 (a.root.first + length lines) b.far b.far_end) near.0
+      (subst (λ (r : Root). Run file (other_half r.half) 0 (r.first + length b.near) b.far b.far_end) (sym taken.1) b.far_run) in
+      let far = one_run file (other_half a.root.half) 0 (a.root.first + length a.near) a.far b.far a.far_end b.far_end a.far_run other in
       λ i. record { side = sym taken.0 i; root = sym taken.1 i; holding = sym spelled.0 i; base = sym spelled.1 i; near = near.0 i; far = far.0 i }
 
   pub one_world : (file : List ℕ) (after world : codec.World) → Stands codec file after → Stands codec file world → after ≡ world
@@ -184,7 +183,7 @@ kept_opened codec layout file world (Begun (line ∷ lines)) is keeps = subst (�
 
 -- a file without records
 pub formatted_keep : (codec : Codec) (file : List ℕ) (side : Bool) (root : Root) (holding : Holding) (world : codec.World) → IsTaken file side root Shut → Spelled codec file root holding world
-    → (IsOpen file (half_index root.half) 0 → ⊥) → (IsOpen file (half_index (not root.half)) 0 → ⊥) → KeepsAt codec (formatted side root holding world) file world
+    → (IsOpen file root.half 0 → ⊥) → (IsOpen file (other_half root.half) 0 → ⊥) → KeepsAt codec (formatted side root holding world) file world
 formatted_keep codec file side root holding world taken spelled near far =
     record {
       taken = taken;

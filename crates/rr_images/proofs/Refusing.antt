@@ -1,21 +1,21 @@
 -- A file that an opening refuses stands for nothing.
 use Rattle.std.proofs.Common.{◌≡◌, ℕ, ◌+◌, ◌≤◌, Bool, not, List, [], ◌++◌, length, None, sym, subst}
-use Rattle.rr_journal.specs.declared.reading.RunEnd.{RunEnd}
-use Rattle.rr_journal.specs.declared.reading.RunEnd.TheVariants.{Damaged}
-use Rattle.rr_journal.specs.Run.{Run}
-use Rattle.rr_journal.proofs.Runs.{one_run}
+use Rattle.rr_pages.specs.declared.journal.reading.RunEnd.{RunEnd}
+use Rattle.rr_pages.specs.declared.journal.reading.RunEnd.TheVariants.{Damaged}
+use Rattle.rr_pages.specs.Journal.Run.{Run}
+use Rattle.rr_pages.proofs.JournalLemmas.Runs.{one_run}
 use Rattle.rr_pages.specs.declared.root.Root.{Root}
 use Rattle.rr_pages.specs.Roots.{Stale, IsTaken}
 use Rattle.rr_pages.proofs.ChoosingLemmas.{one_taken, taken_store, taken_good}
 use Rattle.rr_pages.proofs.SetLemmas.{empty_has}
 use Rattle.rr_images.specs.Codec.{Codec, IsExact, Replays}
-use Rattle.rr_images.specs.Halves.{half_index}
 use Rattle.rr_images.specs.Holding.{Holding, heads_of, texts_of, pages_of}
 use Rattle.rr_images.specs.Layout.{Stands}
 use Rattle.rr_images.specs.Following.{IsRead, ToldBroken}
 use Rattle.rr_images.specs.Refusing.{HasNoForm, SpellsNothing, HasDamagedRecord, Near, Far, HasUnlawfulRecord, IsRefused, No_store, Bad_field, Broken_chain, No_form, Nothing_spelled, Damaged_record, Unlawful_record}
 use Rattle.rr_images.proofs.OneWorld.{data_front, one_chain, there_of, one_holding_there}
 use Rattle.rr_images.proofs.Following.{chain_reached, read_there, spelled_not_broken}
+use Rattle.rr_pages.specs.Journal.Layout.{other_half}
 
 module _ (codec : Codec) (exact : IsExact codec) (file : List ℕ) (world : codec.World) (stands : Stands codec file world) where
   -- the root that is taken is the one that stands
@@ -41,14 +41,14 @@ module _ (codec : Codec) (exact : IsExact codec) (file : List ℕ) (world : code
       let same = same_holding none.holding none.after none.read in
       none.nothing stands.base (subst (λ (holding : Holding). codec.Spells stands.root.version holding.directory.text (texts_of holding.chains) stands.base) (sym same) stands.spelled.spells)
 
-  same_near : (near : List (List ℕ)) (end : RunEnd) → Run file (half_index stands.root.half) 0 stands.root.first near end → (near ≡ stands.near) × (end ≡ stands.near_end)
-  same_near near end run = one_run file (half_index stands.root.half) 0 stands.root.first stands.near near stands.near_end end stands.near_run run
+  same_near : (near : List (List ℕ)) (end : RunEnd) → Run file stands.root.half 0 stands.root.first near end → (near ≡ stands.near) × (end ≡ stands.near_end)
+  same_near near end run = one_run file stands.root.half 0 stands.root.first stands.near near stands.near_end end stands.near_run run
 
-  same_far : (near far : List (List ℕ)) (near_end far_end : RunEnd) → Run file (half_index stands.root.half) 0 stands.root.first near near_end → Run file (half_index (not stands.root.half)) 0 (stands.root.first + length near) far far_end
+  same_far : (near far : List (List ℕ)) (near_end far_end : RunEnd) → Run file stands.root.half 0 stands.root.first near near_end → Run file (other_half stands.root.half) 0 (stands.root.first + length near) far far_end
       → (far ≡ stands.far) × (far_end ≡ stands.far_end)
   same_far near far near_end far_end near_run far_run =
-      one_run file (half_index (not stands.root.half)) 0 (stands.root.first + length stands.near) stands.far far stands.far_end far_end stands.far_run
-      (subst (λ (lines : List (List ℕ)). Run file (half_index (not stands.root.half)) 0 (stands.root.first + length lines) far far_end) (same_near near near_end near_run).0 far_run)
+      one_run file (other_half stands.root.half) 0 (stands.root.first + length stands.near) stands.far far stands.far_end far_end stands.far_run
+      (subst (λ (lines : List (List ℕ)). Run file (other_half stands.root.half) 0 (stands.root.first + length lines) far far_end) (same_near near near_end near_run).0 far_run)
 
   none_damaged : HasDamagedRecord file stands.root → ⊥
   none_damaged (Near near run) = stands.near_whole (sym (same_near near Damaged run).1)

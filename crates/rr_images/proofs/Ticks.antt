@@ -6,13 +6,12 @@ use Rattle.std.proofs.lemmas.Bool.{cases_eq, cases_lt}
 use Rattle.rr_disk.specs.Disk.{DiskState, IsImage, Torn, written, after_write, after_sync}
 use Rattle.rr_disk.specs.Moments.{EachImage, TornFrom}
 use Rattle.rr_disk.proofs.ImageLemmas.{torn_whole, torn_from, each_synced, length-written, written_inside}
-use Rattle.rr_journal.specs.Layout.{gate_place, StandsAt}
-use Rattle.rr_journal.proofs.Appends.{content_written}
-use Rattle.rr_journal.proofs.Bytes.{at_same}
+use Rattle.rr_pages.specs.Journal.Layout.{gate_place, StandsAt, other_half}
+use Rattle.rr_pages.proofs.JournalLemmas.Appends.{content_written}
+use Rattle.rr_pages.proofs.JournalLemmas.Bytes.{at_same}
 use Rattle.rr_images.specs.Codec.{Codec}
 use Rattle.rr_pages.specs.declared.root.Root.{Root}
 use Rattle.rr_pages.specs.Roots.{Stale, Shut, Older, root_gate, HasFields}
-use Rattle.rr_images.specs.Halves.{half_index}
 use Rattle.rr_pages.specs.Pages.{IsIn}
 use Rattle.rr_images.specs.Holding.{Holding, reached_of, AllHeld}
 use Rattle.rr_images.specs.Layout.{Spelled, Layout, Unused, Old, Begun, KeepsAt, Keeps}
@@ -77,7 +76,7 @@ plan_on codec layout other_layout plan root near held middle is =
     record {
       next = record {
         number = omega (arith, is.next.number, ap (λ (r : Root). r.number) root);
-        half = is.next.half ∙ ap (λ (r : Root). not r.half) (sym root);
+        half = is.next.half ∙ ap (λ (r : Root). other_half r.half) (sym root);
         first = is.next.first ∙ (λ i. (sym root i).first + length (sym near i));
       };
       sound = is.sound;
@@ -223,7 +222,7 @@ module _ (codec : Codec) (layout : Layout codec) (state : DiskState) (world : co
   -- the other half's slot 0 is shut, and records go there
   module _ (each : EachImage state (λ image. KeepsAt codec layout image world)) where
     abbrev pub far_gate_of : ℕ
-    far_gate_of = gate_place (half_index (not layout.root.half)) 0
+    far_gate_of = gate_place (other_half layout.root.half) 0
 
     pub begin_leaves : layout.far ≡ Old → (image : List ℕ) → TornFrom state far_gate_of 1 image → Keeps codec image world
     begin_leaves is image torn =

@@ -3,20 +3,19 @@
 use Rattle.std.specs.Prelude.{◌≡◌, ◌⊎◌, ℕ, ◌+◌, ◌*◌, ◌<◌, not, List, [], ◌∷◌, ◌++◌, length}
 use Rattle.rr_disk.specs.Disk.{DiskState, after_write, after_sync}
 use Rattle.rr_disk.specs.Moments.{EachImage, TornFrom}
-use Rattle.rr_journal.specs.declared.half.Half.{Half}
-use Rattle.rr_journal.specs.Layout.{gate_place, slots_for, spelling}
-use Rattle.rr_journal.specs.Stops.{next_gate, IsReady, MayLeave}
+use Rattle.rr_pages.specs.declared.journal.half.Half.{Half}
+use Rattle.rr_pages.specs.Journal.Layout.{gate_place, slots_for, spelling, other_half}
+use Rattle.rr_pages.specs.Journal.Stops.{next_gate, IsReady, MayLeave}
 use Rattle.rr_pages.specs.Device.{Shuts, MayShut, Flips, MayFlip}
 use Rattle.rr_pages.specs.Roots.{root_gate, root_bytes, Shut}
 use Rattle.rr_images.specs.Codec.{Codec}
-use Rattle.rr_images.specs.Halves.{half_index}
 use Rattle.rr_images.specs.Layout.{Stands, Layout, Begun, KeepsAt, Keeps}
 use Rattle.rr_images.specs.Progress.{Plan, IsPlan, Progress, Resting, Writing, Shutting, Filling, IsBetween}
 use Rattle.rr_images.specs.Steps.{with_stale, with_far, with_line, flipped, GoesOnAt}
 
 -- the gate of slot 0 in the half that the root doesn't name, and that of the root that isn't taken
 abbrev pub far_gate : {codec : Codec} → Layout codec → ℕ
-far_gate layout = gate_place (half_index (not layout.root.half)) 0
+far_gate layout = gate_place (other_half layout.root.half) 0
 
 abbrev pub stale_gate : {codec : Codec} → Layout codec → ℕ
 stale_gate layout = root_gate (not layout.side)

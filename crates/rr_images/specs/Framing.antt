@@ -1,11 +1,10 @@
 -- On which bytes of a file it depends what the file keeps.
 use Rattle.std.specs.Prelude.{◌≡◌, ℕ, ◌+◌, ◌*◌, ◌<◌, ◌≤◌, not, List, length, slice_index}
-use Rattle.rr_journal.specs.declared.layout.HalfIndex.{HalfIndex}
-use Rattle.rr_journal.specs.Layout.{gate_place}
+use Rattle.rr_pages.specs.declared.journal.layout.HalfIndex.{HalfIndex}
+use Rattle.rr_pages.specs.Journal.Layout.{gate_place, other_half}
 use Rattle.rr_pages.specs.Pages.{IsIn}
 use Rattle.rr_pages.specs.Roots.{root_gate, Stale, IsStale}
 use Rattle.rr_images.specs.Codec.{Codec}
-use Rattle.rr_images.specs.Halves.{half_index}
 use Rattle.rr_images.specs.Holding.{reached_of}
 use Rattle.rr_images.specs.Layout.{Layout}
 
@@ -25,6 +24,6 @@ pub record IsReadTheSame {codec : Codec} (layout : Layout codec) (other : Stale)
   pub no_shorter : length old ≤ length new
   pub root : Same old new (root_gate layout.side) (root_gate layout.side + 36)
   pub stale_root : IsStale new (not layout.side) layout.root.number other
-  pub near : SameHalf old new (half_index layout.root.half)
-  pub far : SameHalf old new (half_index (not layout.root.half))
+  pub near : SameHalf old new layout.root.half
+  pub far : SameHalf old new (other_half layout.root.half)
   pub pages : SamePages old new (reached_of layout.holding)

@@ -2,10 +2,10 @@
 use Rattle.std.specs.Prelude.{◌≡◌, ℕ, ◌+◌, ◌^◌, ◌<◌, ◌≤◌, Bool, not, List, [], ◌∷◌, ◌++◌, length}
 use Rattle.rr_disk.specs.Disk.{DiskState, IsImage, after_sync}
 use Rattle.rr_disk.specs.Moments.{EachImage}
-use Rattle.rr_journal.specs.declared.half.Half.{Half}
-use Rattle.rr_journal.specs.Layout.{IsOpen, HasRoom}
-use Rattle.rr_journal.specs.Run.{slots_of}
-use Rattle.rr_journal.specs.Stops as journal
+use Rattle.rr_pages.specs.declared.journal.half.Half.{Half}
+use Rattle.rr_pages.specs.Journal.Layout.{IsOpen, HasRoom, other_half}
+use Rattle.rr_pages.specs.Journal.Run.{slots_of}
+use Rattle.rr_pages.specs.Journal.Stops as journal
 use Rattle.rr_pages.specs.declared.chain.FreshPage.{FreshPage}
 use Rattle.rr_pages.specs.declared.root.Root.{Root}
 use Rattle.rr_pages.specs.Chains.{Chain}
@@ -17,7 +17,6 @@ use Rattle.rr_images.specs.Codec.{Codec, IsExact}
 use Rattle.rr_images.specs.Calls.{Begins, WritesPage, ShutsStale, FillsRoot, OpensRoot, FlipsRoots, Appends}
 use Rattle.rr_images.specs.Following.{IsRead}
 use Rattle.rr_images.specs.Framing.{IsReadTheSame}
-use Rattle.rr_images.specs.Halves.{half_index}
 use Rattle.rr_images.specs.Holding.{Holding, texts_of, pages_of, reached_of}
 use Rattle.rr_images.specs.Layout.{Spelled, Stands, Layout, Begun, far_lines, KeepsAt, formatted, reading_of, reading_at, opened_far}
 use Rattle.rr_images.specs.Plans.{LaidChain, Draft, kept_of, laid_pages, AreLaid, written_chains, plan_made, IsMade}
@@ -80,7 +79,7 @@ module _ (codec : Codec) where
   abbrev pub GoOnOpened : Type 0
   GoOnOpened =
       (layout : Layout codec) (half : Half) (number : ℕ)
-      → half.index ≡ half_index (read_half layout.root.half (far_lines layout.far))
+      → half.index ≡ read_half layout.root.half (far_lines layout.far)
       → half.next_slot ≡ slots_of (read_lines layout.near (far_lines layout.far))
       → number ≡ layout.root.first + length layout.near + length (far_lines layout.far)
       → GoesOnAt (with_far layout (opened_far layout.far)) half number
@@ -90,7 +89,7 @@ module _ (codec : Codec) where
   FormattedKeep =
       (file : List ℕ) (side : Bool) (root : Root) (holding : Holding) (world : codec.World)
       → IsTaken file side root Shut → Spelled codec file root holding world
-      → (IsOpen file (half_index root.half) 0 → ⊥) → (IsOpen file (half_index (not root.half)) 0 → ⊥)
+      → (IsOpen file root.half 0 → ⊥) → (IsOpen file (other_half root.half) 0 → ⊥)
       → KeepsAt codec (formatted side root holding world) file world
 
   -- a file keeps the same where it has the same bytes in the places at which its layout looks
@@ -164,7 +163,7 @@ module _ (codec : Codec) where
   GoOnBegun =
       (layout : Layout codec) (half : Half) (number : ℕ) → IsNotBegun layout.far → GoesOnAt layout half number
       → GoesOnAt (with_far layout (Begun []))
-      (record { index = half_index (not layout.root.half); next_slot = 0 }) number
+      (record { index = other_half layout.root.half; next_slot = 0 }) number
 
   abbrev pub GoOnShut : Type 0
   GoOnShut =

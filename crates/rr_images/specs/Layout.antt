@@ -1,16 +1,15 @@
 -- What a file stands for, and what the files of a store keep besides.
 use Rattle.std.specs.Prelude.{◌≢◌, ℕ, ◌+◌, ◌<◌, Bool, not, List, [], ◌∷◌, ◌++◌, length}
-use Rattle.rr_journal.specs.declared.layout.HalfIndex.{HalfIndex}
-use Rattle.rr_journal.specs.declared.reading.RunEnd.{RunEnd}
-use Rattle.rr_journal.specs.declared.reading.RunEnd.TheVariants.{Closed, Damaged}
-use Rattle.rr_journal.specs.Layout.{IsOpen, number_at}
-use Rattle.rr_journal.specs.Run.{Run}
+use Rattle.rr_pages.specs.declared.journal.layout.HalfIndex.{HalfIndex}
+use Rattle.rr_pages.specs.declared.journal.reading.RunEnd.{RunEnd}
+use Rattle.rr_pages.specs.declared.journal.reading.RunEnd.TheVariants.{Closed, Damaged}
+use Rattle.rr_pages.specs.Journal.Layout.{IsOpen, number_at, other_half}
+use Rattle.rr_pages.specs.Journal.Run.{Run}
 use Rattle.rr_pages.specs.declared.root.Root.{Root}
 use Rattle.rr_pages.specs.Pages.{AllApart, AreData}
 use Rattle.rr_pages.specs.Chains.{Chain}
 use Rattle.rr_pages.specs.Roots.{Stale, Shut, IsTaken}
 use Rattle.rr_images.specs.Codec.{Codec, Replays}
-use Rattle.rr_images.specs.Halves.{half_index}
 use Rattle.rr_images.specs.Holding.{Holding, heads_of, texts_of, reached_of, AllHeld}
 
 -- In the file stand the directory of a root and the chains that it names, and they spell a world.
@@ -37,9 +36,9 @@ pub record Stands (codec : Codec) (file : List ℕ) (world : codec.World) : Type
   pub far_end : RunEnd
   pub taken : IsTaken file side root stale
   pub spelled : Spelled codec file root holding base
-  pub near_run : Run file (half_index root.half) 0 root.first near near_end
+  pub near_run : Run file root.half 0 root.first near near_end
   pub near_whole : near_end ≢ Damaged
-  pub far_run : Run file (half_index (not root.half)) 0 (root.first + length near) far far_end
+  pub far_run : Run file (other_half root.half) 0 (root.first + length near) far far_end
   pub far_whole : far_end ≢ Damaged
   pub replayed : Replays codec base (near ++ far) world
 
@@ -76,9 +75,9 @@ KeepsFar file half number (Begun lines) = Run file half 0 number lines Closed
 pub record KeepsAt (codec : Codec) (layout : Layout codec) (file : List ℕ) (world : codec.World) : Type 0 where
   pub taken : IsTaken file layout.side layout.root layout.stale
   pub spelled : Spelled codec file layout.root layout.holding layout.base
-  pub near_run : Run file (half_index layout.root.half) 0 layout.root.first layout.near Closed
+  pub near_run : Run file layout.root.half 0 layout.root.first layout.near Closed
   pub near_replayed : Replays codec layout.base layout.near layout.middle
-  pub far_kept : KeepsFar file (half_index (not layout.root.half)) (layout.root.first + length layout.near) layout.far
+  pub far_kept : KeepsFar file (other_half layout.root.half) (layout.root.first + length layout.near) layout.far
   pub far_replayed : Replays codec layout.middle (far_lines layout.far) world
 
 -- a file of a store that keeps this world

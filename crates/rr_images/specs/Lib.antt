@@ -1,5 +1,4 @@
 pub mod Codec
-pub mod Halves
 pub mod Holding
 pub mod Layout
 pub mod Framing
@@ -11,3 +10,4 @@ pub mod Refusing
 pub mod Calls
 pub mod Laws
 pub mod Example
+pub mod Schedules

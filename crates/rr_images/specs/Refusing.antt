@@ -1,8 +1,8 @@
 -- Why an opening refuses a file.
 use Rattle.std.specs.Prelude.{◌≡◌, ℕ, ◌+◌, Bool, not, List, ◌++◌, length, None}
-use Rattle.rr_journal.specs.declared.reading.RunEnd.{RunEnd}
-use Rattle.rr_journal.specs.declared.reading.RunEnd.TheVariants.{Damaged}
-use Rattle.rr_journal.specs.Run.{Run}
+use Rattle.rr_pages.specs.declared.journal.reading.RunEnd.{RunEnd}
+use Rattle.rr_pages.specs.declared.journal.reading.RunEnd.TheVariants.{Damaged}
+use Rattle.rr_pages.specs.Journal.Run.{Run}
 use Rattle.rr_pages.specs.declared.fault.Damage.{Damage}
 use Rattle.rr_pages.specs.declared.root.Root.{Root}
 use Rattle.rr_pages.specs.Choosing.{IsNoStore, HasBadField}
@@ -11,8 +11,8 @@ use Rattle.rr_pages.specs.Roots.{Stale, IsTaken}
 use Rattle.rr_pages.specs.Sets.{IsEmpty}
 use Rattle.rr_images.specs.Codec.{Codec, Replays}
 use Rattle.rr_images.specs.Following.{IsRead, ToldBroken}
-use Rattle.rr_images.specs.Halves.{half_index}
 use Rattle.rr_images.specs.Holding.{HeldChain, Holding, texts_of}
+use Rattle.rr_pages.specs.Journal.Layout.{other_half}
 
 -- of the root that is taken the directory is read, and it has no form
 pub record HasNoForm (codec : Codec) (file : List ℕ) (root : Root) : Type 0 where
@@ -34,9 +34,9 @@ pub record SpellsNothing (codec : Codec) (file : List ℕ) (root : Root) : Type 
 
 -- a record of the expected number is damaged, in the half that the root names or in the other one
 pub data HasDamagedRecord (file : List ℕ) (root : Root) : Type 0 where
-  Near : (near : List (List ℕ)) → Run file (half_index root.half) 0 root.first near Damaged → HasDamagedRecord file root
-  Far : (near far : List (List ℕ)) (end : RunEnd) → Run file (half_index root.half) 0 root.first near end
-      → Run file (half_index (not root.half)) 0 (root.first + length near) far Damaged → HasDamagedRecord file root
+  Near : (near : List (List ℕ)) → Run file root.half 0 root.first near Damaged → HasDamagedRecord file root
+  Far : (near far : List (List ℕ)) (end : RunEnd) → Run file root.half 0 root.first near end
+      → Run file (other_half root.half) 0 (root.first + length near) far Damaged → HasDamagedRecord file root
 
 -- the records can't all be taken
 pub record HasUnlawfulRecord (codec : Codec) (file : List ℕ) (root : Root) : Type 0 where
@@ -49,8 +49,8 @@ pub record HasUnlawfulRecord (codec : Codec) (file : List ℕ) (root : Root) : T
   pub near_end : RunEnd
   pub far : List (List ℕ)
   pub far_end : RunEnd
-  pub near_run : Run file (half_index root.half) 0 root.first near near_end
-  pub far_run : Run file (half_index (not root.half)) 0 (root.first + length near) far far_end
+  pub near_run : Run file root.half 0 root.first near near_end
+  pub far_run : Run file (other_half root.half) 0 (root.first + length near) far far_end
   pub unlawful : (world : codec.World) → Replays codec base (near ++ far) world → ⊥
 
 -- the file is none of ours, or a root's field is bad, or one of these holds of the root that is taken

@@ -1,13 +1,14 @@
 -- The layouts that the steps of a commit and of a checkpoint lead to, and where the next record goes.
 use Rattle.std.specs.Prelude.{◌≡◌, ℕ, ◌+◌, ◌<◌, Bool, not, List, [], ◌∷◌, ◌++◌, length}
-use Rattle.rr_journal.specs.declared.half.Half.{Half}
-use Rattle.rr_journal.specs.Run.{slots_of}
+use Rattle.rr_pages.specs.declared.journal.half.Half.{Half}
+use Rattle.rr_pages.specs.Journal.Run.{slots_of}
 use Rattle.rr_pages.specs.declared.root.Root.{Root}
 use Rattle.rr_pages.specs.Roots.{Stale, Older, HasFields, IsSound}
 use Rattle.rr_images.specs.Codec.{Codec}
-use Rattle.rr_images.specs.Halves.{half_index}
 use Rattle.rr_images.specs.Holding.{Holding}
 use Rattle.rr_images.specs.Layout.{Spelled, Layout, FarHalf, Unused, Old, Begun}
+use Rattle.rr_pages.specs.Journal.Layout.{other_half}
+use Rattle.rr_pages.specs.declared.journal.layout.HalfIndex.{HalfIndex}
 
 abbrev pub with_stale : {codec : Codec} → Layout codec → Stale → Layout codec
 with_stale layout stale =
@@ -79,7 +80,7 @@ flipped layout root holding far world =
 -- the root that comes next after this layout's: a greater number, the other half, and the first record there
 pub record ComesNext {codec : Codec} (layout : Layout codec) (root : Root) : Type 0 where
   pub number : layout.root.number < root.number
-  pub half : root.half ≡ not layout.root.half
+  pub half : root.half ≡ other_half layout.root.half
   pub first : root.first ≡ layout.root.first + length layout.near
 
 -- the next root stands behind its shut gate, and what it holds spells the world before the first far record
@@ -90,10 +91,10 @@ pub record IsPrepared (codec : Codec) (layout : Layout codec) (root : Root) (hol
   pub spelled : Spelled codec file root holding layout.middle
 
 -- the half in which the next record goes, the records that stand there, and the number of their first one
-abbrev pub half_at : Bool → FarHalf → Bool
+abbrev pub half_at : HalfIndex → FarHalf → HalfIndex
 half_at half Unused = half
 half_at half Old = half
-half_at half (Begun lines) = not half
+half_at half (Begun lines) = other_half half
 
 abbrev pub lines_at : List (List ℕ) → FarHalf → List (List ℕ)
 lines_at near Unused = near
@@ -107,15 +108,15 @@ first_at first near (Begun lines) = first + length near
 
 -- the next record, of this number, goes where the layout's records end
 pub record GoesOnAt {codec : Codec} (layout : Layout codec) (half : Half) (number : ℕ) : Type 0 where
-  pub index : half.index ≡ half_index (half_at layout.root.half layout.far)
+  pub index : half.index ≡ half_at layout.root.half layout.far
   pub slot : half.next_slot ≡ slots_of (lines_at layout.near layout.far)
   pub numbered : number
       ≡ first_at layout.root.first layout.near layout.far + length (lines_at layout.near layout.far)
 
 -- where an opening goes on, by what it reads in the two halves
-abbrev pub read_half : Bool → List (List ℕ) → Bool
+abbrev pub read_half : HalfIndex → List (List ℕ) → HalfIndex
 read_half half [] = half
-read_half half (line ∷ lines) = not half
+read_half half (line ∷ lines) = other_half half
 
 abbrev pub read_lines : List (List ℕ) → List (List ℕ) → List (List ℕ)
 read_lines near [] = near

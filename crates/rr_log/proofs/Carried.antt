@@ -22,7 +22,7 @@ use Rattle.rr_checkpoint.specs.Planning.{MayBegin}
 use Rattle.rr_checkpoint.specs.Writer as file
 use Rattle.rr_checkpoint.specs.Writer.{Lowers}
 use Rattle.rr_checkpoint.proofs.Writers.{base_is_carried, carried_kept}
-use Rattle.rr_journal.specs.Layout.{HasRoom}
+use Rattle.rr_pages.specs.Journal.Layout.{HasRoom}
 use Rattle.rr_log.specs.declared.fault.Fault.{Fault}
 use Rattle.rr_log.specs.declared.fault.Fault.TheVariants as F
 use Rattle.rr_log.specs.Fault.{IsWant, OnDeviceFault, breaks}
@@ -30,23 +30,23 @@ use Rattle.rr_log.specs.declared.log.Log.{Log}
 use Rattle.rr_log.specs.Calls.{IsBegunOn, IsFileFull, MeetsFullFile, TakesRootOf, as_begun, layout_behind, world_behind}
 use Rattle.rr_log.specs.Carrying.{HasTexts, HaveSameTexts, IsBase, Carries, IsPlanned}
 use Rattle.rr_log.specs.Log.{HasNoRoom, HasNoneBegun, disk_of, place_of, root_number, ticks_left}
-use Rattle.rr_snapshot.specs.declared.snapshot.Snapshot.{Snapshot}
-use Rattle.rr_snapshot.specs.Planning.{IsOfLayout, HoldsTexts, world_of}
-use Rattle.rr_snapshot.specs.Snapshot.{tables_of}
-use Rattle.rr_snapshot.specs.Writing.{OnlyTakes}
-use Rattle.rr_worlds.specs.declared.worlds.Worlds.{Worlds}
-use Rattle.rr_worlds.specs.Spelling.{worlds}
-use Rattle.rr_worlds.specs.World.{Table, World}
+use Rattle.rr_checkpoint.specs.declared.plan.transcript.Transcript.{Transcript}
+use Rattle.rr_checkpoint.specs.Plan.Planning.{IsOfLayout, HoldsTexts, world_of}
+use Rattle.rr_checkpoint.specs.Plan.Transcript.{tables_of}
+use Rattle.rr_checkpoint.specs.Plan.Writing.{OnlyTakes}
+use Rattle.rr_reading.specs.declared.worlds.rules.Worlds.{Worlds}
+use Rattle.rr_reading.specs.Worlds.Spelling.{worlds}
+use Rattle.rr_reading.specs.Worlds.World.{Table, World}
 
 -- the tables that a base has, and where there is none
-pub base_has : (begun : Option ℕ) (base : Option Snapshot) (tables : List Table) (snapshot : Snapshot) → IsBase begun base tables → base ≡ Some snapshot → tables_of snapshot ≡ tables
-base_has None base tables snapshot none is = absurd (let never = sym none ∙ is in cc)
-base_has (Some first) base tables snapshot some is =
+pub base_has : (begun : Option ℕ) (base : Option Transcript) (tables : List Table) (transcript : Transcript) → IsBase begun base tables → base ≡ Some transcript → tables_of transcript ≡ tables
+base_has None base tables transcript none is = absurd (let never = sym none ∙ is in cc)
+base_has (Some first) base tables transcript some is =
     let joined = sym some.1 ∙ is in
-    let same : some.0 ≡ snapshot = cc in
-    ap (λ (s : Snapshot). tables_of s) (sym same) ∙ some.2
+    let same : some.0 ≡ transcript = cc in
+    ap (λ (s : Transcript). tables_of s) (sym same) ∙ some.2
 
-pub no_base : (begun : Option ℕ) (base : Option Snapshot) (tables : List Table) → IsBase begun base tables → base ≡ None → begun ≡ None
+pub no_base : (begun : Option ℕ) (base : Option Transcript) (tables : List Table) → IsBase begun base tables → base ≡ None → begun ≡ None
 no_base None base tables none is = refl
 no_base (Some first) base tables some is = absurd (let never = sym some.1 ∙ is in cc)
 
@@ -206,25 +206,25 @@ module _ {D R : Type 0} (takes : List ℕ → World → World → Type 0) (log :
         nothing_far = newer.nothing_far;
       }
 
-  -- the tables from before the first record of the other half, as a snapshot, are those that a checkpoint writes
-  abbrev pub of_layout : (snapshot : Snapshot) → tables_of snapshot ≡ layout.middle.tables → IsOfLayout takes log.kit snapshot layout
-  of_layout snapshot same =
+  -- the tables from before the first record of the other half, as a transcript, are those that a checkpoint writes
+  abbrev pub of_layout : (transcript : Transcript) → tables_of transcript ≡ layout.middle.tables → IsOfLayout takes log.kit transcript layout
+  of_layout transcript same =
       record {
         texts = texts;
         others = carries.kit.held.others;
         held = carries.kit.held.held;
         on_pages = carries.kit.on_pages;
-        world = whole texts layout.middle (tables_of snapshot) carries.kit.of_middle same;
+        world = whole texts layout.middle (tables_of transcript) carries.kit.of_middle same;
       }
 
   -- without a base it is the world itself
   middle_is : ticks_left log ≡ 0 → log.base ≡ None → layout.middle ≡ world
   middle_is resting none = base_is_carried codec log.writer.file log.writer.checkpoint state world carries.carried (no_base (place_of log).begun log.base layout.middle.tables (carries.base resting) none)
 
-  pub lent_are : ticks_left log ≡ 0 → log.base ≡ None → (tables : List Table) → world.tables ≡ tables → (snapshot : Snapshot) → tables_of snapshot ≡ tables → tables_of snapshot ≡ layout.middle.tables
-  lent_are resting none tables lent snapshot has = has ∙ (sym lent ∙ ap (λ (w : World). w.tables) (sym (middle_is resting none)))
+  pub lent_are : ticks_left log ≡ 0 → log.base ≡ None → (tables : List Table) → world.tables ≡ tables → (transcript : Transcript) → tables_of transcript ≡ tables → tables_of transcript ≡ layout.middle.tables
+  lent_are resting none tables lent transcript has = has ∙ (sym lent ∙ ap (λ (w : World). w.tables) (sym (middle_is resting none)))
 
-  pub base_are : ticks_left log ≡ 0 → (base : Snapshot) → log.base ≡ Some base → tables_of base ≡ layout.middle.tables
+  pub base_are : ticks_left log ≡ 0 → (base : Transcript) → log.base ≡ Some base → tables_of base ≡ layout.middle.tables
   base_are resting base is = base_has (place_of log).begun log.base layout.middle.tables base (carries.base resting) is
 
   -- pages taken for a coming root, or given back

@@ -14,11 +14,11 @@ use Rattle.rr_log.specs.Log.{disk_of, is_broken, place_of, next_number, root_num
 use Rattle.rr_pages.specs.FreePages.{present_of}
 use Rattle.rr_pages.specs.Sets.{TooFewFree, all_marked}
 use Rattle.rr_reading.specs.Reading.{NoneReached}
-use Rattle.rr_snapshot.specs.declared.snapshot.Snapshot.{Snapshot}
-use Rattle.rr_snapshot.specs.Kit.{text_pages}
-use Rattle.rr_snapshot.specs.Laying.{most_laid_pages, needed_pages}
-use Rattle.rr_snapshot.specs.Snapshot.{tables_of}
-use Rattle.rr_worlds.specs.World.{Table, World}
+use Rattle.rr_checkpoint.specs.declared.plan.transcript.Transcript.{Transcript}
+use Rattle.rr_checkpoint.specs.Plan.Kit.{text_pages}
+use Rattle.rr_checkpoint.specs.Plan.Laying.{most_laid_pages, needed_pages}
+use Rattle.rr_checkpoint.specs.Plan.Transcript.{tables_of}
+use Rattle.rr_reading.specs.Worlds.World.{Table, World}
 
 -- the world behind a record whose keeping ended so
 abbrev pub world_behind : {T : Type 0} → Result T Fault → World → World → World
@@ -76,7 +76,7 @@ LowersFrom More old new = (0 < new) × (0 < old → old ≡ new + 1) × (old ≡
 LowersFrom Done old new = (old ≡ 1) × (new ≡ 0)
 
 -- the tables that a checkpoint begun now writes: those from before the first record of the other half, or those that are lent
-abbrev pub tables_due : Option Snapshot → List Table → List Table
+abbrev pub tables_due : Option Transcript → List Table → List Table
 tables_due None tables = tables
 tables_due (Some base) tables = tables_of base
 

@@ -8,13 +8,13 @@ use Rattle.rr_images.specs.Layout.{Layout}
 use Rattle.rr_log.specs.declared.log.Log.{Log}
 use Rattle.rr_log.specs.Log.{place_of, ticks_left}
 use Rattle.rr_reading.specs.Held.{TextChains}
-use Rattle.rr_snapshot.specs.declared.kit.KitPages.{KitPages}
-use Rattle.rr_snapshot.specs.declared.snapshot.Snapshot.{Snapshot}
-use Rattle.rr_snapshot.specs.Kit.{AreTextChains}
-use Rattle.rr_snapshot.specs.Planning.{HoldsTexts}
-use Rattle.rr_snapshot.specs.Snapshot.{tables_of}
-use Rattle.rr_worlds.specs.Spelling.{worlds}
-use Rattle.rr_worlds.specs.World.{Table, World}
+use Rattle.rr_checkpoint.specs.declared.plan.kit.KitPages.{KitPages}
+use Rattle.rr_checkpoint.specs.declared.plan.transcript.Transcript.{Transcript}
+use Rattle.rr_checkpoint.specs.Plan.Kit.{AreTextChains}
+use Rattle.rr_checkpoint.specs.Plan.Planning.{HoldsTexts}
+use Rattle.rr_checkpoint.specs.Plan.Transcript.{tables_of}
+use Rattle.rr_reading.specs.Worlds.Spelling.{worlds}
+use Rattle.rr_reading.specs.Worlds.World.{Table, World}
 
 -- the texts of a world are those of these chains
 pub record HasTexts (texts : TextChains) (world : World) : Type 0 where
@@ -42,9 +42,9 @@ pub record HoldsKit {takes : List ℕ → World → World → Type 0} (kit : Kit
 
 -- Where an opening found a checkpoint begun, with its first record in the other half of this number, the tables from before
 -- that record are kept; else none are.
-abbrev pub IsBase : Option ℕ → Option Snapshot → List Table → Type 0
+abbrev pub IsBase : Option ℕ → Option Transcript → List Table → Type 0
 IsBase None base tables = base ≡ None
-IsBase (Some first) base tables = (snapshot : Snapshot) × (base ≡ Some snapshot) × (tables_of snapshot ≡ tables)
+IsBase (Some first) base tables = (transcript : Transcript) × (base ≡ Some transcript) × (tables_of transcript ≡ tables)
 
 -- What a log knows carries this world: what writes to its file carries it, the kit's texts are where it says, also in the
 -- root that a checkpoint under way writes, and the tables that such a checkpoint will need are there.

@@ -2,3 +2,5 @@ pub mod Fault
 pub mod Log
 pub mod Carrying
 pub mod Calls
+pub mod Opening
+pub mod Formatting

@@ -3,9 +3,9 @@ use Rattle.std.specs.Prelude.{◌≡◌, ◌⊎◌, ℕ, ◌+◌, ◌^◌, ◌�
 use Rattle.rr_checkpoint.specs.declared.place.Place.{Place}
 use Rattle.rr_checkpoint.specs.declared.writer.Writer.{Writer}
 use Rattle.rr_checkpoint.specs.Writer as file
-use Rattle.rr_journal.specs.Layout.{HasRoom}
+use Rattle.rr_pages.specs.Journal.Layout.{HasRoom}
 use Rattle.rr_log.specs.declared.log.Log.{Log}
-use Rattle.rr_worlds.specs.declared.worlds.Worlds.{Worlds}
+use Rattle.rr_reading.specs.declared.worlds.rules.Worlds.{Worlds}
 
 abbrev pub disk_of : {D R : Type 0} → Log D R → D
 disk_of log = log.disk

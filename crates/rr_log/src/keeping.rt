@@ -6,13 +6,14 @@ ghost use Rattle.rr_disk.specs.Moments.{EachImage};
 ghost use Rattle.rr_images.specs.Calls.{TakesNewer};
 ghost use Rattle.rr_images.specs.Steps.{with_line};
 ghost use Rattle.rr_log.specs.Fault.{CountsFault, IsWant, OnDeviceFault, ends_broken};
-ghost use Rattle.rr_worlds.specs.Spelling.{worlds};
-ghost use Rattle.rr_worlds.specs.World.{World};
+ghost use Rattle.rr_reading.specs.Worlds.Spelling.{worlds};
+ghost use Rattle.rr_reading.specs.Worlds.World.{World};
 
 use crate::planning::is_past_last;
 use crate::{Fault, Log, TablesInWords};
 use rr_disk::Disk;
-use rr_worlds::Rules;
+use rr_pages::journal;
+use rr_reading::worlds::Rules;
 
 impl<D: Disk + Drop, R: Rules> Log<D, R> {
     ghost use Rattle.rr_log.specs.Calls.{IsFileFull, MayRefuse, MeetsFullFile, NumberBehind, layout_behind, ticks_due, world_behind};
@@ -192,12 +193,12 @@ impl<D: Disk + Drop, R: Rules> Log<D, R> {
     {
         match self.writer.append(&mut self.disk, line) {
             Ok(()) => Ok(()),
-            Err(rr_journal::Fault::HalfFull) => Err(full),
-            Err(rr_journal::Fault::Disk(_)) => {
+            Err(journal::Fault::HalfFull) => Err(full),
+            Err(journal::Fault::Disk(_)) => {
                 self.broken = true;
                 Err(Fault::DeviceFailed)
             }
-            Err(rr_journal::Fault::OutOfMemory) => Err(Fault::OutOfMemory),
+            Err(journal::Fault::OutOfMemory) => Err(Fault::OutOfMemory),
         }
     }
 }

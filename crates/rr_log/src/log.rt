@@ -1,13 +1,13 @@
 ghost use Rattle.std.specs.Prelude.{◌≡◌, ◌-◌, false};
 ghost use Rattle.rr_checkpoint.specs.Writer as file;
 ghost use Rattle.rr_disk.specs.Disk.{DiskState};
-ghost use Rattle.rr_worlds.specs.Spelling.{worlds};
-ghost use Rattle.rr_worlds.specs.World.{World};
+ghost use Rattle.rr_reading.specs.Worlds.Spelling.{worlds};
+ghost use Rattle.rr_reading.specs.Worlds.World.{World};
 
 use rr_checkpoint::Writer;
+use rr_checkpoint::plan::{KitPages, Transcript};
 use rr_disk::Disk;
-use rr_snapshot::{KitPages, Snapshot};
-use rr_worlds::{Rules, Worlds};
+use rr_reading::worlds::{Rules, Worlds};
 use std::alloc::Global;
 
 /// The open file of a store: its disk, what writes to it, and where the texts of its kit stand.
@@ -19,7 +19,7 @@ pub struct Log<D: Drop, R> {
     pub(crate) kit: KitPages,
     // Where an opening found a checkpoint begun, and until its plan is made: the tables from before the first record of the
     // other half.
-    pub(crate) base: Option<Snapshot>,
+    pub(crate) base: Option<Transcript>,
     pub(crate) broken: bool,
 }
 
@@ -33,7 +33,7 @@ impl<D: Disk + Drop, R: Rules> Log<D, R> {
         disk: D,
         writer: Writer<Worlds<R>>,
         kit: KitPages,
-        base: Option<Snapshot>,
+        base: Option<Transcript>,
     ) -> Log<D, R>
         ensures carries { (state : DiskState) (world : World)
             → (carries : file.Carries (worlds R.takes) writer state world) → file.ticks_left_of writer ≡ 0

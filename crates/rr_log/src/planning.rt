@@ -8,19 +8,19 @@ ghost use Rattle.rr_log.specs.Log.{IsPastLast};
 ghost use Rattle.rr_pages.specs.FreePages.{present_of};
 ghost use Rattle.rr_pages.specs.Sets.{TooFewFree, all_marked};
 ghost use Rattle.rr_reading.specs.Reading.{NoneReached};
-ghost use Rattle.rr_snapshot.specs.Kit.{text_pages};
-ghost use Rattle.rr_snapshot.specs.Laying.{most_laid_pages, needed_pages};
-ghost use Rattle.rr_snapshot.specs.Planning.{IsOfLayout, HoldsTexts};
-ghost use Rattle.rr_snapshot.specs.Snapshot.{tables_of};
-ghost use Rattle.rr_snapshot.specs.Writing.{OnlyTakes};
-ghost use Rattle.rr_worlds.specs.Spelling.{worlds};
-ghost use Rattle.rr_worlds.specs.World.{World};
+ghost use Rattle.rr_checkpoint.specs.Plan.Kit.{text_pages};
+ghost use Rattle.rr_checkpoint.specs.Plan.Laying.{most_laid_pages, needed_pages};
+ghost use Rattle.rr_checkpoint.specs.Plan.Planning.{IsOfLayout, HoldsTexts};
+ghost use Rattle.rr_checkpoint.specs.Plan.Transcript.{tables_of};
+ghost use Rattle.rr_checkpoint.specs.Plan.Writing.{OnlyTakes};
+ghost use Rattle.rr_reading.specs.Worlds.Spelling.{worlds};
+ghost use Rattle.rr_reading.specs.Worlds.World.{World};
 
 use crate::{Fault, Log, TablesInWords};
+use rr_checkpoint::plan::{KitPages, Transcript, plan_checkpoint};
 use rr_checkpoint::{Plan, Writer};
 use rr_disk::Disk;
-use rr_snapshot::{KitPages, Snapshot, plan_checkpoint};
-use rr_worlds::{Rules, Worlds};
+use rr_reading::worlds::{Rules, Worlds};
 use std::alloc::Global;
 
 // No record and no root has this number or a greater one.
@@ -33,30 +33,30 @@ pub(crate) fn is_past_last(number: u64) -> bool
     number >= PAST_LAST
 }
 
-// The plan of a checkpoint that writes the tables of a snapshot.
+// The plan of a checkpoint that writes the tables of a transcript.
 fn plan_of<R: Rules>(
     alloc: Global,
     writer: &mut Writer<Worlds<R>>,
     kit: &KitPages,
-    snapshot: &Snapshot,
+    transcript: &Transcript,
 ) -> Result<Plan, Fault>
     requires resting { file.ticks_left_of writer.old ≡ 0 }
     requires root { (file.taken_of writer.old).root.number + 1 < 2 ^ 63 }
     requires number { (file.place_of writer.old).number < 2 ^ 63 }
     ensures plan { IfOk result (λ plan. (state : DiskState) (world : World)
         → (carries : file.Carries (worlds R.takes) writer.old state world)
-        → (of : IsOfLayout R.takes kit.now snapshot.now carries.layout)
+        → (of : IsOfLayout R.takes kit.now transcript.now carries.layout)
         → (may : MayBegin (worlds R.takes) carries.layout (file.free_of writer.new) plan)
         × HoldsTexts of.texts may.holding) }
     ensures some { IfOk result (λ plan. 0 < length plan.fresh.items) }
-    ensures few { IfOk result (λ plan. length plan.fresh.items ≤ most_laid_pages (tables_of snapshot.now)) }
+    ensures few { IfOk result (λ plan. length plan.fresh.items ≤ most_laid_pages (tables_of transcript.now)) }
     ensures full { IsErrOf result Fault.FileFull → (none : List Bool) → NoneReached none
         → TooFewFree (present_of (file.free_of writer.old)) (all_marked none (text_pages kit.now))
-        (needed_pages (tables_of snapshot.now)) }
+        (needed_pages (tables_of transcript.now)) }
     ensures err { IfErr result IsWant }
     ensures only { OnlyTakes (worlds R.takes) writer.old writer.new }
 {
-    match plan_checkpoint(alloc, writer, kit, snapshot) {
+    match plan_checkpoint(alloc, writer, kit, transcript) {
         Ok(plan) => Ok(plan),
         Err(rr_pages::Fault::FileFull) => Err(Fault::FileFull),
         Err(_) => Err(Fault::OutOfMemory),
@@ -94,8 +94,8 @@ impl<D: Disk + Drop, R: Rules> Log<D, R> {
                 Ok(plan)
             }
             None => {
-                let snapshot = lent(self.alloc, tables)?;
-                let plan = plan_of(self.alloc, &mut self.writer, &self.kit, &snapshot)?;
+                let transcript = lent(self.alloc, tables)?;
+                let plan = plan_of(self.alloc, &mut self.writer, &self.kit, &transcript)?;
                 Ok(plan)
             }
         }
@@ -112,13 +112,13 @@ impl<D: Disk + Drop, R: Rules> Log<D, R> {
     }
 }
 
-// The tables that are lent, as a snapshot.
-fn lent<T: TablesInWords>(alloc: Global, tables: &T) -> Result<Snapshot, Fault>
-    ensures tables { IfOk result (λ snapshot. tables_of snapshot ≡ T.tables tables.now) }
+// The tables that are lent, as a transcript.
+fn lent<T: TablesInWords>(alloc: Global, tables: &T) -> Result<Transcript, Fault>
+    ensures tables { IfOk result (λ transcript. tables_of transcript ≡ T.tables tables.now) }
     ensures err { IfErr result (λ fault. fault ≡ Fault.OutOfMemory) }
 {
-    match tables.snapshot(alloc) {
-        Ok(snapshot) => Ok(snapshot),
+    match tables.transcript(alloc) {
+        Ok(transcript) => Ok(transcript),
         Err(_) => Err(Fault::OutOfMemory),
     }
 }

@@ -1,9 +1,9 @@
 ghost use Rattle.std.specs.Prelude.{◌≡◌, List, IfOk, IfErr};
-ghost use Rattle.rr_snapshot.specs.Snapshot.{tables_of};
-ghost use Rattle.rr_worlds.specs.World.{Table};
+ghost use Rattle.rr_checkpoint.specs.Plan.Transcript.{tables_of};
+ghost use Rattle.rr_reading.specs.Worlds.World.{Table};
 
+use rr_checkpoint::plan::Transcript;
 use rr_pages::Fault;
-use rr_snapshot::Snapshot;
 use std::alloc::Global;
 
 /// Tables that are lent to be written by a checkpoint.
@@ -11,11 +11,11 @@ pub trait TablesInWords {
     /// What they are in words.
     ghost tables: { Self → List Table };
 
-    /// The tables as a snapshot.
+    /// The tables as a transcript.
     ///
     /// # Errors
     /// `OutOfMemory` alone.
-    fn snapshot(&self, alloc: Global) -> Result<Snapshot, Fault>
-        ensures tables { IfOk result (λ snapshot. tables_of snapshot ≡ tables self.now) }
+    fn transcript(&self, alloc: Global) -> Result<Transcript, Fault>
+        ensures tables { IfOk result (λ transcript. tables_of transcript ≡ tables self.now) }
         ensures memory { IfErr result (λ fault. fault ≡ Fault.OutOfMemory) };
 }

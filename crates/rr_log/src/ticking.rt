@@ -6,13 +6,13 @@ ghost use Rattle.rr_checkpoint.specs.Writer.{RenewsAt, Lowers};
 ghost use Rattle.rr_disk.specs.Moments.{EachImage};
 ghost use Rattle.rr_images.specs.Calls.{TakesNewer};
 ghost use Rattle.rr_log.specs.Fault.{CountsFault, IsWant, OnDeviceFault, ends_broken};
-ghost use Rattle.rr_worlds.specs.Spelling.{worlds};
-ghost use Rattle.rr_worlds.specs.World.{World};
+ghost use Rattle.rr_reading.specs.Worlds.Spelling.{worlds};
+ghost use Rattle.rr_reading.specs.Worlds.World.{World};
 
 use crate::{Fault, Log, TablesInWords};
 use rr_checkpoint::Tick;
 use rr_disk::Disk;
-use rr_worlds::Rules;
+use rr_reading::worlds::Rules;
 
 // So many slots of a half are used where a checkpoint is to begin.
 const MANY_SLOTS: u8 = 128;

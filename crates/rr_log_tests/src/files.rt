@@ -1,15 +1,15 @@
 //! Files in memory and their openings, by calls without their contracts, so that what a test does costs its proof little.
 use crate::tables::AnyLine;
 use rr_checkpoint::Writer;
-use rr_dir::{ChainRef, KitChains};
+use rr_checkpoint::plan::{KitPages, TextPages};
 use rr_disk::{Disk, FaultyDisk, MemoryDisk};
-use rr_format::format;
-use rr_journal::RecordBuffer;
-use rr_opening::{Opened, open_file};
+use rr_log::formatting::format;
+use rr_log::opening::{Opened, open_file};
+use rr_pages::journal::RecordBuffer;
 use rr_pages::{FreePages, PageSet, ReadChain};
+use rr_reading::dir::{ChainRef, KitChains};
+use rr_reading::worlds::Worlds;
 use rr_reading::{Fault, KitTexts};
-use rr_snapshot::{KitPages, TextPages};
-use rr_worlds::Worlds;
 use std::alloc::{AllocError, Global};
 use std::test::Fail;
 

@@ -11,6 +11,6 @@ mod openings;
 #[cfg(test)]
 mod records;
 #[cfg(test)]
-mod snapshots;
-#[cfg(test)]
 mod tables;
+#[cfg(test)]
+mod transcripts;

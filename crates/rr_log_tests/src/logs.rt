@@ -1,13 +1,13 @@
 use crate::files::{
     FAR, FIRST, Found, failing_after, found, new_file, open, parts, without_pages, write,
 };
-use crate::tables::{AnyLine, OneTable, one_table, snapshot_of};
+use crate::tables::{AnyLine, OneTable, one_table, transcript_of};
 use rr_checkpoint::Tick;
+use rr_checkpoint::plan::Transcript;
 use rr_disk::{Disk, FaultyDisk, MemoryDisk};
+use rr_log::opening::Opened;
 use rr_log::{Fault, Log};
-use rr_opening::Opened;
-use rr_snapshot::Snapshot;
-use rr_worlds::Worlds;
+use rr_reading::worlds::Worlds;
 use std::alloc::Global;
 use std::test::Fail;
 
@@ -20,7 +20,7 @@ fn log_on<D: Disk + Drop>(
     alloc: Global,
     disk: D,
     opened: Opened<Worlds<AnyLine>>,
-    base: Option<Snapshot>,
+    base: Option<Transcript>,
 ) -> Log<D, AnyLine> {
     let (writer, kit) = parts(opened);
     Log::new(alloc, disk, writer, kit, base)
@@ -177,7 +177,7 @@ fn begun_log(alloc: Global) -> Result<Log<MemoryDisk, AnyLine>, Fail> {
     let mut disk = new_file(alloc)?;
     write(&mut disk, FAR, FIRST)?;
     let opened = open(alloc, &mut disk)?;
-    let base = snapshot_of(alloc, &one_table(false)?)?;
+    let base = transcript_of(alloc, &one_table(false)?)?;
     Ok(log_on(alloc, disk, opened, Some(base)))
 }
 

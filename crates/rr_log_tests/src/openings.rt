@@ -1,9 +1,9 @@
 use crate::files::{FAR, FIRST, Found, NEAR, failing_after, found, new_file, open, write};
 use crate::tables::AnyLine;
 use rr_disk::{Disk, MemoryDisk};
-use rr_opening::laws::damaged_records_are_refused;
+use rr_log::opening::laws::damaged_records_are_refused;
 use rr_reading::Fault;
-use rr_worlds::Worlds;
+use rr_reading::worlds::Worlds;
 use std::alloc::Global;
 use std::test::Fail;
 

@@ -1,10 +1,10 @@
-use rr_records::laws::{
+use rr_images::schedules::laws as schedules;
+use rr_tables::records::laws::{
     lawful_requests_are_taken, played_worlds_have_played_bases, played_worlds_stay_played, prefix,
     records_are_of_requests, records_lead_to_one_world, records_move_on, spelled_worlds_are_one,
     tables_are_worlds,
 };
-use rr_records::{Fault, TableRules};
-use rr_schedules::laws as schedules;
+use rr_tables::records::{Fault, TableRules};
 use std::alloc::Global;
 use std::test::Fail;
 

@@ -1,12 +1,12 @@
 //! The tables that are lent to a log, and the rules of its records.
 ghost use Rattle.std.specs.Prelude.{[], ◌∷◌};
-ghost use Rattle.rr_snapshot.specs.Snapshot.{with_command, without_commands};
+ghost use Rattle.rr_checkpoint.specs.Plan.Transcript.{with_command, without_commands};
 
+use rr_checkpoint::plan::{TableTranscript, Transcript};
 use rr_log::TablesInWords;
 use rr_pages::Fault;
-use rr_snapshot::{Snapshot, TableSnapshot};
+use rr_reading::worlds::Rules;
 use rr_words::Name;
-use rr_worlds::Rules;
 use std::alloc::Global;
 use std::test::Fail;
 
@@ -30,16 +30,16 @@ pub(crate) struct OneTable {
 impl TablesInWords for OneTable {
     ghost tables = { λ lent. with_command (with_command (without_commands lent.name 2 0) lent.opening) lent.purchase ∷ [] };
 
-    fn snapshot(&self, alloc: Global) -> Result<Snapshot, Fault> {
+    fn transcript(&self, alloc: Global) -> Result<Transcript, Fault> {
         if self.is_refused {
             return Err(Fault::OutOfMemory);
         }
-        let mut table = TableSnapshot::new(alloc, &self.name, 2, 0);
+        let mut table = TableTranscript::new(alloc, &self.name, 2, 0);
         table.add(&self.opening)?;
         table.add(&self.purchase)?;
-        let mut snapshot = Snapshot::new(alloc);
-        snapshot.push(table)?;
-        Ok(snapshot)
+        let mut transcript = Transcript::new(alloc);
+        transcript.push(table)?;
+        Ok(transcript)
     }
 }
 
@@ -54,6 +54,6 @@ pub(crate) fn one_table(is_refused: bool) -> Result<OneTable, Fail> {
 }
 
 // What a checkpoint would write of these tables.
-pub(crate) fn snapshot_of(alloc: Global, tables: &OneTable) -> Result<Snapshot, Fault> {
-    tables.snapshot(alloc)
+pub(crate) fn transcript_of(alloc: Global, tables: &OneTable) -> Result<Transcript, Fault> {
+    tables.transcript(alloc)
 }

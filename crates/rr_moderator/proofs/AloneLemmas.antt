@@ -21,10 +21,10 @@ use Rattle.rr_roster.specs.declared.company.Corp.{Corp}
 use Rattle.rr_moderator.specs.Best.{LacksRun, MayNotRun, HasNone, LacksMemory, best_run, run_verdict}
 use Rattle.rr_moderator.specs.Serving.{Meets, MeetsBest, Lacks, Finds, Responds, TooLong, Malformed, Broken, Read, reply_to, text_of}
 use Rattle.rr_store.specs.declared.fault.Fault as store
-use Rattle.rr_records.specs.declared.fault.Fault as judge
-use Rattle.rr_records.specs.declared.fault.Fault.TheVariants as J
-use Rattle.rr_records.specs.World as rules
-use Rattle.rr_records.specs.World.{opening_verdict, world_judgement}
+use Rattle.rr_tables.specs.declared.records.fault.Fault as judge
+use Rattle.rr_tables.specs.declared.records.fault.Fault.TheVariants as J
+use Rattle.rr_tables.specs.Records.World as rules
+use Rattle.rr_tables.specs.Records.World.{opening_verdict, world_judgement}
 use Rattle.rr_store.specs.Fault as stored
 use Rattle.rr_store.specs.Held.{Held, Takes, Accepted, Refused, Wants, NoRoom, Fails, Again}
 use Rattle.rr_store.specs.World.{TableState, World, state_after, table_named}

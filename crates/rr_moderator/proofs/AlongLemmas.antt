@@ -6,7 +6,7 @@ use Rattle.rr_disk.proofs.MomentLemmas.{started, stays, joins, weaker}
 use Rattle.rr_kit.specs.Kits.{KitTexts}
 use Rattle.rr_log.specs.declared.log.Log.{Log}
 use Rattle.rr_log.specs.Log as log
-use Rattle.rr_records.specs.declared.rules.TableRules.{TableRules}
+use Rattle.rr_tables.specs.declared.records.rules.TableRules.{TableRules}
 use Rattle.rr_store.specs.Held.{Held}
 use Rattle.rr_store.specs.Holding.{Carries, disk_of, held_of}
 use Rattle.rr_store.proofs.Standing.{carried_keeps}

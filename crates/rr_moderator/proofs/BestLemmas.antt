@@ -32,8 +32,8 @@ use Rattle.rr_search.specs.declared.fault.Fault as search
 use Rattle.rr_search.specs.declared.fault.Fault.TheVariants as R
 use Rattle.rr_store.specs.declared.fault.Fault as store
 use Rattle.rr_store.specs.declared.fault.Fault.TheVariants as T
-use Rattle.rr_records.specs.declared.fault.Fault.TheVariants as J
-use Rattle.rr_records.specs.Fault.{of_table}
+use Rattle.rr_tables.specs.declared.records.fault.Fault.TheVariants as J
+use Rattle.rr_tables.specs.Records.Fault.{of_table}
 use Rattle.rr_store.specs.Held.{Held, LacksTable}
 use Rattle.rr_store.specs.World.{TableState, state_after, table_named}
 use Rattle.rr_moderator.specs.declared.fault.Fault.{Fault}

@@ -10,10 +10,10 @@ use Rattle.rr_code.specs.declared.line.Line.TheVariants as L
 use Rattle.rr_code.specs.Line.{SpellsLine}
 use Rattle.rr_log.specs.declared.log.Log.{Log}
 use Rattle.rr_log.specs.Log as log
-use Rattle.rr_records.specs.declared.rules.TableRules.{TableRules}
-use Rattle.rr_records.specs.Headline.{KeepsTablesOr}
-use Rattle.rr_records.specs.Taking.{table_files}
-use Rattle.rr_records.specs.Words.{in_words, table_in_words}
+use Rattle.rr_tables.specs.declared.records.rules.TableRules.{TableRules}
+use Rattle.rr_tables.specs.Records.Headline.{KeepsTablesOr}
+use Rattle.rr_tables.specs.Records.Taking.{table_files}
+use Rattle.rr_tables.specs.Records.Words.{in_words, table_in_words}
 use Rattle.rr_roster.specs.declared.company.Corp.{Corp}
 use Rattle.rr_serve.specs.Serving.{tells_failure}
 use Rattle.rr_store.specs.declared.fault.Fault as store

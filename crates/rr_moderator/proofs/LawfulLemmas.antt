@@ -19,8 +19,8 @@ use Rattle.rr_rules.specs.Runs as runs
 use Rattle.rr_rules.specs.State.{GameState}
 use Rattle.rr_rules.proofs.RunLemmas.{best_run_alike}
 use Rattle.rr_running.specs.Running.{IsBestRunVerdict}
-use Rattle.rr_records.specs.Fault.{of_table}
-use Rattle.rr_records.specs.World.{TableState, step_judgement}
+use Rattle.rr_tables.specs.Records.Fault.{of_table}
+use Rattle.rr_tables.specs.Records.World.{TableState, step_judgement}
 use Rattle.rr_turns.specs.Judgement.{IsFirstOrBehind, IsVerdict, judgement_map}
 use Rattle.rr_turns.proofs.JudgementLemmas.{behind-is, map-is}
 use Rattle.rr_moderator.specs.BestLaws.{BestRunsAreLawful}

@@ -21,10 +21,10 @@ use Rattle.rr_turns.specs.declared.request.Request.{Request}
 use Rattle.rr_turns.specs.declared.request.Request.TheVariants.{Play}
 use Rattle.rr_code.specs.declared.query.Query.{Query}
 use Rattle.rr_code.specs.declared.query.Query.TheVariants as Q
-use Rattle.rr_records.specs.declared.fault.Fault as judge
-use Rattle.rr_records.specs.declared.fault.Fault.TheVariants as J
-use Rattle.rr_records.specs.Fault.{of_table}
-use Rattle.rr_records.specs.World.{TableState, World, opening_verdict, step_judgement, table_named, world_judgement}
+use Rattle.rr_tables.specs.declared.records.fault.Fault as judge
+use Rattle.rr_tables.specs.declared.records.fault.Fault.TheVariants as J
+use Rattle.rr_tables.specs.Records.Fault.{of_table}
+use Rattle.rr_tables.specs.Records.World.{TableState, World, opening_verdict, step_judgement, table_named, world_judgement}
 use Rattle.rr_store.specs.declared.fault.Fault as store
 use Rattle.rr_store.specs.declared.fault.Fault.TheVariants as T
 use Rattle.rr_store.specs.Fault.{CountsFailure}

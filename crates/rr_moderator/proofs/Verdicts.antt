@@ -5,11 +5,11 @@ use Rattle.rr_code.specs.declared.command.Command.TheVariants.{Open}
 use Rattle.rr_hist.specs.Laws.{RequestsHaveOneVerdict}
 use Rattle.rr_hist.specs.Verdict.{request_judgement}
 use Rattle.rr_kit.specs.declared.kit.Kit.{Kit}
-use Rattle.rr_records.specs.declared.fault.Fault as judge
-use Rattle.rr_records.specs.declared.fault.Fault.TheVariants as J
-use Rattle.rr_records.specs.Fault.{of_table}
-use Rattle.rr_records.specs.World.{TableState, World, opening_verdict, step_judgement, world_judgement}
-use Rattle.rr_records.specs.World as rules
+use Rattle.rr_tables.specs.declared.records.fault.Fault as judge
+use Rattle.rr_tables.specs.declared.records.fault.Fault.TheVariants as J
+use Rattle.rr_tables.specs.Records.Fault.{of_table}
+use Rattle.rr_tables.specs.Records.World.{TableState, World, opening_verdict, step_judgement, world_judgement}
+use Rattle.rr_tables.specs.Records.World as rules
 use Rattle.rr_store.specs.declared.fault.Fault as store
 use Rattle.rr_store.specs.Fault as stored
 use Rattle.rr_store.specs.World.{judgement_in}

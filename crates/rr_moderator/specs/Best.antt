@@ -12,8 +12,8 @@ use Rattle.rr_kit.specs.declared.kit.Kit.{Kit}
 use Rattle.rr_orders.specs.declared.order.Order.TheVariants as O
 use Rattle.rr_roster.specs.declared.company.Corp.{Corp}
 use Rattle.rr_running.specs.Running.{IsBestRunVerdict, net_now}
-use Rattle.rr_records.specs.declared.fault.Fault as judge
-use Rattle.rr_records.specs.World.{TableState, step_judgement}
+use Rattle.rr_tables.specs.declared.records.fault.Fault as judge
+use Rattle.rr_tables.specs.Records.World.{TableState, step_judgement}
 use Rattle.rr_turns.specs.declared.request.Request.{Request}
 use Rattle.rr_turns.specs.declared.request.Request.TheVariants.{Play}
 use Rattle.rr_moderator.specs.declared.fault.Fault.{Fault}

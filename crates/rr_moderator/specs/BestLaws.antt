@@ -2,7 +2,7 @@
 use Rattle.std.specs.Prelude.{◌≡◌, ℕ, List, Option, None}
 use Rattle.rr_kit.specs.declared.kit.Kit.{Kit}
 use Rattle.rr_roster.specs.declared.company.Corp.{Corp}
-use Rattle.rr_records.specs.World.{TableState, state_after, step_judgement}
+use Rattle.rr_tables.specs.Records.World.{TableState, state_after, step_judgement}
 use Rattle.rr_turns.specs.Judgement.{IsVerdict}
 use Rattle.rr_moderator.specs.Answer.{earned_words}
 use Rattle.rr_moderator.specs.Best.{IsBestRun, best_run}

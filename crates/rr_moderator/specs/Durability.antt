@@ -8,9 +8,9 @@ use Rattle.rr_images.specs.Calls.{TakesNewer}
 use Rattle.rr_images.specs.Layout.{Layout}
 use Rattle.rr_images.specs.Steps.{with_line}
 use Rattle.rr_kit.specs.Kits.{KitTexts, SpellsKit}
-use Rattle.rr_records.specs.Headline.{KeepsTablesOr}
-use Rattle.rr_records.specs.Taking.{table_files}
-use Rattle.rr_records.specs.Words.{in_words, table_in_words}
+use Rattle.rr_tables.specs.Records.Headline.{KeepsTablesOr}
+use Rattle.rr_tables.specs.Records.Taking.{table_files}
+use Rattle.rr_tables.specs.Records.Words.{in_words, table_in_words}
 use Rattle.rr_store.specs.declared.fault.Fault as store
 use Rattle.rr_store.specs.declared.store.Store.{Store}
 use Rattle.rr_store.specs.Allowing.{BeforeOrAfter}
@@ -24,7 +24,7 @@ use Rattle.rr_moderator.specs.Answer.{accepted_text}
 use Rattle.rr_moderator.specs.Serving.{Answers, AsksFor, Gives}
 use Rattle.rr_moderator.specs.Serving.{MayAppend}
 use Rattle.rr_serve.specs.Serving.{NoneFails, Served, tells_failure}
-use Rattle.rr_worlds.specs.World as words
+use Rattle.rr_reading.specs.Worlds.World as words
 
 -- the file stands for what is held: its kit's texts spell the kit, and what was accepted into it makes the tables
 pub record Opens (file : List ℕ) (held : Held) : Type 0 where

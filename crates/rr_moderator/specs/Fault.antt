@@ -11,7 +11,7 @@ use Rattle.rr_rules.specs.declared.fault.Fault.TheVariants as U
 use Rattle.rr_runs.specs.Fault.{clause_number}
 use Rattle.rr_code.specs.declared.fault.Fault as code
 use Rattle.rr_code.specs.declared.fault.Fault.TheVariants as C
-use Rattle.rr_records.specs.declared.fault.Fault as judge
+use Rattle.rr_tables.specs.declared.records.fault.Fault as judge
 use Rattle.rr_store.specs.declared.fault.Fault as store
 use Rattle.rr_store.specs.declared.fault.Fault.TheVariants as T
 use Rattle.rr_store.specs.Fault as stored

@@ -3,6 +3,7 @@ ghost use Rattle.rr_moderator.specs.Fault.{data_of, game_data, game_words, kit_d
 ghost use Rattle.rr_moderator.specs.declared.fault.Fault.TheVariants.{OutOfMemory};
 
 use crate::reply::Reply;
+use rr_tables::records;
 use std::alloc::{AllocError, AllocFailed};
 use thiserror::Error;
 
@@ -315,10 +316,10 @@ impl From<rr_store::Fault> for Fault {
 }
 
 /// Of a request that isn't lawful at its table.
-impl From<rr_records::Fault> for Fault {
+impl From<records::Fault> for Fault {
     ghost from_gives = { λ fault wrapped. wrapped ≡ of_rules fault };
 
-    fn from(fault: rr_records::Fault) -> Fault {
+    fn from(fault: records::Fault) -> Fault {
         Fault::from(rr_store::Fault::from(fault))
     }
 }

@@ -14,6 +14,7 @@ use rr_disk::Disk;
 use rr_roster::Corp;
 use rr_serve::LONGEST_LINE;
 use rr_store::{Store, Table};
+use rr_tables::records;
 use rr_words::Name;
 use std::alloc::Global;
 
@@ -49,7 +50,7 @@ fn runs_at<'a, D: Disk + Drop>(
     stamp: u64,
     name: &Name,
     corp: Corp,
-) -> Result<&'a Table, rr_records::Fault>
+) -> Result<&'a Table, records::Fault>
     requires { (held_of store.now).broken ≡ false }
     ensures { MatchResult result
         (λ table. (table_named (held_of store.now).tables name.now ≡ Some (kept_in table.now))
@@ -60,7 +61,7 @@ fn runs_at<'a, D: Disk + Drop>(
     let table = match store.table(name) {
         Ok(table) => table,
         // The device works, so no table has this name.
-        Err(_) => return Err(rr_records::Fault::NoSuchTable),
+        Err(_) => return Err(records::Fault::NoSuchTable),
     };
     table.judge_run(alloc, stamp, corp, store.kit())?;
     Ok(table)

@@ -10,12 +10,14 @@ use Rattle.rr_pages.specs.Choosing.{IsNoStore, Too_short, Both_shut, Another_ver
 use Rattle.rr_pages.specs.Faults.{CountsFault}
 use Rattle.rr_pages.specs.Pages.{number_in}
 use Rattle.rr_pages.proofs.Bytes.{at_index, number_read}
+use Rattle.rr_pages.specs.declared.journal.layout.HalfIndex.TheVariants.{First, Second}
+use Rattle.rr_pages.specs.declared.journal.layout.HalfIndex.{HalfIndex}
 
-half_same : (a b : Bool) → half_number a ≡ half_number b → a ≡ b
-half_same false false e = refl
-half_same false true e = absurd (omega (arith, e))
-half_same true false e = absurd (omega (arith, e))
-half_same true true e = refl
+half_same : (a b : HalfIndex) → half_number a ≡ half_number b → a ≡ b
+half_same First First e = refl
+half_same First Second e = absurd (omega (arith, e))
+half_same Second First e = absurd (omega (arith, e))
+half_same Second Second e = refl
 
 -- a side has one root
 pub same_root : (file : List ℕ) (side : Bool) (a b : Root) → HasFields file side a → HasFields file side b → a ≡ b
@@ -64,9 +66,9 @@ each_sound file side root stale taken =
     (λ open_gate. (root, (taken.fields, taken.sound)))
     (λ open_gate. open_sound file (not side) root.number stale taken.other open_gate)
 
-half_low : (half : Bool) → half_number half ≤ 1
-half_low false = omega arith
-half_low true = omega arith
+half_low : (half : HalfIndex) → half_number half ≤ 1
+half_low First = omega arith
+half_low Second = omega arith
 
 sound_bounds : (file : List ℕ) (s : Bool) (r : Root) → HasFields file s r → IsSound file r → AreInBounds file s
 sound_bounds file s r fields sound =
@@ -141,9 +143,9 @@ module _ (file : List ℕ) (len : ℕ) (same : length file ≡ len) (side : Bool
       }
 
 -- the root with fields in bounds
-abbrev pub half_of : ℕ → Bool
-half_of zero = false
-half_of (suc n) = true
+abbrev pub half_of : ℕ → HalfIndex
+half_of zero = First
+half_of (suc n) = Second
 
 half_of_low : (n : ℕ) → n ≤ 1 → half_number (half_of n) ≡ n
 half_of_low zero low = refl

@@ -7,3 +7,4 @@ pub mod ChoosingLemmas
 pub mod Walks
 pub mod Lists
 pub mod Slices
+pub mod JournalLemmas

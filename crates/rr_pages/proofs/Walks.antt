@@ -5,7 +5,7 @@ use Rattle.std.proofs.lemmas.Bool.{or_parts, or_from, ltb-false, le-ltb, eq-eqb,
 use Rattle.std.proofs.lemmas.List.{map-append, append_assoc, append-nil, length-set}
 use Rattle.std.proofs.lemmas.List.Sums.{sum_by-cons}
 use Rattle.rr_pages.specs.declared.fault.Damage.{Damage}
-use Rattle.rr_pages.specs.declared.fault.Damage.TheVariants.{PageOutside, PageTwice, UsedBytes, ChainLength}
+use Rattle.rr_pages.specs.declared.fault.Damage.TheVariants.{PageOutside, PageTwice, UsedBytes, Form}
 use Rattle.rr_pages.specs.declared.fault.Fault.{Fault}
 use Rattle.rr_pages.specs.declared.fault.Fault.TheVariants.{FileFull, Damaged, NotAStore, Disk, OutOfMemory}
 use Rattle.rr_pages.specs.declared.reading.Link.{Link}
@@ -267,7 +267,7 @@ module _ (file : List ℕ) (count : ℕ) (low : count ≤ 65536) where
   chain_found reached before head pages bytes whole has are apart new chain = (
     walk_found reached before head pages bytes whole has are apart new chain.0 chain.1,
     cond-false (list_any (λ (p : ℕ). nat_lt 4086 (used_of file p)) pages) (Some UsedBytes) (length_damage (sum_by (used_of file) pages) (Some (length bytes))) (few_used head pages bytes chain.1)
-        ∙ cond-true (sum_by (used_of file) pages == length bytes) None (Some ChainLength) (eq-eqb (sum_by (used_of file) pages) (length bytes) (all_used head pages bytes chain.1)),
+        ∙ cond-true (sum_by (used_of file) pages == length bytes) None (Some Form) (eq-eqb (sum_by (used_of file) pages) (length bytes) (all_used head pages bytes chain.1)),
   )
 
   -- so a chain that is told broken isn't there

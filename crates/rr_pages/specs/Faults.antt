@@ -4,7 +4,7 @@ use Rattle.rr_disk.specs.Disk as disk
 use Rattle.rr_disk.specs.Disk.{counted}
 use Rattle.rr_disk.specs.declared.fault.Fault.TheVariants.{DeviceFailed}
 use Rattle.rr_pages.specs.declared.fault.Damage.{Damage}
-use Rattle.rr_pages.specs.declared.fault.Damage.TheVariants.{RootField, PageOutside, PageTwice, UsedBytes, ChainLength}
+use Rattle.rr_pages.specs.declared.fault.Damage.TheVariants.{RootField, PageOutside, PageTwice, UsedBytes, Form, Kit, Kept, Records}
 use Rattle.rr_pages.specs.declared.fault.Fault.{Fault}
 use Rattle.rr_pages.specs.declared.fault.Fault.TheVariants.{FileFull, Damaged, NotAStore, Disk, OutOfMemory}
 
@@ -22,7 +22,10 @@ clause_of RootField = 1
 clause_of PageOutside = 2
 clause_of PageTwice = 3
 clause_of UsedBytes = 4
-clause_of ChainLength = 5
+clause_of Form = 5
+clause_of Kit = 6
+clause_of Kept = 7
+clause_of Records = 8
 
 -- a fault of the disk is told exactly where the disk counted one more
 abbrev pub CountsFault : {T : Type 0} → ℕ → ℕ → Result T Fault → Type 0

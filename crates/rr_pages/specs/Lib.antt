@@ -13,3 +13,4 @@ pub mod Roots
 pub mod Sets
 pub mod Walk
 pub mod Writing
+pub mod Journal

@@ -3,15 +3,17 @@ use Rattle.std.specs.Prelude.{◌≡◌, ℕ, ◌*◌, ◌^◌, ◌<◌, ◌≤�
 use Rattle.byteorder.specs.Endian.{big_bytes}
 use Rattle.rr_pages.specs.declared.root.Root.{Root}
 use Rattle.rr_pages.specs.Pages.{number_in}
+use Rattle.rr_pages.specs.declared.journal.layout.HalfIndex.TheVariants.{First, Second}
+use Rattle.rr_pages.specs.declared.journal.layout.HalfIndex.{HalfIndex}
 
 -- a root's page, by its side
 abbrev pub root_page : Bool → ℕ
 root_page false = 0
 root_page true = 1
 
-abbrev pub half_number : Bool → ℕ
-half_number false = 0
-half_number true = 1
+abbrev pub half_number : HalfIndex → ℕ
+half_number First = 0
+half_number Second = 1
 
 -- the byte of a root's gate
 abbrev pub root_gate : Bool → ℕ

@@ -2,7 +2,7 @@
 use Rattle.std.specs.Prelude.{◌≡◌, ◌≢◌, ◌⊎◌, ℕ, ◌==◌, nat_lt, if◌then◌else◌, Bool, List, [], ◌∷◌, Option, None, Some, sum_by}
 use Rattle.std.specs.List.{list_any}
 use Rattle.rr_pages.specs.declared.fault.Damage.{Damage}
-use Rattle.rr_pages.specs.declared.fault.Damage.TheVariants.{PageOutside, PageTwice, UsedBytes, ChainLength}
+use Rattle.rr_pages.specs.declared.fault.Damage.TheVariants.{PageOutside, PageTwice, UsedBytes, Form}
 use Rattle.rr_pages.specs.Pages.{IsData}
 use Rattle.rr_pages.specs.Chains.{next_of, used_of}
 use Rattle.rr_pages.specs.Sets.{IsMarked, marked}
@@ -19,7 +19,7 @@ Walk file count reached page (p ∷ pages) end =
 -- a chain of so many bytes that should have this length, where one is stated
 abbrev pub length_damage : ℕ → Option ℕ → Option Damage
 length_damage total None = None
-length_damage total (Some stated) = if total == stated then None else Some ChainLength
+length_damage total (Some stated) = if total == stated then None else Some Form
 
 -- The first clause that a chain breaks which was followed over these pages to this end: where it breaks off, then pages with
 -- too many used bytes, then its length.

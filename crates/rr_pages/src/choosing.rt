@@ -2,9 +2,10 @@ ghost use Rattle.std.specs.Prelude.{◌≡◌, ◌*◌, ◌<◌, ◌≤◌, ◌�
 ghost use Rattle.rr_pages.specs.Choosing.{Chooses, StandsBehind, AreFieldsIn, IsInBounds, IsRootOf};
 ghost use Rattle.rr_pages.specs.Choosing.{OnlyDevice, IsJudged};
 ghost use Rattle.rr_pages.specs.Faults.{CountsFault, OnDeviceFault};
-ghost use Rattle.rr_pages.specs.Roots.{LiesWithin};
+ghost use Rattle.rr_pages.specs.Roots.{LiesWithin, half_number};
 
-use crate::page::OPEN;
+use crate::journal::HalfIndex;
+use crate::page::{MOST_PAGES, OPEN, PAGE_BYTES};
 use crate::root::gate_of;
 use crate::{Damage, Fault, Root};
 use byteorder::{BigEndian, ByteOrder};
@@ -49,7 +50,7 @@ pub fn take_root<D: Disk>(disk: &mut D) -> Result<Taken, Fault>
     ensures same_len { D.file_len disk.new ≡ D.file_len disk.old }
 {
     let len = disk.len();
-    if len < 4096 * 515 {
+    if len < PAGE_BYTES * 515 {
         return Err(Fault::NotAStore);
     }
     let first = read_fields(disk, false)?;
@@ -178,8 +179,18 @@ fn are_in_bounds(len: u64, fields: &Fields) -> bool
         && fields.first > 0
         && fields.first < 1 << 63
         && fields.pages >= 515
-        && fields.pages <= 65536
-        && 4096 * fields.pages <= len
+        && fields.pages <= u64::from(MOST_PAGES)
+        && PAGE_BYTES * fields.pages <= len
+}
+
+// The half that a root's byte names.
+fn half_of(number: u8) -> HalfIndex
+    ensures { number ≤ 1 → half_number result ≡ number }
+{
+    match number {
+        0 => HalfIndex::First,
+        _ => HalfIndex::Second,
+    }
 }
 
 fn root_of(fields: &Fields) -> Root
@@ -188,7 +199,7 @@ fn root_of(fields: &Fields) -> Root
     Root {
         number: fields.number,
         directory: fields.directory,
-        half: fields.half == 1,
+        half: half_of(fields.half),
         first: fields.first,
         pages: fields.pages,
         version: fields.version,

@@ -1,7 +1,8 @@
 use std::alloc::{AllocError, AllocFailed};
 use thiserror::Error;
 
-/// Which clause a damaged file breaks. Of several the first one is told.
+/// Which clause a damaged file breaks. Its bytes alone decide those before `Form`, and the rules of the game those behind
+/// it. Of several the least is told.
 #[derive(Clone, Copy, Debug, Drop, PartialEq, Eq, Error)]
 pub enum Damage {
     /// A field of an open root is out of bounds, or two open roots have the same number.
@@ -16,9 +17,20 @@ pub enum Damage {
     /// A page has more than 4,086 used bytes.
     #[error("4")]
     UsedBytes,
-    /// A chain is longer or shorter than its stated length.
+    /// A chain has another length than is stated, the bytes of the directory spell none, those of a table's chain aren't
+    /// as many commands as it says, or kept words of a table are no request's, and no `best`.
     #[error("5")]
-    ChainLength,
+    Form,
+    /// A text of the kit is wrong.
+    #[error("6")]
+    Kit,
+    /// What a table keeps isn't an opening and then commands that are lawful, each after those before it; or its floor is
+    /// above the turns that ended in them.
+    #[error("7")]
+    Kept,
+    /// A record spells no request that its table may take, or is damaged.
+    #[error("8")]
+    Records,
 }
 
 impl Damage {
@@ -34,7 +46,10 @@ impl Damage {
             Damage::PageOutside => 2,
             Damage::PageTwice => 3,
             Damage::UsedBytes => 4,
-            Damage::ChainLength => 5,
+            Damage::Form => 5,
+            Damage::Kit => 6,
+            Damage::Kept => 7,
+            Damage::Records => 8,
         }
     }
 }

@@ -1,8 +1,8 @@
-//! The parts of the file below the store: pages of 4,096 bytes, chains of them, which of them are free, and two roots
-//! with gates, of which one is taken. Numbers in the file are big-endian.
+//! What a store's file is made of: pages of 4,096 bytes, chains of them, which of them are free, two roots with gates, of
+//! which one is taken, and the two halves of its journal (`journal`). Numbers in the file are big-endian.
 //!
-//! Stands on `rr_disk`. Its promise: `chain_read` and `take_root` tell exactly what the bytes have, or the first clause
-//! broken.
+//! Stands on `rr_disk`. Its promises: `chain_read` and `take_root` tell exactly what the bytes have, or the first clause
+//! broken; and `journal::Half::append` leaves each image with the records from before, or with the new one whole.
 #![tactic(auto)]
 
 mod chain;
@@ -10,6 +10,7 @@ mod choosing;
 mod device;
 mod fault;
 mod free_pages;
+pub mod journal;
 pub mod laws;
 mod page;
 mod page_set;
@@ -21,6 +22,7 @@ pub use choosing::{Taken, take_root};
 pub use device::shut;
 pub use fault::{Damage, Fault};
 pub use free_pages::FreePages;
+pub use page::{FIRST_DATA, MOST_PAGES, PAGE_BYTES};
 pub use page_set::PageSet;
 pub use reading::{ReadChain, chain_read};
 pub use root::{Root, Roots};

@@ -8,16 +8,16 @@ use byteorder::{BigEndian, ByteOrder};
 use std::alloc::{AllocError, Global};
 
 /// The bytes of a page.
-pub(crate) const PAGE_BYTES: usize = 4096;
+pub const PAGE_BYTES: u64 = 4096;
 
 /// The bytes of a data page that belong to its chain, behind its next page and its count of used bytes.
 pub(crate) const MOST_USED: usize = 4086;
 
 /// The first page of data. Before it lie the roots and the journal.
-pub(crate) const FIRST_DATA: u32 = 514;
+pub const FIRST_DATA: u32 = 514;
 
 /// A file has at most so many pages.
-pub(crate) const MOST_PAGES: u32 = 65536;
+pub const MOST_PAGES: u32 = 65536;
 
 /// The gate byte that is open. Every other byte is a closed gate.
 pub(crate) const OPEN: u8 = 0xa5;
@@ -34,11 +34,11 @@ pub(crate) fn lay_page(alloc: Global, next: u32, piece: &[u8]) -> Result<Vec<u8>
     requires { length piece.now ≤ 4086 }
     ensures { IfOk result (λ page. page.items ≡ page_spelling next piece.now) }
 {
-    let mut page = Vec::with_capacity(alloc, PAGE_BYTES)?;
+    let mut page = Vec::with_capacity(alloc, PAGE_BYTES as usize)?;
     page.extend_from_slice(&eight_bytes(next as u64))?;
     page.extend_from_slice(&two_bytes(piece.len() as u16))?;
     page.extend_from_slice(piece)?;
-    page.resize(PAGE_BYTES, 0)?;
+    page.resize(PAGE_BYTES as usize, 0)?;
     Ok(page)
 }
 

@@ -10,7 +10,7 @@ ghost use Rattle.rr_pages.specs.Walk as walk;
 ghost use Rattle.std.specs.List.{list_any};
 ghost use Rattle.rr_disk.specs.Disk.{IsAt};
 
-use crate::page::{MOST_USED, is_data};
+use crate::page::{MOST_USED, PAGE_BYTES, is_data};
 use crate::{Damage, Fault, PageSet};
 use byteorder::{BigEndian, ByteOrder};
 use rr_disk::Disk;
@@ -147,7 +147,7 @@ fn read_link<D: Disk>(disk: &mut D, page: u32) -> Result<Link, Fault>
     ensures same_len { D.file_len disk.new ≡ D.file_len disk.old }
 {
     let mut front = [0u8; 10];
-    disk.read_at(4096 * page as u64, &mut front)?;
+    disk.read_at(PAGE_BYTES * page as u64, &mut front)?;
     Ok(Link {
         page,
         next: BigEndian::read_u64(&front),
@@ -193,7 +193,7 @@ fn length_damage(total: u64, stated: Option<u32>) -> Option<Damage>
             if total == stated as u64 {
                 None
             } else {
-                Some(Damage::ChainLength)
+                Some(Damage::Form)
             }
         }
     }
@@ -257,7 +257,7 @@ fn read_piece<D: Disk>(
     ensures works { D.Works disk.new → D.Works disk.old }
     ensures same_len { D.file_len disk.new ≡ D.file_len disk.old }
 {
-    let piece = read_bytes(alloc, disk, 4096 * page as u64 + 10, used as usize)?;
+    let piece = read_bytes(alloc, disk, PAGE_BYTES * page as u64 + 10, used as usize)?;
     bytes.extend_from_slice(&piece)?;
     Ok(())
 }

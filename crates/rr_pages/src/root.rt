@@ -7,7 +7,8 @@ ghost use Rattle.rr_pages.specs.Device.{Shuts, MayShut, Flips, MayFlip};
 ghost use Rattle.rr_pages.specs.Roots.{root_gate, half_number, root_bytes};
 
 use crate::device::shut;
-use crate::page::OPEN;
+use crate::journal::HalfIndex;
+use crate::page::{OPEN, PAGE_BYTES};
 use byteorder::{BigEndian, ByteOrder};
 use rr_disk::{Disk, Fault, put};
 
@@ -21,8 +22,8 @@ pub struct Root {
     pub number: u64,
     /// The first page of the directory.
     pub directory: u64,
-    /// The half of the journal in which the first record behind this root stands: `false` the first half.
-    pub half: bool,
+    /// The half of the journal in which the first record behind this root stands.
+    pub half: HalfIndex,
     /// The number of that record.
     pub first: u64,
     /// How many pages of the file may be reached.
@@ -146,7 +147,7 @@ impl Roots {
 pub(crate) fn gate_of(side: bool) -> u64
     ensures { result ≡ root_gate side }
 {
-    if side { 4096 } else { 0 }
+    if side { PAGE_BYTES } else { 0 }
 }
 
 // A root as it stands behind its gate.
@@ -202,8 +203,11 @@ fn spell_pages(room: &mut [u8], root: &Root)
     BigEndian::write_u16(&mut room[8..], root.version);
 }
 
-fn half_byte(half: bool) -> u8
+fn half_byte(half: HalfIndex) -> u8
     ensures { result ≡ half_number half }
 {
-    if half { 1 } else { 0 }
+    match half {
+        HalfIndex::First => 0,
+        HalfIndex::Second => 1,
+    }
 }

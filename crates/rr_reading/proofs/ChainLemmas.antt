@@ -2,13 +2,13 @@
 use Rattle.std.proofs.Common.{◌≡◌, ℕ, ◌+◌, ◌<◌, ◌≤◌, Bool, List, [], ◌∷◌, ◌++◌, length, map, fold, take, get_or, Option, None, Some, Ok, Err, refl, sym, ap, ◌∙◌, subst, arith, length-append}
 use Rattle.std.proofs.lemmas.List.{map-append, take_more, take_all, length-map}
 use Rattle.std.proofs.lemmas.List.Sums.{fold-append}
-use Rattle.rr_dir.specs.declared.directory.ChainRef.{ChainRef}
-use Rattle.rr_dir.specs.declared.directory.KitChains.{KitChains}
-use Rattle.rr_dir.specs.declared.directory.TableEntry.{TableEntry}
-use Rattle.rr_dir.specs.Heads.{head_of, heads_of}
+use Rattle.rr_reading.specs.declared.dir.directory.ChainRef.{ChainRef}
+use Rattle.rr_reading.specs.declared.dir.directory.KitChains.{KitChains}
+use Rattle.rr_reading.specs.declared.dir.directory.TableEntry.{TableEntry}
+use Rattle.rr_reading.specs.Dir.Heads.{head_of, heads_of}
 use Rattle.rr_images.specs.Following.{AllRead}
 use Rattle.rr_images.specs.Holding.{HeldChain}
-use Rattle.rr_pages.specs.declared.fault.Damage.{Damage as PageDamage}
+use Rattle.rr_pages.specs.declared.fault.Damage.{Damage}
 use Rattle.rr_pages.specs.declared.fault.Fault.{Fault as PageFault}
 use Rattle.rr_pages.specs.declared.fault.Fault.TheVariants as pages
 use Rattle.rr_pages.specs.declared.reading.ReadChain.{ReadChain}
@@ -21,13 +21,13 @@ use Rattle.rr_reading.specs.declared.chains.Followed.TheVariants.{Whole, Broken}
 use Rattle.rr_reading.specs.declared.fault.Fault.{Fault}
 use Rattle.rr_reading.specs.declared.fault.Fault.TheVariants as F
 use Rattle.rr_reading.specs.Chains.{held, all_held, FoundChain, AllFollowed, damage_in, lower_of, least_in, IsFollowed, damage_told, read_of, AreRead}
-use Rattle.rr_reading.specs.Faults.{of_page, IsNoVerdict}
+use Rattle.rr_reading.specs.Faults.{IsNoVerdict}
 use Rattle.rr_reading.specs.Told.{told_broken, told_least, IsToldBroken}
 use Rattle.rr_reading.proofs.Least.{AllRight, walk_right}
 
 module _ (file : List ℕ) (count : ℕ) where
   -- one chain that was followed, and the least clause that it breaks
-  pub record OneFollowed (before : List Bool) (head : ℕ × ℕ) (after : List Bool) (told : Option PageDamage) : Type 0 where
+  pub record OneFollowed (before : List Bool) (head : ℕ × ℕ) (after : List Bool) (told : Option Damage) : Type 0 where
     pub chain : FoundChain
     pub stated : chain.stated ≡ Some head.1
     pub walk : Walk file count before head.0 chain.pages chain.end
@@ -41,7 +41,7 @@ module _ (file : List ℕ) (count : ℕ) where
       record { chain = record { pages = is.pages; end = is.end; stated = Some head.1 }; stated = refl; walk = is.walk; marks = is.marks; damage = is.broken }
 
   -- one more behind others
-  followed_more : (before between after : List Bool) (heads : List (ℕ × ℕ)) (head : ℕ × ℕ) (told : Option PageDamage) (found : List FoundChain) → AllFollowed file count before heads between found → (one : OneFollowed between head after told)
+  followed_more : (before between after : List Bool) (heads : List (ℕ × ℕ)) (head : ℕ × ℕ) (told : Option Damage) (found : List FoundChain) → AllFollowed file count before heads between found → (one : OneFollowed between head after told)
       → AllFollowed file count before (heads ++ head ∷ []) after (found ++ one.chain ∷ [])
   followed_more before between after [] head told found first one = (
     one.chain,
@@ -72,7 +72,7 @@ module _ (file : List ℕ) (count : ℕ) where
     read_on first.2 between after front back first.1 more first.5 then,
   )
 
-  whole_more : (before between after : List Bool) (heads : List (ℕ × ℕ)) (head : ℕ × ℕ) (least : Option PageDamage) (chains : List HeldChain) (followed : Followed) → (least ≡ None → AllRead file count before heads between chains)
+  whole_more : (before between after : List Bool) (heads : List (ℕ × ℕ)) (head : ℕ × ℕ) (least : Option Damage) (chains : List HeldChain) (followed : Followed) → (least ≡ None → AllRead file count before heads between chains)
       → IsFollowed file count between head after followed → lower_of least (damage_told followed) ≡ None → AllRead file count before (heads ++ head ∷ []) after (chains ++ all_held (read_of followed))
   whole_more before between after heads head None chains (Whole read) whole is none =
       read_on before between after heads (head ∷ []) chains (held read ∷ []) (whole refl) (held read, [], after, refl, is, (refl, refl))
@@ -83,14 +83,14 @@ module _ (file : List ℕ) (count : ℕ) where
   pub are_read_none : (before : List Bool) → AreRead file count before [] before None []
   are_read_none before = record { found = []; followed = (refl, refl); is_least = refl; whole = λ none. (refl, refl) }
 
-  are_read_more : (before between after : List Bool) (heads : List (ℕ × ℕ)) (head : ℕ × ℕ) (least : Option PageDamage) (chains : List HeldChain) (followed : Followed) → AreRead file count before heads between least chains
+  are_read_more : (before between after : List Bool) (heads : List (ℕ × ℕ)) (head : ℕ × ℕ) (least : Option Damage) (chains : List HeldChain) (followed : Followed) → AreRead file count before heads between least chains
       → IsFollowed file count between head after followed → AreRead file count before (heads ++ head ∷ []) after (lower_of least (damage_told followed)) (chains ++ all_held (read_of followed))
   are_read_more before between after heads head least chains followed read is =
       let one = followed_one between head after followed is in
       record {
         found = read.found ++ one.chain ∷ [];
         followed = followed_more before between after heads head (damage_told followed) read.found read.followed one;
-        is_least = (λ i. lower_of (read.is_least i) (sym one.damage i)) ∙ sym (fold-append (λ (told : Option PageDamage) (chain : FoundChain). lower_of told (damage_in file chain)) None read.found (one.chain ∷ []));
+        is_least = (λ i. lower_of (read.is_least i) (sym one.damage i)) ∙ sym (fold-append (λ (told : Option Damage) (chain : FoundChain). lower_of told (damage_in file chain)) None read.found (one.chain ∷ []));
         whole = whole_more before between after heads head least chains followed read.whole is;
       }
 
@@ -108,7 +108,7 @@ module _ (file : List ℕ) (count : ℕ) where
       record {
         found = chain ∷ rest.found;
         followed = (chain, rest.found, refl, refl, read.4.walk, subst (λ (marks : List Bool). AllFollowed file count marks heads after rest.found) read.4.marks rest.followed);
-        unbroken = ap (λ (told : Option PageDamage). fold (λ least other. lower_of least (damage_in file other)) told rest.found) read.4.unbroken ∙ rest.unbroken;
+        unbroken = ap (λ (told : Option Damage). fold (λ least other. lower_of least (damage_in file other)) told rest.found) read.4.unbroken ∙ rest.unbroken;
       }
 
   pub all_right : (before : List Bool) (heads : List (ℕ × ℕ)) (after : List Bool) (found : List FoundChain) → AllFollowed file count before heads after found → AllRight file found
@@ -147,29 +147,29 @@ call_no_verdict file count before after head stated (pages.Disk fault) told read
 call_no_verdict file count before after head stated pages.OutOfMemory told read is = let same : F.OutOfMemory ≡ told = cc in subst IsNoVerdict same tt
 
 -- a chain more, of a disk that has later what it had
-pub call_more : (file now : List ℕ) (count : ℕ) (before between after : List Bool) (heads more : List (ℕ × ℕ)) (head : ℕ × ℕ) (least new : Option PageDamage) (chains grown : List ReadChain) (followed : Followed) → now ≡ file → more ≡ heads ++ head ∷ []
+pub call_more : (file now : List ℕ) (count : ℕ) (before between after : List Bool) (heads more : List (ℕ × ℕ)) (head : ℕ × ℕ) (least new : Option Damage) (chains grown : List ReadChain) (followed : Followed) → now ≡ file → more ≡ heads ++ head ∷ []
     → AreRead file count before heads between least (all_held chains) → IsFollowed now count between head after followed → grown ≡ chains ++ read_of followed → new ≡ lower_of least (damage_told followed)
     → AreRead file count before more after new (all_held grown)
 call_more file now count before between after heads more head least new chains grown followed same heads_are read is grown_is new_is =
     let there : IsFollowed file count between head after followed = subst (λ (f : List ℕ). IsFollowed f count between head after followed) same is in
     let all = are_read_more file count before between after heads head least (all_held chains) followed read there in
     subst (λ (hs : List (ℕ × ℕ)). AreRead file count before hs after new (all_held grown)) (sym heads_are)
-    (subst (λ (told : Option PageDamage). AreRead file count before (heads ++ head ∷ []) after told (all_held grown)) (sym new_is)
+    (subst (λ (told : Option Damage). AreRead file count before (heads ++ head ∷ []) after told (all_held grown)) (sym new_is)
     (subst (λ (cs : List HeldChain). AreRead file count before (heads ++ head ∷ []) after (lower_of least (damage_told followed)) cs) (sym (ap all_held grown_is ∙ map-append held chains (read_of followed))) all))
 
 -- how many were read while none is broken
-pub each_more : (least new : Option PageDamage) (n : ℕ) (chains grown : List ReadChain) (followed : Followed) → (least ≡ None → length chains ≡ n) → grown ≡ chains ++ read_of followed → new ≡ lower_of least (damage_told followed) → new ≡ None → length grown ≡ n + 1
+pub each_more : (least new : Option Damage) (n : ℕ) (chains grown : List ReadChain) (followed : Followed) → (least ≡ None → length chains ≡ n) → grown ≡ chains ++ read_of followed → new ≡ lower_of least (damage_told followed) → new ≡ None → length grown ≡ n + 1
 each_more None new n chains grown (Whole read) each grown_is new_is none = omega (arith, ap (λ (cs : List ReadChain). length cs) grown_is, length-append chains (read ∷ []), each refl)
 each_more None new n chains grown (Broken damage) each grown_is new_is none = absurd (cc)
 each_more (Some least) new n chains grown (Whole read) each grown_is new_is none = absurd (cc)
 each_more (Some least) new n chains grown (Broken damage) each grown_is new_is none = absurd (cc)
 
 -- what comes of the least clause
-pub least_told : {T : Type 0} → (file : List ℕ) (count : ℕ) (before after : List Bool) (heads : List (ℕ × ℕ)) (chains : List HeldChain) (least : Option PageDamage) (given : T) (fault : Fault) → AreRead file count before heads after least chains
+pub least_told : {T : Type 0} → (file : List ℕ) (count : ℕ) (before after : List Bool) (heads : List (ℕ × ℕ)) (chains : List HeldChain) (least : Option Damage) (given : T) (fault : Fault) → AreRead file count before heads after least chains
     → told_least least given ≡ Err fault → IsToldBroken file count before heads fault
 least_told file count before after heads chains None given fault read is = absurd (cc)
 least_told file count before after heads chains (Some least) given fault read is =
-    let same : F.Damaged (of_page least) ≡ fault = cc in
+    let same : F.Damaged least ≡ fault = cc in
     subst (λ (f : Fault). IsToldBroken file count before heads f) same
     (least, refl, record { after = after; found = read.found; followed = read.followed; is_least = sym read.is_least })
 
@@ -177,7 +177,7 @@ least_told file count before after heads chains (Some least) given fault read is
 pub heads_more : (chains : List ChainRef) (n : ℕ) (default : ChainRef) → n < length chains → map head_of (take (n + 1) chains) ≡ map head_of (take n chains) ++ head_of (get_or chains n default) ∷ []
 heads_more chains n default within = ap (λ (cs : List ChainRef). map head_of cs) (take_more chains n default within) ∙ map-append head_of (take n chains) (get_or chains n default ∷ [])
 
-pub all_heads : (file : List ℕ) (count : ℕ) (before after : List Bool) (chains : List ChainRef) (n : ℕ) (least : Option PageDamage) (read : List HeldChain) → length chains ≤ n → AreRead file count before (map head_of (take n chains)) after least read
+pub all_heads : (file : List ℕ) (count : ℕ) (before after : List Bool) (chains : List ChainRef) (n : ℕ) (least : Option Damage) (read : List HeldChain) → length chains ≤ n → AreRead file count before (map head_of (take n chains)) after least read
     → AreRead file count before (map head_of chains) after least read
 all_heads file count before after chains n least read past are = subst (λ (cs : List ChainRef). AreRead file count before (map head_of cs) after least read) (take_all n chains past) are
 

@@ -5,7 +5,7 @@ use Rattle.std.proofs.lemmas.Bool.{or_parts, ltb-false}
 use Rattle.std.proofs.lemmas.List.{length-take-le, length-drop}
 use Rattle.rr_images.specs.Following.{AllRead}
 use Rattle.rr_images.specs.Holding.{HeldChain}
-use Rattle.rr_pages.specs.declared.fault.Damage.{Damage as PageDamage}
+use Rattle.rr_pages.specs.declared.fault.Damage.{Damage}
 use Rattle.rr_pages.specs.declared.fault.Damage.TheVariants.{UsedBytes}
 use Rattle.rr_pages.specs.Chains.{next_of, used_of, Links}
 use Rattle.rr_pages.specs.Pages.{StandsAt}
@@ -15,11 +15,11 @@ use Rattle.rr_pages.specs.Walk.{Walk, damage_of}
 use Rattle.rr_reading.specs.Chains.{FoundChain, AllFollowed, HasOne, damage_in}
 use Rattle.rr_reading.proofs.Least.{IsAtMost}
 
-pub damage_told : (told : Option PageDamage) (n : ℕ) → IsAtMost told n → (damage : PageDamage) × (told ≡ Some damage)
+pub damage_told : (told : Option Damage) (n : ℕ) → IsAtMost told n → (damage : Damage) × (told ≡ Some damage)
 damage_told None n low = absurd low
 damage_told (Some damage) n low = (damage, refl)
 
-over_of : (t : Bool) (rest : Option PageDamage) → (if t then Some UsedBytes else rest) ≡ None → t ≡ false
+over_of : (t : Bool) (rest : Option Damage) → (if t then Some UsedBytes else rest) ≡ None → t ≡ false
 over_of true rest is = absurd (cc)
 over_of false rest is = refl
 
@@ -79,7 +79,7 @@ module _ (file : List ℕ) (count : ℕ) (within : 4096 * count ≤ length file)
       let there = links_there before head.0 pages walk few in
       (there.0, record { walk = walk; unbroken = unbroken; chain = (walk_some before head.0 pages walk, there.1); marks = refl })
 
-  end_none : (chain : FoundChain) (end : Option PageDamage) → chain.end ≡ end → damage_of file chain.pages end chain.stated ≡ None → end ≡ None
+  end_none : (chain : FoundChain) (end : Option Damage) → chain.end ≡ end → damage_of file chain.pages end chain.stated ≡ None → end ≡ None
   end_none chain None is unbroken = refl
   end_none chain (Some damage) is unbroken = absurd (cc)
 
@@ -87,11 +87,11 @@ module _ (file : List ℕ) (count : ℕ) (within : 4096 * count ≤ length file)
       → (text : List ℕ) × IsWhole file count before head.0 (Some head.1) (all_marked before chain.pages) chain.pages text
   found_there before head chain stated walk unbroken =
       let whole : chain.end ≡ None = end_none chain chain.end refl unbroken in
-      chain_there before head chain.pages (subst (λ (end : Option PageDamage). Walk file count before head.0 chain.pages end) whole walk)
-      (subst (λ (said : Option ℕ). damage_of file chain.pages None said ≡ None) stated (subst (λ (end : Option PageDamage). damage_of file chain.pages end chain.stated ≡ None) whole unbroken))
+      chain_there before head chain.pages (subst (λ (end : Option Damage). Walk file count before head.0 chain.pages end) whole walk)
+      (subst (λ (said : Option ℕ). damage_of file chain.pages None said ≡ None) stated (subst (λ (end : Option Damage). damage_of file chain.pages end chain.stated ≡ None) whole unbroken))
 
   pub record FirstBroken (before : List Bool) (heads : List (ℕ × ℕ)) : Type 0 where
-    pub damage : PageDamage
+    pub damage : Damage
     pub front : List (ℕ × ℕ)
     pub head : ℕ × ℕ
     pub back : List (ℕ × ℕ)
@@ -102,7 +102,7 @@ module _ (file : List ℕ) (count : ℕ) (within : 4096 * count ≤ length file)
     pub beyond : List Bool
     pub broken : IsBroken file count between head.0 (Some head.1) beyond damage
 
-  broken_here : (before : List Bool) (head : ℕ × ℕ) (heads : List (ℕ × ℕ)) (chain : FoundChain) (damage : PageDamage) → chain.stated ≡ Some head.1 → Walk file count before head.0 chain.pages chain.end → damage_in file chain ≡ Some damage
+  broken_here : (before : List Bool) (head : ℕ × ℕ) (heads : List (ℕ × ℕ)) (chain : FoundChain) (damage : Damage) → chain.stated ≡ Some head.1 → Walk file count before head.0 chain.pages chain.end → damage_in file chain ≡ Some damage
       → FirstBroken before (head ∷ heads)
   broken_here before head heads chain damage stated walk told =
       record {
@@ -145,10 +145,10 @@ module _ (file : List ℕ) (count : ℕ) (within : 4096 * count ≤ length file)
       first_of_two (damage_in file followed.0) refl (subst (λ (fs : List FoundChain). HasOne (λ chain. IsAtMost (damage_in file chain) n) fs) followed.2 one)
       (λ there. first_broken (all_marked before followed.0.pages) heads after followed.1 n followed.5 there)
     where
-      first_of_two : (told : Option PageDamage) → damage_in file followed.0 ≡ told → HasOne (λ chain. IsAtMost (damage_in file chain) n) (followed.0 ∷ followed.1)
+      first_of_two : (told : Option Damage) → damage_in file followed.0 ≡ told → HasOne (λ chain. IsAtMost (damage_in file chain) n) (followed.0 ∷ followed.1)
           → (HasOne (λ chain. IsAtMost (damage_in file chain) n) followed.1 → FirstBroken (all_marked before followed.0.pages) heads) → FirstBroken before (head ∷ heads)
       first_of_two (Some damage) told one_of rest = broken_here before head heads followed.0 damage followed.3 followed.4 told
-      first_of_two None told (inl here) rest = absurd (subst (λ (t : Option PageDamage). IsAtMost t n) told here)
+      first_of_two None told (inl here) rest = absurd (subst (λ (t : Option Damage). IsAtMost t n) told here)
       first_of_two None told (inr there) rest =
           let whole = found_there before head followed.0 followed.3 followed.4 told in
           broken_there before head heads followed.0.pages whole.0 whole.1 (rest there)

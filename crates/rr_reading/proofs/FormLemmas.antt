@@ -1,7 +1,7 @@
 -- The form of what the tables' chains hold, table by table.
 use Rattle.std.proofs.Common.{◌≡◌, ◌↔◌, ℕ, ◌+◌, ◌<◌, ◌≤◌, List, ◌∷◌, length, drop, get_or, sym, subst}
 use Rattle.std.proofs.lemmas.List.{drop_more, drop_all}
-use Rattle.rr_dir.specs.declared.directory.TableEntry.{TableEntry}
+use Rattle.rr_reading.specs.declared.dir.directory.TableEntry.{TableEntry}
 use Rattle.rr_pages.specs.declared.reading.ReadChain.{ReadChain}
 use Rattle.rr_reading.specs.Chains.{all_held, HoldsCommands, AreOfForm}
 

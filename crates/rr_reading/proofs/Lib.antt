@@ -6,3 +6,5 @@ pub mod OneAnswer
 pub mod Told
 pub mod FirstBroken
 pub mod Standing
+pub mod DirLemmas
+pub mod WorldLemmas

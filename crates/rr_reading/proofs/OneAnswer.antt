@@ -1,17 +1,16 @@
 -- A file has one answer: each step of a reading leads on in one way, or ends in one.
 use Rattle.std.proofs.Common.{◌≡◌, inl, inr, ℕ, ◌+◌, Bool, false, not, List, [], ◌∷◌, length, Option, None, Some, sym, ap, ◌∙◌, subst}
 use Rattle.std.proofs.lemmas.List.{ext_get_or}
-use Rattle.rr_dir.specs.declared.version.Version.{Version}
-use Rattle.rr_dir.specs.Directory.{Directory, Spells}
-use Rattle.rr_dir.specs.Heads.{heads_of}
-use Rattle.rr_dir.proofs.TableLemmas.{one_directory}
+use Rattle.rr_reading.specs.declared.dir.version.Version.{Version}
+use Rattle.rr_reading.specs.Dir.Directory.{Directory, Spells}
+use Rattle.rr_reading.specs.Dir.Heads.{heads_of}
+use Rattle.rr_reading.proofs.DirLemmas.TableLemmas.{one_directory}
 use Rattle.rr_images.specs.Following.{AllRead}
-use Rattle.rr_images.specs.Halves.{half_index}
 use Rattle.rr_images.specs.Holding.{HeldChain}
 use Rattle.rr_images.proofs.OneWorld.{one_chain}
-use Rattle.rr_journal.specs.Run.{Run}
-use Rattle.rr_journal.proofs.Runs.{one_run}
-use Rattle.rr_pages.specs.declared.fault.Damage.{Damage as PageDamage}
+use Rattle.rr_pages.specs.Journal.Run.{Run}
+use Rattle.rr_pages.proofs.JournalLemmas.Runs.{one_run}
+use Rattle.rr_pages.specs.declared.fault.Damage.{Damage}
 use Rattle.rr_pages.specs.declared.root.Root.{Root}
 use Rattle.rr_pages.specs.Chains.{next_of}
 use Rattle.rr_pages.specs.Pages.{AreData}
@@ -20,6 +19,7 @@ use Rattle.rr_pages.specs.Sets.{all_marked, marked}
 use Rattle.rr_pages.specs.Walk.{Walk, damage_of}
 use Rattle.rr_pages.proofs.ChoosingLemmas.{one_taken}
 use Rattle.rr_pages.proofs.Walks.{walk_only}
+use Rattle.rr_pages.specs.Journal.Layout.{other_half}
 use Rattle.rr_reading.specs.Chains.{FoundChain, AllFollowed}
 use Rattle.rr_reading.specs.Held.{TextChains, chains_of, Held}
 use Rattle.rr_reading.specs.Reading.{TakesRoot, NoneReached, ReadsDirectory, FollowsDirectory, directory_chain, IsDirectory, HasDirectory, HoldsChains, Holds, HasBadTable, AreFound, Directory_alone, With_named}
@@ -44,14 +44,14 @@ module _ (file : List ℕ) (count : ℕ) where
         let chain = one_chain file head count count pages more text bytes a.chain b.chain (walk_data before head pages a.walk) (walk_data before head more b.walk) in
         (a.marks ∙ (ap (all_marked before) only.0 ∙ sym b.marks), only.0, chain.1)
 
-    pub whole_broken : (after others : List Bool) (pages text : List ℕ) (damage : PageDamage) → IsWhole file count before head stated after pages text → IsBroken file count before head stated others damage → ⊥
+    pub whole_broken : (after others : List Bool) (pages text : List ℕ) (damage : Damage) → IsWhole file count before head stated after pages text → IsBroken file count before head stated others damage → ⊥
     whole_broken after others pages text damage whole broken =
         let only = walk_only file count before head broken.pages pages broken.end None broken.walk whole.walk in
         let same : damage_of file broken.pages broken.end stated ≡ damage_of file pages None stated = λ i. damage_of file (only.0 i) (only.1 i) stated in
         let none : Some damage ≡ None = sym broken.broken ∙ (same ∙ whole.unbroken) in
         absurd (cc)
 
-    one_broken : (after others : List Bool) (damage other : PageDamage) → IsBroken file count before head stated after damage → IsBroken file count before head stated others other → damage ≡ other
+    one_broken : (after others : List Bool) (damage other : Damage) → IsBroken file count before head stated after damage → IsBroken file count before head stated others other → damage ≡ other
     one_broken after others damage other a b =
         let only = walk_only file count before head a.pages b.pages a.end b.end a.walk b.walk in
         let same : damage_of file a.pages a.end stated ≡ damage_of file b.pages b.end stated = λ i. damage_of file (only.0 i) (only.1 i) stated in
@@ -176,12 +176,12 @@ module _ (file : List ℕ) where
       let all = one_all file first.root.pages (heads_of first.directory) a.chains.of_directory first.reached second.reached (chains_of first.texts first.tables) (chains_of second.texts second.tables) a.chains.whole there in
       let texts = same_texts first.texts second.texts first.tables second.tables all.1 in
       let tables = tables_of first.texts second.texts first.tables second.tables all.1 in
-      let near = one_run file (half_index first.root.half) 0 first.root.first first.near second.near first.near_end second.near_end a.near_run
-      (subst (λ (r : Root). Run file (half_index r.half) 0 r.first second.near second.near_end) (sym root.1) b.near_run) in
-      let behind : Run file (half_index (not first.root.half)) 0 (first.root.first + length first.near) second.far second.far_end =
-      subst (λ (lines : List (List ℕ)). Run file (half_index (not first.root.half)) 0 (first.root.first + length lines) second.far second.far_end) near.0
-      (subst (λ (r : Root). Run file (half_index (not r.half)) 0 (r.first + length second.near) second.far second.far_end) (sym root.1) b.far_run) in
-      let far = one_run file (half_index (not first.root.half)) 0 (first.root.first + length first.near) first.far second.far first.far_end second.far_end a.far_run behind in
+      let near = one_run file first.root.half 0 first.root.first first.near second.near first.near_end second.near_end a.near_run
+      (subst (λ (r : Root). Run file r.half 0 r.first second.near second.near_end) (sym root.1) b.near_run) in
+      let behind : Run file (other_half first.root.half) 0 (first.root.first + length first.near) second.far second.far_end =
+      subst (λ (lines : List (List ℕ)). Run file (other_half first.root.half) 0 (first.root.first + length lines) second.far second.far_end) near.0
+      (subst (λ (r : Root). Run file (other_half r.half) 0 (r.first + length second.near) second.far second.far_end) (sym root.1) b.far_run) in
+      let far = one_run file (other_half first.root.half) 0 (first.root.first + length first.near) first.far second.far first.far_end second.far_end a.far_run behind in
       λ i. record {
         side = root.0 i;
         root = root.1 i;

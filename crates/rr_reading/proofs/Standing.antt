@@ -1,19 +1,18 @@
 -- What a file holds, in the words of its images.
 use Rattle.std.proofs.Common.{◌≡◌, ◌≢◌, inl, inr, ℕ, List, ◌++◌, Option, Some, refl, subst}
-use Rattle.rr_dir.specs.Directory.{Directory}
-use Rattle.rr_dir.specs.Heads.{Heads, heads_of}
+use Rattle.rr_reading.specs.Dir.Directory.{Directory}
+use Rattle.rr_reading.specs.Dir.Heads.{Heads, heads_of}
 use Rattle.rr_images.specs.Codec.{Codec, Replays}
 use Rattle.rr_images.specs.Following.{IsRead, Of_directory, Of_chain}
 use Rattle.rr_images.specs.Holding.{texts_of}
 use Rattle.rr_images.specs.Layout.{Stands}
 use Rattle.rr_images.specs.Refusing.{IsRefused, Bad_field, Broken_chain, No_form, Nothing_spelled}
 use Rattle.rr_images.proofs.Following.{read_is_spelled}
-use Rattle.rr_journal.specs.declared.reading.RunEnd.TheVariants as ends
-use Rattle.rr_pages.specs.declared.fault.Damage.{Damage as PageDamage}
+use Rattle.rr_pages.specs.declared.journal.reading.RunEnd.TheVariants as ends
+use Rattle.rr_pages.specs.declared.fault.Damage.{Damage}
 use Rattle.rr_pages.specs.Sets.{all_marked}
 use Rattle.rr_pages.specs.Walk.{damage_of}
-use Rattle.rr_reading.specs.declared.fault.Damage.{Damage}
-use Rattle.rr_reading.specs.declared.fault.Damage.TheVariants.{RootField, PageOutside, PageTwice, UsedBytes, Form}
+use Rattle.rr_pages.specs.declared.fault.Damage.TheVariants.{RootField, PageOutside, PageTwice, UsedBytes, Form}
 use Rattle.rr_reading.specs.Chains.{FoundChain, HasOne, LeadsOutside, ReachesTwice, IsOverfull, HasOtherLength, damage_in}
 use Rattle.rr_reading.specs.Held.{Held, chains_of, holding_of}
 use Rattle.rr_reading.specs.Laws.{NamesChains, SpellsForms}
@@ -80,7 +79,7 @@ module _ (codec : Codec) (names : NamesChains codec) (file : List ℕ) where
     | inr there ↦ absurd there
   ]
   chain_refused found n (With_named side root reached after chain directory named is has followed) one = elim (subst (λ (fs : List FoundChain). HasOne (λ c. IsAtMost (damage_in file c) n) fs) is one) [
-    | inl here ↦ absurd (subst (λ (told : Option PageDamage). IsAtMost told n) has.read.whole.unbroken here)
+    | inl here ↦ absurd (subst (λ (told : Option Damage). IsAtMost told n) has.read.whole.unbroken here)
     | inr there ↦
         let first = first_broken file root.pages (has.taken.1.sound.within) reached (heads_of directory) after named n followed there in
         let names_them = (names root.version chain.text (heads_of directory)).1 (named_chains root.version chain.text directory has.form) in
@@ -114,6 +113,7 @@ module _ (codec : Codec) (names : NamesChains codec) (file : List ℕ) where
   refused PageTwice broken bad = one_refused ReachesTwice 3 (λ chain right is. twice_low file chain is) broken
   refused UsedBytes broken bad = one_refused (IsOverfull file) 4 (overfull_low file) broken
   refused Form broken bad = form_refused broken bad
+  refused _ broken bad = absurd broken
 
   pub damaged_refused : (damage : Damage) → IsDamage file damage → (HasBadTable file → ⊥) → IsRefused codec file
   damaged_refused damage damaged none = refused damage damaged.broken (λ bad. absurd (none bad))

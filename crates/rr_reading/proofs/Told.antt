@@ -1,27 +1,25 @@
 -- What is told of a file is its least damage.
 use Rattle.std.proofs.Common.{◌≡◌, inl, ℕ, ◌≤◌, Bool, List, [], ◌∷◌, fold, Option, None, Some, Err, refl, sym, ap, ◌∙◌, subst, arith}
-use Rattle.rr_dir.specs.Directory.{Directory, Spells}
-use Rattle.rr_dir.specs.Heads.{heads_of}
-use Rattle.rr_dir.specs.declared.fault.Fault.{Fault as FormFault}
-use Rattle.rr_dir.specs.declared.fault.Fault.TheVariants as form
-use Rattle.rr_dir.specs.declared.version.Version.{Version}
+use Rattle.rr_reading.specs.Dir.Directory.{Directory, Spells}
+use Rattle.rr_reading.specs.Dir.Heads.{heads_of}
+use Rattle.rr_reading.specs.declared.dir.fault.Fault.{Fault as FormFault}
+use Rattle.rr_reading.specs.declared.dir.fault.Fault.TheVariants as form
+use Rattle.rr_reading.specs.declared.dir.version.Version.{Version}
 use Rattle.rr_images.specs.Following.{AllRead}
 use Rattle.rr_images.specs.Holding.{HeldChain}
 use Rattle.rr_pages.specs.Choosing.{IsNoStore, HasBadField, Chooses}
-use Rattle.rr_pages.specs.declared.fault.Damage.{Damage as PageDamage}
-use Rattle.rr_pages.specs.declared.fault.Damage.TheVariants as page
+use Rattle.rr_pages.specs.declared.fault.Damage.{Damage}
 use Rattle.rr_pages.specs.declared.fault.Fault.{Fault as PageFault}
 use Rattle.rr_pages.specs.declared.fault.Fault.TheVariants as pages
 use Rattle.rr_pages.specs.declared.root.Root.{Root}
-use Rattle.rr_pages.specs.Faults as page_clauses
 use Rattle.rr_pages.specs.Reading.{Reads, IsWhole, IsBroken}
 use Rattle.rr_pages.proofs.ChoosingLemmas.{taken_store, taken_good}
-use Rattle.rr_reading.specs.declared.fault.Damage.{Damage}
-use Rattle.rr_reading.specs.declared.fault.Damage.TheVariants.{RootField, PageOutside, PageTwice, UsedBytes, Form}
+use Rattle.rr_pages.specs.declared.fault.Damage.TheVariants.{RootField, PageOutside, PageTwice, UsedBytes, Form, Kit, Kept, Records}
 use Rattle.rr_reading.specs.declared.fault.Fault.{Fault}
 use Rattle.rr_reading.specs.declared.fault.Fault.TheVariants.{Damaged, NotAStore, Disk, OutOfMemory}
 use Rattle.rr_reading.specs.Chains.{FoundChain, AllFollowed, HasOne, LeadsOutside, ReachesTwice, IsOverfull, HasOtherLength, damage_in, lower_of, least_in, AreOfForm}
-use Rattle.rr_reading.specs.Faults.{clause_of, of_page, of_pages, of_directory, IsNoVerdict}
+use Rattle.rr_pages.specs.Faults.{clause_of}
+use Rattle.rr_reading.specs.Faults.{of_pages, of_directory, IsNoVerdict}
 use Rattle.rr_reading.specs.Held.{TextChains, Held, chains_of}
 use Rattle.rr_reading.specs.Reading.{TakesRoot, HasRoot, NoneReached, ReadsDirectory, directory_chain, IsDirectory, HasDirectory, HoldsChains, Holds, AreFound, Directory_alone, With_named, HasFound, IsOfNoForm, Of_directory, Of_length, Of_table, Breaks, IsDamage, Refuses}
 use Rattle.rr_reading.specs.Told.{IsToldBroken}
@@ -36,48 +34,27 @@ clause_some PageOutside = omega arith
 clause_some PageTwice = omega arith
 clause_some UsedBytes = omega arith
 clause_some Form = omega arith
+clause_some _ = omega arith
 
-clause_low : (damage : Damage) → clause_of damage ≤ 5
-clause_low RootField = omega arith
-clause_low PageOutside = omega arith
-clause_low PageTwice = omega arith
-clause_low UsedBytes = omega arith
-clause_low Form = omega arith
-
-clause_same : (damage : PageDamage) → clause_of (of_page damage) ≡ page_clauses.clause_of damage
-clause_same page.RootField = refl
-clause_same page.PageOutside = refl
-clause_same page.PageTwice = refl
-clause_same page.UsedBytes = refl
-clause_same page.ChainLength = refl
+clause_low : (file : List ℕ) (damage : Damage) → Breaks file damage → clause_of damage ≤ 5
+clause_low file RootField broken = omega arith
+clause_low file PageOutside broken = omega arith
+clause_low file PageTwice broken = omega arith
+clause_low file UsedBytes broken = omega arith
+clause_low file Form broken = omega arith
+clause_low file _ broken = absurd broken
 
 -- a clause is told by its number
 same_damage : (damage other : Damage) → clause_of damage ≡ clause_of other → damage ≡ other
 same_damage RootField RootField same = refl
-same_damage RootField PageOutside same = absurd (omega (arith, same))
-same_damage RootField PageTwice same = absurd (omega (arith, same))
-same_damage RootField UsedBytes same = absurd (omega (arith, same))
-same_damage RootField Form same = absurd (omega (arith, same))
-same_damage PageOutside RootField same = absurd (omega (arith, same))
 same_damage PageOutside PageOutside same = refl
-same_damage PageOutside PageTwice same = absurd (omega (arith, same))
-same_damage PageOutside UsedBytes same = absurd (omega (arith, same))
-same_damage PageOutside Form same = absurd (omega (arith, same))
-same_damage PageTwice RootField same = absurd (omega (arith, same))
-same_damage PageTwice PageOutside same = absurd (omega (arith, same))
 same_damage PageTwice PageTwice same = refl
-same_damage PageTwice UsedBytes same = absurd (omega (arith, same))
-same_damage PageTwice Form same = absurd (omega (arith, same))
-same_damage UsedBytes RootField same = absurd (omega (arith, same))
-same_damage UsedBytes PageOutside same = absurd (omega (arith, same))
-same_damage UsedBytes PageTwice same = absurd (omega (arith, same))
 same_damage UsedBytes UsedBytes same = refl
-same_damage UsedBytes Form same = absurd (omega (arith, same))
-same_damage Form RootField same = absurd (omega (arith, same))
-same_damage Form PageOutside same = absurd (omega (arith, same))
-same_damage Form PageTwice same = absurd (omega (arith, same))
-same_damage Form UsedBytes same = absurd (omega (arith, same))
 same_damage Form Form same = refl
+same_damage Kit Kit same = refl
+same_damage Kept Kept same = refl
+same_damage Records Records same = refl
+same_damage first second same = absurd (omega (arith, same))
 
 module _ (file : List ℕ) where
   pub one_damage : (first second : Damage) → IsDamage file first → IsDamage file second → first ≡ second
@@ -114,12 +91,13 @@ module _ (file : List ℕ) where
     over_of has =
         one_more file (IsOverfull file) (λ chain. IsAtMost (damage_in file chain) 4) found (λ chain right is. overfull_low file chain right is) (found_right found are) (here (IsOverfull file) has)
 
-    found_least : (damage : PageDamage) → least_in file found ≡ Some damage → (other : Damage) → Breaks file other → page_clauses.clause_of damage ≤ 5 → page_clauses.clause_of damage ≤ clause_of other
+    found_least : (damage : Damage) → least_in file found ≡ Some damage → (other : Damage) → Breaks file other → clause_of damage ≤ 5 → clause_of damage ≤ clause_of other
     found_least damage is RootField broken high = absurd (found_good found are broken)
     found_least damage is PageOutside broken high = least_low file found damage 2 is (low_of LeadsOutside 2 (outside_low file) broken)
     found_least damage is PageTwice broken high = least_low file found damage 3 is (low_of ReachesTwice 3 (twice_low file) broken)
     found_least damage is UsedBytes broken high = least_low file found damage 4 is (over_of broken)
     found_least damage is Form broken high = high
+    found_least damage is _ broken high = absurd broken
 
     none_lower : least_in file found ≡ None → (other : Damage) → Breaks file other → 5 ≤ clause_of other
     none_lower is RootField broken = absurd (found_good found are broken)
@@ -127,22 +105,23 @@ module _ (file : List ℕ) where
     none_lower is PageTwice broken = absurd (least_none file found 3 is (low_of ReachesTwice 3 (twice_low file) broken))
     none_lower is UsedBytes broken = absurd (least_none file found 4 is (over_of broken))
     none_lower is Form broken = omega arith
+    none_lower is _ broken = absurd broken
 
-    breaks_by : (damage : PageDamage) → HasOne (λ chain. BreaksBy file chain damage) found → Breaks file (of_page damage)
-    breaks_by page.RootField one = absurd (none_of (λ chain. BreaksBy file chain page.RootField) found (λ chain none. none) one)
-    breaks_by page.PageOutside one = (found, are, one)
-    breaks_by page.PageTwice one = (found, are, one)
-    breaks_by page.UsedBytes one = (found, are, one)
-    breaks_by page.ChainLength one = Of_length (found, are, one)
+    breaks_by : (damage : Damage) → HasOne (λ chain. BreaksBy file chain damage) found → Breaks file damage
+    breaks_by RootField one = absurd (none_of (λ chain. BreaksBy file chain RootField) found (λ chain none. none) one)
+    breaks_by PageOutside one = (found, are, one)
+    breaks_by PageTwice one = (found, are, one)
+    breaks_by UsedBytes one = (found, are, one)
+    breaks_by Form one = Of_length (found, are, one)
+    breaks_by damage one = absurd (none_of (λ chain. BreaksBy file chain damage) found (λ chain none. none) one)
 
-    pub found_damage : (damage : PageDamage) → least_in file found ≡ Some damage → IsDamage file (of_page damage)
+    pub found_damage : (damage : Damage) → least_in file found ≡ Some damage → IsDamage file damage
     found_damage damage is =
-        let high : clause_of (of_page damage) ≤ 5 = clause_low (of_page damage) in
-        let same = clause_same damage in
+        let broken : Breaks file damage = breaks_by damage (one_more file (λ chain. damage_in file chain ≡ Some damage) (λ chain. BreaksBy file chain damage) found (λ chain right told. breaks_of file chain damage right told) (found_right found are) (least_is file found damage is)) in
         record {
           store = found_store found are;
-          broken = breaks_by damage (one_more file (λ chain. damage_in file chain ≡ Some damage) (λ chain. BreaksBy file chain damage) found (λ chain right told. breaks_of file chain damage right told) (found_right found are) (least_is file found damage is));
-          least = λ other broken. let low = found_least damage is other broken (omega (arith, high, same)) in omega (arith, low, same);
+          broken = broken;
+          least = λ other breaks. found_least damage is other breaks (clause_low file damage broken);
         }
 
     pub found_form : least_in file found ≡ None → IsOfNoForm file → IsDamage file Form
@@ -155,6 +134,7 @@ module _ (file : List ℕ) where
     found_whole is formed PageTwice damaged = least_none file found 3 is (low_of ReachesTwice 3 (twice_low file) damaged.broken)
     found_whole is formed UsedBytes damaged = least_none file found 4 is (over_of damaged.broken)
     found_whole is formed Form damaged = formed damaged.broken
+    found_whole is formed _ damaged = damaged.broken
 
     pub lengths_right : least_in file found ≡ None → HasFound file (HasOtherLength file) → ⊥
     lengths_right is has = least_none file found 5 is (low_of (HasOtherLength file) 5 (length_low file) has)
@@ -166,20 +146,20 @@ module _ (file : List ℕ) where
     named_found = With_named side root reached after chain directory named refl has followed
 
     pub named_least : least_in file (directory_chain chain ∷ named) ≡ least_in file named
-    named_least = ap (λ (told : Option PageDamage). fold (λ least other. lower_of least (damage_in file other)) told named) has.read.whole.unbroken
+    named_least = ap (λ (told : Option Damage). fold (λ least other. lower_of least (damage_in file other)) told named) has.read.whole.unbroken
 
   -- a root
   pub root_told : (fault : PageFault) → Chooses file (Err fault) → Refuses file (of_pages fault)
   root_told pages.FileFull chosen = absurd chosen
   root_told (pages.Damaged damage) chosen =
-      subst (λ (d : PageDamage). IsDamage file (of_page d)) (sym chosen.0) (record { store = chosen.1; broken = chosen.2; least = λ other broken. clause_some other })
+      subst (λ (d : Damage). IsDamage file d) (sym chosen.0) (record { store = chosen.1; broken = chosen.2; least = λ other broken. clause_some other })
   root_told pages.NotAStore chosen = chosen
   root_told (pages.Disk fault) chosen = tt
   root_told pages.OutOfMemory chosen = absurd chosen
 
   module _ (side : Bool) (root : Root) (taken : TakesRoot file side root) where
     -- a directory that is broken can't be read
-    module _ (before after : List Bool) (none : NoneReached before) (damage : PageDamage) (broken : IsBroken file root.pages before root.directory None after damage) where
+    module _ (before after : List Bool) (none : NoneReached before) (damage : Damage) (broken : IsBroken file root.pages before root.directory None after damage) where
       unread : (reached : List Bool) (chain : HeldChain) (directory : Directory) → HasDirectory file side root reached chain directory → ⊥
       unread reached chain directory has =
           let there : IsWhole file root.pages before root.directory None reached chain.pages chain.text =
@@ -189,7 +169,7 @@ module _ (file : List ℕ) where
       alone : FoundChain
       alone = record { pages = broken.pages; end = broken.end; stated = None }
 
-      directory_broken : IsDamage file (of_page damage)
+      directory_broken : IsDamage file damage
       unfolding alone
       directory_broken =
           found_damage (alone ∷ []) (Directory_alone side root alone refl taken (record { before = before; none = none; unstated = refl; walk = broken.walk }) unread) damage broken.broken

@@ -1,8 +1,8 @@
 -- There is one version.
 use Rattle.std.proofs.Common.{◌≡◌, ◌≢◌, ℕ, Bool, List, Option, None, Some, MatchOption, refl, sym}
-use Rattle.rr_dir.specs.Version.{version_number}
-use Rattle.rr_dir.specs.declared.version.Version.{Version}
-use Rattle.rr_dir.specs.declared.version.Version.TheVariants.{One}
+use Rattle.rr_reading.specs.Dir.Version.{version_number}
+use Rattle.rr_reading.specs.declared.dir.version.Version.{Version}
+use Rattle.rr_reading.specs.declared.dir.version.Version.TheVariants.{One}
 use Rattle.rr_pages.specs.declared.root.Root.{Root}
 use Rattle.rr_reading.specs.Reading.{TakesRoot}
 

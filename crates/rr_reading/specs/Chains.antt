@@ -1,10 +1,10 @@
 -- How the chains that a directory names are followed, one after another, and what of them is read.
 use Rattle.std.specs.Prelude.{◌≡◌, ◌≢◌, ◌⊎◌, ℕ, ◌<◌, nat_lt, if◌then◌else◌, Bool, List, [], ◌∷◌, length, map, fold, sum_by, Option, None, Some}
-use Rattle.rr_dir.specs.declared.directory.TableEntry.{TableEntry}
-use Rattle.rr_dir.specs.Kept.{SpellsKept}
+use Rattle.rr_reading.specs.declared.dir.directory.TableEntry.{TableEntry}
+use Rattle.rr_reading.specs.Dir.Kept.{SpellsKept}
 use Rattle.rr_images.specs.Following.{AllRead}
 use Rattle.rr_images.specs.Holding.{HeldChain}
-use Rattle.rr_pages.specs.declared.fault.Damage.{Damage as PageDamage}
+use Rattle.rr_pages.specs.declared.fault.Damage.{Damage}
 use Rattle.rr_pages.specs.declared.fault.Damage.TheVariants.{PageOutside, PageTwice}
 use Rattle.rr_pages.specs.declared.reading.ReadChain.{ReadChain}
 use Rattle.rr_pages.specs.Chains.{used_of}
@@ -26,7 +26,7 @@ all_held chains = map held chains
 -- that is stated for it, where one is
 pub record FoundChain : Type 0 where
   pub pages : List ℕ
-  pub end : Option PageDamage
+  pub end : Option Damage
   pub stated : Option ℕ
 
 -- The chains of these heads and lengths are followed one after another, each as far as it goes. A page that one of them
@@ -63,20 +63,20 @@ pub record HasOtherLength (file : List ℕ) (chain : FoundChain) : Type 0 where
   pub other : sum_by (used_of file) chain.pages ≢ said
 
 -- the least clause that a chain breaks, if it breaks one
-abbrev pub damage_in : List ℕ → FoundChain → Option PageDamage
+abbrev pub damage_in : List ℕ → FoundChain → Option Damage
 damage_in file chain = damage_of file chain.pages chain.end chain.stated
 
 -- the one of the lower clause
-abbrev pub lower : PageDamage → PageDamage → PageDamage
+abbrev pub lower : Damage → Damage → Damage
 lower least damage = if nat_lt (clause_of damage) (clause_of least) then damage else least
 
-abbrev pub lower_of : Option PageDamage → Option PageDamage → Option PageDamage
+abbrev pub lower_of : Option Damage → Option Damage → Option Damage
 lower_of None told = told
 lower_of (Some least) None = Some least
 lower_of (Some least) (Some damage) = Some (lower least damage)
 
 -- the least clause that these chains break
-abbrev pub least_in : List ℕ → List FoundChain → Option PageDamage
+abbrev pub least_in : List ℕ → List FoundChain → Option Damage
 least_in file found = fold (λ least chain. lower_of least (damage_in file chain)) None found
 
 -- what following a chain found
@@ -86,7 +86,7 @@ IsFollowed file count before head after (Whole chain) =
 IsFollowed file count before head after (Broken damage) =
     IsBroken file count before head.0 (Some head.1) after damage
 
-abbrev pub damage_told : Followed → Option PageDamage
+abbrev pub damage_told : Followed → Option Damage
 damage_told (Whole chain) = None
 damage_told (Broken damage) = Some damage
 
@@ -97,7 +97,7 @@ read_of (Broken damage) = []
 -- The chains of these heads were followed, and this is the least clause that they break. Where they break none, all of
 -- them were read.
 pub record AreRead (file : List ℕ) (count : ℕ) (before : List Bool) (heads : List (ℕ × ℕ)) (after : List Bool)
-    (least : Option PageDamage) (chains : List HeldChain) : Type 0 where
+    (least : Option Damage) (chains : List HeldChain) : Type 0 where
   pub found : List FoundChain
   pub followed : AllFollowed file count before heads after found
   pub is_least : least ≡ least_in file found
@@ -105,7 +105,7 @@ pub record AreRead (file : List ℕ) (count : ℕ) (before : List Bool) (heads :
 
 -- they break a clause, and this is the least one
 pub record AreBroken (file : List ℕ) (count : ℕ) (before : List Bool) (heads : List (ℕ × ℕ))
-    (damage : PageDamage) : Type 0 where
+    (damage : Damage) : Type 0 where
   pub after : List Bool
   pub found : List FoundChain
   pub followed : AllFollowed file count before heads after found

@@ -3,16 +3,14 @@ use Rattle.std.specs.Prelude.{◌≡◌, ℕ, Result, Ok, Err}
 use Rattle.rr_disk.specs.Disk as disk
 use Rattle.rr_disk.specs.Disk.{counted}
 use Rattle.rr_disk.specs.declared.fault.Fault.TheVariants.{DeviceFailed}
-use Rattle.rr_dir.specs.declared.fault.Fault.{Fault as OfDirectory}
-use Rattle.rr_dir.specs.declared.fault.Fault.TheVariants as directory
-use Rattle.rr_journal.specs.declared.fault.Fault.{Fault as OfJournal}
-use Rattle.rr_journal.specs.declared.fault.Fault.TheVariants as journal
-use Rattle.rr_pages.specs.declared.fault.Damage.{Damage as OfChain}
-use Rattle.rr_pages.specs.declared.fault.Damage.TheVariants as chain
+use Rattle.rr_reading.specs.declared.dir.fault.Fault.{Fault as OfDirectory}
+use Rattle.rr_reading.specs.declared.dir.fault.Fault.TheVariants as directory
+use Rattle.rr_pages.specs.declared.journal.fault.Fault.{Fault as OfJournal}
+use Rattle.rr_pages.specs.declared.journal.fault.Fault.TheVariants as journal
 use Rattle.rr_pages.specs.declared.fault.Fault.{Fault as OfPages}
 use Rattle.rr_pages.specs.declared.fault.Fault.TheVariants as pages
-use Rattle.rr_reading.specs.declared.fault.Damage.{Damage}
-use Rattle.rr_reading.specs.declared.fault.Damage.TheVariants.{RootField, PageOutside, PageTwice, UsedBytes, Form}
+use Rattle.rr_pages.specs.declared.fault.Damage.{Damage}
+use Rattle.rr_pages.specs.declared.fault.Damage.TheVariants.{RootField, PageOutside, PageTwice, UsedBytes, Form}
 use Rattle.rr_reading.specs.declared.fault.Fault.{Fault}
 use Rattle.rr_reading.specs.declared.fault.Fault.TheVariants.{Damaged, NotAStore, Disk, OutOfMemory}
 
@@ -23,26 +21,10 @@ number_of NotAStore = 64
 number_of (Disk fault) = disk.number_of fault
 number_of OutOfMemory = 70
 
--- the number of the clause that a damaged file breaks
-abbrev pub clause_of : Damage → ℕ
-clause_of RootField = 1
-clause_of PageOutside = 2
-clause_of PageTwice = 3
-clause_of UsedBytes = 4
-clause_of Form = 5
-
--- the clause that a root or a chain breaks
-abbrev pub of_page : OfChain → Damage
-of_page chain.RootField = RootField
-of_page chain.PageOutside = PageOutside
-of_page chain.PageTwice = PageTwice
-of_page chain.UsedBytes = UsedBytes
-of_page chain.ChainLength = Form
-
 -- a fault of the layers below
 abbrev pub of_pages : OfPages → Fault
 of_pages pages.FileFull = OutOfMemory
-of_pages (pages.Damaged damage) = Damaged (of_page damage)
+of_pages (pages.Damaged damage) = Damaged damage
 of_pages pages.NotAStore = NotAStore
 of_pages (pages.Disk fault) = Disk fault
 of_pages pages.OutOfMemory = OutOfMemory

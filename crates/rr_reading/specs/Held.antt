@@ -1,13 +1,13 @@
 -- What an opening reads of a file.
 use Rattle.std.specs.Prelude.{◌≡◌, ℕ, Bool, List, ◌∷◌}
-use Rattle.rr_dir.specs.Directory.{Directory, directory_of}
-use Rattle.rr_images.specs.Halves.{half_index}
+use Rattle.rr_reading.specs.Dir.Directory.{Directory, directory_of}
 use Rattle.rr_images.specs.Holding.{HeldChain, Holding}
-use Rattle.rr_journal.specs.declared.reading.RunEnd.{RunEnd}
-use Rattle.rr_journal.specs.declared.reading.Scanned.{Scanned}
-use Rattle.rr_journal.specs.Reading.{lines}
-use Rattle.rr_journal.specs.Run.{slots_of}
+use Rattle.rr_pages.specs.declared.journal.reading.RunEnd.{RunEnd}
+use Rattle.rr_pages.specs.declared.journal.reading.Scanned.{Scanned}
+use Rattle.rr_pages.specs.Journal.Reading.{lines}
+use Rattle.rr_pages.specs.Journal.Run.{slots_of}
 use Rattle.rr_pages.specs.PageSet.{marks_of}
+use Rattle.rr_pages.specs.declared.journal.layout.HalfIndex.{HalfIndex}
 use Rattle.rr_pages.specs.declared.root.Root.{Root}
 use Rattle.rr_reading.specs.declared.contents.Contents.{Contents}
 use Rattle.rr_reading.specs.declared.contents.KitTexts.{KitTexts}
@@ -69,6 +69,6 @@ held_of contents =
     }
 
 -- the next record of a half goes behind those that were read of it
-abbrev pub GoesOn : Bool → Scanned → Type 0
+abbrev pub GoesOn : HalfIndex → Scanned → Type 0
 GoesOn half scanned =
-    (scanned.half.index ≡ half_index half) × (scanned.half.next_slot ≡ slots_of (lines scanned.records.items))
+    (scanned.half.index ≡ half) × (scanned.half.next_slot ≡ slots_of (lines scanned.records.items))

@@ -1,15 +1,15 @@
 -- A file has one answer, and that is what images stand for or are refused for.
 use Rattle.std.specs.Prelude.{◌≡◌, ◌≢◌, ◌↔◌, ℕ, List, ◌++◌}
-use Rattle.rr_dir.specs.Directory.{Directory}
-use Rattle.rr_dir.specs.Heads.{Heads}
+use Rattle.rr_reading.specs.Dir.Directory.{Directory}
+use Rattle.rr_reading.specs.Dir.Heads.{Heads}
 use Rattle.rr_images.specs.Codec.{Codec, Replays}
 use Rattle.rr_images.specs.Following.{IsRead}
 use Rattle.rr_images.specs.Holding.{HeldChain, texts_of}
 use Rattle.rr_images.specs.Layout.{Stands}
 use Rattle.rr_images.specs.Refusing.{IsRefused}
-use Rattle.rr_journal.specs.declared.reading.RunEnd.TheVariants.{Damaged}
+use Rattle.rr_pages.specs.declared.journal.reading.RunEnd.TheVariants.{Damaged}
 use Rattle.rr_pages.specs.Choosing.{IsNoStore}
-use Rattle.rr_reading.specs.declared.fault.Damage.{Damage}
+use Rattle.rr_pages.specs.declared.fault.Damage.{Damage}
 use Rattle.rr_reading.specs.Chains.{FoundChain, AreOfForm}
 use Rattle.rr_reading.specs.Held.{Held, TextChains, chains_of, holding_of}
 use Rattle.rr_reading.specs.Reading.{IsDirectory, Holds, AreFound, HasBadTable, IsDamage}

@@ -4,3 +4,5 @@ pub mod Told
 pub mod Held
 pub mod Reading
 pub mod Laws
+pub mod Dir
+pub mod Worlds

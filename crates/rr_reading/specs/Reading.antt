@@ -3,27 +3,27 @@
 -- directory and of the tables' chains. Records are read last, and tell no damage here: a kit that is refused and commands
 -- that aren't lawful come before them.
 use Rattle.std.specs.Prelude.{◌≡◌, ℕ, ◌+◌, ◌≤◌, Bool, not, List, [], ◌∷◌, length, None, Result, Ok, Err}
-use Rattle.rr_dir.specs.Directory.{Directory, Spells}
-use Rattle.rr_dir.specs.Heads.{heads_of}
-use Rattle.rr_dir.specs.Version.{version_number}
-use Rattle.rr_dir.specs.declared.version.Version.{Version}
+use Rattle.rr_reading.specs.Dir.Directory.{Directory, Spells}
+use Rattle.rr_reading.specs.Dir.Heads.{heads_of}
+use Rattle.rr_reading.specs.Dir.Version.{version_number}
+use Rattle.rr_reading.specs.declared.dir.version.Version.{Version}
 use Rattle.rr_images.specs.Following.{AllRead}
-use Rattle.rr_images.specs.Halves.{half_index}
 use Rattle.rr_images.specs.Holding.{HeldChain}
-use Rattle.rr_journal.specs.Run.{Run}
+use Rattle.rr_pages.specs.Journal.Run.{Run}
 use Rattle.rr_pages.specs.Choosing.{IsNoStore, HasBadField}
+use Rattle.rr_pages.specs.Journal.Layout.{other_half}
 use Rattle.rr_pages.specs.declared.root.Root.{Root}
 use Rattle.rr_pages.specs.Reading.{IsWhole}
 use Rattle.rr_pages.specs.Roots.{Stale, IsTaken}
 use Rattle.rr_pages.specs.Sets.{IsEmpty}
 use Rattle.rr_pages.specs.Walk.{Walk}
 use Rattle.rr_reading.specs.declared.contents.Contents.{Contents}
-use Rattle.rr_reading.specs.declared.fault.Damage.{Damage}
-use Rattle.rr_reading.specs.declared.fault.Damage.TheVariants.{RootField, PageOutside, PageTwice, UsedBytes, Form}
+use Rattle.rr_pages.specs.declared.fault.Damage.{Damage}
+use Rattle.rr_pages.specs.declared.fault.Damage.TheVariants.{RootField, PageOutside, PageTwice, UsedBytes, Form}
 use Rattle.rr_reading.specs.declared.fault.Fault.{Fault}
 use Rattle.rr_reading.specs.declared.fault.Fault.TheVariants.{Damaged, NotAStore, Disk, OutOfMemory}
 use Rattle.rr_reading.specs.Chains.{FoundChain, AllFollowed, HasOne, LeadsOutside, ReachesTwice, IsOverfull, HasOtherLength, AreOfForm}
-use Rattle.rr_reading.specs.Faults.{clause_of}
+use Rattle.rr_pages.specs.Faults.{clause_of}
 use Rattle.rr_reading.specs.Held.{TextChains, chains_of, Held, held_of}
 
 -- the root on this side is taken
@@ -80,8 +80,8 @@ pub record HoldsChains (file : List ℕ) (side : Bool) (root : Root) (directory 
 -- the file holds this
 pub record Holds (file : List ℕ) (has : Held) : Type 0 where
   pub chains : HoldsChains file has.side has.root has.directory has.chain has.texts has.tables has.reached
-  pub near_run : Run file (half_index has.root.half) 0 has.root.first has.near has.near_end
-  pub far_run : Run file (half_index (not has.root.half)) 0 (has.root.first + length has.near) has.far has.far_end
+  pub near_run : Run file has.root.half 0 has.root.first has.near has.near_end
+  pub far_run : Run file (other_half has.root.half) 0 (has.root.first + length has.near) has.far has.far_end
 
 -- all chains that a directory names are whole, and those of the tables aren't all of their form
 pub record HasBadTable (file : List ℕ) : Type 0 where
@@ -123,13 +123,14 @@ pub data IsOfNoForm (file : List ℕ) : Type 0 where
   Of_length : HasFound file (HasOtherLength file) → IsOfNoForm file
   Of_table : HasBadTable file → IsOfNoForm file
 
--- the file breaks the clause
+-- the file breaks the clause, of those that its bytes alone decide
 abbrev pub Breaks : List ℕ → Damage → Type 0
 Breaks file RootField = HasBadField file
 Breaks file PageOutside = HasFound file LeadsOutside
 Breaks file PageTwice = HasFound file ReachesTwice
 Breaks file UsedBytes = HasFound file (IsOverfull file)
 Breaks file Form = IsOfNoForm file
+Breaks file _ = ⊥
 
 -- the file is a damaged store: it breaks this clause, and none that is lower
 pub record IsDamage (file : List ℕ) (damage : Damage) : Type 0 where

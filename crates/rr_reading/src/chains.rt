@@ -1,16 +1,16 @@
 // The chains that a directory names, read one after another. A page that two of them reach is reached twice.
 ghost use Rattle.std.specs.Prelude.{◌≡◌, ◌≢◌, ◌*◌, ◌<◌, ◌≤◌, ◌++◌, None, Some, length, map, IfOk, IfErr, OnOk};
-ghost use Rattle.rr_dir.specs.Heads.{head_of};
+ghost use Rattle.rr_reading.specs.Dir.Heads.{head_of};
 ghost use Rattle.rr_images.specs.Following.{AllRead};
 ghost use Rattle.rr_pages.specs.PageSet.{marks_of};
 ghost use Rattle.rr_reading.specs.Chains.{all_held, lower, lower_of, IsFollowed, damage_told, read_of};
 ghost use Rattle.rr_reading.specs.Faults.{CountsFault, IsNoVerdict, OnDeviceFault};
 ghost use Rattle.rr_reading.specs.Told.{IsToldBroken, told_broken, told_least};
 
-use crate::{Damage, Fault};
-use rr_dir::ChainRef;
+use crate::Fault;
+use crate::dir::ChainRef;
 use rr_disk::Disk;
-use rr_pages::{Damage as PageDamage, PageSet, ReadChain, chain_read};
+use rr_pages::{Damage, PageSet, ReadChain, chain_read};
 use std::alloc::Global;
 
 // What following a chain found.
@@ -18,7 +18,7 @@ use std::alloc::Global;
 pub(crate) enum Followed {
     Whole(ReadChain),
     // The least clause that it breaks, as far as it goes.
-    Broken(PageDamage),
+    Broken(Damage),
 }
 
 // Chains that were followed one after another.
@@ -27,7 +27,7 @@ struct Reading {
     // Those that are whole.
     whole: Vec<ReadChain>,
     // The least clause that the others break.
-    least: Option<PageDamage>,
+    least: Option<Damage>,
 }
 
 // Reads the chains of these heads. `Damaged` with the least clause that they break: behind a chain that is broken the
@@ -82,7 +82,7 @@ impl Reading {
         Ok(())
     }
 
-    fn note(&mut self, damage: PageDamage)
+    fn note(&mut self, damage: Damage)
         ensures least { self.new.least ≡ lower_of self.old.least (Some damage) }
         ensures whole { self.new.whole ≡ self.old.whole }
     {
@@ -98,13 +98,13 @@ impl Reading {
     {
         match self.least {
             None => Ok(self.whole),
-            Some(damage) => Err(Fault::Damaged(Damage::of_page(damage))),
+            Some(damage) => Err(Fault::Damaged(damage)),
         }
     }
 }
 
 // The one of the lower clause.
-fn lower(least: PageDamage, damage: PageDamage) -> PageDamage
+fn lower(least: Damage, damage: Damage) -> Damage
     ensures { result ≡ lower least damage }
 {
     if damage.clause() < least.clause() {

@@ -1,22 +1,23 @@
 ghost use Rattle.std.specs.Prelude.{◌≡◌, ◌*◌, ◌<◌, Bool, not, length, IfOk, IfErr};
-ghost use Rattle.rr_dir.specs.Directory.{directory_of};
+ghost use Rattle.rr_pages.specs.Journal.Layout.{other_half};
+ghost use Rattle.rr_reading.specs.Dir.Directory.{directory_of};
 ghost use Rattle.rr_pages.specs.PageSet.{marks_of};
 ghost use Rattle.rr_reading.specs.Chains.{held, all_held};
 ghost use Rattle.rr_reading.specs.Faults.{CountsFault, OnDeviceFault};
 ghost use Rattle.rr_reading.specs.Held.{GoesOn, chains_held};
 ghost use Rattle.rr_reading.specs.Reading.{TakesRoot, HoldsChains, Reads, Refuses};
 
+use crate::Fault;
 use crate::chains::read_chains;
+use crate::dir::Dir;
 use crate::directory::{FoundDirectory, read_directory};
 use crate::forms::are_of_form;
 use crate::named::{named_chains, take_texts};
 use crate::records::{FoundRecords, read_records};
 use crate::root::{page_count, read_root};
-use crate::{Damage, Fault};
-use rr_dir::Dir;
 use rr_disk::Disk;
-use rr_journal::Scanned;
-use rr_pages::{PageSet, ReadChain, Root, Taken};
+use rr_pages::journal::Scanned;
+use rr_pages::{Damage, PageSet, ReadChain, Root, Taken};
 use std::alloc::Global;
 
 /// The chains of a kit's texts, whose bytes are the texts.
@@ -68,7 +69,7 @@ struct FoundChains {
 pub fn read_file<D: Disk>(alloc: Global, disk: &mut D) -> Result<Contents, Fault>
     ensures read { D.Honest disk.new → Reads (D.state disk.old).content result }
     ensures near { IfOk result (λ contents. GoesOn contents.taken.root.half contents.near) }
-    ensures far { IfOk result (λ contents. GoesOn (not contents.taken.root.half) contents.far) }
+    ensures far { IfOk result (λ contents. GoesOn (other_half contents.taken.root.half) contents.far) }
     ensures fault { CountsFault (D.fault_count disk.old) (D.fault_count disk.new) result }
     ensures honest { D.Honest disk.new → D.Honest disk.old }
     ensures same_state { D.Honest disk.new → D.state disk.new ≡ D.state disk.old }

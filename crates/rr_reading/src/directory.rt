@@ -1,14 +1,14 @@
 // The directory of a root.
 ghost use Rattle.std.specs.Prelude.{◌≡◌, ◌*◌, ◌<◌, Bool, IfOk, IfErr};
-ghost use Rattle.rr_dir.specs.Directory.{directory_of};
+ghost use Rattle.rr_reading.specs.Dir.Directory.{directory_of};
 ghost use Rattle.rr_pages.specs.PageSet.{marks_of};
 ghost use Rattle.rr_reading.specs.Chains.{held};
 ghost use Rattle.rr_reading.specs.Faults.{CountsFault, OnDeviceFault};
 ghost use Rattle.rr_reading.specs.Reading.{TakesRoot, HasDirectory, ReadsDirectory, Refuses};
 
 use crate::Fault;
+use crate::dir::{Dir, Version};
 use crate::root::page_count;
-use rr_dir::{Dir, Version};
 use rr_disk::Disk;
 use rr_pages::{PageSet, ReadChain, Root, chain_read};
 use std::alloc::Global;

@@ -2,7 +2,7 @@
 ghost use Rattle.std.specs.Prelude.{◌≡◌, ◌↔◌, length, IsTrue};
 ghost use Rattle.rr_reading.specs.Chains.{all_held, AreOfForm, HoldsCommands};
 
-use rr_dir::{KeptCommands, TableEntry};
+use crate::dir::{KeptCommands, TableEntry};
 use rr_pages::ReadChain;
 
 // Whether each table's chain holds as many commands as its entry says.

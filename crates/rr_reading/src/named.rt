@@ -1,12 +1,12 @@
 // The chains that a directory names: those of the texts, and then of each table.
 ghost use Rattle.std.specs.Prelude.{◌≡◌, ◌+◌, ◌≤◌, length, map, IfOk, IfErr};
-ghost use Rattle.rr_dir.specs.Directory.{directory_of};
-ghost use Rattle.rr_dir.specs.Heads.{head_of, heads_of};
+ghost use Rattle.rr_reading.specs.Dir.Directory.{directory_of};
+ghost use Rattle.rr_reading.specs.Dir.Heads.{head_of, heads_of};
 ghost use Rattle.rr_reading.specs.Chains.{all_held};
 ghost use Rattle.rr_reading.specs.Held.{chains_of, chains_held};
 
+use crate::dir::{ChainRef, Dir};
 use crate::{Fault, KitTexts};
-use rr_dir::{ChainRef, Dir};
 use rr_pages::ReadChain;
 use std::alloc::Global;
 

@@ -1,16 +1,16 @@
 // The records of both halves.
 ghost use Rattle.std.specs.Prelude.{◌≡◌, ◌+◌, ◌*◌, ◌≤◌, ◌<◌, ◌^◌, not, length, IfOk, IfErr};
-ghost use Rattle.rr_images.specs.Halves.{half_index};
-ghost use Rattle.rr_journal.specs.Reading.{lines};
-ghost use Rattle.rr_journal.specs.Run.{Run};
+ghost use Rattle.rr_pages.specs.Journal.Layout.{other_half};
+ghost use Rattle.rr_pages.specs.Journal.Reading.{lines};
+ghost use Rattle.rr_pages.specs.Journal.Run.{Run};
 ghost use Rattle.rr_reading.specs.Faults.{CountsFault, IsNoVerdict, OnDeviceFault};
 ghost use Rattle.rr_reading.specs.Held.{GoesOn};
 
 use crate::Fault;
 use crate::root::first_number;
 use rr_disk::Disk;
-use rr_journal::{HalfIndex, Scanned, scan};
 use rr_pages::Root;
+use rr_pages::journal::{HalfIndex, Scanned, scan};
 use std::alloc::Global;
 
 // The records behind a root.
@@ -27,13 +27,13 @@ pub(crate) fn read_records<D: Disk>(
     root: &Root,
 ) -> Result<FoundRecords, Fault>
     ensures near { IfOk result (λ found. D.Honest disk.new → root.now.first < 2 ^ 63
-        → Run (D.state disk.old).content (half_index root.now.half) 0 root.now.first
+        → Run (D.state disk.old).content root.now.half 0 root.now.first
         (lines found.near.records.items) found.near.end) }
     ensures far { IfOk result (λ found. D.Honest disk.new → root.now.first < 2 ^ 63
-        → Run (D.state disk.old).content (half_index (not root.now.half)) 0 (root.now.first + length (lines found.near.records.items))
+        → Run (D.state disk.old).content (other_half root.now.half) 0 (root.now.first + length (lines found.near.records.items))
         (lines found.far.records.items) found.far.end) }
     ensures near_part { IfOk result (λ found. GoesOn root.now.half found.near) }
-    ensures far_part { IfOk result (λ found. GoesOn (not root.now.half) found.far) }
+    ensures far_part { IfOk result (λ found. GoesOn (other_half root.now.half) found.far) }
     ensures only { IfErr result IsNoVerdict }
     ensures fault { CountsFault (D.fault_count disk.old) (D.fault_count disk.new) result }
     ensures honest { D.Honest disk.new → D.Honest disk.old }
@@ -48,14 +48,19 @@ pub(crate) fn read_records<D: Disk>(
     let first = first_number(root.first);
     let near = read_half(alloc, disk, root.half, first)?;
     let next = first + near.records.len() as u64;
-    let far = read_half(alloc, disk, !root.half, next)?;
+    let far = read_half(alloc, disk, root.half.other(), next)?;
     Ok(FoundRecords { near, far })
 }
 
-fn read_half<D: Disk>(alloc: Global, disk: &mut D, half: bool, first: u64) -> Result<Scanned, Fault>
+fn read_half<D: Disk>(
+    alloc: Global,
+    disk: &mut D,
+    half: HalfIndex,
+    first: u64,
+) -> Result<Scanned, Fault>
     requires { first + 255 < 2 ^ 64 }
     ensures run { IfOk result (λ scanned. D.Honest disk.new
-        → Run (D.state disk.old).content (half_index half) 0 first (lines scanned.records.items) scanned.end) }
+        → Run (D.state disk.old).content half 0 first (lines scanned.records.items) scanned.end) }
     ensures half { IfOk result (λ scanned. GoesOn half scanned) }
     ensures few { IfOk result (λ scanned. length scanned.records.items ≤ 255) }
     ensures only { IfErr result IsNoVerdict }
@@ -69,16 +74,6 @@ fn read_half<D: Disk>(alloc: Global, disk: &mut D, half: bool, first: u64) -> Re
     ensures works { D.Works disk.new → D.Works disk.old }
     ensures same_len { D.file_len disk.new ≡ D.file_len disk.old }
 {
-    let scanned = scan(alloc, disk, part_of(half), first)?;
+    let scanned = scan(alloc, disk, half, first)?;
     Ok(scanned)
-}
-
-fn part_of(half: bool) -> HalfIndex
-    ensures { result ≡ half_index half }
-{
-    if half {
-        HalfIndex::Second
-    } else {
-        HalfIndex::First
-    }
 }

@@ -6,10 +6,7 @@ ghost use Rattle.rr_reading.specs.Reading.{TakesRoot, Refuses};
 
 use crate::Fault;
 use rr_disk::Disk;
-use rr_pages::{Taken, take_root};
-
-// A file has at most so many pages.
-const MOST_PAGES: u64 = 65_536;
+use rr_pages::{MOST_PAGES, Taken, take_root};
 
 // The number of a first record is below this one.
 const FIRST_END: u64 = 1 << 63;
@@ -37,7 +34,7 @@ pub(crate) fn page_count(pages: u64) -> u32
     ensures few { result ≤ 65536 }
     ensures same { pages ≤ 65536 → result ≡ pages }
 {
-    pages.min(MOST_PAGES) as u32
+    pages.min(u64::from(MOST_PAGES)) as u32
 }
 
 // The number of the first record behind a root. That of one that is taken is below 2^63.

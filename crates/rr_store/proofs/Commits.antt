@@ -19,13 +19,13 @@ use Rattle.rr_log.specs.Calls.{MeetsFullFile}
 use Rattle.rr_log.specs.Log.{IsTooLong, is_broken, next_number}
 use Rattle.rr_log.specs.Log as file
 use Rattle.rr_log.specs.Carrying as carrying
-use Rattle.rr_records.specs.Taking.{Takes as Takes_line, table_files}
-use Rattle.rr_records.specs.declared.fault.Fault as rules
-use Rattle.rr_records.specs.declared.fault.Fault.TheVariants as R
-use Rattle.rr_records.specs.declared.rules.TableRules.{TableRules}
-use Rattle.rr_records.specs.Headline.{KeepsTables, KeepsTablesOr}
-use Rattle.rr_records.specs.Words.{in_words, table_in_words}
-use Rattle.rr_records.specs.World as ruled
+use Rattle.rr_tables.specs.Records.Taking.{Takes as Takes_line, table_files}
+use Rattle.rr_tables.specs.declared.records.fault.Fault as rules
+use Rattle.rr_tables.specs.declared.records.fault.Fault.TheVariants as R
+use Rattle.rr_tables.specs.declared.records.rules.TableRules.{TableRules}
+use Rattle.rr_tables.specs.Records.Headline.{KeepsTables, KeepsTablesOr}
+use Rattle.rr_tables.specs.Records.Words.{in_words, table_in_words}
+use Rattle.rr_tables.specs.Records.World as ruled
 use Rattle.rr_tables.specs.declared.fault.Fault as table
 use Rattle.rr_tables.specs.declared.fault.Fault.TheVariants.{File, Rules}
 use Rattle.rr_tables.specs.Tables.{world_of}

@@ -9,18 +9,18 @@ use Rattle.rr_disk.proofs.MomentLemmas.{EachImageOf-weaker}
 use Rattle.rr_images.proofs.OneWorld as images
 use Rattle.rr_kit.specs.declared.kit.Kit.{Kit}
 use Rattle.rr_kit.specs.Kits.{KitTexts, SpellsKit}
-use Rattle.rr_records.specs.declared.fault.Fault as rules
-use Rattle.rr_records.specs.declared.fault.Fault.TheVariants as R
-use Rattle.rr_records.specs.Headline.{KeepsTables, KeepsTablesOr}
-use Rattle.rr_records.specs.Schedules.{LeadsTo, of_tables}
-use Rattle.rr_records.specs.Taking.{table_files}
-use Rattle.rr_records.specs.Words.{in_words}
-use Rattle.rr_records.specs.World as ruled
-use Rattle.rr_records.specs.World.{IsLawfulIn}
-use Rattle.rr_records.proofs.TakingLemmas.{files_are_exact, lawful_are_taken}
-use Rattle.rr_records.proofs.WordLemmas.{are_in_words}
-use Rattle.rr_schedules.specs.Schedule.{Done, Failed, KeepsThe, KeepsWith, MayCommit, MayOpen, MayTick, Refused, StandsOnlyFor, Unread}
-use Rattle.rr_schedules.proofs.Schedules.{leaves_now}
+use Rattle.rr_tables.specs.declared.records.fault.Fault as rules
+use Rattle.rr_tables.specs.declared.records.fault.Fault.TheVariants as R
+use Rattle.rr_tables.specs.Records.Headline.{KeepsTables, KeepsTablesOr}
+use Rattle.rr_tables.specs.Records.Schedules.{LeadsTo, of_tables}
+use Rattle.rr_tables.specs.Records.Taking.{table_files}
+use Rattle.rr_tables.specs.Records.Words.{in_words}
+use Rattle.rr_tables.specs.Records.World as ruled
+use Rattle.rr_tables.specs.Records.World.{IsLawfulIn}
+use Rattle.rr_tables.proofs.RecordLemmas.TakingLemmas.{files_are_exact, lawful_are_taken}
+use Rattle.rr_tables.proofs.RecordLemmas.WordLemmas.{are_in_words}
+use Rattle.rr_images.specs.Schedules.Schedule.{Done, Failed, KeepsThe, KeepsWith, MayCommit, MayOpen, MayTick, Refused, StandsOnlyFor, Unread}
+use Rattle.rr_images.proofs.ScheduleLemmas.Schedules.{leaves_now}
 use Rattle.rr_turns.specs.declared.request.Request.{Request}
 use Rattle.rr_turns.proofs.JudgementLemmas.{is-map}
 use Rattle.rr_store.specs.declared.fault.Fault.{Fault}

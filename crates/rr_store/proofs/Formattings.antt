@@ -3,7 +3,7 @@ use Rattle.std.proofs.Common.{[], Ok}
 use Rattle.rr_disk.specs.Disk.{DiskState}
 use Rattle.rr_disk.specs.Moments.{EachImage}
 use Rattle.rr_kit.specs.Kits.{IsRightKit, KitTexts}
-use Rattle.rr_records.specs.Headline.{KeepsTables}
+use Rattle.rr_tables.specs.Records.Headline.{KeepsTables}
 use Rattle.rr_store.specs.Allowing.{FormatAllows}
 use Rattle.rr_store.proofs.Worlds.{kept_stand}
 

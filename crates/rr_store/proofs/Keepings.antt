@@ -7,8 +7,8 @@ use Rattle.rr_disk.specs.Moments.{EachImage}
 use Rattle.rr_disk.proofs.MomentLemmas.{joins, started, weaker}
 use Rattle.rr_images.specs.Calls.{TakesNewer}
 use Rattle.rr_images.specs.Layout.{Keeps}
-use Rattle.rr_journal.specs.declared.half.Half.{Half}
-use Rattle.rr_journal.specs.Layout.{HasRoom}
+use Rattle.rr_pages.specs.declared.journal.half.Half.{Half}
+use Rattle.rr_pages.specs.Journal.Layout.{HasRoom}
 use Rattle.rr_log.specs.declared.fault.Fault.{Fault}
 use Rattle.rr_log.specs.declared.fault.Fault.TheVariants as F
 use Rattle.rr_log.specs.declared.log.Log.{Log}
@@ -17,11 +17,11 @@ use Rattle.rr_log.specs.Carrying.{Carries, HaveSameTexts}
 use Rattle.rr_log.specs.Fault.{CountsFault, IsWant, OnDeviceFault, ends_broken}
 use Rattle.rr_log.specs.Log.{HasNoRoom, IsDue, IsPastLast, IsTooLong, disk_of, is_broken, next_number, place_of, ticks_left}
 use Rattle.rr_log.proofs.Carried.{device_more}
-use Rattle.rr_records.specs.declared.rules.TableRules.{TableRules}
-use Rattle.rr_records.specs.Taking.{Takes, table_files}
+use Rattle.rr_tables.specs.declared.records.rules.TableRules.{TableRules}
+use Rattle.rr_tables.specs.Records.Taking.{Takes, table_files}
 use Rattle.rr_kit.specs.Kits.{KitTexts}
-use Rattle.rr_worlds.specs.World.{Table}
-use Rattle.rr_worlds.specs.World as words
+use Rattle.rr_reading.specs.Worlds.World.{Table}
+use Rattle.rr_reading.specs.Worlds.World as words
 use Rattle.rr_store.specs.Keeping.{ComesOn, IsFull, Keeping, MakesAtMost, told_of}
 
 abbrev Kept : Type 0

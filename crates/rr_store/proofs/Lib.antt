@@ -10,3 +10,4 @@ pub mod Recovering
 pub mod Openings
 pub mod Events
 pub mod Sessions
+pub mod RecoveryLemmas

@@ -8,26 +8,26 @@ use Rattle.rr_disk.proofs.ImageLemmas.{each_synced}
 use Rattle.rr_images.specs.Layout.{Keeps as KeepsFile}
 use Rattle.rr_kit.specs.declared.kit.Kit.{Kit}
 use Rattle.rr_kit.specs.Kits.{KitTexts, SpellsKit}
-use Rattle.rr_opening.specs.Carrying.{CarriesRead}
-use Rattle.rr_opening.specs.Opened.{held_by}
-use Rattle.rr_opening.specs.Place.{GoesBehind}
-use Rattle.rr_opening.specs.Syncing.{WasSynced}
+use Rattle.rr_log.specs.Opening.Carrying.{CarriesRead}
+use Rattle.rr_log.specs.Opening.Opened.{held_by}
+use Rattle.rr_log.specs.Opening.Place.{GoesBehind}
+use Rattle.rr_log.specs.Opening.Syncing.{WasSynced}
 use Rattle.rr_reading.specs.declared.fault.Fault as reading
 use Rattle.rr_reading.specs.declared.fault.Fault.TheVariants as R
 use Rattle.rr_reading.specs.Faults as reading_of
 use Rattle.rr_reading.specs.Held.{Held}
 use Rattle.rr_reading.specs.Reading as reading_says
 use Rattle.rr_reading.specs.Reading.{Holds}
-use Rattle.rr_records.specs.Headline.{KeepsTables}
-use Rattle.rr_records.specs.Taking.{table_files}
-use Rattle.rr_records.specs.Words.{in_words}
-use Rattle.rr_recovery.specs.declared.fault.Damage.{Damage}
-use Rattle.rr_recovery.specs.declared.fault.Fault as recovery
-use Rattle.rr_recovery.specs.declared.fault.Fault.TheVariants as C
-use Rattle.rr_recovery.specs.Recovered.{HoldsPlayedTables}
-use Rattle.rr_recovery.specs.Recovery as recovers
+use Rattle.rr_tables.specs.Records.Headline.{KeepsTables}
+use Rattle.rr_tables.specs.Records.Taking.{table_files}
+use Rattle.rr_tables.specs.Records.Words.{in_words}
+use Rattle.rr_pages.specs.declared.fault.Damage.{Damage}
+use Rattle.rr_store.specs.declared.recovery.fault.Fault as recovery
+use Rattle.rr_store.specs.declared.recovery.fault.Fault.TheVariants as C
+use Rattle.rr_store.specs.Recovery.Recovered.{HoldsPlayedTables}
+use Rattle.rr_store.specs.Recovery.Telling as recovers
 use Rattle.rr_tables.specs.Tables.{world_of}
-use Rattle.rr_worlds.specs.World as words
+use Rattle.rr_reading.specs.Worlds.World as words
 use Rattle.rr_store.specs.declared.fault.Fault.{Fault}
 use Rattle.rr_store.specs.declared.fault.Fault.TheVariants as F
 use Rattle.rr_store.specs.declared.found.Found.{Found}

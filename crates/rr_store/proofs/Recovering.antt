@@ -7,35 +7,35 @@ use Rattle.rr_images.proofs.OneWorld.{closed_whole, one_replay, replays_on}
 use Rattle.rr_kit.specs.declared.kit.Kit.{Kit}
 use Rattle.rr_kit.specs.Kits.{IsWrongKit, KitTexts, SpellsKit}
 use Rattle.rr_log.specs.Carrying.{HasTexts, HoldsKit, IsBase as IsLogBase}
-use Rattle.rr_opening.specs.Carrying.{IsReadAs}
-use Rattle.rr_opening.specs.Opened.{HasDamagedRecord}
-use Rattle.rr_opening.specs.Place.{begun_at}
+use Rattle.rr_log.specs.Opening.Carrying.{IsReadAs}
+use Rattle.rr_log.specs.Opening.Opened.{HasDamagedRecord}
+use Rattle.rr_log.specs.Opening.Place.{begun_at}
 use Rattle.rr_reading.specs.Held.{Held, TextChains, chains_of}
 use Rattle.rr_reading.specs.Reading.{Holds}
 use Rattle.rr_reading.proofs.Standing.{held_stands}
-use Rattle.rr_records.specs.Played.{ArePlayedTables, IsPlayedWorld}
-use Rattle.rr_records.specs.Records.{TakesRecord}
-use Rattle.rr_records.specs.Taking.{Takes, table_files}
-use Rattle.rr_records.specs.Words.{IsInWords, in_words, kit_texts, table_in_words}
-use Rattle.rr_records.proofs.PlayedLemmas.{played_after, read_have_played_bases, tables_of_played_are_played}
-use Rattle.rr_records.proofs.TakingLemmas.{files_are_exact, unlawful_lead_nowhere}
-use Rattle.rr_records.proofs.WordLemmas.{are_in_words, of_form, one_in_words}
-use Rattle.rr_records.proofs.WorldLemmas.{keep_after}
-use Rattle.rr_recovery.specs.declared.fault.Damage.{Damage}
-use Rattle.rr_recovery.specs.declared.fault.Damage.TheVariants as D
-use Rattle.rr_recovery.specs.declared.recovery.Recovered.{Recovered}
-use Rattle.rr_recovery.specs.Recovered.{IsRecoveredFrom}
-use Rattle.rr_recovery.specs.Recovery.{IsBase, IsDamage}
-use Rattle.rr_recovery.specs.Replaying as recovery
-use Rattle.rr_recovery.specs.Replaying.{BreaksOff, IsSnapshotBefore}
-use Rattle.rr_recovery.specs.Texts.{texts_in}
-use Rattle.rr_recovery.proofs.BaseLemmas.{base_written}
-use Rattle.rr_snapshot.specs.declared.snapshot.Snapshot.{Snapshot}
+use Rattle.rr_tables.specs.Records.Played.{ArePlayedTables, IsPlayedWorld}
+use Rattle.rr_tables.specs.Records.Lines.{TakesRecord}
+use Rattle.rr_tables.specs.Records.Taking.{Takes, table_files}
+use Rattle.rr_tables.specs.Records.Words.{IsInWords, in_words, kit_texts, table_in_words}
+use Rattle.rr_tables.proofs.RecordLemmas.PlayedLemmas.{played_after, read_have_played_bases, tables_of_played_are_played}
+use Rattle.rr_tables.proofs.RecordLemmas.TakingLemmas.{files_are_exact, unlawful_lead_nowhere}
+use Rattle.rr_tables.proofs.RecordLemmas.WordLemmas.{are_in_words, of_form, one_in_words}
+use Rattle.rr_tables.proofs.RecordLemmas.WorldLemmas.{keep_after}
+use Rattle.rr_pages.specs.declared.fault.Damage.{Damage}
+use Rattle.rr_pages.specs.declared.fault.Damage.TheVariants as D
+use Rattle.rr_store.specs.declared.recovery.recovered.Recovered.{Recovered}
+use Rattle.rr_store.specs.Recovery.Recovered.{IsRecoveredFrom}
+use Rattle.rr_store.specs.Recovery.Telling.{IsBase, IsDamage}
+use Rattle.rr_store.specs.Recovery.Replaying as recovery
+use Rattle.rr_store.specs.Recovery.Replaying.{BreaksOff, IsTranscriptBefore}
+use Rattle.rr_store.specs.Recovery.Texts.{texts_in}
+use Rattle.rr_store.proofs.RecoveryLemmas.BaseLemmas.{base_written}
+use Rattle.rr_checkpoint.specs.declared.plan.transcript.Transcript.{Transcript}
 use Rattle.rr_tables.specs.Tables.{world_of}
-use Rattle.rr_worlds.specs.Spelling.{Spells}
-use Rattle.rr_worlds.specs.World.{Table}
-use Rattle.rr_worlds.specs.World as words
-use Rattle.rr_worlds.proofs.Exact.{one_world}
+use Rattle.rr_reading.specs.Worlds.Spelling.{Spells}
+use Rattle.rr_reading.specs.Worlds.World.{Table}
+use Rattle.rr_reading.specs.Worlds.World as words
+use Rattle.rr_reading.proofs.WorldLemmas.Exact.{one_world}
 use Rattle.rr_store.specs.Files.{AreTablesOf, StandsFor}
 use Rattle.rr_store.specs.World.{World}
 use Rattle.rr_store.proofs.Kits.{right_is_not_wrong}
@@ -57,13 +57,13 @@ replay_texts : (lines : List (List ℕ)) (old new : words.World) → Replays tab
 replay_texts [] old new same = ap kit_texts (sym same)
 replay_texts (line ∷ lines) old new replays = replay_texts lines replays.0 new replays.2 ∙ replays.1.same_texts
 
--- the snapshot that a file's far records ask for
-base_before : (far : List (List ℕ)) (middle : World) (base : Option Snapshot) (begun : Option ℕ) (number : ℕ) (tables : List Table) → begun ≡ begun_at number far
-    → IsSnapshotBefore far middle base → tables ≡ map table_in_words middle → IsLogBase begun base tables
+-- the transcript that a file's far records ask for
+base_before : (far : List (List ℕ)) (middle : World) (base : Option Transcript) (begun : Option ℕ) (number : ℕ) (tables : List Table) → begun ≡ begun_at number far
+    → IsTranscriptBefore far middle base → tables ≡ map table_in_words middle → IsLogBase begun base tables
 base_before [] middle base begun number tables is before same = subst (λ (b : Option ℕ). IsLogBase b base tables) (sym is) before
 base_before (line ∷ far) middle None begun number tables is before same = absurd before
-base_before (line ∷ far) middle (Some snapshot) begun number tables is before same =
-    subst (λ (b : Option ℕ). IsLogBase b (Some snapshot) tables) (sym is) (snapshot, refl, before ∙ sym same)
+base_before (line ∷ far) middle (Some transcript) begun number tables is before same =
+    subst (λ (b : Option ℕ). IsLogBase b (Some transcript) tables) (sym is) (transcript, refl, before ∙ sym same)
 
 -- the texts that chains hold are those of the world that they spell
 pub spelled_texts : (number : ℕ) (bytes : List ℕ) (texts : TextChains) (tables : List HeldChain) (world : words.World)
@@ -218,7 +218,7 @@ module _ (texts : KitTexts) (kit : Kit) (tables : World) (right : SpellsKit text
       tables_of_played_are_played other base layout.base (subst (λ (t : KitTexts). SpellsKit t other) (sym base_texts) right_too) based was_played
 
   pub no_damage : (damage : Damage) → IsDamage has damage → ⊥
-  no_damage D.Words bad = bad layout.base (base_written has was_played.tables layout.base (record { spells = is_read.spells; based = was_played.spelled }))
+  no_damage D.Form bad = bad layout.base (base_written has was_played.tables layout.base (record { spells = is_read.spells; based = was_played.spelled }))
   no_damage D.Kit bad =
       right_is_not_wrong texts kit right (subst (λ (t : KitTexts). IsWrongKit t) same_texts bad.wrong)
   no_damage D.Kept bad =
@@ -241,3 +241,4 @@ module _ (texts : KitTexts) (kit : Kit) (tables : World) (right : SpellsKit text
           (replays_on table_files has.near has.far layout.base layout.middle (in_words texts tables) is_read.leads is_read.leads_on))
       no_bad (inr (inl near)) = closed_whole (sym is_read.near_whole ∙ near)
       no_bad (inr (inr far)) = is_read.far_whole far
+  no_damage _ bad = bad

@@ -10,20 +10,20 @@ use Rattle.rr_kit.specs.declared.kit.Kit.{Kit}
 use Rattle.rr_kit.specs.Kits.{KitTexts, SpellsKit}
 use Rattle.rr_log.specs.declared.log.Log.{Log}
 use Rattle.rr_log.specs.Log as file
-use Rattle.rr_records.specs.declared.rules.TableRules.{TableRules}
-use Rattle.rr_records.specs.Headline.{IsSafe, KeepsTables, KeepsTablesOr}
-use Rattle.rr_records.specs.Schedules.{LeadsTo, of_tables}
-use Rattle.rr_records.specs.Words.{in_words}
-use Rattle.rr_records.specs.World.{Follows}
-use Rattle.rr_records.proofs.PlayedLemmas.{played_after}
-use Rattle.rr_records.proofs.Schedules.{are_worlds, whatever_comes}
-use Rattle.rr_records.proofs.WorldLemmas.{keep_after}
-use Rattle.rr_schedules.specs.Laws.{at_first}
-use Rattle.rr_schedules.specs.Schedule.{Again, Commit, Cut, Done, Ending, EventOf, Failed, Folds, Happens, IsImageOfOne, KeepsThe, KeepsWith, MayCommit, MayOpen, MayTick, OpenCut, OpenEnding, Opened, Opening, Refused, Runs, Settles, Stop, SystemOf, TurnedAway, Unread, after_commit, after_tick, disk_after, held_after, let_go}
-use Rattle.rr_schedules.specs.Schedule as schedule
-use Rattle.rr_schedules.proofs.Schedules.{one_fold}
+use Rattle.rr_tables.specs.declared.records.rules.TableRules.{TableRules}
+use Rattle.rr_tables.specs.Records.Headline.{IsSafe, KeepsTables, KeepsTablesOr}
+use Rattle.rr_tables.specs.Records.Schedules.{LeadsTo, of_tables}
+use Rattle.rr_tables.specs.Records.Words.{in_words}
+use Rattle.rr_tables.specs.Records.World.{Follows}
+use Rattle.rr_tables.proofs.RecordLemmas.PlayedLemmas.{played_after}
+use Rattle.rr_tables.proofs.RecordLemmas.Schedules.{are_worlds, whatever_comes}
+use Rattle.rr_tables.proofs.RecordLemmas.WorldLemmas.{keep_after}
+use Rattle.rr_images.specs.Schedules.Laws.{at_first}
+use Rattle.rr_images.specs.Schedules.Schedule.{Again, Commit, Cut, Done, Ending, EventOf, Failed, Folds, Happens, IsImageOfOne, KeepsThe, KeepsWith, MayCommit, MayOpen, MayTick, OpenCut, OpenEnding, Opened, Opening, Refused, Runs, Settles, Stop, SystemOf, TurnedAway, Unread, after_commit, after_tick, disk_after, held_after, let_go}
+use Rattle.rr_images.specs.Schedules.Schedule as schedule
+use Rattle.rr_images.proofs.ScheduleLemmas.Schedules.{one_fold}
 use Rattle.rr_turns.specs.declared.request.Request.{Request}
-use Rattle.rr_worlds.specs.World as words
+use Rattle.rr_reading.specs.Worlds.World as words
 use Rattle.rr_store.specs.declared.fault.Fault.{Fault}
 use Rattle.rr_store.specs.declared.fault.Fault.TheVariants as F
 use Rattle.rr_store.specs.declared.opening.Refused as opening

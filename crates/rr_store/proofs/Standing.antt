@@ -8,16 +8,16 @@ use Rattle.rr_kit.specs.declared.kit.Kit.{Kit}
 use Rattle.rr_kit.specs.Kits.{KitTexts}
 use Rattle.rr_log.specs.declared.log.Log.{Log}
 use Rattle.rr_log.specs.Carrying as file
-use Rattle.rr_records.specs.declared.rules.TableRules.{TableRules}
-use Rattle.rr_records.specs.Headline.{KeepsTables, KeepsTablesOr}
-use Rattle.rr_records.specs.Taking.{Takes, table_files}
-use Rattle.rr_records.specs.Words.{in_words}
-use Rattle.rr_records.specs.World as rules
-use Rattle.rr_records.specs.World.{IsLawfulIn}
-use Rattle.rr_records.proofs.PlayedLemmas.{played_after}
-use Rattle.rr_records.proofs.TakingLemmas.{lawful_are_taken}
-use Rattle.rr_records.proofs.WordLemmas.{are_in_words}
-use Rattle.rr_records.proofs.WorldLemmas.{keep_after}
+use Rattle.rr_tables.specs.declared.records.rules.TableRules.{TableRules}
+use Rattle.rr_tables.specs.Records.Headline.{KeepsTables, KeepsTablesOr}
+use Rattle.rr_tables.specs.Records.Taking.{Takes, table_files}
+use Rattle.rr_tables.specs.Records.Words.{in_words}
+use Rattle.rr_tables.specs.Records.World as rules
+use Rattle.rr_tables.specs.Records.World.{IsLawfulIn}
+use Rattle.rr_tables.proofs.RecordLemmas.PlayedLemmas.{played_after}
+use Rattle.rr_tables.proofs.RecordLemmas.TakingLemmas.{lawful_are_taken}
+use Rattle.rr_tables.proofs.RecordLemmas.WordLemmas.{are_in_words}
+use Rattle.rr_tables.proofs.RecordLemmas.WorldLemmas.{keep_after}
 use Rattle.rr_turns.specs.Judgement.{IsVerdict}
 use Rattle.rr_turns.proofs.JudgementLemmas.{lawful-map}
 use Rattle.rr_store.specs.declared.store.Store.{Store}

@@ -13,14 +13,14 @@ use Rattle.rr_log.specs.Carrying as carrying
 use Rattle.rr_log.specs.Fault.{CountsFault, IsWant, ends_broken}
 use Rattle.rr_log.specs.Fault as log_fault
 use Rattle.rr_log.specs.Log as file
-use Rattle.rr_records.specs.declared.rules.TableRules.{TableRules}
-use Rattle.rr_records.specs.Headline.{KeepsTables}
-use Rattle.rr_records.specs.Taking.{Takes, table_files}
-use Rattle.rr_records.specs.Words.{in_words, table_in_words}
+use Rattle.rr_tables.specs.declared.records.rules.TableRules.{TableRules}
+use Rattle.rr_tables.specs.Records.Headline.{KeepsTables}
+use Rattle.rr_tables.specs.Records.Taking.{Takes, table_files}
+use Rattle.rr_tables.specs.Records.Words.{in_words, table_in_words}
 use Rattle.rr_tables.specs.declared.tables.Tables.{Tables}
 use Rattle.rr_tables.specs.Tables.{world_of}
-use Rattle.rr_worlds.specs.World.{Table}
-use Rattle.rr_worlds.specs.World as words
+use Rattle.rr_reading.specs.Worlds.World.{Table}
+use Rattle.rr_reading.specs.Worlds.World as words
 use Rattle.rr_store.specs.declared.fault.Fault.{Fault}
 use Rattle.rr_store.specs.declared.fault.Fault.TheVariants as F
 use Rattle.rr_store.specs.declared.store.Store.{Store}

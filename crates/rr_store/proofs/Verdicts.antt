@@ -6,10 +6,10 @@ use Rattle.rr_code.specs.declared.command.Command.TheVariants.{Open}
 use Rattle.rr_hist.specs.declared.fault.Fault as table
 use Rattle.rr_hist.specs.Verdict.{own_judgement, request_judgement, stamp_verdict}
 use Rattle.rr_kit.specs.declared.kit.Kit.{Kit}
-use Rattle.rr_records.specs.declared.fault.Fault as rules
-use Rattle.rr_records.specs.declared.fault.Fault.TheVariants as R
-use Rattle.rr_records.specs.Fault.{of_table}
-use Rattle.rr_records.specs.World.{TableState, World, judgement_in, opening_verdict, present_stamp, step_judgement, table_named, world_judgement}
+use Rattle.rr_tables.specs.declared.records.fault.Fault as rules
+use Rattle.rr_tables.specs.declared.records.fault.Fault.TheVariants as R
+use Rattle.rr_tables.specs.Records.Fault.{of_table}
+use Rattle.rr_tables.specs.Records.World.{TableState, World, judgement_in, opening_verdict, present_stamp, step_judgement, table_named, world_judgement}
 use Rattle.rr_turns.specs.declared.request.Request.{Request}
 use Rattle.rr_turns.specs.declared.request.Request.TheVariants.{Play}
 use Rattle.rr_turns.specs.Judgement.{IsVerdict}

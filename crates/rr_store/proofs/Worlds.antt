@@ -4,12 +4,12 @@ use Rattle.rr_images.proofs.OneWorld as images
 use Rattle.rr_images.proofs.OneWorld.{kept_stands}
 use Rattle.rr_kit.specs.declared.kit.Kit.{Kit}
 use Rattle.rr_kit.specs.Kits.{KitTexts, SpellsKit}
-use Rattle.rr_records.specs.Headline.{KeepsTables}
-use Rattle.rr_records.specs.Taking.{table_files}
-use Rattle.rr_records.specs.Words.{IsInWords, in_words, kit_texts}
-use Rattle.rr_records.proofs.TakingLemmas.{files_are_exact}
-use Rattle.rr_records.proofs.WordLemmas.{are_in_words, one_of_commands}
-use Rattle.rr_worlds.specs.World as words
+use Rattle.rr_tables.specs.Records.Headline.{KeepsTables}
+use Rattle.rr_tables.specs.Records.Taking.{table_files}
+use Rattle.rr_tables.specs.Records.Words.{IsInWords, in_words, kit_texts}
+use Rattle.rr_tables.proofs.RecordLemmas.TakingLemmas.{files_are_exact}
+use Rattle.rr_tables.proofs.RecordLemmas.WordLemmas.{are_in_words, one_of_commands}
+use Rattle.rr_reading.specs.Worlds.World as words
 use Rattle.rr_store.specs.Files.{AreTablesOf, StandsFor}
 use Rattle.rr_store.specs.Laws.{OneWorld}
 use Rattle.rr_store.specs.World.{World}

@@ -5,7 +5,7 @@ use Rattle.rr_disk.specs.Disk.{DiskState}
 use Rattle.rr_disk.specs.Moments.{EachImage, EachImageOf}
 use Rattle.rr_kit.specs.declared.kit.Kit.{Kit}
 use Rattle.rr_kit.specs.Kits.{IsRightKit, KitTexts, SpellsKit}
-use Rattle.rr_records.specs.Headline.{KeepsTables}
+use Rattle.rr_tables.specs.Records.Headline.{KeepsTables}
 use Rattle.rr_turns.specs.Judgement.{IsVerdict}
 use Rattle.rr_store.specs.declared.fault.Fault.{Fault}
 use Rattle.rr_store.specs.declared.fault.Fault.TheVariants as F

@@ -10,9 +10,9 @@ use Rattle.rr_images.specs.Steps.{with_line}
 use Rattle.rr_turns.specs.declared.request.Request.{Request}
 use Rattle.rr_turns.specs.Judgement.{IsVerdict}
 use Rattle.rr_kit.specs.Kits.{KitTexts}
-use Rattle.rr_records.specs.Headline.{KeepsTablesOr}
-use Rattle.rr_records.specs.Taking.{table_files}
-use Rattle.rr_records.specs.Words.{in_words, table_in_words}
+use Rattle.rr_tables.specs.Records.Headline.{KeepsTablesOr}
+use Rattle.rr_tables.specs.Records.Taking.{table_files}
+use Rattle.rr_tables.specs.Records.Words.{in_words, table_in_words}
 use Rattle.rr_store.specs.declared.fault.Fault.{Fault}
 use Rattle.rr_store.specs.declared.fault.Fault.TheVariants as F
 use Rattle.rr_store.specs.declared.store.Store.{Store}
@@ -22,7 +22,7 @@ use Rattle.rr_store.specs.Held.{Takes}
 use Rattle.rr_store.specs.Holding.{Carries, HasNoRoom, IsFull, IsFullFor, IsUnchanged, Rests, disk_of, file_of, held_of, number_of_next, ticks_left}
 use Rattle.rr_store.specs.Keeping.{ComesOn, MakesAtMost}
 use Rattle.rr_store.specs.World.{for_table, judgement_in}
-use Rattle.rr_worlds.specs.World as words
+use Rattle.rr_reading.specs.Worlds.World as words
 
 -- the number of the next record: one more behind a request that was taken; where the device failed it isn't known
 abbrev pub NumberBehind : Result ℕ Fault → ℕ → ℕ → Type 0

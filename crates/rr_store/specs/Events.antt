@@ -4,12 +4,12 @@ use Rattle.rr_code.specs.declared.command.Command.{Command}
 use Rattle.rr_disk.specs.Disk.{DiskState}
 use Rattle.rr_kit.specs.declared.kit.Kit.{Kit}
 use Rattle.rr_kit.specs.Kits.{KitTexts, SpellsKit}
-use Rattle.rr_records.specs.Headline.{KeepsTables}
-use Rattle.rr_records.specs.Schedules.{LeadsTo, of_tables}
-use Rattle.rr_records.specs.Words.{in_words}
-use Rattle.rr_schedules.specs.Schedule.{Again, Cut, Done, Ending, Failed, IsImageOfOne, MayCommit, MayOpen, MayTick, OpenCut, OpenEnding, Opened, Refused, TurnedAway, Unread}
+use Rattle.rr_tables.specs.Records.Headline.{KeepsTables}
+use Rattle.rr_tables.specs.Records.Schedules.{LeadsTo, of_tables}
+use Rattle.rr_tables.specs.Records.Words.{in_words}
+use Rattle.rr_images.specs.Schedules.Schedule.{Again, Cut, Done, Ending, Failed, IsImageOfOne, MayCommit, MayOpen, MayTick, OpenCut, OpenEnding, Opened, Refused, TurnedAway, Unread}
 use Rattle.rr_turns.specs.declared.request.Request.{Request}
-use Rattle.rr_worlds.specs.World as words
+use Rattle.rr_reading.specs.Worlds.World as words
 use Rattle.rr_store.specs.declared.fault.Fault.{Fault}
 use Rattle.rr_store.specs.declared.fault.Fault.TheVariants as F
 use Rattle.rr_store.specs.declared.opening.Refused as opening

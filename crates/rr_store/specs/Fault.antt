@@ -11,15 +11,13 @@ use Rattle.rr_log.specs.declared.fault.Fault as log
 use Rattle.rr_log.specs.declared.fault.Fault.TheVariants as L
 use Rattle.rr_pages.specs.declared.fault.Fault as pages
 use Rattle.rr_pages.specs.declared.fault.Fault.TheVariants as P
-use Rattle.rr_pages.specs.Faults as page_clauses
 use Rattle.rr_reading.specs.declared.fault.Fault as reading
 use Rattle.rr_reading.specs.declared.fault.Fault.TheVariants as R
-use Rattle.rr_reading.specs.Faults.{clause_of}
-use Rattle.rr_recovery.specs.declared.fault.Fault as recovery
-use Rattle.rr_recovery.specs.declared.fault.Fault.TheVariants as V
-use Rattle.rr_recovery.specs.Fault as recovery_clauses
-use Rattle.rr_records.specs.declared.fault.Fault as rules
-use Rattle.rr_records.specs.declared.fault.Fault.TheVariants as G
+use Rattle.rr_pages.specs.Faults.{clause_of}
+use Rattle.rr_store.specs.declared.recovery.fault.Fault as recovery
+use Rattle.rr_store.specs.declared.recovery.fault.Fault.TheVariants as V
+use Rattle.rr_tables.specs.declared.records.fault.Fault as rules
+use Rattle.rr_tables.specs.declared.records.fault.Fault.TheVariants as G
 use Rattle.rr_tables.specs.declared.fault.Fault as tables
 use Rattle.rr_tables.specs.declared.fault.Fault.TheVariants as T
 use Rattle.rr_store.specs.declared.fault.Fault.{Fault}
@@ -76,7 +74,7 @@ of_disk D.OutOfMemory = F.OutOfMemory
 -- the pages of a new file
 abbrev pub of_pages : pages.Fault → Fault
 of_pages P.FileFull = F.FileFull
-of_pages (P.Damaged damage) = F.Damaged (page_clauses.clause_of damage)
+of_pages (P.Damaged damage) = F.Damaged (clause_of damage)
 of_pages P.NotAStore = F.NotAStore
 of_pages (P.Disk fault) = of_disk fault
 of_pages P.OutOfMemory = F.OutOfMemory
@@ -90,7 +88,7 @@ of_reading R.OutOfMemory = F.OutOfMemory
 
 -- what the rules of the game say of a file
 abbrev pub of_recovery : recovery.Fault → Fault
-of_recovery (V.Damaged damage) = F.Damaged (recovery_clauses.clause_of damage)
+of_recovery (V.Damaged damage) = F.Damaged (clause_of damage)
 of_recovery V.OutOfMemory = F.OutOfMemory
 
 -- what a refusal says of the disk's count of faults: one more exactly where the device failed

@@ -3,9 +3,9 @@ use Rattle.std.specs.Prelude.{ℕ, List}
 use Rattle.rr_images.specs.Layout.{Stands}
 use Rattle.rr_kit.specs.declared.kit.Kit.{Kit}
 use Rattle.rr_kit.specs.Kits.{KitTexts, SpellsKit}
-use Rattle.rr_records.specs.Played.{ArePlayedTables}
-use Rattle.rr_records.specs.Taking.{table_files}
-use Rattle.rr_records.specs.Words.{KeepCommands, in_words}
+use Rattle.rr_tables.specs.Records.Played.{ArePlayedTables}
+use Rattle.rr_tables.specs.Records.Taking.{table_files}
+use Rattle.rr_tables.specs.Records.Words.{KeepCommands, in_words}
 use Rattle.rr_store.specs.World.{World}
 
 -- The tables keep commands that words spell, and were played by the rules of this kit: what each keeps is an opening and then

@@ -8,9 +8,9 @@ use Rattle.rr_log.specs.declared.log.Log.{Log}
 use Rattle.rr_log.specs.Calls.{MeetsFullFile}
 use Rattle.rr_log.specs.Carrying as file
 use Rattle.rr_log.specs.Log as log
-use Rattle.rr_records.specs.declared.rules.TableRules.{TableRules}
-use Rattle.rr_records.specs.Taking.{Takes}
-use Rattle.rr_records.specs.Words.{in_words, table_in_words}
+use Rattle.rr_tables.specs.declared.records.rules.TableRules.{TableRules}
+use Rattle.rr_tables.specs.Records.Taking.{Takes}
+use Rattle.rr_tables.specs.Records.Words.{in_words, table_in_words}
 use Rattle.rr_tables.specs.Tables.{world_of}
 use Rattle.rr_turns.specs.declared.request.Request.{Request}
 use Rattle.rr_store.specs.declared.store.Store.{Store}

@@ -11,10 +11,10 @@ use Rattle.rr_log.specs.Calls.{MeetsFullFile, NumberBehind, layout_behind, ticks
 use Rattle.rr_log.specs.Carrying.{Carries}
 use Rattle.rr_log.specs.Fault.{CountsFault, OnDeviceFault, ends_broken}
 use Rattle.rr_log.specs.Log.{HasNoRoom, IsDue, IsPastLast, IsTooLong, disk_of, is_broken, next_number, place_of, ticks_left}
-use Rattle.rr_records.specs.declared.rules.TableRules.{TableRules}
-use Rattle.rr_records.specs.Taking.{Takes, table_files}
-use Rattle.rr_worlds.specs.World.{Table}
-use Rattle.rr_worlds.specs.World as words
+use Rattle.rr_tables.specs.declared.records.rules.TableRules.{TableRules}
+use Rattle.rr_tables.specs.Records.Taking.{Takes, table_files}
+use Rattle.rr_reading.specs.Worlds.World.{Table}
+use Rattle.rr_reading.specs.Worlds.World as words
 
 -- the half in use has no room for a record of these bytes, or the record's number would be past the last
 abbrev pub IsFull : {D R : Type 0} → Log D R → List ℕ → Type 0

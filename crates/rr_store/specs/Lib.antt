@@ -13,3 +13,4 @@ pub mod Opening
 pub mod Laws
 pub mod Events
 pub mod Sessions
+pub mod Recovery

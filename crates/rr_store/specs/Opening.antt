@@ -2,17 +2,15 @@
 use Rattle.std.specs.Prelude.{◌≡◌, ◌⊎◌, ℕ, List, [], ◌∷◌, Result, Ok, Err}
 use Rattle.rr_disk.specs.Disk.{DiskState, after_sync}
 use Rattle.rr_kit.specs.Kits.{KitTexts}
-use Rattle.rr_opening.specs.Opened.{held_by}
+use Rattle.rr_log.specs.Opening.Opened.{held_by}
 use Rattle.rr_pages.specs.Choosing.{IsNoStore}
-use Rattle.rr_reading.specs.declared.fault.Damage as bytes
-use Rattle.rr_reading.specs.Faults as bytes_of
+use Rattle.rr_pages.specs.declared.fault.Damage.{Damage}
+use Rattle.rr_pages.specs.Faults.{clause_of}
 use Rattle.rr_reading.specs.Held.{Held}
 use Rattle.rr_reading.specs.Reading as reading
 use Rattle.rr_reading.specs.Reading.{HasRoot, Holds}
-use Rattle.rr_recovery.specs.declared.fault.Damage as rules
-use Rattle.rr_recovery.specs.Fault as rules_of
-use Rattle.rr_recovery.specs.Recovered.{IsRecoveredFrom}
-use Rattle.rr_recovery.specs.Recovery as recovery
+use Rattle.rr_store.specs.Recovery.Recovered.{IsRecoveredFrom}
+use Rattle.rr_store.specs.Recovery.Telling as recovery
 use Rattle.rr_store.specs.declared.fault.Fault.{Fault}
 use Rattle.rr_store.specs.declared.fault.Fault.TheVariants as F
 use Rattle.rr_store.specs.declared.found.Found.{Found}
@@ -22,15 +20,15 @@ use Rattle.rr_store.specs.World.{World}
 
 -- this clause, 1 to 5, is the least that the bytes of the file break
 abbrev pub BreaksForm : List ℕ → ℕ → Type 0
-BreaksForm file clause = (damage : bytes.Damage) × reading.IsDamage file damage × (clause ≡ bytes_of.clause_of damage)
+BreaksForm file clause = (damage : Damage) × reading.IsDamage file damage × (clause ≡ clause_of damage)
 
 -- the bytes break none, and this clause, 5 to 8, is the least that they break by the rules of the game
 pub record BreaksRules (file : List ℕ) (clause : ℕ) : Type 0 where
   pub has : Held
   pub holds : Holds file has
-  pub damage : rules.Damage
+  pub damage : Damage
   pub broken : recovery.IsDamage has damage
-  pub numbered : clause ≡ rules_of.clause_of damage
+  pub numbered : clause ≡ clause_of damage
 
 abbrev pub IsDamagedFile : List ℕ → ℕ → Type 0
 IsDamagedFile file clause = BreaksForm file clause ⊎ BreaksRules file clause

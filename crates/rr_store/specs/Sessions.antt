@@ -8,14 +8,14 @@ use Rattle.rr_disk.specs.Moments.{EachImage}
 use Rattle.rr_disk.specs.Replay.{settled_state}
 use Rattle.rr_kit.specs.declared.kit.Kit.{Kit}
 use Rattle.rr_kit.specs.Kits.{KitTexts, SpellsKit}
-use Rattle.rr_records.specs.Headline.{IsSafe, KeepsTables}
-use Rattle.rr_records.specs.Schedules.{of_tables}
-use Rattle.rr_records.specs.Words.{in_words}
-use Rattle.rr_schedules.specs.Laws.{at_first}
-use Rattle.rr_schedules.specs.Schedule as schedule
-use Rattle.rr_schedules.specs.Schedule.{Commit, Cut, EventOf, Failed, IsImageOfOne, OpenCut, Opening, Runs, Stop, SystemOf, Unread}
+use Rattle.rr_tables.specs.Records.Headline.{IsSafe, KeepsTables}
+use Rattle.rr_tables.specs.Records.Schedules.{of_tables}
+use Rattle.rr_tables.specs.Records.Words.{in_words}
+use Rattle.rr_images.specs.Schedules.Laws.{at_first}
+use Rattle.rr_images.specs.Schedules.Schedule as schedule
+use Rattle.rr_images.specs.Schedules.Schedule.{Commit, Cut, EventOf, Failed, IsImageOfOne, OpenCut, Opening, Runs, Stop, SystemOf, Unread}
 use Rattle.rr_turns.specs.declared.request.Request.{Request}
-use Rattle.rr_worlds.specs.World as words
+use Rattle.rr_reading.specs.Worlds.World as words
 use Rattle.rr_store.specs.declared.fault.Fault.{Fault}
 use Rattle.rr_store.specs.declared.opening.Refused as opening
 use Rattle.rr_store.specs.declared.store.Store.{Store}

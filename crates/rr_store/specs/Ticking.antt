@@ -4,8 +4,8 @@ use Rattle.rr_disk.specs.Disk.{DiskState}
 use Rattle.rr_disk.specs.Moments.{LeavesOnly}
 use Rattle.rr_kit.specs.Kits.{KitTexts}
 use Rattle.rr_log.specs.Calls as log
-use Rattle.rr_records.specs.Headline.{KeepsTables}
-use Rattle.rr_records.specs.Words.{table_in_words}
+use Rattle.rr_tables.specs.Records.Headline.{KeepsTables}
+use Rattle.rr_tables.specs.Records.Words.{table_in_words}
 use Rattle.rr_store.specs.declared.fault.Fault.{Fault}
 use Rattle.rr_store.specs.declared.fault.Fault.TheVariants as F
 use Rattle.rr_store.specs.declared.store.Store.{Store}

@@ -2,8 +2,8 @@
 use Rattle.std.specs.Prelude.{ℕ, List, Option, None, Some}
 use Rattle.rr_code.specs.declared.command.Command.{Command}
 use Rattle.rr_kit.specs.declared.kit.Kit.{Kit}
-pub use Rattle.rr_records.specs.World.{Follows, IsLawfulIn, IsOfForm, TableRequest, TableState, World, for_table, names, present_stamp, requests_in, state_after, table_named, world_after}
-use Rattle.rr_records.specs.World as rules
+pub use Rattle.rr_tables.specs.Records.World.{Follows, IsLawfulIn, IsOfForm, TableRequest, TableState, World, for_table, names, present_stamp, requests_in, state_after, table_named, world_after}
+use Rattle.rr_tables.specs.Records.World as rules
 use Rattle.rr_turns.specs.declared.request.Request.{Request}
 use Rattle.rr_turns.specs.Judgement.{Judgement, judgement_map}
 use Rattle.rr_store.specs.declared.fault.Fault.{Fault}

@@ -2,6 +2,8 @@ ghost use Rattle.std.specs.Prelude.{◌≡◌};
 ghost use Rattle.rr_store.specs.Fault.{number_of, of_kit, of_log, of_pages, of_reading, of_recovery, of_rules, of_tables};
 ghost use Rattle.rr_store.specs.declared.fault.Fault.TheVariants.{OutOfMemory};
 
+use crate::recovery;
+use rr_tables::records;
 use std::alloc::{AllocError, AllocFailed};
 use thiserror::Error;
 
@@ -87,18 +89,18 @@ impl From<rr_kit::Fault> for Fault {
 }
 
 /// Of a request that isn't lawful at its table.
-impl From<rr_records::Fault> for Fault {
+impl From<records::Fault> for Fault {
     ghost from_gives = { λ fault wrapped. wrapped ≡ of_rules fault };
 
-    fn from(fault: rr_records::Fault) -> Fault {
+    fn from(fault: records::Fault) -> Fault {
         match fault {
-            rr_records::Fault::Game(fault) => Fault::Game(fault),
-            rr_records::Fault::StaleStamp(stamp) => Fault::StaleStamp(stamp),
-            rr_records::Fault::TurnNotKept => Fault::TurnNotKept,
-            rr_records::Fault::TooManyCommands => Fault::TooManyCommands,
-            rr_records::Fault::TooManyTables => Fault::TooManyTables,
-            rr_records::Fault::NoSuchTable => Fault::NoSuchTable,
-            rr_records::Fault::OutOfMemory => Fault::OutOfMemory,
+            records::Fault::Game(fault) => Fault::Game(fault),
+            records::Fault::StaleStamp(stamp) => Fault::StaleStamp(stamp),
+            records::Fault::TurnNotKept => Fault::TurnNotKept,
+            records::Fault::TooManyCommands => Fault::TooManyCommands,
+            records::Fault::TooManyTables => Fault::TooManyTables,
+            records::Fault::NoSuchTable => Fault::NoSuchTable,
+            records::Fault::OutOfMemory => Fault::OutOfMemory,
         }
     }
 }
@@ -161,13 +163,13 @@ impl From<rr_reading::Fault> for Fault {
 }
 
 /// Of what the rules of the game say of a file.
-impl From<rr_recovery::Fault> for Fault {
+impl From<recovery::Fault> for Fault {
     ghost from_gives = { λ fault wrapped. wrapped ≡ of_recovery fault };
 
-    fn from(fault: rr_recovery::Fault) -> Fault {
+    fn from(fault: recovery::Fault) -> Fault {
         match fault {
-            rr_recovery::Fault::Damaged(damage) => Fault::Damaged(damage.clause()),
-            rr_recovery::Fault::OutOfMemory => Fault::OutOfMemory,
+            recovery::Fault::Damaged(damage) => Fault::Damaged(damage.clause()),
+            recovery::Fault::OutOfMemory => Fault::OutOfMemory,
         }
     }
 }

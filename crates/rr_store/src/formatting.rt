@@ -1,10 +1,10 @@
 ghost use Rattle.std.specs.Prelude.{◌≡◌, ◌⊎◌, ◌+◌, ◌<◌, ◌≤◌, [], length, MatchResult, OnOk, IfErr, Err};
 ghost use Rattle.rr_disk.specs.Disk.{counted};
 ghost use Rattle.rr_disk.specs.Moments.{LeavesOnly};
-ghost use Rattle.rr_format.specs.Formatted.{IsUnused};
+ghost use Rattle.rr_log.specs.Formatting.Formatted.{IsUnused};
 ghost use Rattle.rr_kit.specs.Kits.{IsRightKit};
 ghost use Rattle.rr_pages.specs.Choosing.{IsNoStore};
-ghost use Rattle.rr_records.specs.Headline.{KeepsTables};
+ghost use Rattle.rr_tables.specs.Records.Headline.{KeepsTables};
 ghost use Rattle.rr_store.specs.Allowing.{FormatAllows};
 ghost use Rattle.rr_store.specs.Fault.{CountsFailure, OnDeviceFault};
 ghost use Rattle.rr_store.specs.Formatting.{RefusesFormat, RefusesTexts};
@@ -14,7 +14,7 @@ use crate::fault::Fault;
 use crate::texts::Texts;
 use rr_disk::Disk;
 use rr_kit::Kit;
-use rr_records::TableRules;
+use rr_tables::records::TableRules;
 use std::alloc::Global;
 
 /// Makes a store of an empty file, from the texts of a kit. Wherever the device stops, the file is no store yet, or keeps
@@ -90,7 +90,7 @@ fn put_texts<D: Disk>(alloc: Global, disk: &mut D, texts: Texts<'_>) -> Result<(
     ensures device { OnDeviceFault result (D.Works disk.new → ⊥) }
     ensures works { D.Works disk.new → D.Works disk.old }
 {
-    rr_format::format::<TableRules, D>(
+    rr_log::formatting::format::<TableRules, D>(
         alloc,
         disk,
         texts.chart,

@@ -1,7 +1,7 @@
-use rr_opening::Opened;
-use rr_records::TableRules;
-use rr_recovery::Recovered;
-use rr_worlds::Worlds;
+use crate::recovery::Recovered;
+use rr_log::opening::Opened;
+use rr_reading::worlds::Worlds;
+use rr_tables::records::TableRules;
 
 /// What was found in a file: what its bytes hold, the tables that are recovered of that, and room for a record.
 #[derive(Drop)]

@@ -3,7 +3,7 @@ use crate::keeping::{keep_record, spell};
 use rr_code::{Command, Request};
 use rr_disk::Disk;
 use rr_log::{Fault, Log};
-use rr_records::TableRules;
+use rr_tables::records::TableRules;
 use rr_tables::{Journal, Tables};
 use rr_words::Name;
 
@@ -16,7 +16,7 @@ pub(crate) struct FileJournal<D: Drop> {
 
 impl<D: Disk + Drop> Journal for FileJournal<D> {
     ghost use Rattle.std.specs.Prelude.{map};
-    ghost use Rattle.rr_records.specs.Words.{table_in_words};
+    ghost use Rattle.rr_tables.specs.Records.Words.{table_in_words};
     ghost use Rattle.rr_store.specs.Keeping.{Keeping};
 
     ghost Keeps = { λ old tables bytes result new. Keeping D.Honest D.Works D.state D.past D.fault_count D.write_count D.sync_count old.file (map table_in_words tables) bytes result new.file };

@@ -6,7 +6,7 @@ ghost use Rattle.rr_store.specs.Keeping.{Keeping, told_of};
 use rr_code::{Command, Request, write_request};
 use rr_disk::Disk;
 use rr_log::{Fault, Log, TablesInWords};
-use rr_records::TableRules;
+use rr_tables::records::TableRules;
 use rr_words::Name;
 
 /// Keeps a record. Where the half in use has no room for it, a checkpoint under way is ended first. Then the next one, which

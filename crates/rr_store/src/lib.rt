@@ -1,7 +1,8 @@
 //! The crash-safe store of a club's tables: the world of the requests that one file accepted, whatever a stop leaves of it.
+//! What an opening makes of the file's bytes by the rules of the game, `recovery` says.
 //!
-//! Stands on `rr_tables` and `rr_log`, and for openings on `rr_recovery`. Its promise: a commit's `CommitAllows`, a tick's
-//! `TickAllows` and an opening's `OpenAllows`: each image stands for the world before, or with the one request under way.
+//! Stands on `rr_tables` and `rr_log`. Its promise: a commit's `CommitAllows`, a tick's `TickAllows` and an opening's
+//! `OpenAllows`: each image stands for the world before, or with the one request under way.
 #![tactic(auto)]
 
 mod fault;
@@ -11,6 +12,7 @@ mod journal;
 mod keeping;
 pub mod laws;
 mod opening;
+pub mod recovery;
 mod store;
 mod texts;
 

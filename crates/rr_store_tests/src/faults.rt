@@ -1,6 +1,6 @@
 //! The numbers and texts of faults.
-use rr_recovery::Damage;
-use rr_store::Fault;
+use rr_pages::Damage;
+use rr_store::{Fault, recovery};
 use std::alloc::Global;
 use std::test::Fail;
 
@@ -34,11 +34,11 @@ fn unlike(alloc: Global) -> Result<Option<u8>, Fail> {
 // The numbers of the faults below the store.
 fn numbers() -> [u8; 8] {
     [
-        rr_tables::Fault::Rules(rr_records::Fault::NoSuchTable).number(),
+        rr_tables::Fault::Rules(rr_tables::records::Fault::NoSuchTable).number(),
         rr_tables::Fault::File(rr_log::Fault::FileFull).number(),
-        rr_recovery::Fault::Damaged(Damage::Words).number(),
-        rr_recovery::Fault::OutOfMemory.number(),
-        Damage::Words.clause(),
+        recovery::Fault::Damaged(Damage::Form).number(),
+        recovery::Fault::OutOfMemory.number(),
+        Damage::Form.clause(),
         Damage::Kit.clause(),
         Damage::Kept.clause(),
         Damage::Records.clause(),

@@ -4,12 +4,13 @@ use crate::files::{BOARD, CHART, ROSTER, disk_of, new_file, played_store, write}
 use rr_code::read_record;
 use rr_disk::MemoryDisk;
 use rr_kit::Kit;
-use rr_opening::{Opened, open_file};
-use rr_records::TableRules;
-use rr_recovery::{Damage, Recovered, recover};
+use rr_log::opening::{Opened, open_file};
+use rr_pages::Damage;
+use rr_reading::worlds::Worlds;
+use rr_store::recovery::{self, Recovered, recover};
+use rr_tables::records::{self, TableRules};
 use rr_tables::{Fault, Standing, Tables};
 use rr_words::Name;
-use rr_worlds::Worlds;
 use std::alloc::Global;
 use std::test::Fail;
 
@@ -32,7 +33,7 @@ fn no_tables(alloc: Global) -> Result<Tables, Fail> {
 // Takes the request of this record.
 fn take(alloc: Global, tables: &mut Tables, stamp: u64, record: &[u8]) -> Result<u64, Fault> {
     let Ok((name, request)) = read_record(record) else {
-        return Err(Fault::Rules(rr_records::Fault::OutOfMemory));
+        return Err(Fault::Rules(records::Fault::OutOfMemory));
     };
     tables.take(alloc, stamp, &name, &request, &mut Standing)
 }
@@ -66,17 +67,17 @@ const ROWS: [Row; 6] = [
     (
         1,
         b"t1 pass b",
-        Err(Fault::Rules(rr_records::Fault::StaleStamp(2))),
+        Err(Fault::Rules(records::Fault::StaleStamp(2))),
     ),
     (
         0,
         b"t3 pass b",
-        Err(Fault::Rules(rr_records::Fault::NoSuchTable)),
+        Err(Fault::Rules(records::Fault::NoSuchTable)),
     ),
     (
         2,
         b"t1 forget 2",
-        Err(Fault::Rules(rr_records::Fault::TurnNotKept)),
+        Err(Fault::Rules(records::Fault::TurnNotKept)),
     ),
 ];
 
@@ -109,7 +110,7 @@ fn tables_take_requests(rt: HostRuntime) -> Result<(), Fail> {
 }
 
 // How many tables and requests are recovered, and whether a checkpoint is to be made anew of other tables.
-type Found = Result<(usize, u64, bool), rr_recovery::Fault>;
+type Found = Result<(usize, u64, bool), recovery::Fault>;
 
 fn recovered(alloc: Global, mut disk: MemoryDisk) -> Result<Found, Fail> {
     let opened = read(alloc, &mut disk)?;
@@ -127,7 +128,7 @@ fn read(alloc: Global, disk: &mut MemoryDisk) -> Result<Opened<Worlds<TableRules
 fn recover_tables(
     alloc: Global,
     opened: &Opened<Worlds<TableRules>>,
-) -> Result<Recovered, rr_recovery::Fault> {
+) -> Result<Recovered, recovery::Fault> {
     recover::<TableRules>(alloc, opened)
 }
 
@@ -160,7 +161,7 @@ fn recoveries(alloc: Global) -> Result<[Found; 4], Fail> {
 fn tables_are_recovered(rt: HostRuntime) -> Result<(), Fail> {
     let found = [
         Ok((0, 0, false)),
-        Err(rr_recovery::Fault::Damaged(Damage::Kit)),
+        Err(recovery::Fault::Damaged(Damage::Kit)),
         Ok((1, 3, true)),
         Ok((1, 2, false)),
     ];

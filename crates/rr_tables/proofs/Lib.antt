@@ -2,3 +2,4 @@ pub mod Outcomes
 pub mod WorldLemmas
 pub mod WritableLemmas
 pub mod WordLemmas
+pub mod RecordLemmas

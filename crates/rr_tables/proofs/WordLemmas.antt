@@ -10,12 +10,12 @@ use Rattle.std.proofs.lemmas.Map.Keys.{IsDistinct-head, IsDistinct-tail}
 use Rattle.std.proofs.lemmas.Slice.Eq.{bytes_eq-Decides}
 use Rattle.rr_code.specs.declared.command.Command.{Command}
 use Rattle.rr_code.specs.Command.{text}
-use Rattle.rr_dir.specs.Kept.{IsShort}
-use Rattle.rr_records.specs.Words.{table_in_words}
-use Rattle.rr_records.specs.World.{TableState, World}
-use Rattle.rr_snapshot.specs.declared.table.TableSnapshot.{TableSnapshot}
-use Rattle.rr_snapshot.specs.Snapshot.{table_of, with_command}
-use Rattle.rr_worlds.specs.World.{Table}
+use Rattle.rr_reading.specs.Dir.Kept.{IsShort}
+use Rattle.rr_tables.specs.Records.Words.{table_in_words}
+use Rattle.rr_tables.specs.Records.World.{TableState, World}
+use Rattle.rr_checkpoint.specs.declared.plan.table.TableTranscript.{TableTranscript}
+use Rattle.rr_checkpoint.specs.Plan.Transcript.{table_of, with_command}
+use Rattle.rr_reading.specs.Worlds.World.{Table}
 use Rattle.rr_tables.specs.InWords.{with_commands}
 use Rattle.rr_tables.specs.Tables.{world_by}
 
@@ -94,7 +94,7 @@ written_at {T} state entries place e at =
     ∙ ap (option_map table_in_words) (slice_get-map seen entries place ∙ ap (option_map seen) at)
 
 -- and of what wrote it
-pub ok_at : {E : Type 0} (r : Result TableSnapshot E) (tables : List Table) (place : ℕ) (table : Table) → slice_get tables place ≡ Some table
+pub ok_at : {E : Type 0} (r : Result TableTranscript E) (tables : List Table) (place : ℕ) (table : Table) → slice_get tables place ≡ Some table
     → IfOk r (λ written. table_of written ≡ table) → IfOk r (λ written. slice_get tables place ≡ Some (table_of written))
 ok_at (Ok written) tables place table at is = at ∙ ap (λ (t : Table). Some t) (sym is)
 ok_at (Err e) tables place table at is = tt

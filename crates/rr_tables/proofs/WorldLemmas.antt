@@ -10,7 +10,7 @@ use Rattle.rr_code.specs.declared.command.Command.TheVariants.{Open}
 use Rattle.rr_kit.specs.declared.kit.Kit.{Kit}
 use Rattle.rr_turns.specs.declared.request.Request.{Request}
 use Rattle.rr_turns.specs.declared.request.Request.TheVariants.{Play}
-use Rattle.rr_records.specs.World.{TableState, World, judgement_in, names, opening_verdict, requests_in, state_after, step_judgement, table_named, world_after}
+use Rattle.rr_tables.specs.Records.World.{TableState, World, judgement_in, names, opening_verdict, requests_in, state_after, step_judgement, table_named, world_after}
 use Rattle.rr_tables.specs.declared.fault.Fault.{Fault}
 use Rattle.rr_tables.specs.Tables.{world_by}
 

@@ -9,7 +9,7 @@ use Rattle.rr_code.specs.declared.command.Command.{Command}
 use Rattle.rr_code.specs.declared.command.Command.TheVariants.{Open}
 use Rattle.rr_code.specs.Command.{text}
 use Rattle.rr_code.specs.Players.{ArePlayers, all_different}
-use Rattle.rr_dir.specs.Kept.{IsShort}
+use Rattle.rr_reading.specs.Dir.Kept.{IsShort}
 use Rattle.rr_hist.specs.declared.change.Change.{Change}
 use Rattle.rr_hist.specs.Changing.{IsChangeBy, kept_with}
 use Rattle.rr_hist.specs.Laws.{AcceptedTurnsAreKept}

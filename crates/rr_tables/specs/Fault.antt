@@ -1,7 +1,7 @@
 -- The refusals of tables: their numbers.
 use Rattle.std.specs.Prelude.{ℕ}
 use Rattle.rr_log.specs.Fault as file
-use Rattle.rr_records.specs.Fault as rules
+use Rattle.rr_tables.specs.Records.Fault as rules
 use Rattle.rr_tables.specs.declared.fault.Fault.{Fault}
 use Rattle.rr_tables.specs.declared.fault.Fault.TheVariants.{File, Rules}
 

@@ -2,7 +2,7 @@
 use Rattle.std.specs.Prelude.{List, ◌++◌, map}
 use Rattle.rr_code.specs.declared.command.Command.{Command}
 use Rattle.rr_code.specs.Command.{text}
-use Rattle.rr_worlds.specs.World.{Table}
+use Rattle.rr_reading.specs.Worlds.World.{Table}
 
 -- the table with the words of these commands more, behind those that it keeps
 abbrev pub with_commands : Table → List Command → Table

@@ -4,3 +4,4 @@ pub mod Tables
 pub mod Changing
 pub mod Taking
 pub mod InWords
+pub mod Records

@@ -3,7 +3,7 @@ use Rattle.std.specs.Prelude.{ℕ, List, map}
 use Rattle.std.specs.Global.{Box}
 use Rattle.rr_hist.specs.declared.table.Table.{Table}
 use Rattle.rr_hist.specs.Tables.{kept_in}
-use Rattle.rr_records.specs.World.{TableState, World}
+use Rattle.rr_tables.specs.Records.World.{TableState, World}
 use Rattle.rr_tables.specs.declared.tables.Tables.{Tables}
 
 -- what a table in a box keeps

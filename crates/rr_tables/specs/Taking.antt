@@ -1,9 +1,9 @@
 -- What comes of a request to tables.
 use Rattle.std.specs.Prelude.{◌≡◌, ℕ, List, None, Result, Ok, Err}
 use Rattle.rr_log.specs.declared.fault.Fault as file
-use Rattle.rr_records.specs.declared.fault.Fault as rules
-use Rattle.rr_records.specs.declared.fault.Fault.TheVariants as R
-use Rattle.rr_records.specs.World.{World}
+use Rattle.rr_tables.specs.declared.records.fault.Fault as rules
+use Rattle.rr_tables.specs.declared.records.fault.Fault.TheVariants as R
+use Rattle.rr_tables.specs.Records.World.{World}
 use Rattle.rr_turns.specs.Judgement.{IsVerdict, Judgement, MayFind}
 use Rattle.rr_tables.specs.declared.fault.Fault.{Fault}
 use Rattle.rr_tables.specs.declared.fault.Fault.TheVariants.{File, Rules}

@@ -1,8 +1,9 @@
 ghost use Rattle.std.specs.Prelude.{◌≡◌};
-ghost use Rattle.rr_records.specs.declared.fault.Fault.TheVariants as R;
+ghost use Rattle.rr_tables.specs.declared.records.fault.Fault.TheVariants as R;
 ghost use Rattle.rr_tables.specs.Fault.{number_of};
 ghost use Rattle.rr_tables.specs.declared.fault.Fault.TheVariants.{File, Rules};
 
+use crate::records;
 use std::alloc::AllocError;
 use thiserror::Error;
 
@@ -11,7 +12,7 @@ use thiserror::Error;
 pub enum Fault {
     /// The rules refuse it. `OutOfMemory` among these: memory was wanted before its record was to be kept.
     #[error("{0}")]
-    Rules(rr_records::Fault),
+    Rules(records::Fault),
     /// It is lawful, but what keeps its record refused.
     #[error("{0}")]
     File(rr_log::Fault),
@@ -29,10 +30,10 @@ impl Fault {
     }
 }
 
-impl From<rr_records::Fault> for Fault {
+impl From<records::Fault> for Fault {
     ghost from_gives = { λ fault wrapped. wrapped ≡ Rules fault };
 
-    fn from(fault: rr_records::Fault) -> Fault {
+    fn from(fault: records::Fault) -> Fault {
         Fault::Rules(fault)
     }
 }
@@ -49,6 +50,6 @@ impl From<AllocError> for Fault {
     ghost from_gives = { λ _ fault. fault ≡ Rules R.OutOfMemory };
 
     fn from(_error: AllocError) -> Fault {
-        Fault::Rules(rr_records::Fault::OutOfMemory)
+        Fault::Rules(records::Fault::OutOfMemory)
     }
 }

@@ -1,38 +1,38 @@
 //! The tables in words, for a checkpoint.
 ghost use Rattle.std.specs.Prelude.{◌≡◌, ◌+◌, ◌<◌, ◌≤◌, All, length, map, slice_get, IfOk, IfErr, OnOk, Some};
 ghost use Rattle.rr_code.specs.Command.{text};
-ghost use Rattle.rr_dir.specs.Kept.{IsShort};
+ghost use Rattle.rr_reading.specs.Dir.Kept.{IsShort};
 ghost use Rattle.rr_hist.specs.Tables.{kept_in};
-ghost use Rattle.rr_records.specs.Words.{table_in_words};
-ghost use Rattle.rr_snapshot.specs.Snapshot.{commands_of, table_of};
+ghost use Rattle.rr_tables.specs.Records.Words.{table_in_words};
+ghost use Rattle.rr_checkpoint.specs.Plan.Transcript.{commands_of, table_of};
 ghost use Rattle.rr_tables.specs.InWords.{with_commands};
 ghost use Rattle.rr_tables.specs.Tables.{world_of};
 ghost use Rattle.rr_tables.specs.Writable.{IsWritable};
 
 use crate::Tables;
+use rr_checkpoint::plan::{TableTranscript, Transcript};
 use rr_hist::{Spelled, Table};
 use rr_log::TablesInWords;
 use rr_pages::Fault;
-use rr_snapshot::{Snapshot, TableSnapshot};
 use rr_words::Name;
 use std::alloc::Global;
 
 impl TablesInWords for Tables {
     ghost tables = { λ tables. map table_in_words (world_of tables) };
 
-    fn snapshot(&self, alloc: Global) -> Result<Snapshot, Fault> {
-        let mut snapshot = Snapshot::new(alloc);
+    fn transcript(&self, alloc: Global) -> Result<Transcript, Fault> {
+        let mut transcript = Transcript::new(alloc);
         for place in 0..self.map.len() {
             let table = self.table_at(alloc, place)?;
-            snapshot.push(table)?;
+            transcript.push(table)?;
         }
-        Ok(snapshot)
+        Ok(transcript)
     }
 }
 
 impl Tables {
     // The table at a place in the order of opening.
-    fn table_at(&self, alloc: Global, place: usize) -> Result<TableSnapshot, Fault>
+    fn table_at(&self, alloc: Global, place: usize) -> Result<TableTranscript, Fault>
         requires { place < length self.now.map.entries }
         ensures table { IfOk result (λ written. slice_get (map table_in_words (world_of self.now)) place ≡ Some (table_of written)) }
         ensures some { IfOk result (λ written. 1 ≤ length (commands_of written)) }
@@ -46,18 +46,18 @@ impl Tables {
 }
 
 // A table of this name.
-fn write_table(alloc: Global, name: &Name, table: &Table) -> Result<TableSnapshot, Fault>
+fn write_table(alloc: Global, name: &Name, table: &Table) -> Result<TableTranscript, Fault>
     requires { IsWritable (kept_in table.now) }
     ensures table { IfOk result (λ written. table_of written ≡ table_in_words (name.now, kept_in table.now)) }
     ensures memory { IfErr result (λ fault. fault ≡ Fault.OutOfMemory) }
 {
-    let mut written = TableSnapshot::new(alloc, name, table.stamp(), table.floor() as u32);
+    let mut written = TableTranscript::new(alloc, name, table.stamp(), table.floor() as u32);
     add_commands(&mut written, table.commands())?;
     Ok(written)
 }
 
 // Adds the words of these commands.
-fn add_commands(written: &mut TableSnapshot, commands: &[Spelled]) -> Result<(), Fault>
+fn add_commands(written: &mut TableTranscript, commands: &[Spelled]) -> Result<(), Fault>
     requires few { length (commands_of written.old) + length commands.now ≤ 4096 }
     requires short { All IsShort (map text commands.now) }
     ensures ok { OnOk result (table_of written.new ≡ with_commands (table_of written.old) commands.now) }

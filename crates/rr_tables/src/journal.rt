@@ -13,7 +13,7 @@ use rr_words::Name;
 pub trait Journal {
     ghost use Rattle.std.specs.Prelude.{ℕ, List, Result};
     ghost use Rattle.rr_log.specs.declared.fault.Fault as file;
-    ghost use Rattle.rr_records.specs.World.{World};
+    ghost use Rattle.rr_tables.specs.Records.World.{World};
 
     // What keeping a record does: the journal from before, the tables from before the request, the record's bytes, how it
     // ended, and the journal behind it.

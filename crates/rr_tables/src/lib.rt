@@ -1,14 +1,16 @@
 //! The tables of a store in memory: what the rules say of a request, its record kept before it counts, and the tables in
-//! words for a checkpoint. It knows no file: what keeps records is a `Journal`.
+//! words for a checkpoint. Which records are lawful, and what a file then keeps whatever comes, says `records`. The crate
+//! knows no file: what keeps records is a `Journal`.
 //!
-//! Stands on `rr_records`, `rr_hist` and `rr_log`. Its promise: the clauses of `Tables::take`. A request is judged by
-//! `judgement_in`, what keeps its record is asked once and with the tables from before, and the tables are then those of
-//! `world_after`.
+//! Stands on `rr_hist` and `rr_log`. Its promises: the clauses of `Tables::take`, and `records::laws::prefix`. A request
+//! is judged by `judgement_in`, what keeps its record is asked once and with the tables from before, and the tables are
+//! then those of `world_after`.
 #![tactic(auto)]
 
 mod fault;
 mod in_words;
 mod journal;
+pub mod records;
 mod tables;
 mod taking;
 

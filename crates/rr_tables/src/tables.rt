@@ -3,7 +3,7 @@ ghost use Rattle.std.specs.Option.{option_copied};
 ghost use Rattle.std.proofs.Props.{props};
 ghost use Rattle.indexmap.specs.IndexMap.{get, index_map_len, spare};
 ghost use Rattle.rr_hist.specs.Tables.{IsPlayed, kept_in};
-ghost use Rattle.rr_records.specs.declared.fault.Fault.TheVariants as R;
+ghost use Rattle.rr_tables.specs.declared.records.fault.Fault.TheVariants as R;
 ghost use Rattle.rr_tables.specs.Writable.{IsWritable};
 
 use crate::Fault;
@@ -28,7 +28,7 @@ pub struct Tables {
 }
 
 impl Tables {
-    ghost use Rattle.rr_records.specs.World.{names, present_stamp, requests_in, table_named};
+    ghost use Rattle.rr_tables.specs.Records.World.{names, present_stamp, requests_in, table_named};
     ghost use Rattle.rr_tables.specs.Tables.{kept_in_box, world_of};
 
     /// No table, with room for as many as there may be.
@@ -83,7 +83,7 @@ impl Tables {
     {
         match self.map.get(name) {
             Some(table) => Ok(&**table),
-            None => Err(Fault::Rules(rr_records::Fault::NoSuchTable)),
+            None => Err(Fault::Rules(crate::records::Fault::NoSuchTable)),
         }
     }
 

@@ -10,14 +10,14 @@ use Rattle.rr_log.specs.declared.log.Log.{Log}
 use Rattle.rr_log.specs.Log as log
 use Rattle.rr_moderator.specs.Durability.{CommitsOnce, IsToldOf, Makes_none, Makes_one, SpeaksAndLasts, Told, tells_acceptance, told}
 use Rattle.rr_moderator.specs.Serving.{AsksFor}
-use Rattle.rr_records.specs.declared.rules.TableRules.{TableRules}
-use Rattle.rr_records.specs.Headline.{KeepsTables}
-use Rattle.rr_records.specs.Schedules.{of_tables}
-use Rattle.rr_records.specs.Words.{in_words}
-use Rattle.rr_records.specs.World.{TableRequest, World}
-use Rattle.rr_schedules.specs.Laws.{at_first}
-use Rattle.rr_schedules.specs.Schedule.{Again, Commit, Cut, Done, Ending, EventOf, Failed, Happens, IsImageOfOne, Opened, Opening, Refused, Runs, SystemOf, acknowledged_after, pending_after}
-use Rattle.rr_schedules.specs.Schedule as schedule
+use Rattle.rr_tables.specs.declared.records.rules.TableRules.{TableRules}
+use Rattle.rr_tables.specs.Records.Headline.{KeepsTables}
+use Rattle.rr_tables.specs.Records.Schedules.{of_tables}
+use Rattle.rr_tables.specs.Records.Words.{in_words}
+use Rattle.rr_tables.specs.Records.World.{TableRequest, World}
+use Rattle.rr_images.specs.Schedules.Laws.{at_first}
+use Rattle.rr_images.specs.Schedules.Schedule.{Again, Commit, Cut, Done, Ending, EventOf, Failed, Happens, IsImageOfOne, Opened, Opening, Refused, Runs, SystemOf, acknowledged_after, pending_after}
+use Rattle.rr_images.specs.Schedules.Schedule as schedule
 use Rattle.rr_serve.specs.Lines.{taken}
 use Rattle.rr_store.specs.declared.fault.Fault.{Fault}
 use Rattle.rr_store.specs.declared.fault.Fault.TheVariants as F
@@ -29,7 +29,7 @@ use Rattle.rr_store.specs.Held.{Held}
 use Rattle.rr_store.specs.Holding.{Carries, IsUnchanged, disk_of, held_of}
 use Rattle.rr_store.specs.Sessions.{By_commit, By_open, Ended, Goes_on, Has, Is_cut, Is_killed, IsLeftIn, IsSafeSession, Left, Lies, Makes, Owner, Returns, Session, state_under}
 use Rattle.rr_store.proofs.Sessions.{Ends, goes_behind}
-use Rattle.rr_worlds.specs.World as words
+use Rattle.rr_reading.specs.Worlds.World as words
 use Rattle.rr_world_laws.specs.Sessions.{left_by}
 use Rattle.rr_world_laws.specs.Services.{AreOfLines, AreSafeServices, AreServed, IsCutOff, IsSafeService, ProgramsGoOn, ServicesGoOn, SessionsJoin, accepted, accepted_of, behind}
 use Rattle.rr_world_laws.proofs.Sessions.{on_behind}

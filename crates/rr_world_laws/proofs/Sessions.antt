@@ -4,16 +4,16 @@ use Rattle.rr_disk.specs.Disk.{DiskState, IsImage}
 use Rattle.rr_disk.specs.Moments.{EachImage}
 use Rattle.rr_kit.specs.declared.kit.Kit.{Kit}
 use Rattle.rr_kit.specs.Kits.{KitTexts, SpellsKit}
-use Rattle.rr_records.specs.Headline.{KeepsTablesOr, KeepsTables}
-use Rattle.rr_records.specs.Schedules.{of_tables}
-use Rattle.rr_records.specs.Words.{IsInWords, KeepCommands, in_words}
-use Rattle.rr_records.specs.World.{Follows, TableRequest, World, world_after}
-use Rattle.rr_records.proofs.WordLemmas.{are_in_words, one_of_commands}
-use Rattle.rr_records.proofs.WorldLemmas.{keep_after}
-use Rattle.rr_schedules.specs.Laws.{at_first}
-use Rattle.rr_schedules.specs.Schedule as schedule
-use Rattle.rr_schedules.specs.Schedule.{EventOf, SystemOf}
-use Rattle.rr_worlds.specs.World as words
+use Rattle.rr_tables.specs.Records.Headline.{KeepsTablesOr, KeepsTables}
+use Rattle.rr_tables.specs.Records.Schedules.{of_tables}
+use Rattle.rr_tables.specs.Records.Words.{IsInWords, KeepCommands, in_words}
+use Rattle.rr_tables.specs.Records.World.{Follows, TableRequest, World, world_after}
+use Rattle.rr_tables.proofs.RecordLemmas.WordLemmas.{are_in_words, one_of_commands}
+use Rattle.rr_tables.proofs.RecordLemmas.WorldLemmas.{keep_after}
+use Rattle.rr_images.specs.Schedules.Laws.{at_first}
+use Rattle.rr_images.specs.Schedules.Schedule as schedule
+use Rattle.rr_images.specs.Schedules.Schedule.{EventOf, SystemOf}
+use Rattle.rr_reading.specs.Worlds.World as words
 use Rattle.rr_store.specs.Events.{world_in}
 use Rattle.rr_store.specs.Files.{AreTablesOf}
 use Rattle.rr_store.specs.Holding.{Carries, disk_of, held_of}

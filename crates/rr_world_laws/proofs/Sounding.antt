@@ -34,11 +34,11 @@ use Rattle.rr_code.specs.Request.{IsRequest}
 use Rattle.rr_code.specs.Players.{ArePlayers}
 use Rattle.rr_laws.specs.Best.{BestRunsWereBest}
 use Rattle.rr_laws.specs.Sound.{AreAccepted, ArePlayed, IsSoundTable, KitsNameCorporations, NamesCorporations, PlaysGoOn, TablesStaySound}
-use Rattle.rr_records.specs.Fault.{of_table}
-use Rattle.rr_records.specs.Headline.{WhateverComes}
-use Rattle.rr_records.specs.Played.{ArePlayedTables}
-use Rattle.rr_records.specs.Words.{AreCommands, KeepCommands}
-use Rattle.rr_records.specs.World.{Follows, IsLawfulIn, TableRequest, TableState, World, present_stamp, state_after, step_judgement, table_named, world_after, world_judgement}
+use Rattle.rr_tables.specs.Records.Fault.{of_table}
+use Rattle.rr_tables.specs.Records.Headline.{WhateverComes}
+use Rattle.rr_tables.specs.Records.Played.{ArePlayedTables}
+use Rattle.rr_tables.specs.Records.Words.{AreCommands, KeepCommands}
+use Rattle.rr_tables.specs.Records.World.{Follows, IsLawfulIn, TableRequest, TableState, World, present_stamp, state_after, step_judgement, table_named, world_after, world_judgement}
 use Rattle.rr_world_laws.specs.Worlds.{AreInOrder, FilesAreSound, HaveBestRuns, IsSoundWorld, WhateverComesIsSound, WorldsAreSound}
 
 abbrev HasPlayed : Kit → World → Type 0

@@ -1,8 +1,8 @@
 -- Each accepted request raises the sum of all stamps by one.
 use Rattle.std.proofs.Common.{◌≡◌, ◌+◌, List, [], ◌∷◌, ◌++◌, length, refl, ap, arith, length-append}
 use Rattle.rr_kit.specs.declared.kit.Kit.{Kit}
-use Rattle.rr_records.specs.World.{Follows, TableRequest, World, requests_in, world_after}
-use Rattle.rr_records.proofs.WorldLemmas.{requests_after}
+use Rattle.rr_tables.specs.Records.World.{Follows, TableRequest, World, requests_in, world_after}
+use Rattle.rr_tables.proofs.RecordLemmas.WorldLemmas.{requests_after}
 use Rattle.rr_world_laws.specs.Worlds.{WorldsDiffer}
 
 requests_follow : (kit : Kit) (old new : World) (rs : List TableRequest) → Follows kit old rs new → requests_in new ≡ requests_in old + length rs

@@ -9,8 +9,8 @@ use Rattle.rr_images.proofs.OneWorld.{IsThere, one_holding_there, there_of}
 use Rattle.rr_images.proofs.Refusing.{stands_is_not_refused}
 use Rattle.rr_kit.specs.declared.kit.Kit.{Kit}
 use Rattle.rr_kit.specs.Kits.{IsWrongKit, KitTexts, SpellsKit}
-use Rattle.rr_opening.specs.Opened.{HasDamagedRecord}
-use Rattle.rr_opening.proofs.Refusals.{damaged_record_refused, stands_no_verdict}
+use Rattle.rr_log.specs.Opening.Opened.{HasDamagedRecord}
+use Rattle.rr_log.proofs.OpeningLemmas.Refusals.{damaged_record_refused, stands_no_verdict}
 use Rattle.rr_pages.specs.declared.root.Root.{Root}
 use Rattle.rr_pages.proofs.ChoosingLemmas.{one_taken, taken_store}
 use Rattle.rr_reading.specs.declared.fault.Fault.TheVariants as R
@@ -18,26 +18,26 @@ use Rattle.rr_reading.specs.Held.{Held, chains_of, holding_of}
 use Rattle.rr_reading.specs.Laws.{NamesChains}
 use Rattle.rr_reading.specs.Reading.{Holds}
 use Rattle.rr_reading.proofs.Standing.{held_is_read}
-use Rattle.rr_records.specs.Played.{ArePlayedTables, IsPlayedWorld}
-use Rattle.rr_records.specs.Taking.{table_files}
-use Rattle.rr_records.specs.Words.{IsInWords, in_words, kit_texts}
-use Rattle.rr_records.specs.World.{World}
-use Rattle.rr_records.proofs.PlayedLemmas.{standing_have_played_bases, tables_of_played_are_played}
-use Rattle.rr_records.proofs.TakingLemmas.{files_are_exact}
-use Rattle.rr_records.proofs.WordLemmas.{are_in_words, of_form, one_in_words}
-use Rattle.rr_recovery.specs.declared.fault.Damage.{Damage}
-use Rattle.rr_recovery.specs.declared.fault.Damage.TheVariants as D
-use Rattle.rr_recovery.specs.Recovery.{HasBadRecord, IsBase, IsDamage}
-use Rattle.rr_recovery.specs.Replaying.{BreaksOff}
-use Rattle.rr_recovery.specs.Texts.{texts_in}
-use Rattle.rr_recovery.proofs.BaseLemmas.{base_written}
+use Rattle.rr_tables.specs.Records.Played.{ArePlayedTables, IsPlayedWorld}
+use Rattle.rr_tables.specs.Records.Taking.{table_files}
+use Rattle.rr_tables.specs.Records.Words.{IsInWords, in_words, kit_texts}
+use Rattle.rr_tables.specs.Records.World.{World}
+use Rattle.rr_tables.proofs.RecordLemmas.PlayedLemmas.{standing_have_played_bases, tables_of_played_are_played}
+use Rattle.rr_tables.proofs.RecordLemmas.TakingLemmas.{files_are_exact}
+use Rattle.rr_tables.proofs.RecordLemmas.WordLemmas.{are_in_words, of_form, one_in_words}
+use Rattle.rr_pages.specs.declared.fault.Damage.{Damage}
+use Rattle.rr_pages.specs.declared.fault.Damage.TheVariants as D
+use Rattle.rr_store.specs.Recovery.Telling.{HasBadRecord, IsBase, IsDamage}
+use Rattle.rr_store.specs.Recovery.Replaying.{BreaksOff}
+use Rattle.rr_store.specs.Recovery.Texts.{texts_in}
+use Rattle.rr_store.proofs.RecoveryLemmas.BaseLemmas.{base_written}
 use Rattle.rr_store.specs.declared.fault.Fault.TheVariants as S
 use Rattle.rr_store.specs.Files.{AreTablesOf}
 use Rattle.rr_store.proofs.Kits.{right_is_not_wrong}
 use Rattle.rr_store.proofs.Recovering.{broken_off, spelled_texts}
-use Rattle.rr_worlds.specs.Spelling.{Spells}
-use Rattle.rr_worlds.specs.World as words
-use Rattle.rr_worlds.proofs.Exact.{forms_spelled, one_world}
+use Rattle.rr_reading.specs.Worlds.Spelling.{Spells}
+use Rattle.rr_reading.specs.Worlds.World as words
+use Rattle.rr_reading.proofs.WorldLemmas.Exact.{forms_spelled, one_world}
 use Rattle.rr_world_laws.specs.Worlds.{RightKitsAreNotWrong, StandingFilesOpen}
 
 pub right_kits_are_not_wrong : RightKitsAreNotWrong
@@ -122,13 +122,14 @@ module _ (file : List ℕ) (texts : KitTexts) (kit : Kit) (tables : World) (righ
       stands_is_not_refused table_files files_are_exact file (in_words texts tables) stands (damaged_record_refused table_files file has holds damaged)
 
   keeps_rules : (damage : Damage) → IsDamage has damage → ⊥
-  keeps_rules D.Words bad = bad stands.base (base_written has was_played.tables stands.base (record { spells = spells_base; based = was_played.spelled }))
+  keeps_rules D.Form bad = bad stands.base (base_written has was_played.tables stands.base (record { spells = spells_base; based = was_played.spelled }))
   keeps_rules D.Kit bad = right_kits_are_not_wrong texts kit right (subst (λ (t : KitTexts). IsWrongKit t) same_texts bad.wrong)
   keeps_rules D.Kept bad =
       let same = one_world has.root.version has.chain.text (texts_of (chains_of has.texts has.tables)) stands.base bad.world spells_base bad.written.spells in
       let based = subst (λ (w : words.World). IsInWords was_played.tables w) same was_played.spelled in
       bad.unplayed was_played.tables based (all_played bad.kit was_played.tables bad.world (record { spells = bad.written.spells; based = based }) bad.right)
   keeps_rules D.Records bad = all_taken bad bad.bad
+  keeps_rules _ bad = bad
 
 pub standing_files_open : StandingFilesOpen
 standing_files_open file texts tables S.DeviceFailed stands refused = inl refl

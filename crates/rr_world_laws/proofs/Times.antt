@@ -7,9 +7,9 @@ use Rattle.rr_kit.specs.Kits.{KitTexts}
 use Rattle.rr_log.specs.declared.log.Log.{Log}
 use Rattle.rr_log.specs.Log as log
 use Rattle.rr_moderator.specs.Durability.{CommitsOnce, IsToldOf, Makes_none, Makes_one, Told, tells_acceptance, told}
-use Rattle.rr_records.specs.declared.rules.TableRules.{TableRules}
-use Rattle.rr_records.specs.Headline.{KeepsTablesOr}
-use Rattle.rr_records.specs.World.{Follows, TableRequest, World, world_after}
+use Rattle.rr_tables.specs.declared.records.rules.TableRules.{TableRules}
+use Rattle.rr_tables.specs.Records.Headline.{KeepsTablesOr}
+use Rattle.rr_tables.specs.Records.World.{Follows, TableRequest, World, world_after}
 use Rattle.rr_serve.specs.Lines.{taken}
 use Rattle.rr_store.specs.declared.fault.Fault.{Fault}
 use Rattle.rr_store.specs.declared.store.Store.{Store}

@@ -8,12 +8,12 @@ use Rattle.rr_kit.specs.declared.kit.Kit.{Kit}
 use Rattle.rr_kit.specs.Kits.{KitTexts, SpellsKit}
 use Rattle.rr_moderator.specs.Durability.{MayPend, SpeaksAndLasts, Told, tells_acceptance, told}
 use Rattle.rr_moderator.specs.Serving.{AsksFor}
-use Rattle.rr_records.specs.Headline.{KeepsTables, KeepsTablesOr}
-use Rattle.rr_records.specs.Schedules.{of_tables}
-use Rattle.rr_records.specs.Words.{in_words}
-use Rattle.rr_records.specs.World.{Follows, TableRequest, World}
-use Rattle.rr_schedules.specs.Laws.{at_first}
-use Rattle.rr_schedules.specs.Schedule.{EventOf, IsImageOfOne, Opened, Opening, Runs, SystemOf}
+use Rattle.rr_tables.specs.Records.Headline.{KeepsTables, KeepsTablesOr}
+use Rattle.rr_tables.specs.Records.Schedules.{of_tables}
+use Rattle.rr_tables.specs.Records.Words.{in_words}
+use Rattle.rr_tables.specs.Records.World.{Follows, TableRequest, World}
+use Rattle.rr_images.specs.Schedules.Laws.{at_first}
+use Rattle.rr_images.specs.Schedules.Schedule.{EventOf, IsImageOfOne, Opened, Opening, Runs, SystemOf}
 use Rattle.rr_serve.specs.Lines.{taken}
 use Rattle.rr_serve.specs.Serving.{Served}
 use Rattle.rr_store.specs.Events.{Opens, Passes, world_in}

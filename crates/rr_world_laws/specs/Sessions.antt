@@ -5,10 +5,10 @@ use Rattle.rr_disk.specs.Disk.{DiskState}
 use Rattle.rr_disk.specs.Moments.{EachImage}
 use Rattle.rr_kit.specs.declared.kit.Kit.{Kit}
 use Rattle.rr_kit.specs.Kits.{KitTexts, SpellsKit}
-use Rattle.rr_records.specs.Headline.{KeepsTables}
-use Rattle.rr_records.specs.Schedules.{of_tables}
-use Rattle.rr_records.specs.World.{World}
-use Rattle.rr_schedules.specs.Schedule.{EventOf}
+use Rattle.rr_tables.specs.Records.Headline.{KeepsTables}
+use Rattle.rr_tables.specs.Records.Schedules.{of_tables}
+use Rattle.rr_tables.specs.Records.World.{World}
+use Rattle.rr_images.specs.Schedules.Schedule.{EventOf}
 use Rattle.rr_store.specs.Files.{AreTablesOf}
 use Rattle.rr_store.specs.Holding.{disk_of, held_of}
 use Rattle.rr_store.specs.Sessions.{Has, IsSafeSession, Left, Lies, Owner, Session, state_under}

@@ -8,12 +8,12 @@ use Rattle.rr_kit.specs.Kits.{IsWrongKit, KitTexts, SpellsKit}
 use Rattle.rr_game.specs.Play.{play, players_of}
 use Rattle.rr_laws.specs.Best.{HasBestRuns}
 use Rattle.rr_laws.specs.Sound.{IsSoundTable, NamesCorporations}
-use Rattle.rr_records.specs.Headline.{IsSafe, KeepsTables}
-use Rattle.rr_records.specs.Schedules.{of_tables}
-use Rattle.rr_records.specs.Words.{in_words}
-use Rattle.rr_records.specs.World.{Follows, IsLawfulIn, TableRequest, World, world_after}
-use Rattle.rr_schedules.specs.Laws.{at_first}
-use Rattle.rr_schedules.specs.Schedule.{EventOf, Runs, SystemOf}
+use Rattle.rr_tables.specs.Records.Headline.{IsSafe, KeepsTables}
+use Rattle.rr_tables.specs.Records.Schedules.{of_tables}
+use Rattle.rr_tables.specs.Records.Words.{in_words}
+use Rattle.rr_tables.specs.Records.World.{Follows, IsLawfulIn, TableRequest, World, world_after}
+use Rattle.rr_images.specs.Schedules.Laws.{at_first}
+use Rattle.rr_images.specs.Schedules.Schedule.{EventOf, Runs, SystemOf}
 use Rattle.rr_store.specs.declared.fault.Fault.{Fault}
 use Rattle.rr_store.specs.Files.{StandsFor}
 use Rattle.rr_store.specs.Opening.{IsNoVerdict, Refuses}

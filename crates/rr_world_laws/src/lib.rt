@@ -22,7 +22,7 @@ use rr_store::Store;
 pub fn whatever_comes_is_sound()
     ensures { WhateverComesIsSound }
 {
-    rr_records::laws::prefix();
+    rr_tables::records::laws::prefix();
     rr_laws::plays_go_on();
     rr_laws::sound();
     rr_laws::best_runs_were_best();

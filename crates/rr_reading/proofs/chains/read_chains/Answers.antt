@@ -1,7 +1,7 @@
 use Rattle.std.proofs.Common.{ℕ, ◌+◌, List, sym, ◌∙◌, ap, map, take, get_or, arith, rules}
 use Rattle.std.proofs.lemmas.Result.{err_from_is_err_and}
-use Rattle.rr_dir.specs.declared.directory.ChainRef.{ChainRef}
-use Rattle.rr_dir.specs.Heads.{head_of}
+use Rattle.rr_reading.specs.declared.dir.directory.ChainRef.{ChainRef}
+use Rattle.rr_reading.specs.Dir.Heads.{head_of}
 use Rattle.rr_disk.specs.Disk.{DiskState}
 use Rattle.rr_pages.specs.PageSet.{marks_of}
 use Rattle.rr_reading.specs.Chains.{all_held}

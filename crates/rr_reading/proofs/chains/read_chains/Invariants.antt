@@ -1,5 +1,5 @@
 use Rattle.std.proofs.Common.{◌≡◌, length, take, map, None}
-use Rattle.rr_dir.specs.Heads.{head_of}
+use Rattle.rr_reading.specs.Dir.Heads.{head_of}
 use Rattle.rr_pages.specs.PageSet.{marks_of}
 use Rattle.rr_reading.specs.Chains.{all_held, AreRead}
 use Rattle.rr_reading.proofs.chains.read_chains.Given as goal

@@ -1,10 +1,10 @@
 use Rattle.std.proofs.Common.{◌≡◌, ℕ, List, map, length, sym, ◌∙◌, ap, subst, arith}
 use Rattle.std.proofs.lemmas.Bool.{iff_false}
 use Rattle.std.proofs.lemmas.Result.{err_from_is_err_and}
-use Rattle.rr_dir.specs.declared.directory.ChainRef.{ChainRef}
-use Rattle.rr_dir.specs.declared.directory.TableEntry.{TableEntry}
-use Rattle.rr_dir.specs.Directory.{directory_of}
-use Rattle.rr_dir.specs.Heads.{head_of}
+use Rattle.rr_reading.specs.declared.dir.directory.ChainRef.{ChainRef}
+use Rattle.rr_reading.specs.declared.dir.directory.TableEntry.{TableEntry}
+use Rattle.rr_reading.specs.Dir.Directory.{directory_of}
+use Rattle.rr_reading.specs.Dir.Heads.{head_of}
 use Rattle.rr_disk.specs.Disk.{DiskState}
 use Rattle.rr_pages.specs.PageSet.{marks_of}
 use Rattle.rr_pages.specs.declared.reading.ReadChain.{ReadChain}

@@ -1,5 +1,5 @@
 use Rattle.std.proofs.Common.{◌≡◌, List, length, get_or, ap, subst, arith}
-use Rattle.rr_dir.specs.declared.directory.TableEntry.{TableEntry}
+use Rattle.rr_reading.specs.declared.dir.directory.TableEntry.{TableEntry}
 use Rattle.rr_reading.proofs.ChainLemmas.{named_heads, named_each, named_more}
 use Rattle.rr_reading.proofs.named.named_chains.Goals as goal
 

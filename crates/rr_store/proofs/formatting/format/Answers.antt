@@ -1,7 +1,7 @@
 use Rattle.std.proofs.Common.{◌⊎◌, ℕ, List, [], inl}
 use Rattle.rr_disk.proofs.MomentLemmas.{started}
 use Rattle.rr_pages.specs.Choosing.{IsNoStore}
-use Rattle.rr_records.specs.Headline.{KeepsTables}
+use Rattle.rr_tables.specs.Records.Headline.{KeepsTables}
 use Rattle.rr_store.specs.Lent.{lent_texts}
 use Rattle.rr_store.proofs.formatting.format.Goals as goal
 

@@ -4,7 +4,7 @@ use Rattle.rr_log.specs.declared.fault.Fault.{Fault}
 use Rattle.rr_log.specs.declared.fault.Fault.TheVariants as F
 use Rattle.rr_log.specs.declared.log.Log.{Log}
 use Rattle.rr_log.specs.Log.{ticks_left}
-use Rattle.rr_records.specs.declared.rules.TableRules.{TableRules}
+use Rattle.rr_tables.specs.declared.records.rules.TableRules.{TableRules}
 use Rattle.rr_store.proofs.Keepings.{Made, Tried, kept_never, kept_once, kept_twice, kept_without, none_made}
 use Rattle.rr_store.proofs.keeping.keep_record.Goals.{then-ticks_left-gt0+in_ok-checkpoint, else-ticks_left-gt0}
 use Rattle.rr_store.proofs.keeping.keep_record.Goals as goal

@@ -1,9 +1,9 @@
 use Rattle.std.proofs.Common.{sym, subst}
 use Rattle.rr_kit.specs.Kits.{KitTexts, SpellsKit}
 use Rattle.rr_log.specs.Carrying.{Carries}
-use Rattle.rr_opening.specs.Opened.{held_by}
-use Rattle.rr_records.specs.Taking.{Takes}
-use Rattle.rr_records.specs.Words.{in_words}
+use Rattle.rr_log.specs.Opening.Opened.{held_by}
+use Rattle.rr_tables.specs.Records.Taking.{Takes}
+use Rattle.rr_tables.specs.Records.Words.{in_words}
 use Rattle.rr_tables.specs.Tables.{world_of}
 use Rattle.rr_store.proofs.Recovering.{holds_kit, is_base, of_now, texts_same}
 use Rattle.rr_store.proofs.opening.begin.Goals as goal

@@ -1,11 +1,11 @@
 use Rattle.std.proofs.lemmas.Result.{err_from_is_err_and}
 use Rattle.rr_images.proofs.OneWorld.{kept_stands}
-use Rattle.rr_opening.specs.Opened.{held_by}
+use Rattle.rr_log.specs.Opening.Opened.{held_by}
 use Rattle.rr_reading.specs.Laws.{NamesChains}
-use Rattle.rr_records.specs.Taking.{table_files}
-use Rattle.rr_records.specs.Words.{in_words}
-use Rattle.rr_records.proofs.TakingLemmas.{files_are_exact}
-use Rattle.rr_worlds.proofs.Exact.{forms_spelled}
+use Rattle.rr_tables.specs.Records.Taking.{table_files}
+use Rattle.rr_tables.specs.Records.Words.{in_words}
+use Rattle.rr_tables.proofs.RecordLemmas.TakingLemmas.{files_are_exact}
+use Rattle.rr_reading.proofs.WorldLemmas.Exact.{forms_spelled}
 use Rattle.rr_store.proofs.Openings.{calm_read, calm_recovered, refuses_read, refuses_recovered, wants_memory}
 use Rattle.rr_store.proofs.Recovering.{no_damage}
 use Rattle.rr_store.proofs.opening.find.Goals as goal

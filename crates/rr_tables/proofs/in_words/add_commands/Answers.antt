@@ -1,5 +1,5 @@
 use Rattle.std.proofs.Common.{ℕ, List, sym, subst, arith}
-use Rattle.rr_dir.specs.Kept.{IsShort}
+use Rattle.rr_reading.specs.Dir.Kept.{IsShort}
 use Rattle.rr_tables.proofs.WordLemmas.{short_at}
 use Rattle.rr_tables.proofs.in_words.add_commands.Goals as goal
 

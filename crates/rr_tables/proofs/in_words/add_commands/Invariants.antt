@@ -1,5 +1,5 @@
 use Rattle.std.proofs.Common.{◌≡◌, take}
-use Rattle.rr_snapshot.specs.Snapshot.{table_of}
+use Rattle.rr_checkpoint.specs.Plan.Transcript.{table_of}
 use Rattle.rr_tables.specs.InWords.{with_commands}
 use Rattle.rr_tables.proofs.in_words.add_commands.Given as goal
 

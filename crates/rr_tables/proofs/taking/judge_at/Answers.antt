@@ -1,8 +1,8 @@
 use Rattle.std.proofs.Common.{None, refl, arith}
 use Rattle.rr_hist.specs.Tables.{kept_in}
 use Rattle.rr_hist.specs.Verdict.{request_judgement}
-use Rattle.rr_records.specs.declared.fault.Fault.TheVariants as R
-use Rattle.rr_records.specs.Fault.{of_table}
+use Rattle.rr_tables.specs.declared.records.fault.Fault.TheVariants as R
+use Rattle.rr_tables.specs.Records.Fault.{of_table}
 use Rattle.rr_turns.specs.Judgement.{judgement_map}
 use Rattle.rr_turns.proofs.JudgementLemmas.{lawful-wants, map-is}
 use Rattle.rr_tables.proofs.WritableLemmas.{writable_changed}

@@ -1,7 +1,7 @@
 use Rattle.std.proofs.Common.{sym, subst}
 use Rattle.rr_hist.specs.declared.table.Table.{Table}
 use Rattle.rr_hist.specs.Tables.{kept_in}
-use Rattle.rr_records.specs.World.{TableState}
+use Rattle.rr_tables.specs.Records.World.{TableState}
 use Rattle.rr_tables.specs.Writable.{IsWritable}
 use Rattle.rr_tables.proofs.WritableLemmas.{writable_opened}
 use Rattle.rr_tables.proofs.taking.open_table.Goals as goal

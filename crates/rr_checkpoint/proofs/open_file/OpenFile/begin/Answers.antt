@@ -23,7 +23,7 @@ returns-in_err-shut-clause-stops g c = λ honest world carries.
     let stays = g.met.D.Disk.content_may_stay c.args.disk.now (c.in_err-shut.ensures.honest honest) in
     let none = isnt_begun file.place.begun (carries.layout.root.first + length carries.layout.near) carries.layout.far (sym c.is_some.ensures ∙ c.if-is_some.false) carries.tells.begun in
     weaker (c.in_err-shut.ensures.any_moment honest) (λ image. Keeps g.C.Codec.codec image world)
-    (begin_stops g.C.Codec.codec file (g.D.Disk.state c.args.disk.now) world stays carries none c.half_of.result c.half_of.ensures c.next_gate.result c.next_gate.ensures.place)
+    (begin_stops g.C.Codec.codec file (g.D.Disk.state c.args.disk.now) world stays carries none c.other.result c.other.ensures c.next_gate.result c.next_gate.ensures.place)
 
 pub returns-clause-stops : goal.returns-clause-stops
 returns-clause-stops g c = λ honest world carries.
@@ -31,14 +31,14 @@ returns-clause-stops g c = λ honest world carries.
     let stays = g.met.D.Disk.content_may_stay c.args.disk.now (c.in_ok-shut.ensures.honest honest) in
     let none = isnt_begun file.place.begun (carries.layout.root.first + length carries.layout.near) carries.layout.far (sym c.is_some.ensures ∙ c.if-is_some.false) carries.tells.begun in
     weaker (c.in_ok-shut.ensures.any_moment honest) (λ image. Keeps g.C.Codec.codec image world)
-    (begin_stops g.C.Codec.codec file (g.D.Disk.state c.args.disk.now) world stays carries none c.half_of.result c.half_of.ensures c.next_gate.result c.next_gate.ensures.place)
+    (begin_stops g.C.Codec.codec file (g.D.Disk.state c.args.disk.now) world stays carries none c.other.result c.other.ensures c.next_gate.result c.next_gate.ensures.place)
 
 pub returns-clause-carries : goal.returns-clause-carries
 returns-clause-carries g c = λ honest world carries plan holding is_plan coming.
     let file = c.args.self.now in
     let stays = g.met.D.Disk.content_may_stay c.args.disk.now (c.in_ok-shut.ensures.honest honest) in
     let none = isnt_begun file.place.begun (carries.layout.root.first + length carries.layout.near) carries.layout.far (sym c.is_some.ensures ∙ c.if-is_some.false) carries.tells.begun in
-    begin_carries g.C.Codec.codec file (g.D.Disk.state c.args.disk.now) world stays carries none c.half_of.result c.half_of.ensures c.next_gate.result c.next_gate.ensures.place
+    begin_carries g.C.Codec.codec file (g.D.Disk.state c.args.disk.now) world stays carries none c.other.result c.other.ensures c.next_gate.result c.next_gate.ensures.place
     plan holding is_plan coming (g.D.Disk.state c.shut.new.disk) (c.in_ok-shut.ensures.done honest)
 
 pub returns-in_err-shut-clause-device : goal.returns-in_err-shut-clause-device

@@ -4,7 +4,7 @@ use Rattle.rr_disk.proofs.MomentLemmas.{started, stays}
 use Rattle.rr_images.specs.Layout.{Keeps, Layout, Begun, far_lines}
 use Rattle.rr_log.specs.Carrying.{Carries, IsPlanned}
 use Rattle.rr_log.proofs.Carried.{kept_now, begun_carries}
-use Rattle.rr_worlds.specs.Spelling.{worlds}
+use Rattle.rr_reading.specs.Worlds.Spelling.{worlds}
 use Rattle.rr_log.proofs.log.Log.begin.Goals as goal
 
 pub returns-in_err-plan-clause-stops : goal.returns-in_err-plan-clause-stops

@@ -2,7 +2,7 @@ use Rattle.std.proofs.Common.{◌∙◌, Err, ap}
 use Rattle.rr_disk.proofs.MomentLemmas.{started, joins}
 use Rattle.rr_images.specs.Layout.{Keeps}
 use Rattle.rr_log.proofs.Carried.{device_more, device_so, kept_now, newer_begun, newer_under_way, ok_so, takes_root}
-use Rattle.rr_worlds.specs.Spelling.{worlds}
+use Rattle.rr_reading.specs.Worlds.Spelling.{worlds}
 use Rattle.std.proofs.lemmas.Result.{err_from_is_err_and}
 use Rattle.rr_log.proofs.log.Log.checkpoint.Goals as goal
 

@@ -7,8 +7,8 @@ use Rattle.rr_images.specs.Steps.{with_line}
 use Rattle.rr_log.specs.Carrying.{Carries}
 use Rattle.rr_log.specs.declared.fault.Fault.TheVariants as F
 use Rattle.rr_log.proofs.Carried.{full_on, is_full, is_put_off, kept_now, no_more_room, only_breaks, renewed_line, renews_now, renews_refused, same_count, same_disk, same_images, told_behind}
-use Rattle.rr_worlds.specs.Spelling.{worlds}
-use Rattle.rr_worlds.specs.World.{World}
+use Rattle.rr_reading.specs.Worlds.Spelling.{worlds}
+use Rattle.rr_reading.specs.Worlds.World.{World}
 use Rattle.rr_log.specs.Log.{place_of}
 use Rattle.rr_log.proofs.log.Log.keep.Goals as goal
 

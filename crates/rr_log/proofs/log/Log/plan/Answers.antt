@@ -25,8 +25,8 @@ pub returns-in_ok-plan-in-None-clause-plan : goal.returns-in_ok-plan-in-None-cla
 returns-in_ok-plan-in-None-clause-plan g c = λ state world lent carries.
     let takes = g.R.Rules.takes in
     let log = c.args.self.now in
-    let snapshot = c.in_ok-snapshot-in-None.snapshot in
+    let transcript = c.in_ok-transcript-in-None.transcript in
     planned takes log state world carries c.requires c.plan_of-in-None.new.writer c.plan_of-in-None.ensures.only c.in_ok-plan-in-None.plan
     (c.in_ok-plan-in-None.ensures.plan state world carries.carried
-    (of_layout takes log state world carries snapshot
-    (lent_are takes log state world carries c.requires c.in-None.is (g.T.TablesInWords.tables c.args.tables.now) lent snapshot c.in_ok-snapshot-in-None.ensures.tables)))
+    (of_layout takes log state world carries transcript
+    (lent_are takes log state world carries c.requires c.in-None.is (g.T.TablesInWords.tables c.args.tables.now) lent transcript c.in_ok-transcript-in-None.ensures.tables)))

@@ -2,7 +2,7 @@ use Rattle.std.proofs.Common.{◌∙◌, sym, arith}
 use Rattle.rr_disk.proofs.MomentLemmas.{started}
 use Rattle.rr_images.specs.Layout.{Keeps}
 use Rattle.rr_log.proofs.Carried.{is_want, kept_now}
-use Rattle.rr_worlds.specs.Spelling.{worlds}
+use Rattle.rr_reading.specs.Worlds.Spelling.{worlds}
 use Rattle.rr_log.proofs.log.Log.step.Goals as goal
 
 pub returns-then-ticks_left-gt0-clause-carries : goal.returns-then-ticks_left-gt0-clause-carries

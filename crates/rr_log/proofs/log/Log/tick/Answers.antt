@@ -1,7 +1,7 @@
 use Rattle.rr_disk.proofs.MomentLemmas.{started}
 use Rattle.rr_images.specs.Layout.{Keeps}
 use Rattle.rr_log.proofs.Carried.{kept_now}
-use Rattle.rr_worlds.specs.Spelling.{worlds}
+use Rattle.rr_reading.specs.Worlds.Spelling.{worlds}
 use Rattle.rr_log.proofs.log.Log.tick.Goals as goal
 
 pub returns-then-self-clause-stops : goal.returns-then-self-clause-stops

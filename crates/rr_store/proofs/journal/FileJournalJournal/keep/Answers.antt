@@ -1,5 +1,5 @@
 use Rattle.std.proofs.Common.{◌∙◌, ℕ, List, Ok, map, sym, subst}
-use Rattle.rr_records.specs.Words.{table_in_words}
+use Rattle.rr_tables.specs.Records.Words.{table_in_words}
 use Rattle.rr_tables.specs.Tables.{world_of}
 use Rattle.rr_store.specs.Keeping.{Keeping}
 use Rattle.rr_store.proofs.Keepings.{keeps_again, keeps_nothing}

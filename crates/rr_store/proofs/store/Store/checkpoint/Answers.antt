@@ -1,6 +1,6 @@
 use Rattle.std.proofs.Common.{refl}
 use Rattle.std.proofs.lemmas.Result.{err_from_is_err_and}
-use Rattle.rr_records.specs.Words.{in_words}
+use Rattle.rr_tables.specs.Records.Words.{in_words}
 use Rattle.rr_store.specs.Holding.{held_of}
 use Rattle.rr_store.proofs.Steps.{steps_done, steps_refused}
 use Rattle.rr_store.proofs.store.Store.checkpoint.Goals as goal

@@ -4,7 +4,7 @@ use Rattle.indexmap.specs.IndexMap.{get}
 use Rattle.rr_code.specs.declared.command.Command.{Command}
 use Rattle.rr_hist.specs.declared.table.Table.{Table}
 use Rattle.rr_hist.specs.Tables.{IsPlayed, kept_in}
-use Rattle.rr_records.specs.World.{TableState}
+use Rattle.rr_tables.specs.Records.World.{TableState}
 use Rattle.rr_turns.specs.declared.request.Request.{Request}
 use Rattle.rr_tables.specs.Changing.{IsChangeOf, IsWritableChange}
 use Rattle.rr_tables.specs.Tables.{kept_in_box, world_by}

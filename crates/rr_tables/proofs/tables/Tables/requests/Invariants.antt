@@ -1,5 +1,5 @@
 use Rattle.std.proofs.Common.{◌≡◌, ◌*◌, ◌≤◌, take}
-use Rattle.rr_records.specs.World.{requests_in}
+use Rattle.rr_tables.specs.Records.World.{requests_in}
 use Rattle.rr_tables.specs.Tables.{world_of}
 use Rattle.rr_tables.proofs.tables.Tables.requests.Given as goal
 

@@ -1,6 +1,6 @@
 use Rattle.std.proofs.Common.{◌∙◌, ap, option_map, sym}
 use Rattle.rr_hist.specs.declared.table.Table.{Table}
-use Rattle.rr_records.specs.World.{present_stamp}
+use Rattle.rr_tables.specs.Records.World.{present_stamp}
 use Rattle.rr_tables.specs.Tables.{kept_in_box}
 use Rattle.rr_tables.proofs.WorldLemmas.{named_by}
 use Rattle.rr_tables.proofs.tables.Tables.stamp.Goals as goal

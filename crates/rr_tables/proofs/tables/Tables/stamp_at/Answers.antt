@@ -1,6 +1,6 @@
 use Rattle.std.proofs.Common.{◌+◌, ◌∙◌, ℕ, take, sym, ap}
 use Rattle.rr_hist.specs.declared.table.Table.{Table}
-use Rattle.rr_records.specs.World.{requests_in}
+use Rattle.rr_tables.specs.Records.World.{requests_in}
 use Rattle.rr_tables.specs.Tables.{kept_in_box, world_by}
 use Rattle.rr_tables.proofs.WorldLemmas.{requests_more}
 use Rattle.rr_tables.proofs.tables.Tables.stamp_at.Goals as goal

@@ -1,0 +1,6 @@
+pub mod Frames
+pub mod TableLemmas
+pub mod TranscriptLemmas
+pub mod LaidTables
+pub mod DirectoryLemmas
+pub mod Plans

@@ -1,0 +1,173 @@
+-- The directory of a transcript's tables.
+use Rattle.std.proofs.Common.{Bool, ◌≡◌, ◌≢◌, ℕ, suc, ◌+◌, ◌^◌, ◌<◌, ◌≤◌, List, [], ◌∷◌, ◌++◌, length, map, refl, sym, ◌∙◌, ap, subst, arith, length-append}
+use Rattle.std.specs.List.{flat_map, All, AllPairs}
+use Rattle.std.proofs.lemmas.List.{length-map}
+use Rattle.std.proofs.lemmas.List.Elements.{All-nil, All-head, All-tail, All-cons}
+use Rattle.std.proofs.lemmas.List.Kept.{AllPairs-cons}
+use Rattle.std.proofs.lemmas.List.Sums.{sum_by-cons}
+use Rattle.rr_reading.specs.declared.dir.directory.KitChains.{KitChains}
+use Rattle.rr_reading.specs.declared.dir.directory.TableEntry.{TableEntry}
+use Rattle.rr_reading.specs.declared.dir.version.Version.TheVariants.{One}
+use Rattle.rr_reading.specs.Dir.Directory.{IsTable, AreTables, HaveOwnNames, spelling, spelled_kit, spelled_table, spelled_name, spelled_state}
+use Rattle.rr_reading.specs.Dir.Number.{spelled_number}
+use Rattle.rr_reading.proofs.DirLemmas.NumberLemmas.{length-spelled_number}
+use Rattle.rr_reading.proofs.DirLemmas.KeptLemmas.{length-first_commands}
+use Rattle.rr_reading.proofs.DirLemmas.TableLemmas.{length-spelled_kit, length-spelled_state}
+use Rattle.rr_checkpoint.proofs.Planning.{places_all}
+use Rattle.rr_images.specs.Holding.{HeldChain, texts_of}
+use Rattle.rr_images.specs.Laws.{OneLaid}
+use Rattle.rr_images.specs.Plans.{LaidChain, laid_as, laid_pages, AllFit}
+use Rattle.rr_images.proofs.Laid.{one_more_laid}
+use Rattle.rr_pages.specs.declared.chain.FreshPage.{FreshPage}
+use Rattle.rr_pages.specs.Laying.{head_of, joined, pages_for, FitEach}
+use Rattle.rr_pages.specs.Sets.{TakesFree, TooFewFree}
+use Rattle.rr_pages.specs.Writing.{fresh_of, IsLaid}
+use Rattle.rr_checkpoint.specs.declared.plan.table.TableTranscript.{TableTranscript}
+use Rattle.rr_checkpoint.specs.Plan.Laying.{directory_length, most_laid_pages, most_pages_for, needed_pages, AreTablesLaid}
+use Rattle.rr_checkpoint.specs.Plan.Transcript.{commands_of, table_of}
+use Rattle.rr_reading.specs.Worlds.Spelling.{entry_for, entries_for}
+use Rattle.rr_reading.specs.Worlds.World.{Table, text_for, AreShort}
+use Rattle.rr_checkpoint.proofs.PlanLemmas.LaidTables.{fresh_count, laid_few, laid_length, too_few_behind}
+use Rattle.rr_checkpoint.proofs.PlanLemmas.TableLemmas.{spelled_few}
+
+-- each entry is as long as its name asks
+tables_length : (chains : List HeldChain) (tables : List Table) → texts_of chains ≡ map text_for tables → length (flat_map spelled_table (entries_for chains tables)) + 50 ≡ directory_length tables
+tables_length [] [] same = omega arith
+tables_length [] (table ∷ tables) same = absurd (cc)
+tables_length (chain ∷ chains) [] same = absurd (cc)
+tables_length (chain ∷ chains) (table ∷ tables) same =
+    let rest : texts_of chains ≡ map text_for tables = cc in
+    let entry = entry_for chain table in
+    omega (
+      arith,
+      tables_length chains tables rest,
+      sum_by-cons (λ (t : Table). 29 + length t.name) table tables,
+      length-append (spelled_table entry) (flat_map spelled_table (entries_for chains tables)),
+      length-append (spelled_name entry.name) (spelled_state entry),
+      length-spelled_state entry,
+    )
+
+pub directory_counted : (kit : KitChains) (chains : List HeldChain) (tables : List Table) (entries : List TableEntry) (bytes : List ℕ) → texts_of chains ≡ map text_for tables → entries ≡ entries_for chains tables
+    → bytes ≡ spelling One (record { kit = kit; tables = entries }) → length bytes ≡ directory_length tables
+directory_counted kit chains tables entries bytes same named is =
+    let there = entries_for chains tables in
+    let all : bytes ≡ spelled_kit kit ++ (spelled_number 2 (length there) ++ flat_map spelled_table there) = is ∙ ap (λ (es : List TableEntry). spelling One (record { kit = kit; tables = es })) named in
+    omega (
+      arith,
+      ap (λ (xs : List ℕ). length xs) all,
+      length-append (spelled_kit kit) (spelled_number 2 (length there) ++ flat_map spelled_table there),
+      length-append (spelled_number 2 (length there)) (flat_map spelled_table there),
+      length-spelled_kit kit,
+      length-spelled_number 2 (length there),
+      tables_length chains tables same,
+    )
+
+-- there are no more entries than tables
+pub entries_few : (chains : List HeldChain) (tables : List Table) → length (entries_for chains tables) ≤ length tables
+entries_few [] tables = omega arith
+entries_few (chain ∷ chains) [] = omega arith
+entries_few (chain ∷ chains) (table ∷ tables) = omega (arith, entries_few chains tables)
+
+-- the commands of a transcript's tables are short
+pub all_short : (parts : List TableTranscript) → AreShort (map table_of parts)
+all_short [] = tt
+all_short (part ∷ parts) = (part.spelled.short, all_short parts)
+
+-- the first page of a chain that was laid
+pub head_under : (pages : List ℕ) (pieces : List (List ℕ)) → FitEach pages pieces → head_of pages < 2 ^ 64
+head_under [] pieces fit = omega arith
+head_under (page ∷ pages) [] fit = absurd fit
+head_under (page ∷ pages) (piece ∷ pieces) fit = omega (arith, fit.1)
+
+-- what the directory says of a table is of its form
+entry_fits : (chain : LaidChain) (part : TableTranscript) → joined chain.pieces ≡ text_for (table_of part) → FitEach chain.pages chain.pieces → 1 ≤ part.kept → IsTable (entry_for (laid_as chain) (table_of part))
+entry_fits chain part whole fit some =
+    let kept = length-first_commands part.kept part.bytes.items in
+    let few = spelled_few (commands_of part) part.spelled.short in
+    record {
+      named = part.named;
+      stamped = part.stamped;
+      floored = part.floored;
+      some_kept = omega (arith, kept, some);
+      few_kept = omega (arith, kept, part.few_kept);
+      is_chain = record { page = head_under chain.pages chain.pieces fit; long = omega (arith, ap (λ (xs : List ℕ). length xs) whole, few, kept, part.few_kept) };
+    }
+
+each_fits : (chains : List LaidChain) (parts : List TableTranscript) → texts_of (map laid_as chains) ≡ map text_for (map table_of parts) → AllFit chains → All (λ part. 1 ≤ part.kept) parts → All IsTable (entries_for (map laid_as chains) (map table_of parts))
+each_fits [] parts same fit some = All-nil IsTable
+each_fits (chain ∷ chains) [] same fit some = absurd (cc)
+each_fits (chain ∷ chains) (part ∷ parts) same fit some =
+    let whole : joined chain.pieces ≡ text_for (table_of part) = cc in
+    let rest : texts_of (map laid_as chains) ≡ map text_for (map table_of parts) = cc in
+    All-cons IsTable (entry_for (laid_as chain) (table_of part)) (entries_for (map laid_as chains) (map table_of parts))
+    (entry_fits chain part whole fit.0.each (All-head (λ (p : TableTranscript). 1 ≤ p.kept) part parts some))
+    (each_fits chains parts rest fit.1 (All-tail (λ (p : TableTranscript). 1 ≤ p.kept) part parts some))
+
+-- and it has a name of its own
+others_named : (name : List ℕ) (chains : List HeldChain) (parts : List TableTranscript) → All (λ (other : TableTranscript). name ≢ other.name) parts → All (λ (other : TableEntry). name ≢ other.name) (entries_for chains (map table_of parts))
+others_named name [] parts others = All-nil (λ (other : TableEntry). name ≢ other.name)
+others_named name (chain ∷ chains) [] others = All-nil (λ (other : TableEntry). name ≢ other.name)
+others_named name (chain ∷ chains) (part ∷ parts) others =
+    All-cons (λ (other : TableEntry). name ≢ other.name) (entry_for chain (table_of part)) (entries_for chains (map table_of parts))
+    (All-head (λ (other : TableTranscript). name ≢ other.name) part parts others) (others_named name chains parts (All-tail (λ (other : TableTranscript). name ≢ other.name) part parts others))
+
+abbrev Differs : TableTranscript → TableTranscript → Type 0
+Differs part other = part.name ≢ other.name
+
+own_names : (chains : List HeldChain) (parts : List TableTranscript) → AllPairs Differs parts → HaveOwnNames (entries_for chains (map table_of parts))
+own_names [] parts own = λ i j d order within. absurd (omega (arith, within))
+own_names (chain ∷ chains) [] own = λ i j d order within. absurd (omega (arith, within))
+own_names (chain ∷ chains) (part ∷ parts) own =
+    let first : All (λ (other : TableTranscript). part.name ≢ other.name) parts = λ k d within. own 0 (suc k) d (omega arith) (omega (arith, within)) in
+    let others : AllPairs Differs parts = λ i j d order within. own (suc i) (suc j) d (omega (arith, order)) (omega (arith, within)) in
+    AllPairs-cons (λ (table other : TableEntry). table.name ≢ other.name) (entry_for chain (table_of part)) (entries_for chains (map table_of parts))
+    (others_named part.name chains parts first) (own_names chains parts others)
+
+pub are_tables : (chains : List LaidChain) (parts : List TableTranscript) → texts_of (map laid_as chains) ≡ map text_for (map table_of parts) → AllFit chains → All (λ part. 1 ≤ part.kept) parts → AllPairs Differs parts → length parts ≤ 64
+    → AreTables (entries_for (map laid_as chains) (map table_of parts))
+are_tables chains parts same fit some own few =
+    record {
+      each = each_fits chains parts same fit some;
+      own_names = own_names (map laid_as chains) parts own;
+      few = omega (arith, few, entries_few (map laid_as chains) (map table_of parts), length-map parts table_of);
+    }
+
+-- as many entries as tables, and where too few pages are free for their directory
+pub entries_within : (present coming after : List Bool) (fresh : List FreshPage) (parts : List TableTranscript) (entries : List TableEntry) → AreTablesLaid present coming after fresh (map table_of parts) entries → length parts ≤ 64 → length entries ≤ 64
+entries_within present coming after fresh parts entries laid few =
+    omega (arith, few, ap (λ (es : List TableEntry). length es) laid.named, entries_few (map laid_as laid.laid) (map table_of parts), length-map parts table_of)
+
+pub too_few_all : (present coming between : List Bool) (fresh : List FreshPage) (tables : List Table) (entries : List TableEntry) (kit : KitChains) (bytes : List ℕ) → AreTablesLaid present coming between fresh tables entries
+    → bytes ≡ spelling One (record { kit = kit; tables = entries }) → TooFewFree present between (pages_for (length bytes)) → TooFewFree present coming (needed_pages tables)
+too_few_all present coming between fresh tables entries kit bytes laid is few =
+    let counted = directory_counted kit (map laid_as laid.laid) tables entries bytes laid.texts laid.named is in
+    too_few_behind present coming between (laid_pages laid.laid) (pages_for (length bytes)) (needed_pages tables) laid.in_turn.taken few
+    (omega (arith, laid.few, ap pages_for counted))
+
+-- a plan of these tables and their directory has no more fresh pages than they take at most
+pub few_fresh : (present coming between after : List Bool) (fresh more : List FreshPage) (tables : List Table) (entries : List TableEntry) (kit : KitChains) (bytes : List ℕ) (head : ℕ) → AreTablesLaid present coming between fresh tables entries
+    → bytes ≡ spelling One (record { kit = kit; tables = entries }) → IsLaid present between after bytes fresh more head → length more ≤ most_laid_pages tables
+few_fresh present coming between after fresh more tables entries kit bytes head laid is directory =
+    let counted = directory_counted kit (map laid_as laid.laid) tables entries bytes laid.texts laid.named is in
+    omega (
+      arith,
+      laid.few,
+      fresh_count present coming between fresh laid.laid laid.in_turn,
+      laid_length present between after bytes fresh more head directory,
+      laid_few present between after bytes fresh more head directory,
+      ap most_pages_for counted,
+    )
+
+-- The pages of the tables and then those of their directory are taken one after another, and they are all that is written.
+pages_laid : (fresh : List FreshPage) → map (λ (page : FreshPage). page.page) fresh ≡ map (λ (one : ℕ × List ℕ). one.0) (map fresh_of fresh)
+pages_laid [] = refl
+pages_laid (page ∷ fresh) = ap (λ (pages : List ℕ). page.page ∷ pages) (pages_laid fresh)
+
+pub takes_fresh : (present coming between after : List Bool) (fresh more : List FreshPage) (tables : List Table) (entries : List TableEntry) (bytes : List ℕ) (head : ℕ) → AreTablesLaid present coming between fresh tables entries
+    → IsLaid present between after bytes fresh more head → TakesFree present coming (map (λ (page : FreshPage). page.page) more) after
+takes_fresh present coming between after fresh more tables entries bytes head laid is =
+    let one : OneLaid present coming after more laid.laid bytes head = one_more_laid present coming between after fresh more laid.laid bytes head laid.in_turn is in
+    let chains = laid.laid ++ one.chain ∷ [] in
+    let pages : map (λ (page : FreshPage). page.page) more ≡ laid_pages chains =
+    pages_laid more ∙ (ap (λ (all : List (ℕ × List ℕ)). map (λ (one : ℕ × List ℕ). one.0) all) one.laid.to_write ∙ places_all chains one.laid.fit) in
+    subst (λ (taken : List ℕ). TakesFree present coming taken after) (sym pages) one.laid.taken

@@ -1,0 +1,165 @@
+-- That the plan of a transcript is one for its layout.
+use Rattle.std.proofs.Common.{◌≡◌, inl, inr, ℕ, ◌<◌, Bool, List, [], ◌∷◌, ◌++◌, length, map, refl, sym, ◌∙◌, ap, subst, arith}
+use Rattle.std.proofs.lemmas.List.{append-nil, append_assoc}
+use Rattle.rr_checkpoint.specs.Planning.{AreDrafted, MayBegin}
+use Rattle.rr_checkpoint.specs.Planning as planning
+use Rattle.rr_checkpoint.specs.declared.checkpoint.Plan.{Plan}
+use Rattle.rr_reading.specs.declared.dir.directory.ChainRef.{ChainRef}
+use Rattle.rr_reading.specs.declared.dir.directory.TableEntry.{TableEntry}
+use Rattle.rr_reading.specs.declared.dir.version.Version.TheVariants.{One}
+use Rattle.rr_reading.specs.Dir.Directory.{IsDirectory, IsKit, IsText, spelling}
+use Rattle.rr_reading.specs.Dir.Heads.{Heads, head_of}
+use Rattle.rr_reading.specs.Dir.Heads as named
+use Rattle.rr_images.specs.Holding.{HeldChain, heads_of, texts_of, pages_of, reached_of, AreSome}
+use Rattle.rr_images.specs.Layout.{Layout, KeepsAt}
+use Rattle.rr_images.specs.Plans.{LaidChain, Draft, Fresh, laid_as, kept_of, chains_of, AreLaid}
+use Rattle.rr_pages.specs.declared.chain.FreshPage.{FreshPage}
+use Rattle.rr_pages.specs.declared.free_pages.FreePages.{FreePages}
+use Rattle.rr_pages.specs.FreePages.{present_of, coming_of}
+use Rattle.rr_pages.specs.Laying as laying
+use Rattle.rr_pages.specs.Pages.{IsIn, AreData}
+use Rattle.rr_pages.specs.Sets.{IsEmpty, Has, all_marked}
+use Rattle.rr_pages.proofs.SetLemmas.{empty_has, has_all, in_back, in_front}
+use Rattle.rr_reading.specs.Held.{TextChains}
+use Rattle.rr_reading.specs.Held as held
+use Rattle.rr_reading.specs.Reading.{NoneReached}
+use Rattle.rr_checkpoint.specs.declared.plan.kit.KitPages.{KitPages}
+use Rattle.rr_checkpoint.specs.declared.plan.transcript.Transcript.{Transcript}
+use Rattle.rr_checkpoint.specs.Plan.Kit.{kit_chains, text_pages, AreTextChains}
+use Rattle.rr_checkpoint.specs.Plan.Laying.{AreTablesLaid}
+use Rattle.rr_checkpoint.specs.Plan.Planning.{world_of, IsOfLayout, HoldsTexts}
+use Rattle.rr_checkpoint.specs.Plan.Transcript.{tables_of}
+use Rattle.rr_checkpoint.proofs.PlanLemmas.DirectoryLemmas.{all_short, are_tables}
+use Rattle.rr_checkpoint.proofs.PlanLemmas.Frames.{same_marks}
+use Rattle.rr_reading.specs.Worlds.Laws.{IsCheckpointOf}
+use Rattle.rr_reading.specs.Worlds.Spelling.{Spells, worlds, ref_of, directory_for, bytes_for, drafts_for}
+use Rattle.rr_reading.specs.Worlds.World.{World}
+use Rattle.rr_reading.proofs.WorldLemmas.Drafts.{checkpoints_spell}
+
+-- none of the laid chains is kept
+none_kept : (laid : List LaidChain) → kept_of (map (λ (chain : LaidChain). Fresh chain) laid) ≡ []
+none_kept [] = refl
+none_kept (chain ∷ laid) = none_kept laid
+
+four_kept : (texts : TextChains) (laid : List LaidChain) → kept_of (drafts_for texts laid) ≡ held.chains_of texts []
+four_kept texts laid = ap (λ (chains : List HeldChain). held.chains_of texts chains) (none_kept laid)
+
+-- the pages of the texts
+four_pages : (kit : KitPages) (texts : TextChains) → AreTextChains kit texts → pages_of (held.chains_of texts []) ≡ text_pages kit
+four_pages kit texts are =
+    (λ i. texts.chart.pages ++ (texts.roster.pages ++ (texts.tiles.pages ++ append-nil texts.board.pages i)))
+    ∙ (λ i. sym are.of_chart.on_pages i ++ (sym are.of_roster.on_pages i ++ (sym are.of_tiles.on_pages i ++ sym are.of_board.on_pages i)))
+
+-- some of the data pages are data pages
+in_data_under : (count page : ℕ) (pages : List ℕ) → AreData count pages → IsIn page pages → page < count
+in_data_under count page [] data_pages inside = absurd inside
+in_data_under count page (first ∷ pages) data_pages (inl is) = omega (arith, data_pages.1, is)
+in_data_under count page (first ∷ pages) data_pages (inr inside) = in_data_under count page pages data_pages.2 inside
+
+pages_both : (front back : List HeldChain) → pages_of (front ++ back) ≡ pages_of front ++ pages_of back
+pages_both [] back = refl
+pages_both (chain ∷ front) back = ap (λ (pages : List ℕ). chain.pages ++ pages) (pages_both front back) ∙ sym (append_assoc chain.pages (pages_of front) (pages_of back))
+
+some_front : (texts : TextChains) (others : List HeldChain) (page : ℕ) → IsIn page (pages_of (held.chains_of texts [])) → IsIn page (pages_of (held.chains_of texts others))
+some_front texts others page inside =
+    subst (λ (pages : List ℕ). IsIn page pages) (sym (pages_both (held.chains_of texts []) others)) (in_front page (pages_of (held.chains_of texts [])) (pages_of others) inside)
+
+-- a text's length is what its directory says
+text_of : (chain : HeldChain) (ref : ChainRef) → IsText ref → head_of (ref_of chain) ≡ head_of ref → IsText (ref_of chain)
+text_of chain ref is same =
+    let page : laying.head_of chain.pages ≡ ref.head = ap (λ (h : ℕ × ℕ). h.0) same in
+    let long : length chain.text ≡ ref.length = ap (λ (h : ℕ × ℕ). h.1) same in
+    record { page = omega (arith, page, is.page); short = omega (arith, long, is.short) }
+
+-- two empty sets of all pages are one
+pub one_start : (first second : List Bool) (pages : List ℕ) → IsEmpty first → length first ≡ 65536 → NoneReached second → all_marked first pages ≡ all_marked second pages
+one_start first second pages none whole reached = ap (λ (marks : List Bool). all_marked marks pages) (same_marks first second [] (whole ∙ sym reached.whole) (empty_has first none) (empty_has second reached.empty))
+
+module _ (takes : List ℕ → World → World → Type 0) (layout : Layout (worlds takes)) (kit : KitPages) (transcript : Transcript) (of : IsOfLayout takes kit transcript layout) (file : List ℕ) (world : World) (keeps : KeepsAt (worlds takes) layout file world) where
+  abbrev texts : TextChains
+  texts = of.texts
+
+  abbrev whole : World
+  whole = world_of of.texts (tables_of transcript)
+
+  -- the texts' chains are of the form that a directory asks
+  is_kit : IsKit (record { chart = ref_of texts.chart; roster = ref_of texts.roster; tiles = ref_of texts.tiles; board = ref_of texts.board })
+  is_kit =
+      let heads : Heads layout.root.version layout.holding.directory.text (heads_of layout.holding.chains) = keeps.spelled.named in
+      let kit_there = heads.directory.kit in
+      let fits = heads.spelled.is_directory.is_kit in
+      let all : heads_of (held.chains_of texts of.others) ≡ named.heads_of heads.directory = ap (λ (chains : List HeldChain). heads_of chains) (sym of.held) ∙ heads.named in
+      let chart : head_of (ref_of texts.chart) ≡ head_of kit_there.chart = cc in
+      let roster : head_of (ref_of texts.roster) ≡ head_of kit_there.roster = cc in
+      let tiles : head_of (ref_of texts.tiles) ≡ head_of kit_there.tiles = cc in
+      let board : head_of (ref_of texts.board) ≡ head_of kit_there.board = cc in
+      record {
+        is_chart = text_of texts.chart kit_there.chart fits.is_chart chart;
+        is_roster = text_of texts.roster kit_there.roster fits.is_roster roster;
+        is_tiles = text_of texts.tiles kit_there.tiles fits.is_tiles tiles;
+        is_board = text_of texts.board kit_there.board fits.is_board board;
+      }
+
+  -- and their pages are pages of a file
+  text_under : (page : ℕ) → IsIn page (text_pages kit) → page < 65536
+  text_under page inside =
+      let here : IsIn page (pages_of (held.chains_of texts [])) = subst (λ (pages : List ℕ). IsIn page pages) (sym (four_pages kit texts of.on_pages)) inside in
+      let there : IsIn page (pages_of layout.holding.chains) = subst (λ (chains : List HeldChain). IsIn page (pages_of chains)) (sym of.held) (some_front texts of.others page here) in
+      let under = in_data_under layout.root.pages page (reached_of layout.holding) keeps.spelled.in_data (in_back page layout.holding.directory.pages (pages_of layout.holding.chains) there) in
+      omega (arith, under, keeps.taken.sound.pages_high)
+
+  module _ (coming : List Bool) (free : FreePages) (fresh : List FreshPage) (entries : List TableEntry) (bytes : List ℕ) (none : IsEmpty coming) (full : length coming ≡ 65536)
+      (laid : AreTablesLaid (present_of free) (all_marked coming (text_pages kit)) (coming_of free) fresh (tables_of transcript) entries) (is : bytes ≡ spelling One (record { kit = kit_chains kit; tables = entries })) where
+    abbrev chains : List HeldChain
+    chains = map laid_as laid.laid
+
+    abbrev drafts : List Draft
+    drafts = drafts_for of.texts laid.laid
+
+    is_directory : IsDirectory (directory_for texts chains whole)
+    is_directory =
+        record {
+          is_kit = is_kit;
+          are_tables = are_tables laid.laid transcript.tables.items laid.texts laid.in_turn.fit transcript.some_kept transcript.own_names transcript.few;
+        }
+
+    checkpoint : IsCheckpointOf texts laid.laid whole (bytes_for texts chains whole)
+    checkpoint =
+        checkpoints_spell texts laid.laid whole (record { of_chart = refl; of_roster = refl; of_tiles = refl; of_board = refl; of_tables = laid.texts }) (all_short transcript.tables.items) is_directory
+
+    bytes_are : bytes ≡ bytes_for texts chains whole
+    bytes_are =
+        is ∙ (λ i. spelling One
+        (record {
+          kit = record { chart = of.on_pages.of_chart.named i; roster = of.on_pages.of_roster.named i; tiles = of.on_pages.of_tiles.named i; board = of.on_pages.of_board.named i };
+          tables = laid.named i;
+        }))
+
+    drafted : AreDrafted layout free fresh drafts
+    drafted =
+        let kept : pages_of (kept_of drafts) ≡ text_pages kit = ap (λ (cs : List HeldChain). pages_of cs) (four_kept texts laid.laid) ∙ four_pages kit texts of.on_pages in
+        record {
+          kept = subst (λ (all : List HeldChain). AreSome (kept_of drafts) all) (sym of.held) (checkpoint.kept of.others);
+          marks = all_marked coming (text_pages kit);
+          kept_pages = subst (λ (pages : List ℕ). Has (all_marked coming (text_pages kit)) pages) (sym kept) (has_all coming [] (text_pages kit) full text_under (empty_has coming none));
+          laid = subst (λ (written : List LaidChain). AreLaid (present_of free) (all_marked coming (text_pages kit)) (coming_of free) fresh written) (sym checkpoint.fresh) laid.in_turn;
+        }
+
+    directory_is : planning.IsDirectory (worlds takes) layout drafts bytes
+    directory_is =
+        record {
+          named = subst (λ (text : List ℕ). Heads 1 text (heads_of (chains_of drafts))) (sym bytes_are) checkpoint.named;
+          spells = subst (λ (world : World). Spells 1 bytes (texts_of (chains_of drafts)) world) (sym of.world) (subst (λ (text : List ℕ). Spells 1 text (texts_of (chains_of drafts)) whole) (sym bytes_are) checkpoint.spells);
+        }
+
+    -- what the writer plans of them
+    pub planned : (same : Layout (worlds takes)) (after : FreePages) (plan : Plan) → same ≡ layout
+        → ((others : List Draft) → AreDrafted same free fresh others → planning.IsDirectory (worlds takes) same others bytes
+        → (may : MayBegin (worlds takes) same after plan) × (may.holding.chains ≡ chains_of others))
+        → (may : MayBegin (worlds takes) layout after plan) × HoldsTexts texts may.holding
+    planned same after plan is plans =
+        let made =
+        plans drafts (subst (λ (l : Layout (worlds takes)). AreDrafted l free fresh drafts) (sym is) drafted)
+        (subst (λ (l : Layout (worlds takes)). planning.IsDirectory (worlds takes) l drafts bytes) (sym is) directory_is) in
+        let holds : HoldsTexts texts made.0.holding = record { others = chains_of (map (λ (chain : LaidChain). Fresh chain) laid.laid); held = made.1 } in
+        subst (λ (l : Layout (worlds takes)). (may : MayBegin (worlds takes) l after plan) × HoldsTexts texts may.holding) is (made.0, holds)

@@ -1,0 +1,5 @@
+pub mod Transcript
+pub mod Kit
+pub mod Writing
+pub mod Laying
+pub mod Planning

@@ -1,0 +1,36 @@
+-- What a transcript holds.
+use Rattle.std.specs.Prelude.{ℕ, List, [], ◌∷◌, ◌++◌, map}
+use Rattle.rr_reading.specs.Dir.Kept.{first_commands}
+use Rattle.rr_checkpoint.specs.declared.plan.transcript.Transcript.{Transcript}
+use Rattle.rr_checkpoint.specs.declared.plan.table.TableTranscript.{TableTranscript}
+use Rattle.rr_reading.specs.Worlds.World.{Table}
+
+-- the commands that its bytes spell
+abbrev pub commands_of : TableTranscript → List (List ℕ)
+commands_of table = first_commands table.kept table.bytes.items
+
+-- the table as a world has it
+abbrev pub table_of : TableTranscript → Table
+table_of table =
+    record { name = table.name; kept = record { commands = commands_of table; floor = table.floor; stamp = table.stamp } }
+
+-- the tables of a world, in order of opening
+abbrev pub tables_of : Transcript → List Table
+tables_of transcript = map table_of transcript.tables.items
+
+-- a table that keeps nothing yet
+abbrev pub without_commands : List ℕ → ℕ → ℕ → Table
+without_commands name stamp floor =
+    record { name = name; kept = record { commands = []; floor = floor; stamp = stamp } }
+
+-- the table with one command more, behind the others
+abbrev pub with_command : Table → List ℕ → Table
+with_command table words =
+    record {
+      name = table.name;
+      kept = record {
+        commands = table.kept.commands ++ words ∷ [];
+        floor = table.kept.floor;
+        stamp = table.kept.stamp;
+      };
+    }

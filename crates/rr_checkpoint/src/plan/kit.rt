@@ -1,0 +1,36 @@
+ghost use Rattle.std.specs.Prelude.{◌≡◌};
+
+use rr_reading::dir::{ChainRef, KitChains};
+
+/// Where the present root holds a text: its chain's first page and length, as the directory names them, and all pages of
+/// that chain.
+#[derive(Drop)]
+pub struct TextPages {
+    pub chain: ChainRef,
+    pub pages: Vec<u32>,
+}
+
+/// Where the present root holds the four texts of a kit. A checkpoint keeps them there.
+#[derive(Drop)]
+pub struct KitPages {
+    pub chart: TextPages,
+    pub roster: TextPages,
+    pub tiles: TextPages,
+    pub board: TextPages,
+}
+
+impl KitPages {
+    ghost use Rattle.rr_checkpoint.specs.Plan.Kit.{kit_chains};
+
+    // The chains as the directory names them.
+    pub(crate) fn chains(&self) -> KitChains
+        ensures { result ≡ kit_chains self.now }
+    {
+        KitChains {
+            chart: self.chart.chain,
+            roster: self.roster.chain,
+            tiles: self.tiles.chain,
+            board: self.board.chain,
+        }
+    }
+}

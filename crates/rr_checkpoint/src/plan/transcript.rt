@@ -1,0 +1,45 @@
+ghost use Rattle.std.specs.Prelude.{◌≡◌, ◌≢◌, ◌<◌, ◌≤◌, ◌++◌, [], ◌∷◌, All, AllPairs, length, OnOk, OnErr, IsOkUnless};
+ghost use Rattle.std.proofs.Props.{props};
+
+use crate::plan::TableTranscript;
+use rr_pages::Fault;
+use std::alloc::Global;
+
+/// The tables of a store at a moment, in order of opening: at most 64, each with a name of its own and with a command at
+/// least. It is what a checkpoint writes, whatever is played meanwhile.
+#[derive(Drop)]
+pub struct Transcript {
+    pub(crate) tables: Vec<TableTranscript>,
+    ghost some_kept: { All (λ table. 1 ≤ table.kept) tables.items } by { Prim.hlevel props },
+    ghost own_names: { AllPairs (λ table other. table.name ≢ other.name) tables.items } by { Prim.hlevel props },
+    ghost few: { length tables.items ≤ 64 },
+}
+
+impl Transcript {
+    ghost use Rattle.rr_checkpoint.specs.Plan.Transcript.{commands_of, table_of, tables_of};
+
+    /// Of a store without a table.
+    pub fn new(alloc: Global) -> Transcript
+        ensures { tables_of result ≡ [] }
+    {
+        Transcript {
+            tables: Vec::new(alloc),
+        }
+    }
+
+    /// Puts a table behind those that are there.
+    ///
+    /// # Errors
+    /// `OutOfMemory`; then the tables are those from before.
+    pub fn push(&mut self, table: TableTranscript) -> Result<(), Fault>
+        requires room { length (tables_of self.old) < 64 }
+        requires some { 1 ≤ length (commands_of table) }
+        requires own_name { All (λ other. other.name ≢ (table_of table).name) (tables_of self.old) }
+        ensures ok { OnOk result (tables_of self.new ≡ tables_of self.old ++ table_of table ∷ []) }
+        ensures err { OnErr result (tables_of self.new ≡ tables_of self.old) }
+        ensures memory { IsOkUnless result Fault.OutOfMemory }
+    {
+        self.tables.push(table)?;
+        Ok(())
+    }
+}

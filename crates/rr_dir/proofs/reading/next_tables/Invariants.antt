@@ -1,5 +1,0 @@
-use Rattle.rr_dir.proofs.TableLemmas.{ReadsTables}
-use Rattle.rr_dir.proofs.reading.next_tables.Given as goal
-
-abbrev pub invariant-loop : goal.invariant-loop
-invariant-loop l = ReadsTables l.initial.cursor l.tables.items l.counter l.cursor

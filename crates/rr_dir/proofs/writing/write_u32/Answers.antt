@@ -1,8 +1,0 @@
-use Rattle.std.proofs.Common.{rules}
-use Rattle.std.proofs.lemmas.List.{append-nil}
-use Rattle.rr_dir.specs.Number.{spelled_number}
-use Rattle.rr_dir.proofs.writing.write_u32.Goals as goal
-
-pub returns-clause-ok : goal.returns-clause-ok
-unfolding spelled_number
-returns-clause-ok c = search (rules, append-nil)

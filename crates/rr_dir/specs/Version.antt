@@ -1,7 +1,0 @@
-use Rattle.std.specs.Prelude.{ℕ}
-use Rattle.rr_dir.specs.declared.version.Version.{Version}
-use Rattle.rr_dir.specs.declared.version.Version.TheVariants.{One}
-
--- the number by which a file names its version
-abbrev pub version_number : Version → ℕ
-version_number One = 1

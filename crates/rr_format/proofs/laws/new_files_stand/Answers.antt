@@ -1,5 +1,0 @@
-use Rattle.rr_format.proofs.Moments.{new_files_stand}
-use Rattle.rr_format.proofs.laws.new_files_stand.Goals as goal
-
-pub returns : goal.returns
-returns g c = new_files_stand g.R.Rules.takes

@@ -1,9 +1,0 @@
-//! What the definitions say of every new file. The calls do nothing.
-ghost use Rattle.rr_format.specs.Formatted.{NewFilesStand};
-
-use rr_worlds::Rules;
-
-/// There is a file of which a new file's bytes are the whole, and it keeps the world of its texts.
-pub fn new_files_stand<R: Rules>()
-    ensures { NewFilesStand R.takes }
-{}

@@ -1,0 +1,74 @@
+-- A new file on a device.
+use Rattle.std.specs.Prelude.{◌≡◌, ◌⊎◌, ℕ, ◌-◌, ◌*◌, ◌<◌, ◌≤◌, false, List, [], ◌∷◌, length, map, replicate, slice_index}
+use Rattle.std.specs.List.{flat_map}
+use Rattle.rr_disk.specs.Disk.{DiskState, after_write, after_sync}
+use Rattle.rr_disk.specs.Moments.{EachImage}
+use Rattle.rr_images.specs.Codec.{Codec}
+use Rattle.rr_images.specs.Holding.{Holding}
+use Rattle.rr_images.specs.Layout.{KeepsAt, Keeps, formatted}
+use Rattle.rr_pages.specs.Choosing.{IsNoStore}
+use Rattle.rr_pages.specs.Laying.{AllStand}
+use Rattle.rr_pages.specs.Pages.{StandsAt}
+use Rattle.rr_pages.specs.Roots.{IsRootOpen, root_bytes}
+use Rattle.rr_pages.specs.Writing.{fresh_of}
+use Rattle.rr_pages.specs.declared.chain.FreshPage.{FreshPage}
+use Rattle.rr_pages.specs.declared.root.Root.{Root}
+use Rattle.rr_reading.specs.Worlds.Spelling.{worlds}
+use Rattle.rr_reading.specs.Worlds.World.{World}
+use Rattle.rr_log.specs.Formatting.NewFile.{IsNewFile}
+
+-- the bytes of fresh pages, one page after another
+abbrev pub bytes_of : FreshPage → List ℕ
+bytes_of fresh = fresh.bytes.items
+
+abbrev pub all_bytes : List FreshPage → List ℕ
+all_bytes fresh = flat_map bytes_of fresh
+
+-- the zeros between the gate of the second root and the data pages
+unfoldable pub header_zeros : List ℕ
+header_zeros = replicate (4096 * 514 - 4097) 0
+
+-- a disk behind the first calls: as many bytes as lie before the data pages, synced, and the zeros among them
+abbrev pub header_state : DiskState → DiskState
+header_state state = after_write (after_sync (after_write state (4096 * 514 - 1) (0 ∷ []))) 4097 header_zeros
+
+-- behind the calls before the last gate: then the pages, and the root behind its shut gate, synced
+abbrev pub closed_state : Root → List ℕ → DiskState → DiskState
+closed_state root pages state =
+    after_sync (after_write (after_write (header_state state) (4096 * 514) pages) 1 (root_bytes root))
+
+-- The bytes of a new file: on page 0 an open gate and the root behind it, zeros up to the first data page, and then the
+-- fresh pages, up to the last page that the root counts.
+pub record HasNewBytes (root : Root) (fresh : List FreshPage) (file : List ℕ) : Type 0 where
+  pub open_gate : IsRootOpen file false
+  pub root_there : StandsAt file 1 (root_bytes root)
+  pub zeros : (i : ℕ) → 36 ≤ i → i < 4096 * 514 → slice_index file i ≡ 0
+  pub pages : AllStand file (map fresh_of fresh)
+  pub ends : length file ≡ 4096 * root.pages
+
+-- The new file stands whole, and keeps its world, without a record and with no checkpoint begun.
+pub record IsFormatted (takes : List ℕ → World → World → Type 0) (root : Root) (fresh : List FreshPage)
+    (holding : Holding) (world : World) (file : List ℕ) : Type 0 where
+  pub bytes : HasNewBytes root fresh file
+  pub kept : KeepsAt (worlds takes) (formatted false root holding world) file world
+
+-- A file that a stop may leave while a new one is written: no store yet, or the whole new file.
+abbrev pub IsNoneOrFormatted : (List ℕ → World → World → Type 0) → Root → List FreshPage → Holding → World → List ℕ
+    → Type 0
+IsNoneOrFormatted takes root fresh holding world file =
+    IsNoStore file ⊎ IsFormatted takes root fresh holding world file
+
+-- the same by its world alone: no store yet, or one that keeps it
+abbrev pub KeepsNoneOr : (codec : Codec) → codec.World → List ℕ → Type 0
+KeepsNoneOr codec world file = IsNoStore file ⊎ Keeps codec file world
+
+-- nothing is read of the disk, and whatever a stop leaves of it is no store
+pub record IsUnused (state : DiskState) : Type 0 where
+  pub empty : length state.content ≡ 0
+  pub none : EachImage state IsNoStore
+
+-- each new file may stand on a device
+abbrev pub NewFilesStand : (List ℕ → World → World → Type 0) → Type 0
+NewFilesStand takes =
+    (root : Root) (fresh : List FreshPage) (world : World) → (is : IsNewFile takes root fresh world)
+    → (file : List ℕ) × IsFormatted takes root fresh is.holding world file

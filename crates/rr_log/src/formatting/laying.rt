@@ -1,0 +1,82 @@
+ghost use Rattle.std.specs.Prelude.{◌≡◌, ◌+◌, ◌≤◌, false, [], length, IfOk, IfErr};
+ghost use Rattle.rr_reading.specs.Dir.Directory.{spelling};
+ghost use Rattle.rr_reading.specs.declared.dir.version.Version.TheVariants.{One};
+ghost use Rattle.rr_log.specs.Formatting.NewFile.{IsNewFile, empty_world};
+ghost use Rattle.rr_pages.specs.declared.journal.layout.HalfIndex.TheVariants.{First};
+
+use crate::formatting::kit::lay_kit;
+use crate::formatting::text::lay_text;
+use rr_pages::journal::HalfIndex;
+use rr_pages::{FIRST_DATA, Fault, FreePages, FreshPage, PageSet, Root};
+use rr_reading::dir::{Dir, KitChains, Version};
+use rr_reading::worlds::Rules;
+use std::alloc::Global;
+
+/// What is put into a new file: its first root, and its data pages, from the first one on without a gap.
+#[derive(Drop)]
+pub struct NewFile {
+    pub root: Root,
+    pub fresh: Vec<FreshPage>,
+}
+
+/// Lays the four texts of a kit, each of 65,536 bytes at most, and a directory that names them and no table. The file has
+/// no record, and the first one will have number 1, in the first half. Which lines records may have, `R` says.
+///
+/// # Errors
+/// `OutOfMemory` alone.
+pub fn new_file<R: Rules>(
+    alloc: Global,
+    chart: &[u8],
+    roster: &[u8],
+    tiles: &[u8],
+    board: &[u8],
+) -> Result<NewFile, Fault>
+    requires short_chart { length chart.now ≤ 65536 }
+    requires short_roster { length roster.now ≤ 65536 }
+    requires short_tiles { length tiles.now ≤ 65536 }
+    requires short_board { length board.now ≤ 65536 }
+    ensures holds { IfOk result (λ file. IsNewFile R.takes file.root file.fresh.items
+        (empty_world chart.now roster.now tiles.now board.now)) }
+    ensures memory { IfErr result (λ fault. fault ≡ Fault.OutOfMemory) }
+{
+    let mut free = FreePages::new(alloc, PageSet::new(alloc)?)?;
+    let mut fresh = Vec::new(alloc);
+    let kit = lay_kit(alloc, &mut free, &mut fresh, chart, roster, tiles, board)?;
+    let directory = directory_bytes(alloc, kit)?;
+    let chain = lay_text(alloc, &mut free, &mut fresh, &directory)?;
+    Ok(NewFile {
+        root: first_root(chain.head, fresh.len() as u64),
+        fresh,
+    })
+}
+
+// The bytes of a directory without tables.
+fn directory_bytes(alloc: Global, kit: KitChains) -> Result<Vec<u8>, Fault>
+    ensures bytes { IfOk result (λ bytes. bytes.items ≡ spelling One (record { kit = kit; tables = [] })) }
+    ensures memory { IfErr result (λ fault. fault ≡ Fault.OutOfMemory) }
+{
+    let dir = Dir {
+        kit,
+        tables: Vec::new(alloc),
+    };
+    let mut bytes = Vec::new(alloc);
+    if dir.write(Version::One, &mut bytes).is_err() {
+        return Err(Fault::OutOfMemory);
+    }
+    Ok(bytes)
+}
+
+// The root of a file with so many data pages whose directory begins on this page.
+fn first_root(directory: u64, count: u64) -> Root
+    requires { count ≤ 1000 }
+    ensures { result ≡ record { number = 1; directory = directory; half = First; first = 1; pages = 514 + count; version = 1 } }
+{
+    Root {
+        number: 1,
+        directory,
+        half: HalfIndex::First,
+        first: 1,
+        pages: u64::from(FIRST_DATA) + count,
+        version: 1,
+    }
+}

@@ -1,0 +1,19 @@
+//! The journal of a store: numbered records in two halves of a file, each record made durable by two writes and two
+//! syncs, and read again up to the first slot that holds no record of the expected number.
+//!
+//! Its promise: `append` leaves each image with the records from before, or with the new one whole, and from `Ok` on with
+//! it.
+
+mod buffer;
+mod fault;
+mod half;
+mod law;
+mod layout;
+mod reading;
+
+pub use buffer::RecordBuffer;
+pub use fault::Fault;
+pub use half::Half;
+pub use law::halves_have_one_run;
+pub use layout::HalfIndex;
+pub use reading::{RunEnd, Scanned, scan};

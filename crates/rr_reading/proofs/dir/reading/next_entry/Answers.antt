@@ -1,0 +1,37 @@
+use Rattle.std.proofs.Common.{arith, ap, length, length-append}
+use Rattle.rr_reading.specs.Dir.Number.{spelled_number}
+use Rattle.rr_reading.proofs.DirLemmas.NumberLemmas.{length-spelled_number}
+use Rattle.rr_reading.proofs.dir.reading.next_entry.Goals as goal
+
+pub returns-in_err-floor : goal.returns-in_err-floor
+returns-in_err-floor c =
+    rw c.from_residual-in_err-floor.ensures (omega (arith, ap length c.in_ok-stamp.ensures.1, length-append (spelled_number 8 c.in_ok-stamp.stamp) c.u64.new.self, length-spelled_number 8 c.in_ok-stamp.stamp, c.in_err-floor.ensures))
+
+pub returns-in_err-kept : goal.returns-in_err-kept
+returns-in_err-kept c =
+    rw c.from_residual-in_err-kept.ensures (omega (
+      arith,
+      ap length c.in_ok-stamp.ensures.1,
+      length-append (spelled_number 8 c.in_ok-stamp.stamp) c.u64.new.self,
+      length-spelled_number 8 c.in_ok-stamp.stamp,
+      ap length c.in_ok-floor.ensures.1,
+      length-append (spelled_number 4 c.in_ok-floor.floor) c.u32.new.self,
+      length-spelled_number 4 c.in_ok-floor.floor,
+      c.in_err-kept.ensures,
+    ))
+
+pub returns-in_err-chain : goal.returns-in_err-chain
+returns-in_err-chain c =
+    rw c.from_residual-in_err-chain.ensures (omega (
+      arith,
+      ap length c.in_ok-stamp.ensures.1,
+      length-append (spelled_number 8 c.in_ok-stamp.stamp) c.u64.new.self,
+      length-spelled_number 8 c.in_ok-stamp.stamp,
+      ap length c.in_ok-floor.ensures.1,
+      length-append (spelled_number 4 c.in_ok-floor.floor) c.u32.new.self,
+      length-spelled_number 4 c.in_ok-floor.floor,
+      ap length c.in_ok-kept.ensures.1,
+      length-append (spelled_number 4 c.in_ok-kept.kept) c.u32-2.new.self,
+      length-spelled_number 4 c.in_ok-kept.kept,
+      c.in_err-chain.ensures,
+    ))

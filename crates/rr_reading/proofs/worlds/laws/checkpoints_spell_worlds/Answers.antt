@@ -1,0 +1,5 @@
+use Rattle.rr_reading.proofs.WorldLemmas.Drafts.{checkpoints_spell}
+use Rattle.rr_reading.proofs.worlds.laws.checkpoints_spell_worlds.Goals as goal
+
+pub returns : goal.returns
+returns _ = checkpoints_spell

@@ -1,0 +1,118 @@
+-- What a directory says, and its bytes. Numbers are big-endian.
+use Rattle.std.specs.Prelude.{◌≡◌, ◌≢◌, ℕ, ◌^◌, ◌<◌, ◌≤◌, List, ◌∷◌, ◌++◌, length, All, AllPairs}
+use Rattle.std.specs.List.{flat_map}
+use Rattle.rr_words.specs.Name.{IsTableName}
+use Rattle.rr_reading.specs.declared.dir.directory.ChainRef.{ChainRef}
+use Rattle.rr_reading.specs.declared.dir.directory.KitChains.{KitChains}
+use Rattle.rr_reading.specs.declared.dir.directory.TableEntry.{TableEntry}
+use Rattle.rr_reading.specs.declared.dir.directory.Dir.{Dir}
+use Rattle.rr_reading.specs.declared.dir.version.Version.{Version}
+use Rattle.rr_reading.specs.declared.dir.version.Version.TheVariants.{One}
+use Rattle.rr_reading.specs.Dir.Number.{spelled_number}
+
+-- where the kit stands, and the tables in order of opening
+pub record Directory : Type 0 where
+  pub kit : KitChains
+  pub tables : List TableEntry
+
+abbrev pub directory_of : Dir → Directory
+directory_of dir = record { kit = dir.kit; tables = dir.tables.items }
+
+-- a chain's head and length
+abbrev pub spelled_chain : ChainRef → List ℕ
+spelled_chain chain = spelled_number 8 chain.head ++ spelled_number 4 chain.length
+
+-- the chains of the kit
+abbrev pub spelled_kit : KitChains → List ℕ
+spelled_kit kit =
+    spelled_chain kit.chart ++ (spelled_chain kit.roster ++ (spelled_chain kit.tiles ++ spelled_chain kit.board))
+
+-- a table: the length of its name, the name, and what the table is
+abbrev pub spelled_name : List ℕ → List ℕ
+spelled_name name = length name ∷ name
+
+abbrev pub spelled_state : TableEntry → List ℕ
+spelled_state table =
+    spelled_number 8 table.stamp ++ (spelled_number 4 table.floor ++ (spelled_number 4 table.kept ++ spelled_chain table.chain))
+
+abbrev pub spelled_table : TableEntry → List ℕ
+spelled_table table = spelled_name table.name ++ spelled_state table
+
+-- how many tables there are, and each of them
+abbrev pub spelled_tables : List TableEntry → List ℕ
+spelled_tables tables = spelled_number 2 (length tables) ++ flat_map spelled_table tables
+
+-- the bytes of a directory in the form of a version
+abbrev pub spelling : Version → Directory → List ℕ
+spelling One directory = spelled_kit directory.kit ++ spelled_tables directory.tables
+
+-- a page is a number of eight bytes, and a chain's length one of four
+pub record IsChain (chain : ChainRef) : Type 0 where
+  pub page : chain.head < 2 ^ 64
+  pub long : chain.length < 2 ^ 32
+
+-- a text of the kit has at most 65,536 bytes
+pub record IsText (chain : ChainRef) : Type 0 where
+  pub page : chain.head < 2 ^ 64
+  pub short : chain.length ≤ 65536
+
+pub record IsKit (kit : KitChains) : Type 0 where
+  pub is_chart : IsText kit.chart
+  pub is_roster : IsText kit.roster
+  pub is_tiles : IsText kit.tiles
+  pub is_board : IsText kit.board
+
+-- the same of any lengths, and of the numbers of a table
+pub record HasChains (kit : KitChains) : Type 0 where
+  pub is_chart : IsChain kit.chart
+  pub is_roster : IsChain kit.roster
+  pub is_tiles : IsChain kit.tiles
+  pub is_board : IsChain kit.board
+
+pub record FitsBytes (table : TableEntry) : Type 0 where
+  pub stamped : table.stamp < 2 ^ 64
+  pub floored : table.floor < 2 ^ 32
+  pub counted : table.kept < 2 ^ 32
+  pub is_chain : IsChain table.chain
+
+-- a table has a table's name, keeps at least one command, and none of its numbers is past its limit
+pub record IsTable (table : TableEntry) : Type 0 where
+  pub named : IsTableName table.name
+  pub stamped : table.stamp ≤ 4000000000
+  pub floored : table.floor < 2 ^ 32
+  pub some_kept : 1 ≤ table.kept
+  pub few_kept : table.kept ≤ 4096
+  pub is_chain : IsChain table.chain
+
+-- no two tables have one name
+abbrev pub HaveOwnNames : List TableEntry → Type 0
+HaveOwnNames tables = AllPairs (λ table other. table.name ≢ other.name) tables
+
+pub record AreTables (tables : List TableEntry) : Type 0 where
+  pub each : All IsTable tables
+  pub own_names : HaveOwnNames tables
+  pub few : length tables ≤ 64
+
+pub record IsDirectory (directory : Directory) : Type 0 where
+  pub is_kit : IsKit directory.kit
+  pub are_tables : AreTables directory.tables
+
+-- the bytes begin with how many tables there are, from 1 to 64, and the first of them
+pub record BeginsTables (bytes : List ℕ) : Type 0 where
+  pub count : ℕ
+  pub some : 1 ≤ count
+  pub few : count ≤ 64
+  pub table : TableEntry
+  pub is_table : IsTable table
+  pub rest : List ℕ
+  pub spelled : bytes ≡ spelled_number 2 count ++ (spelled_table table ++ rest)
+
+-- in the form of the version a kit stands in front, and tables begin behind it
+abbrev pub BeginsDirectory : Version → List ℕ → Type 0
+BeginsDirectory One bytes =
+    (kit : KitChains) × (rest : List ℕ) × IsKit kit × (bytes ≡ spelled_kit kit ++ rest) × BeginsTables rest
+
+-- the bytes are those of this directory in the form of the version
+pub record Spells (version : Version) (bytes : List ℕ) (directory : Directory) : Type 0 where
+  pub is_directory : IsDirectory directory
+  pub spelled : bytes ≡ spelling version directory

@@ -1,0 +1,18 @@
+//! The bytes of a store's directory, which says where its kit and its tables stand, and of the commands that a table
+//! keeps. Each value has one spelling.
+//!
+//! Its promise: `Dir::read` and `Dir::write`, inverse of one another.
+
+mod cursor;
+mod directory;
+mod fault;
+mod kept;
+pub mod laws;
+mod reading;
+mod version;
+mod writing;
+
+pub use directory::{ChainRef, Dir, KitChains, TableEntry};
+pub use fault::Fault;
+pub use kept::{KeptCommands, write_kept};
+pub use version::Version;

@@ -1,0 +1,99 @@
+ghost use Rattle.std.specs.Prelude.{◌≡◌, ◌++◌, ℕ, ◌<◌, ◌^◌, vec_len, IfOk, IsErrOf, OnOk, OnErr, IsOkUnless};
+ghost use Rattle.rr_reading.specs.Dir.Directory.{Directory, BeginsDirectory, Spells, directory_of, spelling};
+
+use crate::dir::cursor::Cursor;
+use crate::dir::fault::Fault;
+use crate::dir::version::Version;
+use crate::dir::{reading, writing};
+use rr_words::Name;
+use std::alloc::Global;
+
+/// The most tables that a store holds.
+pub(crate) const MOST_TABLES: u16 = 64;
+
+/// The most commands that a table keeps.
+pub(crate) const MOST_KEPT: u32 = 4_096;
+
+/// The last stamp that a table may have.
+pub(crate) const LAST_STAMP: u64 = 4_000_000_000;
+
+/// The most bytes that a text of the kit may have.
+pub(crate) const TEXT_BYTES: u32 = 65_536;
+
+/// Where a chain of pages stands in a file.
+#[derive(Clone, Copy, Debug, PartialEq, Eq)]
+pub struct ChainRef {
+    /// The chain's first page.
+    pub head: u64,
+    /// How many bytes the chain holds.
+    pub length: u32,
+}
+
+/// Where the four texts of a kit stand.
+#[derive(Clone, Copy, Debug)]
+pub struct KitChains {
+    pub chart: ChainRef,
+    pub roster: ChainRef,
+    pub tiles: ChainRef,
+    pub board: ChainRef,
+}
+
+/// What a directory says of a table.
+#[derive(Clone, Copy, Debug)]
+pub struct TableEntry {
+    pub name: Name,
+    /// The table's stamp, at most 4,000,000,000.
+    pub stamp: u64,
+    /// The least turn to which the table can be taken back.
+    pub floor: u32,
+    /// How many commands the table keeps, 1 to 4,096.
+    pub kept: u32,
+    /// Where the kept commands stand.
+    pub chain: ChainRef,
+}
+
+/// A store's directory: its kit, and its tables in order of opening, 64 at most, each with a name of its own.
+#[derive(Debug, Drop)]
+pub struct Dir {
+    pub kit: KitChains,
+    pub tables: Vec<TableEntry>,
+}
+
+impl Dir {
+    /// Reads a directory in the form of this version. No byte may stand behind the last table.
+    ///
+    /// # Errors
+    /// `Damaged` where the bytes spell no directory, `OutOfMemory` where the tables find no room. That is told only behind
+    /// a kit, a number of tables that may be, and a table.
+    pub fn read(alloc: Global, version: Version, bytes: &[u8]) -> Result<Dir, Fault>
+        ensures found { IfOk result (λ dir. Spells version bytes.now (directory_of dir)) }
+        ensures damaged { IsErrOf result Fault.Damaged → (d : Directory) → Spells version bytes.now d → ⊥ }
+        ensures memory { IsErrOf result Fault.OutOfMemory → BeginsDirectory version bytes.now }
+    {
+        let mut cursor = Cursor::of(bytes);
+        match version {
+            Version::One => reading::read_last(alloc, &mut cursor),
+        }
+    }
+
+    /// Appends the directory's bytes in the form of this version, as `read` reads them.
+    ///
+    /// # Errors
+    /// `OutOfMemory` where `out` can't grow; its bytes are then as they were.
+    pub fn write(&self, version: Version, out: &mut Vec<u8>) -> Result<(), Fault>
+        requires { vec_len self.now.tables < 2 ^ 16 }
+        ensures ok { OnOk result (out.new.items ≡ out.old.items ++ spelling version (directory_of self.now)) }
+        ensures err { OnErr result (out.new.items ≡ out.old.items) }
+        ensures memory { IsOkUnless result Fault.OutOfMemory }
+    {
+        let before = out.len();
+        let written = match version {
+            Version::One => writing::write_dir(self, out),
+        };
+        if written.is_err() {
+            out.truncate(before);
+            return Err(Fault::OutOfMemory);
+        }
+        Ok(())
+    }
+}

@@ -1,0 +1,86 @@
+//! How the parts of a directory are written.
+ghost use Rattle.std.specs.Prelude.{◌≡◌, ◌++◌, ◌<◌, ◌^◌, OnOk, vec_len};
+ghost use Rattle.rr_reading.specs.Dir.Directory.{directory_of, spelling, spelled_chain, spelled_kit, spelled_table};
+ghost use Rattle.rr_reading.specs.Dir.Number.{Continues, spelled_number};
+ghost use Rattle.rr_reading.specs.declared.dir.version.Version.TheVariants.{One};
+
+use crate::dir::directory::{ChainRef, Dir, KitChains, TableEntry};
+use crate::dir::fault::Fault;
+use byteorder::{BigEndian, ByteOrder};
+
+pub(crate) fn write_dir(dir: &Dir, out: &mut Vec<u8>) -> Result<(), Fault>
+    requires { vec_len dir.now.tables < 2 ^ 16 }
+    ensures ok { OnOk result (out.new.items ≡ out.old.items ++ spelling One (directory_of dir.now)) }
+    ensures kept { Continues out.old.items out.new.items }
+{
+    write_kit(&dir.kit, out)?;
+    write_u16(dir.tables.len() as u16, out)?;
+    for table in &dir.tables {
+        write_table(table, out)?;
+    }
+    Ok(())
+}
+
+fn write_kit(kit: &KitChains, out: &mut Vec<u8>) -> Result<(), Fault>
+    ensures ok { OnOk result (out.new.items ≡ out.old.items ++ spelled_kit kit.now) }
+    ensures kept { Continues out.old.items out.new.items }
+{
+    write_chain(kit.chart, out)?;
+    write_chain(kit.roster, out)?;
+    write_chain(kit.tiles, out)?;
+    write_chain(kit.board, out)?;
+    Ok(())
+}
+
+fn write_table(table: &TableEntry, out: &mut Vec<u8>) -> Result<(), Fault>
+    ensures ok { OnOk result (out.new.items ≡ out.old.items ++ spelled_table table.now) }
+    ensures kept { Continues out.old.items out.new.items }
+{
+    let name = table.name.as_bytes();
+    out.push(name.len() as u8)?;
+    out.extend_from_slice(name)?;
+    write_u64(table.stamp, out)?;
+    write_u32(table.floor, out)?;
+    write_u32(table.kept, out)?;
+    write_chain(table.chain, out)?;
+    Ok(())
+}
+
+fn write_chain(chain: ChainRef, out: &mut Vec<u8>) -> Result<(), Fault>
+    ensures ok { OnOk result (out.new.items ≡ out.old.items ++ spelled_chain chain) }
+    ensures kept { Continues out.old.items out.new.items }
+{
+    write_u64(chain.head, out)?;
+    write_u32(chain.length, out)?;
+    Ok(())
+}
+
+pub(crate) fn write_u16(number: u16, out: &mut Vec<u8>) -> Result<(), Fault>
+    ensures ok { OnOk result (out.new.items ≡ out.old.items ++ spelled_number 2 number) }
+    ensures kept { Continues out.old.items out.new.items }
+{
+    let mut bytes = [0u8; 2];
+    BigEndian::write_u16(&mut bytes, number);
+    out.extend_from_slice(&bytes)?;
+    Ok(())
+}
+
+fn write_u32(number: u32, out: &mut Vec<u8>) -> Result<(), Fault>
+    ensures ok { OnOk result (out.new.items ≡ out.old.items ++ spelled_number 4 number) }
+    ensures kept { Continues out.old.items out.new.items }
+{
+    let mut bytes = [0u8; 4];
+    BigEndian::write_u32(&mut bytes, number);
+    out.extend_from_slice(&bytes)?;
+    Ok(())
+}
+
+fn write_u64(number: u64, out: &mut Vec<u8>) -> Result<(), Fault>
+    ensures ok { OnOk result (out.new.items ≡ out.old.items ++ spelled_number 8 number) }
+    ensures kept { Continues out.old.items out.new.items }
+{
+    let mut bytes = [0u8; 8];
+    BigEndian::write_u64(&mut bytes, number);
+    out.extend_from_slice(&bytes)?;
+    Ok(())
+}

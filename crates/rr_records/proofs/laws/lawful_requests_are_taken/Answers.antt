@@ -1,5 +1,0 @@
-use Rattle.rr_records.proofs.TakingLemmas.{lawful_are_taken, taken_are_lawful, unlawful_lead_nowhere}
-use Rattle.rr_records.proofs.laws.lawful_requests_are_taken.Goals as goal
-
-pub returns : goal.returns
-returns c = record { taken = lawful_are_taken; lawful = taken_are_lawful; unlawful = unlawful_lead_nowhere }

@@ -1,9 +1,0 @@
-pub mod Fault
-pub mod World
-pub mod Records
-pub mod Words
-pub mod Taking
-pub mod Played
-pub mod Laws
-pub mod Schedules
-pub mod Headline

@@ -1,8 +1,0 @@
-use Rattle.rr_recovery.proofs.PlayingLemmas.{refused}
-use Rattle.rr_recovery.proofs.playing.play.Goals as goal
-
-pub returns-in-Err-clause-refused : goal.returns-in-Err-clause-refused
-returns-in-Err-clause-refused c =
-    rw (c.damage.ensures)
-    (refused c.requests_have_one_verdict.ensures c.args.kit.now c.args.table.now c.stamp-stamp.result c.args.words.now c.in_ok-command.command c.in-Err.fault
-    c.in_ok-command.ensures c.stamp-stamp.ensures.value c.in-Err.ensures.verdict)

@@ -1,5 +1,0 @@
-use Rattle.rr_recovery.proofs.PlayingLemmas.{IsPlaying}
-use Rattle.rr_recovery.proofs.playing.play_all.Given as goal
-
-abbrev pub invariant-loop-words : goal.invariant-loop-words
-invariant-loop-words l = IsPlaying l.kit l.fn.bytes l.fn.count l.words-iterator l.table

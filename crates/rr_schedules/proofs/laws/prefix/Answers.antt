@@ -1,5 +1,0 @@
-use Rattle.rr_schedules.proofs.Schedules.{prefix as sound, none_turned_away}
-use Rattle.rr_schedules.proofs.laws.prefix.Goals as goal
-
-pub returns : goal.returns
-returns g c = record { sound = sound g.W.Worlds.worlds; opens = none_turned_away g.W.Worlds.worlds }

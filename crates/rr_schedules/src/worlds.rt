@@ -1,7 +1,0 @@
-ghost use Rattle.rr_schedules.specs.Worlds.{Worlds as WorldsOf};
-
-/// Commands and worlds, and which files stand for a world and which keep one. It has no code.
-pub trait Worlds {
-    /// What they are.
-    ghost worlds: { WorldsOf };
-}

@@ -1,5 +1,0 @@
-pub mod Snapshot
-pub mod Kit
-pub mod Writing
-pub mod Laying
-pub mod Planning

@@ -1,0 +1,10 @@
+pub mod WordLemmas
+pub mod FormLemmas
+pub mod PlayingLemmas
+pub mod TellingLemmas
+pub mod BaseLemmas
+pub mod ReplayLemmas
+pub mod VerdictLemmas
+pub mod RestoringLemmas
+pub mod PlayedLemmas
+pub mod Recovered

@@ -1,0 +1,54 @@
+-- What the entries of a directory and their chains tell, table by table.
+use Rattle.std.proofs.Common.{◌≡◌, ◌↔◌, ℕ, zero, suc, ◌<◌, ◌≤◌, List, [], ◌∷◌, ◌++◌, length, drop, get_or, sym, subst, arith}
+use Rattle.rr_reading.specs.declared.dir.directory.TableEntry.{TableEntry}
+use Rattle.rr_hist.specs.Playing.{ends_turn}
+use Rattle.rr_images.specs.Holding.{HeldChain}
+use Rattle.rr_kit.specs.declared.kit.Kit.{Kit}
+use Rattle.rr_pages.specs.declared.reading.ReadChain.{ReadChain}
+use Rattle.rr_reading.specs.Chains.{all_held}
+use Rattle.rr_tables.specs.Records.Played.{ArePlayedTables, IsPlayedTable}
+use Rattle.rr_tables.specs.Records.World.{TableState, World}
+use Rattle.rr_turns.specs.Turns.{ended_turns}
+use Rattle.rr_store.specs.Recovery.Kept.{TellsPlayed}
+use Rattle.rr_store.specs.Recovery.Told.{EachHas, TellTables, TellsTable}
+
+-- that those from one place on have it decides that all have it
+abbrev pub LeftDecide : (TableEntry → List ℕ → Type 0) → List TableEntry → List ReadChain → ℕ → Type 0
+LeftDecide P entries chains n = EachHas P (drop n entries) (all_held (drop n chains)) ↔ EachHas P entries (all_held chains)
+
+-- all have it only if each has it
+pub each_at : (P : TableEntry → List ℕ → Type 0) (entries : List TableEntry) (chains : List ReadChain) (n : ℕ) (entry : TableEntry) (chain : ReadChain) → n < length entries → n < length chains
+    → entry ≡ get_or entries n entry → chain ≡ get_or chains n chain → EachHas P entries (all_held chains) → P entry chain.bytes.items
+each_at P [] chains n entry chain entry_in chain_in entry_is chain_is all = absurd (omega (arith, entry_in))
+each_at P (e ∷ es) [] n entry chain entry_in chain_in entry_is chain_is all = absurd all
+each_at P (e ∷ es) (c ∷ cs) zero entry chain entry_in chain_in entry_is chain_is all =
+    subst (λ (x : TableEntry). P x chain.bytes.items) (sym entry_is) (subst (λ (x : ReadChain). P e x.bytes.items) (sym chain_is) all.0)
+each_at P (e ∷ es) (c ∷ cs) (suc n) entry chain entry_in chain_in entry_is chain_is all =
+    each_at P es cs n entry chain (omega (arith, entry_in)) (omega (arith, chain_in)) entry_is chain_is all.1
+
+-- tables that are told and were played
+pub played_each : (kit : Kit) (entries : List TableEntry) (chains : List HeldChain) (tables : World) → TellTables entries chains tables → ArePlayedTables kit tables
+    → EachHas (TellsPlayed kit) entries chains
+played_each kit [] chains tables told played = tt
+played_each kit (entry ∷ entries) [] tables told played = absurd told
+played_each kit (entry ∷ entries) (chain ∷ chains) [] told played = absurd told
+played_each kit (entry ∷ entries) (chain ∷ chains) (table ∷ tables) told played =
+    let floor : entry.floor ≤ table.1.floor = omega (arith, told.0.floored) in
+    let floored : entry.floor ≤ ended_turns (ends_turn kit) table.1.commands = omega (arith, floor, played.0.floored) in (
+      record { holds = record { commands = table.1.commands; kept = told.0.kept; played = played.0.lawful }; floored = floored },
+      played_each kit entries chains tables told.1 played.1,
+    )
+
+-- one table more
+pub told_more : (entries : List TableEntry) (chains : List HeldChain) (tables : World) (entry : TableEntry) (chain : HeldChain) (table : List ℕ × TableState)
+    → TellTables entries chains tables → TellsTable entry chain.text table → TellTables (entries ++ entry ∷ []) (chains ++ chain ∷ []) (tables ++ table ∷ [])
+told_more [] [] [] entry chain table told last = (last, tt)
+told_more [] [] (t ∷ ts) entry chain table told last = absurd told
+told_more [] (c ∷ cs) ts entry chain table told last = absurd told
+told_more (e ∷ es) [] ts entry chain table told last = absurd told
+told_more (e ∷ es) (c ∷ cs) [] entry chain table told last = absurd told
+told_more (e ∷ es) (c ∷ cs) (t ∷ ts) entry chain table told last = (told.0, told_more es cs ts entry chain table told.1 last)
+
+pub played_more : (kit : Kit) (tables : World) (table : List ℕ × TableState) → ArePlayedTables kit tables → IsPlayedTable kit table.1 → ArePlayedTables kit (tables ++ table ∷ [])
+played_more kit [] table played last = (last, tt)
+played_more kit (t ∷ ts) table played last = (played.0, played_more kit ts table played.1 last)

@@ -1,0 +1,10 @@
+pub mod Fault
+pub mod Kept
+pub mod Told
+pub mod Restoring
+pub mod Replaying
+pub mod Taking
+pub mod Texts
+pub mod Base
+pub mod Telling
+pub mod Recovered

@@ -1,0 +1,65 @@
+-- What the chain of a table tells of its kept commands.
+use Rattle.std.specs.Prelude.{◌≡◌, ℕ, ◌<◌, ◌≤◌, List, [], ◌∷◌, length}
+use Rattle.rr_code.specs.Command.{SpellsCommand}
+use Rattle.rr_code.specs.declared.command.Command.{Command}
+use Rattle.rr_code.specs.declared.command.Command.TheVariants.{Open}
+use Rattle.rr_reading.specs.declared.dir.directory.TableEntry.{TableEntry}
+use Rattle.rr_reading.specs.Dir.Kept.{SpellsKept}
+use Rattle.rr_hist.specs.declared.table.Table.{Table}
+use Rattle.rr_hist.specs.Playing.{ArePlayed, IsLawfulAfter, ends_turn}
+use Rattle.rr_hist.specs.Tables.{IsPlayed, kept_in}
+use Rattle.rr_kit.specs.declared.kit.Kit.{Kit}
+use Rattle.rr_tables.specs.Records.Words.{SpellCommands}
+use Rattle.rr_turns.specs.declared.request.Request.TheVariants.{Play}
+use Rattle.rr_turns.specs.Kept.{kept_after}
+use Rattle.rr_turns.specs.Turns.{ended_turns}
+
+-- the bytes of a chain are so many kept commands, whose words spell these
+pub record HoldsCommands (bytes : List ℕ) (count : ℕ) (commands : List Command) : Type 0 where
+  pub words : List (List ℕ)
+  pub kept : SpellsKept bytes words
+  pub counted : length words ≡ count
+  pub spelled : SpellCommands words commands
+
+-- words that spell no opening of a table
+abbrev pub SpellsNoOpening : List ℕ → Type 0
+SpellsNoOpening words = (players : List (List ℕ)) → SpellsCommand words (Open players) → ⊥
+
+-- words that spell no command which is lawful after these
+abbrev pub IsUnlawfulAfter : Kit → List Command → List ℕ → Type 0
+IsUnlawfulAfter kit before words = (command : Command) → SpellsCommand words command → IsLawfulAfter kit before command → ⊥
+
+-- a table that an opening with these words begins
+pub record IsBegunBy (kit : Kit) (words : List ℕ) (table : Table) : Type 0 where
+  pub spelled : SpellCommands (words ∷ []) (kept_in table).commands
+  pub stamped : (kept_in table).stamp ≡ length (kept_in table).commands
+  pub played : IsPlayed kit table
+
+-- a table that has played the command of these words
+pub record HasPlayed (kit : Kit) (old : Table) (words : List ℕ) (new : Table) : Type 0 where
+  pub command : Command
+  pub spelled : SpellsCommand words command
+  pub kept : kept_in new ≡ kept_after (ends_turn kit) (kept_in old) (Play command)
+  pub played : IsPlayed kit new
+
+-- a table that has room for a command more, and a stamp after its own
+pub record HasRoom (table : Table) : Type 0 where
+  pub room : length (kept_in table).commands < 4096
+  pub stamp : (kept_in table).stamp < 4000000000
+
+-- the table keeps the commands that the bytes hold, and its game is their play
+pub record IsRestored (kit : Kit) (bytes : List ℕ) (count : ℕ) (table : Table) : Type 0 where
+  pub kept : HoldsCommands bytes count (kept_in table).commands
+  pub played : IsPlayed kit table
+
+-- the bytes hold commands that were played: an opening and then commands that are lawful, each after those before it
+pub record HoldsPlayed (kit : Kit) (bytes : List ℕ) (count : ℕ) : Type 0 where
+  pub commands : List Command
+  pub kept : HoldsCommands bytes count commands
+  pub played : ∥ ArePlayed kit commands ∥₁
+
+-- an entry and its bytes tell a table that was played: the bytes hold commands that were, and the entry's floor isn't above
+-- the turns that ended in them
+pub record TellsPlayed (kit : Kit) (entry : TableEntry) (bytes : List ℕ) : Type 0 where
+  pub holds : HoldsPlayed kit bytes entry.kept
+  pub floored : entry.floor ≤ ended_turns (ends_turn kit) holds.commands

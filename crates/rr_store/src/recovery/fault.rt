@@ -1,0 +1,64 @@
+use rr_pages::Damage;
+use std::alloc::{AllocError, AllocFailed};
+use thiserror::Error;
+
+/// Why tables weren't recovered.
+#[derive(Clone, Copy, Debug, Drop, PartialEq, Eq, Error)]
+pub enum Fault {
+    /// The file holds what no store of ours holds.
+    #[error("damaged {0}")]
+    Damaged(Damage),
+    /// Memory was wanted and refused.
+    #[error("out of memory")]
+    OutOfMemory,
+}
+
+impl Fault {
+    ghost use Rattle.std.specs.Prelude.{◌≡◌};
+    ghost use Rattle.rr_store.specs.Recovery.Fault.{number_of};
+
+    /// The number that replies give.
+    pub fn number(self) -> u8
+        ensures { result ≡ number_of self }
+    {
+        match self {
+            Fault::Damaged(_) => 63,
+            Fault::OutOfMemory => 70,
+        }
+    }
+}
+
+/// Of a record: it spells no request.
+impl From<rr_code::Fault> for Fault {
+    ghost use Rattle.std.specs.Prelude.{◌≡◌};
+    ghost use Rattle.rr_pages.specs.declared.fault.Damage.TheVariants.{Records};
+    ghost use Rattle.rr_store.specs.declared.recovery.fault.Fault.TheVariants.{Damaged};
+
+    ghost from_gives = { λ _ fault. fault ≡ Damaged Records };
+
+    fn from(_: rr_code::Fault) -> Fault {
+        Fault::Damaged(Damage::Records)
+    }
+}
+
+impl From<AllocError> for Fault {
+    ghost use Rattle.std.specs.Prelude.{◌≡◌};
+    ghost use Rattle.rr_store.specs.declared.recovery.fault.Fault.TheVariants.{OutOfMemory};
+
+    ghost from_gives = { λ _ fault. fault ≡ OutOfMemory };
+
+    fn from(_: AllocError) -> Fault {
+        Fault::OutOfMemory
+    }
+}
+
+impl<T: Drop> From<AllocFailed<T>> for Fault {
+    ghost use Rattle.std.specs.Prelude.{◌≡◌};
+    ghost use Rattle.rr_store.specs.declared.recovery.fault.Fault.TheVariants.{OutOfMemory};
+
+    ghost from_gives = { λ _ fault. fault ≡ OutOfMemory };
+
+    fn from(_: AllocFailed<T>) -> Fault {
+        Fault::OutOfMemory
+    }
+}

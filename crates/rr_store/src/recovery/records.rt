@@ -1,0 +1,90 @@
+//! Records, taken in turn.
+ghost use Rattle.std.specs.Prelude.{◌≡◌, ◌⊎◌, ◌++◌, IfOk, IfErr, OnOk};
+ghost use Rattle.rr_pages.specs.Journal.Reading.{lines};
+ghost use Rattle.rr_tables.specs.Records.Lines.{IsUnlawful, TakesRecord};
+ghost use Rattle.rr_store.specs.Recovery.Taking.{of_tables};
+ghost use Rattle.rr_store.specs.Recovery.Replaying.{AreReplayed, BreaksOff, IsTranscriptBefore, Replays};
+ghost use Rattle.rr_tables.specs.Tables.{world_of};
+
+use crate::recovery::Fault;
+use rr_checkpoint::plan::Transcript;
+use rr_code::read_record;
+use rr_log::TablesInWords;
+use rr_pages::Damage;
+use rr_tables::{Standing, Tables};
+use std::alloc::Global;
+
+/// Takes the near records and then the far ones. Where there are far records, it gives the tables from before them.
+pub(crate) fn replay_halves(
+    alloc: Global,
+    tables: &mut Tables,
+    near: &[Vec<u8>],
+    far: &[Vec<u8>],
+) -> Result<Option<Transcript>, Fault>
+    ensures replayed { IfOk result (λ base. AreReplayed tables.old.kit (world_of tables.old) (lines near.now) (lines far.now) base (world_of tables.new)) }
+    ensures refused { IfErr result (λ fault. (fault ≡ Fault.OutOfMemory)
+        ⊎ ((fault ≡ Fault.Damaged Damage.Records)
+        × BreaksOff tables.old.kit (world_of tables.old) (lines near.now ++ lines far.now))) }
+    ensures kit { tables.new.kit ≡ tables.old.kit }
+{
+    replay(alloc, tables, near)?;
+    let base = transcript_before(alloc, tables, far)?;
+    replay(alloc, tables, far)?;
+    Ok(base)
+}
+
+/// The tables, where there are far records.
+fn transcript_before(
+    alloc: Global,
+    tables: &Tables,
+    far: &[Vec<u8>],
+) -> Result<Option<Transcript>, Fault>
+    ensures base { IfOk result (IsTranscriptBefore (lines far.now) (world_of tables.now)) }
+    ensures memory { IfErr result (λ fault. fault ≡ Fault.OutOfMemory) }
+{
+    if far.is_empty() {
+        return Ok(None);
+    }
+    match tables.transcript(alloc) {
+        Ok(transcript) => Ok(Some(transcript)),
+        Err(_) => Err(Fault::OutOfMemory),
+    }
+}
+
+/// Takes records in turn.
+fn replay(alloc: Global, tables: &mut Tables, records: &[Vec<u8>]) -> Result<(), Fault>
+    ensures replayed { OnOk result (Replays tables.old.kit (world_of tables.old) (lines records.now) (world_of tables.new)) }
+    ensures refused { IfErr result (λ fault. (fault ≡ Fault.OutOfMemory)
+        ⊎ ((fault ≡ Fault.Damaged Damage.Records) × BreaksOff tables.old.kit (world_of tables.old) (lines records.now))) }
+    ensures kit { tables.new.kit ≡ tables.old.kit }
+{
+    for bytes in records {
+        replay_record(alloc, tables, bytes)?;
+    }
+    Ok(())
+}
+
+fn replay_record(alloc: Global, tables: &mut Tables, bytes: &[u8]) -> Result<(), Fault>
+    ensures taken { OnOk result (TakesRecord tables.old.kit (world_of tables.old) bytes.now (world_of tables.new)) }
+    ensures refused { IfErr result (λ fault. (fault ≡ Fault.OutOfMemory)
+        ⊎ ((fault ≡ Fault.Damaged Damage.Records) × IsUnlawful tables.old.kit (world_of tables.old) bytes.now)) }
+    ensures kit { tables.new.kit ≡ tables.old.kit }
+{
+    rr_hist::laws::requests_have_one_verdict();
+    let (name, request) = read_record(bytes)?;
+    let stamp = tables.stamp(&name);
+    match tables.take(alloc, stamp, &name, &request, &mut Standing) {
+        Ok(_) => Ok(()),
+        Err(fault) => Err(damage(fault)),
+    }
+}
+
+/// Why a file is refused where the tables refuse a record of it.
+fn damage(fault: rr_tables::Fault) -> Fault
+    ensures { result ≡ of_tables fault }
+{
+    match fault {
+        rr_tables::Fault::Rules(rr_tables::records::Fault::OutOfMemory) => Fault::OutOfMemory,
+        _ => Fault::Damaged(Damage::Records),
+    }
+}

@@ -1,0 +1,9 @@
+pub mod Fault
+pub mod World
+pub mod Lines
+pub mod Words
+pub mod Taking
+pub mod Played
+pub mod Laws
+pub mod Schedules
+pub mod Headline

@@ -1,0 +1,28 @@
+-- Which lines of records are lawful in a world in words, and to which world they lead; and the files of such records.
+use Rattle.std.specs.Prelude.{◌≡◌, ℕ, List}
+use Rattle.rr_images.specs.Codec.{Codec}
+use Rattle.rr_kit.specs.declared.kit.Kit.{Kit}
+use Rattle.rr_kit.specs.Kits.{SpellsKit}
+use Rattle.rr_reading.specs.Worlds.Spelling.{worlds}
+use Rattle.rr_reading.specs.Worlds.World as words
+use Rattle.rr_tables.specs.Records.Played.{ArePlayedTables}
+use Rattle.rr_tables.specs.Records.Lines.{TakesRecord}
+use Rattle.rr_tables.specs.Records.Words.{IsInWords, kit_texts}
+use Rattle.rr_tables.specs.Records.World.{World}
+
+-- The line spells a request that is lawful at its table, by the rules of the kit that the world's texts spell, and the
+-- tables before it were played by these rules; it leads to the world in which the table has taken it, with the same texts.
+pub record Takes (line : List ℕ) (old new : words.World) : Type 0 where
+  pub kit : Kit
+  pub right : SpellsKit (kit_texts old) kit
+  pub before : World
+  pub after : World
+  pub was : IsInWords before old
+  pub played : ArePlayedTables kit before
+  pub taken : TakesRecord kit before line after
+  pub becomes : IsInWords after new
+  pub same_texts : kit_texts new ≡ kit_texts old
+
+-- files of tables: their records go by these rules
+abbrev pub table_files : Codec
+table_files = worlds Takes

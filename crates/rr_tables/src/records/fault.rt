@@ -1,0 +1,61 @@
+ghost use Rattle.std.specs.Prelude.{◌≡◌};
+ghost use Rattle.rr_tables.specs.Records.Fault.{number_of, of_table};
+
+use thiserror::Error;
+
+/// Why a request isn't lawful at its table.
+#[derive(Clone, Copy, Debug, Drop, PartialEq, Eq, Error)]
+pub enum Fault {
+    /// The rules of the game refuse it. Want of memory isn't told by this, but by `OutOfMemory`.
+    #[error("{0}")]
+    Game(rr_game::Fault),
+    /// The stamp isn't the table's, which is given.
+    #[error("stale stamp {0}")]
+    StaleStamp(u64),
+    /// The turn hasn't ended yet, or it is forgotten.
+    #[error("turn not kept")]
+    TurnNotKept,
+    /// The table has all the commands that it can keep, or its last stamp.
+    #[error("too many commands")]
+    TooManyCommands,
+    /// There are 64 tables.
+    #[error("too many tables")]
+    TooManyTables,
+    /// No table has this name.
+    #[error("no such table")]
+    NoSuchTable,
+    /// A request for memory was refused.
+    #[error("out of memory")]
+    OutOfMemory,
+}
+
+impl Fault {
+    /// The number that a reply gives.
+    pub fn number(&self) -> u8
+        ensures { result ≡ number_of self.now }
+    {
+        match self {
+            Fault::Game(fault) => fault.number(),
+            Fault::StaleStamp(_) => 52,
+            Fault::TurnNotKept => 53,
+            Fault::TooManyCommands => 54,
+            Fault::TooManyTables => 66,
+            Fault::NoSuchTable => 68,
+            Fault::OutOfMemory => 70,
+        }
+    }
+}
+
+impl From<rr_hist::Fault> for Fault {
+    ghost from_gives = { λ fault wrapped. wrapped ≡ of_table fault };
+
+    fn from(fault: rr_hist::Fault) -> Fault {
+        match fault {
+            rr_hist::Fault::Game(fault) => Fault::Game(fault),
+            rr_hist::Fault::StaleStamp(stamp) => Fault::StaleStamp(stamp),
+            rr_hist::Fault::TurnNotKept => Fault::TurnNotKept,
+            rr_hist::Fault::TooManyCommands => Fault::TooManyCommands,
+            rr_hist::Fault::OutOfMemory => Fault::OutOfMemory,
+        }
+    }
+}

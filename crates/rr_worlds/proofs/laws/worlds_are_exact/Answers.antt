@@ -1,5 +1,0 @@
-use Rattle.rr_worlds.proofs.Exact.{are_exact}
-use Rattle.rr_worlds.proofs.laws.worlds_are_exact.Goals as goal
-
-pub returns : goal.returns
-returns g _ = are_exact g.R.Rules.takes

@@ -1,8 +1,0 @@
-use Rattle.rr_worlds.proofs.Exact.{forms_spelled}
-use Rattle.rr_worlds.proofs.laws.worlds_are_read.Goals as goal
-
-pub returns-clause-chains : goal.returns-clause-chains
-returns-clause-chains g _ = λ version bytes heads. (λ named. named, λ named. named)
-
-pub returns-clause-forms : goal.returns-clause-forms
-returns-clause-forms g _ = forms_spelled

@@ -1,8 +1,0 @@
-use Rattle.rr_worlds.proofs.ReadBack.{read_back, written}
-use Rattle.rr_worlds.proofs.laws.worlds_are_read_back.Goals as goal
-
-pub returns-clause-written : goal.returns-clause-written
-returns-clause-written _ = read_back
-
-pub returns-clause-read : goal.returns-clause-read
-returns-clause-read _ = written
