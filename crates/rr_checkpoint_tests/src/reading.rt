@@ -1,8 +1,9 @@
 use crate::calls::{Bytes, in_memory, written};
 use rr_disk::{FaultyDisk, MemoryDisk};
+use rr_pages::Damage;
 use rr_pages::journal::RunEnd;
 use rr_reading::laws::files_have_one_answer;
-use rr_reading::{Contents, Damage, Fault, read_file};
+use rr_reading::{Contents, Fault, read_file};
 use std::alloc::Global;
 
 const PAGE: usize = 4096;
