@@ -1,9 +1,9 @@
 //! Laws on files and worlds: whatever comes to a store's file, each world that it keeps is sound; a file opens or is
-//! refused and never both; and two fronts of the accepted requests never have one world. The calls do nothing: their
-//! contracts hold of all files, worlds and schedules.
+//! refused and never both; two fronts of the accepted requests never have one world; and whatever lines are served are
+//! calls of a store. The calls do nothing: their contracts hold of all files, worlds and schedules.
 //!
-//! Stands on `rr_moderator`, `rr_store`, `rr_records` and `rr_laws`; nothing of the program stands on it. Its promise:
-//! `whatever_comes_is_sound`.
+//! Stands on `rr_moderator`, `rr_store`, `rr_tables` and `rr_laws`; nothing of the program stands on it. Its promises:
+//! `whatever_comes_is_sound` and `services_go_on`.
 #![tactic(auto)]
 
 ghost use Rattle.rr_kit.specs.Kits.{KitTexts};
