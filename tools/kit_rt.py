@@ -15,7 +15,10 @@ import time
 
 HERE = os.path.dirname(os.path.realpath(__file__))
 # The sum of the text of the kit's functions that are replaced here, and of the one that they share, by the kit.
-KNOWN = {"38f0ae622bb47bcb536f7c0d580d67c4035aa1245c68a930d77e809dcb0d2d46": "rattle-kit-13b"}
+KNOWN = {
+    "38f0ae622bb47bcb536f7c0d580d67c4035aa1245c68a930d77e809dcb0d2d46": "rattle-kit-13b",
+    "81d0859b3b0bc1e42d0f8c0b7c9dcb27e97f8fd08632b4e1ac0f0eeb2b32cffa": "rattle-kit-13f",
+}
 # A file that changed so lately could change once more within one tick of its clock.
 YOUNG = 1_000_000_000
 
@@ -46,7 +49,9 @@ def load(path):
     try:
         kit = read(path)
         crate = kit.rtlib.Crate
-        text = "".join(map(inspect.getsource, (crate.below, crate.stamp, kit.rtlib.files_of)))
+        # (a kit that remembers sums within a call has the function that makes them as its default)
+        made = crate.stamp.__defaults__ or ()
+        text = "".join(map(inspect.getsource, (crate.below, crate.stamp, *made, kit.rtlib.files_of)))
         inherits = kit.Crate.below is crate.below and kit.Crate.stamp is crate.stamp
     except (Exception, SystemExit) as why:
         raise Unknown(f"it can't be read ({why!r})") from why
