@@ -4,8 +4,8 @@ use Rattle.std.proofs.Common.{arith}
 use Rattle.rr_roster.specs.declared.company.Private.{Private}
 use Rattle.rr_books.specs.declared.parties.Seat.{Seat}
 use Rattle.rr_books.specs.Shares.{Holders, privates}
-use Rattle.rr_bids.specs.Bids.{Bids, bid_of, tied_up}
-use Rattle.rr_bids.specs.Unsold.{is_unsold}
+use Rattle.rr_rounds.specs.Bids.Bids.{Bids, bid_of, tied_up}
+use Rattle.rr_rounds.specs.Bids.Unsold.{is_unsold}
 
 -- what a seat has bid on a private, if that is unsold
 abbrev pub bid_on : Holders → Bids → Seat → Private → ℕ

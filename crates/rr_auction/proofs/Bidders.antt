@@ -7,8 +7,8 @@ use Rattle.rr_roster.specs.declared.company.Private.{Private}
 use Rattle.rr_roster.specs.Company.{private_index}
 use Rattle.rr_books.specs.declared.parties.Seat.{Seat}
 use Rattle.rr_books.specs.Shares.{Holders, privates}
-use Rattle.rr_bids.specs.Bids.{Row, all_seats, bid_in, has_bid, highest, leader, raiser, sole_bidder}
-use Rattle.rr_bids.specs.Unsold.{cheapest, is_private, is_unsold, same_private}
+use Rattle.rr_rounds.specs.Bids.Bids.{Row, all_seats, bid_in, has_bid, highest, leader, raiser, sole_bidder}
+use Rattle.rr_rounds.specs.Bids.Unsold.{cheapest, is_private, is_unsold, same_private}
 
 -- what is found passes the test
 found_passes : {X : Type 0} (p : X → Bool) (xs : List X) (x : X) → find p xs ≡ Some x → p x ≡ true

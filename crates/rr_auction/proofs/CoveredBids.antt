@@ -10,11 +10,11 @@ use Rattle.rr_books.specs.declared.parties.Seat.{Seat}
 use Rattle.rr_books.specs.declared.parties.Party.TheVariants as P
 use Rattle.rr_books.specs.Shares.{Holders}
 use Rattle.rr_books.specs.Seating.{left_at_table, left_of}
-use Rattle.rr_bids.specs.Bids.{Bids, bid_of, tied_on, tied_up, with_bid}
+use Rattle.rr_rounds.specs.Bids.Bids.{Bids, bid_of, tied_on, tied_up, with_bid}
 use Rattle.rr_auction.proofs.AllBids.{all_bids, bid_on}
-use Rattle.rr_bids.specs.Progress.{Progress, after_bid, after_last_pass, after_leaving, after_par, after_pass, after_turn_pass, all_pass}
+use Rattle.rr_rounds.specs.Bids.Progress.{Progress, after_bid, after_last_pass, after_leaving, after_par, after_pass, after_turn_pass, all_pass}
 use Rattle.rr_auction.specs.Rules.{Accounts, free_cash}
-use Rattle.rr_bids.specs.Unsold.{is_unsold, same_private}
+use Rattle.rr_rounds.specs.Bids.Unsold.{is_unsold, same_private}
 use Rattle.rr_auction.proofs.Covers.{IsCovered, bid_written, same_sum}
 use Rattle.rr_auction.proofs.AllBids.{split}
 

@@ -22,16 +22,16 @@ use Rattle.rr_books.specs.Same.{same_cert, same_party}
 use Rattle.rr_books.specs.Shares.{Holders, is_at, share_numbers}
 use Rattle.rr_books.specs.State.{has_party, has_place}
 use Rattle.rr_desk.specs.Effects.{adds, moves_if}
-use Rattle.rr_bids.specs.Bids.{Bids, bid_of, tied_on, tied_up}
+use Rattle.rr_rounds.specs.Bids.Bids.{Bids, bid_of, tied_on, tied_up}
 use Rattle.rr_desk.specs.Incomes.{dollars, owner, pays_if, pays_income}
 use Rattle.rr_auction.specs.Effects.{gift, sale}
 use Rattle.rr_auction.proofs.AllBids.{all_bids, bid_on}
-use Rattle.rr_bids.specs.Progress.{Progress, after, progress}
+use Rattle.rr_rounds.specs.Bids.Progress.{Progress, after, progress}
 use Rattle.rr_auction.specs.Rules.{free_cash}
-use Rattle.rr_bids.specs.Unsold.{is_unsold, same_private}
+use Rattle.rr_rounds.specs.Bids.Unsold.{is_unsold, same_private}
 use Rattle.rr_auction.proofs.Covers.{IsCovered, IsCoveredBook, GoesOn, goes_by, goes_nowhere, goes_once, goes_then, nothing_paid, same_sum}
 use Rattle.rr_auction.proofs.AllBids.{split}
-use Rattle.rr_bids.specs.ProgressLaws.{progress-append}
+use Rattle.rr_rounds.specs.Bids.ProgressLaws.{progress-append}
 
 -- the same privates are unsold, so the same bids stand
 same_bids : (H K : Holders) (b : Bids) (t : Seat) → ((q : Private) → K (C.Private q) ≡ H (C.Private q)) → all_bids K b t ≡ all_bids H b t

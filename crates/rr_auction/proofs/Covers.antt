@@ -22,12 +22,12 @@ use Rattle.rr_books.specs.Book.{Book, balance, balance-push, balance_after, hold
 use Rattle.rr_books.specs.Shares.{Holders, privates}
 use Rattle.rr_books.specs.Totals.{pays_among}
 use Rattle.rr_desk.specs.Effects.{Effect, in_turn}
-use Rattle.rr_bids.specs.Bids.{Bids, bid_of, with_bid}
+use Rattle.rr_rounds.specs.Bids.Bids.{Bids, bid_of, with_bid}
 use Rattle.rr_auction.specs.Dealt.{moves_within}
 use Rattle.rr_auction.proofs.AllBids.{all_bids}
-use Rattle.rr_bids.specs.Progress.{Progress, after, progress}
+use Rattle.rr_rounds.specs.Bids.Progress.{Progress, after, progress}
 use Rattle.rr_auction.specs.Rules.{Accounts}
-use Rattle.rr_bids.specs.ProgressLaws.{progress-append}
+use Rattle.rr_rounds.specs.Bids.ProgressLaws.{progress-append}
 
 -- a seat of the table is next, only seats of the table bid, each has the money for its bids, and no corporation owes
 pub record IsCovered (n : ℕ) (H : Holders) (money : Accounts) (a : Progress) : Type 0 where

@@ -21,10 +21,10 @@ use Rattle.rr_books.specs.Book.{Book, holder, players}
 use Rattle.rr_books.specs.Same.{same_seat}
 use Rattle.rr_books.specs.Seating.{left_of}
 use Rattle.rr_auction.specs.AuctionLaws.{bid_by, bid_told, buys_or_bids, for_sale, is_raised, left_of_buyer, left_of_turn, pass_by, passes, several_bid, trade_by, turn_by}
-use Rattle.rr_bids.specs.Bids.{Bids, Row, bid_of, bids_on, no_bids, with_bid}
-use Rattle.rr_bids.specs.Progress.{Progress, after, after_bid, after_last_pass, after_leaving, after_par, after_pass, after_purchase, after_turn_pass, all_pass, progress, raise_due, raise_for}
-use Rattle.rr_bids.specs.Unsold.{is_private, same_private}
-use Rattle.rr_bids.specs.ProgressLaws.{progress-none, progress-push}
+use Rattle.rr_rounds.specs.Bids.Bids.{Bids, Row, bid_of, bids_on, no_bids, with_bid}
+use Rattle.rr_rounds.specs.Bids.Progress.{Progress, after, after_bid, after_last_pass, after_leaving, after_par, after_pass, after_purchase, after_turn_pass, all_pass, progress, raise_due, raise_for}
+use Rattle.rr_rounds.specs.Bids.Unsold.{is_private, same_private}
+use Rattle.rr_rounds.specs.Bids.ProgressLaws.{progress-none, progress-push}
 use Rattle.rr_auction.proofs.Histories.{by_entries}
 use Rattle.rr_auction.proofs.Raising.{raiser_several}
 

@@ -25,20 +25,20 @@ use Rattle.rr_desk.specs.Effects.{Effect, adds, in_turn}
 use Rattle.rr_market.specs.Moves.{mark_at, par_marks}
 use Rattle.rr_auction.specs.declared.fault.Fault.{Fault}
 use Rattle.rr_auction.specs.declared.fault.Fault.TheVariants as F
-use Rattle.rr_bids.specs.Bids.{Bids, Row, all_seats, bid_of, bids_on, first_before, first_behind, has_bid, leader, least_bid, next_bidder, raiser, sole_bidder, tied_up}
+use Rattle.rr_rounds.specs.Bids.Bids.{Bids, Row, all_seats, bid_of, bids_on, first_before, first_behind, has_bid, leader, least_bid, next_bidder, raiser, sole_bidder, tied_up}
 use Rattle.rr_desk.specs.Incomes.{dollars, pay_incomes_of, pays_income}
 use Rattle.rr_auction.specs.Effects.{brings_incomes, entries_of, incomes_if, is_over, may_end, pass_of, purchase_of, said, sale, sale_at_bid, sets_par, settle, settled, settle_each, settles, stock_begins}
 use Rattle.rr_auction.proofs.AllBids.{bid_on}
-use Rattle.rr_bids.specs.Progress.{Progress, after_act, progress, raise_due, raise_for}
+use Rattle.rr_rounds.specs.Bids.Progress.{Progress, after_act, progress, raise_due, raise_for}
 use Rattle.rr_auction.specs.Rules.{Accounts, bid_verdict, bidder_due, due, due_in, free_cash, is_open, is_turn, pass_verdict, price, price_verdict, purchase_verdict, spending_verdict, takes_bids, verdict}
 use Rattle.rr_auction.specs.SoundMoney.{AreLawful, with_acts}
-use Rattle.rr_bids.specs.Unsold.{cheapest, is_private, is_unsold}
+use Rattle.rr_rounds.specs.Bids.Unsold.{cheapest, is_private, is_unsold}
 use Rattle.rr_auction.proofs.Bidders.{bid_is_some, cheapest_unsold, sole_bids}
 use Rattle.rr_auction.proofs.Covers.{IsCovered, IsCoveredBook, GoesOn, covered_moved, goes_by, goes_by_step, goes_further, goes_nowhere, goes_once, goes_then, nothing_paid}
 use Rattle.rr_auction.proofs.CoveredBids.{covered_after_bid, covered_after_par, covered_after_pass, covered_left}
 use Rattle.rr_auction.proofs.CoveredSales.{goes_by_private_income, goes_by_sale}
 use Rattle.rr_auction.proofs.AllBids.{split}
-use Rattle.rr_bids.specs.ProgressLaws.{progress-append}
+use Rattle.rr_rounds.specs.Bids.ProgressLaws.{progress-append}
 
 -- effects in turn that each go on
 goes_each : {X : Type 0} (n : ℕ) (f : X → Effect) → ((x : X) (book : Book) → IsCoveredBook n book → GoesOn n book (f x book)) → (xs : List X) (book : Book) → IsCoveredBook n book → GoesOn n book (in_turn (map f xs) book)

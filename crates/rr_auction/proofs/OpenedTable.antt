@@ -16,11 +16,11 @@ use Rattle.rr_books.specs.Opening.{kinds, opening_entries, opening_moves, openin
 use Rattle.rr_books.specs.Same.{same_party}
 use Rattle.rr_books.specs.Shares.{Holders, certificates}
 use Rattle.rr_books.proofs.OpeningPlaces.{moves-balance, moves-players, trains-balance, trains-players}
-use Rattle.rr_bids.specs.Bids.{bid_of, no_bids}
+use Rattle.rr_rounds.specs.Bids.Bids.{bid_of, no_bids}
 use Rattle.rr_auction.proofs.AllBids.{all_bids, bid_on}
 use Rattle.rr_auction.specs.Opening.{opened}
-use Rattle.rr_bids.specs.Progress.{Progress, beginning, progress}
-use Rattle.rr_bids.specs.Unsold.{is_unsold}
+use Rattle.rr_rounds.specs.Bids.Progress.{Progress, beginning, progress}
+use Rattle.rr_rounds.specs.Bids.Unsold.{is_unsold}
 use Rattle.rr_auction.proofs.Covers.{IsCovered, IsCoveredBook, nothing_paid, same_sum}
 use Rattle.rr_auction.proofs.Openings.{begins}
 

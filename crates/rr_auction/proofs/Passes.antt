@@ -14,9 +14,9 @@ use Rattle.rr_books.specs.Book.{Book, holder, players}
 use Rattle.rr_auction.specs.AuctionLaws.{all_passed, all_passed_on_first, buys_or_bids, for_sale, is_raised, passes, passes_before, passes_elsewhere, passes_in_a_row}
 use Rattle.rr_auction.specs.Effects.{brings_incomes}
 use Rattle.rr_auction.specs.History.{last_told, times}
-use Rattle.rr_bids.specs.Progress.{Progress, progress}
-use Rattle.rr_bids.specs.Unsold.{is_private}
-use Rattle.rr_bids.specs.ProgressLaws.{progress-none, progress-push}
+use Rattle.rr_rounds.specs.Bids.Progress.{Progress, progress}
+use Rattle.rr_rounds.specs.Bids.Unsold.{is_private}
+use Rattle.rr_rounds.specs.Bids.ProgressLaws.{progress-none, progress-push}
 use Rattle.rr_auction.proofs.Entries.{counted_once, no_pass, raised-shown, table_of}
 use Rattle.rr_auction.proofs.Histories.{by_entries, last_told-none, last_told-push, times-none, times-push, unwrap_either}
 

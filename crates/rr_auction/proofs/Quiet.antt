@@ -18,8 +18,8 @@ use Rattle.rr_desk.specs.Effects.{Effect, in_turn, moves_if}
 use Rattle.rr_market.specs.Moves.{mark_at}
 use Rattle.rr_desk.specs.Incomes.{owner, pay_incomes_of, pays_if, pays_income}
 use Rattle.rr_auction.specs.Effects.{gift}
-use Rattle.rr_bids.specs.Progress.{Progress, follow}
-use Rattle.rr_bids.specs.ProgressLaws.{follow-append}
+use Rattle.rr_rounds.specs.Bids.Progress.{Progress, follow}
+use Rattle.rr_rounds.specs.Bids.ProgressLaws.{follow-append}
 
 -- effects that each leave it leave it together
 pub effects_still : {X : Type 0} (f : X → Effect) → ((book : Book) (a : Progress) (x : X) → follow book a (f x book) ≡ a) → (book : Book) (a : Progress) (xs : List X) → follow book a (in_turn (map f xs) book) ≡ a

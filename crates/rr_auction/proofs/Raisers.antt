@@ -17,11 +17,11 @@ use Rattle.rr_books.specs.declared.acts.Act.TheVariants as A
 use Rattle.rr_books.specs.Book.{Book, holder-push, players}
 use Rattle.rr_books.specs.Shares.{Holders}
 use Rattle.rr_auction.specs.AuctionLaws.{bid, for_sale, is_raised}
-use Rattle.rr_bids.specs.Bids.{Bids, Row, bid_in, bids_on, first_before, first_behind, has_bid, highest, leader, next_bidder, raiser, with_bid}
-use Rattle.rr_bids.specs.Progress.{Progress, progress, raise_for}
+use Rattle.rr_rounds.specs.Bids.Bids.{Bids, Row, bid_in, bids_on, first_before, first_behind, has_bid, highest, leader, next_bidder, raiser, with_bid}
+use Rattle.rr_rounds.specs.Bids.Progress.{Progress, progress, raise_for}
 use Rattle.rr_auction.specs.RaisingLaws.{IsLeftOfTheHighest, IsNextBidder, seats_on, to_raise, with_told}
-use Rattle.rr_bids.specs.Unsold.{cheapest}
-use Rattle.rr_bids.specs.ProgressLaws.{progress-push}
+use Rattle.rr_rounds.specs.Bids.Unsold.{cheapest}
+use Rattle.rr_rounds.specs.Bids.ProgressLaws.{progress-push}
 use Rattle.rr_auction.proofs.Entries.{IsTable, once_told, private_below, raised-shown, table_of, told_raised}
 use Rattle.rr_auction.proofs.Raising.{below_highest}
 

@@ -8,7 +8,7 @@ use Rattle.std.proofs.lemmas.Bool.Decides.{nat_tests}
 use Rattle.std.proofs.lemmas.List.Folds.{list_any_at}
 use Rattle.std.proofs.lemmas.List.Sums.{sum_by-cons}
 use Rattle.rr_books.specs.declared.parties.Seat.{Seat}
-use Rattle.rr_bids.specs.Bids.{Row, all_seats, bid_in, first_before, first_behind, has_bid, highest, leader, next_bidder, raiser}
+use Rattle.rr_rounds.specs.Bids.Bids.{Row, all_seats, bid_in, first_before, first_behind, has_bid, highest, leader, next_bidder, raiser}
 
 either_finds : {X : Type 0} (o p : Option X) → is_some (option_or o p) ≡ (is_some o || is_some p)
 either_finds None p = refl

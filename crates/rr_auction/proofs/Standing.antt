@@ -10,8 +10,8 @@ use Rattle.rr_books.specs.Book.{Book, balance, holder}
 use Rattle.rr_books.specs.Shares.{Holders}
 use Rattle.rr_books.specs.ShareLaws.{holder-of_state}
 use Rattle.rr_books.specs.State.{State, cash_of, holder_in}
-use Rattle.rr_bids.specs.Progress.{Progress, progress}
-use Rattle.rr_position.specs.Position.{OnTable, IsPositionOf}
+use Rattle.rr_rounds.specs.Bids.Progress.{Progress, progress}
+use Rattle.rr_desk.specs.Position.Position.{OnTable, IsPositionOf}
 use Rattle.rr_auction.specs.declared.fault.Fault.{Fault}
 use Rattle.rr_auction.specs.Rules.{Accounts, verdict, verdict_in}
 

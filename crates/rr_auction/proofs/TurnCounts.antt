@@ -20,10 +20,10 @@ use Rattle.rr_books.specs.Same.{same_seat}
 use Rattle.rr_auction.specs.declared.fault.Fault.{Fault}
 use Rattle.rr_auction.specs.declared.fault.Fault.TheVariants as F
 use Rattle.rr_auction.specs.AuctionLaws.{for_sale, is_raised}
-use Rattle.rr_bids.specs.Progress.{Progress, after, after_last_pass, after_leaving, after_par, after_turn_pass, all_pass, owing_after, progress}
+use Rattle.rr_rounds.specs.Bids.Progress.{Progress, after, after_last_pass, after_leaving, after_par, after_turn_pass, all_pass, owing_after, progress}
 use Rattle.rr_auction.specs.Rules.{is_priced, price, takes_bids}
 use Rattle.rr_auction.specs.TurnLaws.{is_played, owed_by, owed_for, owed_told, owes_par, plays}
-use Rattle.rr_bids.specs.ProgressLaws.{progress-none, progress-push}
+use Rattle.rr_rounds.specs.Bids.ProgressLaws.{progress-none, progress-push}
 use Rattle.rr_auction.proofs.Entries.{once_told, told_raised}
 use Rattle.rr_auction.proofs.Histories.{by_entries, by_last}
 

@@ -11,9 +11,9 @@ use Rattle.rr_books.specs.declared.entries.Marker.TheVariants as M
 use Rattle.rr_books.specs.Book.{Book, holder}
 use Rattle.rr_desk.specs.Effects.{adds, in_turn}
 use Rattle.rr_desk.specs.Incomes.{dollars}
-use Rattle.rr_bids.specs.Bids.{bid_in, bid_of, bids_on, sole_bidder}
-use Rattle.rr_bids.specs.Progress.{progress}
-use Rattle.rr_bids.specs.Unsold.{cheapest, is_private}
+use Rattle.rr_rounds.specs.Bids.Bids.{bid_in, bid_of, bids_on, sole_bidder}
+use Rattle.rr_rounds.specs.Bids.Progress.{progress}
+use Rattle.rr_rounds.specs.Bids.Unsold.{cheapest, is_private}
 use Rattle.rr_auction.specs.Effects.{purchase_of, sale, sale_at_bid, settle, settled, settles}
 use Rattle.rr_auction.specs.Rules.{price}
 

@@ -14,12 +14,12 @@ use Rattle.rr_books.specs.declared.acts.Act.TheVariants as A
 use Rattle.rr_books.specs.Book.{Book, holder, players}
 use Rattle.rr_books.specs.Same.{same_seat}
 use Rattle.rr_books.specs.Seating.{left_of}
-use Rattle.rr_bids.specs.Bids.{Bids, all_seats, bid_of}
+use Rattle.rr_rounds.specs.Bids.Bids.{Bids, all_seats, bid_of}
 use Rattle.rr_auction.specs.Effects.{brings_incomes}
 use Rattle.rr_auction.specs.History.{last_told, times}
-use Rattle.rr_bids.specs.Progress.{progress}
+use Rattle.rr_rounds.specs.Bids.Progress.{progress}
 use Rattle.rr_auction.specs.Rules.{price}
-use Rattle.rr_bids.specs.Unsold.{cheapest, is_private, same_private}
+use Rattle.rr_rounds.specs.Bids.Unsold.{cheapest, is_private, same_private}
 
 -- what a seat bids on a private: 0 without a bid
 abbrev pub bid : Book → Private → Seat → ℕ

@@ -21,9 +21,9 @@ use Rattle.rr_desk.specs.Incomes.{dollars, pay_incomes}
 use Rattle.rr_market.specs.Moves.{par_marks}
 use Rattle.rr_auction.specs.declared.due.Due.{Due}
 use Rattle.rr_auction.specs.declared.due.Due.TheVariants as D
-use Rattle.rr_bids.specs.Unsold.{cheapest, is_private}
-use Rattle.rr_bids.specs.Bids.{Row, bid_in, bids_on, sole_bidder}
-use Rattle.rr_bids.specs.Progress.{Progress, all_pass, progress, raise_due}
+use Rattle.rr_rounds.specs.Bids.Unsold.{cheapest, is_private}
+use Rattle.rr_rounds.specs.Bids.Bids.{Row, bid_in, bids_on, sole_bidder}
+use Rattle.rr_rounds.specs.Bids.Progress.{Progress, all_pass, progress, raise_due}
 use Rattle.rr_auction.specs.Rules.{due, price}
 
 -- what comes with a private: the lowest share of the PRR on offer with the C&A, the 20% certificate of the B&O with the B&O

@@ -1,7 +1,7 @@
 pub mod Fault
-pub use Rattle.rr_bids.specs.Unsold
-pub use Rattle.rr_bids.specs.Bids
-pub use Rattle.rr_bids.specs.Progress
+pub use Rattle.rr_rounds.specs.Bids.Unsold
+pub use Rattle.rr_rounds.specs.Bids.Bids
+pub use Rattle.rr_rounds.specs.Bids.Progress
 pub mod Rules
 pub mod Effects
 pub mod Small

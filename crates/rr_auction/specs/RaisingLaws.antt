@@ -8,7 +8,7 @@ use Rattle.rr_books.specs.declared.acts.Act.{Act}
 use Rattle.rr_books.specs.declared.acts.Act.TheVariants as A
 use Rattle.rr_books.specs.Book.{Book, holder}
 use Rattle.rr_auction.specs.AuctionLaws.{bid, for_sale}
-use Rattle.rr_bids.specs.Progress.{progress, raise_due}
+use Rattle.rr_rounds.specs.Bids.Progress.{progress, raise_due}
 
 -- who is to raise or leave
 abbrev pub to_raise : Book → Option Seat

@@ -18,9 +18,9 @@ use Rattle.rr_auction.specs.declared.due.Due.{Due}
 use Rattle.rr_auction.specs.declared.due.Due.TheVariants as D
 use Rattle.rr_auction.specs.declared.fault.Fault.{Fault}
 use Rattle.rr_auction.specs.declared.fault.Fault.TheVariants as F
-use Rattle.rr_bids.specs.Unsold.{cheapest, is_private, is_unsold}
-use Rattle.rr_bids.specs.Bids.{least_bid, tied_up}
-use Rattle.rr_bids.specs.Progress.{Progress, progress, raise_due}
+use Rattle.rr_rounds.specs.Bids.Unsold.{cheapest, is_private, is_unsold}
+use Rattle.rr_rounds.specs.Bids.Bids.{least_bid, tied_up}
+use Rattle.rr_rounds.specs.Bids.Progress.{Progress, progress, raise_due}
 
 -- the money of each party
 abbrev pub Accounts : Type 0

@@ -16,7 +16,7 @@ use Rattle.rr_books.specs.Book.{Book}
 use Rattle.rr_auction.specs.declared.fault.Fault.TheVariants as F
 use Rattle.rr_auction.specs.AuctionLaws.{first_price, for_sale}
 use Rattle.rr_auction.specs.History.{last_told}
-use Rattle.rr_bids.specs.Progress.{progress}
+use Rattle.rr_rounds.specs.Bids.Progress.{progress}
 use Rattle.rr_auction.specs.Rules.{turns, verdict}
 
 -- the command buys, bids or passes

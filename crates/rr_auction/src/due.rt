@@ -1,16 +1,16 @@
 ghost use Rattle.std.specs.Prelude.{◌≡◌, ◌+◌, None, Some, ◌&&◌, is_some, not};
 ghost use Rattle.rr_books.specs.Book.{Book, holder, players};
 ghost use Rattle.rr_books.specs.State.{holder_in};
-ghost use Rattle.rr_bids.specs.Bids.{bids_on, raiser};
-ghost use Rattle.rr_bids.specs.Progress.{all_pass, progress, raise_due};
-ghost use Rattle.rr_bids.specs.Unsold.{cheapest, is_private};
-ghost use Rattle.rr_position.specs.Position.{IsPositionOf};
+ghost use Rattle.rr_rounds.specs.Bids.Bids.{bids_on, raiser};
+ghost use Rattle.rr_rounds.specs.Bids.Progress.{all_pass, progress, raise_due};
+ghost use Rattle.rr_rounds.specs.Bids.Unsold.{cheapest, is_private};
+ghost use Rattle.rr_desk.specs.Position.Position.{IsPositionOf};
 ghost use Rattle.rr_auction.specs.Effects.{brings_incomes, is_over};
 ghost use Rattle.rr_auction.specs.Rules.{due, due_by, due_in, turns, turns_in};
 
-use rr_bids::{Bidding, cheapest, is_cheapest};
 use rr_books::{Books, Private, Seat};
-use rr_position::Position;
+use rr_desk::position::Position;
+use rr_rounds::bids::{Bidding, cheapest, is_cheapest};
 
 /// What the auction waits for.
 #[derive(Clone, Copy, Debug, PartialEq, Eq)]

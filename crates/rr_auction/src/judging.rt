@@ -2,19 +2,19 @@ ghost use Rattle.std.specs.Prelude.{◌≡◌, ◌≤◌, pos, Some, None, Match
 ghost use Rattle.rr_chart.specs.Chart.{par_place};
 ghost use Rattle.rr_books.specs.Book.{Book};
 ghost use Rattle.rr_books.specs.State.{cash_of, holder_in};
-ghost use Rattle.rr_bids.specs.Bids.{tied_on, tied_up};
-ghost use Rattle.rr_bids.specs.Unsold.{cheapest};
-ghost use Rattle.rr_position.specs.Position.{IsPositionOf};
+ghost use Rattle.rr_rounds.specs.Bids.Bids.{tied_on, tied_up};
+ghost use Rattle.rr_rounds.specs.Bids.Unsold.{cheapest};
+ghost use Rattle.rr_desk.specs.Position.Position.{IsPositionOf};
 ghost use Rattle.rr_auction.specs.Rules.{bid_verdict, bidder_due, is_bo, is_open, par_verdict, pass_verdict, purchase_verdict, spending_verdict, takes_bids, verdict, verdict_in};
 
 use crate::fault::Fault;
 use crate::pricing::{least_bid, price};
-use rr_bids::{Bidding, cheapest, is_cheapest, is_unsold, same_private};
 use rr_books::{Act, Books, Corp, Party, Private, Seat};
 use rr_chart::Chart;
+use rr_desk::position::Position;
 use rr_market::par_cell;
-use rr_position::Position;
 use rr_roster::Roster;
+use rr_rounds::bids::{Bidding, cheapest, is_cheapest, is_unsold, same_private};
 
 // A seat's bid on a private.
 #[derive(Clone, Copy)]

@@ -2,8 +2,8 @@ ghost use Rattle.std.specs.Prelude.{◌≡◌, ◌<◌, ◌≤◌, ◌≤ℤ◌,
 ghost use Rattle.rr_books.specs.Book.{Book, holder, players};
 ghost use Rattle.rr_desk.specs.Effects.{adds, in_turn};
 ghost use Rattle.rr_market.specs.Moves.{par_marks};
-ghost use Rattle.rr_bids.specs.Progress.{progress};
-ghost use Rattle.rr_bids.specs.Unsold.{cheapest};
+ghost use Rattle.rr_rounds.specs.Bids.Progress.{progress};
+ghost use Rattle.rr_rounds.specs.Bids.Unsold.{cheapest};
 ghost use Rattle.rr_desk.specs.Desk.{Takes};
 ghost use Rattle.rr_auction.specs.Effects.{brings_incomes, entries_of, incomes_if, pass_of, purchase_of, said, sale, sets_par, settle};
 ghost use Rattle.rr_auction.specs.Small.{IsSmall};

@@ -2,16 +2,16 @@ ghost use Rattle.std.specs.Prelude.{◌≡◌, ◌-◌, ◌*◌, ◌≤◌, ◌�
 ghost use Rattle.rr_books.specs.Book.{Book, holder};
 ghost use Rattle.rr_books.specs.State.{holder_in};
 ghost use Rattle.rr_desk.specs.Incomes.{dollars};
-ghost use Rattle.rr_bids.specs.Bids.{least_bid};
-ghost use Rattle.rr_bids.specs.Progress.{progress};
-ghost use Rattle.rr_bids.specs.Unsold.{cheapest};
-ghost use Rattle.rr_position.specs.Position.{IsPositionOf};
+ghost use Rattle.rr_rounds.specs.Bids.Bids.{least_bid};
+ghost use Rattle.rr_rounds.specs.Bids.Progress.{progress};
+ghost use Rattle.rr_rounds.specs.Bids.Unsold.{cheapest};
+ghost use Rattle.rr_desk.specs.Position.Position.{IsPositionOf};
 ghost use Rattle.rr_auction.specs.Rules.{asked, asked_in, price};
 
-use rr_bids::{Bidding, cheapest};
 use rr_books::{Books, Money, Private};
-use rr_position::Position;
+use rr_desk::position::Position;
 use rr_roster::Roster;
+use rr_rounds::bids::{Bidding, cheapest};
 
 /// The cheapest private that isn't sold, and what it costs now, also while several raise for it.
 pub fn asked(position: &Position, roster: &Roster) -> Option<(Private, Money)>

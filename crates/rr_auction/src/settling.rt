@@ -4,19 +4,19 @@ ghost use Rattle.rr_books.specs.Shares.{privates};
 ghost use Rattle.rr_books.specs.State.{holder_in};
 ghost use Rattle.rr_desk.specs.Effects.{moves_lowest_share};
 ghost use Rattle.rr_desk.specs.Incomes.{dollars};
-ghost use Rattle.rr_bids.specs.Bids.{bid_of, bids_on, sole_bidder};
-ghost use Rattle.rr_bids.specs.Progress.{progress};
-ghost use Rattle.rr_bids.specs.Unsold.{cheapest, is_private};
-ghost use Rattle.rr_position.specs.Position.{IsPositionOf};
+ghost use Rattle.rr_rounds.specs.Bids.Bids.{bid_of, bids_on, sole_bidder};
+ghost use Rattle.rr_rounds.specs.Bids.Progress.{progress};
+ghost use Rattle.rr_rounds.specs.Bids.Unsold.{cheapest, is_private};
+ghost use Rattle.rr_desk.specs.Position.Position.{IsPositionOf};
 ghost use Rattle.rr_desk.specs.Desk.{Takes};
 ghost use Rattle.rr_auction.specs.Effects.{gift, may_end, sale, settle, settle_each, settles, stock_begins};
 
 use crate::due::is_over;
 use crate::pricing::dollars;
-use rr_bids::{Bidding, is_cheapest};
 use rr_books::{Books, Cert, Corp, Entry, Fault, Marker, Money, Party, Place, Private, Seat};
+use rr_desk::position::Position;
 use rr_desk::{Desk, give_lowest_share};
-use rr_position::Position;
+use rr_rounds::bids::{Bidding, is_cheapest};
 
 /// The privates that have just one bidder when they become the cheapest are sold, and the auction may be over.
 #[tactic(auto, unfolding(crate::specs::Effects::settle))]

@@ -5,8 +5,8 @@ use Rattle.std.specs.List.{Contains}
 use Rattle.std.proofs.lemmas.List.{get_or_default}
 use Rattle.std.proofs.lemmas.List.Elements.{Contains-get_or}
 use Rattle.std.proofs.lemmas.Bool.{false≢true}
-use Rattle.rr_reach.specs.Reach.{IsReached, IsMarked}
-use Rattle.rr_reach.specs.Reach.IsReached.{Start, Follower}
+use Rattle.rr_routes.specs.Reachability.Reach.{IsReached, IsMarked}
+use Rattle.rr_routes.specs.Reachability.Reach.IsReached.{Start, Follower}
 use Rattle.rr_routes.specs.declared.net.Node.{Node}
 use Rattle.rr_routes.specs.declared.certificate.Fate.{Fate}
 use Rattle.rr_routes.specs.Net.{Net, Joins, HasToken, IsTerminal}
@@ -16,7 +16,7 @@ use Rattle.rr_routes.specs.Certificates.{MayUse}
 use Rattle.rr_routes.proofs.Reaching.{begins, continues, WalkTo-holds}
 use Rattle.rr_checker.specs.declared.step.Step.{Step}
 use Rattle.rr_checker.specs.Steps.{same_node, has_token, is_terminal, HasStep, passes_at, may_follow, goes_on}
-use Rattle.rr_reach.specs.Places.{ArePlaces, AreMarkedItems, IsGraphOf}
+use Rattle.rr_routes.specs.Reachability.Places.{ArePlaces, AreMarkedItems, IsGraphOf}
 use Rattle.rr_checker.specs.Searching.{AreEnds, EndsAt}
 use Rattle.rr_checker.proofs.StepLemmas.{yes, no, to_true, to_false, Decides-same_node, Decides-has_token, Decides-is_terminal, Decides-passes, HasStep-Joins, StepOver, step_over, AreSteps}
 

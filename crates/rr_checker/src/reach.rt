@@ -2,13 +2,13 @@
 ghost use Rattle.std.specs.Prelude.{◌≡◌, IfOk, length};
 ghost use Rattle.rr_routes.specs.Certificates.{MayUse};
 ghost use Rattle.rr_checker.specs.Steps.{goes_on, has_token};
-ghost use Rattle.rr_reach.specs.Places.{ArePlaces, IsGraphOf};
+ghost use Rattle.rr_routes.specs.Reachability.Places.{ArePlaces, IsGraphOf};
 ghost use Rattle.rr_checker.specs.Searching.{AreEnds};
 
 use crate::railway::Net;
 use crate::step::{Step, has_token, is_terminal, may_follow, steps_of};
-use rr_reach::{Followers, marked_items, reached};
 use rr_routes::Fate;
+use rr_routes::reachability::{Followers, marked_items, reached};
 use std::alloc::{AllocError, Global};
 
 // The steps with which walks of the train end.

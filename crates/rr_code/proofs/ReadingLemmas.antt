@@ -28,7 +28,7 @@ use Rattle.rr_code.specs.declared.query.TrainHolder.{TrainHolder}
 use Rattle.rr_code.specs.declared.query.TrainHolder.TheVariants as H
 use Rattle.rr_code.specs.declared.line.Line.{Line}
 use Rattle.rr_code.specs.declared.line.Line.TheVariants as L
-use Rattle.rr_scan.proofs.SpelledLemmas.{read-number, corp_of-name, private_of-name}
+use Rattle.rr_orders.proofs.ScanLemmas.SpelledLemmas.{read-number, corp_of-name, private_of-name}
 
 source_of-word : (source : ShareSource) → source_of (source_word source) ≡ Some source
 source_of-word S.Offer = refl

@@ -13,8 +13,8 @@ use Rattle.rr_code.specs.declared.fault.Fault.TheVariants.{Malformed}
 use Rattle.rr_code.specs.declared.command.Command.{Command}
 use Rattle.rr_code.specs.declared.line.Line.{Line}
 use Rattle.rr_code.specs.declared.line.Line.TheVariants as L
-use Rattle.rr_scan.proofs.WordsLemmas.{words_of-line, line_of-words}
-use Rattle.rr_scan.proofs.UnspacedLemmas.{table-unspaced}
+use Rattle.rr_orders.proofs.ScanLemmas.WordsLemmas.{words_of-line, line_of-words}
+use Rattle.rr_orders.proofs.ScanLemmas.UnspacedLemmas.{table-unspaced}
 use Rattle.rr_code.proofs.UnspacedLemmas.{spelling-unspaced, spelling-some, request-unspaced, request-some, line-unspaced, line-some}
 use Rattle.rr_code.proofs.ReadingLemmas.{read-command, read-request, read-record, read-line}
 

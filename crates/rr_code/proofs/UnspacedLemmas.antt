@@ -24,8 +24,8 @@ use Rattle.rr_code.specs.declared.query.TrainHolder.{TrainHolder}
 use Rattle.rr_code.specs.declared.query.TrainHolder.TheVariants as H
 use Rattle.rr_code.specs.declared.line.Line.{Line}
 use Rattle.rr_code.specs.declared.line.Line.TheVariants as L
-use Rattle.rr_scan.proofs.WordsLemmas.{is_unspaced, are_unspaced}
-use Rattle.rr_scan.proofs.UnspacedLemmas.{list_all-weaker, table-unspaced, player-unspaced, corp-unspaced, private-unspaced, decimal-unspaced}
+use Rattle.rr_orders.proofs.ScanLemmas.WordsLemmas.{is_unspaced, are_unspaced}
+use Rattle.rr_orders.proofs.ScanLemmas.UnspacedLemmas.{list_all-weaker, table-unspaced, player-unspaced, corp-unspaced, private-unspaced, decimal-unspaced}
 
 players-unspaced : (names : List (List ℕ)) → ArePlayers names → are_unspaced names ≡ true
 players-unspaced names h = list_all-weaker is_player_name is_unspaced player-unspaced names (grind (arith, nat_tests))

@@ -1,7 +1,7 @@
 pub mod Fault
-pub use Rattle.rr_scan.specs.Words
+pub use Rattle.rr_orders.specs.Scan.Words
 pub mod Players
-pub use Rattle.rr_scan.specs.Company
+pub use Rattle.rr_orders.specs.Scan.Company
 pub mod Command
 pub mod Request
 pub mod Reading

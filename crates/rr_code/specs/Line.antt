@@ -5,7 +5,7 @@ use Rattle.rr_words.specs.Name.{IsTableName, table_name_of}
 use Rattle.rr_words.specs.Numeral.{number_of}
 use Rattle.rr_words.specs.Line.{line_of}
 use Rattle.rr_roster.specs.Company.{corp_name}
-use Rattle.rr_scan.specs.Company.{corp_of}
+use Rattle.rr_orders.specs.Scan.Company.{corp_of}
 use Rattle.rr_code.specs.Request.{IsRequest, request_words}
 use Rattle.rr_code.specs.Reading.{read_request_words}
 use Rattle.rr_code.specs.Query.{IsQuery, query_words, read_query_words}

@@ -2,7 +2,7 @@
 use Rattle.std.specs.Prelude.{ℕ, List, [], ◌∷◌, Option, Some, None, option_map, option_and_then, bytes_eq, codes, if◌then◌else◌}
 use Rattle.rr_words.specs.Name.{is_player_name, player_name_of, table_name_of, IsTableName, IsPlayerName}
 use Rattle.rr_roster.specs.Company.{corp_name}
-use Rattle.rr_scan.specs.Company.{corp_of}
+use Rattle.rr_orders.specs.Scan.Company.{corp_of}
 use Rattle.rr_code.specs.declared.query.Query.{Query}
 use Rattle.rr_code.specs.declared.query.Query.TheVariants.{Tables, Stamp, Turns, Due, Cash, Limit, Asked, Privates, Holds, Price, Order, Phase, Trains, Iou, Worth}
 use Rattle.rr_code.specs.declared.query.Account.{Account}

@@ -4,7 +4,7 @@ use Rattle.rr_words.specs.Name.{player_name_of, table_name_of}
 use Rattle.rr_words.specs.Numeral.{number_of}
 use Rattle.rr_turns.specs.declared.request.Request.{Request}
 use Rattle.rr_turns.specs.declared.request.Request.TheVariants.{Play, Back, Forget}
-use Rattle.rr_scan.specs.Company.{corp_of, private_of}
+use Rattle.rr_orders.specs.Scan.Company.{corp_of, private_of}
 use Rattle.rr_orders.specs.Reading.{read_order}
 use Rattle.rr_code.specs.Players.{are_players}
 use Rattle.rr_code.specs.declared.stock.ShareSource.{ShareSource}

@@ -1,12 +1,12 @@
 //! The commands of the auction: reading their words behind the first, and writing them.
 ghost use Rattle.std.specs.Prelude.{◌≡◌, ◌∷◌, ◌++◌, codes, IfSome, OnOk};
-ghost use Rattle.rr_scan.specs.Writing.{Continues};
+ghost use Rattle.rr_orders.specs.Scan.Writing.{Continues};
 ghost use Rattle.rr_code.specs.Command.{IsCommand, spelling, text};
 ghost use Rattle.rr_code.specs.Reading.{read_bid, read_pass, read_par};
 
 use crate::command::Command;
+use rr_orders::scan::{Words, next_player, read_corp, read_private, write_number, write_word};
 use rr_roster::{Corp, Private};
-use rr_scan::{Words, next_player, read_corp, read_private, write_number, write_word};
 use rr_words::{Name, number};
 use std::alloc::AllocError;
 

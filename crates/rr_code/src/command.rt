@@ -1,5 +1,5 @@
 ghost use Rattle.std.specs.Prelude.{◌≡◌, ◌∷◌, ◌++◌, codes, IfSome, MatchResult, OnOk, OnErr, IsOkUnless};
-ghost use Rattle.rr_scan.specs.Writing.{Continues};
+ghost use Rattle.rr_orders.specs.Scan.Writing.{Continues};
 ghost use Rattle.rr_code.specs.Command.{IsCommand, IsReadAs, SpellsCommand, spelling, text};
 ghost use Rattle.rr_code.specs.Reading.{read_words, read_open};
 
@@ -8,8 +8,8 @@ use crate::fault::Fault;
 use crate::players::Players;
 use crate::stock::{self, ShareSource};
 use rr_orders::Order;
+use rr_orders::scan::{Words, write_word};
 use rr_roster::{Corp, Private};
-use rr_scan::{Words, write_word};
 use rr_words::Name;
 use std::alloc::AllocError;
 

@@ -10,8 +10,8 @@ use crate::command::Command;
 use crate::fault::Fault;
 use crate::query::Query;
 use crate::request::request_named;
+use rr_orders::scan::{Words, next_table, read_corp};
 use rr_roster::Corp;
-use rr_scan::{Words, next_table, read_corp};
 use rr_turns::Request;
 use rr_words::{Name, number, split_word};
 

@@ -2,7 +2,7 @@ ghost use Rattle.std.specs.Prelude.{◌≡◌, ◌≢◌, ◌≤◌, length, Som
 ghost use Rattle.rr_words.specs.Name.{IsPlayerName};
 ghost use Rattle.rr_code.specs.Players.{all_different, is_among, ArePlayers};
 
-use rr_scan::Words;
+use rr_orders::scan::Words;
 use rr_words::Name;
 use std::marker::Model;
 

@@ -1,8 +1,8 @@
 ghost use Rattle.std.specs.Prelude.{◌≡◌, ◌∷◌, codes, IfSome};
 ghost use Rattle.rr_code.specs.Query.{IsQuery, IsAccount, IsOwner, query_words, account_word, owner_word, holder_word, account_of, owner_of, holder_of, read_query_words, read_tables, read_stamp, read_turns, read_due, read_cash, read_limit, read_asked, read_privates, read_holds, read_price, read_order, read_phase, read_trains, read_iou, read_worth};
 
+use rr_orders::scan::{Words, next_player, next_table, only_table, read_corp};
 use rr_roster::Corp;
-use rr_scan::{Words, next_player, next_table, only_table, read_corp};
 use rr_words::Name;
 
 /// A question, which changes nothing.

@@ -1,6 +1,6 @@
 //! Requests: the commands of a game, and those that take its table back.
 ghost use Rattle.std.specs.Prelude.{◌≡◌, ℕ, List, [], ◌∷◌, ◌++◌, codes, decimal, IfSome, MatchResult, OnOk, OnErr, IsOkUnless};
-ghost use Rattle.rr_scan.specs.Writing.{Continues};
+ghost use Rattle.rr_orders.specs.Scan.Writing.{Continues};
 ghost use Rattle.rr_words.specs.Line.{line_of};
 ghost use Rattle.rr_words.specs.Name.{IsTableName};
 ghost use Rattle.rr_code.specs.Request.{IsRequest, SpellsRecord, request_text, request_words};
@@ -10,7 +10,7 @@ ghost use Rattle.rr_turns.specs.declared.request.Request.{Request as Asked};
 
 use crate::command::Command;
 use crate::fault::Fault;
-use rr_scan::{Words, next_table, write_number};
+use rr_orders::scan::{Words, next_table, write_number};
 use rr_turns::Request;
 use rr_words::{Name, number};
 use std::alloc::AllocError;

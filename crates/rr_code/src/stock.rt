@@ -1,12 +1,12 @@
 //! The commands of a stock round: reading their words behind the first, and writing them.
 ghost use Rattle.std.specs.Prelude.{◌≡◌, ◌∷◌, ◌++◌, codes, IfSome, OnOk};
-ghost use Rattle.rr_scan.specs.Writing.{Continues};
+ghost use Rattle.rr_orders.specs.Scan.Writing.{Continues};
 ghost use Rattle.rr_code.specs.Command.{IsCommand, source_word, spelling, text};
 ghost use Rattle.rr_code.specs.Reading.{source_of, read_buy, read_sell, read_swap, read_done};
 
 use crate::command::Command;
+use rr_orders::scan::{Words, next_player, read_corp, write_number, write_word};
 use rr_roster::Corp;
-use rr_scan::{Words, next_player, read_corp, write_number, write_word};
 use rr_words::{Name, number};
 use std::alloc::AllocError;
 

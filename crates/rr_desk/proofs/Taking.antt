@@ -5,7 +5,7 @@ use Rattle.std.proofs.lemmas.List.{take_more, map-append}
 use Rattle.rr_books.specs.declared.entries.Entry.{Entry}
 use Rattle.rr_books.specs.Book.{Book}
 use Rattle.rr_desk.specs.Effects.{Effect, adds, in_turn}
-use Rattle.rr_position.specs.Position.{OnTable, IsPositionOf, Follows}
+use Rattle.rr_desk.specs.Position.Position.{OnTable, IsPositionOf, Follows}
 use Rattle.rr_desk.specs.Desk.{OnDesk, Takes}
 
 -- one entry, which the position followed

@@ -2,7 +2,7 @@
 use Rattle.std.specs.Prelude.{◌≡◌, [], ◌++◌}
 use Rattle.rr_books.specs.Book.{Book}
 use Rattle.rr_desk.specs.Effects.{Effect}
-use Rattle.rr_position.specs.Position.{OnTable, IsPositionOf}
+use Rattle.rr_desk.specs.Position.Position.{OnTable, IsPositionOf}
 
 pub record OnDesk : Type 0 where
   pub position : OnTable

@@ -1,12 +1,12 @@
 ghost use Rattle.std.specs.Prelude.{◌≡◌, [], ◌++◌, OnOk, OnErr, IfErr};
 ghost use Rattle.rr_books.specs.Book.{Book};
 ghost use Rattle.rr_desk.specs.Effects.{adds};
-ghost use Rattle.rr_position.specs.Position.{Fits, IsPositionOf};
+ghost use Rattle.rr_desk.specs.Position.Position.{Fits, IsPositionOf};
 ghost use Rattle.rr_desk.specs.Desk.{Holds, Takes};
 
 use crate::entries::Entries;
+use crate::position::Position;
 use rr_books::{Books, Entry, Fault};
-use rr_position::Position;
 use std::alloc::Global;
 use std::marker::Model;
 

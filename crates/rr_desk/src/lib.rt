@@ -8,11 +8,13 @@
 mod desk;
 mod entries;
 mod incomes;
+pub mod layout;
+pub mod position;
 mod shares;
 
+pub use crate::position::Position;
 pub use desk::Desk;
 pub use entries::Entries;
 pub use incomes::pay_incomes;
 pub use rr_books::left_of;
-pub use rr_position::Position;
 pub use shares::{give_lowest_share, lowest_share};

@@ -12,7 +12,7 @@ use Rattle.rr_books.specs.State.{IsStateOf, cash_of, holder_in}
 use Rattle.rr_kit.specs.declared.kit.Kit.{Kit}
 use Rattle.rr_market.specs.Marks.{price_at, price_of}
 use Rattle.rr_market.specs.State.{IsMarketOf, cell_in}
-use Rattle.rr_position.specs.Position.{IsPositionOf, OnTable}
+use Rattle.rr_desk.specs.Position.Position.{IsPositionOf, OnTable}
 use Rattle.rr_game.specs.Queries.{Assets, assets, assets_in, worth, worth_by}
 
 parts_same : (m n : Party → ℤ) (h k : Holders) (p q : Corp → Option ℕ) → m ≡ n → h ≡ k → p ≡ q

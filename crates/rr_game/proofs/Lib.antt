@@ -1,3 +1,4 @@
 pub mod Playing
 pub mod Judging
 pub mod Assets
+pub mod HistoryLemmas

@@ -6,3 +6,4 @@ pub mod Keeping
 pub mod Queries
 pub mod Laws
 pub mod Running
+pub mod History

@@ -20,13 +20,13 @@ use Rattle.rr_auction.specs.declared.due.Due.TheVariants as A
 use Rattle.rr_auction.specs.Rules.{due as auction_due}
 use Rattle.rr_market.specs.Marks.{mark_of, price_at, price_of}
 use Rattle.rr_market.specs.State.{cell_in}
-use Rattle.rr_position.specs.Position.{OnTable}
+use Rattle.rr_desk.specs.Position.Position.{OnTable}
 use Rattle.rr_rounds.specs.Round as rounds
-use Rattle.rr_operations.specs.declared.turn.Stage.{Stage}
-use Rattle.rr_operations.specs.declared.turn.Stage.TheVariants as G
-use Rattle.rr_operations.specs.declared.turn.TurnStep.{TurnStep}
-use Rattle.rr_operations.specs.Due as operations
-use Rattle.rr_operations.specs.Progress.{progress}
+use Rattle.rr_market.specs.declared.operations.turn.Stage.{Stage}
+use Rattle.rr_market.specs.declared.operations.turn.Stage.TheVariants as G
+use Rattle.rr_market.specs.declared.operations.turn.TurnStep.{TurnStep}
+use Rattle.rr_market.specs.Operations.Due as operations
+use Rattle.rr_market.specs.Operations.Progress.{progress}
 use Rattle.rr_rules.specs.Judging.{game_is_over, stage}
 use Rattle.rr_game.specs.declared.due.Due.{Due}
 use Rattle.rr_game.specs.declared.due.Due.TheVariants as D

@@ -2,7 +2,7 @@
 ghost use Rattle.std.specs.Prelude.{◌≡◌, ◌≤◌, None, Some, IfOk, IsOkUnless, MatchResult};
 ghost use Rattle.rr_auction.specs.Small as auction;
 ghost use Rattle.rr_stock.specs.Small.{HasSeat};
-ghost use Rattle.rr_depot.specs.Small as depot;
+ghost use Rattle.rr_trains.specs.Depot.Small as depot;
 ghost use Rattle.rr_rules.specs.Runs.{run_verdict};
 ghost use Rattle.rr_rules.specs.State.{GameState, IsStandingOf};
 ghost use Rattle.rr_turns.specs.Judgement.{MayFind};

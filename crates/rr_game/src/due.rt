@@ -1,14 +1,14 @@
 //! What a game waits for.
 ghost use Rattle.std.specs.Prelude.{◌≡◌};
 ghost use Rattle.rr_books.specs.Book.{Book};
-ghost use Rattle.rr_position.specs.Position.{IsPositionOf};
+ghost use Rattle.rr_desk.specs.Position.Position.{IsPositionOf};
 ghost use Rattle.rr_rules.specs.Judging.{stage};
 ghost use Rattle.rr_game.specs.Queries.{due, due_at, due_in_auction, due_in_operating_round, is_par, owes_par};
 
 use crate::game::Game;
 use rr_books::{Corp, Seat};
 use rr_kit::Kit;
-use rr_operations::{Stage, TurnStep};
+use rr_market::operations::{Stage, TurnStep};
 
 /// What a game waits for.
 #[derive(Clone, Copy, Debug, PartialEq, Eq)]

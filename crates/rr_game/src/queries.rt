@@ -6,20 +6,20 @@ ghost use Rattle.rr_books.specs.State.{cash_of, holder_in};
 ghost use Rattle.rr_auction.specs.Rules.{asked};
 ghost use Rattle.rr_market.specs.Marks.{mark_of, price_at};
 ghost use Rattle.rr_market.specs.Order.{operating_order};
-ghost use Rattle.rr_operations.specs.Phases.{phase};
+ghost use Rattle.rr_market.specs.Operations.Phases.{phase};
 ghost use Rattle.rr_trains.specs.Places.{trains_at};
 ghost use Rattle.rr_rules.specs.State.{GameState, IsStandingOf};
 ghost use Rattle.rr_game.specs.Names.{party_of, seat_of, trains_place};
-ghost use Rattle.rr_position.specs.Position.{IsPositionOf};
+ghost use Rattle.rr_desk.specs.Position.Position.{IsPositionOf};
 ghost use Rattle.rr_game.specs.Queries.{debt, holding, iou, quote};
 
 use crate::fault::Fault;
 use crate::game::Game;
 use rr_books::{Cell, Cert, Corp, Kind, Money, Party, Place, Private};
 use rr_code::{Account, TrainHolder};
+use rr_desk::position::Position;
 use rr_kit::Kit;
 use rr_market::OperatingOrder;
-use rr_position::Position;
 use rr_words::Name;
 
 impl Game {
@@ -107,7 +107,7 @@ impl Game {
     pub fn phase(&self) -> Kind
         ensures { (book : Book) → IsPositionOf book self.now.standing.position → result ≡ phase (train_holder book) }
     {
-        rr_operations::phase(self.position().books())
+        rr_market::operations::phase(self.position().books())
     }
 
     /// How many trains of the kind a corporation or the pool has.

@@ -1,7 +1,7 @@
 //! What a player is worth.
 ghost use Rattle.std.specs.Prelude.{◌≡◌, ◌≤◌, None, Some, option_map, sum_by, MatchResult};
 ghost use Rattle.rr_books.specs.Book.{Book};
-ghost use Rattle.rr_position.specs.Position.{IsPositionOf};
+ghost use Rattle.rr_desk.specs.Position.Position.{IsPositionOf};
 ghost use Rattle.rr_roster.specs.Company.{corps, privates};
 ghost use Rattle.rr_game.specs.Names.{seat_of};
 ghost use Rattle.rr_game.specs.Queries.{assets_in, private_value, shares_value, worth, worth_by};
@@ -9,8 +9,8 @@ ghost use Rattle.rr_game.specs.Queries.{assets_in, private_value, shares_value, 
 use crate::fault::Fault;
 use crate::game::Game;
 use rr_books::{Cert, Corp, Money, Party, Place, Private, Seat};
+use rr_desk::position::Position;
 use rr_kit::Kit;
-use rr_position::Position;
 use rr_words::Name;
 
 impl Game {

@@ -3,8 +3,8 @@ use Rattle.std.specs.Prelude.{ℕ, ◌≤◌, List, length}
 use Rattle.rr_routes.specs.declared.certificate.CertTree.{CertTree}
 use Rattle.rr_routes.specs.Net.{Net, value}
 use Rattle.rr_routes.specs.Certificates.{Accepts, node_count}
-use Rattle.rr_sheets.specs.declared.sheet.TrainWord.{TrainWord}
-use Rattle.rr_runs.specs.Sheets.{IsLegal}
+use Rattle.rr_routes.specs.declared.sheets.sheet.TrainWord.{TrainWord}
+use Rattle.rr_referee.specs.Sheets.{IsLegal}
 
 -- the sheet is legal, and the tree, within the limit, is accepted for its revenue: no legal sheet earns more
 pub record IsCertified (net : Net) (limit : ℕ) (sheet : List TrainWord) (tree : CertTree) : Type 0 where

@@ -6,9 +6,9 @@ use crate::certificate::tree_for;
 use crate::runs::good_sheet;
 use crate::tracks::reached_tracks;
 use rr_checker::{CertTree, Net, check};
+use rr_referee::{Fault, legal};
 use rr_roster::Kind;
-use rr_runs::{Fault, legal};
-use rr_sheets::Sheet;
+use rr_routes::sheets::Sheet;
 use std::alloc::{AllocError, Global};
 
 // How the searches for a tree, one after the other, guess at the size of trees: what doubles it, and what a track

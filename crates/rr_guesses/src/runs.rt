@@ -2,7 +2,7 @@
 use crate::routes::{Line, lines_of};
 use crate::tracks::{Result, Tracks, has_mark, set_mark};
 use rr_roster::Kind;
-use rr_sheets::{LinkNumbers, Sheet, TrainWord};
+use rr_routes::sheets::{LinkNumbers, Sheet, TrainWord};
 use std::alloc::Global;
 
 // How many routes are tried beside others.

@@ -1,6 +1,6 @@
 //! The links that the corporation reaches, each gone over from either end.
 use rr_checker::{CentreLimit, Fate, Net, Node, value};
-use rr_reach::{Followers, reached};
+use rr_routes::reachability::{Followers, reached};
 use smallvec::SmallVec;
 use std::alloc::{AllocError, Global};
 use std::mem;

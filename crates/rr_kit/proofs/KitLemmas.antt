@@ -7,8 +7,8 @@ use Rattle.rr_chart.specs.declared.fault.Fault.TheVariants as H
 use Rattle.rr_chart.specs.Reading as chart
 use Rattle.rr_tiles.specs.declared.fault.Fault.TheVariants as T
 use Rattle.rr_tiles.specs.Manifest as manifest
-use Rattle.rr_board.specs.declared.fault.Fault.TheVariants as B
-use Rattle.rr_board.specs.Reading as board
+use Rattle.rr_kit.specs.declared.board.fault.Fault.TheVariants as B
+use Rattle.rr_kit.specs.Board.Reading as board
 use Rattle.rr_kit.specs.declared.fault.Fault.TheVariants as F
 use Rattle.rr_kit.specs.Kits.{IsShortText, RefusesBoard, RefusesChart, RefusesManifest, RefusesRoster}
 

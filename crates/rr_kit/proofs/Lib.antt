@@ -1,2 +1,3 @@
 pub mod KitLemmas
 pub mod OneKit
+pub mod BoardLemmas

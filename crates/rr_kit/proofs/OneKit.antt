@@ -2,7 +2,7 @@
 use Rattle.rr_chart.proofs.RefusalLemmas.{Spells-unique}
 use Rattle.rr_roster.proofs.OneRoster.{one_roster}
 use Rattle.rr_tiles.proofs.ManifestLemmas as tiles
-use Rattle.rr_board.proofs.RowLemmas as board
+use Rattle.rr_kit.proofs.BoardLemmas.RowLemmas as board
 use Rattle.rr_kit.specs.Kits.{OneKit}
 
 pub one_kit : OneKit

@@ -7,8 +7,8 @@ use Rattle.rr_roster.specs.declared.fault.Fault.TheVariants as R
 use Rattle.rr_roster.specs.Rules.{rule_number}
 use Rattle.rr_tiles.specs.declared.fault.Fault as tiles
 use Rattle.rr_tiles.specs.declared.fault.Fault.TheVariants as T
-use Rattle.rr_board.specs.declared.fault.Fault as board
-use Rattle.rr_board.specs.declared.fault.Fault.TheVariants as B
+use Rattle.rr_kit.specs.declared.board.fault.Fault as board
+use Rattle.rr_kit.specs.declared.board.fault.Fault.TheVariants as B
 use Rattle.rr_kit.specs.declared.fault.Fault.{Fault}
 use Rattle.rr_kit.specs.declared.fault.Fault.TheVariants as F
 

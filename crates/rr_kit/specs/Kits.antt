@@ -11,9 +11,9 @@ use Rattle.rr_roster.specs.declared.fault.Fault as roster_fault
 use Rattle.rr_tiles.specs.Manifest as manifest
 use Rattle.rr_tiles.specs.declared.supply.Supply.{Supply}
 use Rattle.rr_tiles.specs.declared.fault.Fault as manifest_fault
-use Rattle.rr_board.specs.Reading as board
-use Rattle.rr_board.specs.Plan.{Plan}
-use Rattle.rr_board.specs.declared.fault.Fault as board_fault
+use Rattle.rr_kit.specs.Board.Reading as board
+use Rattle.rr_kit.specs.Board.Plan.{Plan}
+use Rattle.rr_kit.specs.declared.board.fault.Fault as board_fault
 use Rattle.rr_kit.specs.declared.kit.Kit.{Kit}
 use Rattle.rr_kit.specs.declared.fault.Fault.{Fault}
 use Rattle.rr_kit.specs.declared.fault.Fault.TheVariants as F

@@ -77,13 +77,13 @@ impl From<rr_tiles::Fault> for Fault {
     }
 }
 
-impl From<rr_board::Fault> for Fault {
+impl From<crate::board::Fault> for Fault {
     ghost from_gives = { λ fault wrapped. wrapped ≡ of_board fault };
 
-    fn from(fault: rr_board::Fault) -> Fault {
+    fn from(fault: crate::board::Fault) -> Fault {
         match fault {
-            rr_board::Fault::BadBoard { line } => Fault::BadBoard(line),
-            rr_board::Fault::OutOfMemory => Fault::OutOfMemory,
+            crate::board::Fault::BadBoard { line } => Fault::BadBoard(line),
+            crate::board::Fault::OutOfMemory => Fault::OutOfMemory,
         }
     }
 }

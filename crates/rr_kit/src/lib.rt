@@ -4,6 +4,7 @@
 //! spell (`SpellsKit`), or the first wrong text's fault (`RefusesKit`).
 #![tactic(auto)]
 
+pub mod board;
 mod fault;
 mod kit;
 pub mod laws;

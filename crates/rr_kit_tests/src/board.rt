@@ -1,5 +1,5 @@
 //! The small board, and texts that are no board.
-use rr_board::{Board, Colour, Fault, Hex, Place, slots_at};
+use rr_kit::board::{Board, Colour, Fault, Hex, Place, slots_at};
 use rr_roster::{Corp, Private};
 use std::alloc::Global;
 use std::test::Fail;

@@ -17,9 +17,9 @@ use Rattle.rr_books.specs.declared.parties.Place.TheVariants as L
 use Rattle.rr_books.specs.declared.parties.Seat.{Seat}
 use Rattle.rr_books.specs.Book.{Book, holder, players}
 use Rattle.rr_books.specs.Shares.{Holders, privates}
-use Rattle.rr_bids.specs.Bids.{Row, bids_on, sole_bidder}
-use Rattle.rr_bids.specs.Progress.{Progress, progress}
-use Rattle.rr_bids.specs.Unsold.{cheapest, is_private}
+use Rattle.rr_rounds.specs.Bids.Bids.{Row, bids_on, sole_bidder}
+use Rattle.rr_rounds.specs.Bids.Progress.{Progress, progress}
+use Rattle.rr_rounds.specs.Bids.Unsold.{cheapest, is_private}
 use Rattle.rr_desk.specs.Effects.{Effect, adds, in_turn}
 use Rattle.rr_desk.specs.Incomes.{dollars}
 use Rattle.rr_market.specs.Moves.{cell_of, par_marks}

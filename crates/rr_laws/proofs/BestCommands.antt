@@ -12,18 +12,18 @@ use Rattle.rr_kit.specs.declared.kit.Kit.{Kit}
 use Rattle.rr_operate.specs.declared.fault.Fault as operate
 use Rattle.rr_operate.specs.Fault.{of_running}
 use Rattle.rr_operate.specs.Rows.{IsRowVerdict, first_verdict}
-use Rattle.rr_operations.specs.declared.turn.Stage.{Stage}
-use Rattle.rr_operations.specs.declared.turn.Stage.TheVariants as G
+use Rattle.rr_market.specs.declared.operations.turn.Stage.{Stage}
+use Rattle.rr_market.specs.declared.operations.turn.Stage.TheVariants as G
 use Rattle.rr_routes.specs.Certificates.{Accepts}
 use Rattle.rr_routes.specs.declared.certificate.CertTree.{CertTree}
 use Rattle.rr_routes.specs.Net.{Net}
 use Rattle.rr_routes.specs.Routes.{Optimal}
-use Rattle.rr_runs.specs.Sheets.{IsLegal}
+use Rattle.rr_referee.specs.Sheets.{IsLegal}
 use Rattle.rr_running.specs.declared.fault.Fault as running
 use Rattle.rr_running.specs.declared.fault.Fault.TheVariants as R
 use Rattle.rr_running.specs.Running.{IsBestRunVerdict, is_best, is_refused, is_unshown, net_now}
 use Rattle.rr_running.proofs.Judged.{words_earn}
-use Rattle.rr_sheets.specs.declared.sheet.TrainWord.{TrainWord}
+use Rattle.rr_routes.specs.declared.sheets.sheet.TrainWord.{TrainWord}
 use Rattle.rr_rules.specs.Fault.{of_turn}
 use Rattle.rr_rules.specs.Judging.{judgement, judgement_in, name_verdict, stage, turn_judgement}
 use Rattle.rr_rules.specs.State.{GameState}

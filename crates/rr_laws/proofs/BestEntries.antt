@@ -12,12 +12,12 @@ use Rattle.rr_books.specs.Book.{Book}
 use Rattle.rr_auction.specs.Effects as auction
 use Rattle.rr_code.specs.declared.command.Command.{Command}
 use Rattle.rr_code.specs.declared.command.Command.TheVariants.{Open}
-use Rattle.rr_forced.specs.Effects as forced
-use Rattle.rr_forced.specs.Rules.{is_forced}
+use Rattle.rr_rules.specs.Forced.Effects as forced
+use Rattle.rr_rules.specs.Forced.Rules.{is_forced}
 use Rattle.rr_kit.specs.declared.kit.Kit.{Kit}
 use Rattle.rr_operate.specs.Effects.{entries_of, runs_best}
-use Rattle.rr_operations.specs.declared.turn.Stage.{Stage}
-use Rattle.rr_operations.specs.declared.turn.Stage.TheVariants as G
+use Rattle.rr_market.specs.declared.operations.turn.Stage.{Stage}
+use Rattle.rr_market.specs.declared.operations.turn.Stage.TheVariants as G
 use Rattle.rr_rules.specs.declared.fault.Fault as rules
 use Rattle.rr_rules.specs.Judging.{judgement, judgement_in, name_verdict, stage}
 use Rattle.rr_rules.specs.Playing.{operating_entries, state_after, state_in, stock_entries}

@@ -4,8 +4,8 @@ use Rattle.std.proofs.Common.{inl, inr}
 use Rattle.std.proofs.lemmas.Bool.{false≢true}
 use Rattle.rr_roster.specs.declared.company.Corp.{Corp}
 use Rattle.rr_roster.specs.Terms.{tokens_of}
-use Rattle.rr_board.specs.declared.hex.Hex.{Hex}
-use Rattle.rr_board.specs.Plan.{Plan, hex_named}
+use Rattle.rr_kit.specs.declared.board.hex.Hex.{Hex}
+use Rattle.rr_kit.specs.Board.Plan.{Plan, hex_named}
 use Rattle.rr_tiles.specs.declared.supply.Supply.{Supply}
 use Rattle.rr_tiles.specs.Supply.{supply_at}
 use Rattle.rr_books.specs.declared.acts.Act.{Act}
@@ -15,8 +15,8 @@ use Rattle.rr_books.specs.Book.{Book}
 use Rattle.rr_code.specs.declared.command.Command.{Command}
 use Rattle.rr_code.specs.declared.command.Command.TheVariants.{Open}
 use Rattle.rr_kit.specs.declared.kit.Kit.{Kit}
-use Rattle.rr_layout.specs.declared.layout.Lay.{Lay}
-use Rattle.rr_layout.specs.declared.layout.Station.{Station}
+use Rattle.rr_desk.specs.declared.layout.layout.Lay.{Lay}
+use Rattle.rr_desk.specs.declared.layout.layout.Station.{Station}
 use Rattle.rr_lay.specs.declared.fault.Fault as lay
 use Rattle.rr_lay.specs.declared.fault.Fault.TheVariants as L
 use Rattle.rr_lay.specs.Costs.{cost_verdict}
@@ -25,18 +25,18 @@ use Rattle.rr_lay.specs.Laying as laying
 use Rattle.rr_lay.specs.Placing as placing
 use Rattle.rr_lay.specs.Position.{Position, position_of}
 use Rattle.rr_network.specs.Walk.{ReachesNode, node_of}
-use Rattle.rr_holdings.specs.Holdings.{holdings_of}
-use Rattle.rr_operations.specs.Due.{due}
-use Rattle.rr_operations.specs.declared.turn.Stage.{Stage}
-use Rattle.rr_operations.specs.declared.turn.Stage.TheVariants as G
+use Rattle.rr_shares.specs.Limits.Holdings.{holdings_of}
+use Rattle.rr_market.specs.Operations.Due.{due}
+use Rattle.rr_market.specs.declared.operations.turn.Stage.{Stage}
+use Rattle.rr_market.specs.declared.operations.turn.Stage.TheVariants as G
 use Rattle.rr_running.specs.Running.{net_now}
 use Rattle.rr_operate.specs.declared.fault.Fault.TheVariants as O
 use Rattle.rr_operate.specs.Fault.{of_lay, of_running}
 use Rattle.rr_operate.specs.Rows as rows
-use Rattle.rr_forced.specs.declared.fault.Fault.TheVariants as C
-use Rattle.rr_forced.specs.Needs.{IsNeedOf}
-use Rattle.rr_forced.specs.Rules as force
-use Rattle.rr_forced.specs.Sales.{CanRaise, bankrupt_verdict, raise_verdict}
+use Rattle.rr_rules.specs.declared.forced.fault.Fault.TheVariants as C
+use Rattle.rr_rules.specs.Forced.Needs.{IsNeedOf}
+use Rattle.rr_rules.specs.Forced.Rules as force
+use Rattle.rr_rules.specs.Forced.Sales.{CanRaise, bankrupt_verdict, raise_verdict}
 use Rattle.rr_rules.specs.declared.fault.Fault.TheVariants as F
 use Rattle.rr_rules.specs.Fault.{of_forced, of_turn}
 use Rattle.rr_rules.specs.Judging.{force_judgement, judgement, judgement_in, name_verdict, operating_judgement, stage, turn_judgement}

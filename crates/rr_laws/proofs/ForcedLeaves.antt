@@ -15,11 +15,11 @@ use Rattle.rr_shares.specs.Effects.{sale_shares}
 use Rattle.rr_stock.specs.Effects.{pays_seller, proceeds}
 use Rattle.rr_stock.specs.Situation.{Situation, situation_of}
 use Rattle.rr_trains.specs.Sales.{source_place}
-use Rattle.rr_depot.specs.Effects.{says}
-use Rattle.rr_depot.specs.Situation as depot
-use Rattle.rr_forced.specs.declared.needs.Need.{Need}
-use Rattle.rr_forced.specs.Effects.{entries_of, forces, forces_if, gets_train, helps, raises}
-use Rattle.rr_forced.specs.Needs.{cheapest_need}
+use Rattle.rr_trains.specs.Depot.Effects.{says}
+use Rattle.rr_trains.specs.Depot.Situation as depot
+use Rattle.rr_rules.specs.declared.forced.needs.Need.{Need}
+use Rattle.rr_rules.specs.Forced.Effects.{entries_of, forces, forces_if, gets_train, helps, raises}
+use Rattle.rr_rules.specs.Forced.Needs.{cheapest_need}
 use Rattle.rr_laws.proofs.StockLeaves.{Leaves, none_leaves, sale_leaves, seller_leaves, three_leave}
 use Rattle.rr_laws.proofs.TrainSales.{Trades, none_trades, still_trades, three_trade}
 use Rattle.rr_laws.proofs.TurnLeaves.{GoesOn, paid_for, still_goes, trades_on}

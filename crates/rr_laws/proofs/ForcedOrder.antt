@@ -19,28 +19,28 @@ use Rattle.rr_books.specs.State.{has_party}
 use Rattle.rr_kit.specs.declared.kit.Kit.{Kit}
 use Rattle.rr_desk.specs.Effects.{adds, in_turn}
 use Rattle.rr_desk.specs.Incomes.{dollars}
-use Rattle.rr_depot.specs.Effects.{is_first_sold, pays, says}
-use Rattle.rr_depot.specs.Situation.{Situation, situation_of}
-use Rattle.rr_operations.specs.Due.{due}
+use Rattle.rr_trains.specs.Depot.Effects.{is_first_sold, pays, says}
+use Rattle.rr_trains.specs.Depot.Situation.{Situation, situation_of}
+use Rattle.rr_market.specs.Operations.Due.{due}
 use Rattle.rr_operate.specs.Order.{is_due}
 use Rattle.rr_shares.specs.Succession.{at_table}
 use Rattle.rr_trains.specs.declared.prices.TrainOnSale.{TrainOnSale}
 use Rattle.rr_trains.specs.Effects.{first_train, moves_lowest_train}
 use Rattle.rr_trains.specs.Sales.{cheapest, source_place}
-use Rattle.rr_forced.specs.declared.fault.Fault.{Fault}
-use Rattle.rr_forced.specs.declared.fault.Fault.TheVariants as F
-use Rattle.rr_forced.specs.declared.needs.Need.{Need}
-use Rattle.rr_forced.specs.Effects.{forces, forces_if, gets_train, helps}
-use Rattle.rr_forced.specs.Needs.{IsNeedOf, cheapest_need, joint_cash, leader, missing, need_for, with_leader}
-use Rattle.rr_forced.specs.Rules.{IsForceVerdict, force_verdict}
-use Rattle.rr_sound.specs.GoodOrder.{IsInGoodOrder}
-use Rattle.rr_sound.specs.Sound.{IsSolvent}
-use Rattle.rr_sound.proofs.GoodOrder.{order_kept}
-use Rattle.rr_sound.proofs.Going.{same_players}
-use Rattle.rr_sound.proofs.Untouched.{same_is, spares_pay}
-use Rattle.rr_sound_turns.proofs.Purchases.{paid_for, says_stays}
-use Rattle.rr_sound_turns.proofs.Quiet.{can_settle, due_of}
-use Rattle.rr_sound_turns.proofs.Turning.{CanSettle, Settles, TurnsOn, no_dues, settled, settles_one, solvent, turns_by, turns_further, turns_nowhere}
+use Rattle.rr_rules.specs.declared.forced.fault.Fault.{Fault}
+use Rattle.rr_rules.specs.declared.forced.fault.Fault.TheVariants as F
+use Rattle.rr_rules.specs.declared.forced.needs.Need.{Need}
+use Rattle.rr_rules.specs.Forced.Effects.{forces, forces_if, gets_train, helps}
+use Rattle.rr_rules.specs.Forced.Needs.{IsNeedOf, cheapest_need, joint_cash, leader, missing, need_for, with_leader}
+use Rattle.rr_rules.specs.Forced.Rules.{IsForceVerdict, force_verdict}
+use Rattle.rr_laws.specs.Soundness.GoodOrder.{IsInGoodOrder}
+use Rattle.rr_laws.specs.Soundness.Sound.{IsSolvent}
+use Rattle.rr_laws.proofs.SoundnessLemmas.GoodOrder.{order_kept}
+use Rattle.rr_laws.proofs.SoundnessLemmas.Going.{same_players}
+use Rattle.rr_laws.proofs.SoundnessLemmas.Untouched.{same_is, spares_pay}
+use Rattle.rr_laws.proofs.TurnsLemmas.Purchases.{paid_for, says_stays}
+use Rattle.rr_laws.proofs.TurnsLemmas.Quiet.{can_settle, due_of}
+use Rattle.rr_laws.proofs.TurnsLemmas.Turning.{CanSettle, Settles, TurnsOn, no_dues, settled, settles_one, solvent, turns_by, turns_further, turns_nowhere}
 use Rattle.rr_laws.proofs.StockOrder.{in_order}
 
 -- what is missing, with what is there, is the price

@@ -18,11 +18,11 @@ use Rattle.rr_books.specs.declared.acts.Act.TheVariants as A
 use Rattle.rr_books.specs.Book.{Book, holder, holder-push, holder_after, players}
 use Rattle.rr_books.specs.Shares.{Holders, is_at, privates}
 use Rattle.rr_books.specs.Same.{same_cert}
-use Rattle.rr_bids.specs.Progress.{Progress, after, after_act, after_par, beginning, follow, progress, raise_due}
+use Rattle.rr_rounds.specs.Bids.Progress.{Progress, after, after_act, after_par, beginning, follow, progress, raise_due}
 use Rattle.rr_auction.specs.Effects.{is_over}
 use Rattle.rr_auction.specs.Rules.{due, due_by}
-use Rattle.rr_bids.specs.Unsold.{cheapest, is_unsold}
-use Rattle.rr_bids.specs.ProgressLaws.{progress-append}
+use Rattle.rr_rounds.specs.Bids.Unsold.{cheapest, is_unsold}
+use Rattle.rr_rounds.specs.Bids.ProgressLaws.{progress-append}
 use Rattle.rr_laws.proofs.LeavesAuction.{leaves_auction, leaves_sales, leaves_step, leaves_turns}
 
 par_left : (c : Corp) (a : Progress) → a.par_due ≡ None → after_par c a ≡ a

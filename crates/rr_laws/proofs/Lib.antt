@@ -19,3 +19,6 @@ mod SheetVerdicts
 mod EachVerdict
 mod Wanting
 mod SoldAlong
+pub mod SequenceLemmas
+pub mod SoundnessLemmas
+pub mod TurnsLemmas

@@ -15,9 +15,9 @@ use Rattle.rr_books.specs.Same.{same_seat}
 use Rattle.rr_books.specs.Shares.{is_at, share}
 use Rattle.rr_shares.specs.Presidents.{IsPresident}
 use Rattle.rr_shares.specs.Sales.{AnotherHasTwenty, MaySell}
-use Rattle.rr_holdings.specs.declared.fault.Fault.TheVariants as H
-use Rattle.rr_holdings.specs.Holdings.{holdings_of, percent_of}
-use Rattle.rr_holdings.specs.Sales.{has_successor, is_successor, leaves_no_president, sale_verdict}
+use Rattle.rr_shares.specs.declared.limits.fault.Fault.TheVariants as H
+use Rattle.rr_shares.specs.Limits.Holdings.{holdings_of, percent_of}
+use Rattle.rr_shares.specs.Limits.Sales.{has_successor, is_successor, leaves_no_president, sale_verdict}
 use Rattle.rr_market.specs.Marks.{price_of}
 use Rattle.rr_stock.proofs.SaleVerdicts.{passed}
 

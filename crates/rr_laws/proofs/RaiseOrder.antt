@@ -25,12 +25,12 @@ use Rattle.rr_auction.proofs.Dealing.{dealt_by}
 use Rattle.rr_kit.specs.declared.kit.Kit.{Kit}
 use Rattle.rr_desk.specs.Effects.{Effect, adds, in_turn}
 use Rattle.rr_desk.specs.Incomes.{dollars}
-use Rattle.rr_depot.specs.Situation.{situation_of}
-use Rattle.rr_holdings.specs.Holdings.{holdings_of}
-use Rattle.rr_holdings.specs.Sales.{sale_verdict}
+use Rattle.rr_trains.specs.Depot.Situation.{situation_of}
+use Rattle.rr_shares.specs.Limits.Holdings.{holdings_of}
+use Rattle.rr_shares.specs.Limits.Sales.{sale_verdict}
 use Rattle.rr_market.specs.Marks.{mark_of, price_of}
 use Rattle.rr_market.specs.Moves.{cell_after_sale, mark_at, sale_marks}
-use Rattle.rr_operations.specs.Due.{due}
+use Rattle.rr_market.specs.Operations.Due.{due}
 use Rattle.rr_shares.specs.Effects.{moves_lowest_shares, presidency_after_sale, sale_shares}
 use Rattle.rr_shares.specs.Presidents.{NobodyHasMore}
 use Rattle.rr_shares.specs.Sales.{AnotherHasTwenty, MaySell, PresidentLeads, SalesMoveShares}
@@ -44,21 +44,21 @@ use Rattle.rr_stock.proofs.TurnLemmas as free
 use Rattle.rr_stock.proofs.TurnLemmas.{after_sale_free, seller_free}
 use Rattle.rr_trains.specs.declared.prices.TrainOnSale.{TrainOnSale}
 use Rattle.rr_trains.specs.Sales.{cheapest}
-use Rattle.rr_forced.specs.declared.fault.Fault.TheVariants as F
-use Rattle.rr_forced.specs.declared.needs.Need.{Need}
-use Rattle.rr_forced.specs.Effects.{raises}
-use Rattle.rr_forced.specs.Fault.{of_holdings}
-use Rattle.rr_forced.specs.Needs.{IsNeedOf, cheapest_need, leader, need_for}
-use Rattle.rr_forced.specs.Rules.{IsRaiseVerdict}
-use Rattle.rr_forced.specs.Sales.{is_seat, president_verdict, raise_verdict, share_verdict}
-use Rattle.rr_sound.specs.GoodOrder.{IsInGoodOrder}
-use Rattle.rr_sound.specs.Presidencies.{AwaitsPar, IsGoverned, IsLed}
-use Rattle.rr_sound.specs.Sound.{IsSolvent}
-use Rattle.rr_sound.proofs.Corporations.{keeps_mark_at, keeps_sale}
-use Rattle.rr_sound.proofs.Going.{GoesOn, Keeps, keeps_paid, keeps_step, keeps_three, keeps_two, no_debt, solvent_without_debt, without_debt}
-use Rattle.rr_sound.proofs.GoodOrder.{sum_kept}
-use Rattle.rr_sound.proofs.PricedShares.{unpriced}
-use Rattle.rr_sound.proofs.Untouched.{Spares, governed_still, same_is, spares_pay, spares_sale, spares_step, spares_three, spares_token, spares_two}
+use Rattle.rr_rules.specs.declared.forced.fault.Fault.TheVariants as F
+use Rattle.rr_rules.specs.declared.forced.needs.Need.{Need}
+use Rattle.rr_rules.specs.Forced.Effects.{raises}
+use Rattle.rr_rules.specs.Forced.Fault.{of_holdings}
+use Rattle.rr_rules.specs.Forced.Needs.{IsNeedOf, cheapest_need, leader, need_for}
+use Rattle.rr_rules.specs.Forced.Rules.{IsRaiseVerdict}
+use Rattle.rr_rules.specs.Forced.Sales.{is_seat, president_verdict, raise_verdict, share_verdict}
+use Rattle.rr_laws.specs.Soundness.GoodOrder.{IsInGoodOrder}
+use Rattle.rr_laws.specs.Soundness.Presidencies.{AwaitsPar, IsGoverned, IsLed}
+use Rattle.rr_laws.specs.Soundness.Sound.{IsSolvent}
+use Rattle.rr_laws.proofs.SoundnessLemmas.Corporations.{keeps_mark_at, keeps_sale}
+use Rattle.rr_laws.proofs.SoundnessLemmas.Going.{GoesOn, Keeps, keeps_paid, keeps_step, keeps_three, keeps_two, no_debt, solvent_without_debt, without_debt}
+use Rattle.rr_laws.proofs.SoundnessLemmas.GoodOrder.{sum_kept}
+use Rattle.rr_laws.proofs.SoundnessLemmas.PricedShares.{unpriced}
+use Rattle.rr_laws.proofs.SoundnessLemmas.Untouched.{Spares, governed_still, same_is, spares_pay, spares_sale, spares_step, spares_three, spares_token, spares_two}
 use Rattle.rr_laws.proofs.MaySell.{SaleTold, sale_told}
 
 -- money and places

@@ -9,18 +9,18 @@ use Rattle.rr_books.specs.declared.entries.Entry.TheVariants as E
 use Rattle.rr_books.specs.declared.entries.Marker.TheVariants as M
 use Rattle.rr_books.specs.Book.{Book}
 use Rattle.rr_books.specs.Shares.{privates}
-use Rattle.rr_board.specs.declared.hex.Home.{Home}
+use Rattle.rr_kit.specs.declared.board.hex.Home.{Home}
 use Rattle.rr_kit.specs.declared.kit.Kit.{Kit}
 use Rattle.rr_desk.specs.Effects.{adds, in_turn}
 use Rattle.rr_desk.specs.Incomes.{pay_incomes}
-use Rattle.rr_layout.specs.Layout.{stations}
-use Rattle.rr_operations.specs.Progress.{has_more_rounds, progress}
-use Rattle.rr_operations.specs.Due.{due}
+use Rattle.rr_desk.specs.Layout.Layout.{stations}
+use Rattle.rr_market.specs.Operations.Progress.{has_more_rounds, progress}
+use Rattle.rr_market.specs.Operations.Due.{due}
 use Rattle.rr_rounds.specs.Round as rounds
 use Rattle.rr_rules.specs.Playing.{stock_entries}
-use Rattle.rr_sets.specs.Following.{begins_set, goes_on_in_operating_round, goes_on_in_stock_round}
-use Rattle.rr_sets.specs.Rounds.{begins_round, ends_round, ends_set, passes_round, passes_rounds, round_is_over}
-use Rattle.rr_sets.specs.Tokens.{has_token, is_home_of, places_at, places_first_token, places_first_token_if, places_first_token_of}
+use Rattle.rr_operate.specs.Sets.Following.{begins_set, goes_on_in_operating_round, goes_on_in_stock_round}
+use Rattle.rr_operate.specs.Sets.Rounds.{begins_round, ends_round, ends_set, passes_round, passes_rounds, round_is_over}
+use Rattle.rr_operate.specs.Sets.Tokens.{has_token, is_home_of, places_at, places_first_token, places_first_token_if, places_first_token_of}
 use Rattle.rr_stock.specs.Effects as stock
 use Rattle.rr_laws.proofs.LeavesAuction.{is_still}
 use Rattle.rr_laws.proofs.StockLeaves.{Leaves, act_leaves, incomes_leave, none_leaves, three_leave, two_leave}

@@ -6,14 +6,14 @@ use Rattle.rr_routes.specs.declared.net.CentreLimit.{CentreLimit}
 use Rattle.rr_routes.specs.declared.net.Node.{Node}
 use Rattle.rr_routes.specs.Net.{IsWithin, Net, limit_of}
 use Rattle.rr_routes.specs.Routes.{NoTerminalInside, NoneTwice, Route, Trip, centres, earned, no_trip}
-use Rattle.rr_sheets.specs.declared.sheet.TrainWord.{TrainWord}
-use Rattle.rr_sheets.specs.Sheet.{SpellsSheet}
-use Rattle.rr_runs.specs.declared.clause.Clause.{Clause}
-use Rattle.rr_runs.specs.declared.clause.Clause.TheVariants.{SharedHexside, WrongWord}
-use Rattle.rr_runs.specs.Sheets.{AreLawful, Asks, Breaks, BreaksWord, Course, IsFirstBroken, IsItsWord, IsLegal, SomeToken, another, at_train, links_of, missing, route_clauses}
-use Rattle.rr_runs.specs.Tests.{IsLawfulWord, IsRouteUp}
-use Rattle.rr_runs.proofs.CourseLemmas.{breaks, one_course, runs, stays}
-use Rattle.rr_runs.proofs.SheetLemmas.{is_legal, lawful_first, lawful_next, side_shared, words_left}
+use Rattle.rr_routes.specs.declared.sheets.sheet.TrainWord.{TrainWord}
+use Rattle.rr_routes.specs.Sheets.Sheet.{SpellsSheet}
+use Rattle.rr_referee.specs.declared.clause.Clause.{Clause}
+use Rattle.rr_referee.specs.declared.clause.Clause.TheVariants.{SharedHexside, WrongWord}
+use Rattle.rr_referee.specs.Sheets.{AreLawful, Asks, Breaks, BreaksWord, Course, IsFirstBroken, IsItsWord, IsLegal, SomeToken, another, at_train, links_of, missing, route_clauses}
+use Rattle.rr_referee.specs.Tests.{IsLawfulWord, IsRouteUp}
+use Rattle.rr_referee.proofs.CourseLemmas.{breaks, one_course, runs, stays}
+use Rattle.rr_referee.proofs.SheetLemmas.{is_legal, lawful_first, lawful_next, side_shared, words_left}
 use Rattle.rr_running.specs.declared.fault.Fault.{Fault}
 use Rattle.rr_running.specs.declared.fault.Fault.TheVariants as F
 use Rattle.rr_running.specs.Running.{IsBestVerdictOn, IsVerdictOn, Shows, ShowsNot, is_best, is_broken, is_refused, is_run, is_unread, is_unshown}

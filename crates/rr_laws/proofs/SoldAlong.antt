@@ -6,9 +6,9 @@ use Rattle.rr_auction.specs.Opening.{opened}
 use Rattle.rr_code.specs.declared.command.Command.{Command}
 use Rattle.rr_code.specs.declared.command.Command.TheVariants.{Open}
 use Rattle.rr_kit.specs.declared.kit.Kit.{Kit}
-use Rattle.rr_operations.specs.declared.turn.Stage.{Stage}
-use Rattle.rr_operations.specs.declared.turn.Stage.TheVariants as G
-use Rattle.rr_forced.specs.Rules.{is_forced}
+use Rattle.rr_market.specs.declared.operations.turn.Stage.{Stage}
+use Rattle.rr_market.specs.declared.operations.turn.Stage.TheVariants as G
+use Rattle.rr_rules.specs.Forced.Rules.{is_forced}
 use Rattle.rr_rules.specs.Judging.{stage}
 use Rattle.rr_rules.specs.Playing.{operating_entries, state_in, stock_entries}
 use Rattle.rr_rules.specs.State.{GameState}

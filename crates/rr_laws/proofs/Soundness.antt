@@ -21,29 +21,29 @@ use Rattle.rr_auction.proofs.LawfulActs as bids
 use Rattle.rr_auction.proofs.OpenedTable.{covered_opened}
 use Rattle.rr_operate.specs.declared.fault.Fault as operate
 use Rattle.rr_operate.specs.Rows as rows
-use Rattle.rr_operations.specs.declared.turn.Stage.{Stage}
-use Rattle.rr_operations.specs.declared.turn.Stage.TheVariants as G
+use Rattle.rr_market.specs.declared.operations.turn.Stage.{Stage}
+use Rattle.rr_market.specs.declared.operations.turn.Stage.TheVariants as G
 use Rattle.rr_rounds.specs.Round as rounds
-use Rattle.rr_sound.specs.GoodOrder.{IsInGoodOrder}
-use Rattle.rr_sound.specs.Presidencies.{IsGovernedInAuction}
-use Rattle.rr_sound.proofs.AuctionPresidents.{governed_by_act}
-use Rattle.rr_sound.proofs.Auctioned.{half_after_act}
-use Rattle.rr_sound.proofs.GoodOrder.{sum_kept}
-use Rattle.rr_sound.proofs.PoolPlays.{half_after_bids}
-use Rattle.rr_sound.proofs.PresidentPlays.{governed_at_first, greatest_where_governed}
-use Rattle.rr_sound.proofs.SoundPlays.{solvent_by_cover}
-use Rattle.rr_sound_turns.specs.Turns.{IsEarned}
-use Rattle.rr_sound_turns.proofs.Commands.{earned_behind, order_by_act}
+use Rattle.rr_laws.specs.Soundness.GoodOrder.{IsInGoodOrder}
+use Rattle.rr_laws.specs.Soundness.Presidencies.{IsGovernedInAuction}
+use Rattle.rr_laws.proofs.SoundnessLemmas.AuctionPresidents.{governed_by_act}
+use Rattle.rr_laws.proofs.SoundnessLemmas.Auctioned.{half_after_act}
+use Rattle.rr_laws.proofs.SoundnessLemmas.GoodOrder.{sum_kept}
+use Rattle.rr_laws.proofs.SoundnessLemmas.PoolPlays.{half_after_bids}
+use Rattle.rr_laws.proofs.SoundnessLemmas.PresidentPlays.{governed_at_first, greatest_where_governed}
+use Rattle.rr_laws.proofs.SoundnessLemmas.SoundPlays.{solvent_by_cover}
+use Rattle.rr_laws.specs.Turns.Turns.{IsEarned}
+use Rattle.rr_laws.proofs.TurnsLemmas.Commands.{earned_behind, order_by_act}
 use Rattle.rr_stock.specs.Rules as trading
 use Rattle.rr_stock.specs.Situation as stock
 use Rattle.rr_code.specs.declared.command.Command.{Command}
 use Rattle.rr_code.specs.declared.command.Command.TheVariants.{Open}
 use Rattle.rr_kit.specs.declared.kit.Kit.{Kit}
-use Rattle.rr_depot.specs.Situation.{situation_of}
-use Rattle.rr_forced.specs.declared.fault.Fault as forced
-use Rattle.rr_forced.specs.Effects.{forces_if, raises}
-use Rattle.rr_forced.specs.Needs.{cheapest_need}
-use Rattle.rr_forced.specs.Rules as force
+use Rattle.rr_trains.specs.Depot.Situation.{situation_of}
+use Rattle.rr_rules.specs.declared.forced.fault.Fault as forced
+use Rattle.rr_rules.specs.Forced.Effects.{forces_if, raises}
+use Rattle.rr_rules.specs.Forced.Needs.{cheapest_need}
+use Rattle.rr_rules.specs.Forced.Rules as force
 use Rattle.rr_rules.specs.declared.fault.Fault as rules
 use Rattle.rr_rules.specs.Judging.{judgement, judgement_in, force_judgement, name_verdict, operating_judgement, stage, stage_once, turn_judgement}
 use Rattle.rr_rules.specs.Playing.{operating_entries, state_after, state_in, stock_entries}

@@ -18,24 +18,24 @@ use Rattle.rr_market.specs.Moves.{cell_above, sold_out_marks}
 use Rattle.rr_market.specs.Order.{operating_order}
 use Rattle.rr_rounds.specs.Round.{ends_round, progress}
 use Rattle.rr_rules.specs.Playing.{stock_entries}
-use Rattle.rr_sequence.specs.PoolLimits.{PoolStaysWithinHalf}
-use Rattle.rr_sequence.specs.Sequence as sequence
-use Rattle.rr_sequence.specs.SoldShares.{LawfulSalesMoveShares}
-use Rattle.rr_sequence.proofs.Flat.{after_two}
-use Rattle.rr_sequence.proofs.Whole.{own_alone}
+use Rattle.rr_laws.specs.Sequence.PoolLimits.{PoolStaysWithinHalf}
+use Rattle.rr_laws.specs.Sequence.Sequence as sequence
+use Rattle.rr_laws.specs.Sequence.SoldShares.{LawfulSalesMoveShares}
+use Rattle.rr_laws.proofs.SequenceLemmas.Flat.{after_two}
+use Rattle.rr_laws.proofs.SequenceLemmas.Whole.{own_alone}
 use Rattle.rr_shares.specs.Sales.{SalesMoveShares}
-use Rattle.rr_sets.specs.Following.{begins_set, goes_on_in_operating_round, goes_on_in_stock_round}
+use Rattle.rr_operate.specs.Sets.Following.{begins_set, goes_on_in_operating_round, goes_on_in_stock_round}
 use Rattle.rr_stock.specs.Effects.{ends_if, ends_stock_round, ends_turn, entries_of, is_sold_out, rises, rises_among, rises_if_sold_out, says}
 use Rattle.rr_stock.specs.Rules.{verdict}
 use Rattle.rr_stock.specs.Situation.{situation_of}
-use Rattle.rr_sound.specs.GoodOrder.{IsInGoodOrder}
-use Rattle.rr_sound.proofs.Going.{solvent_without_debt}
-use Rattle.rr_sound.proofs.GoodOrder.{order_kept, sum_kept}
-use Rattle.rr_sound.proofs.StockActs.{goes_by_lawful}
-use Rattle.rr_sound.proofs.StockPresidents.{governed_by_command}
-use Rattle.rr_sound_turns.proofs.Quiet.{stays_step, stays_token}
-use Rattle.rr_sound_turns.proofs.Rounds.{incomes_stay, round_goes_on}
-use Rattle.rr_sound_turns.proofs.Turning.{Stays, no_dues, settled, solvent, stays_each, stays_either, stays_none, stays_two}
+use Rattle.rr_laws.specs.Soundness.GoodOrder.{IsInGoodOrder}
+use Rattle.rr_laws.proofs.SoundnessLemmas.Going.{solvent_without_debt}
+use Rattle.rr_laws.proofs.SoundnessLemmas.GoodOrder.{order_kept, sum_kept}
+use Rattle.rr_laws.proofs.SoundnessLemmas.StockActs.{goes_by_lawful}
+use Rattle.rr_laws.proofs.SoundnessLemmas.StockPresidents.{governed_by_command}
+use Rattle.rr_laws.proofs.TurnsLemmas.Quiet.{stays_step, stays_token}
+use Rattle.rr_laws.proofs.TurnsLemmas.Rounds.{incomes_stay, round_goes_on}
+use Rattle.rr_laws.proofs.TurnsLemmas.Turning.{Stays, no_dues, settled, solvent, stays_each, stays_either, stays_none, stays_two}
 
 -- what the stock rounds promise of the pool, and of sales, and what holds of the shares that any sale moves
 pub record StockLaws : Type 0 where

@@ -16,7 +16,7 @@ use Rattle.rr_books.specs.Book.{Book, train_holder, train_holder-push, train_hol
 use Rattle.rr_books.specs.Same.{same_place, same_train}
 use Rattle.rr_books.specs.Shares.{is_at}
 use Rattle.rr_desk.specs.Effects.{Effect, in_turn}
-use Rattle.rr_operations.specs.Phases.{has_left, is_sold, phase, train, train_numbers}
+use Rattle.rr_market.specs.Operations.Phases.{has_left, is_sold, phase, train, train_numbers}
 use Rattle.rr_trains.specs.Effects.{all_rust, is_in_game, moves_lowest_train, moves_train_if, rusts}
 use Rattle.rr_trains.specs.PhaseLaws.{phase_is_the_greatest_sold}
 use Rattle.rr_trains.specs.Places.{is_train_at, lowest_train}

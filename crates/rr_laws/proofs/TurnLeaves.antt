@@ -26,25 +26,25 @@ use Rattle.rr_books.specs.declared.parties.Place.{Place}
 use Rattle.rr_books.specs.declared.parties.Place.TheVariants as L
 use Rattle.rr_books.specs.declared.parties.Seat.{Seat}
 use Rattle.rr_books.specs.Book.{Book, holder, players}
-use Rattle.rr_board.specs.Plan.{hex_named}
+use Rattle.rr_kit.specs.Board.Plan.{hex_named}
 use Rattle.rr_kit.specs.declared.kit.Kit.{Kit}
 use Rattle.rr_desk.specs.Effects.{Effect, adds, in_turn}
-use Rattle.rr_dividends.specs.Dividends.{pays_for, pays_out, pays_seat, pays_seats, seating, withholds}
-use Rattle.rr_layout.specs.Layout.{lays, stations}
+use Rattle.rr_operate.specs.Dividends.Dividends.{pays_for, pays_out, pays_seat, pays_seats, seating, withholds}
+use Rattle.rr_desk.specs.Layout.Layout.{lays, stations}
 use Rattle.rr_lay.specs.Costs.{pays_cost, puts}
 use Rattle.rr_lay.specs.Laying.{cost_at}
 use Rattle.rr_lay.specs.Placing.{placed_by, token_cost}
 use Rattle.rr_market.specs.Marks.{mark_of}
 use Rattle.rr_market.specs.Moves.{dividend_marks, moves_token, withholding_marks}
-use Rattle.rr_operations.specs.Phases.{TrainHolders}
+use Rattle.rr_market.specs.Operations.Phases.{TrainHolders}
 use Rattle.rr_trains.specs.Effects.{all_close, closes, closes_own_private, first_if, first_of_kind, first_train, is_in_game, moves_lowest_train}
 use Rattle.rr_trains.specs.Sales.{source_place}
-use Rattle.rr_depot.specs.Effects.{buys_train, buys_train_from, discards_train, gets_train, is_first_sold, of_bank, of_corporation, pays, pays_player, takes_private, trades_train}
-use Rattle.rr_depot.specs.Effects as depot
-use Rattle.rr_depot.specs.Rules.{deal, owner}
-use Rattle.rr_depot.specs.Situation.{Situation, situation_of}
+use Rattle.rr_trains.specs.Depot.Effects.{buys_train, buys_train_from, discards_train, gets_train, is_first_sold, of_bank, of_corporation, pays, pays_player, takes_private, trades_train}
+use Rattle.rr_trains.specs.Depot.Effects as depot
+use Rattle.rr_trains.specs.Depot.Rules.{deal, owner}
+use Rattle.rr_trains.specs.Depot.Situation.{Situation, situation_of}
 use Rattle.rr_operate.specs.Effects.{ends_turn, entries_of, runs_best}
-use Rattle.rr_sets.specs.Following.{goes_on_in_operating_round}
+use Rattle.rr_operate.specs.Sets.Following.{goes_on_in_operating_round}
 use Rattle.rr_laws.proofs.Adding.{each_adds}
 use Rattle.rr_laws.proofs.LeavesAuction.{is_plain, is_still, leaves_auction, leaves_turns, plain_leave, still_move_none, still_plain}
 use Rattle.rr_laws.proofs.RoundLeaves.{round_goes_on}

@@ -4,9 +4,9 @@ use Rattle.std.proofs.Common.{◌∙◌, inl, inr, subst, sym}
 use Rattle.std.specs.Option.{option_or}
 use Rattle.rr_roster.specs.declared.company.Corp.{Corp}
 use Rattle.rr_roster.specs.Terms.{tokens_of}
-use Rattle.rr_board.specs.declared.hex.Hex.{Hex}
-use Rattle.rr_board.specs.declared.hex.Home.{Home}
-use Rattle.rr_board.specs.Plan.{Plan, hex_named, slots_at}
+use Rattle.rr_kit.specs.declared.board.hex.Hex.{Hex}
+use Rattle.rr_kit.specs.declared.board.hex.Home.{Home}
+use Rattle.rr_kit.specs.Board.Plan.{Plan, hex_named, slots_at}
 use Rattle.rr_tiles.specs.declared.supply.Supply.{Supply}
 use Rattle.rr_tiles.specs.Supply.{supply_at}
 use Rattle.rr_books.specs.declared.acts.Act.{Act}
@@ -18,15 +18,15 @@ use Rattle.rr_books.specs.Book.{Book}
 use Rattle.rr_code.specs.declared.command.Command.{Command}
 use Rattle.rr_code.specs.declared.command.Command.TheVariants.{Open}
 use Rattle.rr_kit.specs.declared.kit.Kit.{Kit}
-use Rattle.rr_layout.specs.declared.layout.Lay.{Lay}
-use Rattle.rr_layout.specs.declared.layout.Station.{Station}
+use Rattle.rr_desk.specs.declared.layout.layout.Lay.{Lay}
+use Rattle.rr_desk.specs.declared.layout.layout.Station.{Station}
 use Rattle.rr_network.specs.Network.{face_on}
-use Rattle.rr_dividends.specs.declared.fault.Fault as dividends
-use Rattle.rr_dividends.specs.declared.fault.Fault.TheVariants as V
-use Rattle.rr_dividends.specs.Dividends.{pay_verdict}
-use Rattle.rr_depot.specs.declared.fault.Fault as depot
-use Rattle.rr_depot.specs.declared.fault.Fault.TheVariants as D
-use Rattle.rr_depot.specs.Rules.{verdict}
+use Rattle.rr_operate.specs.declared.dividends.fault.Fault as dividends
+use Rattle.rr_operate.specs.declared.dividends.fault.Fault.TheVariants as V
+use Rattle.rr_operate.specs.Dividends.Dividends.{pay_verdict}
+use Rattle.rr_trains.specs.declared.depot.fault.Fault as depot
+use Rattle.rr_trains.specs.declared.depot.fault.Fault.TheVariants as D
+use Rattle.rr_trains.specs.Depot.Rules.{verdict}
 use Rattle.rr_lay.specs.declared.fault.Fault as lay
 use Rattle.rr_lay.specs.declared.fault.Fault.TheVariants as Y
 use Rattle.rr_lay.specs.Costs.{cost_verdict}
@@ -36,14 +36,14 @@ use Rattle.rr_lay.specs.Phase.{is_open}
 use Rattle.rr_lay.specs.Placing as placing
 use Rattle.rr_lay.specs.Tiles.{hexes_with, is_blocked, is_next_colour, laid_colour}
 use Rattle.rr_lay.specs.Position.{Position, position_of}
-use Rattle.rr_holdings.specs.declared.fault.Fault as holdings
-use Rattle.rr_holdings.specs.declared.fault.Fault.TheVariants as H
-use Rattle.rr_holdings.specs.Holdings.{Holdings, holdings_of}
-use Rattle.rr_holdings.specs.Sales.{sale_verdict}
-use Rattle.rr_operations.specs.Due.{due}
-use Rattle.rr_operations.specs.Phases.{phase}
-use Rattle.rr_operations.specs.declared.turn.Stage.{Stage}
-use Rattle.rr_operations.specs.declared.turn.Stage.TheVariants as G
+use Rattle.rr_shares.specs.declared.limits.fault.Fault as holdings
+use Rattle.rr_shares.specs.declared.limits.fault.Fault.TheVariants as H
+use Rattle.rr_shares.specs.Limits.Holdings.{Holdings, holdings_of}
+use Rattle.rr_shares.specs.Limits.Sales.{sale_verdict}
+use Rattle.rr_market.specs.Operations.Due.{due}
+use Rattle.rr_market.specs.Operations.Phases.{phase}
+use Rattle.rr_market.specs.declared.operations.turn.Stage.{Stage}
+use Rattle.rr_market.specs.declared.operations.turn.Stage.TheVariants as G
 use Rattle.rr_routes.specs.Net.{Net}
 use Rattle.rr_running.specs.declared.fault.Fault as running
 use Rattle.rr_running.specs.declared.fault.Fault.TheVariants as R
@@ -53,12 +53,12 @@ use Rattle.rr_operate.specs.declared.fault.Fault.TheVariants as O
 use Rattle.rr_operate.specs.Fault.{of_depot, of_dividends, of_lay, of_running}
 use Rattle.rr_operate.specs.Order as order
 use Rattle.rr_operate.specs.Rows as rows
-use Rattle.rr_forced.specs.declared.fault.Fault as forced
-use Rattle.rr_forced.specs.declared.fault.Fault.TheVariants as C
-use Rattle.rr_forced.specs.declared.needs.Need.{Need}
-use Rattle.rr_forced.specs.Fault.{of_holdings}
-use Rattle.rr_forced.specs.Rules as force
-use Rattle.rr_forced.specs.Sales.{bankrupt_verdict, president_verdict, raise_verdict, share_verdict}
+use Rattle.rr_rules.specs.declared.forced.fault.Fault as forced
+use Rattle.rr_rules.specs.declared.forced.fault.Fault.TheVariants as C
+use Rattle.rr_rules.specs.declared.forced.needs.Need.{Need}
+use Rattle.rr_rules.specs.Forced.Fault.{of_holdings}
+use Rattle.rr_rules.specs.Forced.Rules as force
+use Rattle.rr_rules.specs.Forced.Sales.{bankrupt_verdict, president_verdict, raise_verdict, share_verdict}
 use Rattle.rr_auction.specs.declared.fault.Fault as auction
 use Rattle.rr_auction.specs.declared.fault.Fault.TheVariants as U
 use Rattle.rr_stock.specs.declared.fault.Fault as stock

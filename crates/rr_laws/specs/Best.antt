@@ -8,9 +8,9 @@ use Rattle.rr_code.specs.declared.command.Command.TheVariants.{Order}
 use Rattle.rr_orders.specs.declared.order.Order.TheVariants.{RunBest}
 use Rattle.rr_kit.specs.declared.kit.Kit.{Kit}
 use Rattle.rr_routes.specs.Routes.{Optimal, Trip, earned}
-use Rattle.rr_sheets.specs.declared.sheet.TrainWord.{TrainWord}
-use Rattle.rr_sheets.specs.Sheet.{SpellsSheet}
-use Rattle.rr_runs.specs.Sheets.{IsSheetOf}
+use Rattle.rr_routes.specs.declared.sheets.sheet.TrainWord.{TrainWord}
+use Rattle.rr_routes.specs.Sheets.Sheet.{SpellsSheet}
+use Rattle.rr_referee.specs.Sheets.{IsSheetOf}
 use Rattle.rr_running.specs.Running.{earned_on, net_now}
 use Rattle.rr_game.specs.Play.{play}
 use Rattle.rr_laws.specs.Sound.{ArePlayed}

@@ -8,7 +8,7 @@ use Rattle.rr_books.specs.declared.parties.Place.TheVariants as L
 use Rattle.rr_books.specs.declared.certificates.Train.{Train}
 use Rattle.rr_books.specs.declared.entries.Entry.TheVariants as E
 use Rattle.rr_books.specs.Book.{Book, train_holder}
-use Rattle.rr_operations.specs.Phases.{phase, train}
+use Rattle.rr_market.specs.Operations.Phases.{phase, train}
 use Rattle.rr_code.specs.declared.command.Command.{Command}
 use Rattle.rr_kit.specs.declared.kit.Kit.{Kit}
 use Rattle.rr_game.specs.Play.{play}

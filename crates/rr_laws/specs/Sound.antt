@@ -4,8 +4,8 @@ use Rattle.rr_roster.specs.Terms.{IsOrder, order_of}
 use Rattle.rr_books.specs.Book.{Book}
 use Rattle.rr_auction.specs.SoundMoney.{HasSoundMoney}
 use Rattle.rr_stock.specs.PoolLimits.{HasHalfAtMost}
-use Rattle.rr_sound.specs.Presidencies.{HasGreatestPresidents}
-use Rattle.rr_sound.specs.Sound.{IsDealt}
+use Rattle.rr_laws.specs.Soundness.Presidencies.{HasGreatestPresidents}
+use Rattle.rr_laws.specs.Soundness.Sound.{IsDealt}
 use Rattle.rr_code.specs.declared.command.Command.{Command}
 use Rattle.rr_code.specs.declared.command.Command.TheVariants.{Open}
 use Rattle.rr_kit.specs.declared.kit.Kit.{Kit}

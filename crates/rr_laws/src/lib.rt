@@ -5,6 +5,10 @@
 //! `sound`, `best_runs_were_best`, `each_command_has_a_verdict` and `phases_are_greatest_sold`.
 #![tactic(auto)]
 
+pub mod sequence;
+pub mod soundness;
+pub mod turns;
+
 ghost use Rattle.rr_game.specs.Laws.{CommandsHaveOneVerdict};
 ghost use Rattle.rr_laws.specs.Best.{BestCommandsWereBest, BestRunsWereBest};
 ghost use Rattle.rr_laws.specs.SoldTrains.{PhasesAreGreatestSold};
@@ -19,8 +23,8 @@ pub fn sound()
     ensures { TablesStaySound }
 {
     rr_books::laws::money_is_kept();
-    rr_sequence::laws::pool_stays_within_half();
-    rr_sequence::laws::lawful_sales_move_shares();
+    crate::sequence::laws::pool_stays_within_half();
+    crate::sequence::laws::lawful_sales_move_shares();
     rr_shares::laws::sales_move_shares();
 }
 
@@ -30,7 +34,7 @@ pub fn best_runs_were_best()
     ensures entries { BestRunsWereBest }
     ensures commands { BestCommandsWereBest }
 {
-    rr_runs::laws::optimal();
+    rr_referee::laws::optimal();
 }
 
 /// The roster of each right kit names each corporation.

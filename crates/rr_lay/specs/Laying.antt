@@ -4,21 +4,21 @@ use Rattle.std.specs.List.{list_any}
 use Rattle.rr_roster.specs.declared.company.Corp.{Corp}
 use Rattle.rr_books.specs.declared.acts.Act.TheVariants as A
 use Rattle.rr_books.specs.declared.entries.Entry.TheVariants as E
-use Rattle.rr_board.specs.declared.hex.Hex.{Hex}
-use Rattle.rr_board.specs.Plan.{Plan, hex_named}
+use Rattle.rr_kit.specs.declared.board.hex.Hex.{Hex}
+use Rattle.rr_kit.specs.Board.Plan.{Plan, hex_named}
 use Rattle.rr_tiles.specs.declared.supply.Supply.{Supply}
 use Rattle.rr_tiles.specs.Supply.{supply_at}
 use Rattle.rr_tiles.specs.Tile.{turned}
 use Rattle.rr_tiles.specs.Keeping.{Keeps}
-use Rattle.rr_layout.specs.declared.layout.Lay.{Lay}
+use Rattle.rr_desk.specs.declared.layout.layout.Lay.{Lay}
 use Rattle.rr_network.specs.declared.node.Link.{Link}
 use Rattle.rr_network.specs.declared.node.Node.{Node}
 use Rattle.rr_network.specs.declared.node.Node.TheVariants as N
-use Rattle.rr_layout.specs.Layout.{last_lay, lays}
+use Rattle.rr_desk.specs.Layout.Layout.{last_lay, lays}
 use Rattle.rr_network.specs.Network.{Net, face_on, net_of}
 use Rattle.rr_network.specs.Node.{same_node}
 use Rattle.rr_network.specs.Walk.{ReachesLink, Reached, reaches_link}
-use Rattle.rr_operations.specs.Phases.{phase}
+use Rattle.rr_market.specs.Operations.Phases.{phase}
 use Rattle.rr_lay.specs.declared.fault.Fault.{Fault}
 use Rattle.rr_lay.specs.declared.fault.Fault.TheVariants as F
 use Rattle.rr_lay.specs.Judging.{After, Needs}

@@ -5,13 +5,13 @@ use Rattle.rr_roster.specs.declared.company.Corp.{Corp}
 use Rattle.rr_roster.specs.Company.{corp_index}
 use Rattle.rr_books.specs.declared.acts.Act.TheVariants as A
 use Rattle.rr_books.specs.declared.entries.Entry.TheVariants as E
-use Rattle.rr_board.specs.declared.hex.Hex.{Hex}
-use Rattle.rr_board.specs.declared.hex.Home.{Home}
-use Rattle.rr_board.specs.Plan.{Plan, hex_named, is_home_at, slots_at}
+use Rattle.rr_kit.specs.declared.board.hex.Hex.{Hex}
+use Rattle.rr_kit.specs.declared.board.hex.Home.{Home}
+use Rattle.rr_kit.specs.Board.Plan.{Plan, hex_named, is_home_at, slots_at}
 use Rattle.rr_tiles.specs.declared.supply.Supply.{Supply}
 use Rattle.rr_desk.specs.Effects.{Effect}
-use Rattle.rr_layout.specs.declared.layout.Station.{Station}
-use Rattle.rr_layout.specs.Layout.{Placed, stations}
+use Rattle.rr_desk.specs.declared.layout.layout.Station.{Station}
+use Rattle.rr_desk.specs.Layout.Layout.{Placed, stations}
 use Rattle.rr_network.specs.Network.{face_on}
 use Rattle.rr_network.specs.Walk.{ReachesNode, node_of}
 use Rattle.rr_lay.specs.declared.fault.Fault.{Fault}

@@ -9,9 +9,9 @@ use Rattle.rr_books.specs.declared.certificates.Train.{Train}
 use Rattle.rr_books.specs.Book.{Book, balance, holder, train_holder}
 use Rattle.rr_books.specs.State.{State, IsStateOf, cash_of, holder_in, train_place_of}
 use Rattle.rr_books.specs.ShareLaws.{holder-of_state}
-use Rattle.rr_layout.specs.declared.layout.Lay.{Lay}
-use Rattle.rr_layout.specs.declared.layout.Station.{Station}
-use Rattle.rr_layout.specs.Layout as layout
+use Rattle.rr_desk.specs.declared.layout.layout.Lay.{Lay}
+use Rattle.rr_desk.specs.declared.layout.layout.Station.{Station}
+use Rattle.rr_desk.specs.Layout.Layout as layout
 
 pub record Position : Type 0 where
   pub holders : Cert → Option Place

@@ -6,20 +6,20 @@ use Rattle.rr_books.specs.declared.parties.Place.{Place}
 use Rattle.rr_books.specs.declared.parties.Place.TheVariants as L
 use Rattle.rr_books.specs.declared.certificates.Cert.{Cert}
 use Rattle.rr_books.specs.declared.certificates.Cert.TheVariants as C
-use Rattle.rr_board.specs.declared.hex.Place as where_on_board
-use Rattle.rr_board.specs.declared.hex.Colour as printed_colour
-use Rattle.rr_board.specs.declared.hex.Colour.TheVariants as P
-use Rattle.rr_board.specs.declared.hex.Hex.{Hex}
-use Rattle.rr_board.specs.declared.hex.Block.{Block}
+use Rattle.rr_kit.specs.declared.board.hex.Place as where_on_board
+use Rattle.rr_kit.specs.declared.board.hex.Colour as printed_colour
+use Rattle.rr_kit.specs.declared.board.hex.Colour.TheVariants as P
+use Rattle.rr_kit.specs.declared.board.hex.Hex.{Hex}
+use Rattle.rr_kit.specs.declared.board.hex.Block.{Block}
 use Rattle.rr_tiles.specs.declared.supply.Colour.{Colour}
 use Rattle.rr_tiles.specs.declared.supply.Colour.TheVariants.{Yellow, Green, Brown}
 use Rattle.rr_tiles.specs.declared.supply.Supply.{Supply}
 use Rattle.rr_tiles.specs.declared.part.Part.{Part}
 use Rattle.rr_tiles.specs.declared.part.Part.TheVariants.{Track as OfTrack, Centre as OfCentre}
 use Rattle.rr_tiles.specs.Supply.{supply_at}
-use Rattle.rr_layout.specs.declared.layout.Lay.{Lay}
+use Rattle.rr_desk.specs.declared.layout.layout.Lay.{Lay}
 use Rattle.rr_network.specs.declared.node.Axial.{Axial}
-use Rattle.rr_layout.specs.Layout.{last_lay}
+use Rattle.rr_desk.specs.Layout.Layout.{last_lay}
 use Rattle.rr_network.specs.Node.{across}
 
 -- the colour of the last tile that was laid on a hex

@@ -5,9 +5,9 @@ ghost use Rattle.std.specs.List.{list_all, list_any};
 ghost use Rattle.rr_books.specs.State.{holder_in};
 ghost use Rattle.rr_lay.specs.Tiles.{faces_hex, faces_hexes, hexes_with, is_block_of, is_blocked, is_lay_of, is_next_colour, is_player, is_there, is_yellow, laid_colour, part_faces_hexes, printed_rank, rank_on, takes_tiles, tile_rank};
 
-use rr_board::{Block, Hex};
 use rr_books::{Books, Cert};
-use rr_layout::Lay;
+use rr_desk::layout::Lay;
+use rr_kit::board::{Block, Hex};
 use rr_network::{Axial, across, last_lay};
 use rr_tiles::{Colour, Edge, Manifest, Part};
 use rr_words::HexName;
@@ -22,7 +22,7 @@ pub(crate) fn laid_colour(tiles: &Manifest, lays: &[Lay], hex: &HexName) -> Opti
 
 // Whether the hex takes tiles, and the colour follows on what lies there.
 pub(crate) fn is_next_colour(
-    printed: rr_board::Colour,
+    printed: rr_kit::board::Colour,
     laid: Option<Colour>,
     colour: Colour,
 ) -> bool
@@ -31,22 +31,22 @@ pub(crate) fn is_next_colour(
     takes_tiles(printed) && tile_rank(colour) == rank_on(printed, laid) + 1
 }
 
-fn takes_tiles(printed: rr_board::Colour) -> bool
+fn takes_tiles(printed: rr_kit::board::Colour) -> bool
     ensures { result ≡ takes_tiles printed }
 {
     match printed {
-        rr_board::Colour::Grey | rr_board::Colour::Red => false,
+        rr_kit::board::Colour::Grey | rr_kit::board::Colour::Red => false,
         _ => true,
     }
 }
 
-fn printed_rank(printed: rr_board::Colour) -> u8
+fn printed_rank(printed: rr_kit::board::Colour) -> u8
     ensures { result ≡ printed_rank printed }
 {
     match printed {
-        rr_board::Colour::White => 0,
-        rr_board::Colour::Yellow => 1,
-        rr_board::Colour::Green => 2,
+        rr_kit::board::Colour::White => 0,
+        rr_kit::board::Colour::Yellow => 1,
+        rr_kit::board::Colour::Green => 2,
         _ => 3,
     }
 }
@@ -61,7 +61,7 @@ fn tile_rank(colour: Colour) -> u8
     }
 }
 
-fn rank_on(printed: rr_board::Colour, laid: Option<Colour>) -> u8
+fn rank_on(printed: rr_kit::board::Colour, laid: Option<Colour>) -> u8
     ensures value { result ≡ rank_on printed laid }
     ensures bound { result ≤ 3 }
 {
@@ -128,7 +128,7 @@ fn is_yellow(colour: Colour) -> bool
 }
 
 // Whether each edge that the parts use at the place faces a hex.
-pub(crate) fn faces_hexes(hexes: &[Hex], place: &rr_board::Place, parts: &[Part]) -> bool
+pub(crate) fn faces_hexes(hexes: &[Hex], place: &rr_kit::board::Place, parts: &[Part]) -> bool
     ensures { result ≡ faces_hexes hexes.now place.now parts.now }
 {
     parts
@@ -136,7 +136,7 @@ pub(crate) fn faces_hexes(hexes: &[Hex], place: &rr_board::Place, parts: &[Part]
         .all(|part| part_faces_hexes(hexes, place, part))
 }
 
-fn part_faces_hexes(hexes: &[Hex], place: &rr_board::Place, part: &Part) -> bool
+fn part_faces_hexes(hexes: &[Hex], place: &rr_kit::board::Place, part: &Part) -> bool
     ensures { result ≡ part_faces_hexes hexes.now place.now part.now }
 {
     match part {
@@ -146,13 +146,13 @@ fn part_faces_hexes(hexes: &[Hex], place: &rr_board::Place, part: &Part) -> bool
     }
 }
 
-fn all_face_hexes(hexes: &[Hex], place: &rr_board::Place, edges: &[Edge]) -> bool
+fn all_face_hexes(hexes: &[Hex], place: &rr_kit::board::Place, edges: &[Edge]) -> bool
     ensures { result ≡ list_all (faces_hex hexes.now place.now) edges.now }
 {
     edges.iter().all(|edge| faces_hex(hexes, place, *edge))
 }
 
-fn faces_hex(hexes: &[Hex], place: &rr_board::Place, edge: Edge) -> bool
+fn faces_hex(hexes: &[Hex], place: &rr_kit::board::Place, edge: Edge) -> bool
     ensures { result ≡ faces_hex hexes.now place.now edge }
 {
     let at = across(place, edge.number());

@@ -1,10 +1,10 @@
 //! Laying a tile.
 ghost use Rattle.std.specs.Prelude.{◌≡◌, ◌<◌, length, None, Some, MatchResult, IfErr, OnOk, ◌⊎◌};
 ghost use Rattle.rr_books.specs.Book.{Book};
-ghost use Rattle.rr_board.specs.Plan.{hex_named};
-ghost use Rattle.rr_layout.specs.Layout.{lays};
-ghost use Rattle.rr_layout.specs.declared.layout.TheConstants.{MOST_LAYS};
-ghost use Rattle.rr_position.specs.Position.{IsPositionOf};
+ghost use Rattle.rr_kit.specs.Board.Plan.{hex_named};
+ghost use Rattle.rr_desk.specs.Layout.Layout.{lays};
+ghost use Rattle.rr_desk.specs.declared.layout.layout.TheConstants.{MOST_LAYS};
+ghost use Rattle.rr_desk.specs.Position.Position.{IsPositionOf};
 ghost use Rattle.rr_desk.specs.Desk.{Takes};
 ghost use Rattle.rr_lay.specs.Costs.{puts};
 ghost use Rattle.rr_lay.specs.Position.{position_in, position_of};
@@ -16,11 +16,11 @@ use crate::costs::{judge_cost, pay_cost};
 use crate::fault::Fault;
 use crate::hexes::{hexes_with, is_blocked, is_next_colour, laid_colour};
 use crate::upgrades::{NamedLay, is_upgrade, reaches_new_link};
-use rr_board::Hex;
 use rr_books::{Act, Corp, Entry, Marker};
+use rr_desk::layout::Lay;
 use rr_desk::{Desk, Position};
 use rr_kit::Kit;
-use rr_layout::Lay;
+use rr_kit::board::Hex;
 use rr_network::last_lay;
 use rr_tiles::Supply;
 use rr_trains::phase;
@@ -36,7 +36,7 @@ use std::alloc::Global;
 /// that a private blocks which a player holds; `NotAnUpgrade` where the turned tile doesn't keep what lies
 /// there, or uses an edge that faces no hex; `NotReached` where the corporation reaches no link that the tile
 /// adds; `TooLittleCash` for the cost. `OutOfMemory` where none of those up to `BlockedHex` comes and a request for
-/// memory was refused, and where `NotAnUpgrade` doesn't come either and `rr_layout::MOST_LAYS` tiles were laid
+/// memory was refused, and where `NotAnUpgrade` doesn't come either and `rr_desk::layout::MOST_LAYS` tiles were laid
 /// already: which links the tile adds is told from a board with one tile more.
 pub fn judge_lay(
     alloc: Global,
@@ -58,7 +58,7 @@ pub fn judge_lay(
 ///
 /// # Errors
 ///
-/// `OutOfMemory`, also where `rr_layout::MOST_LAYS` tiles were laid already; the desk may have some of the entries
+/// `OutOfMemory`, also where `rr_desk::layout::MOST_LAYS` tiles were laid already; the desk may have some of the entries
 /// then.
 pub fn play_lay(kit: &Kit, desk: &mut Desk, corp: Corp, lay: &Lay) -> Result<(), rr_books::Fault>
     ensures fault { IfErr result (λ fault. fault ≡ B.OutOfMemory) }

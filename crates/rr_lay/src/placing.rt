@@ -2,10 +2,10 @@
 ghost use Rattle.std.specs.Prelude.{◌≡◌, None, Some, MatchResult, IfErr, IfOk, OnOk, ◌⊎◌, ◌↔◌, IsTrue};
 ghost use Rattle.rr_roster.specs.Terms.{tokens_of};
 ghost use Rattle.rr_books.specs.Book.{Book};
-ghost use Rattle.rr_layout.specs.Layout.{stations};
+ghost use Rattle.rr_desk.specs.Layout.Layout.{stations};
 ghost use Rattle.rr_network.specs.Network.{net_of};
 ghost use Rattle.rr_network.specs.Walk.{ReachesNode, node_of};
-ghost use Rattle.rr_position.specs.Position.{IsPositionOf};
+ghost use Rattle.rr_desk.specs.Position.Position.{IsPositionOf};
 ghost use Rattle.rr_desk.specs.Desk.{Takes};
 ghost use Rattle.rr_lay.specs.Costs.{puts};
 ghost use Rattle.rr_lay.specs.Position.{position_in, position_of};
@@ -15,11 +15,11 @@ ghost use Rattle.rr_books.specs.declared.faults.Fault.TheVariants as B;
 use crate::costs::{judge_cost, pay_cost};
 use crate::fault::Fault;
 use crate::slots::{city_slots, has_own_at, is_full, placed_by, token_cost};
-use rr_board::Hex;
 use rr_books::{Act, Entry, Marker};
+use rr_desk::layout::{Layout, Station};
 use rr_desk::{Desk, Position};
 use rr_kit::Kit;
-use rr_layout::{Layout, Station};
+use rr_kit::board::Hex;
 use rr_network::{Network, Reach, node_of};
 use rr_roster::Corp;
 use std::alloc::{AllocError, Global};
@@ -51,7 +51,7 @@ pub fn judge_station(
 ///
 /// # Errors
 ///
-/// `OutOfMemory`, also where `rr_layout::MOST_STATIONS` tokens were placed already; the desk may have some of the
+/// `OutOfMemory`, also where `rr_desk::layout::MOST_STATIONS` tokens were placed already; the desk may have some of the
 /// entries then.
 pub fn play_station(desk: &mut Desk, station: &Station) -> Result<(), rr_books::Fault>
     ensures fault { IfErr result (λ fault. fault ≡ B.OutOfMemory) }

@@ -1,12 +1,12 @@
 //! The tokens on the board and the slots of cities.
 ghost use Rattle.std.specs.Prelude.{◌≡◌, count_by, nat_le, IfOk};
 ghost use Rattle.std.specs.List.{list_any};
-ghost use Rattle.rr_board.specs.Plan.{is_home_at, slots_at};
+ghost use Rattle.rr_kit.specs.Board.Plan.{is_home_at, slots_at};
 ghost use Rattle.rr_network.specs.Network.{face_on};
 ghost use Rattle.rr_lay.specs.Placing.{is_kept, is_own_at, is_token_at, is_token_of, placed_by, slots_taken, token_cost};
 
-use rr_board::{Hex, Home, slots_at};
-use rr_layout::{Lay, Station};
+use rr_desk::layout::{Lay, Station};
+use rr_kit::board::{Hex, Home, slots_at};
 use rr_network::last_lay;
 use rr_roster::Corp;
 use rr_tiles::Manifest;

@@ -6,10 +6,10 @@ ghost use Rattle.rr_network.specs.Network.{face_on, net_of};
 ghost use Rattle.rr_lay.specs.Laying.{HasNewLink, IsUpgrade, ReachesNewLink, has_link, is_new_link, joins, same_link};
 
 use crate::hexes::faces_hexes;
-use rr_board::Hex;
 use rr_desk::Position;
+use rr_desk::layout::{Lay, Layout, MOST_LAYS};
 use rr_kit::Kit;
-use rr_layout::{Lay, Layout, MOST_LAYS};
+use rr_kit::board::Hex;
 use rr_network::{Link, Network, Node, Reach, last_lay, same_node};
 use rr_roster::Corp;
 use rr_tiles::{Manifest, Supply, keeps};

@@ -1,8 +1,8 @@
 //! The words of a line, one after another.
-use rr_roster::{Corp, Private};
-use rr_scan::{
+use rr_orders::scan::{
     Words, next_player, next_table, only_table, read_corp, read_private, write_number, write_word,
 };
+use rr_roster::{Corp, Private};
 use rr_words::Name;
 use std::test::Fail;
 

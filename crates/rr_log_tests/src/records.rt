@@ -29,7 +29,7 @@ fn unlike(alloc: Global) -> Result<Option<u8>, Fail> {
     let rows = [
         (Fault::Game(rr_game::Fault::GameOver), 51, "game is over"),
         (
-            Fault::from(rr_hist::Fault::StaleStamp(7)),
+            Fault::from(rr_game::history::Fault::StaleStamp(7)),
             52,
             "stale stamp 7",
         ),

@@ -4,3 +4,4 @@ pub mod BeforeLemmas
 pub mod SortLemmas
 pub mod FallLemmas
 pub mod ArrivalLemmas
+pub mod OperationsLemmas

@@ -7,3 +7,4 @@ pub mod OrderLaws
 pub mod Arrivals
 pub mod State
 pub mod StateLaws
+pub mod Operations

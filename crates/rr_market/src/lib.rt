@@ -9,6 +9,7 @@ mod fault;
 pub mod laws;
 mod market;
 mod moves;
+pub mod operations;
 mod order;
 
 pub use fault::Fault;

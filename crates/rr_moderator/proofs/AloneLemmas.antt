@@ -28,7 +28,7 @@ use Rattle.rr_tables.specs.Records.World.{opening_verdict, world_judgement}
 use Rattle.rr_store.specs.Fault as stored
 use Rattle.rr_store.specs.Held.{Held, Takes, Accepted, Refused, Wants, NoRoom, Fails, Again}
 use Rattle.rr_store.specs.World.{TableState, World, state_after, table_named}
-use Rattle.rr_hist.specs.Laws.{RequestsHaveOneVerdict}
+use Rattle.rr_game.specs.History.Laws.{RequestsHaveOneVerdict}
 use Rattle.rr_turns.specs.Judgement.{IsVerdict}
 use Rattle.rr_turns.proofs.JudgementLemmas.{is-settled, lawful-map, settled-is}
 use Rattle.rr_moderator.proofs.ServingLemmas.{one_line}

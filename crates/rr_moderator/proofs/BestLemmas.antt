@@ -3,7 +3,7 @@ use Rattle.std.proofs.Common.{◌≡◌, ◌⊎◌, ℕ, ◌+◌, ◌-◌, ◌�
 use Rattle.std.specs.Fmt.{signed_decimal}
 use Rattle.std.proofs.lemmas.Bool.Decides.{nat_tests}
 use Rattle.std.proofs.lemmas.List.Sums.{fold-append}
-use Rattle.rr_best_run.specs.Worded.{MayLackRun, WordedRun}
+use Rattle.rr_search.specs.BestRun.Worded.{MayLackRun, WordedRun}
 use Rattle.rr_books.specs.declared.acts.Act.TheVariants as A
 use Rattle.rr_books.specs.declared.parties.Money.{Money}
 use Rattle.rr_books.specs.Book.{Book}
@@ -13,11 +13,11 @@ use Rattle.rr_code.specs.declared.line.Line.TheVariants as L
 use Rattle.rr_code.specs.Line.{line_text}
 use Rattle.rr_desk.specs.Incomes.{dollars}
 use Rattle.rr_game.specs.Play.{opened_state, play, played_on}
-use Rattle.rr_hist.specs.declared.fault.Fault as hist
-use Rattle.rr_hist.specs.Running as tables
+use Rattle.rr_game.specs.declared.history.fault.Fault as hist
+use Rattle.rr_game.specs.History.Running as tables
 use Rattle.rr_kit.specs.declared.kit.Kit.{Kit}
-use Rattle.rr_operations.specs.declared.turn.Stage.{Stage}
-use Rattle.rr_operations.specs.declared.turn.Stage.TheVariants as G
+use Rattle.rr_market.specs.declared.operations.turn.Stage.{Stage}
+use Rattle.rr_market.specs.declared.operations.turn.Stage.TheVariants as G
 use Rattle.rr_orders.specs.declared.order.Order.TheVariants as O
 use Rattle.rr_orders.specs.Order.{SpellsOrder, text}
 use Rattle.rr_orders.specs.Texts.{added}

@@ -6,12 +6,12 @@ use Rattle.rr_code.specs.declared.command.Command.TheVariants.{Order}
 use Rattle.rr_game.specs.Fault.{of_rules}
 use Rattle.rr_game.specs.Play.{play, players_of}
 use Rattle.rr_game.specs.Verdict.{act_judgement, over_verdict}
-use Rattle.rr_hist.specs.Fault.{of_game}
-use Rattle.rr_hist.specs.Playing.{game_judgement}
-use Rattle.rr_hist.specs.Verdict.{own_judgement, request_judgement, room_verdict, stamp_verdict}
+use Rattle.rr_game.specs.History.Fault.{of_game}
+use Rattle.rr_game.specs.History.Playing.{game_judgement}
+use Rattle.rr_game.specs.History.Verdict.{own_judgement, request_judgement, room_verdict, stamp_verdict}
 use Rattle.rr_kit.specs.declared.kit.Kit.{Kit}
-use Rattle.rr_operations.specs.declared.turn.Stage.{Stage}
-use Rattle.rr_operations.specs.declared.turn.Stage.TheVariants as G
+use Rattle.rr_market.specs.declared.operations.turn.Stage.{Stage}
+use Rattle.rr_market.specs.declared.operations.turn.Stage.TheVariants as G
 use Rattle.rr_orders.specs.declared.order.Order.TheVariants as O
 use Rattle.rr_roster.specs.declared.company.Corp.{Corp}
 use Rattle.rr_rules.specs.Judging.{judgement, judgement_in, stage}

@@ -8,9 +8,9 @@ use Rattle.rr_rules.specs.declared.fault.Fault as rules
 use Rattle.rr_rules.specs.declared.fault.Fault.TheVariants as U
 use Rattle.rr_game.specs.declared.fault.Fault as game
 use Rattle.rr_game.specs.declared.fault.Fault.TheVariants as G
-use Rattle.rr_hist.specs.declared.fault.Fault as hist
-use Rattle.rr_hist.specs.declared.fault.Fault.TheVariants as H
-use Rattle.rr_hist.specs.Verdict.{request_judgement}
+use Rattle.rr_game.specs.declared.history.fault.Fault as hist
+use Rattle.rr_game.specs.declared.history.fault.Fault.TheVariants as H
+use Rattle.rr_game.specs.History.Verdict.{request_judgement}
 use Rattle.rr_turns.specs.Judgement.{IsVerdict, Judgement, judgement_map, settled}
 use Rattle.rr_turns.proofs.JudgementLemmas.{first-is-told, is-map, is-settled}
 use Rattle.rr_code.specs.declared.command.Command.{Command}

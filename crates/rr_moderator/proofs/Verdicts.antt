@@ -2,8 +2,8 @@
 use Rattle.std.proofs.Common.{◌≡◌, ℕ, List, Option, None, Some, option_map}
 use Rattle.rr_code.specs.declared.command.Command.{Command}
 use Rattle.rr_code.specs.declared.command.Command.TheVariants.{Open}
-use Rattle.rr_hist.specs.Laws.{RequestsHaveOneVerdict}
-use Rattle.rr_hist.specs.Verdict.{request_judgement}
+use Rattle.rr_game.specs.History.Laws.{RequestsHaveOneVerdict}
+use Rattle.rr_game.specs.History.Verdict.{request_judgement}
 use Rattle.rr_kit.specs.declared.kit.Kit.{Kit}
 use Rattle.rr_tables.specs.declared.records.fault.Fault as judge
 use Rattle.rr_tables.specs.declared.records.fault.Fault.TheVariants as J

@@ -1,6 +1,6 @@
 -- The best run of a corporation: when it is searched, which runs may be found, and why there may be none.
 use Rattle.std.specs.Prelude.{◌≡◌, ℕ, ◌+◌, ◌-◌, ◌≤◌, List, [], length, Option, None, Some, decimal}
-use Rattle.rr_best_run.specs.Worded.{MayLackRun}
+use Rattle.rr_search.specs.BestRun.Worded.{MayLackRun}
 use Rattle.rr_books.specs.Book.{Book}
 use Rattle.rr_code.specs.declared.command.Command.{Command}
 use Rattle.rr_code.specs.declared.command.Command.TheVariants.{Order}

@@ -8,7 +8,7 @@ use Rattle.rr_game.specs.declared.fault.Fault.TheVariants as G
 use Rattle.rr_game.specs.Fault as numbers
 use Rattle.rr_rules.specs.declared.fault.Fault as rules
 use Rattle.rr_rules.specs.declared.fault.Fault.TheVariants as U
-use Rattle.rr_runs.specs.Fault.{clause_number}
+use Rattle.rr_referee.specs.Fault.{clause_number}
 use Rattle.rr_code.specs.declared.fault.Fault as code
 use Rattle.rr_code.specs.declared.fault.Fault.TheVariants as C
 use Rattle.rr_tables.specs.declared.records.fault.Fault as judge

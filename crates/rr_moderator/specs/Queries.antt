@@ -12,9 +12,9 @@ use Rattle.rr_books.specs.declared.parties.Place.{Place}
 use Rattle.rr_books.specs.Book.{Book, balance, holder, players, train_holder}
 use Rattle.rr_books.specs.Opening.{certificate_limit}
 use Rattle.rr_books.specs.declared.parties.Seat.{Seat}
-use Rattle.rr_operations.specs.declared.turn.TurnStep.{TurnStep}
-use Rattle.rr_operations.specs.declared.turn.TurnStep.TheVariants as S
-use Rattle.rr_operations.specs.Phases.{TrainHolders, phase}
+use Rattle.rr_market.specs.declared.operations.turn.TurnStep.{TurnStep}
+use Rattle.rr_market.specs.declared.operations.turn.TurnStep.TheVariants as S
+use Rattle.rr_market.specs.Operations.Phases.{TrainHolders, phase}
 use Rattle.rr_trains.specs.Places.{trains_at}
 use Rattle.rr_game.specs.declared.due.Due.{Due}
 use Rattle.rr_game.specs.declared.due.Due.TheVariants as D
@@ -33,7 +33,7 @@ use Rattle.rr_game.specs.Names.{owner_place, party_of, player_word, seat_of, tra
 use Rattle.rr_game.specs.Play.{play, players_of}
 use Rattle.rr_game.specs.Queries.{due, holding, iou, quote, worth}
 use Rattle.rr_turns.specs.Turns.{ended_turns}
-use Rattle.rr_hist.specs.Playing.{ends_turn}
+use Rattle.rr_game.specs.History.Playing.{ends_turn}
 use Rattle.rr_store.specs.World.{TableState, World, names, table_named}
 
 -- the words of an answer, or why there are none

@@ -324,13 +324,13 @@ impl From<records::Fault> for Fault {
     }
 }
 
-impl From<rr_best_run::Fault> for Fault {
+impl From<rr_search::best_run::Fault> for Fault {
     ghost from_gives = { λ fault wrapped. wrapped ≡ of_search fault };
 
-    fn from(fault: rr_best_run::Fault) -> Fault {
+    fn from(fault: rr_search::best_run::Fault) -> Fault {
         match fault {
-            rr_best_run::Fault::NoCertificate => Fault::NoCertificate,
-            rr_best_run::Fault::OutOfMemory => Fault::OutOfMemory,
+            rr_search::best_run::Fault::NoCertificate => Fault::NoCertificate,
+            rr_search::best_run::Fault::OutOfMemory => Fault::OutOfMemory,
         }
     }
 }

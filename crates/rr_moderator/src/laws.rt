@@ -12,7 +12,7 @@ use rr_disk::Disk;
 pub fn alone()
     ensures { Alone }
 {
-    rr_hist::laws::requests_have_one_verdict();
+    rr_game::history::laws::requests_have_one_verdict();
 }
 
 /// Whichever best run of a corporation is found at a table, the reply tells the same revenue.

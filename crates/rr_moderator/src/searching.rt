@@ -1,6 +1,6 @@
 //! The search for the best run of a corporation at a table.
 ghost use Rattle.std.specs.Prelude.{◌≡◌, ◌+◌, false, None, Some, MatchResult, decimal, length};
-ghost use Rattle.rr_hist.specs.Tables.{IsPlayed, kept_in};
+ghost use Rattle.rr_game.specs.History.Tables.{IsPlayed, kept_in};
 ghost use Rattle.rr_orders.specs.Order.{SpellsOrder};
 ghost use Rattle.rr_orders.specs.declared.order.Order.TheVariants.{RunBest};
 ghost use Rattle.rr_store.specs.Holding.{held_of};
@@ -9,9 +9,9 @@ ghost use Rattle.rr_moderator.specs.Best.{IsBestRun, LacksRun, room_behind, run_
 
 use crate::fault::Fault;
 use itoa::Buffer;
-use rr_best_run::{BestRun, best_run};
 use rr_disk::Disk;
 use rr_roster::Corp;
+use rr_search::best_run::{BestRun, best_run};
 use rr_serve::LONGEST_LINE;
 use rr_store::{Store, Table};
 use rr_tables::records;

@@ -3,7 +3,7 @@ use Rattle.std.proofs.Common.{◌≡◌, ℕ, ◌+◌, ◌%◌, ◌<◌, ◌≤�
 use Rattle.std.proofs.lemmas.Int.{ints}
 use Rattle.std.proofs.lemmas.Bool.{and_parts, and_from, eqb-true, eq-eqb}
 use Rattle.std.proofs.lemmas.Bool.Decides.{Decides-int_eq}
-use Rattle.rr_board.specs.declared.hex.Place.{Place}
+use Rattle.rr_kit.specs.declared.board.hex.Place.{Place}
 use Rattle.rr_network.specs.declared.node.Hexside.{Hexside}
 use Rattle.rr_network.specs.Node.{across, hexside_at, same_hexside}
 use Rattle.rr_network.specs.Facing.{AreOne, Faces, FaceEachOther, IsTestOfHexsides, ShareHexsides}

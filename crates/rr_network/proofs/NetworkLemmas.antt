@@ -2,11 +2,11 @@
 use Rattle.std.proofs.Common.{◌≡◌, ℕ, ◌+◌, ◌<◌, ◌≤◌, List, [], ◌∷◌, ◌++◌, length, map, get_or, take, drop, refl, sym, ◌∙◌, ap, append_assoc, append-nil, arith}
 use Rattle.std.specs.Prelude.{flat_map}
 use Rattle.std.proofs.lemmas.List.{take_more, map_more, drop_all, at_drop_more, flat_map_more}
-use Rattle.rr_board.specs.declared.hex.Hex.{Hex}
-use Rattle.rr_board.specs.declared.hex.Place.{Place}
+use Rattle.rr_kit.specs.declared.board.hex.Hex.{Hex}
+use Rattle.rr_kit.specs.declared.board.hex.Place.{Place}
 use Rattle.rr_tiles.specs.declared.part.Part.{Part}
 use Rattle.rr_tiles.specs.declared.part.Part.TheVariants.{Track as OfTrack, Centre as OfCentre}
-use Rattle.rr_layout.specs.declared.layout.Station.{Station}
+use Rattle.rr_desk.specs.declared.layout.layout.Station.{Station}
 use Rattle.rr_network.specs.declared.node.Link.{Link}
 use Rattle.rr_network.specs.declared.network.Stop.{Stop}
 use Rattle.rr_network.specs.Network.{Net, AddsHex, links_in, links_of, stops_in, stops_of, seen_after}

@@ -7,10 +7,10 @@ use Rattle.std.proofs.lemmas.List.{reverse-append}
 use Rattle.std.proofs.lemmas.List.Elements.{All-append, All-cons, All-contains, All-contains_itself, All-head, All-nil, All-tail, length_all_zip}
 use Rattle.std.proofs.lemmas.List.Sums.{sum_by-cons}
 use Rattle.std.proofs.lemmas.Slice.Eq.{bytes_eq-Decides}
-use Rattle.rr_board.specs.declared.hex.Hex.{Hex}
-use Rattle.rr_board.specs.Plan.{Plan}
-use Rattle.rr_board.specs.Sound.{IsHex, IsWholeBoard, centres_on}
-use Rattle.rr_board.proofs.BoardLemmas.{find-found}
+use Rattle.rr_kit.specs.declared.board.hex.Hex.{Hex}
+use Rattle.rr_kit.specs.Board.Plan.{Plan}
+use Rattle.rr_kit.specs.Board.Sound.{IsHex, IsWholeBoard, centres_on}
+use Rattle.rr_kit.proofs.BoardLemmas.BoardLemmas.{find-found}
 use Rattle.rr_tiles.specs.Keeping.{Keeps, KeepsCentre}
 use Rattle.rr_tiles.specs.Manifest.{IsManifest, IsSupply}
 use Rattle.rr_tiles.specs.Sound.{IsPart, IsTile}
@@ -20,9 +20,9 @@ use Rattle.rr_tiles.specs.declared.part.Part.{Part}
 use Rattle.rr_tiles.specs.declared.part.Part.TheVariants.{Track as OfTrack, Centre as OfCentre}
 use Rattle.rr_tiles.specs.declared.supply.Supply.{Supply}
 use Rattle.rr_tiles.proofs.TileLemmas.{IsTile-turned}
-use Rattle.rr_layout.specs.declared.layout.Lay.{Lay}
+use Rattle.rr_desk.specs.declared.layout.layout.Lay.{Lay}
 use Rattle.rr_network.specs.declared.network.Stop.{Stop}
-use Rattle.rr_layout.specs.Layout.{Placed, last_lay}
+use Rattle.rr_desk.specs.Layout.Layout.{Placed, last_lay}
 use Rattle.rr_network.specs.Network.{face_on, hex_stops, laid, net_of, seen_after, stops_in, stops_of}
 use Rattle.rr_network.specs.Stops.{HexesKeepTheirCentres, IsStop, KeepsWhatLies, NothingLaidKeepsCentres, UpgradesKeepCentres, centre_count}
 

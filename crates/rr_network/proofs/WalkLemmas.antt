@@ -6,14 +6,14 @@ use Rattle.std.proofs.lemmas.List.Elements.{Contains-get_or}
 use Rattle.std.proofs.lemmas.List.Folds.{Any-from_list_any, list_any-from_Any}
 use Rattle.std.proofs.lemmas.Bool.{false≢true}
 use Rattle.std.proofs.lemmas.Bool.Decides.{nat_tests}
-use Rattle.rr_reach.specs.Reach.{IsReached, IsMarked}
-use Rattle.rr_reach.specs.Reach.IsReached.{Start, Follower}
+use Rattle.rr_routes.specs.Reachability.Reach.{IsReached, IsMarked}
+use Rattle.rr_routes.specs.Reachability.Reach.IsReached.{Start, Follower}
 use Rattle.rr_roster.specs.declared.company.Corp.{Corp}
 use Rattle.rr_network.specs.declared.node.Node.{Node}
 use Rattle.rr_network.specs.declared.step.Step.{Step}
 use Rattle.rr_network.specs.Node.{same_node}
 use Rattle.rr_network.specs.Network.{Net}
-use Rattle.rr_reach.specs.Places.{ArePlaces, AreMarkedItems, IsGraphOf}
+use Rattle.rr_routes.specs.Reachability.Places.{ArePlaces, AreMarkedItems, IsGraphOf}
 use Rattle.rr_network.specs.Walk.{EndsWalk, Reached, ReachesLink, ReachesNode, goes_on, has_token, is_terminal, may_follow, reaches_link, reaches_node, steps_of}
 use Rattle.rr_network.specs.Walk.EndsWalk.{Begins, GoesOn}
 

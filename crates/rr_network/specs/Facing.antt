@@ -1,6 +1,6 @@
 -- Which edges are one hexside.
 use Rattle.std.specs.Prelude.{◌≡◌, ℕ, ◌+◌, ◌%◌, ◌<◌, ◌⊎◌, ◌↔◌, true}
-use Rattle.rr_board.specs.declared.hex.Place.{Place}
+use Rattle.rr_kit.specs.declared.board.hex.Place.{Place}
 use Rattle.rr_network.specs.declared.node.Hexside.{Hexside}
 use Rattle.rr_network.specs.Node.{across, hexside_at, same_hexside}
 

@@ -2,23 +2,23 @@
 use Rattle.std.specs.Prelude.{◌≡◌, ℕ, ◌+◌, List, [], ◌∷◌, ◌++◌, map, Option, option_map, option_and_then, unwrap_or, flat_map}
 use Rattle.std.proofs.Common.{sym, ◌∙◌, ap}
 use Rattle.rr_books.specs.Book.{Book}
-use Rattle.rr_board.specs.declared.hex.Place.{Place}
-use Rattle.rr_board.specs.declared.hex.Hex.{Hex}
-use Rattle.rr_board.specs.Plan.{Plan}
+use Rattle.rr_kit.specs.declared.board.hex.Place.{Place}
+use Rattle.rr_kit.specs.declared.board.hex.Hex.{Hex}
+use Rattle.rr_kit.specs.Board.Plan.{Plan}
 use Rattle.rr_tiles.specs.Tile.{Face, turned}
 use Rattle.rr_tiles.specs.Supply.{supply_at}
 use Rattle.rr_tiles.specs.declared.supply.Supply.{Supply}
 use Rattle.rr_tiles.specs.declared.part.Track.{Track}
 use Rattle.rr_tiles.specs.declared.part.Part.{Part}
 use Rattle.rr_tiles.specs.declared.part.Part.TheVariants.{Track as OfTrack, Centre as OfCentre}
-use Rattle.rr_layout.specs.declared.layout.Lay.{Lay}
-use Rattle.rr_layout.specs.declared.layout.Station.{Station}
+use Rattle.rr_desk.specs.declared.layout.layout.Lay.{Lay}
+use Rattle.rr_desk.specs.declared.layout.layout.Station.{Station}
 use Rattle.rr_network.specs.declared.node.Link.{Link}
 use Rattle.rr_network.specs.declared.node.Node.{Node}
 use Rattle.rr_network.specs.declared.node.Node.TheVariants.{Hexside, Centre}
 use Rattle.rr_network.specs.declared.network.Stop.{Stop}
 use Rattle.rr_network.specs.Node.{hexside_at}
-use Rattle.rr_layout.specs.Layout.{Placed, IsLayoutOf, lays, stations, last_lay}
+use Rattle.rr_desk.specs.Layout.Layout.{Placed, IsLayoutOf, lays, stations, last_lay}
 
 -- the links, the centres and the tokens on a board
 pub record Net : Type 0 where

@@ -1,7 +1,7 @@
 -- Hexsides, centres and the links between them.
 use Rattle.std.specs.Prelude.{ℕ, ◌-◌, ◌==◌, ◌&&◌, nat_lt, Bool, false, if◌then◌else◌, bytes_eq, pos, ◌+ℤ◌, ◌-ℤ◌}
 use Rattle.std.specs.Ordering.{int_eq}
-use Rattle.rr_board.specs.declared.hex.Place.{Place}
+use Rattle.rr_kit.specs.declared.board.hex.Place.{Place}
 use Rattle.rr_network.specs.declared.node.Axial.{Axial}
 use Rattle.rr_network.specs.declared.node.Hexside.{Hexside}
 use Rattle.rr_network.specs.declared.node.CentreAt.{CentreAt}

@@ -1,13 +1,13 @@
 -- What the centres of a network are, and how many of them a board keeps.
 use Rattle.std.specs.Prelude.{◌≡◌, ℕ, List, [], ◌∷◌, ◌++◌, length, All, Contains, Some}
-use Rattle.rr_board.specs.declared.hex.Hex.{Hex}
-use Rattle.rr_board.specs.Plan.{Plan}
+use Rattle.rr_kit.specs.declared.board.hex.Hex.{Hex}
+use Rattle.rr_kit.specs.Board.Plan.{Plan}
 use Rattle.rr_tiles.specs.Keeping.{Keeps}
 use Rattle.rr_tiles.specs.Sound.{IsKind, IsValue}
 use Rattle.rr_tiles.specs.Supply.{supply_at}
 use Rattle.rr_tiles.specs.Tile.{Face, centres_of, turned}
 use Rattle.rr_tiles.specs.declared.supply.Supply.{Supply}
-use Rattle.rr_layout.specs.declared.layout.Lay.{Lay}
+use Rattle.rr_desk.specs.declared.layout.layout.Lay.{Lay}
 use Rattle.rr_network.specs.declared.network.Stop.{Stop}
 use Rattle.rr_network.specs.Network.{face_on}
 

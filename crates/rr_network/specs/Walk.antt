@@ -5,7 +5,7 @@ use Rattle.rr_roster.specs.declared.company.Corp.{Corp}
 use Rattle.rr_roster.specs.Company.{corp_index}
 use Rattle.rr_tiles.specs.declared.part.Kind.{Kind}
 use Rattle.rr_tiles.specs.declared.part.Kind.TheVariants.{Town, City, OffBoard}
-use Rattle.rr_layout.specs.declared.layout.Station.{Station}
+use Rattle.rr_desk.specs.declared.layout.layout.Station.{Station}
 use Rattle.rr_network.specs.declared.network.Stop.{Stop}
 use Rattle.rr_network.specs.declared.node.CentreAt.{CentreAt}
 use Rattle.rr_network.specs.declared.node.Link.{Link}

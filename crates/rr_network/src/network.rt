@@ -1,13 +1,13 @@
 //! The network that lies on a board: its links, its centres and the tokens there.
 ghost use Rattle.std.specs.Prelude.{◌≡◌, ◌≤◌, All, length, IfOk};
 ghost use Rattle.std.specs.Option.{option_copied};
-ghost use Rattle.rr_layout.specs.Layout.{last_lay};
+ghost use Rattle.rr_desk.specs.Layout.Layout.{last_lay};
 ghost use Rattle.rr_network.specs.Network.{net_of};
 
 use crate::node::{CentreAt, Link};
 use crate::survey::Survey;
-use rr_board::Board;
-use rr_layout::{Lay, Layout, Station};
+use rr_desk::layout::{Lay, Layout, Station};
+use rr_kit::board::Board;
 use rr_tiles::{Kind, Manifest};
 use rr_words::HexName;
 use std::alloc::{AllocError, Global};
@@ -44,7 +44,7 @@ impl Model for Network {
 
 impl Network {
     ghost use Rattle.rr_books.specs.Book.{Book};
-    ghost use Rattle.rr_layout.specs.Layout.{IsLayoutOf};
+    ghost use Rattle.rr_desk.specs.Layout.Layout.{IsLayoutOf};
     ghost use Rattle.rr_network.specs.Network.{network};
     ghost use Rattle.rr_network.specs.Stops.{HexesKeepTheirCentres, IsStop};
 

@@ -3,7 +3,7 @@ ghost use Rattle.std.specs.Prelude.{◌≡◌, ◌++◌, map, OnOk};
 ghost use Rattle.rr_network.specs.Network.{edge_link};
 ghost use Rattle.rr_network.specs.Node.{across, hexside_at, same_centre, same_hexside, same_node};
 
-use rr_board::{Hex, Place};
+use rr_kit::board::{Hex, Place};
 use rr_tiles::Edge;
 use rr_words::HexName;
 use std::alloc::AllocError;

@@ -4,15 +4,15 @@ ghost use Rattle.std.specs.List.{list_any};
 ghost use Rattle.rr_network.specs.Node.{same_node};
 ghost use Rattle.rr_network.specs.declared.node.Node.{Node};
 ghost use Rattle.rr_network.specs.declared.step.Step.{Step};
-ghost use Rattle.rr_reach.specs.Places.{ArePlaces, IsGraphOf};
+ghost use Rattle.rr_routes.specs.Reachability.Places.{ArePlaces, IsGraphOf};
 ghost use Rattle.rr_network.specs.Walk.{EndsWalk, ReachesLink, ReachesNode, goes_on, has_token, reaches_link, reaches_node};
 
 use crate::network::Network;
 use crate::node::{Node, same_node};
 use crate::step::{Step, has_token, is_terminal, may_follow, steps_of};
-use rr_layout::Station;
-use rr_reach::{Followers, marked_items, reached};
+use rr_desk::layout::Station;
 use rr_roster::Corp;
+use rr_routes::reachability::{Followers, marked_items, reached};
 use std::alloc::{AllocError, Global};
 use std::marker::Model;
 

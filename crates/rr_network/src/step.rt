@@ -4,7 +4,7 @@ ghost use Rattle.rr_network.specs.Walk.{backward, forward, has_token, is_filled,
 
 use crate::network::Stop;
 use crate::node::{CentreAt, Link, Node, same_centre, same_node};
-use rr_layout::Station;
+use rr_desk::layout::Station;
 use rr_roster::Corp;
 use rr_tiles::Kind;
 use rr_words::HexName;

@@ -4,8 +4,8 @@ ghost use Rattle.rr_network.specs.declared.node.Node.TheVariants as N;
 
 use crate::network::{Stop, last_lay};
 use crate::node::{CentreAt, Link, Node, add_edges, hexside_at};
-use rr_board::Hex;
-use rr_layout::{Lay, Station};
+use rr_desk::layout::{Lay, Station};
+use rr_kit::board::Hex;
 use rr_tiles::{Centre, Manifest, Part, Track};
 use std::alloc::{AllocError, Global};
 use std::marker::Model;

@@ -10,10 +10,10 @@ use Rattle.rr_books.specs.declared.acts.Act.{Act}
 use Rattle.rr_books.specs.Book.{Book, train_holder}
 use Rattle.rr_books.specs.Same.{same_corp}
 use Rattle.rr_kit.specs.declared.kit.Kit.{Kit}
-use Rattle.rr_operations.specs.Turn.{takes}
-use Rattle.rr_operations.specs.Progress.{progress}
-use Rattle.rr_operations.specs.Due.{due}
-use Rattle.rr_depot.specs.Over.{is_any_over_limit}
+use Rattle.rr_market.specs.Operations.Turn.{takes}
+use Rattle.rr_market.specs.Operations.Progress.{progress}
+use Rattle.rr_market.specs.Operations.Due.{due}
+use Rattle.rr_trains.specs.Depot.Over.{is_any_over_limit}
 use Rattle.rr_operate.specs.declared.fault.Fault.{Fault}
 use Rattle.rr_operate.specs.declared.fault.Fault.TheVariants as F
 use Rattle.rr_operate.specs.declared.order.Turn.{Turn}

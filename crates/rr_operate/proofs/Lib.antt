@@ -3,3 +3,5 @@ pub mod RunsTold
 pub mod InOrder
 pub mod OneVerdict
 pub mod WorkedRows
+pub mod SetsLemmas
+pub mod DividendsLemmas

@@ -5,12 +5,12 @@ use Rattle.rr_roster.specs.declared.company.Corp.{Corp}
 use Rattle.rr_roster.specs.Terms.{tokens_of}
 use Rattle.rr_books.specs.declared.acts.Act.TheVariants as A
 use Rattle.rr_books.specs.Book.{Book}
-use Rattle.rr_board.specs.declared.hex.Hex.{Hex}
-use Rattle.rr_board.specs.Plan.{Plan, hex_named}
+use Rattle.rr_kit.specs.declared.board.hex.Hex.{Hex}
+use Rattle.rr_kit.specs.Board.Plan.{Plan, hex_named}
 use Rattle.rr_tiles.specs.declared.supply.Supply.{Supply}
 use Rattle.rr_tiles.specs.Supply.{supply_at}
-use Rattle.rr_layout.specs.declared.layout.Lay.{Lay}
-use Rattle.rr_layout.specs.declared.layout.Station.{Station}
+use Rattle.rr_desk.specs.declared.layout.layout.Lay.{Lay}
+use Rattle.rr_desk.specs.declared.layout.layout.Station.{Station}
 use Rattle.rr_kit.specs.declared.kit.Kit.{Kit}
 use Rattle.rr_lay.specs.declared.fault.Fault as lay
 use Rattle.rr_lay.specs.declared.fault.Fault.TheVariants as Y

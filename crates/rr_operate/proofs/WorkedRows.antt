@@ -6,16 +6,16 @@ use Rattle.rr_market.specs.Marks.{arrival, mark_of}
 use Rattle.rr_market.specs.Order.{order_by}
 use Rattle.rr_rounds.specs.Round as stock
 use Rattle.rr_desk.specs.Incomes.{pay_incomes_of, pays_income}
-use Rattle.rr_layout.specs.Layout.{stations}
-use Rattle.rr_operations.specs.Phases.{is_sold, phase}
-use Rattle.rr_operations.specs.Progress.{progress}
-use Rattle.rr_operations.specs.Due.{as_turn_began, due}
+use Rattle.rr_desk.specs.Layout.Layout.{stations}
+use Rattle.rr_market.specs.Operations.Phases.{is_sold, phase}
+use Rattle.rr_market.specs.Operations.Progress.{progress}
+use Rattle.rr_market.specs.Operations.Due.{as_turn_began, due}
 use Rattle.rr_trains.specs.Places.{has_train_at, trains_at, trains_held}
-use Rattle.rr_depot.specs.Over.{is_any_over_limit}
-use Rattle.rr_depot.specs.Rules.{discard_verdict}
-use Rattle.rr_sets.specs.Rounds.{begins_round, ends_set, passes_round, passes_rounds}
-use Rattle.rr_sets.specs.Tokens.{places_first_token, places_first_token_of}
-use Rattle.rr_sets.specs.Following.{goes_on_in_operating_round}
+use Rattle.rr_trains.specs.Depot.Over.{is_any_over_limit}
+use Rattle.rr_trains.specs.Depot.Rules.{discard_verdict}
+use Rattle.rr_operate.specs.Sets.Rounds.{begins_round, ends_set, passes_round, passes_rounds}
+use Rattle.rr_operate.specs.Sets.Tokens.{places_first_token, places_first_token_of}
+use Rattle.rr_operate.specs.Sets.Following.{goes_on_in_operating_round}
 use Rattle.rr_operate.specs.Order.{step_verdict, verdict_at}
 use Rattle.rr_operate.specs.Rows.{could_buy_first}
 use Rattle.rr_operate.specs.Effects.{ends_turn, runs_best}

@@ -11,10 +11,10 @@ use Rattle.rr_desk.specs.Effects.{Effect, adds, in_turn}
 use Rattle.rr_lay.specs.Laying.{lays_tile}
 use Rattle.rr_lay.specs.Placing.{places_token}
 use Rattle.rr_running.specs.Running.{run_revenue}
-use Rattle.rr_dividends.specs.Dividends.{pays_out, withholds}
-use Rattle.rr_depot.specs.Effects.{says}
-use Rattle.rr_depot.specs.Effects as depot
-use Rattle.rr_sets.specs.Following.{goes_on_in_operating_round}
+use Rattle.rr_operate.specs.Dividends.Dividends.{pays_out, withholds}
+use Rattle.rr_trains.specs.Depot.Effects.{says}
+use Rattle.rr_trains.specs.Depot.Effects as depot
+use Rattle.rr_operate.specs.Sets.Following.{goes_on_in_operating_round}
 use Rattle.rr_operate.specs.Rows.{lay_of, station_of}
 
 -- a run with a certificate: the certificate with its sheet, and the command's words

@@ -4,12 +4,12 @@ use Rattle.rr_books.specs.declared.faults.Fault as books
 use Rattle.rr_books.specs.declared.faults.Fault.TheVariants as B
 use Rattle.rr_lay.specs.declared.fault.Fault as lay
 use Rattle.rr_lay.specs.declared.fault.Fault.TheVariants as Y
-use Rattle.rr_depot.specs.declared.fault.Fault as depot
-use Rattle.rr_depot.specs.declared.fault.Fault.TheVariants as D
+use Rattle.rr_trains.specs.declared.depot.fault.Fault as depot
+use Rattle.rr_trains.specs.declared.depot.fault.Fault.TheVariants as D
 use Rattle.rr_running.specs.declared.fault.Fault as running
 use Rattle.rr_running.specs.declared.fault.Fault.TheVariants as R
-use Rattle.rr_dividends.specs.declared.fault.Fault as dividends
-use Rattle.rr_dividends.specs.declared.fault.Fault.TheVariants as V
+use Rattle.rr_operate.specs.declared.dividends.fault.Fault as dividends
+use Rattle.rr_operate.specs.declared.dividends.fault.Fault.TheVariants as V
 use Rattle.rr_operate.specs.declared.fault.Fault.{Fault}
 use Rattle.rr_operate.specs.declared.fault.Fault.TheVariants as F
 

@@ -13,18 +13,18 @@ use Rattle.rr_books.specs.declared.acts.Act.TheVariants as A
 use Rattle.rr_books.specs.declared.acts.TrainSource.TheVariants as S
 use Rattle.rr_books.specs.Book.{Book, train_holder}
 use Rattle.rr_kit.specs.declared.kit.Kit.{Kit}
-use Rattle.rr_layout.specs.declared.layout.Lay.{Lay}
-use Rattle.rr_layout.specs.declared.layout.Station.{Station}
-use Rattle.rr_operations.specs.Phases.{TrainHolders}
+use Rattle.rr_desk.specs.declared.layout.layout.Lay.{Lay}
+use Rattle.rr_desk.specs.declared.layout.layout.Station.{Station}
+use Rattle.rr_market.specs.Operations.Phases.{TrainHolders}
 use Rattle.rr_trains.specs.Places.{trains_held}
 use Rattle.rr_trains.specs.Sales.{is_on_sale}
 use Rattle.rr_routes.specs.declared.net.CentreLimit.TheVariants.{AtMost}
-use Rattle.rr_trips.specs.Having.{HasRoute}
+use Rattle.rr_referee.specs.Trips.Having.{HasRoute}
 use Rattle.rr_lay.specs.declared.fault.Fault as lay
 use Rattle.rr_lay.specs.Position.{position_of}
 use Rattle.rr_lay.specs.Laying.{IsLayVerdict, first_lay_verdict}
 use Rattle.rr_lay.specs.Placing.{IsStationVerdict, first_station_verdict}
-use Rattle.rr_depot.specs.Rules.{verdict}
+use Rattle.rr_trains.specs.Depot.Rules.{verdict}
 use Rattle.rr_running.specs.declared.fault.Fault as running
 use Rattle.rr_running.specs.Running.{IsBestRunVerdict, IsRunVerdict, net_now}
 use Rattle.rr_operate.specs.declared.fault.Fault.{Fault}

@@ -9,13 +9,13 @@ use Rattle.rr_books.specs.declared.entries.Marker.TheVariants as M
 use Rattle.rr_books.specs.declared.acts.Act.{Act}
 use Rattle.rr_books.specs.declared.acts.Act.TheVariants as A
 use Rattle.rr_books.specs.Book.{Book, train_holder}
-use Rattle.rr_board.specs.Plan.{bare}
+use Rattle.rr_kit.specs.Board.Plan.{bare}
 use Rattle.rr_kit.specs.declared.kit.Kit.{Kit}
 use Rattle.rr_desk.specs.Incomes.{dollars}
-use Rattle.rr_operations.specs.Phases.{train}
-use Rattle.rr_operations.specs.OperatingLaws.{end}
-use Rattle.rr_operations.specs.WorkedRound.{one_row, sells, set_begun}
-use Rattle.rr_sets.specs.WorkedSets.{usual_terms}
+use Rattle.rr_market.specs.Operations.Phases.{train}
+use Rattle.rr_market.specs.Operations.OperatingLaws.{end}
+use Rattle.rr_market.specs.Operations.WorkedRound.{one_row, sells, set_begun}
+use Rattle.rr_operate.specs.Sets.WorkedSets.{usual_terms}
 use Rattle.rr_operate.specs.declared.fault.Fault.TheVariants as F
 use Rattle.rr_operate.specs.Rows.{IsVerdict, could_buy_first, first_verdict}
 use Rattle.rr_operate.specs.Effects.{entries_of, revenue_after}

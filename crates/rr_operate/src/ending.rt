@@ -6,9 +6,9 @@ ghost use Rattle.rr_roster.specs.Company.{kinds};
 ghost use Rattle.rr_books.specs.declared.acts.Act.TheVariants as A;
 ghost use Rattle.rr_books.specs.Book.{Book, train_holder};
 ghost use Rattle.rr_books.specs.State.{train_place_of};
-ghost use Rattle.rr_position.specs.Position.{IsPositionOf};
+ghost use Rattle.rr_desk.specs.Position.Position.{IsPositionOf};
 ghost use Rattle.rr_routes.specs.declared.net.CentreLimit.TheVariants.{AtMost};
-ghost use Rattle.rr_trips.specs.Having.{HasRoute};
+ghost use Rattle.rr_referee.specs.Trips.Having.{HasRoute};
 ghost use Rattle.rr_running.specs.Running.{net_now};
 ghost use Rattle.rr_operate.specs.Rows.{IsVerdictOfRow, MayJudgeRow, OwesTrain, could_buy_first, is_kind_on_sale};
 
@@ -17,9 +17,9 @@ use rr_books::{Books, Corp, Kind, Place, TrainSource};
 use rr_checker::CentreLimit;
 use rr_desk::Position;
 use rr_kit::Kit;
+use rr_referee::trips::has_route;
 use rr_running::net_now;
 use rr_trains::{is_on_sale, trains_held};
-use rr_trips::has_route;
 use std::alloc::{AllocError, Global};
 
 // Whether the corporation may end its turn: not where it must own a train.

@@ -133,18 +133,18 @@ impl From<rr_lay::Fault> for Fault {
     }
 }
 
-impl From<rr_depot::Fault> for Fault {
+impl From<rr_trains::depot::Fault> for Fault {
     ghost from_gives = { λ fault wrapped. wrapped ≡ of_depot fault };
 
-    fn from(fault: rr_depot::Fault) -> Fault {
+    fn from(fault: rr_trains::depot::Fault) -> Fault {
         match fault {
-            rr_depot::Fault::TooLittleCash => Fault::TooLittleCash,
-            rr_depot::Fault::NotYourTurn => Fault::NotYourTurn,
-            rr_depot::Fault::NotForSale => Fault::NotForSale,
-            rr_depot::Fault::WrongStep => Fault::WrongStep,
-            rr_depot::Fault::TrainLimit => Fault::TrainLimit,
-            rr_depot::Fault::NotOnSale => Fault::NotOnSale,
-            rr_depot::Fault::PriceOutOfBounds => Fault::PriceOutOfBounds,
+            rr_trains::depot::Fault::TooLittleCash => Fault::TooLittleCash,
+            rr_trains::depot::Fault::NotYourTurn => Fault::NotYourTurn,
+            rr_trains::depot::Fault::NotForSale => Fault::NotForSale,
+            rr_trains::depot::Fault::WrongStep => Fault::WrongStep,
+            rr_trains::depot::Fault::TrainLimit => Fault::TrainLimit,
+            rr_trains::depot::Fault::NotOnSale => Fault::NotOnSale,
+            rr_trains::depot::Fault::PriceOutOfBounds => Fault::PriceOutOfBounds,
         }
     }
 }
@@ -161,12 +161,12 @@ impl From<rr_running::Fault> for Fault {
     }
 }
 
-impl From<rr_dividends::Fault> for Fault {
+impl From<crate::dividends::Fault> for Fault {
     ghost from_gives = { λ fault wrapped. wrapped ≡ of_dividends fault };
 
-    fn from(fault: rr_dividends::Fault) -> Fault {
+    fn from(fault: crate::dividends::Fault) -> Fault {
         match fault {
-            rr_dividends::Fault::WrongStep => Fault::WrongStep,
+            crate::dividends::Fault::WrongStep => Fault::WrongStep,
         }
     }
 }

@@ -1,7 +1,7 @@
 //! Judges a command of a corporation's turn.
 ghost use Rattle.std.specs.Prelude.{◌≡◌, ◌⊎◌, ◌≤ℤ◌, pos, IfOk, true, None, Some, MatchResult};
 ghost use Rattle.rr_books.specs.Book.{Book};
-ghost use Rattle.rr_position.specs.Position.{IsPositionOf};
+ghost use Rattle.rr_desk.specs.Position.Position.{IsPositionOf};
 ghost use Rattle.rr_operate.specs.Effects.{keeps_revenue, revenue_after};
 ghost use Rattle.rr_operate.specs.Rows.{IsVerdict, IsVerdictOfRow, MayJudge, MayJudgeRow, lay_of, station_of};
 
@@ -11,8 +11,8 @@ use crate::order::judge_order;
 use crate::rows::{judge_best_sheet, judge_purchase, judge_sheet, judge_tile, judge_token};
 use rr_books::{Act, Corp, Money};
 use rr_desk::Position;
+use rr_desk::layout::{Lay, Station};
 use rr_kit::Kit;
-use rr_layout::{Lay, Station};
 use rr_running::BestRun;
 use rr_words::HexName;
 use std::alloc::Global;

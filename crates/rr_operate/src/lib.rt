@@ -4,6 +4,7 @@
 //! exactly `IsVerdict` over the book, want of memory apart, and `play` `Takes` exactly `entries_of`.
 #![tactic(auto)]
 
+pub mod dividends;
 mod ending;
 mod fault;
 mod judging;
@@ -11,6 +12,7 @@ pub mod laws;
 mod order;
 mod playing;
 mod rows;
+pub mod sets;
 
 pub use ending::owes_train;
 pub use fault::Fault;

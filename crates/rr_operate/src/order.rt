@@ -1,18 +1,18 @@
 //! Whether a command comes in its order.
 ghost use Rattle.std.specs.Prelude.{◌≡◌, None, Some, MatchResult};
 ghost use Rattle.rr_books.specs.Book.{Book};
-ghost use Rattle.rr_operations.specs.Due.{due};
-ghost use Rattle.rr_operations.specs.Progress.{progress};
-ghost use Rattle.rr_position.specs.Position.{IsPositionOf};
+ghost use Rattle.rr_market.specs.Operations.Due.{due};
+ghost use Rattle.rr_market.specs.Operations.Progress.{progress};
+ghost use Rattle.rr_desk.specs.Position.Position.{IsPositionOf};
 ghost use Rattle.rr_operate.specs.Order.{actor, is_discard, is_due, is_played, order_verdict, revenue_verdict, step_verdict, turn_of, verdict_at};
 
+use crate::dividends::judge_pay;
 use crate::fault::Fault;
 use rr_books::{Act, Corp, Money};
-use rr_depot::is_over_limit_somewhere;
 use rr_desk::Position;
-use rr_dividends::judge_pay;
 use rr_kit::Kit;
-use rr_operations::TurnStep;
+use rr_market::operations::TurnStep;
+use rr_trains::depot::is_over_limit_somewhere;
 
 /// What the order of commands looks at.
 #[derive(Clone, Copy, Debug)]

@@ -2,18 +2,18 @@
 ghost use Rattle.std.specs.Prelude.{◌≡◌, ◌≤ℤ◌, pos, OnOk, IfErr};
 ghost use Rattle.rr_desk.specs.Desk.{Takes};
 ghost use Rattle.rr_desk.specs.Effects.{adds};
-ghost use Rattle.rr_depot.specs.Small.{IsSmall};
-ghost use Rattle.rr_depot.specs.Effects.{says};
+ghost use Rattle.rr_trains.specs.Depot.Small.{IsSmall};
+ghost use Rattle.rr_trains.specs.Depot.Effects.{says};
 ghost use Rattle.rr_operate.specs.Effects.{ends_turn, entries_of, runs_best};
 ghost use Rattle.rr_books.specs.declared.acts.Act.TheVariants as A;
 
+use crate::dividends::{pay_out, withhold};
 use crate::judging::{tile_of, token_of};
+use crate::sets::go_on_in_operating_round;
 use rr_books::{Act, Corp, Entry, Fault, Marker, Money, Words};
 use rr_desk::Desk;
-use rr_dividends::{pay_out, withhold};
 use rr_kit::Kit;
 use rr_lay::{play_lay, play_station};
-use rr_sets::go_on_in_operating_round;
 
 /// Adds to the desk what a command of a corporation's turn brings about, where its trains earned this revenue in this
 /// turn: what `rr_lay`, `rr_dividends` and `rr_depot` tell; behind `run` its words, behind the certificate where there is
@@ -53,7 +53,7 @@ pub fn play(kit: &Kit, desk: &mut Desk, revenue: Money, act: &Act) -> Result<(),
         | Act::BuyTrainFrom { .. }
         | Act::Trade { .. }
         | Act::Discard { .. }
-        | Act::TakePrivate { .. } => rr_depot::play(kit.roster(), desk, act),
+        | Act::TakePrivate { .. } => rr_trains::depot::play(kit.roster(), desk, act),
         _ => Ok(()),
     }
 }

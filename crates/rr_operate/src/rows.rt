@@ -2,16 +2,16 @@
 ghost use Rattle.std.specs.Prelude.{◌≡◌, ◌⊎◌, ◌≤ℤ◌, pos, IfOk, None, Some, MatchResult};
 ghost use Rattle.rr_books.specs.Book.{Book};
 ghost use Rattle.rr_books.specs.declared.acts.Act.TheVariants as A;
-ghost use Rattle.rr_position.specs.Position.{IsPositionOf};
+ghost use Rattle.rr_desk.specs.Position.Position.{IsPositionOf};
 ghost use Rattle.rr_running.specs.Running.{run_revenue};
 ghost use Rattle.rr_operate.specs.Rows.{IsVerdictOfRow, MayJudgeRow, purchase_verdict};
 
 use crate::fault::Fault;
 use rr_books::{Act, Corp, Money};
 use rr_desk::Position;
+use rr_desk::layout::{Lay, Station};
 use rr_kit::Kit;
 use rr_lay::{judge_lay, judge_station};
-use rr_layout::{Lay, Station};
 use rr_running::{BestRun, judge_best_run, judge_run};
 use std::alloc::Global;
 
@@ -52,7 +52,7 @@ pub(crate) fn judge_purchase(kit: &Kit, position: &Position, act: &Act) -> Resul
         (λ _. purchase_verdict kit.now book act.now ≡ None)
         (λ fault. purchase_verdict kit.now book act.now ≡ Some fault) }
 {
-    rr_depot::judge(kit.roster(), position, act)?;
+    rr_trains::depot::judge(kit.roster(), position, act)?;
     Ok(())
 }
 

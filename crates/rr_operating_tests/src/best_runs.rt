@@ -1,10 +1,10 @@
 //! The best runs of PRR on the small board, with its token in A.
 use crate::fixtures::{at_home, small_kit, with_train};
-use rr_best_run::laws::trains_may_stay;
-use rr_best_run::{BestRun, best_run};
 use rr_books::{Corp, Kind};
 use rr_desk::Position;
 use rr_orders::Order;
+use rr_search::best_run::laws::trains_may_stay;
+use rr_search::best_run::{BestRun, best_run};
 use std::alloc::Global;
 use std::process::Abort;
 

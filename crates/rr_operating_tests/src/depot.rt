@@ -1,17 +1,17 @@
 //! What corporations buy besides tiles and tokens, and what they give up over their limit.
-ghost use Rattle.rr_depot.specs.Small.{IsSmall};
+ghost use Rattle.rr_trains.specs.Depot.Small.{IsSmall};
 
 use crate::fixtures::{A, B, ROSTER, fund, give, give_train, position, roster};
 use rr_books::{
     Act, Cert, Corp, Entry, Kind, Marker, Party, Place, Private, Seat, Train, TrainSource,
 };
-use rr_depot::laws::{
+use rr_desk::{Desk, Position};
+use rr_trains::depot::laws::{
     bank_sells_in_order, nobody_overspends, over_is_of_some_corporation,
     privates_go_at_fair_prices, purchases_keep_the_limit, worked_discard, worked_first_four,
     worked_private, worked_sale, worked_trade,
 };
-use rr_depot::{Fault, is_over_limit_somewhere, judge, play};
-use rr_desk::{Desk, Position};
+use rr_trains::depot::{Fault, is_over_limit_somewhere, judge, play};
 use std::alloc::Global;
 use std::process::Abort;
 

@@ -3,11 +3,11 @@ use crate::fixtures::{A, B, chart, fund, give, mark, position};
 use rr_books::{Act, Cell, Cert, Corp, Entry, Marker, Money, Party, Place, ShareNumber};
 use rr_chart::Chart;
 use rr_desk::{Desk, Position};
-use rr_dividends::laws::{
+use rr_operate::dividends::laws::{
     dividends_move_tokens, entries_are_these, nobody_is_paid_for_the_offering, pays_each_holder,
     withholding_pays_the_corporation, worked_dividends, worked_moves,
 };
-use rr_dividends::{judge_pay, pay_out, withhold};
+use rr_operate::dividends::{judge_pay, pay_out, withhold};
 use std::alloc::Global;
 use std::process::Abort;
 

@@ -1,17 +1,17 @@
 //! A corporation that must own a train and can't pay it.
-ghost use Rattle.rr_forced.specs.Small.{IsSmall};
+ghost use Rattle.rr_rules.specs.Forced.Small.{IsSmall};
 
 use crate::fixtures::{A, B, float, fund, give, give_train, kit, mark, operate, position, station};
 use rr_books::{
     Act, Cert, Corp, Entry, Kind, Marker, Money, Party, Place, Seat, ShareNumber, TrainSource,
 };
 use rr_desk::{Desk, Position};
-use rr_forced::laws::{
-    one_share_suffices, worked_bankruptcy, worked_force, worked_presidency, worked_raise,
-};
-use rr_forced::{Fault, TrainOnSale, judge, needed_train, play};
 use rr_kit::Kit;
 use rr_operate::owes_train;
+use rr_rules::forced::laws::{
+    one_share_suffices, worked_bankruptcy, worked_force, worked_presidency, worked_raise,
+};
+use rr_rules::forced::{Fault, TrainOnSale, judge, needed_train, play};
 use std::alloc::Global;
 use std::process::Abort;
 

@@ -1,5 +1,5 @@
 //! A turn of PRR on a small board, with its token in A.
-ghost use Rattle.rr_depot.specs.Small.{IsSmall};
+ghost use Rattle.rr_trains.specs.Depot.Small.{IsSmall};
 
 use crate::fixtures::{float, fund, give_train, kit, name, operate, position, station};
 use rr_books::{Act, Corp, Kind, Money, Party, Place, TrainSource, Words};

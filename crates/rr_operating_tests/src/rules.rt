@@ -2,7 +2,7 @@
 ghost use Rattle.std.specs.Prelude.{◌<◌};
 ghost use Rattle.rr_auction.specs.Small as auction;
 ghost use Rattle.rr_stock.specs.Small.{HasSeat};
-ghost use Rattle.rr_depot.specs.Small as depot;
+ghost use Rattle.rr_trains.specs.Depot.Small as depot;
 
 use crate::fixtures::{A, B, kit, name};
 use rr_books::{Act, Corp, Kind, Party, Seat, ShareSource, TrainSource, Words};

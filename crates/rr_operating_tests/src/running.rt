@@ -1,9 +1,9 @@
 //! Runs of PRR on the small board, with its token in A.
 use crate::fixtures::{small_kit, with_train};
 use rr_books::{Corp, Kind};
+use rr_routes::sheets::{is_certificate, is_sheet};
 use rr_running::laws::{best_earns_most, most_centres, one_verdict_on_a_run};
 use rr_running::{BestRun, Clause, Fault, judge_best_run, judge_run, kinds_held, net_now};
-use rr_sheets::{is_certificate, is_sheet};
 use std::alloc::Global;
 use std::process::Abort;
 

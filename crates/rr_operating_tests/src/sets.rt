@@ -3,8 +3,8 @@ use crate::fixtures::{A, float, give, give_train, kit, operate, position};
 use rr_books::{Act, Cert, Corp, Entry, Kind, Marker, Place, Private};
 use rr_desk::{Desk, Position};
 use rr_kit::Kit;
-use rr_sets::laws::{rounds_pass, worked_sets, worked_tokens};
-use rr_sets::{go_on_in_operating_round, go_on_in_stock_round};
+use rr_operate::sets::laws::{rounds_pass, worked_sets, worked_tokens};
+use rr_operate::sets::{go_on_in_operating_round, go_on_in_stock_round};
 use std::alloc::Global;
 use std::process::Abort;
 

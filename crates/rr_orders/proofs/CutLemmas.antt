@@ -8,8 +8,8 @@ use Rattle.std.proofs.lemmas.List.Splits.{slice_split-cons_yes, slice_split-cons
 use Rattle.std.proofs.lemmas.Slice.Eq.{bytes_eq-Decides}
 use Rattle.std.proofs.Math.Seq.{take-append_seam}
 use Rattle.rr_words.specs.Line.{is_space, words_of, line_of}
-use Rattle.rr_scan.specs.Words.{words_left}
-use Rattle.rr_scan.proofs.WordsLemmas.{is_unspaced, are_unspaced, line_of-words, words_of-line}
+use Rattle.rr_orders.specs.Scan.Words.{words_left}
+use Rattle.rr_orders.proofs.ScanLemmas.WordsLemmas.{is_unspaced, are_unspaced, line_of-words, words_of-line}
 use Rattle.rr_orders.specs.Texts.{CutSoFar, cut_at_best, is_other, spaced, words_before}
 
 not-true : (b : Bool) → not b ≡ true → b ≡ false

@@ -11,11 +11,11 @@ use Rattle.rr_words.proofs.NumeralLemmas.{small_number_of-decimal}
 use Rattle.rr_roster.specs.Company.{kind_name}
 use Rattle.rr_roster.specs.declared.company.Kind.{Kind}
 use Rattle.rr_roster.specs.declared.company.Kind.TheVariants as K
-use Rattle.rr_scan.proofs.SpelledLemmas.{corp_of-name, private_of-name, read-number}
-use Rattle.rr_scan.proofs.UnspacedLemmas.{corp-unspaced, decimal-unspaced, list_all-weaker, player-unspaced, private-unspaced}
-use Rattle.rr_scan.proofs.WordsLemmas.{are_unspaced, is_unspaced, line_of-words, words_of-line}
-use Rattle.rr_sheets.specs.Reading.{train_of}
-use Rattle.rr_sheets.proofs.FormLemmas.{sheet_told}
+use Rattle.rr_orders.proofs.ScanLemmas.SpelledLemmas.{corp_of-name, private_of-name, read-number}
+use Rattle.rr_orders.proofs.ScanLemmas.UnspacedLemmas.{corp-unspaced, decimal-unspaced, list_all-weaker, player-unspaced, private-unspaced}
+use Rattle.rr_orders.proofs.ScanLemmas.WordsLemmas.{are_unspaced, is_unspaced, line_of-words, words_of-line}
+use Rattle.rr_routes.specs.Sheets.Reading.{train_of}
+use Rattle.rr_routes.proofs.SheetsLemmas.FormLemmas.{sheet_told}
 use Rattle.rr_orders.specs.Texts.{IsCertificateText, IsSheetText, certificate_text, is_other, parts, sheet_text}
 use Rattle.rr_orders.specs.Order.{IsOrder, SpellsOrder, source_word, spelling}
 use Rattle.rr_orders.specs.Reading.{read_order, source_of}

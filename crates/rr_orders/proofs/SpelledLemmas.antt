@@ -8,10 +8,10 @@ use Rattle.rr_words.proofs.LineLemmas.{line_of-words_of}
 use Rattle.rr_roster.specs.declared.company.Kind.{Kind}
 use Rattle.rr_roster.specs.declared.company.Kind.TheVariants as K
 use Rattle.rr_roster.specs.Company.{kind_name}
-use Rattle.rr_scan.specs.Words.{words_left}
-use Rattle.rr_scan.specs.Company.{corp_of}
-use Rattle.rr_sheets.specs.Reading.{sheet_of, cert_words_of}
-use Rattle.rr_sheets.proofs.FormLemmas.{sheet_told, certificate_told}
+use Rattle.rr_orders.specs.Scan.Words.{words_left}
+use Rattle.rr_orders.specs.Scan.Company.{corp_of}
+use Rattle.rr_routes.specs.Sheets.Reading.{sheet_of, cert_words_of}
+use Rattle.rr_routes.proofs.SheetsLemmas.FormLemmas.{sheet_told, certificate_told}
 use Rattle.rr_orders.specs.Texts.{sheet_text, certificate_text}
 use Rattle.rr_orders.specs.Reading.{kind_of, read_train}
 

@@ -6,9 +6,9 @@ use Rattle.rr_words.specs.Line.{words_of, line_of}
 use Rattle.rr_words.proofs.LineLemmas.{line_of-words_of}
 use Rattle.rr_roster.specs.declared.company.Corp.{Corp}
 use Rattle.rr_roster.specs.Company.{corp_name}
-use Rattle.rr_scan.specs.Words.{words_left}
-use Rattle.rr_scan.specs.Company.{corp_of}
-use Rattle.rr_scan.proofs.WordsLemmas.{words_of-some}
+use Rattle.rr_orders.specs.Scan.Words.{words_left}
+use Rattle.rr_orders.specs.Scan.Company.{corp_of}
+use Rattle.rr_orders.proofs.ScanLemmas.WordsLemmas.{words_of-some}
 use Rattle.rr_orders.specs.Texts.{IsCertificateText, IsSheetText, added, cut_at_best, parts, sheet_text}
 use Rattle.rr_orders.specs.Order.{IsOrder, spelling, text}
 use Rattle.rr_orders.specs.Reading.{read_run}

@@ -1,3 +1,4 @@
 pub mod Texts
 pub mod Order
 pub mod Reading
+pub mod Scan

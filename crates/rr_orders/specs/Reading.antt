@@ -6,7 +6,7 @@ use Rattle.rr_words.specs.Numeral.{number_of, small_number_of}
 use Rattle.rr_roster.specs.Company.{kind_name, kinds}
 use Rattle.rr_roster.specs.declared.company.Corp.{Corp}
 use Rattle.rr_roster.specs.declared.company.Kind.{Kind}
-use Rattle.rr_scan.specs.Company.{corp_of, private_of}
+use Rattle.rr_orders.specs.Scan.Company.{corp_of, private_of}
 use Rattle.rr_orders.specs.Texts.{sheet_text, certificate_text, cut_at_best}
 use Rattle.rr_orders.specs.declared.order.Order.{Order}
 use Rattle.rr_orders.specs.declared.order.Order.TheVariants.{Lay, Station, Run, RunBest, PayOut, Hold, BuyTrain, BuyTrainFrom, Trade, Discard, TakePrivate, End, Force, Raise, Bankrupt}

@@ -3,7 +3,7 @@ use Rattle.std.specs.Prelude.{◌≡◌, ℕ, Bool, true, not, List, take, lengt
 use Rattle.std.specs.List.{list_all}
 use Rattle.std.proofs.Common.{zero, suc}
 use Rattle.rr_words.specs.Line.{words_of, line_of}
-use Rattle.rr_sheets.specs.Reading.{train_of, cert_word_of, sheet_of, cert_words_of}
+use Rattle.rr_routes.specs.Sheets.Reading.{train_of, cert_word_of, sheet_of, cert_words_of}
 
 -- the words that a text is made of: an empty text has none
 abbrev pub parts : List ℕ → List (List ℕ)

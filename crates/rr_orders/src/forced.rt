@@ -1,12 +1,12 @@
 //! A train that a corporation must buy: reading the words behind the first, and writing them.
 ghost use Rattle.std.specs.Prelude.{◌≡◌, ◌∷◌, ◌++◌, codes, IfSome, OnOk};
-ghost use Rattle.rr_scan.specs.Writing.{Continues};
+ghost use Rattle.rr_orders.specs.Scan.Writing.{Continues};
 ghost use Rattle.rr_orders.specs.Order.{IsOrder, spelling, text};
 ghost use Rattle.rr_orders.specs.Reading.{read_alone, read_bankrupt, read_raise};
 
 use crate::order::Order;
+use crate::scan::{Words, next_player, read_corp, write_number, write_word};
 use rr_roster::Corp;
-use rr_scan::{Words, next_player, read_corp, write_number, write_word};
 use rr_words::{Name, number};
 use std::alloc::AllocError;
 

@@ -8,6 +8,7 @@ mod forced;
 pub mod laws;
 mod order;
 mod runs;
+pub mod scan;
 mod texts;
 mod tiles;
 mod trains;

@@ -1,14 +1,14 @@
 ghost use Rattle.std.specs.Prelude.{◌≡◌, ◌∷◌, ◌++◌, IfSome, MatchOption, OnOk, OnErr, Some};
 ghost use Rattle.rr_words.specs.Line.{words_of};
-ghost use Rattle.rr_scan.specs.Writing.{Continues};
+ghost use Rattle.rr_orders.specs.Scan.Writing.{Continues};
 ghost use Rattle.rr_orders.specs.Order.{IsOrder, SpellsOrder, corp_in, spelling, text};
 ghost use Rattle.rr_orders.specs.Reading.{read_order};
 
+use crate::scan::Words;
 use crate::texts::{CertificateWords, SheetWords};
 use crate::trains::{self, TrainSource};
 use crate::{forced, runs, tiles, turns};
 use rr_roster::{Corp, Kind, Private};
-use rr_scan::Words;
 use rr_words::{HexName, Name};
 use std::alloc::AllocError;
 

@@ -1,15 +1,15 @@
 //! Runs: reading the words behind the first, and writing them.
 ghost use Rattle.std.specs.Prelude.{◌≡◌, ◌∷◌, ◌++◌, ◌+◌, ◌≤◌, length, None, Some, codes, IfSome, MatchOption, OnOk};
-ghost use Rattle.rr_scan.specs.Words.{words_left};
-ghost use Rattle.rr_scan.specs.Writing.{Continues};
+ghost use Rattle.rr_orders.specs.Scan.Words.{words_left};
+ghost use Rattle.rr_orders.specs.Scan.Writing.{Continues};
 ghost use Rattle.rr_orders.specs.Order.{IsOrder, spelling, text};
 ghost use Rattle.rr_orders.specs.Texts.{added, cut_at_best, words_before};
 ghost use Rattle.rr_orders.specs.Reading.{read_run};
 
 use crate::order::Order;
+use crate::scan::{Words, read_corp, write_word};
 use crate::texts::{CertificateWords, SheetWords};
 use rr_roster::Corp;
-use rr_scan::{Words, read_corp, write_word};
 use std::alloc::AllocError;
 
 /// Words up to the one word `best` are a sheet, and those behind it a certificate.

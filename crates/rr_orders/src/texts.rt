@@ -2,10 +2,10 @@
 ghost use Rattle.std.specs.Prelude.{◌≡◌, IfSome, bytes_eq};
 ghost use Rattle.std.specs.Cmp.{partial_equiv_from_equiv};
 ghost use Rattle.std.specs.Cmp.Lexicographic.{nat_list_eq_equiv};
-ghost use Rattle.rr_scan.specs.Words.{words_left};
+ghost use Rattle.rr_orders.specs.Scan.Words.{words_left};
 ghost use Rattle.rr_orders.specs.Texts.{IsCertificateText, IsSheetText, certificate_text, parts, sheet_text};
 
-use rr_sheets::{is_certificate, is_sheet};
+use rr_routes::sheets::{is_certificate, is_sheet};
 use std::marker::Model;
 
 /// The words of a run's sheet, lent from the line that has them: a word for each train, or none.

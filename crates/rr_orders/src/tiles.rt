@@ -1,13 +1,13 @@
 //! Tiles and tokens: reading the words behind the first, and writing them.
 ghost use Rattle.std.specs.Prelude.{◌≡◌, ◌∷◌, ◌++◌, codes, IfSome, OnOk, ◌≤◌, decimal};
 ghost use Rattle.rr_words.specs.Numeral.{small_number_of};
-ghost use Rattle.rr_scan.specs.Writing.{Continues};
+ghost use Rattle.rr_orders.specs.Scan.Writing.{Continues};
 ghost use Rattle.rr_orders.specs.Order.{IsOrder, spelling, text};
 ghost use Rattle.rr_orders.specs.Reading.{read_lay, read_station};
 
 use crate::order::Order;
+use crate::scan::{Words, read_corp, write_number, write_word};
 use rr_roster::Corp;
-use rr_scan::{Words, read_corp, write_number, write_word};
 use rr_words::{HexName, number, small_number};
 use std::alloc::AllocError;
 

@@ -1,13 +1,13 @@
 //! Trains: reading the words behind the first, and writing them.
 ghost use Rattle.std.specs.Prelude.{◌≡◌, ◌∷◌, ◌++◌, codes, IfSome, OnOk};
 ghost use Rattle.rr_roster.specs.Company.{kind_name};
-ghost use Rattle.rr_scan.specs.Writing.{Continues};
+ghost use Rattle.rr_orders.specs.Scan.Writing.{Continues};
 ghost use Rattle.rr_orders.specs.Order.{IsOrder, spelling, text, source_word};
 ghost use Rattle.rr_orders.specs.Reading.{kind_of, read_kind, read_train, source_of};
 
 use crate::order::Order;
+use crate::scan::{Words, next_player, read_corp, write_number, write_word};
 use rr_roster::{Corp, Kind};
-use rr_scan::{Words, next_player, read_corp, write_number, write_word};
 use rr_words::{Name, number};
 use std::alloc::AllocError;
 

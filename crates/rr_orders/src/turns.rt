@@ -1,12 +1,12 @@
 //! Revenue, the purchase of a private, and the end of a turn: reading the words behind the first, and writing them.
 ghost use Rattle.std.specs.Prelude.{◌≡◌, ◌∷◌, ◌++◌, codes, IfSome, OnOk};
-ghost use Rattle.rr_scan.specs.Writing.{Continues};
+ghost use Rattle.rr_orders.specs.Scan.Writing.{Continues};
 ghost use Rattle.rr_orders.specs.Order.{IsOrder, spelling, text};
 ghost use Rattle.rr_orders.specs.Reading.{read_alone, read_private};
 
 use crate::order::Order;
+use crate::scan::{Words, read_corp, read_private, write_number, write_word};
 use rr_roster::{Corp, Private};
-use rr_scan::{Words, read_corp, read_private, write_number, write_word};
 use rr_words::number;
 use std::alloc::AllocError;
 

@@ -3,3 +3,4 @@ pub mod RoundLaws
 pub mod Counts
 pub mod Opened
 pub mod Trades
+pub mod Bids

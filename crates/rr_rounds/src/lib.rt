@@ -3,6 +3,7 @@
 //! Stands on `rr_books`. Its promise: `IsRoundOf`, kept by `read` for any entry.
 #![tactic(auto)]
 
+pub mod bids;
 pub mod laws;
 mod purchases;
 mod rounds;

@@ -10,3 +10,5 @@ pub mod SameLinks
 pub mod SameWay
 pub mod ThirtyRow
 pub mod Walks
+pub mod ReachabilityLemmas
+pub mod SheetsLemmas

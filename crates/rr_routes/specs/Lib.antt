@@ -4,3 +4,5 @@ pub mod Net
 pub mod Reach
 pub mod Routes
 pub mod SmallBoard
+pub mod Reachability
+pub mod Sheets

@@ -6,6 +6,8 @@
 mod certificate;
 pub mod laws;
 mod net;
+pub mod reachability;
+pub mod sheets;
 
 pub use certificate::{CertTree, Fate};
 pub use net::{CentreLimit, Link, Node};

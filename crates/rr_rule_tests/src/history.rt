@@ -1,11 +1,11 @@
 //! A table that is taken back.
 ghost use Rattle.std.proofs.Props.{props};
 ghost use Rattle.rr_code.specs.Command.{IsCommand};
-ghost use Rattle.rr_hist.specs.Tables.{IsPlayed};
+ghost use Rattle.rr_game.specs.History.Tables.{IsPlayed};
 
 use crate::fixtures::ROSTER;
 use rr_code::{Command, Players};
-use rr_hist::{Fault, Request, Table};
+use rr_game::history::{Fault, Request, Table};
 use rr_kit::Kit;
 use std::alloc::Global;
 use std::process::Abort;
@@ -178,11 +178,11 @@ fn a_command_is_judged_before_it_counts(rt: HostRuntime) {
 
 #[test]
 fn laws_are_called(_rt: HostRuntime) {
-    rr_hist::laws::requests_have_one_verdict();
-    rr_hist::laws::tables_go_on();
-    rr_hist::laws::back_goes_to_its_turn();
-    rr_hist::laws::back_to_the_present_turn();
-    rr_hist::laws::accepted_turns_are_kept();
+    rr_game::history::laws::requests_have_one_verdict();
+    rr_game::history::laws::tables_go_on();
+    rr_game::history::laws::back_goes_to_its_turn();
+    rr_game::history::laws::back_to_the_present_turn();
+    rr_game::history::laws::accepted_turns_are_kept();
     rr_turns::laws::stamps_never_fall::<u8>();
     rr_turns::laws::floors_never_fall::<u8>();
     rr_turns::laws::back_ends_with_its_turn::<u8>();

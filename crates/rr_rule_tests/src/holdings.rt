@@ -2,14 +2,14 @@
 use crate::fixtures::{A, B, chart, position};
 use rr_books::{Cell, Cert, Corp, Entry, Marker, Place, Private, Seat, ShareNumber};
 use rr_chart::Chart;
-use rr_holdings::laws::one_share_suffices;
-use rr_holdings::{
+use rr_desk::position::Position;
+use rr_market::par_cell;
+use rr_shares::limits::laws::one_share_suffices;
+use rr_shares::limits::{
     Fault, certificates_counted, has_lawful_sale, is_over_certificates, is_over_limit,
     is_over_sixty, judge_sale, judge_sell, must_sell_first, would_be_over_certificates,
     would_be_over_sixty,
 };
-use rr_market::par_cell;
-use rr_position::Position;
 use std::alloc::Global;
 use std::process::Abort;
 

@@ -1,11 +1,11 @@
 //! Tiles and tokens on the small board, with PRR's first token in A.
 use crate::fixtures::{B, ROSTER, position};
 use rr_books::{Cert, Corp, Entry, Kind, Marker, Money, Party, Place, Private, Train};
+use rr_desk::layout::{Lay, Station};
 use rr_desk::{Desk, Position};
 use rr_kit::Kit;
 use rr_lay::Fault;
 use rr_lay::laws::{one_verdict_on_a_tile, one_verdict_on_a_token};
-use rr_layout::{Lay, Station};
 use rr_words::HexName;
 use std::alloc::Global;
 use std::process::Abort;

@@ -1,5 +1,5 @@
 //! The laws of whole plays, each called once.
-use rr_sound::laws::{
+use rr_laws::soundness::laws::{
     auction_stays_governed, auction_stays_within_half, first_turn_is_of_priority,
     governed_has_greatest_presidents, money_stays_along_plays, pool_stays_within_half_along_plays,
     presidents_stay_greatest, priority_is_one, sound_along_plays, stock_rounds_stay_sound,

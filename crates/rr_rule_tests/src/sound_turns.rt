@@ -1,5 +1,5 @@
 //! The laws of corporations' turns, each called once.
-use rr_sound_turns::laws::{
+use rr_laws::turns::laws::{
     lawful_commands_are_of_turns, plays_of_turns_keep_good_order, revenue_is_never_negative,
     turns_keep_good_order,
 };
@@ -14,5 +14,5 @@ fn laws_of_turns_are_called(_rt: HostRuntime) {
 
 #[test]
 fn law_of_good_order_is_called(_rt: HostRuntime) {
-    rr_sound::laws::good_order_has_greatest_presidents();
+    rr_laws::soundness::laws::good_order_has_greatest_presidents();
 }

@@ -2,7 +2,7 @@
 use crate::fixtures::{A, B, ROSTER, chart, position, roster};
 use rr_books::{Act, Cert, Corp, Entry, Marker, Party, Place, Private};
 use rr_desk::Desk;
-use rr_sequence::go_on;
+use rr_laws::sequence::go_on;
 use rr_stock::laws::{
     lawful_sales_move_shares, one_turn_at_most, pool_stays_within_half, worked_end, worked_float,
     worked_must_sell, worked_par, worked_presidency, worked_sale, worked_second_purchase,
@@ -69,7 +69,7 @@ fn a_round_ends_as_both_pass(rt: HostRuntime) {
 fn refusals_have_their_numbers(rt: HostRuntime) {
     for (fault, number) in [
         (Fault::TooLittleCash, 2),
-        (Fault::from(rr_holdings::Fault::FirstStockRound), 27),
+        (Fault::from(rr_shares::limits::Fault::FirstStockRound), 27),
         (Fault::CertificateLimit, 24),
         (Fault::SecondPurchase, 29),
         (Fault::MustSellFirst, 30),
@@ -93,9 +93,9 @@ fn laws_are_called(_rt: HostRuntime) {
     worked_must_sell();
     worked_second_purchase();
     worked_succession();
-    rr_sequence::laws::entries_are_whole();
-    rr_sequence::laws::one_turn_at_most();
-    rr_sequence::laws::pool_stays_within_half();
-    rr_sequence::laws::lawful_sales_move_shares();
-    rr_sequence::laws::worked_end();
+    rr_laws::sequence::laws::entries_are_whole();
+    rr_laws::sequence::laws::one_turn_at_most();
+    rr_laws::sequence::laws::pool_stays_within_half();
+    rr_laws::sequence::laws::lawful_sales_move_shares();
+    rr_laws::sequence::laws::worked_end();
 }

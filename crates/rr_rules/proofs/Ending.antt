@@ -10,7 +10,7 @@ use Rattle.rr_books.specs.declared.entries.Entry.TheVariants as E
 use Rattle.rr_books.specs.declared.entries.Marker.TheVariants as M
 use Rattle.rr_books.specs.declared.parties.Seat.{Seat}
 use Rattle.rr_books.specs.Book.{Book}
-use Rattle.rr_operations.specs.OperatingLaws.{BankruptciesAreRemembered, is_bankruptcy}
+use Rattle.rr_market.specs.Operations.OperatingLaws.{BankruptciesAreRemembered, is_bankruptcy}
 use Rattle.rr_rules.specs.Judging.{bank_is_broken}
 use Rattle.rr_rules.specs.RuleLaws.{BankruptcyEndsTheGame}
 

@@ -8,21 +8,21 @@ use Rattle.rr_books.specs.declared.parties.Money.{Money}
 use Rattle.rr_books.specs.declared.parties.Seat.{Seat}
 use Rattle.rr_books.specs.Book.{Book}
 use Rattle.rr_kit.specs.declared.kit.Kit.{Kit}
-use Rattle.rr_operations.specs.Due.{due}
-use Rattle.rr_operations.specs.declared.turn.Stage.{Stage}
-use Rattle.rr_operations.specs.declared.turn.Stage.TheVariants as G
+use Rattle.rr_market.specs.Operations.Due.{due}
+use Rattle.rr_market.specs.declared.operations.turn.Stage.{Stage}
+use Rattle.rr_market.specs.declared.operations.turn.Stage.TheVariants as G
 use Rattle.rr_operate.specs.declared.fault.Fault as operate
 use Rattle.rr_operate.specs.declared.fault.Fault.TheVariants as O
 use Rattle.rr_operate.specs.Rows as rows
 use Rattle.rr_operate.specs.TurnLaws.{OneVerdict}
-use Rattle.rr_forced.specs.declared.fault.Fault as forced
-use Rattle.rr_forced.specs.declared.fault.Fault.TheVariants as C
-use Rattle.rr_forced.specs.declared.needs.Need.{Need}
-use Rattle.rr_forced.specs.Needs.{IsNeedOf}
-use Rattle.rr_forced.specs.Rules as force
-use Rattle.rr_forced.proofs.FirstChecks.{row_told}
-use Rattle.rr_forced.specs.Sales.{CanRaise, bankrupt_verdict, raise_verdict}
-use Rattle.rr_holdings.specs.Holdings.{holdings_of}
+use Rattle.rr_rules.specs.declared.forced.fault.Fault as forced
+use Rattle.rr_rules.specs.declared.forced.fault.Fault.TheVariants as C
+use Rattle.rr_rules.specs.declared.forced.needs.Need.{Need}
+use Rattle.rr_rules.specs.Forced.Needs.{IsNeedOf}
+use Rattle.rr_rules.specs.Forced.Rules as force
+use Rattle.rr_rules.proofs.ForcedLemmas.FirstChecks.{row_told}
+use Rattle.rr_rules.specs.Forced.Sales.{CanRaise, bankrupt_verdict, raise_verdict}
+use Rattle.rr_shares.specs.Limits.Holdings.{holdings_of}
 use Rattle.rr_roster.specs.declared.company.Corp.{Corp}
 use Rattle.rr_turns.specs.Judgement.{HasOneVerdict, IsFirstOrBehind, IsVerdict, Judgement, MayFind, judgement_behind}
 use Rattle.rr_turns.proofs.JudgementLemmas.{behind-finds, behind-is, behind-one, check-refuses, first-is-found, map-finds, map-is, map-one, settled-one}

@@ -2,3 +2,4 @@ pub mod Judging
 pub mod Playing
 pub mod Ending
 pub mod RunLemmas
+pub mod ForcedLemmas

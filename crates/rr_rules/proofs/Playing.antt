@@ -5,8 +5,8 @@ use Rattle.rr_books.specs.declared.acts.Act.{Act}
 use Rattle.rr_desk.specs.Effects.{Effect}
 use Rattle.rr_desk.specs.Desk.{OnDesk, Takes}
 use Rattle.rr_kit.specs.declared.kit.Kit.{Kit}
-use Rattle.rr_operations.specs.declared.turn.Stage.{Stage}
-use Rattle.rr_position.specs.Position.{OnTable, IsPositionOf}
+use Rattle.rr_market.specs.declared.operations.turn.Stage.{Stage}
+use Rattle.rr_desk.specs.Position.Position.{OnTable, IsPositionOf}
 use Rattle.rr_rules.specs.Judging.{stage}
 use Rattle.rr_rules.specs.Playing.{state_after, state_in}
 use Rattle.rr_rules.specs.State.{AtTable, GameState, IsStandingOf}

@@ -3,8 +3,8 @@ use Rattle.std.proofs.Common.{◌≡◌, ◌∙◌, ℕ, List, [], Option, ap, r
 use Rattle.rr_books.specs.declared.acts.Act.TheVariants as A
 use Rattle.rr_kit.specs.declared.kit.Kit.{Kit}
 use Rattle.rr_operate.specs.Order.{step_verdict, verdict_at}
-use Rattle.rr_operations.specs.declared.turn.Stage.{Stage}
-use Rattle.rr_operations.specs.declared.turn.Stage.TheVariants as G
+use Rattle.rr_market.specs.declared.operations.turn.Stage.{Stage}
+use Rattle.rr_market.specs.declared.operations.turn.Stage.TheVariants as G
 use Rattle.rr_roster.specs.declared.company.Corp.{Corp}
 use Rattle.rr_rules.specs.declared.fault.Fault.{Fault}
 use Rattle.rr_rules.specs.Judging.{judgement, judgement_in, stage}

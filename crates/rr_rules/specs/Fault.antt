@@ -8,8 +8,8 @@ use Rattle.rr_stock.specs.declared.fault.Fault as stock
 use Rattle.rr_stock.specs.declared.fault.Fault.TheVariants as S
 use Rattle.rr_operate.specs.declared.fault.Fault as operate
 use Rattle.rr_operate.specs.declared.fault.Fault.TheVariants as O
-use Rattle.rr_forced.specs.declared.fault.Fault as forced
-use Rattle.rr_forced.specs.declared.fault.Fault.TheVariants as C
+use Rattle.rr_rules.specs.declared.forced.fault.Fault as forced
+use Rattle.rr_rules.specs.declared.forced.fault.Fault.TheVariants as C
 use Rattle.rr_rules.specs.declared.fault.Fault.{Fault}
 use Rattle.rr_rules.specs.declared.fault.Fault.TheVariants as F
 

@@ -1,7 +1,7 @@
 -- The judgement on a command, by the rules that are in force.
 use Rattle.std.specs.Prelude.{Bool, true, false, not, ◌&&◌, ◌||◌, is_some, List, Option, None, Some, option_map, if◌then◌else◌}
 use Rattle.rr_chart.specs.Chart.{Row}
-use Rattle.rr_board.specs.Plan.{hex_named}
+use Rattle.rr_kit.specs.Board.Plan.{hex_named}
 use Rattle.rr_tiles.specs.Supply.{supply_at}
 use Rattle.rr_kit.specs.declared.kit.Kit.{Kit}
 use Rattle.rr_books.specs.declared.acts.Act.{Act}
@@ -11,14 +11,14 @@ use Rattle.rr_auction.specs.Effects.{is_over}
 use Rattle.rr_auction.specs.Rules as auction
 use Rattle.rr_rounds.specs.Round as rounds
 use Rattle.rr_stock.specs.Rules as stock
-use Rattle.rr_operations.specs.declared.turn.Stage.{Stage}
-use Rattle.rr_operations.specs.declared.turn.Stage.TheVariants as G
-use Rattle.rr_operations.specs.Progress.{has_more_rounds, progress}
-use Rattle.rr_sets.specs.Rounds.{round_is_over}
+use Rattle.rr_market.specs.declared.operations.turn.Stage.{Stage}
+use Rattle.rr_market.specs.declared.operations.turn.Stage.TheVariants as G
+use Rattle.rr_market.specs.Operations.Progress.{has_more_rounds, progress}
+use Rattle.rr_operate.specs.Sets.Rounds.{round_is_over}
 use Rattle.rr_operate.specs.declared.fault.Fault as operate
 use Rattle.rr_operate.specs.Rows.{IsRowVerdict, first_verdict}
-use Rattle.rr_forced.specs.declared.fault.Fault as forced
-use Rattle.rr_forced.specs.Rules.{IsRowVerdict as IsForcedVerdict, first_verdict as first_forced, is_forced}
+use Rattle.rr_rules.specs.declared.forced.fault.Fault as forced
+use Rattle.rr_rules.specs.Forced.Rules.{IsRowVerdict as IsForcedVerdict, first_verdict as first_forced, is_forced}
 use Rattle.rr_turns.specs.Judgement.{Judgement, judgement_behind, judgement_map, settled}
 use Rattle.rr_rules.specs.declared.fault.Fault.{Fault}
 use Rattle.rr_rules.specs.declared.fault.Fault.TheVariants as F

@@ -7,12 +7,12 @@ use Rattle.rr_books.specs.Book.{Book}
 use Rattle.rr_desk.specs.Effects.{in_turn}
 use Rattle.rr_auction.specs.Effects as auction
 use Rattle.rr_stock.specs.Effects as stock
-use Rattle.rr_sets.specs.Following.{goes_on_in_stock_round}
-use Rattle.rr_operations.specs.declared.turn.Stage.{Stage}
-use Rattle.rr_operations.specs.declared.turn.Stage.TheVariants as G
+use Rattle.rr_operate.specs.Sets.Following.{goes_on_in_stock_round}
+use Rattle.rr_market.specs.declared.operations.turn.Stage.{Stage}
+use Rattle.rr_market.specs.declared.operations.turn.Stage.TheVariants as G
 use Rattle.rr_operate.specs.Effects as operate
-use Rattle.rr_forced.specs.Effects as forced
-use Rattle.rr_forced.specs.Rules.{is_forced}
+use Rattle.rr_rules.specs.Forced.Effects as forced
+use Rattle.rr_rules.specs.Forced.Rules.{is_forced}
 use Rattle.rr_rules.specs.Judging.{stage}
 use Rattle.rr_rules.specs.State.{GameState}
 

@@ -2,7 +2,7 @@
 use Rattle.std.specs.Prelude.{◌≡◌}
 use Rattle.rr_books.specs.declared.parties.Money.{Money}
 use Rattle.rr_books.specs.Book.{Book}
-use Rattle.rr_position.specs.Position.{OnTable, IsPositionOf}
+use Rattle.rr_desk.specs.Position.Position.{OnTable, IsPositionOf}
 
 -- a table's book, and what the trains of the corporation that is due earned in its turn, which is nothing before they ran
 pub record GameState : Type 0 where

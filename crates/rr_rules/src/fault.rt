@@ -217,21 +217,21 @@ impl From<rr_operate::Fault> for Fault {
     }
 }
 
-impl From<rr_forced::Fault> for Fault {
+impl From<crate::forced::Fault> for Fault {
     ghost from_gives = { λ fault wrapped. wrapped ≡ of_forced fault };
 
-    fn from(fault: rr_forced::Fault) -> Fault {
+    fn from(fault: crate::forced::Fault) -> Fault {
         match fault {
-            rr_forced::Fault::TooLittleCash => Fault::TooLittleCash,
-            rr_forced::Fault::NotYourTurn => Fault::NotYourTurn,
-            rr_forced::Fault::NotForSale => Fault::NotForSale,
-            rr_forced::Fault::PoolOverHalf => Fault::PoolOverHalf,
-            rr_forced::Fault::WrongStep => Fault::WrongStep,
-            rr_forced::Fault::MustDiscardFirst => Fault::MustDiscardFirst,
-            rr_forced::Fault::SaleNotNeeded => Fault::SaleNotNeeded,
-            rr_forced::Fault::PresidencyWouldChange => Fault::PresidencyWouldChange,
-            rr_forced::Fault::NotBankrupt => Fault::NotBankrupt,
-            rr_forced::Fault::OutOfMemory => Fault::OutOfMemory,
+            crate::forced::Fault::TooLittleCash => Fault::TooLittleCash,
+            crate::forced::Fault::NotYourTurn => Fault::NotYourTurn,
+            crate::forced::Fault::NotForSale => Fault::NotForSale,
+            crate::forced::Fault::PoolOverHalf => Fault::PoolOverHalf,
+            crate::forced::Fault::WrongStep => Fault::WrongStep,
+            crate::forced::Fault::MustDiscardFirst => Fault::MustDiscardFirst,
+            crate::forced::Fault::SaleNotNeeded => Fault::SaleNotNeeded,
+            crate::forced::Fault::PresidencyWouldChange => Fault::PresidencyWouldChange,
+            crate::forced::Fault::NotBankrupt => Fault::NotBankrupt,
+            crate::forced::Fault::OutOfMemory => Fault::OutOfMemory,
         }
     }
 }

@@ -6,6 +6,7 @@
 #![tactic(auto)]
 
 mod fault;
+pub mod forced;
 pub mod laws;
 mod names;
 mod rounds;

@@ -2,10 +2,10 @@
 ghost use Rattle.std.specs.Prelude.{◌≡◌, true, false, None, IfOk, MatchResult};
 ghost use Rattle.rr_auction.specs.Small as auction;
 ghost use Rattle.rr_stock.specs.Small.{HasSeat};
-ghost use Rattle.rr_depot.specs.Small as depot;
-ghost use Rattle.rr_operations.specs.declared.turn.Stage.TheVariants as G;
+ghost use Rattle.rr_trains.specs.Depot.Small as depot;
+ghost use Rattle.rr_market.specs.declared.operations.turn.Stage.TheVariants as G;
 ghost use Rattle.rr_turns.specs.Judgement.{IsVerdict, MayFind};
-ghost use Rattle.rr_forced.specs.Rules.{is_forced};
+ghost use Rattle.rr_rules.specs.Forced.Rules.{is_forced};
 ghost use Rattle.rr_rules.specs.Judging.{judgement_in, operating_judgement};
 ghost use Rattle.rr_rules.specs.Playing.{operating_entries, state_in};
 ghost use Rattle.rr_rules.specs.State.{GameState, IsStandingOf};
@@ -57,7 +57,7 @@ impl Standing {
         rr_stock::judge(kit.chart(), &self.position, act)?;
         let mut desk = Desk::new(alloc, self.position);
         rr_stock::play(kit.chart(), &mut desk, act)?;
-        rr_sets::go_on_in_stock_round(&mut desk, kit)?;
+        rr_operate::sets::go_on_in_stock_round(&mut desk, kit)?;
         let (position, _) = desk.into_parts();
         Ok(Standing {
             position,
@@ -94,9 +94,9 @@ impl Standing {
             (λ fault. MayFind (operating_judgement true kit.now state act.now) Fault.OutOfMemory fault) }
         ensures standing { IfOk result (λ next. (state : GameState) → IsStandingOf state self.now → IsStandingOf (state_in G.Operating kit.now state act.now) next) }
     {
-        rr_forced::judge(alloc, kit, &self.position, act)?;
+        crate::forced::judge(alloc, kit, &self.position, act)?;
         let mut desk = Desk::new(alloc, self.position);
-        rr_forced::play(kit.roster(), kit.chart(), &mut desk, act)?;
+        crate::forced::play(kit.roster(), kit.chart(), &mut desk, act)?;
         let (position, _) = desk.into_parts();
         Ok(Standing {
             position,

@@ -1,6 +1,6 @@
 //! A run, before its words are looked at.
 ghost use Rattle.std.specs.Prelude.{◌≡◌, [], None, Some, MatchResult};
-ghost use Rattle.rr_operations.specs.declared.turn.Stage.TheVariants as G;
+ghost use Rattle.rr_market.specs.declared.operations.turn.Stage.TheVariants as G;
 ghost use Rattle.rr_rules.specs.Judging.{judgement_in};
 ghost use Rattle.rr_rules.specs.Runs.{run_verdict};
 ghost use Rattle.rr_rules.specs.State.{GameState, IsStandingOf};
@@ -9,7 +9,7 @@ use crate::fault::Fault;
 use crate::standing::Standing;
 use rr_books::{Act, Words};
 use rr_kit::Kit;
-use rr_operations::Stage;
+use rr_market::operations::Stage;
 use rr_roster::Corp;
 use std::alloc::Global;
 

@@ -1,6 +1,6 @@
 //! The small board as it is read: a city, a track, a town, a city and an off-board area in a row, and a hex without tracks.
-use rr_board::Board;
-use rr_layout::{Lay, Layout, MOST_LAYS, MOST_STATIONS, Station};
+use rr_desk::layout::{Lay, Layout, MOST_LAYS, MOST_STATIONS, Station};
+use rr_kit::board::Board;
 use rr_roster::Corp;
 use rr_tiles::Manifest;
 use rr_words::HexName;

@@ -4,7 +4,7 @@ use rr_checker::{
     CentreLimit, Net, Node, centre_at, centres_of, check, counts_over, ends_at_centres, far_end,
     has_node, has_token_on, is_clear, is_simple, is_walk, value,
 };
-use rr_sheets::read_certificate;
+use rr_routes::sheets::read_certificate;
 use std::alloc::Global;
 use std::process::Abort;
 

@@ -1,12 +1,12 @@
 //! Nets of boards.
 use crate::board::{lay, prr_at_home, small_board, station, tiles};
 use crate::small::links;
-use rr_board::Board;
 use rr_checker::{CentreLimit, Net};
-use rr_layout::Layout;
-use rr_net::{laws, net_of, net_on_board};
+use rr_desk::layout::Layout;
+use rr_kit::board::Board;
 use rr_network::Network;
 use rr_roster::{Corp, Kind};
+use rr_running::net::{laws, net_of, net_on_board};
 use std::alloc::Global;
 use std::process::Abort;
 

@@ -1,7 +1,7 @@
 //! What is laid on the small board, the links and centres there, and what two corporations reach.
 use crate::board::{lay, name, prr_at_home, small_board, station, tiles};
-use rr_board::Place;
-use rr_layout::Layout;
+use rr_desk::layout::Layout;
+use rr_kit::board::Place;
 use rr_network::{
     Axial, CentreAt, Link, Network, Node, Reach, Stop, across, hexside_at, last_lay, laws, node_of,
     same_node,

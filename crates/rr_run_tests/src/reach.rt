@@ -1,5 +1,5 @@
 //! A graph small enough to be followed by hand.
-use rr_reach::{Followers, marked_items, reached};
+use rr_routes::reachability::{Followers, marked_items, reached};
 use std::alloc::Global;
 use std::process::Abort;
 

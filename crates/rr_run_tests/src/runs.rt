@@ -2,9 +2,9 @@
 ghost use Rattle.rr_search.specs.Found.{IsModest};
 
 use crate::small::{links, net_of, row, small_net};
+use rr_referee::{CentreLimit, Clause, Fault, Net, Sheet, check, laws, legal, limit_of_kind};
 use rr_roster::Kind;
-use rr_runs::{CentreLimit, Clause, Fault, Net, Sheet, check, laws, legal, limit_of_kind};
-use rr_sheets::read_certificate;
+use rr_routes::sheets::read_certificate;
 use std::alloc::Global;
 use std::process::Abort;
 

@@ -5,10 +5,10 @@ ghost use Rattle.rr_search.specs.Found.{IsModest};
 use crate::small::{links, net_of, small_net};
 use rr_checker::{CentreLimit, Link, Net, Node, check};
 use rr_guesses::guess;
+use rr_referee::legal;
 use rr_roster::Kind;
-use rr_runs::legal;
+use rr_routes::sheets::{LinkNumbers, Sheet, TrainWord};
 use rr_search::{Fault, best};
-use rr_sheets::{LinkNumbers, Sheet, TrainWord};
 use std::alloc::Global;
 use std::process::Abort;
 

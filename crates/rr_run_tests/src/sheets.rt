@@ -1,7 +1,9 @@
 //! The words of sheets and certificates, read and written.
 use rr_roster::Kind;
 use rr_routes::CertTree;
-use rr_sheets::{Fault, LinkNumbers, Sheet, TrainWord, laws, read_certificate, write_certificate};
+use rr_routes::sheets::{
+    Fault, LinkNumbers, Sheet, TrainWord, laws, read_certificate, write_certificate,
+};
 use std::alloc::Global;
 use std::process::Abort;
 

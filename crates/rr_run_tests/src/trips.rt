@@ -1,8 +1,8 @@
 //! Nets on which a corporation has a route, and nets on which it has none.
 use crate::small::{links, net_of};
 use rr_checker::CentreLimit;
-use rr_trips::has_route;
-use rr_trips::laws::two_centres_are_enough;
+use rr_referee::trips::has_route;
+use rr_referee::trips::laws::two_centres_are_enough;
 use std::alloc::Global;
 use std::process::Abort;
 

@@ -9,8 +9,8 @@ use Rattle.rr_routes.specs.declared.net.Node.{Node}
 use Rattle.rr_routes.specs.Net.{Net, value, limit_of}
 use Rattle.rr_routes.specs.Routes.{NoneTwice, Trip, no_trip, trip_of, Route, centres, worth, earned}
 use Rattle.rr_routes.proofs.Elements.{sum_within}
-use Rattle.rr_sheets.specs.declared.sheet.TrainWord.{TrainWord}
-use Rattle.rr_runs.specs.Sheets.{IsLegal}
+use Rattle.rr_routes.specs.declared.sheets.sheet.TrainWord.{TrainWord}
+use Rattle.rr_referee.specs.Sheets.{IsLegal}
 use Rattle.rr_routes.proofs.Walks.{NoneTwice-centres}
 
 module _ (net : Net) (values : (centre : ℕ) → value net centre ≤ 990) (few : length net.values ≤ 65536) where

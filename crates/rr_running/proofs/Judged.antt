@@ -5,23 +5,23 @@ use Rattle.std.proofs.lemmas.Option.{none-some}
 use Rattle.rr_roster.specs.declared.company.Corp.{Corp}
 use Rattle.rr_roster.specs.declared.company.Kind.{Kind}
 use Rattle.rr_books.specs.Book.{Book}
-use Rattle.rr_board.specs.Plan.{Plan}
+use Rattle.rr_kit.specs.Board.Plan.{Plan}
 use Rattle.rr_tiles.specs.declared.supply.Supply.{Supply}
 use Rattle.rr_network.specs.Network.{network}
 use Rattle.rr_routes.specs.Net.{Net}
-use Rattle.rr_sheets.specs.declared.sheet.TrainWord.{TrainWord}
-use Rattle.rr_sheets.specs.Sheet.{SpellsSheet, SpellsSomeSheet}
-use Rattle.rr_sheets.proofs.FormLemmas.{sheet_in-spelled}
-use Rattle.rr_sheets.proofs.SameLemmas.{accepted_also}
-use Rattle.rr_sheets.proofs.SheetLemmas.{one_sheet}
-use Rattle.rr_net.specs.Running.{net_of}
-use Rattle.rr_runs.specs.declared.clause.Clause.{Clause}
-use Rattle.rr_runs.specs.declared.clause.Clause.TheVariants.{WrongWord}
-use Rattle.rr_runs.specs.declared.fault.Fault as runs
-use Rattle.rr_runs.specs.Revenue.{revenue_of}
-use Rattle.rr_runs.specs.Sheets.{Breaks, IsLegal, IsRefusal as IsRefereeRefusal}
-use Rattle.rr_runs.proofs.LawLemmas.{most_of_all, none_broken, one_clause}
-use Rattle.rr_runs.proofs.RevenueLemmas.{legal_earns}
+use Rattle.rr_routes.specs.declared.sheets.sheet.TrainWord.{TrainWord}
+use Rattle.rr_routes.specs.Sheets.Sheet.{SpellsSheet, SpellsSomeSheet}
+use Rattle.rr_routes.proofs.SheetsLemmas.FormLemmas.{sheet_in-spelled}
+use Rattle.rr_routes.proofs.SheetsLemmas.SameLemmas.{accepted_also}
+use Rattle.rr_routes.proofs.SheetsLemmas.SheetLemmas.{one_sheet}
+use Rattle.rr_running.specs.Net.Running.{net_of}
+use Rattle.rr_referee.specs.declared.clause.Clause.{Clause}
+use Rattle.rr_referee.specs.declared.clause.Clause.TheVariants.{WrongWord}
+use Rattle.rr_referee.specs.declared.fault.Fault as runs
+use Rattle.rr_referee.specs.Revenue.{revenue_of}
+use Rattle.rr_referee.specs.Sheets.{Breaks, IsLegal, IsRefusal as IsRefereeRefusal}
+use Rattle.rr_referee.proofs.LawLemmas.{most_of_all, none_broken, one_clause}
+use Rattle.rr_referee.proofs.RevenueLemmas.{legal_earns}
 use Rattle.rr_running.specs.Fault.{of_runs}
 use Rattle.rr_running.specs.Running.{IsBestVerdictOn, is_best, is_refused, is_unshown, IsCertificateRefusal, IsVerdictOn, is_broken, is_run, is_unread, Shows, ShowsNot, earned_on}
 use Rattle.rr_running.specs.declared.fault.Fault.{Fault}

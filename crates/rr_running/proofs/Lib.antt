@@ -1,3 +1,4 @@
 pub mod Bound
 pub mod Trains
 pub mod Judged
+pub mod NetLemmas

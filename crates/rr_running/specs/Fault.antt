@@ -1,7 +1,7 @@
 -- The refusals of runs, and those of the referee among them.
 use Rattle.std.specs.Prelude.{ℕ}
-use Rattle.rr_runs.specs.declared.fault.Fault as runs
-use Rattle.rr_runs.specs.declared.fault.Fault.TheVariants as R
+use Rattle.rr_referee.specs.declared.fault.Fault as runs
+use Rattle.rr_referee.specs.declared.fault.Fault.TheVariants as R
 use Rattle.rr_running.specs.declared.fault.Fault.{Fault}
 use Rattle.rr_running.specs.declared.fault.Fault.TheVariants as F
 

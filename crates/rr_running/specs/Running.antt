@@ -7,23 +7,23 @@ use Rattle.rr_roster.specs.Company.{kinds}
 use Rattle.rr_books.specs.declared.parties.Money.{Money}
 use Rattle.rr_books.specs.declared.parties.Place.TheVariants as L
 use Rattle.rr_books.specs.Book.{Book, train_holder}
-use Rattle.rr_board.specs.Plan.{Plan}
+use Rattle.rr_kit.specs.Board.Plan.{Plan}
 use Rattle.rr_kit.specs.declared.kit.Kit.{Kit}
 use Rattle.rr_tiles.specs.declared.supply.Supply.{Supply}
 use Rattle.rr_network.specs.Network.{network}
 use Rattle.rr_routes.specs.Net.{Net}
 use Rattle.rr_routes.specs.Certificates.{Accepts}
 use Rattle.rr_routes.specs.declared.certificate.CertTree.{CertTree}
-use Rattle.rr_sheets.specs.declared.sheet.TrainWord.{TrainWord}
-use Rattle.rr_sheets.specs.Certificate.{Spells}
-use Rattle.rr_sheets.specs.Reading.{sheet_in}
-use Rattle.rr_sheets.specs.Sheet.{SpellsSheet, SpellsSomeSheet}
-use Rattle.rr_runs.specs.declared.clause.Clause.{Clause}
-use Rattle.rr_runs.specs.declared.clause.Clause.TheVariants.{WrongWord}
-use Rattle.rr_runs.specs.Revenue.{revenue_of}
-use Rattle.rr_runs.specs.Sheets.{Breaks, IsLegal}
-use Rattle.rr_net.specs.Running.{net_of}
-use Rattle.rr_operations.specs.Phases.{TrainHolders, phase}
+use Rattle.rr_routes.specs.declared.sheets.sheet.TrainWord.{TrainWord}
+use Rattle.rr_routes.specs.Sheets.Certificate.{Spells}
+use Rattle.rr_routes.specs.Sheets.Reading.{sheet_in}
+use Rattle.rr_routes.specs.Sheets.Sheet.{SpellsSheet, SpellsSomeSheet}
+use Rattle.rr_referee.specs.declared.clause.Clause.{Clause}
+use Rattle.rr_referee.specs.declared.clause.Clause.TheVariants.{WrongWord}
+use Rattle.rr_referee.specs.Revenue.{revenue_of}
+use Rattle.rr_referee.specs.Sheets.{Breaks, IsLegal}
+use Rattle.rr_running.specs.Net.Running.{net_of}
+use Rattle.rr_market.specs.Operations.Phases.{TrainHolders, phase}
 use Rattle.rr_trains.specs.Places.{trains_at}
 use Rattle.rr_desk.specs.Incomes.{dollars}
 use Rattle.rr_running.specs.declared.fault.Fault.{Fault}

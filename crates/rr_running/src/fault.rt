@@ -2,7 +2,7 @@ ghost use Rattle.std.specs.Prelude.{◌≡◌};
 ghost use Rattle.rr_running.specs.Fault.{number_of, of_runs};
 ghost use Rattle.rr_running.specs.declared.fault.Fault.TheVariants.{OutOfMemory};
 
-use rr_runs::Clause;
+use rr_referee::Clause;
 use std::alloc::{AllocError, AllocFailed};
 use thiserror::Error;
 
@@ -33,13 +33,13 @@ impl Fault {
     }
 }
 
-impl From<rr_runs::Fault> for Fault {
+impl From<rr_referee::Fault> for Fault {
     ghost from_gives = { λ fault wrapped. wrapped ≡ of_runs fault };
 
-    fn from(fault: rr_runs::Fault) -> Fault {
+    fn from(fault: rr_referee::Fault) -> Fault {
         match fault {
-            rr_runs::Fault::IllegalSheet(clause) => Fault::IllegalSheet(clause),
-            rr_runs::Fault::OutOfMemory => Fault::OutOfMemory,
+            rr_referee::Fault::IllegalSheet(clause) => Fault::IllegalSheet(clause),
+            rr_referee::Fault::OutOfMemory => Fault::OutOfMemory,
         }
     }
 }

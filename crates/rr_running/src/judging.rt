@@ -2,9 +2,9 @@
 ghost use Rattle.std.specs.Prelude.{◌≡◌, ℕ, ◌≤◌, ◌≤ℤ◌, ◌⊎◌, None, Some, pos, length, IfOk, MatchResult};
 ghost use Rattle.rr_books.specs.Book.{Book};
 ghost use Rattle.rr_desk.specs.Incomes.{dollars};
-ghost use Rattle.rr_position.specs.Position.{IsPositionOf};
+ghost use Rattle.rr_desk.specs.Position.Position.{IsPositionOf};
 ghost use Rattle.rr_routes.specs.Net.{value};
-ghost use Rattle.rr_sheets.specs.Sheet.{SpellsSheet, SpellsSomeSheet};
+ghost use Rattle.rr_routes.specs.Sheets.Sheet.{SpellsSheet, SpellsSomeSheet};
 ghost use Rattle.rr_running.specs.Running.{IsBestRunVerdict, IsCertificateRefusal, IsRunVerdict, IsVerdictOn, Shows, earned_on, net_now, run_revenue};
 
 use crate::fault::Fault;
@@ -13,8 +13,8 @@ use rr_books::{Corp, Money};
 use rr_checker::{Net, check};
 use rr_desk::Position;
 use rr_kit::Kit;
-use rr_runs::{Clause, legal};
-use rr_sheets::{Sheet, read_certificate};
+use rr_referee::{Clause, legal};
+use rr_routes::sheets::{Sheet, read_certificate};
 use std::alloc::Global;
 
 /// A run that is said to earn the most.
@@ -100,7 +100,7 @@ fn sheet_of(alloc: Global, words: &[u8]) -> Result<Sheet, Fault>
 {
     match Sheet::read(alloc, words) {
         Ok(sheet) => Ok(sheet),
-        Err(rr_sheets::Fault::OutOfMemory) => Err(Fault::OutOfMemory),
+        Err(rr_routes::sheets::Fault::OutOfMemory) => Err(Fault::OutOfMemory),
         Err(_) => Err(Fault::IllegalSheet(Clause::WrongWord)),
     }
 }
@@ -113,7 +113,7 @@ fn judge_certificate(alloc: Global, net: &Net, earned: usize, text: &[u8]) -> Re
 {
     let tree = match read_certificate(alloc, net.trains().len(), text) {
         Ok(tree) => tree,
-        Err(rr_sheets::Fault::OutOfMemory) => return Err(Fault::OutOfMemory),
+        Err(rr_routes::sheets::Fault::OutOfMemory) => return Err(Fault::OutOfMemory),
         Err(_) => return Err(Fault::CertificateRefused),
     };
     if !check(alloc, net, earned, &tree)? {

@@ -8,9 +8,10 @@
 mod fault;
 mod judging;
 pub mod laws;
+pub mod net;
 mod nets;
 
 pub use fault::Fault;
 pub use judging::{BestRun, judge_best_run, judge_run};
 pub use nets::{kinds_held, net_now};
-pub use rr_runs::{Clause, Net, Sheet};
+pub use rr_referee::{Clause, Net, Sheet};

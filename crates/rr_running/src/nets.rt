@@ -2,15 +2,15 @@
 ghost use Rattle.std.specs.Prelude.{◌≡◌, ℕ, ◌≤◌, ◌++◌, length, IfOk, OnOk, vec_len, ◌+◌};
 ghost use Rattle.rr_books.specs.Book.{Book, train_holder};
 ghost use Rattle.rr_books.specs.State.{IsStateOf, train_place_of};
-ghost use Rattle.rr_position.specs.Position.{IsPositionOf};
+ghost use Rattle.rr_desk.specs.Position.Position.{IsPositionOf};
 ghost use Rattle.rr_routes.specs.Net.{value};
 ghost use Rattle.rr_running.specs.Running.{kinds_held, net_now, of_kind};
 
+use crate::net::net_on_board;
 use rr_books::{Books, Corp, Kind, Place};
 use rr_checker::Net;
 use rr_desk::Position;
 use rr_kit::Kit;
-use rr_net::net_on_board;
 use rr_trains::{phase, trains_at};
 use std::alloc::{AllocError, Global};
 

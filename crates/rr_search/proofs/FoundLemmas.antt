@@ -25,8 +25,8 @@ use Rattle.rr_checker.specs.Own.{is_of, is_others, AreLinksWith, is_shared}
 use Rattle.rr_checker.specs.Runs.{IsOwnTrip, NoRunKeeps}
 use Rattle.rr_checker.specs.Trips.{IsTripOver}
 use Rattle.rr_checker.proofs.FullLemmas.{shared_none, no_journey, own_trip}
-use Rattle.rr_sheets.specs.declared.sheet.TrainWord.{TrainWord}
-use Rattle.rr_runs.specs.Sheets.{IsLegal, IsSheetOf, limit_of_kind}
+use Rattle.rr_routes.specs.declared.sheets.sheet.TrainWord.{TrainWord}
+use Rattle.rr_referee.specs.Sheets.{IsLegal, IsSheetOf, limit_of_kind}
 use Rattle.rr_search.specs.declared.found.Found.{Found}
 use Rattle.rr_search.specs.Found.{IsCertified, AreKinds, AreOwnTrips, HasNoSheet, IsSheetFor, IsSound, EarnsAtLeast, IsBestUnder, trip_along}
 use Rattle.rr_search.specs.Orientation.{is_backward, ascending}

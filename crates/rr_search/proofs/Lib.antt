@@ -2,3 +2,4 @@ mod FoundLemmas
 mod Oriented
 mod Reversal
 mod WholeLemmas
+pub mod BestRunLemmas

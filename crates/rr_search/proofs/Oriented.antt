@@ -15,10 +15,10 @@ use Rattle.rr_routes.specs.Routes.{Trip, no_trip, trip_of, Route, Run, centres, 
 use Rattle.rr_checker.specs.declared.trips.Journey.{Journey}
 use Rattle.rr_checker.proofs.StepLemmas.{yes, no}
 use Rattle.rr_checker.proofs.FullLemmas.{is_run_now}
-use Rattle.rr_sheets.specs.declared.sheet.TrainWord.{TrainWord}
-use Rattle.rr_runs.specs.declared.clause.Clause.{Clause}
-use Rattle.rr_runs.specs.Sheets.{Ascends, IsWordOf, IsSheetOf, IsLegal, Breaks}
-use Rattle.rr_runs.proofs.LawLemmas.{none_broken}
+use Rattle.rr_routes.specs.declared.sheets.sheet.TrainWord.{TrainWord}
+use Rattle.rr_referee.specs.declared.clause.Clause.{Clause}
+use Rattle.rr_referee.specs.Sheets.{Ascends, IsWordOf, IsSheetOf, IsLegal, Breaks}
+use Rattle.rr_referee.proofs.LawLemmas.{none_broken}
 use Rattle.rr_search.specs.Found.{AreKinds, AreOwnTrips, IsSheetFor, trip_along}
 use Rattle.rr_search.specs.Orientation.{reversed, is_backward, ascending, oriented}
 use Rattle.rr_search.specs.Whole.{IsDecidedTo}
@@ -130,7 +130,7 @@ module _ (net : Net) where
         let trip_is : trip_of (map trip_along journeys) train ≡ trip_along journey =
         get_or-map trip_along journeys train journey no_trip inside ∙ ap trip_along (get_or_from_slice_get journeys train journey journey is) in
         subst (λ trip. IsWordOf (limit_of net train) word (oriented trip)) (sym trip_is) (record {
-          kind = ap Rattle.rr_runs.specs.Sheets.limit_of_kind named.0 ∙ are_kinds.each train kind of;
+          kind = ap Rattle.rr_referee.specs.Sheets.limit_of_kind named.0 ∙ are_kinds.each train kind of;
           numbers = named.1 ∙ ap (map suc) (sym (oriented-links (trip_along journey)));
           direction = elim (run_now.lawful train) [
             | inl none ↦ inl (ap (λ (trip : Trip). (oriented trip).links) (sym trip_is ∙ none))

@@ -8,8 +8,8 @@ use Rattle.rr_routes.specs.Certificates.{Keeps}
 use Rattle.rr_checker.specs.declared.trips.Journey.{Journey}
 use Rattle.rr_checker.specs.Runs.{IsOwnTrip}
 use Rattle.rr_checker.specs.Trips.{trip_over}
-use Rattle.rr_sheets.specs.declared.sheet.TrainWord.{TrainWord}
-use Rattle.rr_runs.specs.Sheets.{IsLegal, limit_of_kind}
+use Rattle.rr_routes.specs.declared.sheets.sheet.TrainWord.{TrainWord}
+use Rattle.rr_referee.specs.Sheets.{IsLegal, limit_of_kind}
 pub use Rattle.rr_guesses.specs.Certified.{IsCertified, IsModest}
 use Rattle.rr_search.specs.declared.found.Found.{Found}
 use Rattle.rr_search.specs.Orientation.{ascending}

@@ -2,3 +2,4 @@ pub mod Fault
 pub mod Found
 pub mod Orientation
 pub mod Whole
+pub mod BestRun

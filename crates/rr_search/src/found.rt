@@ -1,5 +1,5 @@
 //! What a search has found so far.
-use rr_sheets::Sheet;
+use rr_routes::sheets::Sheet;
 
 // A legal sheet, and what it earns.
 #[derive(Drop)]

@@ -4,7 +4,7 @@ ghost use Rattle.rr_routes.specs.Net.{limit_of};
 ghost use Rattle.rr_routes.specs.Routes.{Run, earned};
 ghost use Rattle.rr_routes.specs.Certificates.{Keeps};
 ghost use Rattle.rr_checker.specs.Runs.{IsOwnTrip, NoRunKeeps};
-ghost use Rattle.rr_runs.specs.Sheets.{IsLegal};
+ghost use Rattle.rr_referee.specs.Sheets.{IsLegal};
 ghost use Rattle.rr_search.specs.Found.{AreKinds, AreOwnTrips, EarnsAtLeast, IsBestUnder, IsModest, IsSound, trip_along};
 ghost use Rattle.rr_search.specs.Whole.{IsDecidedTo};
 ghost use Rattle.rr_search.specs.declared.fault.Fault.TheVariants.{OutOfMemory};
@@ -15,8 +15,8 @@ use crate::sheets::sheet_of;
 use rr_checker::{
     CentreLimit, Fate, Journey, Net, is_shared, journey_over, others_links, own_links,
 };
+use rr_referee::{Fault as Refusal, legal};
 use rr_roster::Kind;
-use rr_runs::{Fault as Refusal, legal};
 use std::alloc::{AllocError, Global};
 
 // What was found, or the run over the links that each train has, if that earns more.

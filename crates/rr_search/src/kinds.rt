@@ -2,7 +2,7 @@
 ghost use Rattle.std.specs.Prelude.{◌≡◌, ◌<◌, IfOk, MatchOption, length};
 ghost use Rattle.rr_roster.specs.declared.company.Kind.{Kind as KindOfTrain};
 ghost use Rattle.rr_routes.specs.Net.{limit_of};
-ghost use Rattle.rr_runs.specs.Sheets.{limit_of_kind};
+ghost use Rattle.rr_referee.specs.Sheets.{limit_of_kind};
 ghost use Rattle.rr_search.specs.Found.{AreKinds, HasNoSheet};
 
 use rr_checker::{CentreLimit, Net};

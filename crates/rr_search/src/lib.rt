@@ -3,6 +3,7 @@
 //! Stands on `rr_guesses`. Its promise: what `best` answers is a legal sheet with an accepted certificate.
 #![tactic(auto)]
 
+pub mod best_run;
 mod fault;
 mod found;
 mod full;

@@ -11,7 +11,7 @@ use crate::whole::{explore, whole_fits, whole_tree};
 use rr_checker::{CertTree, Fate, Net};
 use rr_guesses::guess;
 use rr_roster::Kind;
-use rr_sheets::Sheet;
+use rr_routes::sheets::Sheet;
 use std::alloc::Global;
 
 /// A legal sheet of the net's trains, and a certificate of at most `limit` nodes that no legal sheet earns more.

@@ -6,7 +6,7 @@ ghost use Rattle.rr_checker.specs.declared.trips.Journey.{Journey as Way};
 
 use rr_checker::Journey;
 use rr_roster::Kind;
-use rr_sheets::{LinkNumbers, Sheet, TrainWord};
+use rr_routes::sheets::{LinkNumbers, Sheet, TrainWord};
 use std::alloc::{AllocError, Global};
 
 // A word for each journey, of the train's kind.

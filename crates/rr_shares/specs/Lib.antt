@@ -4,3 +4,4 @@ pub mod Effects
 pub mod Presidents
 pub mod Sales
 pub mod WorkedHeirs
+pub mod Limits

@@ -8,6 +8,7 @@ mod floating;
 mod giving;
 mod holdings;
 pub mod laws;
+pub mod limits;
 mod selling;
 mod succession;
 

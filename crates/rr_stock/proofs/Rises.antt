@@ -7,7 +7,7 @@ use Rattle.rr_books.specs.declared.entries.Cell.{Cell}
 use Rattle.rr_books.specs.Book.{Book, holder}
 use Rattle.rr_desk.specs.Effects.{in_turn}
 use Rattle.rr_market.specs.Moves.{mark_at, sold_out_marks}
-use Rattle.rr_position.specs.Position.{IsPositionOf}
+use Rattle.rr_desk.specs.Position.Position.{IsPositionOf}
 use Rattle.rr_desk.specs.Desk.{OnDesk, Takes}
 use Rattle.rr_desk.proofs.Taking.{takes_nothing, takes_same}
 use Rattle.rr_stock.specs.Effects.{is_sold_out, marks, rises_if_sold_out}

@@ -4,7 +4,7 @@ use Rattle.std.proofs.Common.{ap, subst}
 use Rattle.rr_chart.specs.Chart.{Row}
 use Rattle.rr_books.specs.declared.acts.Act.{Act}
 use Rattle.rr_books.specs.Book.{Book}
-use Rattle.rr_position.specs.Position.{OnTable, IsPositionOf}
+use Rattle.rr_desk.specs.Position.Position.{OnTable, IsPositionOf}
 use Rattle.rr_stock.specs.declared.fault.Fault.{Fault}
 use Rattle.rr_stock.specs.Rules.{verdict, verdict_in}
 use Rattle.rr_stock.specs.Situation.{Situation, situation_in}

@@ -11,7 +11,7 @@ use Rattle.rr_desk.specs.Effects.{Effect, in_turn}
 use Rattle.rr_market.specs.Marks.{par_of, price_of}
 use Rattle.rr_shares.specs.Effects.{float_if_due, sale_shares}
 use Rattle.rr_rounds.specs.Round.{ends_round, has_floated, progress}
-use Rattle.rr_position.specs.Position.{IsPositionOf}
+use Rattle.rr_desk.specs.Position.Position.{IsPositionOf}
 use Rattle.rr_desk.specs.Desk.{OnDesk, Takes}
 use Rattle.rr_desk.proofs.Taking.{takes_nothing, takes_same, takes_then}
 use Rattle.rr_stock.specs.Effects.{buys_share, ends_if, ends_turn, gets_share, gives_up_private, pays_seller, proceeds, says, sells, sets_par, settles_corporation, swaps, takes_presidency}

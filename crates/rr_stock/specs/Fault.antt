@@ -1,7 +1,7 @@
 -- The refusals of the stock rounds, and those of the rules on holdings as refusals of the stock rounds.
 use Rattle.std.specs.Prelude.{ℕ}
-use Rattle.rr_holdings.specs.declared.fault.Fault as holdings
-use Rattle.rr_holdings.specs.declared.fault.Fault.TheVariants as H
+use Rattle.rr_shares.specs.declared.limits.fault.Fault as holdings
+use Rattle.rr_shares.specs.declared.limits.fault.Fault.TheVariants as H
 use Rattle.rr_stock.specs.declared.fault.Fault.{Fault}
 use Rattle.rr_stock.specs.declared.fault.Fault.TheVariants as F
 

@@ -23,8 +23,8 @@ use Rattle.rr_market.specs.Moves.{is_par}
 use Rattle.rr_rounds.specs.declared.purchases.Purchases.{Purchases}
 use Rattle.rr_rounds.specs.declared.purchases.Purchases.TheVariants as U
 use Rattle.rr_rounds.specs.Round.{Round, has_sold, is_first, may_buy_again}
-use Rattle.rr_holdings.specs.Limits.{would_be_over_certificates, would_be_over_sixty}
-use Rattle.rr_holdings.specs.Sales.{must_sell_first, sell_verdict}
+use Rattle.rr_shares.specs.Limits.Limits.{would_be_over_certificates, would_be_over_sixty}
+use Rattle.rr_shares.specs.Limits.Sales.{must_sell_first, sell_verdict}
 use Rattle.rr_stock.specs.declared.fault.Fault.{Fault}
 use Rattle.rr_stock.specs.declared.fault.Fault.TheVariants as F
 use Rattle.rr_stock.specs.Fault.{of_holdings}

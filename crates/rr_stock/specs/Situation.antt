@@ -8,8 +8,8 @@ use Rattle.rr_books.specs.State.{cash_of}
 use Rattle.rr_market.specs.Marks.{par_of, price_at}
 use Rattle.rr_market.specs.State.{first_in}
 use Rattle.rr_rounds.specs.Round.{Round, progress}
-use Rattle.rr_position.specs.Position.{OnTable}
-use Rattle.rr_holdings.specs.Holdings.{Holdings, holdings_of, holdings_in}
+use Rattle.rr_desk.specs.Position.Position.{OnTable}
+use Rattle.rr_shares.specs.Limits.Holdings.{Holdings, holdings_of, holdings_in}
 
 -- the money of each party
 abbrev pub Accounts : Type 0

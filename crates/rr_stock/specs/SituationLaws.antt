@@ -9,8 +9,8 @@ use Rattle.rr_books.specs.State.{cash_of}
 use Rattle.rr_market.specs.Marks.{first_mark_of, price_at}
 use Rattle.rr_market.specs.State.{first_in}
 use Rattle.rr_rounds.specs.Round.{progress}
-use Rattle.rr_position.specs.Position.{OnTable, IsPositionOf}
-use Rattle.rr_holdings.specs.HoldingLaws.{holdings-of_book}
+use Rattle.rr_desk.specs.Position.Position.{OnTable, IsPositionOf}
+use Rattle.rr_shares.specs.Limits.HoldingLaws.{holdings-of_book}
 use Rattle.rr_stock.specs.Situation.{situation_of, situation_in}
 
 pub situation-of_book : (rows : List Row) (book : Book) (p : OnTable) → IsPositionOf book p → situation_in rows p ≡ situation_of rows book

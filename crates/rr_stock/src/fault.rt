@@ -66,14 +66,14 @@ impl Fault {
     }
 }
 
-impl From<rr_holdings::Fault> for Fault {
+impl From<rr_shares::limits::Fault> for Fault {
     ghost from_gives = { λ fault wrapped. wrapped ≡ of_holdings fault };
 
-    fn from(fault: rr_holdings::Fault) -> Fault {
+    fn from(fault: rr_shares::limits::Fault) -> Fault {
         match fault {
-            rr_holdings::Fault::NotForSale => Fault::NotForSale,
-            rr_holdings::Fault::FirstStockRound => Fault::FirstStockRound,
-            rr_holdings::Fault::PoolOverHalf => Fault::PoolOverHalf,
+            rr_shares::limits::Fault::NotForSale => Fault::NotForSale,
+            rr_shares::limits::Fault::FirstStockRound => Fault::FirstStockRound,
+            rr_shares::limits::Fault::PoolOverHalf => Fault::PoolOverHalf,
         }
     }
 }

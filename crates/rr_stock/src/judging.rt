@@ -4,7 +4,7 @@ ghost use Rattle.rr_books.specs.State.{cash_of, holder_in};
 ghost use Rattle.rr_market.specs.Marks.{price_at, zone_at};
 ghost use Rattle.rr_market.specs.Moves.{is_par};
 ghost use Rattle.rr_market.specs.State.{cell_in, first_in};
-ghost use Rattle.rr_position.specs.Position.{IsPositionOf};
+ghost use Rattle.rr_desk.specs.Position.Position.{IsPositionOf};
 ghost use Rattle.rr_rounds.specs.Round.{may_buy_again};
 ghost use Rattle.rr_stock.specs.Rules.{done_verdict, has_share, is_brown, is_purchase, must_sell, par_verdict, purchase_verdict, sale_verdict, swap_verdict, turn_verdict, verdict, verdict_in};
 ghost use Rattle.rr_stock.specs.Situation.{situation_in};
@@ -15,9 +15,11 @@ use crate::reading::{place_of_source, share_price};
 use rr_books::{Act, Books, Cert, Corp, Party, Place, Private, Seat, ShareSource};
 use rr_chart::{Chart, Zone};
 use rr_desk::{Position, lowest_share};
-use rr_holdings::{judge_sell, must_sell_first, would_be_over_certificates, would_be_over_sixty};
 use rr_market::{Market, par_cell};
 use rr_rounds::{Purchases, Rounds};
+use rr_shares::limits::{
+    judge_sell, must_sell_first, would_be_over_certificates, would_be_over_sixty,
+};
 
 /// Whether a stock round takes the command now.
 ///

@@ -6,7 +6,7 @@ ghost use Rattle.rr_market.specs.Marks.{par_of, price_at, price_of};
 ghost use Rattle.rr_market.specs.Moves.{mark_at, sale_marks, sold_out_marks};
 ghost use Rattle.rr_market.specs.State.{cell_in, first_in};
 ghost use Rattle.rr_market.specs.Order.{operating_order};
-ghost use Rattle.rr_position.specs.Position.{IsPositionOf};
+ghost use Rattle.rr_desk.specs.Position.Position.{IsPositionOf};
 ghost use Rattle.rr_rounds.specs.Round.{ends_round, has_floated, progress};
 ghost use Rattle.rr_stock.specs.Effects.{is_sold_out};
 ghost use Rattle.rr_stock.specs.Rules.{place_of_source, price_by_source};

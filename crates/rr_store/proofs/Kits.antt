@@ -1,7 +1,7 @@
 -- Texts of a right kit aren't wrong.
 use Rattle.std.proofs.Common.{◌≡◌, ◌≢◌, inl, inr, subst, arith, Err}
 use Rattle.std.proofs.lemmas.Str.{IsUtf8-from_ascii}
-use Rattle.rr_board.specs.declared.fault.Fault.TheVariants as B
+use Rattle.rr_kit.specs.declared.board.fault.Fault.TheVariants as B
 use Rattle.rr_chart.specs.declared.fault.Fault.TheVariants as H
 use Rattle.rr_kit.specs.declared.fault.Fault.{Fault}
 use Rattle.rr_kit.specs.declared.fault.Fault.TheVariants as F

@@ -3,8 +3,8 @@ use Rattle.std.proofs.Common.{◌≡◌, ℕ, ◌==◌, Bool, true, false, not, 
 use Rattle.std.proofs.lemmas.Bool.Decides.{nat_tests}
 use Rattle.rr_code.specs.declared.command.Command.{Command}
 use Rattle.rr_code.specs.declared.command.Command.TheVariants.{Open}
-use Rattle.rr_hist.specs.declared.fault.Fault as table
-use Rattle.rr_hist.specs.Verdict.{own_judgement, request_judgement, stamp_verdict}
+use Rattle.rr_game.specs.declared.history.fault.Fault as table
+use Rattle.rr_game.specs.History.Verdict.{own_judgement, request_judgement, stamp_verdict}
 use Rattle.rr_kit.specs.declared.kit.Kit.{Kit}
 use Rattle.rr_tables.specs.declared.records.fault.Fault as rules
 use Rattle.rr_tables.specs.declared.records.fault.Fault.TheVariants as R

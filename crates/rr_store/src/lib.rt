@@ -20,6 +20,6 @@ pub use fault::Fault;
 pub use formatting::format;
 pub use opening::{Refused, open};
 pub use rr_checkpoint::Tick;
-pub use rr_hist::Table;
+pub use rr_game::history::Table;
 pub use store::Store;
 pub use texts::Texts;

@@ -10,11 +10,11 @@ use Rattle.rr_code.specs.declared.command.Command.TheVariants.{Open}
 use Rattle.rr_code.specs.Command.{text}
 use Rattle.rr_code.specs.Players.{ArePlayers, all_different}
 use Rattle.rr_reading.specs.Dir.Kept.{IsShort}
-use Rattle.rr_hist.specs.declared.change.Change.{Change}
-use Rattle.rr_hist.specs.Changing.{IsChangeBy, kept_with}
-use Rattle.rr_hist.specs.Laws.{AcceptedTurnsAreKept}
-use Rattle.rr_hist.specs.Playing.{ends_turn}
-use Rattle.rr_hist.specs.Verdict.{request_judgement}
+use Rattle.rr_game.specs.declared.history.change.Change.{Change}
+use Rattle.rr_game.specs.History.Changing.{IsChangeBy, kept_with}
+use Rattle.rr_game.specs.History.Laws.{AcceptedTurnsAreKept}
+use Rattle.rr_game.specs.History.Playing.{ends_turn}
+use Rattle.rr_game.specs.History.Verdict.{request_judgement}
 use Rattle.rr_kit.specs.declared.kit.Kit.{Kit}
 use Rattle.rr_turns.specs.declared.request.Request.{Request}
 use Rattle.rr_turns.specs.declared.request.Request.TheVariants.{Play, Back, Forget}

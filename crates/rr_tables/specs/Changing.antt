@@ -2,10 +2,10 @@
 use Rattle.std.specs.Prelude.{Option, None, Some}
 use Rattle.std.specs.Global.{Box}
 use Rattle.rr_code.specs.declared.command.Command.{Command}
-use Rattle.rr_hist.specs.declared.change.Change.{Change}
-use Rattle.rr_hist.specs.declared.table.Table.{Table}
-use Rattle.rr_hist.specs.Changing.{IsChangeBy, kept_with}
-use Rattle.rr_hist.specs.Tables.{kept_in}
+use Rattle.rr_game.specs.declared.history.change.Change.{Change}
+use Rattle.rr_game.specs.declared.history.table.Table.{Table}
+use Rattle.rr_game.specs.History.Changing.{IsChangeBy, kept_with}
+use Rattle.rr_game.specs.History.Tables.{kept_in}
 use Rattle.rr_kit.specs.declared.kit.Kit.{Kit}
 use Rattle.rr_turns.specs.declared.request.Request.{Request}
 use Rattle.rr_tables.specs.Writable.{IsWritable}

@@ -1,8 +1,8 @@
 -- Tables in memory, as the world that they are.
 use Rattle.std.specs.Prelude.{ℕ, List, map}
 use Rattle.std.specs.Global.{Box}
-use Rattle.rr_hist.specs.declared.table.Table.{Table}
-use Rattle.rr_hist.specs.Tables.{kept_in}
+use Rattle.rr_game.specs.declared.history.table.Table.{Table}
+use Rattle.rr_game.specs.History.Tables.{kept_in}
 use Rattle.rr_tables.specs.Records.World.{TableState, World}
 use Rattle.rr_tables.specs.declared.tables.Tables.{Tables}
 

@@ -2,7 +2,7 @@
 ghost use Rattle.std.specs.Prelude.{◌≡◌, ◌+◌, ◌<◌, ◌≤◌, All, length, map, slice_get, IfOk, IfErr, OnOk, Some};
 ghost use Rattle.rr_code.specs.Command.{text};
 ghost use Rattle.rr_reading.specs.Dir.Kept.{IsShort};
-ghost use Rattle.rr_hist.specs.Tables.{kept_in};
+ghost use Rattle.rr_game.specs.History.Tables.{kept_in};
 ghost use Rattle.rr_tables.specs.Records.Words.{table_in_words};
 ghost use Rattle.rr_checkpoint.specs.Plan.Transcript.{commands_of, table_of};
 ghost use Rattle.rr_tables.specs.InWords.{with_commands};
@@ -11,7 +11,7 @@ ghost use Rattle.rr_tables.specs.Writable.{IsWritable};
 
 use crate::Tables;
 use rr_checkpoint::plan::{TableTranscript, Transcript};
-use rr_hist::{Spelled, Table};
+use rr_game::history::{Spelled, Table};
 use rr_log::TablesInWords;
 use rr_pages::Fault;
 use rr_words::Name;

@@ -5,7 +5,7 @@ ghost use Rattle.rr_tables.specs.Tables.{world_of};
 
 use crate::Tables;
 use rr_code::Command;
-use rr_hist::Request;
+use rr_game::history::Request;
 use rr_log::Fault;
 use rr_words::Name;
 

@@ -5,9 +5,9 @@ ghost use Rattle.rr_code.specs.Command.{text};
 ghost use Rattle.rr_code.specs.Request.{IsRequest, record_text};
 ghost use Rattle.rr_code.specs.declared.command.Command.{Command as Line};
 ghost use Rattle.rr_reading.specs.Dir.Kept.{IsShort};
-ghost use Rattle.rr_hist.specs.Changing.{Fits, IsChangeBy, kept_with};
-ghost use Rattle.rr_hist.specs.Playing.{ends_turn};
-ghost use Rattle.rr_hist.specs.Tables.{IsPlayed, kept_in};
+ghost use Rattle.rr_game.specs.History.Changing.{Fits, IsChangeBy, kept_with};
+ghost use Rattle.rr_game.specs.History.Playing.{ends_turn};
+ghost use Rattle.rr_game.specs.History.Tables.{IsPlayed, kept_in};
 ghost use Rattle.rr_kit.specs.declared.kit.Kit.{Kit as AnyKit};
 ghost use Rattle.rr_tables.specs.Records.World.{judgement_in, opening_verdict, state_after, step_judgement, table_named, world_after};
 ghost use Rattle.rr_tables.specs.declared.records.fault.Fault.TheVariants as R;
@@ -23,7 +23,7 @@ use crate::records::Fault as Refusal;
 use crate::tables::MOST_TABLES;
 use crate::{Fault, Journal, Tables};
 use rr_code::{Command, Players};
-use rr_hist::{Change, Request, Table};
+use rr_game::history::{Change, Request, Table};
 use rr_kit::Kit;
 use rr_words::Name;
 use std::alloc::Global;
@@ -216,7 +216,7 @@ fn judge_at(
         (MayFind (step_judgement kit.now (Some (kept_in table.now)) stamp request.now) R.OutOfMemory) }
     ensures change { IfOk result (λ change. IsWritableChange kit.now table.now request.now change) }
 {
-    rr_hist::laws::accepted_turns_are_kept();
+    rr_game::history::laws::accepted_turns_are_kept();
     let change = table.judge(alloc, stamp, request, kit)?;
     if adds_long_command(&change) {
         return Err(Refusal::OutOfMemory);

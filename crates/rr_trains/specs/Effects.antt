@@ -15,7 +15,7 @@ use Rattle.rr_books.specs.declared.entries.Entry.TheVariants as E
 use Rattle.rr_books.specs.Book.{Book, holder, train_holder}
 use Rattle.rr_books.specs.Same.{same_place}
 use Rattle.rr_desk.specs.Effects.{Effect, in_turn}
-use Rattle.rr_operations.specs.Phases.{train, train_numbers}
+use Rattle.rr_market.specs.Operations.Phases.{train, train_numbers}
 use Rattle.rr_trains.specs.Places.{lowest_train}
 
 abbrev pub moves_train_if : Option Train → Place → Book

@@ -5,3 +5,4 @@ pub mod Sales
 pub mod SaleLaws
 pub mod Effects
 pub mod WorkedTrains
+pub mod Depot

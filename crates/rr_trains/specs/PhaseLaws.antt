@@ -5,7 +5,7 @@ use Rattle.std.proofs.lemmas.Bool.{false≢true}
 use Rattle.rr_roster.specs.declared.company.Kind.{Kind}
 use Rattle.rr_roster.specs.declared.company.Kind.TheVariants as K
 use Rattle.rr_roster.specs.Company.{kind_index}
-use Rattle.rr_operations.specs.Phases.{TrainHolders, greatest_first, is_sold, phase}
+use Rattle.rr_market.specs.Operations.Phases.{TrainHolders, greatest_first, is_sold, phase}
 
 -- no kind greater than the phase was sold, and one greater than the 2 is the phase only where it was sold
 pub record PhaseIsTheGreatestSold : Type 0 where

@@ -4,7 +4,7 @@ use Rattle.rr_roster.specs.declared.company.Corp.{Corp}
 use Rattle.rr_roster.specs.declared.company.Kind.{Kind}
 use Rattle.rr_roster.specs.declared.company.Kind.TheVariants as K
 use Rattle.rr_books.specs.declared.parties.Place.TheVariants as L
-use Rattle.rr_operations.specs.Phases.{TrainHolders, phase}
+use Rattle.rr_market.specs.Operations.Phases.{TrainHolders, phase}
 use Rattle.rr_trains.specs.Places.{trains_held}
 
 -- how many trains a corporation may have: four, from the first 4 on three, from the first 5 on two

@@ -9,7 +9,7 @@ use Rattle.rr_books.specs.declared.acts.TrainSource.{TrainSource}
 use Rattle.rr_books.specs.declared.acts.TrainSource.TheVariants as S
 use Rattle.rr_books.specs.declared.parties.Place.{Place}
 use Rattle.rr_books.specs.declared.parties.Place.TheVariants as L
-use Rattle.rr_operations.specs.Phases.{TrainHolders, is_sold}
+use Rattle.rr_market.specs.Operations.Phases.{TrainHolders, is_sold}
 use Rattle.rr_trains.specs.declared.prices.TrainOnSale.{TrainOnSale}
 use Rattle.rr_trains.specs.Places.{has_train_at}
 

@@ -13,7 +13,7 @@ use Rattle.rr_books.specs.declared.certificates.Cert.TheVariants as Cert
 use Rattle.rr_books.specs.declared.entries.Entry.TheVariants as E
 use Rattle.rr_books.specs.Book.{Book, train_holder}
 use Rattle.rr_books.specs.Opening.{opening_trains}
-use Rattle.rr_operations.specs.Phases.{phase, rounds_in_set, train}
+use Rattle.rr_market.specs.Operations.Phases.{phase, rounds_in_set, train}
 use Rattle.rr_trains.specs.Places.{trains_held}
 use Rattle.rr_trains.specs.Phases.{is_over_train_limit, train_limit}
 use Rattle.rr_trains.specs.Sales.{cheapest, is_on_sale}

@@ -5,6 +5,7 @@
 //! its definition.
 #![tactic(auto)]
 
+pub mod depot;
 mod firsts;
 pub mod laws;
 mod phases;
@@ -18,5 +19,5 @@ pub use places::{has_train_at, lowest_train, trains_at, trains_held};
 pub use prices::{TrainOnSale, cheapest, is_traded_in, price, trade_price};
 pub use rr_books::{Books, Corp, Kind, Place, Train, TrainSource};
 pub use rr_desk::Desk;
-pub use rr_operations::{is_sold, phase, rounds_in_set};
+pub use rr_market::operations::{is_sold, phase, rounds_in_set};
 pub use sales::is_on_sale;

@@ -5,7 +5,7 @@ ghost use Rattle.rr_trains.specs.Phases.{is_over_train_limit, sells_privates, tr
 
 use crate::places::trains_held;
 use rr_books::{Books, Corp, Kind, Place};
-use rr_operations::phase;
+use rr_market::operations::phase;
 
 /// How many trains a corporation may have in the phase.
 pub fn train_limit(phase: Kind) -> u8

@@ -5,7 +5,7 @@ ghost use Rattle.rr_trains.specs.Sales.{are_smaller_sold, is_early_diesel, is_no
 
 use crate::places::has_train_at;
 use rr_books::{Books, Kind, Place, TrainSource};
-use rr_operations::is_sold;
+use rr_market::operations::is_sold;
 
 /// Whether a train of the kind is on sale there: in the pool any that is there, in the bank one of the offer once all
 /// smaller kinds are sold, a D also once a 6 was sold.

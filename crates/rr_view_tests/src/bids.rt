@@ -1,10 +1,10 @@
 //! The bids of an auction, entry by entry.
 ghost use Rattle.std.specs.Prelude.{◌≡◌, ◌≤◌, true};
-ghost use Rattle.rr_bids.specs.Progress.{amount_bid};
+ghost use Rattle.rr_rounds.specs.Bids.Progress.{amount_bid};
 
 use crate::opening::books;
-use rr_bids::{Bidding, cheapest, is_cheapest, is_unsold, same_private};
 use rr_books::{Act, Books, Cert, Entry, Marker, Place, Private, Seat};
+use rr_rounds::bids::{Bidding, cheapest, is_cheapest, is_unsold, same_private};
 use std::process::Abort;
 
 const A: Seat = Seat(0);

@@ -1,7 +1,7 @@
 //! The tiles and tokens on the board, entry by entry.
 use crate::opening::check;
 use rr_books::{Corp, Entry, Marker};
-use rr_layout::{Layout, MOST_LAYS};
+use rr_desk::layout::{Layout, MOST_LAYS};
 use rr_words::HexName;
 use std::process::Abort;
 

@@ -2,9 +2,9 @@
 use crate::layout::hex;
 use crate::opening::{check, position};
 use rr_books::{Act, Cell, Corp, Entry, Fault, Kind, Marker, Place, Seat, Train};
-use rr_layout::MOST_LAYS;
-use rr_operations::Stage;
-use rr_position::laws::most_entries;
+use rr_desk::layout::MOST_LAYS;
+use rr_desk::position::laws::most_entries;
+use rr_market::operations::Stage;
 
 #[test]
 fn each_view_follows_the_entries(rt: HostRuntime) {

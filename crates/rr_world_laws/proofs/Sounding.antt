@@ -14,15 +14,15 @@ use Rattle.rr_books.specs.declared.parties.Place.TheVariants as L
 use Rattle.rr_books.specs.declared.parties.Seat.{Seat}
 use Rattle.rr_books.specs.Book.{Book, holder}
 use Rattle.rr_shares.specs.Presidents.{NobodyHasMore}
-use Rattle.rr_sound.specs.Presidencies.{HasGreatestPresidents, IsLed, IsOffered}
+use Rattle.rr_laws.specs.Soundness.Presidencies.{HasGreatestPresidents, IsLed, IsOffered}
 use Rattle.rr_kit.specs.declared.kit.Kit.{Kit}
 use Rattle.rr_rules.specs.State.{GameState}
 use Rattle.rr_game.specs.Play.{opened_state, play, played_on, players_of}
 use Rattle.rr_game.specs.Verdict.{command_judgement}
-use Rattle.rr_hist.specs.Fault.{of_game}
-use Rattle.rr_hist.specs.Playing as hist
-use Rattle.rr_hist.specs.Playing.{IsLawfulAfter, ends_turn, game_judgement}
-use Rattle.rr_hist.specs.Verdict.{own_judgement, request_judgement, room_verdict, stamp_verdict}
+use Rattle.rr_game.specs.History.Fault.{of_game}
+use Rattle.rr_game.specs.History.Playing as hist
+use Rattle.rr_game.specs.History.Playing.{IsLawfulAfter, ends_turn, game_judgement}
+use Rattle.rr_game.specs.History.Verdict.{own_judgement, request_judgement, room_verdict, stamp_verdict}
 use Rattle.rr_turns.specs.declared.request.Request.{Request}
 use Rattle.rr_turns.specs.declared.request.Request.TheVariants.{Play, Back, Forget}
 use Rattle.rr_turns.specs.Judgement.{IsVerdict, judgement_map}

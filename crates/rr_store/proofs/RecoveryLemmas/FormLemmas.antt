@@ -7,10 +7,10 @@ use Rattle.rr_code.specs.declared.command.Command.{Command}
 use Rattle.rr_code.proofs.UnspacedLemmas.{request-some, request-unspaced}
 use Rattle.rr_roster.specs.declared.company.Corp.{Corp}
 use Rattle.rr_roster.specs.Company.{corp_name}
-use Rattle.rr_scan.specs.Company.{corp_of}
-use Rattle.rr_scan.proofs.SpelledLemmas.{corp_of-name}
-use Rattle.rr_scan.proofs.UnspacedLemmas.{corp-unspaced}
-use Rattle.rr_scan.proofs.WordsLemmas.{line_of-words, words_of-line}
+use Rattle.rr_orders.specs.Scan.Company.{corp_of}
+use Rattle.rr_orders.proofs.ScanLemmas.SpelledLemmas.{corp_of-name}
+use Rattle.rr_orders.proofs.ScanLemmas.UnspacedLemmas.{corp-unspaced}
+use Rattle.rr_orders.proofs.ScanLemmas.WordsLemmas.{line_of-words, words_of-line}
 use Rattle.rr_turns.specs.declared.request.Request.{Request}
 use Rattle.rr_turns.specs.declared.request.Request.TheVariants.{Play, Back, Forget}
 use Rattle.rr_words.specs.Line.{words_of}

@@ -9,14 +9,14 @@ use Rattle.rr_code.specs.Command.{SpellsCommand}
 use Rattle.rr_reading.specs.Dir.Kept.{SpellsKept}
 use Rattle.rr_reading.proofs.DirLemmas.KeptLemmas.{one_kept}
 use Rattle.rr_game.proofs.Playing.{opens}
-use Rattle.rr_hist.specs.declared.fault.Fault as table
-use Rattle.rr_hist.specs.declared.fault.Fault.TheVariants as H
-use Rattle.rr_hist.specs.declared.table.Table.{Table}
-use Rattle.rr_hist.specs.Laws.{RequestsHaveOneVerdict}
-use Rattle.rr_hist.specs.Playing.{ArePlayed, IsLawfulAfter, ends_turn}
-use Rattle.rr_hist.specs.Tables.{IsPlayed, kept_in}
-use Rattle.rr_hist.specs.Verdict.{request_judgement, stamp_verdict}
-use Rattle.rr_hist.proofs.Judging.{has_room, lawful_behind_stamp, lawful_with_room}
+use Rattle.rr_game.specs.declared.history.fault.Fault as table
+use Rattle.rr_game.specs.declared.history.fault.Fault.TheVariants as H
+use Rattle.rr_game.specs.declared.history.table.Table.{Table}
+use Rattle.rr_game.specs.History.Laws.{RequestsHaveOneVerdict}
+use Rattle.rr_game.specs.History.Playing.{ArePlayed, IsLawfulAfter, ends_turn}
+use Rattle.rr_game.specs.History.Tables.{IsPlayed, kept_in}
+use Rattle.rr_game.specs.History.Verdict.{request_judgement, stamp_verdict}
+use Rattle.rr_game.proofs.HistoryLemmas.Judging.{has_room, lawful_behind_stamp, lawful_with_room}
 use Rattle.rr_kit.specs.declared.kit.Kit.{Kit}
 use Rattle.rr_tables.specs.Records.Words.{SpellCommands}
 use Rattle.rr_turns.specs.declared.request.Request.TheVariants.{Play}

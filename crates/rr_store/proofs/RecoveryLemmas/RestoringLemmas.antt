@@ -7,9 +7,9 @@ use Rattle.rr_code.specs.declared.command.Command.{Command}
 use Rattle.rr_reading.specs.Dir.Kept.{IsShort}
 use Rattle.rr_reading.specs.declared.dir.directory.TableEntry.{TableEntry}
 use Rattle.rr_reading.specs.Dir.Directory.{AreTables, HaveOwnNames, IsTable}
-use Rattle.rr_hist.specs.declared.table.Table.{Table}
-use Rattle.rr_hist.specs.Playing.{ends_turn}
-use Rattle.rr_hist.specs.Tables.{kept_in}
+use Rattle.rr_game.specs.declared.history.table.Table.{Table}
+use Rattle.rr_game.specs.History.Playing.{ends_turn}
+use Rattle.rr_game.specs.History.Tables.{kept_in}
 use Rattle.rr_images.specs.Holding.{HeldChain}
 use Rattle.rr_kit.specs.declared.kit.Kit.{Kit}
 use Rattle.rr_pages.specs.declared.reading.ReadChain.{ReadChain}

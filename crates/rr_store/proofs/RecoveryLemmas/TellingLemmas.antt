@@ -1,7 +1,7 @@
 -- What the entries of a directory and their chains tell, table by table.
 use Rattle.std.proofs.Common.{◌≡◌, ◌↔◌, ℕ, zero, suc, ◌<◌, ◌≤◌, List, [], ◌∷◌, ◌++◌, length, drop, get_or, sym, subst, arith}
 use Rattle.rr_reading.specs.declared.dir.directory.TableEntry.{TableEntry}
-use Rattle.rr_hist.specs.Playing.{ends_turn}
+use Rattle.rr_game.specs.History.Playing.{ends_turn}
 use Rattle.rr_images.specs.Holding.{HeldChain}
 use Rattle.rr_kit.specs.declared.kit.Kit.{Kit}
 use Rattle.rr_pages.specs.declared.reading.ReadChain.{ReadChain}

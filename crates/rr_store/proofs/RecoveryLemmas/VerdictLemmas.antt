@@ -4,8 +4,8 @@ use Rattle.rr_code.specs.declared.command.Command.{Command}
 use Rattle.rr_code.specs.declared.command.Command.TheVariants.{Open}
 use Rattle.rr_code.specs.declared.fault.Fault as code
 use Rattle.rr_code.specs.Request.{SpellsRecord}
-use Rattle.rr_hist.specs.Laws.{RequestsHaveOneVerdict}
-use Rattle.rr_hist.specs.Verdict.{request_judgement}
+use Rattle.rr_game.specs.History.Laws.{RequestsHaveOneVerdict}
+use Rattle.rr_game.specs.History.Verdict.{request_judgement}
 use Rattle.rr_kit.specs.declared.kit.Kit.{Kit}
 use Rattle.rr_log.specs.declared.fault.Fault as file
 use Rattle.rr_tables.specs.declared.records.fault.Fault as rules

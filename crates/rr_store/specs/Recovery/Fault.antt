@@ -1,7 +1,7 @@
 -- The numbers of faults, and the clause that a kept command breaks.
 use Rattle.std.specs.Prelude.{ℕ}
-use Rattle.rr_hist.specs.declared.fault.Fault as table
-use Rattle.rr_hist.specs.declared.fault.Fault.TheVariants as H
+use Rattle.rr_game.specs.declared.history.fault.Fault as table
+use Rattle.rr_game.specs.declared.history.fault.Fault.TheVariants as H
 use Rattle.rr_pages.specs.declared.fault.Damage.TheVariants.{Kept}
 use Rattle.rr_store.specs.declared.recovery.fault.Fault.{Fault}
 use Rattle.rr_store.specs.declared.recovery.fault.Fault.TheVariants.{Damaged, OutOfMemory}

@@ -5,9 +5,9 @@ use Rattle.rr_code.specs.declared.command.Command.{Command}
 use Rattle.rr_code.specs.declared.command.Command.TheVariants.{Open}
 use Rattle.rr_reading.specs.declared.dir.directory.TableEntry.{TableEntry}
 use Rattle.rr_reading.specs.Dir.Kept.{SpellsKept}
-use Rattle.rr_hist.specs.declared.table.Table.{Table}
-use Rattle.rr_hist.specs.Playing.{ArePlayed, IsLawfulAfter, ends_turn}
-use Rattle.rr_hist.specs.Tables.{IsPlayed, kept_in}
+use Rattle.rr_game.specs.declared.history.table.Table.{Table}
+use Rattle.rr_game.specs.History.Playing.{ArePlayed, IsLawfulAfter, ends_turn}
+use Rattle.rr_game.specs.History.Tables.{IsPlayed, kept_in}
 use Rattle.rr_kit.specs.declared.kit.Kit.{Kit}
 use Rattle.rr_tables.specs.Records.Words.{SpellCommands}
 use Rattle.rr_turns.specs.declared.request.Request.TheVariants.{Play}

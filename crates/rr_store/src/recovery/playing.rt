@@ -2,13 +2,13 @@
 ghost use Rattle.std.specs.Prelude.{◌≡◌, ◌⊎◌, ◌≤◌, ℕ, List, IfOk, IfErr, OnOk, MatchOption, MatchResult};
 ghost use Rattle.rr_code.specs.Command.{SpellsCommand};
 ghost use Rattle.rr_code.specs.declared.command.Command.{Command as Line};
-ghost use Rattle.rr_hist.specs.Tables.{IsPlayed, kept_in};
+ghost use Rattle.rr_game.specs.History.Tables.{IsPlayed, kept_in};
 ghost use Rattle.rr_store.specs.Recovery.Fault.{of_table};
 ghost use Rattle.rr_store.specs.Recovery.Kept.{HasPlayed, HasRoom, HoldsPlayed, IsBegunBy, IsRestored, IsUnlawfulAfter, SpellsNoOpening};
 
 use crate::recovery::Fault;
 use rr_code::{Command, Players};
-use rr_hist::Table;
+use rr_game::history::Table;
 use rr_kit::Kit;
 use rr_pages::Damage;
 use rr_reading::dir::KeptCommands;
@@ -88,7 +88,7 @@ fn play(alloc: Global, kit: &Kit, table: &mut Table, words: &[u8]) -> Result<(),
         ⊎ ((fault ≡ Fault.Damaged Damage.Kept)
         × (HasRoom table.old → IsUnlawfulAfter kit.now (kept_in table.old).commands words.now))) }
 {
-    rr_hist::laws::requests_have_one_verdict();
+    rr_game::history::laws::requests_have_one_verdict();
     let command = read_command(words)?;
     let stamp = table.stamp();
     match table.step(alloc, stamp, &command, kit) {
@@ -108,11 +108,11 @@ fn read_command<'a>(words: &'a [u8]) -> Result<Command<'a>, Fault>
 }
 
 /// Why a file is refused where a table refuses a command that it keeps.
-fn damage(fault: rr_hist::Fault) -> Fault
+fn damage(fault: rr_game::history::Fault) -> Fault
     ensures { result ≡ of_table fault }
 {
     match fault {
-        rr_hist::Fault::OutOfMemory => Fault::OutOfMemory,
+        rr_game::history::Fault::OutOfMemory => Fault::OutOfMemory,
         _ => UNPLAYED,
     }
 }

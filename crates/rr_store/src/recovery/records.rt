@@ -70,7 +70,7 @@ fn replay_record(alloc: Global, tables: &mut Tables, bytes: &[u8]) -> Result<(),
         ⊎ ((fault ≡ Fault.Damaged Damage.Records) × IsUnlawful tables.old.kit (world_of tables.old) bytes.now)) }
     ensures kit { tables.new.kit ≡ tables.old.kit }
 {
-    rr_hist::laws::requests_have_one_verdict();
+    rr_game::history::laws::requests_have_one_verdict();
     let (name, request) = read_record(bytes)?;
     let stamp = tables.stamp(&name);
     match tables.take(alloc, stamp, &name, &request, &mut Standing) {

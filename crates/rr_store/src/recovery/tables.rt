@@ -1,7 +1,7 @@
 //! All tables of a directory, in its order.
 ghost use Rattle.std.specs.Prelude.{◌≡◌, ◌⊎◌, ◌↔◌, ◌≤◌, [], length, IsTrue, IfOk, IfErr, OnOk};
 ghost use Rattle.rr_reading.specs.Dir.Directory.{AreTables};
-ghost use Rattle.rr_hist.specs.Tables.{IsPlayed, kept_in};
+ghost use Rattle.rr_game.specs.History.Tables.{IsPlayed, kept_in};
 ghost use Rattle.rr_reading.specs.Chains.{all_held};
 ghost use Rattle.rr_store.specs.Recovery.Kept.{TellsPlayed};
 ghost use Rattle.rr_store.specs.Recovery.Restoring.{AreRestored, HasRestored, IsFreeFor};
@@ -12,7 +12,7 @@ ghost use Rattle.rr_tables.specs.Writable.{IsWritable};
 
 use crate::recovery::Fault;
 use crate::recovery::playing::play_all;
-use rr_hist::Table;
+use rr_game::history::Table;
 use rr_kit::Kit;
 use rr_pages::{Damage, ReadChain};
 use rr_reading::dir::TableEntry;

@@ -10,9 +10,9 @@ ghost use Rattle.rr_turns.specs.declared.request.Request.TheVariants.{Back, Forg
 ghost use Rattle.rr_words.specs.Line.{words_of};
 
 use rr_code::Command;
+use rr_orders::scan::{Words, read_corp};
 use rr_pages::ReadChain;
 use rr_reading::dir::{KeptCommands, TableEntry};
-use rr_scan::{Words, read_corp};
 use rr_words::number;
 
 /// Whether the words of each table's kept commands are a request's, or those of `best`.

@@ -4,10 +4,10 @@ use Rattle.std.proofs.Math.Logic.{∥∥₁_map}
 use Rattle.indexmap.specs.IndexMap.{insert_entry}
 use Rattle.rr_code.specs.declared.command.Command.{Command}
 use Rattle.rr_code.specs.declared.command.Command.TheVariants.{Open}
-use Rattle.rr_hist.specs.Fault.{of_game}
-use Rattle.rr_hist.specs.Playing.{ArePlayed, IsLawfulAfter, ends_turn, game_judgement}
-use Rattle.rr_hist.specs.Verdict.{own_judgement, request_judgement, room_verdict, stamp_verdict}
-use Rattle.rr_hist.proofs.Turnings.{accepted_turn}
+use Rattle.rr_game.specs.History.Fault.{of_game}
+use Rattle.rr_game.specs.History.Playing.{ArePlayed, IsLawfulAfter, ends_turn, game_judgement}
+use Rattle.rr_game.specs.History.Verdict.{own_judgement, request_judgement, room_verdict, stamp_verdict}
+use Rattle.rr_game.proofs.HistoryLemmas.Turnings.{accepted_turn}
 use Rattle.rr_kit.specs.declared.kit.Kit.{Kit}
 use Rattle.rr_images.specs.Layout.{far_lines}
 use Rattle.rr_kit.specs.Kits.{KitTexts, SpellsKit}

@@ -6,7 +6,7 @@ use Rattle.rr_code.specs.declared.command.Command.{Command}
 use Rattle.rr_code.specs.Command.{IsCommand}
 use Rattle.rr_code.specs.Request.{IsRequest}
 use Rattle.rr_kit.specs.declared.kit.Kit.{Kit}
-use Rattle.rr_hist.specs.Playing.{ends_turn}
+use Rattle.rr_game.specs.History.Playing.{ends_turn}
 use Rattle.rr_turns.specs.declared.request.Request.{Request}
 use Rattle.rr_turns.specs.declared.request.Request.TheVariants.{Play, Back, Forget}
 use Rattle.rr_turns.specs.Turns.{first_turns, next_turns}

@@ -1,6 +1,6 @@
 -- Worlds whose tables were played: those that a file's chains may spell, if no rule is to be broken in it.
 use Rattle.std.specs.Prelude.{◌≤◌, [], ◌∷◌}
-use Rattle.rr_hist.specs.Playing.{ArePlayed, ends_turn}
+use Rattle.rr_game.specs.History.Playing.{ArePlayed, ends_turn}
 use Rattle.rr_kit.specs.declared.kit.Kit.{Kit}
 use Rattle.rr_kit.specs.Kits.{SpellsKit}
 use Rattle.rr_turns.specs.Turns.{ended_turns}

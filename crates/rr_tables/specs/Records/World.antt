@@ -10,8 +10,8 @@ use Rattle.rr_turns.specs.declared.request.Request.{Request}
 use Rattle.rr_turns.specs.declared.request.Request.TheVariants.{Play}
 use Rattle.rr_turns.specs.Judgement.{IsVerdict, Judgement, judgement_map, settled}
 use Rattle.rr_turns.specs.Kept.{Kept, kept_after, nothing}
-use Rattle.rr_hist.specs.Playing.{ends_turn}
-use Rattle.rr_hist.specs.Verdict.{request_judgement}
+use Rattle.rr_game.specs.History.Playing.{ends_turn}
+use Rattle.rr_game.specs.History.Verdict.{request_judgement}
 use Rattle.rr_words.specs.Name.{IsTableName}
 use Rattle.rr_tables.specs.declared.records.fault.Fault.{Fault}
 use Rattle.rr_tables.specs.declared.records.fault.Fault.TheVariants as F

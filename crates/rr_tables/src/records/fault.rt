@@ -46,16 +46,16 @@ impl Fault {
     }
 }
 
-impl From<rr_hist::Fault> for Fault {
+impl From<rr_game::history::Fault> for Fault {
     ghost from_gives = { λ fault wrapped. wrapped ≡ of_table fault };
 
-    fn from(fault: rr_hist::Fault) -> Fault {
+    fn from(fault: rr_game::history::Fault) -> Fault {
         match fault {
-            rr_hist::Fault::Game(fault) => Fault::Game(fault),
-            rr_hist::Fault::StaleStamp(stamp) => Fault::StaleStamp(stamp),
-            rr_hist::Fault::TurnNotKept => Fault::TurnNotKept,
-            rr_hist::Fault::TooManyCommands => Fault::TooManyCommands,
-            rr_hist::Fault::OutOfMemory => Fault::OutOfMemory,
+            rr_game::history::Fault::Game(fault) => Fault::Game(fault),
+            rr_game::history::Fault::StaleStamp(stamp) => Fault::StaleStamp(stamp),
+            rr_game::history::Fault::TurnNotKept => Fault::TurnNotKept,
+            rr_game::history::Fault::TooManyCommands => Fault::TooManyCommands,
+            rr_game::history::Fault::OutOfMemory => Fault::OutOfMemory,
         }
     }
 }

@@ -1,5 +1,5 @@
 use Rattle.std.proofs.Common.{arith}
-use Rattle.rr_bids.specs.Bids.{tied_up}
+use Rattle.rr_rounds.specs.Bids.Bids.{tied_up}
 use Rattle.rr_auction.proofs.judging.tied_up.Goals as goal
 
 pub returns-clause-value : goal.returns-clause-value

@@ -1,8 +1,8 @@
 use Rattle.std.proofs.Common.{◌∙◌, ap}
 use Rattle.rr_auction.specs.AuctionLaws.{bid, bid_told}
-use Rattle.rr_bids.specs.Bids.{bid_of}
-use Rattle.rr_bids.specs.Progress.{Progress}
-use Rattle.rr_bids.specs.ProgressLaws.{progress-none, progress-push}
+use Rattle.rr_rounds.specs.Bids.Bids.{bid_of}
+use Rattle.rr_rounds.specs.Bids.Progress.{Progress}
+use Rattle.rr_rounds.specs.Bids.ProgressLaws.{progress-none, progress-push}
 use Rattle.rr_auction.proofs.Entries.{bids_once, no_bid_at_first}
 use Rattle.rr_auction.proofs.Histories.{by_last}
 use Rattle.rr_auction.proofs.laws.bids_are_the_last.Goals as goal

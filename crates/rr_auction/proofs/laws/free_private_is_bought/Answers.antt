@@ -3,7 +3,7 @@ use Rattle.std.proofs.Common.{ap}
 use Rattle.std.proofs.lemmas.Bool.{cond-true}
 use Rattle.rr_books.specs.Book.{holder}
 use Rattle.rr_auction.specs.declared.fault.Fault.TheVariants as F
-use Rattle.rr_bids.specs.Progress.{progress}
+use Rattle.rr_rounds.specs.Bids.Progress.{progress}
 use Rattle.rr_auction.specs.Rules.{takes_bids}
 use Rattle.rr_auction.proofs.TurnCounts.{takes_none}
 use Rattle.rr_auction.proofs.laws.free_private_is_bought.Goals as goal

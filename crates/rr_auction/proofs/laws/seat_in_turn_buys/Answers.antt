@@ -1,6 +1,6 @@
 use Rattle.std.specs.Prelude.{not}
 use Rattle.rr_books.specs.Book.{holder}
-use Rattle.rr_bids.specs.Progress.{progress}
+use Rattle.rr_rounds.specs.Bids.Progress.{progress}
 use Rattle.rr_auction.specs.Rules.{due_in, is_turn}
 use Rattle.rr_auction.proofs.TurnCounts.{in_turn_buys}
 use Rattle.rr_auction.proofs.laws.seat_in_turn_buys.Goals as goal

@@ -1,7 +1,7 @@
 use Rattle.std.proofs.Common.{◌∙◌, ap}
 use Rattle.rr_auction.specs.AuctionLaws.{first_seat, left_of_turn}
-use Rattle.rr_bids.specs.Progress.{Progress, progress}
-use Rattle.rr_bids.specs.ProgressLaws.{progress-none, progress-push}
+use Rattle.rr_rounds.specs.Bids.Progress.{Progress, progress}
+use Rattle.rr_rounds.specs.Bids.ProgressLaws.{progress-none, progress-push}
 use Rattle.rr_auction.proofs.Entries.{turn_once}
 use Rattle.rr_auction.proofs.Histories.{by_last}
 use Rattle.rr_auction.proofs.laws.turn_is_left_of_the_last.Goals as goal

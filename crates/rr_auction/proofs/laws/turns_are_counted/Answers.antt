@@ -1,7 +1,7 @@
 use Rattle.std.specs.Prelude.{ℕ, ◌-◌, Option, is_some, if◌then◌else◌}
 use Rattle.std.proofs.Common.{◌∙◌, ap}
 use Rattle.rr_books.specs.declared.parties.Seat.{Seat}
-use Rattle.rr_bids.specs.Progress.{progress}
+use Rattle.rr_rounds.specs.Bids.Progress.{progress}
 use Rattle.rr_auction.specs.TurnLaws.{owes_par}
 use Rattle.rr_auction.proofs.TurnCounts.{commands_counted, par_owed}
 use Rattle.rr_auction.proofs.laws.turns_are_counted.Goals as goal

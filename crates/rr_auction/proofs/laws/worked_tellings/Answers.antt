@@ -1,12 +1,12 @@
 use Rattle.std.specs.Prelude.{refl}
 use Rattle.rr_books.specs.Book.{balance, holder, players}
 use Rattle.rr_books.specs.Opening.{opening_moves, opening_payments, opening_trains}
-use Rattle.rr_bids.specs.Bids.{first_before, first_behind, highest, leader, tied_up}
+use Rattle.rr_rounds.specs.Bids.Bids.{first_before, first_behind, highest, leader, tied_up}
 use Rattle.rr_desk.specs.Incomes.{pay_incomes_of, pays_income}
 use Rattle.rr_auction.specs.Effects.{gift, may_end, sale, settle, settle_each, settles}
 use Rattle.rr_auction.specs.History.{last_told, times}
-use Rattle.rr_bids.specs.Progress.{progress}
-use Rattle.rr_bids.specs.Unsold.{cheapest}
+use Rattle.rr_rounds.specs.Bids.Progress.{progress}
+use Rattle.rr_rounds.specs.Bids.Unsold.{cheapest}
 use Rattle.rr_auction.proofs.laws.worked_tellings.Goals as goal
 
 pub returns : goal.returns

@@ -2,7 +2,7 @@ use Rattle.std.proofs.Common.{ℕ, [], ◌∷◌, ◌++◌, sym, subst}
 use Rattle.rr_books.specs.declared.entries.Entry.TheVariants as E
 use Rattle.rr_books.specs.declared.entries.Marker.TheVariants as M
 use Rattle.rr_books.specs.Opening.{opening_entries}
-use Rattle.rr_position.specs.Position.{IsPositionOf}
+use Rattle.rr_desk.specs.Position.Position.{IsPositionOf}
 use Rattle.rr_auction.proofs.opening.open_table.Goals as goal
 
 pub returns : goal.returns

@@ -1,6 +1,6 @@
 use Rattle.std.proofs.Common.{Bool, ap}
 use Rattle.rr_books.specs.Book.{holder, players}
-use Rattle.rr_bids.specs.Progress.{progress}
+use Rattle.rr_rounds.specs.Bids.Progress.{progress}
 use Rattle.rr_desk.proofs.Taking.{shown, takes_same}
 use Rattle.rr_auction.specs.Effects.{brings_incomes, pass_of}
 use Rattle.rr_auction.proofs.playing.play_pass.Goals as goal

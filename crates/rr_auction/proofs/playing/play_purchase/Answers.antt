@@ -5,8 +5,8 @@ use Rattle.rr_books.specs.declared.entries.Entry.TheVariants as E
 use Rattle.rr_books.specs.declared.entries.Marker.TheVariants as M
 use Rattle.rr_books.specs.Book.{holder}
 use Rattle.rr_desk.specs.Effects.{adds, in_turn}
-use Rattle.rr_bids.specs.Progress.{progress}
-use Rattle.rr_bids.specs.Unsold.{cheapest}
+use Rattle.rr_rounds.specs.Bids.Progress.{progress}
+use Rattle.rr_rounds.specs.Bids.Unsold.{cheapest}
 use Rattle.rr_desk.proofs.Taking.{shown, takes_nothing, takes_same}
 use Rattle.rr_auction.specs.Effects.{purchase_of, sale, settle}
 use Rattle.rr_auction.proofs.WrittenOut.{buys_for_sale}

@@ -1,6 +1,6 @@
 use Rattle.std.proofs.Common.{sym, ◌∙◌, ap}
 use Rattle.rr_desk.specs.Incomes.{dollars}
-use Rattle.rr_bids.specs.Progress.{Progress}
+use Rattle.rr_rounds.specs.Bids.Progress.{Progress}
 use Rattle.rr_auction.specs.Rules.{price}
 use Rattle.rr_auction.proofs.pricing.cost.Goals as goal
 

@@ -1,5 +1,5 @@
 use Rattle.std.proofs.Common.{◌∙◌, refl}
-use Rattle.rr_bids.specs.Unsold.{cheapest}
+use Rattle.rr_rounds.specs.Bids.Unsold.{cheapest}
 use Rattle.rr_auction.proofs.Standing.{by_views}
 use Rattle.rr_auction.proofs.pricing.for_sale.Goals as goal
 

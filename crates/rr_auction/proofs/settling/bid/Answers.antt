@@ -1,7 +1,7 @@
 use Rattle.std.proofs.Common.{sym, ◌∙◌, ap}
 use Rattle.rr_desk.specs.Incomes.{dollars}
-use Rattle.rr_bids.specs.Bids.{bid_of}
-use Rattle.rr_bids.specs.Progress.{Progress}
+use Rattle.rr_rounds.specs.Bids.Bids.{bid_of}
+use Rattle.rr_rounds.specs.Bids.Progress.{Progress}
 use Rattle.rr_auction.proofs.settling.bid.Goals as goal
 
 pub returns-clause-value : goal.returns-clause-value

@@ -1,7 +1,7 @@
 use Rattle.std.proofs.Common.{◌∙◌}
 use Rattle.std.specs.Prelude.{None, if◌then◌else◌}
-use Rattle.rr_bids.specs.Bids.{bids_on, sole_bidder}
-use Rattle.rr_bids.specs.Unsold.{cheapest, is_private}
+use Rattle.rr_rounds.specs.Bids.Bids.{bids_on, sole_bidder}
+use Rattle.rr_rounds.specs.Bids.Unsold.{cheapest, is_private}
 use Rattle.rr_auction.proofs.Standing.{by_views}
 use Rattle.rr_auction.proofs.settling.buyer.Goals as goal
 

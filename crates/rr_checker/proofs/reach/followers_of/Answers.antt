@@ -1,6 +1,6 @@
 use Rattle.std.proofs.Common.{◌≡◌, false, length, get_or, sym, ◌∙◌, arith}
 use Rattle.rr_checker.specs.Steps.{goes_on, is_terminal}
-use Rattle.rr_reach.proofs.PlaceLemmas.{places_next_yes, places_next_no, places_done}
+use Rattle.rr_routes.proofs.ReachabilityLemmas.PlaceLemmas.{places_next_yes, places_next_no, places_done}
 use Rattle.rr_checker.proofs.PlaceLemmas.{no_step, step_read, goes_on-open}
 use Rattle.rr_checker.proofs.reach.followers_of.Goals as goal
 

@@ -1,6 +1,6 @@
 use Rattle.rr_checker.specs.Steps.{goes_on}
 use Rattle.std.proofs.Common.{get_or}
-use Rattle.rr_reach.proofs.PlaceLemmas.{graph_next}
+use Rattle.rr_routes.proofs.ReachabilityLemmas.PlaceLemmas.{graph_next}
 use Rattle.rr_checker.proofs.PlaceLemmas.{no_step, step_read}
 use Rattle.rr_checker.proofs.reach.graph_of.Goals as goal
 

@@ -1,5 +1,5 @@
 use Rattle.rr_checker.specs.Steps.{goes_on}
-use Rattle.rr_reach.specs.Places.{IsGraphOf}
+use Rattle.rr_routes.specs.Reachability.Places.{IsGraphOf}
 use Rattle.rr_checker.proofs.reach.graph_of.Given as goal
 
 abbrev pub invariant-loop-step : goal.invariant-loop-step

@@ -1,6 +1,6 @@
 use Rattle.std.proofs.Common.{◌≡◌, length, get_or, sym, ◌∙◌, arith}
 use Rattle.rr_checker.specs.Steps.{has_token}
-use Rattle.rr_reach.proofs.PlaceLemmas.{places_next_yes, places_next_no, places_done}
+use Rattle.rr_routes.proofs.ReachabilityLemmas.PlaceLemmas.{places_next_yes, places_next_no, places_done}
 use Rattle.rr_checker.proofs.PlaceLemmas.{no_step, step_read}
 use Rattle.rr_checker.proofs.reach.starts_of.Goals as goal
 

@@ -1,5 +1,5 @@
 use Rattle.rr_checker.specs.Steps.{has_token}
-use Rattle.rr_reach.specs.Places.{ArePlaces}
+use Rattle.rr_routes.specs.Reachability.Places.{ArePlaces}
 use Rattle.rr_checker.proofs.reach.starts_of.Given as goal
 
 abbrev pub invariant-loop-place : goal.invariant-loop-place

@@ -1,4 +1,4 @@
-use Rattle.rr_scan.proofs.WordsLemmas.{written-more, Continues-added}
+use Rattle.rr_orders.proofs.ScanLemmas.WordsLemmas.{written-more, Continues-added}
 use Rattle.rr_code.proofs.command.write_open.Goals as goal
 
 pub loop-player-preserved : goal.loop-player-preserved

@@ -1,5 +1,5 @@
 use Rattle.std.proofs.Common.{sym}
-use Rattle.rr_scan.proofs.WordsLemmas.{after_first-space, after_first-none}
+use Rattle.rr_orders.proofs.ScanLemmas.WordsLemmas.{after_first-space, after_first-none}
 use Rattle.rr_code.proofs.TextLemmas.{unstamped-some, unstamped-none}
 use Rattle.rr_code.proofs.line.unstamped.Goals as goal
 

@@ -1,5 +1,5 @@
 use Rattle.std.proofs.Common.{refl}
-use Rattle.rr_board.specs.declared.fault.Fault.TheVariants as B
+use Rattle.rr_kit.specs.declared.board.fault.Fault.TheVariants as B
 use Rattle.rr_kit.proofs.KitLemmas.{no_board}
 use Rattle.rr_kit.proofs.kit.read_board.Goals as goal
 

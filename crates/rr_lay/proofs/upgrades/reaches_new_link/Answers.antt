@@ -1,8 +1,8 @@
 use Rattle.std.proofs.Common.{[], ◌∷◌, ◌++◌, ◌∙◌, ap, ◌≡◌}
 use Rattle.rr_tiles.specs.declared.supply.Supply.{Supply}
-use Rattle.rr_board.specs.Plan.{Plan}
+use Rattle.rr_kit.specs.Board.Plan.{Plan}
 use Rattle.std.specs.Prelude.{List}
-use Rattle.rr_layout.specs.Layout.{Placed}
+use Rattle.rr_desk.specs.Layout.Layout.{Placed}
 use Rattle.rr_network.specs.Network.{net_of}
 use Rattle.rr_lay.proofs.ReachLemmas.{judged}
 use Rattle.rr_lay.proofs.upgrades.reaches_new_link.Goals as goal

@@ -2,7 +2,7 @@ use Rattle.std.proofs.Common.{refl, Ok}
 use Rattle.std.proofs.lemmas.Result.{err_from_is_err_and}
 use Rattle.rr_store.specs.World.{names}
 use Rattle.rr_moderator.specs.Queries.{asked_answer, cash_answer, due_answer, holds_answer, limit_answer, order_answer, price_answer, privates_answer, stamp_answer, turns_answer, worth_answer}
-use Rattle.rr_hist.specs.Tables.{kept_in}
+use Rattle.rr_game.specs.History.Tables.{kept_in}
 use Rattle.rr_store.specs.Holding.{held_of}
 use Rattle.rr_moderator.proofs.Replies.{refuses_at, writes_at, written}
 use Rattle.rr_moderator.proofs.answering.write_answer.Goals as goal

@@ -2,7 +2,7 @@ use Rattle.std.proofs.Common.{◌≡◌, ◌+◌, ◌*◌, ◌≤◌, ◌++◌, 
 use Rattle.std.specs.List.{flat_map}
 use Rattle.rr_roster.specs.Company.{kinds}
 use Rattle.rr_books.specs.Book.{Book, train_holder}
-use Rattle.rr_position.specs.Position.{IsPositionOf}
+use Rattle.rr_desk.specs.Position.Position.{IsPositionOf}
 use Rattle.rr_game.specs.Names.{trains_place}
 use Rattle.rr_moderator.specs.Answer.{spaced}
 use Rattle.rr_moderator.specs.Queries.{trains_of}

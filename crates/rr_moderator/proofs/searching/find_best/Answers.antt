@@ -1,7 +1,7 @@
 use Rattle.std.proofs.Common.{sym, ap, subst, ◌∙◌}
 use Rattle.std.proofs.lemmas.Result.{err_from_is_err_and}
-use Rattle.rr_hist.specs.Tables.{kept_in}
-use Rattle.rr_position.specs.Position.{IsPositionOf, OnTable}
+use Rattle.rr_game.specs.History.Tables.{kept_in}
+use Rattle.rr_desk.specs.Position.Position.{IsPositionOf, OnTable}
 use Rattle.rr_rules.specs.State.{AtTable}
 use Rattle.rr_store.specs.Holding.{held_of}
 use Rattle.rr_store.specs.World.{table_named}

@@ -1,8 +1,8 @@
 use Rattle.std.proofs.Common.{◌≡◌, List, false, length, sym, ◌∙◌, ap, arith}
-use Rattle.rr_layout.specs.declared.layout.Station.{Station}
+use Rattle.rr_desk.specs.declared.layout.layout.Station.{Station}
 use Rattle.rr_network.specs.declared.network.Stop.{Stop}
 use Rattle.rr_network.specs.Walk.{goes_on, is_terminal}
-use Rattle.rr_reach.proofs.PlaceLemmas.{places_next_yes, places_next_no, places_done}
+use Rattle.rr_routes.proofs.ReachabilityLemmas.PlaceLemmas.{places_next_yes, places_next_no, places_done}
 use Rattle.rr_network.proofs.PlaceLemmas.{goes_on-open}
 use Rattle.rr_network.proofs.reach.followers_of.Goals as goal
 

@@ -1,5 +1,5 @@
 use Rattle.rr_network.specs.Walk.{goes_on}
-use Rattle.rr_reach.proofs.PlaceLemmas.{graph_next}
+use Rattle.rr_routes.proofs.ReachabilityLemmas.PlaceLemmas.{graph_next}
 use Rattle.rr_network.proofs.reach.graph_of.Goals as goal
 
 pub loop-step-preserved : goal.loop-step-preserved

@@ -1,7 +1,7 @@
 use Rattle.std.proofs.Common.{◌≡◌, List, length, sym, ◌∙◌, ap, arith}
-use Rattle.rr_layout.specs.declared.layout.Station.{Station}
+use Rattle.rr_desk.specs.declared.layout.layout.Station.{Station}
 use Rattle.rr_network.specs.Walk.{has_token}
-use Rattle.rr_reach.proofs.PlaceLemmas.{places_next_yes, places_next_no, places_done}
+use Rattle.rr_routes.proofs.ReachabilityLemmas.PlaceLemmas.{places_next_yes, places_next_no, places_done}
 use Rattle.rr_network.proofs.reach.starts_of.Goals as goal
 
 pub loop-place-preserved : goal.loop-place-preserved

@@ -1,4 +1,4 @@
-use Rattle.rr_reach.specs.Places.{ArePlaces}
+use Rattle.rr_routes.specs.Reachability.Places.{ArePlaces}
 use Rattle.rr_network.specs.Walk.{has_token}
 use Rattle.rr_network.proofs.reach.starts_of.Given as goal
 

@@ -1,7 +1,7 @@
 use Rattle.std.proofs.Common.{subst}
 use Rattle.std.specs.Prelude.{OnOk}
 use Rattle.rr_desk.specs.Desk.{Takes}
-use Rattle.rr_layout.specs.declared.layout.Station.{Station}
+use Rattle.rr_desk.specs.declared.layout.layout.Station.{Station}
 use Rattle.rr_lay.specs.Placing.{places_token}
 use Rattle.rr_operate.proofs.playing.play.Goals as goal
 

@@ -2,7 +2,7 @@ use Rattle.std.proofs.Common.{rules, ◌≡◌, ◌≤◌, ◌+◌, length, true
 use Rattle.std.specs.Prelude.{codes, bytes_eq}
 use Rattle.std.proofs.lemmas.Grind.{common_steps}
 use Rattle.std.proofs.lemmas.Slice.Eq.{bytes_eq-Decides}
-use Rattle.rr_scan.specs.Words.{words_left}
+use Rattle.rr_orders.specs.Scan.Words.{words_left}
 use Rattle.rr_orders.specs.Texts.{cut_at_best}
 use Rattle.rr_orders.proofs.CutLemmas.{CutSoFar-fits, CutSoFar-more, cut-here, cut-nowhere}
 use Rattle.rr_orders.proofs.runs.cut_at_best.Goals as goal

@@ -1,5 +1,5 @@
 use Rattle.std.proofs.Common.{◌∙◌}
-use Rattle.rr_scan.proofs.WordsLemmas.{Continues-added}
+use Rattle.rr_orders.proofs.ScanLemmas.WordsLemmas.{Continues-added}
 use Rattle.rr_orders.proofs.WrittenLemmas.{run-written}
 use Rattle.rr_orders.proofs.runs.write_run.Goals as goal
 

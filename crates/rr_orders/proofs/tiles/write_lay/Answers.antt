@@ -1,4 +1,4 @@
-use Rattle.rr_scan.proofs.WordsLemmas.{Continues-added}
+use Rattle.rr_orders.proofs.ScanLemmas.WordsLemmas.{Continues-added}
 use Rattle.rr_orders.proofs.tiles.write_lay.Goals as goal
 
 pub returns-clause-kept : goal.returns-clause-kept

@@ -1,5 +1,5 @@
 use Rattle.rr_roster.specs.Company.{kind_name, kinds}
-use Rattle.rr_scan.proofs.NamedLemmas.{find-named}
+use Rattle.rr_orders.proofs.ScanLemmas.NamedLemmas.{find-named}
 use Rattle.rr_orders.proofs.SpelledLemmas.{kind_of-name}
 use Rattle.rr_orders.proofs.trains.read_kind.Goals as goal
 

@@ -1,4 +1,4 @@
-use Rattle.rr_scan.proofs.WordsLemmas.{Continues-added}
+use Rattle.rr_orders.proofs.ScanLemmas.WordsLemmas.{Continues-added}
 use Rattle.rr_orders.proofs.trains.write_train_from.Goals as goal
 
 pub returns-in_err-write_word-3-clause-kept : goal.returns-in_err-write_word-3-clause-kept

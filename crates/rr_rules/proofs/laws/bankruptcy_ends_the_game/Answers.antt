@@ -1,4 +1,4 @@
-use Rattle.rr_operations.proofs.BankruptcyLemmas.{bankruptcies_remembered}
+use Rattle.rr_market.proofs.OperationsLemmas.BankruptcyLemmas.{bankruptcies_remembered}
 use Rattle.rr_rules.proofs.Ending.{ends}
 use Rattle.rr_rules.proofs.laws.bankruptcy_ends_the_game.Goals as goal
 

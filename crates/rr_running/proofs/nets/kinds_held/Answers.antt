@@ -4,7 +4,7 @@ use Rattle.std.proofs.Math.Path.{fun_ext}
 use Rattle.rr_roster.specs.Company.{kinds}
 use Rattle.rr_books.specs.declared.certificates.Train.{Train}
 use Rattle.rr_books.specs.State.{train_place_of}
-use Rattle.rr_operations.specs.Phases.{TrainHolders}
+use Rattle.rr_market.specs.Operations.Phases.{TrainHolders}
 use Rattle.rr_running.specs.Running.{kinds_held, of_kind}
 use Rattle.rr_running.proofs.nets.kinds_held.Goals as goal
 

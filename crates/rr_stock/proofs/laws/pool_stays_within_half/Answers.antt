@@ -14,9 +14,9 @@ use Rattle.rr_books.specs.Book.{Book, holder}
 use Rattle.rr_books.specs.Same.{same_corp}
 use Rattle.rr_books.specs.Shares.{share}
 use Rattle.rr_shares.specs.Effects.{moves_lowest_shares, presidency_after_sale, sale_shares}
-use Rattle.rr_holdings.specs.declared.fault.Fault.TheVariants as H
-use Rattle.rr_holdings.specs.Holdings.{Holdings, percent_of}
-use Rattle.rr_holdings.specs.Sales.{leaves_no_president, sale_verdict, sell_verdict}
+use Rattle.rr_shares.specs.declared.limits.fault.Fault.TheVariants as H
+use Rattle.rr_shares.specs.Limits.Holdings.{Holdings, percent_of}
+use Rattle.rr_shares.specs.Limits.Sales.{leaves_no_president, sale_verdict, sell_verdict}
 use Rattle.rr_rounds.specs.Round.{ends_round, is_first, progress}
 use Rattle.rr_stock.specs.Effects.{entries_of, pays_seller, proceeds, says, sells}
 use Rattle.rr_stock.specs.Fault.{of_holdings}

@@ -9,8 +9,8 @@ use Rattle.rr_shares.specs.Holdings.{heir, percents, percents_after_sale}
 use Rattle.rr_shares.specs.Succession.{handover_after_sale, handover_due}
 use Rattle.rr_shares.specs.Effects.{float, float_if_due, hands_over, moves_lowest_shares, presidency, presidency_after_sale, sale_shares}
 use Rattle.rr_rounds.specs.Round.{progress}
-use Rattle.rr_holdings.specs.Limits.{certificates_counted, is_over_sixty_of_any}
-use Rattle.rr_holdings.specs.Sales.{has_lawful_sale, has_successor}
+use Rattle.rr_shares.specs.Limits.Limits.{certificates_counted, is_over_sixty_of_any}
+use Rattle.rr_shares.specs.Limits.Sales.{has_lawful_sale, has_successor}
 use Rattle.rr_stock.specs.Rules.{done_verdict, par_verdict, purchase_verdict, sale_verdict, turn_verdict}
 use Rattle.rr_stock.specs.Effects.{buys_share, ends_stock_round, ends_turn, gets_share, pays_seller, rises, rises_among, rises_if_sold_out, sells, sets_par, settles_corporation, takes_presidency}
 use Rattle.rr_stock.proofs.laws.worked_must_sell.Goals as goal

@@ -1,6 +1,6 @@
 use Rattle.std.proofs.Common.{None, refl, arith}
-use Rattle.rr_hist.specs.Tables.{kept_in}
-use Rattle.rr_hist.specs.Verdict.{request_judgement}
+use Rattle.rr_game.specs.History.Tables.{kept_in}
+use Rattle.rr_game.specs.History.Verdict.{request_judgement}
 use Rattle.rr_tables.specs.declared.records.fault.Fault.TheVariants as R
 use Rattle.rr_tables.specs.Records.Fault.{of_table}
 use Rattle.rr_turns.specs.Judgement.{judgement_map}

@@ -1,6 +1,6 @@
 use Rattle.std.proofs.Common.{sym, subst}
-use Rattle.rr_hist.specs.declared.table.Table.{Table}
-use Rattle.rr_hist.specs.Tables.{kept_in}
+use Rattle.rr_game.specs.declared.history.table.Table.{Table}
+use Rattle.rr_game.specs.History.Tables.{kept_in}
 use Rattle.rr_tables.specs.Records.World.{TableState}
 use Rattle.rr_tables.specs.Writable.{IsWritable}
 use Rattle.rr_tables.proofs.WritableLemmas.{writable_opened}

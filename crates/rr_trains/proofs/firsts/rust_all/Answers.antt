@@ -1,4 +1,4 @@
-use Rattle.rr_operations.specs.Phases.{train_numbers}
+use Rattle.rr_market.specs.Operations.Phases.{train_numbers}
 use Rattle.rr_trains.specs.Effects.{rusts}
 use Rattle.rr_desk.proofs.Taking.{takes_next}
 use Rattle.rr_trains.proofs.firsts.rust_all.Goals as goal

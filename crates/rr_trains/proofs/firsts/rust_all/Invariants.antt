@@ -1,5 +1,5 @@
 use Rattle.std.proofs.Common.{map, take}
-use Rattle.rr_operations.specs.Phases.{train_numbers}
+use Rattle.rr_market.specs.Operations.Phases.{train_numbers}
 use Rattle.rr_desk.specs.Effects.{in_turn}
 use Rattle.rr_desk.specs.Desk.{Takes}
 use Rattle.rr_trains.specs.Effects.{rusts}

@@ -1,7 +1,7 @@
 use Rattle.std.specs.Prelude.{refl}
 use Rattle.rr_books.specs.Book.{holder, train_holder}
 use Rattle.rr_books.specs.Opening.{opening_trains}
-use Rattle.rr_operations.specs.Phases.{is_sold, phase}
+use Rattle.rr_market.specs.Operations.Phases.{is_sold, phase}
 use Rattle.rr_trains.specs.Places.{has_train_at, lowest_train, trains_at, trains_held}
 use Rattle.rr_trains.specs.Sales.{are_smaller_sold, cheapest}
 use Rattle.rr_trains.specs.Effects.{all_close, all_rust, closes, first_train, rusts}

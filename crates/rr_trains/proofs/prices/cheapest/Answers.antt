@@ -3,7 +3,7 @@ use Rattle.std.proofs.Math.Path.{fun_ext}
 use Rattle.rr_books.specs.declared.certificates.Train.{Train}
 use Rattle.rr_books.specs.Book.{train_holder}
 use Rattle.rr_trains.specs.declared.prices.TrainOnSale.{TrainOnSale}
-use Rattle.rr_operations.specs.Phases.{TrainHolders}
+use Rattle.rr_market.specs.Operations.Phases.{TrainHolders}
 use Rattle.rr_trains.specs.Sales.{IsCheapest, cheapest}
 use Rattle.rr_trains.specs.SaleLaws.{cheapest_leads}
 use Rattle.rr_trains.proofs.prices.cheapest.Goals as goal

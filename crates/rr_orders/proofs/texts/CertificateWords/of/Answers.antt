@@ -1,6 +1,6 @@
 use Rattle.std.proofs.Common.{◌≡◌, ◌<◌, length, is_some, true, false, arith}
 use Rattle.std.proofs.lemmas.Grind.{common_steps}
-use Rattle.rr_sheets.specs.Reading.{cert_words_of}
+use Rattle.rr_routes.specs.Sheets.Reading.{cert_words_of}
 use Rattle.rr_orders.proofs.SpelledLemmas.{certificate-none, certificate-some}
 use Rattle.rr_orders.proofs.texts.CertificateWords.of.Goals as goal
 

@@ -1,6 +1,6 @@
 use Rattle.std.proofs.Common.{◌≡◌, ◌<◌, length, is_some, true, false, arith}
 use Rattle.std.proofs.lemmas.Grind.{common_steps}
-use Rattle.rr_sheets.specs.Reading.{sheet_of}
+use Rattle.rr_routes.specs.Sheets.Reading.{sheet_of}
 use Rattle.rr_orders.proofs.SpelledLemmas.{sheet-none, sheet-some}
 use Rattle.rr_orders.proofs.texts.SheetWords.of.Goals as goal
 

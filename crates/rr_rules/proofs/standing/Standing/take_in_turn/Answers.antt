@@ -1,6 +1,6 @@
 use Rattle.std.proofs.Common.{ap, subst, sym, ◌∙◌}
 use Rattle.std.proofs.lemmas.Result.{err_from_is_err_and}
-use Rattle.rr_position.specs.Position.{IsPositionOf, OnTable}
+use Rattle.rr_desk.specs.Position.Position.{IsPositionOf, OnTable}
 use Rattle.rr_rules.specs.State.{AtTable}
 use Rattle.rr_rules.proofs.Judging.{turn_refused_at}
 use Rattle.rr_rules.proofs.standing.Standing.take_in_turn.Goals as goal

@@ -1,7 +1,7 @@
 use Rattle.std.proofs.Common.{ℕ, List, Result, Ok, Err, IfOk}
 use Rattle.rr_code.specs.Command.{SpellsCommand}
 use Rattle.rr_code.specs.declared.command.Command.TheVariants.{Open}
-use Rattle.rr_hist.specs.declared.table.Table.{Table}
+use Rattle.rr_game.specs.declared.history.table.Table.{Table}
 use Rattle.rr_kit.specs.declared.kit.Kit.{Kit}
 use Rattle.rr_store.specs.declared.recovery.fault.Fault.{Fault}
 use Rattle.rr_store.specs.Recovery.Kept.{IsBegunBy}

@@ -1,6 +1,6 @@
 use Rattle.std.proofs.Common.{◌≡◌, ◌<◌, ◌^◌, inr, refl, sym, subst, arith}
-use Rattle.rr_hist.specs.declared.table.Table.{Table}
-use Rattle.rr_hist.specs.Tables.{kept_in}
+use Rattle.rr_game.specs.declared.history.table.Table.{Table}
+use Rattle.rr_game.specs.History.Tables.{kept_in}
 use Rattle.rr_tables.specs.Writable.{IsWritable}
 use Rattle.rr_store.proofs.RecoveryLemmas.RestoringLemmas.{above_turns, is_writable}
 use Rattle.rr_store.proofs.recovery.tables.restore.Goals as goal

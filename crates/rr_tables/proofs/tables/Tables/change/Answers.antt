@@ -2,8 +2,8 @@ use Rattle.std.proofs.Common.{◌≡◌, ◌∙◌, Bool, true, false, cond, Opt
 use Rattle.std.specs.Global.{Box}
 use Rattle.indexmap.specs.IndexMap.{get}
 use Rattle.rr_code.specs.declared.command.Command.{Command}
-use Rattle.rr_hist.specs.declared.table.Table.{Table}
-use Rattle.rr_hist.specs.Tables.{IsPlayed, kept_in}
+use Rattle.rr_game.specs.declared.history.table.Table.{Table}
+use Rattle.rr_game.specs.History.Tables.{IsPlayed, kept_in}
 use Rattle.rr_tables.specs.Records.World.{TableState}
 use Rattle.rr_turns.specs.declared.request.Request.{Request}
 use Rattle.rr_tables.specs.Changing.{IsChangeOf, IsWritableChange}

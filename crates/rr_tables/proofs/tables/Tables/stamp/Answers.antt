@@ -1,5 +1,5 @@
 use Rattle.std.proofs.Common.{◌∙◌, ap, option_map, sym}
-use Rattle.rr_hist.specs.declared.table.Table.{Table}
+use Rattle.rr_game.specs.declared.history.table.Table.{Table}
 use Rattle.rr_tables.specs.Records.World.{present_stamp}
 use Rattle.rr_tables.specs.Tables.{kept_in_box}
 use Rattle.rr_tables.proofs.WorldLemmas.{named_by}

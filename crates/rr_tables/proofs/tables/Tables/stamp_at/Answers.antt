@@ -1,5 +1,5 @@
 use Rattle.std.proofs.Common.{◌+◌, ◌∙◌, ℕ, take, sym, ap}
-use Rattle.rr_hist.specs.declared.table.Table.{Table}
+use Rattle.rr_game.specs.declared.history.table.Table.{Table}
 use Rattle.rr_tables.specs.Records.World.{requests_in}
 use Rattle.rr_tables.specs.Tables.{kept_in_box, world_by}
 use Rattle.rr_tables.proofs.WorldLemmas.{requests_more}

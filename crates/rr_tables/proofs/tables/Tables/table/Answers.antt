@@ -1,6 +1,6 @@
 use Rattle.std.proofs.Common.{◌∙◌, Some, ap, option_map, refl, sym}
-use Rattle.rr_hist.specs.declared.table.Table.{Table}
-use Rattle.rr_hist.specs.Tables.{kept_in}
+use Rattle.rr_game.specs.declared.history.table.Table.{Table}
+use Rattle.rr_game.specs.History.Tables.{kept_in}
 use Rattle.rr_tables.specs.Tables.{kept_in_box}
 use Rattle.rr_tables.proofs.WorldLemmas.{named_by}
 use Rattle.rr_tables.proofs.tables.Tables.table.Goals as goal

@@ -1,6 +1,6 @@
 use Rattle.std.proofs.Common.{◌∙◌, Some, ap, map, sym}
-use Rattle.rr_hist.specs.declared.table.Table.{Table}
-use Rattle.rr_hist.specs.Tables.{kept_in}
+use Rattle.rr_game.specs.declared.history.table.Table.{Table}
+use Rattle.rr_game.specs.History.Tables.{kept_in}
 use Rattle.rr_tables.specs.Records.Words.{table_in_words}
 use Rattle.rr_tables.specs.Tables.{kept_in_box, world_of}
 use Rattle.rr_tables.proofs.WordLemmas.{ok_at, written_at}

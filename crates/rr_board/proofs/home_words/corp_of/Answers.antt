@@ -1,5 +1,0 @@
-use Rattle.rr_board.proofs.NameLemmas.{corp_found}
-use Rattle.rr_board.proofs.home_words.corp_of.Goals as goal
-
-pub returns : goal.returns
-returns c = corp_found _ _ c.from_name.ensures.found c.from_name.ensures.only

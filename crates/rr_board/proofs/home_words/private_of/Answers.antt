@@ -1,5 +1,0 @@
-use Rattle.rr_board.proofs.NameLemmas.{private_found}
-use Rattle.rr_board.proofs.home_words.private_of.Goals as goal
-
-pub returns : goal.returns
-returns c = private_found _ _ c.from_name.ensures.found c.from_name.ensures.only

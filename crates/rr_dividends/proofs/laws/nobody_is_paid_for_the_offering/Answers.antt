@@ -1,5 +1,0 @@
-use Rattle.rr_dividends.proofs.Hundred.{nobody_is_paid_for_the_offering}
-use Rattle.rr_dividends.proofs.laws.nobody_is_paid_for_the_offering.Goals as goal
-
-pub returns : goal.returns
-returns c = nobody_is_paid_for_the_offering

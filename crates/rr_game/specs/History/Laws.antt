@@ -1,0 +1,48 @@
+-- What always holds of the tables of a game.
+use Rattle.std.specs.Prelude.{◌≡◌, ℕ, ◌≤◌, List, [], ◌∷◌, ◌++◌, None}
+use Rattle.rr_kit.specs.declared.kit.Kit.{Kit}
+use Rattle.rr_code.specs.declared.command.Command.{Command}
+use Rattle.rr_game.specs.Keeping.{IsGameOf}
+use Rattle.rr_turns.specs.declared.request.Request.{Request}
+use Rattle.rr_turns.specs.declared.request.Request.TheVariants.{Back}
+use Rattle.rr_turns.specs.Judgement.{HasOneVerdict, IsVerdict}
+use Rattle.rr_turns.specs.Kept.{Kept, NamesAKeptTurn, kept_after}
+use Rattle.rr_turns.specs.Turns.{EndsWithATurn, first_turns}
+use Rattle.rr_game.specs.declared.history.table.Table.{Table}
+use Rattle.rr_game.specs.History.Playing.{ends_turn}
+use Rattle.rr_game.specs.History.Tables.{IsPlayed, IsTableOf, kept_in}
+use Rattle.rr_game.specs.History.Verdict.{request_judgement}
+
+-- a table that accepts one request more is that of all of them
+abbrev pub TablesGoOn : Type 0
+TablesGoOn =
+    (kit : Kit) (accepted : List (Request Command)) (request : Request Command) (old new : Table)
+    → IsTableOf kit accepted old
+    → kept_in new ≡ kept_after (ends_turn kit) (kept_in old) request → IsPlayed kit new
+    → IsTableOf kit (accepted ++ request ∷ []) new
+
+-- a table that was taken back to a turn has ended just as many, and its game is that of the first so many turns
+abbrev pub BackGoesToItsTurn : Type 0
+BackGoesToItsTurn =
+    (kit : Kit) (k : ℕ) (old new : Table) → IsPlayed kit old → k ≤ old.turns
+    → kept_in new ≡ kept_after (ends_turn kit) (kept_in old) (Back k) → IsPlayed kit new
+    → (new.turns ≡ k) × IsGameOf kit (first_turns (ends_turn kit) k old.commands.items) new.game
+
+-- once a turn has ended and nothing was played behind it, to be taken back to it changes no game
+abbrev pub BackToThePresentTurn : Type 0
+BackToThePresentTurn =
+    (kit : Kit) (old new : Table) → IsPlayed kit old → EndsWithATurn (ends_turn kit) old.commands.items
+    → kept_in new ≡ kept_after (ends_turn kit) (kept_in old) (Back old.turns) → IsPlayed kit new
+    → IsGameOf kit old.commands.items new.game × (new.commands.items ≡ old.commands.items)
+
+-- a request that no check refuses names a kept turn, if it names one: so the floor never falls
+abbrev pub AcceptedTurnsAreKept : Type 0
+AcceptedTurnsAreKept =
+    (kit : Kit) (table : Kept Command) (stamp : ℕ) (request : Request Command)
+    → IsVerdict (request_judgement kit table stamp request) None → NamesAKeptTurn (ends_turn kit) table request
+
+-- a request isn't refused for two reasons, nor refused and lawful
+abbrev pub RequestsHaveOneVerdict : Type 0
+RequestsHaveOneVerdict =
+    (kit : Kit) (table : Kept Command) (stamp : ℕ) (request : Request Command)
+    → HasOneVerdict (request_judgement kit table stamp request)

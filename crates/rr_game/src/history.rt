@@ -1,0 +1,20 @@
+//! A game's table that can be taken back to the end of an earlier turn.
+//!
+//! Stands on `rr_turns` and `rr_game`. Its promise: each request is refused exactly by `request_judgement`, and keeps
+//! `IsTableOf`.
+
+mod change;
+mod fault;
+pub mod laws;
+mod playing;
+mod replaying;
+mod running;
+mod spelled;
+mod standing;
+mod table;
+
+pub use change::Change;
+pub use fault::Fault;
+pub use rr_turns::Request;
+pub use spelled::Spelled;
+pub use table::Table;

@@ -1,0 +1,29 @@
+//! What always holds of the tables of a game. The calls do nothing: their contracts hold of all tables.
+ghost use Rattle.rr_game.specs.History.Laws.{AcceptedTurnsAreKept, BackGoesToItsTurn, BackToThePresentTurn, RequestsHaveOneVerdict, TablesGoOn};
+
+/// A table that accepts one request more is that of all of them.
+pub fn tables_go_on()
+    ensures { TablesGoOn }
+{}
+
+/// A table that was taken back to a turn has the game of its first so many turns.
+pub fn back_goes_to_its_turn()
+    ensures { BackGoesToItsTurn }
+{}
+
+/// Where a turn has just ended, to be taken back to it changes no game. What was played since a turn's end is dropped.
+pub fn back_to_the_present_turn()
+    ensures { BackToThePresentTurn }
+{}
+
+/// A request that isn't refused names a turn between the floor and the turns, if it names one.
+pub fn accepted_turns_are_kept()
+    ensures { AcceptedTurnsAreKept }
+{}
+
+/// Each request has one verdict, whatever its stamp and its table are.
+pub fn requests_have_one_verdict()
+    ensures { RequestsHaveOneVerdict }
+{
+    crate::laws::commands_have_one_verdict();
+}

@@ -1,0 +1,45 @@
+ghost use Rattle.std.specs.Prelude.{◌≡◌};
+ghost use Rattle.rr_kit.specs.Board.Fault.{fault_number};
+ghost use Rattle.rr_kit.specs.declared.board.fault.Fault.TheVariants.{OutOfMemory};
+
+use std::alloc::{AllocError, AllocFailed};
+use thiserror::Error;
+
+/// Why a text is no board.
+#[derive(Clone, Copy, Debug, PartialEq, Eq, Error)]
+pub enum Fault {
+    /// The first wrong line of the text, from 1, or 0 where the text is wrong as a whole.
+    #[error("bad board {line}")]
+    BadBoard { line: usize },
+    /// There is no memory to read the text.
+    #[error("out of memory")]
+    OutOfMemory,
+}
+
+impl Fault {
+    /// The fault's number: 7 or 70.
+    pub fn number(self) -> u8
+        ensures { result ≡ fault_number self }
+    {
+        match self {
+            Fault::BadBoard { .. } => 7,
+            Fault::OutOfMemory => 70,
+        }
+    }
+}
+
+impl From<AllocError> for Fault {
+    ghost from_gives = { λ _ fault. fault ≡ OutOfMemory };
+
+    fn from(_error: AllocError) -> Fault {
+        Fault::OutOfMemory
+    }
+}
+
+impl<T: Drop> From<AllocFailed<T>> for Fault {
+    ghost from_gives = { λ _ fault. fault ≡ OutOfMemory };
+
+    fn from(_error: AllocFailed<T>) -> Fault {
+        Fault::OutOfMemory
+    }
+}

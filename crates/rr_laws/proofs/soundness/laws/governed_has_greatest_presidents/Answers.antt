@@ -1,0 +1,5 @@
+use Rattle.rr_laws.proofs.SoundnessLemmas.PresidentPlays.{greatest_where_governed}
+use Rattle.rr_laws.proofs.soundness.laws.governed_has_greatest_presidents.Goals as goal
+
+pub returns : goal.returns
+returns c n book h = greatest_where_governed n book h

@@ -1,0 +1,13 @@
+//! How far the operating rounds of a table have come: which round of which set it is, which corporation is due, and at
+//! which step of its turn.
+//!
+//! Stands on `rr_market` and `rr_rounds`. Its promise: `IsOperationsOf`, kept by `follow` for any entry.
+
+pub mod laws;
+mod operations;
+mod phases;
+mod turn;
+
+pub use operations::Operations;
+pub use phases::{is_sold, phase, rounds_in_set};
+pub use turn::{Stage, TurnStep};

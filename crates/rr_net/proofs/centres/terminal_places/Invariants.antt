@@ -1,6 +1,0 @@
-use Rattle.std.proofs.Common.{◌≡◌, ◌++◌, drop}
-use Rattle.rr_net.specs.Centres.{ends_routes, places_from}
-use Rattle.rr_net.proofs.centres.terminal_places.Given as goal
-
-abbrev pub invariant-loop-place : goal.invariant-loop-place
-invariant-loop-place l = l.places.items ++ places_from l.place (ends_routes l.stations l.corp) (drop l.place l.stops) ≡ places_from 0 (ends_routes l.stations l.corp) l.stops

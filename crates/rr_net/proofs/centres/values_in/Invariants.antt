@@ -1,6 +1,0 @@
-use Rattle.std.proofs.Common.{◌≡◌, map, take}
-use Rattle.rr_net.specs.Centres.{value_in}
-use Rattle.rr_net.proofs.centres.values_in.Given as goal
-
-abbrev pub invariant-loop-stop : goal.invariant-loop-stop
-invariant-loop-stop l = l.values.items ≡ map (value_in l.phase) (take l.stop-index l.stops)

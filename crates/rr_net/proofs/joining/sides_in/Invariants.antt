@@ -1,6 +1,0 @@
-use Rattle.std.proofs.Common.{◌≡◌, take}
-use Rattle.rr_net.specs.Joining.{sides_in}
-use Rattle.rr_net.proofs.joining.sides_in.Given as goal
-
-abbrev pub invariant-loop-link : goal.invariant-loop-link
-invariant-loop-link l = l.sides.items ≡ sides_in (take l.link-index l.links)

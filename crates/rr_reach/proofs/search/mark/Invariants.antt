@@ -1,6 +1,0 @@
-use Rattle.std.proofs.Common.{take}
-use Rattle.rr_reach.specs.Reach.{AreMarked}
-use Rattle.rr_reach.proofs.search.mark.Given as goal
-
-abbrev pub invariant-loop-state : goal.invariant-loop-state
-invariant-loop-state l = AreMarked (take l.state-index l.states) l.initial.marks.items l.initial.pending.items l.marks.items l.pending.items

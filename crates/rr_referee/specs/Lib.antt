@@ -1,0 +1,5 @@
+pub mod Fault
+pub mod Revenue
+pub mod Sheets
+pub mod Tests
+pub mod Trips

@@ -1,0 +1,8 @@
+use Rattle.std.proofs.Common.{◌≡◌, Some, map, take}
+use Rattle.rr_routes.specs.Sheets.Each.{each}
+use Rattle.rr_routes.specs.Sheets.Reading.{train_of}
+use Rattle.rr_routes.proofs.sheets.sheet.Sheet.read_words.Given as goal
+
+-- the words so far spell the trains so far
+abbrev pub invariant-loop-word : goal.invariant-loop-word
+invariant-loop-word l = each train_of (map (λ word. word.now) (take l.word-index l.words)) ≡ Some l.sheet

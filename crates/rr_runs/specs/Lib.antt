@@ -1,4 +1,0 @@
-pub mod Fault
-pub mod Revenue
-pub mod Sheets
-pub mod Tests

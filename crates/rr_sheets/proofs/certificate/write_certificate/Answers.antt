@@ -1,7 +1,0 @@
-use Rattle.std.proofs.Common.{rules}
-use Rattle.rr_sheets.specs.Certificate.{certificate_text}
-use Rattle.rr_sheets.proofs.certificate.write_certificate.Goals as goal
-
-pub returns-clause-text : goal.returns-clause-text
-unfolding certificate_text
-returns-clause-text c = search rules

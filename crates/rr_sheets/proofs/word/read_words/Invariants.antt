@@ -1,8 +1,0 @@
-use Rattle.std.proofs.Common.{◌≡◌, Some, map, take}
-use Rattle.rr_sheets.specs.Each.{each}
-use Rattle.rr_sheets.specs.Reading.{cert_word_of}
-use Rattle.rr_sheets.proofs.word.read_words.Given as goal
-
--- the words so far are read
-abbrev pub invariant-loop-word : goal.invariant-loop-word
-invariant-loop-word l = each cert_word_of (map (λ word. word.now) (take l.word-index l.words)) ≡ Some l.read.items

@@ -1,7 +1,0 @@
-use Rattle.rr_auction.proofs.Dealing.{dealt_by}
-use Rattle.rr_sequence.specs.Sequence.{entries_of}
-use Rattle.rr_sound.proofs.StockActs.{goes_by_lawful}
-use Rattle.rr_sound.proofs.laws.stock_stays_dealt.Goals as goal
-
-pub returns : goal.returns
-returns c n roster rows book act some lawful h dealt = dealt_by n (entries_of roster rows book act) book (goes_by_lawful n roster rows book act some lawful h).within dealt

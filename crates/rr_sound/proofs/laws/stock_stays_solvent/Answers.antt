@@ -1,6 +1,0 @@
-use Rattle.rr_sound.proofs.Going.{solvent_without_debt}
-use Rattle.rr_sound.proofs.StockActs.{goes_by_lawful}
-use Rattle.rr_sound.proofs.laws.stock_stays_solvent.Goals as goal
-
-pub returns : goal.returns
-returns c n roster rows book act some lawful h = solvent_without_debt n _ (goes_by_lawful n roster rows book act some lawful h).later

@@ -1,5 +1,0 @@
-use Rattle.rr_sound_turns.proofs.Commands.{order_by_acts}
-use Rattle.rr_sound_turns.proofs.laws.plays_of_turns_keep_good_order.Goals as goal
-
-pub returns : goal.returns
-returns c n kit revenue book acts earned lawful h = order_by_acts n kit revenue book acts earned lawful h

@@ -1,5 +1,0 @@
-use Rattle.rr_sound_turns.proofs.Commands.{order_by_act}
-use Rattle.rr_sound_turns.proofs.laws.turns_keep_good_order.Goals as goal
-
-pub returns : goal.returns
-returns c n kit revenue book act earned lawful h = order_by_act n kit revenue book act earned lawful h
