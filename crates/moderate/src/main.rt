@@ -153,7 +153,7 @@ fn open_file(rt: &HostRuntime, plan: &Plan, path: &str, make: bool, texts: Texts
 /// Ends with a refusal on standard output.
 fn end(rt: &HostRuntime, fault: Fault) -> u8 {
     let mut output = CountingWriter::new(writer(rt));
-    status(refuse(rt.alloc(), fault, &mut output))
+    status(refuse(fault, &mut output))
 }
 
 /// Ends with refused words, told on standard error.

@@ -23,8 +23,8 @@ use Rattle.rr_books.specs.Same.{same_seat}
 use Rattle.rr_books.specs.Shares.{Holders, privates}
 use Rattle.rr_desk.specs.Effects.{Effect, adds, in_turn}
 use Rattle.rr_market.specs.Moves.{mark_at, par_marks}
-use Rattle.rr_auction.specs.declared.fault.Fault.{Fault}
-use Rattle.rr_auction.specs.declared.fault.Fault.TheVariants as F
+use Rattle.rr_books.specs.declared.refusal.Refusal.{Refusal}
+use Rattle.rr_books.specs.declared.refusal.Refusal.TheVariants as F
 use Rattle.rr_rounds.specs.Bids.Bids.{Bids, Row, all_seats, bid_of, bids_on, first_before, first_behind, has_bid, leader, least_bid, next_bidder, raiser, sole_bidder, tied_up}
 use Rattle.rr_desk.specs.Incomes.{dollars, pay_incomes_of, pays_income}
 use Rattle.rr_auction.specs.Effects.{brings_incomes, entries_of, incomes_if, is_over, may_end, pass_of, purchase_of, said, sale, sale_at_bid, sets_par, settle, settled, settle_each, settles, stock_begins}
@@ -102,7 +102,7 @@ goes_by_incomes n roster true book h = goes_each n (pays_income roster) (goes_by
 goes_by_incomes n roster false book h = goes_nowhere n book h
 
 -- a test in a chain that refuses nothing
-passed : (b : Bool) (fault : Fault) (others : Option Fault) → (if b then Some fault else others) ≡ None → (b ≡ false) × (others ≡ None)
+passed : (b : Bool) (fault : Refusal) (others : Option Refusal) → (if b then Some fault else others) ≡ None → (b ≡ false) × (others ≡ None)
 passed true fault others e = absurd (cc)
 passed false fault others e = (refl, e)
 

@@ -12,7 +12,7 @@ use Rattle.rr_books.specs.ShareLaws.{holder-of_state}
 use Rattle.rr_books.specs.State.{State, cash_of, holder_in}
 use Rattle.rr_rounds.specs.Bids.Progress.{Progress, progress}
 use Rattle.rr_desk.specs.Position.Position.{OnTable, IsPositionOf}
-use Rattle.rr_auction.specs.declared.fault.Fault.{Fault}
+use Rattle.rr_books.specs.declared.refusal.Refusal.{Refusal}
 use Rattle.rr_auction.specs.Rules.{Accounts, verdict, verdict_in}
 
 -- a function of the places and of the progress, at views that are those of the position
@@ -30,5 +30,5 @@ verdict_by_views roster rows act book p s a books bidding h =
     ∙ by_views (λ H b. verdict_in roster rows (balance book) H b act) book p s a books bidding h
 
 -- a verdict said of the book
-pub verdict_moved : (r : Result (Unit {0}) Fault) (v w : Option Fault) → v ≡ w → MatchResult r (λ _. v ≡ None) (λ fault. v ≡ Some fault) → MatchResult r (λ _. w ≡ None) (λ fault. w ≡ Some fault)
-verdict_moved r v w e h = subst (λ (x : Option Fault). MatchResult r (λ _. x ≡ None) (λ fault. x ≡ Some fault)) e h
+pub verdict_moved : (r : Result (Unit {0}) Refusal) (v w : Option Refusal) → v ≡ w → MatchResult r (λ _. v ≡ None) (λ fault. v ≡ Some fault) → MatchResult r (λ _. w ≡ None) (λ fault. w ≡ Some fault)
+verdict_moved r v w e h = subst (λ (x : Option Refusal). MatchResult r (λ _. x ≡ None) (λ fault. x ≡ Some fault)) e h

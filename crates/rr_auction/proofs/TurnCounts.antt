@@ -17,8 +17,8 @@ use Rattle.rr_books.specs.declared.acts.Act.{Act}
 use Rattle.rr_books.specs.declared.acts.Act.TheVariants as A
 use Rattle.rr_books.specs.Book.{Book, holder, players}
 use Rattle.rr_books.specs.Same.{same_seat}
-use Rattle.rr_auction.specs.declared.fault.Fault.{Fault}
-use Rattle.rr_auction.specs.declared.fault.Fault.TheVariants as F
+use Rattle.rr_books.specs.declared.refusal.Refusal.{Refusal}
+use Rattle.rr_books.specs.declared.refusal.Refusal.TheVariants as F
 use Rattle.rr_auction.specs.AuctionLaws.{for_sale, is_raised}
 use Rattle.rr_rounds.specs.Bids.Progress.{Progress, after, after_last_pass, after_leaving, after_par, after_turn_pass, all_pass, owing_after, progress}
 use Rattle.rr_auction.specs.Rules.{is_priced, price, takes_bids}
@@ -115,11 +115,11 @@ takes_none roster book first free =
     ∙ none_taken open_to
 
 -- a test in a chain that refuses nothing
-passed : (b : Bool) (fault : Fault) (others : Option Fault) → (if b then Some fault else others) ≡ None → (b ≡ false) × (others ≡ None)
+passed : (b : Bool) (fault : Refusal) (others : Option Refusal) → (if b then Some fault else others) ≡ None → (b ≡ false) × (others ≡ None)
 passed true fault others e = absurd (cc)
 passed false fault others e = (refl, e)
 
-pub in_turn_buys : (b : Bool) (s t : Seat) (others : Option Fault) → (if b then Some F.WrongStep else if not (same_seat s t) then Some F.NotYourTurn else others) ≡ None → s.0 ≡ t.0
+pub in_turn_buys : (b : Bool) (s t : Seat) (others : Option Refusal) → (if b then Some F.WrongStep else if not (same_seat s t) then Some F.NotYourTurn else others) ≡ None → s.0 ≡ t.0
 in_turn_buys b s t others e =
     let first = passed b F.WrongStep _ e in
     let second = passed (not (same_seat s t)) F.NotYourTurn others first.1 in

@@ -1,4 +1,3 @@
-pub mod Fault
 pub use Rattle.rr_rounds.specs.Bids.Unsold
 pub use Rattle.rr_rounds.specs.Bids.Bids
 pub use Rattle.rr_rounds.specs.Bids.Progress

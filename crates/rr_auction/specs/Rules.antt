@@ -16,8 +16,8 @@ use Rattle.rr_books.specs.Same.{same_seat}
 use Rattle.rr_market.specs.Moves.{is_par}
 use Rattle.rr_auction.specs.declared.due.Due.{Due}
 use Rattle.rr_auction.specs.declared.due.Due.TheVariants as D
-use Rattle.rr_auction.specs.declared.fault.Fault.{Fault}
-use Rattle.rr_auction.specs.declared.fault.Fault.TheVariants as F
+use Rattle.rr_books.specs.declared.refusal.Refusal.{Refusal}
+use Rattle.rr_books.specs.declared.refusal.Refusal.TheVariants as F
 use Rattle.rr_rounds.specs.Bids.Unsold.{cheapest, is_private, is_unsold}
 use Rattle.rr_rounds.specs.Bids.Bids.{least_bid, tied_up}
 use Rattle.rr_rounds.specs.Bids.Progress.{Progress, progress, raise_due}
@@ -75,18 +75,18 @@ abbrev pub free_cash : Accounts → Holders → Progress → Seat → Private �
 free_cash money holder a s p = cash money s -ℤ pos (tied_up holder a.bids s p)
 
 -- why a seat can't spend an amount on a private, if it can't
-abbrev pub spending_verdict : Accounts → Holders → Progress → Seat → Private → ℕ → Option Fault
+abbrev pub spending_verdict : Accounts → Holders → Progress → Seat → Private → ℕ → Option Refusal
 spending_verdict money holder a s p amount =
     if int_lt (cash money s) (pos amount) then Some F.TooLittleCash
     else if int_lt (free_cash money holder a s p) (pos amount) then Some F.CashTiedUp
     else None
 
 -- why a seat can't buy what is for sale, if it can't
-abbrev pub price_verdict : Terms → Accounts → Holders → Progress → Seat → Option Private → Option Fault
+abbrev pub price_verdict : Terms → Accounts → Holders → Progress → Seat → Option Private → Option Refusal
 price_verdict roster money holder a s None = Some F.WrongStep
 price_verdict roster money holder a s (Some p) = spending_verdict money holder a s p (price roster a.falls p)
 
-abbrev pub purchase_verdict : Terms → Accounts → Holders → Progress → Seat → Option Fault
+abbrev pub purchase_verdict : Terms → Accounts → Holders → Progress → Seat → Option Refusal
 purchase_verdict roster money holder a s =
     if not (is_turn (due_in holder a)) then Some F.WrongStep
     else if not (same_seat s a.turn) then Some F.NotYourTurn
@@ -111,7 +111,7 @@ is_open holder a p =
     else is_unsold holder p && not (is_private p (cheapest holder))
 
 -- why a bid is refused, if it is
-abbrev pub bid_verdict : Terms → Accounts → Holders → Progress → Seat → Private → ℕ → Option Fault
+abbrev pub bid_verdict : Terms → Accounts → Holders → Progress → Seat → Private → ℕ → Option Refusal
 bid_verdict roster money holder a s p amount =
     if not (takes_bids roster holder a) then Some F.WrongStep
     else if not (same_seat s (bidder_due holder a)) then Some F.NotYourTurn
@@ -120,7 +120,7 @@ bid_verdict roster money holder a s p amount =
     else spending_verdict money holder a s p amount
 
 -- why a pass is refused, if it is
-abbrev pub pass_verdict : Terms → Holders → Progress → Seat → Option Fault
+abbrev pub pass_verdict : Terms → Holders → Progress → Seat → Option Refusal
 pass_verdict roster holder a s =
     if not (takes_bids roster holder a) then Some F.WrongStep
     else if not (same_seat s (bidder_due holder a)) then Some F.NotYourTurn
@@ -131,7 +131,7 @@ is_bo Corp.Bo = true
 is_bo _ = false
 
 -- why a par is refused, if it is, by the seat that owes one
-abbrev pub par_verdict : List Row → Option Seat → Seat → Corp → ℕ → Option Fault
+abbrev pub par_verdict : List Row → Option Seat → Seat → Corp → ℕ → Option Refusal
 par_verdict rows None s c n = Some F.WrongStep
 par_verdict rows (Some owing) s c n =
     if not (same_seat s owing) then Some F.NotYourTurn
@@ -140,12 +140,12 @@ par_verdict rows (Some owing) s c n =
     else None
 
 -- why a command is refused, if it is: by the money and the places of the table, and how far the auction has come
-abbrev pub verdict_in : Terms → List Row → Accounts → Holders → Progress → Act → Option Fault
+abbrev pub verdict_in : Terms → List Row → Accounts → Holders → Progress → Act → Option Refusal
 verdict_in roster rows money holder a (A.BuyPrivate s) = purchase_verdict roster money holder a s
 verdict_in roster rows money holder a (A.Bid s p amount) = bid_verdict roster money holder a s p amount
 verdict_in roster rows money holder a (A.Pass s) = pass_verdict roster holder a s
 verdict_in roster rows money holder a (A.Par s c n) = par_verdict rows a.par_due s c n
 verdict_in roster rows money holder a _ = Some F.WrongStep
 
-abbrev pub verdict : Terms → List Row → Book → Act → Option Fault
+abbrev pub verdict : Terms → List Row → Book → Act → Option Refusal
 verdict roster rows book act = verdict_in roster rows (balance book) (holder book) (progress book) act

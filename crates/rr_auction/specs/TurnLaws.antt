@@ -13,7 +13,7 @@ use Rattle.rr_books.specs.declared.entries.Marker.TheVariants as M
 use Rattle.rr_books.specs.declared.acts.Act.{Act}
 use Rattle.rr_books.specs.declared.acts.Act.TheVariants as A
 use Rattle.rr_books.specs.Book.{Book}
-use Rattle.rr_auction.specs.declared.fault.Fault.TheVariants as F
+use Rattle.rr_books.specs.declared.refusal.Refusal.TheVariants as F
 use Rattle.rr_auction.specs.AuctionLaws.{first_price, for_sale}
 use Rattle.rr_auction.specs.History.{last_told}
 use Rattle.rr_rounds.specs.Bids.Progress.{progress}

@@ -9,7 +9,7 @@ ghost use Rattle.rr_auction.specs.Effects.{brings_incomes, is_over};
 ghost use Rattle.rr_auction.specs.Rules.{due, due_by, due_in, turns, turns_in};
 
 use rr_books::{Books, Private, Seat};
-use rr_desk::position::Position;
+use rr_desk::Position;
 use rr_rounds::bids::{Bidding, cheapest, is_cheapest};
 
 /// What the auction waits for.

@@ -7,11 +7,10 @@ ghost use Rattle.rr_rounds.specs.Bids.Unsold.{cheapest};
 ghost use Rattle.rr_desk.specs.Position.Position.{IsPositionOf};
 ghost use Rattle.rr_auction.specs.Rules.{bid_verdict, bidder_due, is_bo, is_open, par_verdict, pass_verdict, purchase_verdict, spending_verdict, takes_bids, verdict, verdict_in};
 
-use crate::fault::Fault;
 use crate::pricing::{least_bid, price};
-use rr_books::{Act, Books, Corp, Party, Private, Seat};
+use rr_books::{Act, Books, Corp, Party, Private, Refusal, Seat};
 use rr_chart::Chart;
-use rr_desk::position::Position;
+use rr_desk::Position;
 use rr_market::par_cell;
 use rr_roster::Roster;
 use rr_rounds::bids::{Bidding, cheapest, is_cheapest, is_unsold, same_private};
@@ -32,7 +31,7 @@ struct Bid {
 /// another seat is due; for a bid `NotForSale` and `BidTooLow`; for a purchase or bid `TooLittleCash`, and
 /// `CashTiedUp` where the seat has the money but has bid it on other privates; for a par `NotForSale` where the
 /// corporation isn't the B&O, and `NotAPar` where the chart has no par cell of the price.
-pub fn judge(roster: &Roster, chart: &Chart, position: &Position, act: &Act) -> Result<(), Fault>
+pub fn judge(roster: &Roster, chart: &Chart, position: &Position, act: &Act) -> Result<(), Refusal>
     ensures shown { MatchResult result
         (λ _. verdict_in roster.now chart.now (cash_of position.now.books) (holder_in position.now.books) position.now.bidding act.now ≡ None)
         (λ fault. verdict_in roster.now chart.now (cash_of position.now.books) (holder_in position.now.books) position.now.bidding act.now ≡ Some fault) }
@@ -50,7 +49,7 @@ fn judge_by(
     books: &Books,
     bidding: &Bidding,
     act: &Act,
-) -> Result<(), Fault>
+) -> Result<(), Refusal>
     ensures { MatchResult result
         (λ _. verdict_in roster.now chart.now (cash_of books.now) (holder_in books.now) bidding.now act.now ≡ None)
         (λ fault. verdict_in roster.now chart.now (cash_of books.now) (holder_in books.now) bidding.now act.now ≡ Some fault) }
@@ -71,7 +70,7 @@ fn judge_by(
         }
         Act::Pass { seat } => judge_pass(roster, books, bidding, *seat),
         Act::Par { seat, corp, price } => judge_par(chart, bidding, *seat, *corp, *price),
-        _ => Err(Fault::WrongStep),
+        _ => Err(Refusal::WrongStep),
     }
 }
 
@@ -81,22 +80,22 @@ fn judge_purchase(
     books: &Books,
     bidding: &Bidding,
     seat: Seat,
-) -> Result<(), Fault>
+) -> Result<(), Refusal>
     ensures { MatchResult result
         (λ _. purchase_verdict roster.now (cash_of books.now) (holder_in books.now) bidding.now seat ≡ None)
         (λ fault. purchase_verdict roster.now (cash_of books.now) (holder_in books.now) bidding.now seat ≡ Some fault) }
 {
     if let Some(_) = bidding.par_due() {
-        return Err(Fault::WrongStep);
+        return Err(Refusal::WrongStep);
     }
     let Some(private) = cheapest(books) else {
-        return Err(Fault::WrongStep);
+        return Err(Refusal::WrongStep);
     };
     if let Some(_) = bidding.raise_due(books) {
-        return Err(Fault::WrongStep);
+        return Err(Refusal::WrongStep);
     }
     if seat != bidding.turn() {
-        return Err(Fault::NotYourTurn);
+        return Err(Refusal::NotYourTurn);
     }
     let price = u64::from(price(bidding.falls(), private, roster));
     judge_spending(books, bidding, seat, private, price)?;
@@ -104,34 +103,34 @@ fn judge_purchase(
 }
 
 // Whether the bid is taken.
-fn judge_bid(roster: &Roster, books: &Books, bidding: &Bidding, bid: Bid) -> Result<(), Fault>
+fn judge_bid(roster: &Roster, books: &Books, bidding: &Bidding, bid: Bid) -> Result<(), Refusal>
     ensures { MatchResult result
         (λ _. bid_verdict roster.now (cash_of books.now) (holder_in books.now) bidding.now bid.seat bid.private bid.amount ≡ None)
         (λ fault. bid_verdict roster.now (cash_of books.now) (holder_in books.now) bidding.now bid.seat bid.private bid.amount ≡ Some fault) }
 {
     judge_pass(roster, books, bidding, bid.seat)?;
     if !is_open(books, bidding, bid.private) {
-        return Err(Fault::NotForSale);
+        return Err(Refusal::NotForSale);
     }
     let least = least_bid(bidding, bid.private, roster);
     if bid.amount < least {
-        return Err(Fault::BidTooLow(least));
+        return Err(Refusal::BidTooLow(least));
     }
     judge_spending(books, bidding, bid.seat, bid.private, bid.amount)?;
     Ok(())
 }
 
 // Whether the seat may pass.
-fn judge_pass(roster: &Roster, books: &Books, bidding: &Bidding, seat: Seat) -> Result<(), Fault>
+fn judge_pass(roster: &Roster, books: &Books, bidding: &Bidding, seat: Seat) -> Result<(), Refusal>
     ensures { MatchResult result
         (λ _. pass_verdict roster.now (holder_in books.now) bidding.now seat ≡ None)
         (λ fault. pass_verdict roster.now (holder_in books.now) bidding.now seat ≡ Some fault) }
 {
     if !takes_bids(roster, books, bidding) {
-        return Err(Fault::WrongStep);
+        return Err(Refusal::WrongStep);
     }
     if seat != bidder_due(books, bidding) {
-        return Err(Fault::NotYourTurn);
+        return Err(Refusal::NotYourTurn);
     }
     Ok(())
 }
@@ -143,22 +142,22 @@ fn judge_par(
     seat: Seat,
     corp: Corp,
     price: u64,
-) -> Result<(), Fault>
+) -> Result<(), Refusal>
     ensures { MatchResult result
         (λ _. par_verdict chart.now bidding.now.par_due seat corp price ≡ None)
         (λ fault. par_verdict chart.now bidding.now.par_due seat corp price ≡ Some fault) }
 {
     let Some(owing) = bidding.par_due() else {
-        return Err(Fault::WrongStep);
+        return Err(Refusal::WrongStep);
     };
     if seat != owing {
-        return Err(Fault::NotYourTurn);
+        return Err(Refusal::NotYourTurn);
     }
     if !is_bo(corp) {
-        return Err(Fault::NotForSale);
+        return Err(Refusal::NotForSale);
     }
     let Some(_) = par_cell(chart, price) else {
-        return Err(Fault::NotAPar);
+        return Err(Refusal::NotAPar);
     };
     Ok(())
 }
@@ -170,21 +169,21 @@ fn judge_spending(
     seat: Seat,
     private: Private,
     amount: u64,
-) -> Result<(), Fault>
+) -> Result<(), Refusal>
     ensures { MatchResult result
         (λ _. spending_verdict (cash_of books.now) (holder_in books.now) bidding.now seat private amount ≡ None)
         (λ fault. spending_verdict (cash_of books.now) (holder_in books.now) bidding.now seat private amount ≡ Some fault) }
 {
     let cash = books.balance(Party::Seat(seat)).0;
     let Ok(amount) = i64::try_from(amount) else {
-        return Err(Fault::TooLittleCash);
+        return Err(Refusal::TooLittleCash);
     };
     if cash < amount {
-        return Err(Fault::TooLittleCash);
+        return Err(Refusal::TooLittleCash);
     }
     let tied_up = tied_up(books, bidding, seat, private) as i64;
     if cash - tied_up < amount {
-        return Err(Fault::CashTiedUp);
+        return Err(Refusal::CashTiedUp);
     }
     Ok(())
 }

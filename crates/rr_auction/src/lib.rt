@@ -4,7 +4,6 @@
 #![tactic(auto)]
 
 mod due;
-mod fault;
 mod judging;
 pub mod laws;
 mod opening;
@@ -13,7 +12,6 @@ mod pricing;
 mod settling;
 
 pub use due::{Due, is_over, turns};
-pub use fault::Fault;
 pub use judging::judge;
 pub use opening::open_table;
 pub use playing::play;

@@ -2,7 +2,7 @@ ghost use Rattle.std.specs.Prelude.{◌≡◌, ℕ, List, ◌≤◌, length};
 ghost use Rattle.rr_desk.specs.Position.Position.{IsPositionOf};
 ghost use Rattle.rr_auction.specs.Opening.{opened};
 
-use rr_desk::position::Position;
+use rr_desk::Position;
 use rr_roster::Roster;
 
 /// The position of a table that opens with so many players, once the auction has begun.

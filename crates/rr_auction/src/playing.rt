@@ -11,7 +11,7 @@ ghost use Rattle.rr_auction.specs.Small.{IsSmall};
 use crate::due::brings_incomes;
 use crate::pricing::{cost, for_sale};
 use crate::settling::{sell, settle};
-use rr_books::{Act, Corp, Entry, Fault, Marker, Money, Private, Seat};
+use rr_books::{Act, Corp, Entry, Marker, Money, Private, Refusal, Seat};
 use rr_chart::Chart;
 use rr_desk::{Desk, pay_incomes};
 use rr_market::par_cell;
@@ -23,9 +23,9 @@ use rr_roster::Roster;
 /// # Errors
 ///
 /// `OutOfMemory`; some of the entries may be on the desk then.
-pub fn play(roster: &Roster, chart: &Chart, desk: &mut Desk, act: &Act) -> Result<(), Fault>
+pub fn play(roster: &Roster, chart: &Chart, desk: &mut Desk, act: &Act) -> Result<(), Refusal>
     requires { IsSmall act.now }
-    ensures fault { IfErr result (λ fault. fault ≡ Fault.OutOfMemory) }
+    ensures fault { IfErr result (λ fault. fault ≡ Refusal.OutOfMemory) }
     ensures takes { OnOk result (Takes (λ book. entries_of roster.now chart.now book act.now) desk.old desk.new) }
 {
     match act {
@@ -42,9 +42,9 @@ pub fn play(roster: &Roster, chart: &Chart, desk: &mut Desk, act: &Act) -> Resul
 }
 
 // The seat buys the cheapest private.
-fn play_purchase(roster: &Roster, desk: &mut Desk, seat: Seat) -> Result<(), Fault>
+fn play_purchase(roster: &Roster, desk: &mut Desk, seat: Seat) -> Result<(), Refusal>
     requires { seat.0 < 6 }
-    ensures fault { IfErr result (λ fault. fault ≡ Fault.OutOfMemory) }
+    ensures fault { IfErr result (λ fault. fault ≡ Refusal.OutOfMemory) }
     ensures takes { OnOk result (Takes (λ book. purchase_of roster.now seat (progress book).falls (cheapest (holder book)) book) desk.old desk.new) }
 {
     match for_sale(desk.position()) {
@@ -58,11 +58,11 @@ fn play_purchase(roster: &Roster, desk: &mut Desk, seat: Seat) -> Result<(), Fau
 }
 
 // The seat buys the private for the amount.
-fn buy_for(desk: &mut Desk, seat: Seat, private: Private, amount: Money) -> Result<(), Fault>
+fn buy_for(desk: &mut Desk, seat: Seat, private: Private, amount: Money) -> Result<(), Refusal>
     requires seated { seat.0 < 6 }
     requires low { pos 0 ≤ℤ amount.0 }
     requires high { amount.0 ≤ℤ pos 10000000000 }
-    ensures fault { IfErr result (λ fault. fault ≡ Fault.OutOfMemory) }
+    ensures fault { IfErr result (λ fault. fault ≡ Refusal.OutOfMemory) }
     ensures takes { OnOk result (Takes (in_turn (adds (Entry.Step (Marker.Act (Act.BuyPrivate seat))) ∷ sale seat private amount ∷ settle ∷ [])) desk.old desk.new) }
 {
     desk.push(Entry::Step(Marker::Act(Act::BuyPrivate { seat })))?;
@@ -72,9 +72,9 @@ fn buy_for(desk: &mut Desk, seat: Seat, private: Private, amount: Money) -> Resu
 }
 
 // The seat bids on a private.
-fn play_bid(desk: &mut Desk, seat: Seat, private: Private, amount: u64) -> Result<(), Fault>
+fn play_bid(desk: &mut Desk, seat: Seat, private: Private, amount: u64) -> Result<(), Refusal>
     requires { amount ≤ 10000000000 }
-    ensures fault { IfErr result (λ fault. fault ≡ Fault.OutOfMemory) }
+    ensures fault { IfErr result (λ fault. fault ≡ Refusal.OutOfMemory) }
     ensures takes { OnOk result (Takes (said (Act.Bid seat private amount)) desk.old desk.new) }
 {
     desk.push(Entry::Step(Marker::Act(Act::Bid {
@@ -87,8 +87,8 @@ fn play_bid(desk: &mut Desk, seat: Seat, private: Private, amount: u64) -> Resul
 }
 
 // The seat passes, or leaves where several raise.
-fn play_pass(roster: &Roster, desk: &mut Desk, seat: Seat) -> Result<(), Fault>
-    ensures fault { IfErr result (λ fault. fault ≡ Fault.OutOfMemory) }
+fn play_pass(roster: &Roster, desk: &mut Desk, seat: Seat) -> Result<(), Refusal>
+    ensures fault { IfErr result (λ fault. fault ≡ Refusal.OutOfMemory) }
     ensures takes { OnOk result (Takes (λ book. pass_of roster.now seat (brings_incomes (players book) (holder book) (progress book)) book) desk.old desk.new) }
 {
     let brings = brings_incomes(desk.position());
@@ -97,8 +97,8 @@ fn play_pass(roster: &Roster, desk: &mut Desk, seat: Seat) -> Result<(), Fault>
 }
 
 // The seat passes, which brings the incomes or doesn't.
-fn pass(roster: &Roster, desk: &mut Desk, seat: Seat, brings: bool) -> Result<(), Fault>
-    ensures fault { IfErr result (λ fault. fault ≡ Fault.OutOfMemory) }
+fn pass(roster: &Roster, desk: &mut Desk, seat: Seat, brings: bool) -> Result<(), Refusal>
+    ensures fault { IfErr result (λ fault. fault ≡ Refusal.OutOfMemory) }
     ensures takes { OnOk result (Takes (pass_of roster.now seat brings) desk.old desk.new) }
 {
     desk.push(Entry::Step(Marker::Act(Act::Pass { seat })))?;
@@ -108,8 +108,8 @@ fn pass(roster: &Roster, desk: &mut Desk, seat: Seat, brings: bool) -> Result<()
 }
 
 // The privates pay their owners, if a pass brings that.
-fn pay_incomes_if(roster: &Roster, desk: &mut Desk, brings: bool) -> Result<(), Fault>
-    ensures fault { IfErr result (λ fault. fault ≡ Fault.OutOfMemory) }
+fn pay_incomes_if(roster: &Roster, desk: &mut Desk, brings: bool) -> Result<(), Refusal>
+    ensures fault { IfErr result (λ fault. fault ≡ Refusal.OutOfMemory) }
     ensures takes { OnOk result (Takes (incomes_if roster.now brings) desk.old desk.new) }
 {
     if !brings {
@@ -120,8 +120,14 @@ fn pay_incomes_if(roster: &Roster, desk: &mut Desk, brings: bool) -> Result<(), 
 }
 
 // The seat sets a corporation's first price.
-fn play_par(chart: &Chart, desk: &mut Desk, seat: Seat, corp: Corp, price: u64) -> Result<(), Fault>
-    ensures fault { IfErr result (λ fault. fault ≡ Fault.OutOfMemory) }
+fn play_par(
+    chart: &Chart,
+    desk: &mut Desk,
+    seat: Seat,
+    corp: Corp,
+    price: u64,
+) -> Result<(), Refusal>
+    ensures fault { IfErr result (λ fault. fault ≡ Refusal.OutOfMemory) }
     ensures takes { OnOk result (Takes (sets_par chart.now seat corp price) desk.old desk.new) }
 {
     desk.push(Entry::Step(Marker::Act(Act::Par { seat, corp, price })))?;
@@ -131,8 +137,8 @@ fn play_par(chart: &Chart, desk: &mut Desk, seat: Seat, corp: Corp, price: u64) 
 }
 
 // The corporation's token is put on the par cell of the price, if the chart has one.
-fn mark_par(chart: &Chart, desk: &mut Desk, corp: Corp, price: u64) -> Result<(), Fault>
-    ensures fault { IfErr result (λ fault. fault ≡ Fault.OutOfMemory) }
+fn mark_par(chart: &Chart, desk: &mut Desk, corp: Corp, price: u64) -> Result<(), Refusal>
+    ensures fault { IfErr result (λ fault. fault ≡ Refusal.OutOfMemory) }
     ensures takes { OnOk result (Takes (par_marks chart.now corp price) desk.old desk.new) }
 {
     match par_cell(chart, price) {

@@ -9,7 +9,7 @@ ghost use Rattle.rr_desk.specs.Position.Position.{IsPositionOf};
 ghost use Rattle.rr_auction.specs.Rules.{asked, asked_in, price};
 
 use rr_books::{Books, Money, Private};
-use rr_desk::position::Position;
+use rr_desk::{Position, dollars};
 use rr_roster::Roster;
 use rr_rounds::bids::{Bidding, cheapest};
 
@@ -56,16 +56,6 @@ pub(crate) fn least_bid(bidding: &Bidding, private: Private, roster: &Roster) ->
 {
     let greatest = bidding.highest_bid(private);
     greatest.max(u64::from(roster.face(private))) + 5
-}
-
-/// The amount as money.
-pub(crate) fn dollars(amount: u64) -> Money
-    requires { amount ≤ 10000000000 }
-    ensures value { result ≡ dollars amount }
-    ensures low { pos 0 ≤ℤ result.0 }
-    ensures high { result.0 ≤ℤ pos 10000000000 }
-{
-    Money(amount as i64)
 }
 
 // What the private costs now, by the bids.

@@ -12,16 +12,14 @@ ghost use Rattle.rr_desk.specs.Desk.{Takes};
 ghost use Rattle.rr_auction.specs.Effects.{gift, may_end, sale, settle, settle_each, settles, stock_begins};
 
 use crate::due::is_over;
-use crate::pricing::dollars;
-use rr_books::{Books, Cert, Corp, Entry, Fault, Marker, Money, Party, Place, Private, Seat};
-use rr_desk::position::Position;
-use rr_desk::{Desk, give_lowest_share};
+use rr_books::{Books, Cert, Corp, Entry, Marker, Money, Party, Place, Private, Refusal, Seat};
+use rr_desk::{Desk, Position, dollars, give_lowest_share};
 use rr_rounds::bids::{Bidding, is_cheapest};
 
 /// The privates that have just one bidder when they become the cheapest are sold, and the auction may be over.
 #[tactic(auto, unfolding(crate::specs::Effects::settle))]
-pub(crate) fn settle(desk: &mut Desk) -> Result<(), Fault>
-    ensures fault { IfErr result (λ fault. fault ≡ Fault.OutOfMemory) }
+pub(crate) fn settle(desk: &mut Desk) -> Result<(), Refusal>
+    ensures fault { IfErr result (λ fault. fault ≡ Refusal.OutOfMemory) }
     ensures takes { OnOk result (Takes settle desk.old desk.new) }
 {
     settle_each(desk)?;
@@ -36,11 +34,11 @@ pub(crate) fn sell(
     seat: Seat,
     private: Private,
     amount: Money,
-) -> Result<(), Fault>
+) -> Result<(), Refusal>
     requires seated { seat.0 < 6 }
     requires low { pos 0 ≤ℤ amount.0 }
     requires high { amount.0 ≤ℤ pos 10000000000 }
-    ensures fault { IfErr result (λ fault. fault ≡ Fault.OutOfMemory) }
+    ensures fault { IfErr result (λ fault. fault ≡ Refusal.OutOfMemory) }
     ensures takes { OnOk result (Takes (sale seat private amount) desk.old desk.new) }
 {
     desk.push(Entry::Move {
@@ -57,8 +55,8 @@ pub(crate) fn sell(
 }
 
 // Each private in turn that is the cheapest then, and has just one bidder, is sold.
-fn settle_each(desk: &mut Desk) -> Result<(), Fault>
-    ensures fault { IfErr result (λ fault. fault ≡ Fault.OutOfMemory) }
+fn settle_each(desk: &mut Desk) -> Result<(), Refusal>
+    ensures fault { IfErr result (λ fault. fault ≡ Refusal.OutOfMemory) }
     ensures takes { OnOk result (Takes (settle_each privates) desk.old desk.new) }
 {
     for private in Private::ALL {
@@ -68,8 +66,8 @@ fn settle_each(desk: &mut Desk) -> Result<(), Fault>
 }
 
 // The private is sold to its only bidder, if it is the cheapest and has just one.
-fn settle_one(desk: &mut Desk, private: Private) -> Result<(), Fault>
-    ensures fault { IfErr result (λ fault. fault ≡ Fault.OutOfMemory) }
+fn settle_one(desk: &mut Desk, private: Private) -> Result<(), Refusal>
+    ensures fault { IfErr result (λ fault. fault ≡ Refusal.OutOfMemory) }
     ensures takes { OnOk result (Takes (settles private) desk.old desk.new) }
 {
     match buyer(desk.position(), private) {
@@ -120,8 +118,8 @@ fn bid_by(bidding: &Bidding, private: Private, seat: Seat) -> Money
 }
 
 // The stock round begins if the auction is over.
-fn end(desk: &mut Desk) -> Result<(), Fault>
-    ensures fault { IfErr result (λ fault. fault ≡ Fault.OutOfMemory) }
+fn end(desk: &mut Desk) -> Result<(), Refusal>
+    ensures fault { IfErr result (λ fault. fault ≡ Refusal.OutOfMemory) }
     ensures takes { OnOk result (Takes may_end desk.old desk.new) }
 {
     let over = is_over(desk.position());
@@ -130,8 +128,8 @@ fn end(desk: &mut Desk) -> Result<(), Fault>
 }
 
 // The stock round begins, if that is due.
-fn begin_stock_if(desk: &mut Desk, over: bool) -> Result<(), Fault>
-    ensures fault { IfErr result (λ fault. fault ≡ Fault.OutOfMemory) }
+fn begin_stock_if(desk: &mut Desk, over: bool) -> Result<(), Refusal>
+    ensures fault { IfErr result (λ fault. fault ≡ Refusal.OutOfMemory) }
     ensures takes { OnOk result (Takes (stock_begins over) desk.old desk.new) }
 {
     if !over {
@@ -143,8 +141,8 @@ fn begin_stock_if(desk: &mut Desk, over: bool) -> Result<(), Fault>
 
 // What comes with a private: a share of the PRR with the C&A, the B&O's presidency with the B&O.
 #[tactic(auto, unfolding(crate::specs::Effects::gift))]
-fn give_gift(desk: &mut Desk, private: Private, seat: Seat) -> Result<(), Fault>
-    ensures fault { IfErr result (λ fault. fault ≡ Fault.OutOfMemory) }
+fn give_gift(desk: &mut Desk, private: Private, seat: Seat) -> Result<(), Refusal>
+    ensures fault { IfErr result (λ fault. fault ≡ Refusal.OutOfMemory) }
     ensures takes { OnOk result (Takes (gift private seat) desk.old desk.new) }
 {
     match private {

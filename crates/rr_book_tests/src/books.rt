@@ -1,8 +1,8 @@
 use crate::opening::{self, check};
 use rr_books::laws::money_is_kept;
 use rr_books::{
-    Books, Cert, Corp, Fault, Kind, Money, Names, Party, Place, Private, Seat, ShareNumber, Train,
-    Words, certificate_limit, starting_money,
+    Books, Cert, Corp, Kind, Money, Names, Party, Place, Private, Refusal, Seat, ShareNumber,
+    Train, Words, certificate_limit, starting_money,
 };
 use rr_words::Name;
 use std::process::Abort;
@@ -38,17 +38,17 @@ fn pay(
     from: Party,
     to: Party,
     amount: i64,
-) -> Result<(), Fault> {
+) -> Result<(), Refusal> {
     assert!(rt; 0 <= amount && amount < 10000);
     assert!(rt; books.payments() < 100);
     books.pay(from, to, Money(amount))
 }
 
-fn give(books: &mut Books, cert: Cert, to: Place) -> Result<(), Fault> {
+fn give(books: &mut Books, cert: Cert, to: Place) -> Result<(), Refusal> {
     books.give(cert, to)
 }
 
-fn give_train(books: &mut Books, train: Train, to: Place) -> Result<(), Fault> {
+fn give_train(books: &mut Books, train: Train, to: Place) -> Result<(), Refusal> {
     books.give_train(train, to)
 }
 
@@ -97,7 +97,7 @@ fn a_payer_has_what_it_pays(rt: HostRuntime) {
         (A, PRR, 600, Ok(()), 0, 600, 5),
         (B, B, 600, Ok(()), 600, 600, 6),
         (Party::Bank, A, 9601, Ok(()), -1, 9601, 7),
-        (PRR, A, 601, Err(Fault::TooLittleCash), 600, 9601, 7),
+        (PRR, A, 601, Err(Refusal::TooLittleCash), 600, 9601, 7),
     ] {
         check(
             &rt,
@@ -121,7 +121,7 @@ fn nobody_else_pays(rt: HostRuntime) {
         &rt,
         "payment",
         pay(&rt, &mut books, A, nobody, 9999),
-        Err(Fault::NoSuchName),
+        Err(Refusal::NoSuchName),
     );
 }
 
@@ -163,7 +163,7 @@ fn nobody_else_gets_a_certificate(rt: HostRuntime) {
         &rt,
         "gift",
         give(&mut books, Cert::Private(Private::Sv), nobody),
-        Err(Fault::NoSuchName),
+        Err(Refusal::NoSuchName),
     );
 }
 
@@ -192,7 +192,7 @@ fn no_other_train_goes_to_a_place(rt: HostRuntime) {
         &rt,
         "gift of none",
         give_train(&mut books, NO_FOUR, Place::Gone),
-        Err(Fault::NoSuchName),
+        Err(Refusal::NoSuchName),
     );
 }
 
@@ -216,19 +216,6 @@ fn words_are_copied(rt: HostRuntime) {
 #[test]
 fn names_are_seated_in_turn(rt: HostRuntime) {
     check(&rt, "names", names(&rt).as_slice().len(), 2);
-}
-
-#[test]
-fn faults_have_words_and_numbers(rt: HostRuntime) {
-    for (fault, text, number) in [
-        (Fault::NoSuchName, "no such name", 1),
-        (Fault::TooLittleCash, "too little cash", 2),
-        (Fault::OutOfMemory, "out of memory", 70),
-    ] {
-        let words = format!(in rt.alloc(); "{fault}").expect(&rt, "memory");
-        check(&rt, "text", words.as_str(), text);
-        check(&rt, "number", fault.number(), number);
-    }
 }
 
 #[test]

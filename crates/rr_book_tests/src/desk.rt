@@ -1,9 +1,9 @@
 use crate::opening::{self, check, check_entries};
 use rr_books::{
-    Cell, Cert, Corp, Entry, Fault, Kind, Marker, Money, Party, Place, Private, Seat, ShareNumber,
-    Train,
+    Cell, Cert, Corp, Entry, Kind, Marker, Money, Party, Place, Private, Refusal, Seat,
+    ShareNumber, Train,
 };
-use rr_desk::{Desk, Entries, give_lowest_share, left_of, lowest_share, pay_incomes};
+use rr_desk::{Desk, Entries, dollars, give_lowest_share, left_of, lowest_share, pay_incomes};
 use std::process::Abort;
 
 const A: Seat = Seat(0);
@@ -18,7 +18,7 @@ fn cash(desk: &Desk, party: Party) -> i64 {
 }
 
 /// The seat `A` pays the bank.
-fn pay(rt: &impl Abort, desk: &mut Desk, amount: i64) -> Result<(), Fault> {
+fn pay(rt: &impl Abort, desk: &mut Desk, amount: i64) -> Result<(), Refusal> {
     assert!(rt; 0 <= amount && amount < 10000);
     desk.push(Entry::Pay {
         from: Party::Seat(A),
@@ -27,24 +27,24 @@ fn pay(rt: &impl Abort, desk: &mut Desk, amount: i64) -> Result<(), Fault> {
     })
 }
 
-fn give(desk: &mut Desk, cert: Cert, to: Place) -> Result<(), Fault> {
+fn give(desk: &mut Desk, cert: Cert, to: Place) -> Result<(), Refusal> {
     desk.push(Entry::Move { cert, to })
 }
 
-fn give_train(rt: &impl Abort, desk: &mut Desk, train: Train, to: Place) -> Result<(), Fault> {
+fn give_train(rt: &impl Abort, desk: &mut Desk, train: Train, to: Place) -> Result<(), Refusal> {
     assert!(rt; desk.books().has_train(train));
     desk.push(Entry::Train { train, to })
 }
 
-fn begin_stock_round(desk: &mut Desk) -> Result<(), Fault> {
+fn begin_stock_round(desk: &mut Desk) -> Result<(), Refusal> {
     desk.push(Entry::Step(Marker::Stock))
 }
 
-fn mark(desk: &mut Desk, corp: Corp, cell: Cell) -> Result<(), Fault> {
+fn mark(desk: &mut Desk, corp: Corp, cell: Cell) -> Result<(), Refusal> {
     desk.push(Entry::Mark { corp, cell })
 }
 
-fn pay_all_incomes(rt: &(impl Abort + AllocGlobal), desk: &mut Desk) -> Result<(), Fault> {
+fn pay_all_incomes(rt: &(impl Abort + AllocGlobal), desk: &mut Desk) -> Result<(), Refusal> {
     pay_incomes(desk, &opening::roster(rt))
 }
 
@@ -135,6 +135,18 @@ fn gives_a_certificate_and_a_train(rt: HostRuntime) {
         entries.as_slice(),
         0,
         "[Move { cert: President(Erie), to: Pool }, Train { train: Train { kind: Two, number: 1 }, to: Corp(Nyc) }]",
+    );
+}
+
+#[test]
+fn an_amount_of_dollars_is_money(rt: HostRuntime) {
+    check(&rt, "nothing", dollars(0), Money(0));
+    check(&rt, "dollars", dollars(600), Money(600));
+    check(
+        &rt,
+        "the most",
+        dollars(10_000_000_000),
+        Money(10_000_000_000),
     );
 }
 

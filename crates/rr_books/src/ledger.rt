@@ -8,8 +8,8 @@ ghost use Rattle.rr_books.specs.State.{IsStateOf, Extends, cash_of, place_of, co
 
 use crate::certificates::{Cert, ShareNumber, Train};
 use crate::entries::Entry;
-use crate::faults::Fault;
 use crate::parties::{Money, Party, Place, Seat};
+use crate::refusal::Refusal;
 use crate::start::starting_money;
 use rr_roster::{Corp, Kind, Roster};
 use std::marker::Model;
@@ -214,7 +214,7 @@ impl Books {
     ///
     /// `NoSuchName` where one of the two isn't at the table, `TooLittleCash` where the payer has less, unless it is
     /// the bank, which may owe. The books are as before then.
-    pub fn pay(&mut self, from: Party, to: Party, amount: Money) -> Result<(), Fault>
+    pub fn pay(&mut self, from: Party, to: Party, amount: Money) -> Result<(), Refusal>
         requires not_negative { pos 0 ≤ℤ amount.0 }
         requires small { amount.0 ≤ℤ pos 10000000000 }
         requires room { self.old.payments < 400000000 }
@@ -234,13 +234,13 @@ impl Books {
         ensures err { OnErr result (self.new ≡ self.old) }
     {
         if !self.has_party(from) {
-            return Err(Fault::NoSuchName);
+            return Err(Refusal::NoSuchName);
         }
         if !self.has_party(to) {
-            return Err(Fault::NoSuchName);
+            return Err(Refusal::NoSuchName);
         }
         if !from.is_bank() && self.balance(from).0 < amount.0 {
-            return Err(Fault::TooLittleCash);
+            return Err(Refusal::TooLittleCash);
         }
         // A table has at most six players, so that both have their place in the row of balances.
         let _players = self.players();
@@ -253,7 +253,7 @@ impl Books {
     /// # Errors
     ///
     /// `NoSuchName` where the place is a seat that isn't at the table. The books are as before then.
-    pub fn give(&mut self, cert: Cert, to: Place) -> Result<(), Fault>
+    pub fn give(&mut self, cert: Cert, to: Place) -> Result<(), Refusal>
         ensures verdict { MatchResult result
             (λ _. move_verdict self.old.players to ≡ None)
             (λ fault. move_verdict self.old.players to ≡ Some fault) }
@@ -270,7 +270,7 @@ impl Books {
         ensures err { OnErr result (self.new ≡ self.old) }
     {
         if !self.has_place(to) {
-            return Err(Fault::NoSuchName);
+            return Err(Refusal::NoSuchName);
         }
         self.move_certificate(cert, to);
         Ok(())
@@ -282,7 +282,7 @@ impl Books {
     ///
     /// `NoSuchName` where there is no such train, or the place is a seat that isn't at the table. The books are as
     /// before then.
-    pub fn give_train(&mut self, train: Train, to: Place) -> Result<(), Fault>
+    pub fn give_train(&mut self, train: Train, to: Place) -> Result<(), Refusal>
         ensures verdict { MatchResult result
             (λ _. train_move_verdict self.old.players (train_place_of self.old) train to ≡ None)
             (λ fault. train_move_verdict self.old.players (train_place_of self.old) train to ≡ Some fault) }
@@ -299,10 +299,10 @@ impl Books {
         ensures err { OnErr result (self.new ≡ self.old) }
     {
         if !self.has_train(train) {
-            return Err(Fault::NoSuchName);
+            return Err(Refusal::NoSuchName);
         }
         if !self.has_place(to) {
-            return Err(Fault::NoSuchName);
+            return Err(Refusal::NoSuchName);
         }
         self.move_train(train, to);
         Ok(())

@@ -6,20 +6,22 @@
 
 mod acts;
 mod certificates;
+mod clause;
 mod entries;
-mod faults;
 pub mod laws;
 mod ledger;
 mod parties;
+mod refusal;
 mod seating;
 mod start;
 
-pub use acts::{Act, Names, ShareSource, TrainSource, Words};
+pub use acts::{Act, Names, Words};
 pub use certificates::{Cert, ShareNumber, Train};
+pub use clause::Clause;
 pub use entries::{Cell, Entry, Marker};
-pub use faults::Fault;
 pub use ledger::Books;
 pub use parties::{Money, Party, Place, Seat};
-pub use rr_roster::{Corp, Kind, Private};
+pub use refusal::Refusal;
+pub use rr_roster::{Corp, Kind, Private, ShareSource, TrainSource};
 pub use seating::left_of;
 pub use start::{certificate_limit, starting_money};

@@ -18,7 +18,7 @@ use Rattle.rr_store.specs.Holding.{Carries}
 use Rattle.rr_store.specs.Opening.{IsNoVerdict, OpenAllows, Refuses}
 use Rattle.rr_store.specs.World.{World}
 use Rattle.rr_moderator.specs.declared.fault.Fault.{Fault}
-use Rattle.rr_moderator.specs.declared.fault.Fault.TheVariants.{OutOfMemory, StreamFailed}
+use Rattle.rr_moderator.specs.declared.fault.Fault.TheVariants.{StreamFailed}
 use Rattle.rr_moderator.specs.declared.moderator.Moderator.{Moderator}
 use Rattle.rr_moderator.specs.declared.summary.Summary.{Summary}
 use Rattle.rr_moderator.specs.Answer.{summary_text}
@@ -42,14 +42,9 @@ abbrev pub IsRefused : Fault → OutputState → OutputState → Ending → Type
 IsRefused fault before after ending =
     ((ending ≡ Faulted fault) × IsSent before (refusal_of fault) after) ⊎ ((ending ≡ Faulted StreamFailed) × IsCutShort before (refusal_of fault) after)
 
--- the refusal was sent, or that of want of memory where there was no room for it, or it was cut short
-abbrev pub IsRefusedOr70 : Fault → OutputState → OutputState → Ending → Type 0
-IsRefusedOr70 fault before after ending = IsRefused fault before after ending ⊎ IsRefused OutOfMemory before after ending
-
--- both numbers were told, or the refusal for want of memory where there was no room for them, or it was cut short
+-- both numbers were told, or that was cut short
 abbrev pub IsTold : Summary → OutputState → OutputState → Ending → Type 0
-IsTold summary before after ending =
-    IsAcknowledged (summary_text summary) before after ending ⊎ IsRefused OutOfMemory before after ending
+IsTold summary before after ending = IsAcknowledged (summary_text summary) before after ending
 
 -- What a formatting does to a disk, however it ends: a stop at any moment of it leaves no store yet of an empty disk that was
 -- none, or one that keeps these texts and no table; and it makes five writes and three syncs at most.
@@ -62,7 +57,7 @@ pub record MayFormat {D : Type 0} (Honest Works : D → Type 0) (state : D → D
   pub few_syncs : syncs new ≤ syncs old + 3
 
 -- What a `format` over these texts does to a disk and a writer, and the status with which it ends. Where it isn't made, the
--- disk is as it was or the device failed, and a disk that works doesn't fail.
+-- disk is as it was or the device failed, a disk that works doesn't fail, and just its refusal is written.
 pub data Formats {D : Type 0} (Honest Works : D → Type 0) (state : D → DiskState) (past : D → List DiskState) (faults writes syncs : D → ℕ) (texts : KitTexts) (old new : D)
     (writer_old writer_new : OutputState) : ℕ → Type 0 where
   Made : (ending : Ending) → MayFormat Honest Works state past writes syncs texts old new
@@ -77,7 +72,7 @@ pub data Formats {D : Type 0} (Honest Works : D → Type 0) (state : D → DiskS
       → (Honest new → FormatAllows texts (state old) (state new) (Err fault))
       → (fault ≡ T.DeviceFailed) ⊎ (new ≡ old)
       → CountsFailure (faults old) (faults new) fault → OnDevice fault (Works new → ⊥)
-      → IsRefusedOr70 (of_store fault) writer_old writer_new ending
+      → IsRefused (of_store fault) writer_old writer_new ending
       → Formats Honest Works state past faults writes syncs texts old new writer_old writer_new (status_of ending)
 
 -- how a run ends whose serving ended so
@@ -105,8 +100,8 @@ pub record Begins {D : Type 0} (Honest Works : D → Type 0) (state : D → Disk
   pub one_sync : syncs (disk_under begun) ≡ counted (syncs old)
 
 -- Why a file is refused, and how the program ends then, with this status: the file breaks a clause, or the device failed or
--- memory was wanted, and of one of ours none but these; the disk is synced once at most and not written, a disk that works
--- doesn't fail, and the refusal is written.
+-- memory was wanted, and of one of ours none but these; the disk was synced, unless the device failed, and it isn't written; a
+-- disk that works doesn't fail; and just this refusal is written, so 70 only where the opening wanted memory.
 pub record IsRefusedFile {D : Type 0} (Honest Works : D → Type 0) (state : D → DiskState) (past : D → List DiskState) (faults writes syncs : D → ℕ) (old new : D)
     (writer_old writer_new : OutputState) (status : ℕ) : Type 0 where
   pub fault : store.Fault
@@ -118,10 +113,10 @@ pub record IsRefusedFile {D : Type 0} (Honest Works : D → Type 0) (state : D �
   pub counts : CountsFailure (faults old) (faults new) fault
   pub device : OnDevice fault (Works new → ⊥)
   pub no_write : writes new ≡ writes old
-  pub few_syncs : syncs new ≤ syncs old + 1
+  pub one_sync : syncs new ≡ counted (syncs old)
   pub ending : Ending
   pub ends : status ≡ status_of ending
-  pub written : IsRefusedOr70 (of_store fault) writer_old writer_new ending
+  pub written : IsRefused (of_store fault) writer_old writer_new ending
 
 -- What `serve` does with a disk, a reader and a writer, and the status with which it ends: the file is opened, each line is
 -- answered so that what it comes to lasts, what is written are the replies to what is read, and whatever a stop leaves

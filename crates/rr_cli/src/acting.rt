@@ -4,16 +4,13 @@ ghost use Rattle.rr_store.specs.Lent.{lent_texts};
 ghost use Rattle.rr_moderator.specs.Fault.{refusal_of};
 ghost use Rattle.rr_moderator.specs.Holding.{IsSummary, held_of};
 ghost use Rattle.rr_cli.specs.Acting.{Acts, Begins, Checks, Formats, IsAcknowledged, IsRefused, IsRefusedFile};
-ghost use Rattle.rr_cli.specs.Acting.{IsRefusedOr70, IsTold, Serves, ending_of};
+ghost use Rattle.rr_cli.specs.Acting.{IsTold, Serves, ending_of};
 
 use crate::{Ending, Plan, status};
 use rr_disk::Disk;
-use rr_moderator::{Fault, Moderator, Refused, Reply, Summary, Texts};
+use rr_moderator::{Fault, Moderator, Refused, Summary, Texts};
 use rr_serve::{Input, Output, send};
 use std::alloc::Global;
-
-/// The refusal for which no room is needed.
-const OUT_OF_MEMORY: &[u8] = b"no 70 out of memory\n";
 
 /// Does what the plan asks, and gives the status with which the program ends, and the disk.
 ///
@@ -53,7 +50,7 @@ fn format<D: Disk + Drop, O: Output>(
             (status(ending), disk)
         }
         Err(fault) => {
-            let ending = refuse(alloc, Fault::from(fault), writer);
+            let ending = refuse(Fault::from(fault), writer);
             (status(ending), disk)
         }
     }
@@ -83,7 +80,7 @@ fn check<D: Disk + Drop, O: Output>(alloc: Global, disk: D, writer: &mut O) -> (
 {
     match open(alloc, disk, writer) {
         Ok(moderator) => {
-            let ending = tell(alloc, summary_of(&moderator), writer);
+            let ending = tell(summary_of(&moderator), writer);
             (status(ending), moderator.into_disk())
         }
         Err(refused) => refused,
@@ -106,7 +103,7 @@ fn open<D: Disk + Drop, O: Output>(
         Ok(moderator) => Ok(moderator),
         Err(refused) => {
             let Refused { fault, disk } = refused;
-            let ending = refuse(alloc, Fault::from(fault), writer);
+            let ending = refuse(Fault::from(fault), writer);
             Err((status(ending), disk))
         }
     }
@@ -130,17 +127,12 @@ fn summary_of<D: Disk + Drop>(moderator: &Moderator<D>) -> Summary
     moderator.summary().unwrap()
 }
 
-/// Writes how much a file holds, or that no memory is left to make the line.
-fn tell<O: Output>(alloc: Global, summary: Summary, writer: &mut O) -> Ending
+/// Writes how much a file holds.
+fn tell<O: Output>(summary: Summary, writer: &mut O) -> Ending
     ensures { IsTold summary (O.state writer.old) (O.state writer.new) result }
 {
-    match Reply::new(alloc) {
-        Ok(mut reply) => {
-            summary.write(&mut reply);
-            acknowledge(reply.as_bytes(), writer)
-        }
-        Err(_) => tell_want_of_memory(writer),
-    }
+    let line = summary.line();
+    acknowledge(line.as_bytes(), writer)
 }
 
 /// Writes the line of what was done and flushes it.
@@ -153,24 +145,12 @@ fn acknowledge<O: Output>(line: &[u8], writer: &mut O) -> Ending
     }
 }
 
-/// Writes the refusal as one line, and tells how the program ends. Where no memory is left to make the line,
-/// it is that of `OutOfMemory`.
-pub fn refuse<O: Output>(alloc: Global, fault: Fault, writer: &mut O) -> Ending
-    ensures { IsRefusedOr70 fault (O.state writer.old) (O.state writer.new) result }
+/// Writes the refusal as one line, which takes no memory, and tells how the program ends.
+pub fn refuse<O: Output>(fault: Fault, writer: &mut O) -> Ending
+    ensures { IsRefused fault (O.state writer.old) (O.state writer.new) result }
 {
-    match Reply::new(alloc) {
-        Ok(mut reply) => {
-            fault.write(&mut reply);
-            write_refusal(fault, reply.as_bytes(), writer)
-        }
-        Err(_) => tell_want_of_memory(writer),
-    }
-}
-
-fn tell_want_of_memory<O: Output>(writer: &mut O) -> Ending
-    ensures { IsRefused Fault.OutOfMemory (O.state writer.old) (O.state writer.new) result }
-{
-    write_refusal(Fault::OutOfMemory, OUT_OF_MEMORY, writer)
+    let refusal = fault.refusal();
+    write_refusal(fault, refusal.as_bytes(), writer)
 }
 
 fn write_refusal<O: Output>(fault: Fault, refusal: &[u8], writer: &mut O) -> Ending

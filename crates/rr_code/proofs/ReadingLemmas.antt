@@ -16,8 +16,8 @@ use Rattle.rr_code.specs.Query.{IsQuery, IsAccount, IsOwner, account_word, accou
 use Rattle.rr_code.specs.Line.{IsLine, line_words, read_for_table, read_line_words}
 use Rattle.rr_code.specs.declared.command.Command.{Command}
 use Rattle.rr_code.specs.declared.command.Command.TheVariants.{Open, BuyPrivate, Bid, Pass, Par, BuyShare, Sell, Swap, Done, Order as Ordered}
-use Rattle.rr_code.specs.declared.stock.ShareSource.{ShareSource}
-use Rattle.rr_code.specs.declared.stock.ShareSource.TheVariants as S
+use Rattle.rr_roster.specs.declared.sources.ShareSource.{ShareSource}
+use Rattle.rr_roster.specs.declared.sources.ShareSource.TheVariants as S
 use Rattle.rr_code.specs.declared.query.Query.{Query}
 use Rattle.rr_code.specs.declared.query.Query.TheVariants.{Tables, Stamp, Turns, Due, Cash, Limit, Asked, Privates, Holds, Price, Order, Phase, Trains, Iou, Worth}
 use Rattle.rr_code.specs.declared.query.Account.{Account}

@@ -7,8 +7,8 @@ use Rattle.rr_orders.specs.Order as orders
 use Rattle.rr_code.specs.Players.{ArePlayers}
 use Rattle.rr_code.specs.declared.command.Command.{Command}
 use Rattle.rr_code.specs.declared.command.Command.TheVariants.{Open, BuyPrivate, Bid, Pass, Par, BuyShare, Sell, Swap, Done, Order}
-use Rattle.rr_code.specs.declared.stock.ShareSource.{ShareSource}
-use Rattle.rr_code.specs.declared.stock.ShareSource.TheVariants.{Offer, Pool}
+use Rattle.rr_roster.specs.declared.sources.ShareSource.{ShareSource}
+use Rattle.rr_roster.specs.declared.sources.ShareSource.TheVariants.{Offer, Pool}
 use Rattle.rr_code.specs.declared.fault.Fault.{Fault}
 use Rattle.rr_code.specs.declared.fault.Fault.TheVariants.{Malformed}
 

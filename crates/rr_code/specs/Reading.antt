@@ -7,8 +7,8 @@ use Rattle.rr_turns.specs.declared.request.Request.TheVariants.{Play, Back, Forg
 use Rattle.rr_orders.specs.Scan.Company.{corp_of, private_of}
 use Rattle.rr_orders.specs.Reading.{read_order}
 use Rattle.rr_code.specs.Players.{are_players}
-use Rattle.rr_code.specs.declared.stock.ShareSource.{ShareSource}
-use Rattle.rr_code.specs.declared.stock.ShareSource.TheVariants.{Offer, Pool}
+use Rattle.rr_roster.specs.declared.sources.ShareSource.{ShareSource}
+use Rattle.rr_roster.specs.declared.sources.ShareSource.TheVariants.{Offer, Pool}
 use Rattle.rr_code.specs.declared.command.Command.{Command}
 use Rattle.rr_code.specs.declared.command.Command.TheVariants.{Open, BuyPrivate, Bid, Pass, Par, BuyShare, Sell, Swap, Done, Order}
 

@@ -3,13 +3,12 @@ ghost use Rattle.rr_orders.specs.Scan.Writing.{Continues};
 ghost use Rattle.rr_code.specs.Command.{IsCommand, IsReadAs, SpellsCommand, spelling, text};
 ghost use Rattle.rr_code.specs.Reading.{read_words, read_open};
 
-use crate::auction;
 use crate::fault::Fault;
 use crate::players::Players;
-use crate::stock::{self, ShareSource};
+use crate::{auction, stock};
 use rr_orders::Order;
 use rr_orders::scan::{Words, write_word};
-use rr_roster::{Corp, Private};
+use rr_roster::{Corp, Private, ShareSource};
 use rr_words::Name;
 use std::alloc::AllocError;
 

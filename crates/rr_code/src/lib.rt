@@ -1,7 +1,7 @@
 //! The lines that the moderator reads: one spelling for each request and each query.
 //!
-//! Stands on `rr_words`, `rr_roster`, `rr_turns`, `rr_scan` and `rr_orders`. Its promise: `Line::read` and
-//! `read_record` read exactly what is spelled, one text a line (`laws::one_spelling`).
+//! Stands on `rr_words`, `rr_roster`, `rr_turns` and `rr_orders`. Its promise: `Line::read` and `read_record` read
+//! exactly what is spelled, one text a line (`laws::one_spelling`).
 #![tactic(auto)]
 
 mod auction;
@@ -22,4 +22,3 @@ pub use query::{Account, Owner, Query, TrainHolder};
 pub use request::{read_record, write_request};
 pub use rr_orders::Order;
 pub use rr_turns::Request;
-pub use stock::ShareSource;

@@ -6,40 +6,29 @@ ghost use Rattle.rr_code.specs.Reading.{source_of, read_buy, read_sell, read_swa
 
 use crate::command::Command;
 use rr_orders::scan::{Words, next_player, read_corp, write_number, write_word};
-use rr_roster::Corp;
+use rr_roster::{Corp, ShareSource};
 use rr_words::{Name, number};
 use std::alloc::AllocError;
 
-/// Where a share is bought.
-#[derive(Clone, Copy, Debug, PartialEq, Eq)]
-pub enum ShareSource {
-    /// The initial offering, at par.
-    Offer,
-    /// The bank's pool, at the market's price.
-    Pool,
+fn read_source(word: &[u8]) -> Option<ShareSource>
+    ensures exact { result ≡ source_of word.now }
+    ensures found { IfSome result (λ source. word.now ≡ source_word source) }
+{
+    if word == b"offer".as_slice() {
+        return Some(ShareSource::Offer);
+    }
+    if word == b"pool".as_slice() {
+        return Some(ShareSource::Pool);
+    }
+    None
 }
 
-impl ShareSource {
-    fn read(word: &[u8]) -> Option<ShareSource>
-        ensures exact { result ≡ source_of word.now }
-        ensures found { IfSome result (λ source. word.now ≡ source_word source) }
-    {
-        if word == b"offer".as_slice() {
-            return Some(ShareSource::Offer);
-        }
-        if word == b"pool".as_slice() {
-            return Some(ShareSource::Pool);
-        }
-        None
-    }
-
-    fn name(self) -> &'static str
-        ensures { result.now ≡ source_word self }
-    {
-        match self {
-            ShareSource::Offer => "offer",
-            ShareSource::Pool => "pool",
-        }
+fn source_name(source: ShareSource) -> &'static str
+    ensures { result.now ≡ source_word source }
+{
+    match source {
+        ShareSource::Offer => "offer",
+        ShareSource::Pool => "pool",
     }
 }
 
@@ -53,7 +42,7 @@ pub fn read_buy<'a>(words: &mut Words<'a>) -> Option<Command<'a>>
         return Some(Command::BuyPrivate { player });
     };
     let corp = read_corp(word)?;
-    let source = ShareSource::read(words.last()?)?;
+    let source = read_source(words.last()?)?;
     Some(Command::BuyShare {
         player,
         corp,
@@ -80,7 +69,7 @@ pub fn read_swap<'a>(words: &mut Words<'a>) -> Option<Command<'a>>
     ensures found { IfSome result (λ c. IsCommand c × (codes "swap" ∷ words.old ≡ spelling c)) }
 {
     let player = next_player(words)?;
-    let source = ShareSource::read(words.last()?)?;
+    let source = read_source(words.last()?)?;
     Some(Command::Swap { player, source })
 }
 
@@ -104,7 +93,7 @@ pub fn write_buy(
     out.extend_from_slice(b"buy")?;
     write_word(player.as_bytes(), out)?;
     write_word(corp.name().as_bytes(), out)?;
-    write_word(source.name().as_bytes(), out)
+    write_word(source_name(source).as_bytes(), out)
 }
 
 pub fn write_sell(
@@ -128,7 +117,7 @@ pub fn write_swap(player: &Name, source: ShareSource, out: &mut Vec<u8>) -> Resu
 {
     out.extend_from_slice(b"swap")?;
     write_word(player.as_bytes(), out)?;
-    write_word(source.name().as_bytes(), out)
+    write_word(source_name(source).as_bytes(), out)
 }
 
 pub fn write_done(player: &Name, out: &mut Vec<u8>) -> Result<(), AllocError>

@@ -1,2 +1,2 @@
-mod Opened
-mod Steps
+pub mod Opened
+pub mod Steps

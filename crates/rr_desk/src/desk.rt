@@ -6,7 +6,7 @@ ghost use Rattle.rr_desk.specs.Desk.{Holds, Takes};
 
 use crate::entries::Entries;
 use crate::position::Position;
-use rr_books::{Books, Entry, Fault};
+use rr_books::{Books, Entry, Refusal};
 use std::alloc::Global;
 use std::marker::Model;
 
@@ -65,9 +65,9 @@ impl Desk {
     ///
     /// `OutOfMemory`, also where the position follows no more entries; the desk is as before then.
     #[tactic(auto, using(crate::proofs::Taking::takes_entry))]
-    pub fn push(&mut self, entry: Entry) -> Result<(), Fault>
+    pub fn push(&mut self, entry: Entry) -> Result<(), Refusal>
         requires { Fits self.old.position entry }
-        ensures fault { IfErr result (λ fault. fault ≡ Fault.OutOfMemory) }
+        ensures fault { IfErr result (λ fault. fault ≡ Refusal.OutOfMemory) }
         ensures takes { OnOk result (Takes (adds entry) self.old self.new) }
         ensures err { OnErr result (self.new ≡ self.old) }
     {

@@ -1,7 +1,7 @@
 ghost use Rattle.std.specs.Prelude.{◌≡◌, [], ◌∷◌, ◌++◌, OnOk, IfErr};
-ghost use Rattle.rr_books.specs.declared.faults.Fault.TheVariants.{OutOfMemory};
+ghost use Rattle.rr_books.specs.declared.refusal.Refusal.TheVariants.{OutOfMemory};
 
-use rr_books::{Entry, Fault};
+use rr_books::{Entry, Refusal};
 use std::alloc::Global;
 use std::marker::Model;
 
@@ -31,7 +31,7 @@ impl Entries {
     }
 
     /// Adds an entry behind the others.
-    pub fn push(&mut self, entry: Entry) -> Result<(), Fault>
+    pub fn push(&mut self, entry: Entry) -> Result<(), Refusal>
         ensures ok { OnOk result (self.new ≡ self.old ++ entry ∷ []) }
         ensures err { IfErr result (λ fault. (fault ≡ OutOfMemory) × (self.new ≡ self.old)) }
     {

@@ -6,15 +6,15 @@ ghost use Rattle.rr_desk.specs.Effects.{lowest_share, moves_lowest_share};
 ghost use Rattle.rr_desk.specs.Desk.{AddsSome, Takes};
 
 use crate::desk::Desk;
-use rr_books::{Books, Cert, Corp, Entry, Fault, Place, ShareNumber};
+use rr_books::{Books, Cert, Corp, Entry, Place, Refusal, ShareNumber};
 
 /// Moves the lowest of the corporation's 10% certificates that are at one place to another, if there is one.
 ///
 /// # Errors
 ///
 /// `OutOfMemory`, where there is one; the desk is as before then.
-pub fn give_lowest_share(desk: &mut Desk, corp: Corp, from: Place, to: Place) -> Result<(), Fault>
-    ensures fault { IfErr result (λ fault. fault ≡ Fault.OutOfMemory) }
+pub fn give_lowest_share(desk: &mut Desk, corp: Corp, from: Place, to: Place) -> Result<(), Refusal>
+    ensures fault { IfErr result (λ fault. fault ≡ Refusal.OutOfMemory) }
     ensures takes { OnOk result (Takes (moves_lowest_share corp from to) desk.old desk.new) }
     ensures err { OnErr result (desk.new ≡ desk.old) }
     ensures needed { OnErr result (AddsSome (moves_lowest_share corp from to) desk.old) }

@@ -1,4 +1,3 @@
-pub mod Fault
 pub mod Names
 pub mod Verdict
 pub mod Play

@@ -2,10 +2,6 @@
 use Rattle.std.specs.Prelude.{ℕ, List, [], Option, None, Some, option_and_then, option_map, bytes_eq, get_or, position}
 use Rattle.rr_books.specs.declared.acts.Act.{Act}
 use Rattle.rr_books.specs.declared.acts.Act.TheVariants as A
-use Rattle.rr_books.specs.declared.acts.ShareSource as books
-use Rattle.rr_books.specs.declared.acts.ShareSource.TheVariants as B
-use Rattle.rr_books.specs.declared.acts.TrainSource as books_trains
-use Rattle.rr_books.specs.declared.acts.TrainSource.TheVariants as T
 use Rattle.rr_books.specs.declared.parties.Seat.{Seat}
 use Rattle.rr_books.specs.declared.parties.Party.{Party}
 use Rattle.rr_books.specs.declared.parties.Party.TheVariants as P
@@ -13,15 +9,11 @@ use Rattle.rr_books.specs.declared.parties.Place.{Place}
 use Rattle.rr_books.specs.declared.parties.Place.TheVariants as L
 use Rattle.rr_code.specs.declared.command.Command.{Command}
 use Rattle.rr_code.specs.declared.command.Command.TheVariants.{Open, BuyPrivate, Bid, Pass, Par, BuyShare, Sell, Swap, Done, Order}
-use Rattle.rr_code.specs.declared.stock.ShareSource as code
-use Rattle.rr_code.specs.declared.stock.ShareSource.TheVariants as S
 use Rattle.rr_code.specs.declared.query.Account.{Account}
 use Rattle.rr_code.specs.declared.query.Owner.{Owner}
 use Rattle.rr_code.specs.declared.query.TrainHolder.{TrainHolder}
 use Rattle.rr_orders.specs.declared.order.Order as orders
 use Rattle.rr_orders.specs.declared.order.Order.TheVariants as O
-use Rattle.rr_orders.specs.declared.trains.TrainSource as order_trains
-use Rattle.rr_orders.specs.declared.trains.TrainSource.TheVariants as U
 
 -- the seat of a player: the place of the name in the seating order
 abbrev pub seat_of : List (List ℕ) → List ℕ → Option Seat
@@ -47,16 +39,6 @@ abbrev pub trains_place : TrainHolder → Place
 trains_place TrainHolder.Pool = L.Pool
 trains_place (TrainHolder.Corp corp) = L.Corp corp
 
--- where a share is bought
-abbrev pub source_of : code.ShareSource → books.ShareSource
-source_of S.Offer = B.Offer
-source_of S.Pool = B.Pool
-
--- where a train is bought
-abbrev pub train_source_of : order_trains.TrainSource → books_trains.TrainSource
-train_source_of U.Bank = T.Bank
-train_source_of U.Pool = T.Pool
-
 -- a purchase from another corporation, with the seats of both presidents
 abbrev pub purchase_of : List (List ℕ) → List ℕ → List ℕ → (Seat → Seat → Act) → Option Act
 purchase_of players president seller_president act =
@@ -70,7 +52,7 @@ act_of_order players (O.Run corp sheet) = Some (A.Run corp sheet)
 act_of_order players (O.RunBest corp sheet certificate) = Some (A.RunBest corp sheet certificate)
 act_of_order players (O.PayOut corp) = Some (A.PayOut corp)
 act_of_order players (O.Hold corp) = Some (A.Hold corp)
-act_of_order players (O.BuyTrain corp kind source) = Some (A.BuyTrain corp kind (train_source_of source))
+act_of_order players (O.BuyTrain corp kind source) = Some (A.BuyTrain corp kind source)
 act_of_order players (O.BuyTrainFrom corp kind seller price president seller_president) =
     purchase_of players president seller_president (λ buys sells. A.BuyTrainFrom corp kind seller price buys sells)
 act_of_order players (O.Trade corp kind) = Some (A.Trade corp kind)
@@ -88,9 +70,9 @@ act_of players (BuyPrivate player) = option_map A.BuyPrivate (seat_of players pl
 act_of players (Bid player private amount) = option_map (λ seat. A.Bid seat private amount) (seat_of players player)
 act_of players (Pass player) = option_map A.Pass (seat_of players player)
 act_of players (Par player corp price) = option_map (λ seat. A.Par seat corp price) (seat_of players player)
-act_of players (BuyShare player corp source) = option_map (λ seat. A.BuyShare seat corp (source_of source)) (seat_of players player)
+act_of players (BuyShare player corp source) = option_map (λ seat. A.BuyShare seat corp source) (seat_of players player)
 act_of players (Sell player corp count) = option_map (λ seat. A.Sell seat corp count) (seat_of players player)
-act_of players (Swap player source) = option_map (λ seat. A.Swap seat (source_of source)) (seat_of players player)
+act_of players (Swap player source) = option_map (λ seat. A.Swap seat source) (seat_of players player)
 act_of players (Done player) = option_map A.Done (seat_of players player)
 act_of players (Order order) = act_of_order players order
 

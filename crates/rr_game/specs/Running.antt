@@ -5,9 +5,9 @@ use Rattle.rr_kit.specs.declared.kit.Kit.{Kit}
 use Rattle.rr_orders.specs.declared.order.Order.TheVariants.{Run}
 use Rattle.rr_roster.specs.declared.company.Corp.{Corp}
 use Rattle.rr_rules.specs.State.{GameState}
-use Rattle.rr_game.specs.declared.fault.Fault.{Fault}
+use Rattle.rr_books.specs.declared.refusal.Refusal.{Refusal}
 use Rattle.rr_game.specs.Verdict.{command_judgement}
 
 -- what refuses a run of the corporation by checks that take no memory, which ask nothing of its words
-abbrev pub run_verdict : Kit → List (List ℕ) → GameState → Corp → Option Fault
+abbrev pub run_verdict : Kit → List (List ℕ) → GameState → Corp → Option Refusal
 run_verdict kit players state c = (command_judgement kit players state (Order (Run c []))).first

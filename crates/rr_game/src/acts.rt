@@ -1,20 +1,19 @@
 //! Commands with seats in the place of names.
-ghost use Rattle.std.specs.Prelude.{◌≡◌, ◌≤◌, None, Some, IfOk, IsOkUnless, MatchResult};
+ghost use Rattle.std.specs.Prelude.{◌≡◌, ◌≤◌, None, Some, MatchResult};
 ghost use Rattle.rr_auction.specs.Small as auction;
 ghost use Rattle.rr_stock.specs.Small.{HasSeat};
 ghost use Rattle.rr_trains.specs.Depot.Small as depot;
 ghost use Rattle.rr_rules.specs.Runs.{run_verdict};
 ghost use Rattle.rr_rules.specs.State.{GameState, IsStandingOf};
 ghost use Rattle.rr_turns.specs.Judgement.{MayFind};
-ghost use Rattle.rr_game.specs.Names.{act_of, act_of_order, amount_in, price_in, source_of, train_source_of};
+ghost use Rattle.rr_game.specs.Names.{act_of, act_of_order, amount_in, price_in};
 ghost use Rattle.rr_game.specs.Verdict.{act_judgement, command_judgement_in_play};
 
-use crate::fault::Fault;
 use crate::game::Game;
-use rr_books::{Act, Corp, Words};
-use rr_code::{Command, Order, ShareSource};
+use rr_books::{Act, Corp, Refusal, Words};
+use rr_code::{Command, Order};
 use rr_kit::Kit;
-use rr_orders::{CertificateWords, SheetWords, TrainSource};
+use rr_orders::{CertificateWords, SheetWords};
 use std::alloc::Global;
 
 impl Game {
@@ -25,15 +24,15 @@ impl Game {
     ///
     /// `WrongStep` for an opening; `NoSuchName` for a player who isn't at the table; what refuses a run before its words
     /// are looked at; or `OutOfMemory`.
-    pub(crate) fn act(&self, alloc: Global, kit: &Kit, command: &Command) -> Result<Act, Fault>
+    pub(crate) fn act(&self, alloc: Global, kit: &Kit, command: &Command) -> Result<Act, Refusal>
         requires { amount_in command.now ≤ 10000000000 }
         ensures { MatchResult result
             (λ act. (act_of self.now.players command.now ≡ Some act) × HasSeat act × auction.IsSmall act × depot.IsSmall act)
             (λ fault. (state : GameState) → IsStandingOf state self.now.standing →
-            MayFind (command_judgement_in_play kit.now self.now.players state command.now) Fault.OutOfMemory fault) }
+            MayFind (command_judgement_in_play kit.now self.now.players state command.now) Refusal.OutOfMemory fault) }
     {
         match command {
-            Command::Open { .. } => Err(Fault::Rules(rr_rules::Fault::WrongStep)),
+            Command::Open { .. } => Err(Refusal::WrongStep),
             Command::BuyPrivate { player } => Ok(Act::BuyPrivate {
                 seat: self.seat(player)?,
             }),
@@ -65,7 +64,7 @@ impl Game {
             } => Ok(Act::BuyShare {
                 seat: self.seat(player)?,
                 corp: *corp,
-                source: source_of(*source),
+                source: *source,
             }),
             Command::Sell {
                 player,
@@ -78,7 +77,7 @@ impl Game {
             }),
             Command::Swap { player, source } => Ok(Act::Swap {
                 seat: self.seat(player)?,
-                source: source_of(*source),
+                source: *source,
             }),
             Command::Done { player } => Ok(Act::Done {
                 seat: self.seat(player)?,
@@ -88,12 +87,12 @@ impl Game {
     }
 
     // An order with seats in place of names.
-    fn act_of_order(&self, alloc: Global, kit: &Kit, order: &Order) -> Result<Act, Fault>
+    fn act_of_order(&self, alloc: Global, kit: &Kit, order: &Order) -> Result<Act, Refusal>
         requires { price_in order.now ≤ 10000000000 }
         ensures { MatchResult result
             (λ act. (act_of_order self.now.players order.now ≡ Some act) × HasSeat act × auction.IsSmall act × depot.IsSmall act)
             (λ fault. (state : GameState) → IsStandingOf state self.now.standing →
-            MayFind (act_judgement kit.now state (act_of_order self.now.players order.now)) Fault.OutOfMemory fault) }
+            MayFind (act_judgement kit.now state (act_of_order self.now.players order.now)) Refusal.OutOfMemory fault) }
     {
         match order {
             Order::Lay {
@@ -112,18 +111,18 @@ impl Game {
                 hex: *hex,
                 centre: *centre,
             }),
-            Order::Run { corp, sheet } => self.run(alloc, kit, *corp, sheet),
+            Order::Run { corp, sheet } => self.act_of_run(alloc, kit, *corp, sheet),
             Order::RunBest {
                 corp,
                 sheet,
                 certificate,
-            } => self.best_run(alloc, kit, *corp, sheet, certificate),
+            } => self.act_of_best_run(alloc, kit, *corp, sheet, certificate),
             Order::PayOut { corp } => Ok(Act::PayOut { corp: *corp }),
             Order::Hold { corp } => Ok(Act::Hold { corp: *corp }),
             Order::BuyTrain { corp, kind, source } => Ok(Act::BuyTrain {
                 corp: *corp,
                 kind: *kind,
-                source: train_source_of(*source),
+                source: *source,
             }),
             Order::BuyTrainFrom {
                 corp,
@@ -175,69 +174,44 @@ impl Game {
     }
 
     // A run with a copy of its sheet, where it comes in its order.
-    fn run(&self, alloc: Global, kit: &Kit, corp: Corp, sheet: &SheetWords) -> Result<Act, Fault>
+    fn act_of_run(
+        &self,
+        alloc: Global,
+        kit: &Kit,
+        corp: Corp,
+        sheet: &SheetWords,
+    ) -> Result<Act, Refusal>
         ensures { MatchResult result
             (λ act. act ≡ Act.Run corp sheet.now)
             (λ fault. (state : GameState) → IsStandingOf state self.now.standing →
-            MayFind (act_judgement kit.now state (Some (Act.Run corp sheet.now))) Fault.OutOfMemory fault) }
+            MayFind (act_judgement kit.now state (Some (Act.Run corp sheet.now))) Refusal.OutOfMemory fault) }
     {
         self.standing.judge_run(alloc, kit, corp)?;
-        let sheet = copied(alloc, sheet.as_bytes())?;
+        let sheet = Words::of(alloc, sheet.as_bytes())?;
         Ok(Act::Run { corp, sheet })
     }
 
     // The same with a certificate.
-    fn best_run(
+    fn act_of_best_run(
         &self,
         alloc: Global,
         kit: &Kit,
         corp: Corp,
         sheet: &SheetWords,
         certificate: &CertificateWords,
-    ) -> Result<Act, Fault>
+    ) -> Result<Act, Refusal>
         ensures { MatchResult result
             (λ act. act ≡ Act.RunBest corp sheet.now certificate.now)
             (λ fault. (state : GameState) → IsStandingOf state self.now.standing →
-            MayFind (act_judgement kit.now state (Some (Act.RunBest corp sheet.now certificate.now))) Fault.OutOfMemory fault) }
+            MayFind (act_judgement kit.now state (Some (Act.RunBest corp sheet.now certificate.now))) Refusal.OutOfMemory fault) }
     {
         self.standing.judge_run(alloc, kit, corp)?;
-        let sheet = copied(alloc, sheet.as_bytes())?;
-        let certificate = copied(alloc, certificate.as_bytes())?;
+        let sheet = Words::of(alloc, sheet.as_bytes())?;
+        let certificate = Words::of(alloc, certificate.as_bytes())?;
         Ok(Act::RunBest {
             corp,
             sheet,
             certificate,
         })
-    }
-}
-
-// A copy of words.
-fn copied(alloc: Global, bytes: &[u8]) -> Result<Words, Fault>
-    ensures value { IfOk result (λ words. words ≡ bytes.now) }
-    ensures memory { IsOkUnless result Fault.OutOfMemory }
-{
-    match Words::of(alloc, bytes) {
-        Ok(words) => Ok(words),
-        Err(_) => Err(Fault::OutOfMemory),
-    }
-}
-
-// Where a share is bought.
-fn source_of(source: ShareSource) -> rr_books::ShareSource
-    ensures { result ≡ source_of source }
-{
-    match source {
-        ShareSource::Offer => rr_books::ShareSource::Offer,
-        ShareSource::Pool => rr_books::ShareSource::Pool,
-    }
-}
-
-// Where a train is bought.
-fn train_source_of(source: TrainSource) -> rr_books::TrainSource
-    ensures { result ≡ train_source_of source }
-{
-    match source {
-        TrainSource::Bank => rr_books::TrainSource::Bank,
-        TrainSource::Pool => rr_books::TrainSource::Pool,
     }
 }

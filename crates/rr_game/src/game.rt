@@ -5,7 +5,7 @@ ghost use Rattle.rr_game.specs.Play.{play, players_of};
 ghost use Rattle.rr_game.specs.Verdict.{command_judgement, over_verdict};
 ghost use Rattle.rr_turns.specs.Judgement.{IsVerdict, MayFind};
 
-use crate::fault::Fault;
+use rr_books::Refusal;
 use rr_code::{Command, Players};
 use rr_kit::Kit;
 use rr_rules::Standing;
@@ -52,12 +52,12 @@ impl Game {
     /// `GameOver` once the game is over; `NoSuchName` for a player who isn't at the table; then what the rules in force
     /// refuse, in their order. An opening is refused as `WrongStep` while the game isn't over. `OutOfMemory` where none
     /// of those comes that take no memory.
-    pub fn step(&self, alloc: Global, command: &Command, kit: &Kit) -> Result<Game, Fault>
+    pub fn step(&self, alloc: Global, command: &Command, kit: &Kit) -> Result<Game, Refusal>
         requires played { self.now.played < 4096 }
         requires small { amount_in command.now ≤ 10000000000 }
         ensures verdict { (accepted : List Line) → IsGameOf kit.now accepted self.now → MatchResult result
             (λ _. IsVerdict (command_judgement kit.now (players_of accepted) (play kit.now accepted) command.now) None)
-            (λ fault. MayFind (command_judgement kit.now (players_of accepted) (play kit.now accepted) command.now) Fault.OutOfMemory fault) }
+            (λ fault. MayFind (command_judgement kit.now (players_of accepted) (play kit.now accepted) command.now) Refusal.OutOfMemory fault) }
         ensures game { IfOk result (λ game. (accepted : List Line) → IsGameOf kit.now accepted self.now →
             IsGameOf kit.now (accepted ++ command.now ∷ []) game) }
         ensures played { IfOk result (λ game. game.played ≡ self.now.played + 1) }
@@ -73,13 +73,13 @@ impl Game {
     }
 
     // Nothing is played once the game is over.
-    pub(crate) fn judge_end(&self, kit: &Kit) -> Result<(), Fault>
+    pub(crate) fn judge_end(&self, kit: &Kit) -> Result<(), Refusal>
         ensures { (state : GameState) → IsStandingOf state self.now.standing → MatchResult result
             (λ _. over_verdict kit.now state ≡ None)
             (λ fault. over_verdict kit.now state ≡ Some fault) }
     {
         if self.standing.is_over(kit) {
-            return Err(Fault::GameOver);
+            return Err(Refusal::GameOver);
         }
         Ok(())
     }

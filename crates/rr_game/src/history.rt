@@ -1,6 +1,6 @@
 //! A game's table that can be taken back to the end of an earlier turn.
 //!
-//! Stands on `rr_turns` and `rr_game`. Its promise: each request is refused exactly by `request_judgement`, and keeps
+//! Stands on `Game` and on `rr_turns`. Its promise: each request is refused exactly by `request_judgement`, and keeps
 //! `IsTableOf`.
 
 mod change;

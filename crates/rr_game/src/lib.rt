@@ -1,4 +1,4 @@
-//! The game of one table, by the names of its players.
+//! The game of one table, by the names of its players; and a table that can be taken back (`history`).
 //!
 //! Stands on `rr_rules`, the kit and `rr_code`. Its promise: `Game::step` is refused exactly by `command_judgement`, and
 //! keeps `IsGameOf`.
@@ -6,7 +6,6 @@
 
 mod acts;
 mod due;
-mod fault;
 mod game;
 pub mod history;
 pub mod laws;
@@ -16,7 +15,6 @@ mod running;
 mod wealth;
 
 pub use due::Due;
-pub use fault::Fault;
 pub use game::Game;
 pub use rr_kit::Kit;
 pub use rr_market::operations::TurnStep;

@@ -1,31 +1,30 @@
 ghost use Rattle.std.specs.Prelude.{◌≡◌, ◌<◌, ◌≤◌, length, None, Some, position, bytes_eq, IfOk, IfSome, MatchResult};
 ghost use Rattle.rr_game.specs.Names.{owner_place, party_of, player_word, seat_of};
 
-use crate::fault::Fault;
 use crate::game::Game;
-use rr_books::{Party, Place, Seat};
+use rr_books::{Party, Place, Refusal, Seat};
 use rr_code::{Account, Owner};
 use rr_words::Name;
 
 impl Game {
     /// The seat of a player.
-    pub(crate) fn seat(&self, player: &Name) -> Result<Seat, Fault>
+    pub(crate) fn seat(&self, player: &Name) -> Result<Seat, Refusal>
         ensures value { MatchResult result
             (λ seat. seat_of self.now.players player.now ≡ Some seat)
-            (λ fault. (fault ≡ Fault.NoSuchName) × (seat_of self.now.players player.now ≡ None)) }
+            (λ fault. (fault ≡ Refusal.NoSuchName) × (seat_of self.now.players player.now ≡ None)) }
         ensures bound { IfOk result (λ seat. seat.0 < 6) }
     {
         match place_among(player, self.players.as_slice()) {
             Some(seat) => Ok(Seat(seat as u8)),
-            None => Err(Fault::NoSuchName),
+            None => Err(Refusal::NoSuchName),
         }
     }
 
     /// The party whose account it is.
-    pub(crate) fn party(&self, account: &Account) -> Result<Party, Fault>
+    pub(crate) fn party(&self, account: &Account) -> Result<Party, Refusal>
         ensures { MatchResult result
             (λ party. party_of self.now.players account.now ≡ Some party)
-            (λ fault. (fault ≡ Fault.NoSuchName) × (party_of self.now.players account.now ≡ None)) }
+            (λ fault. (fault ≡ Refusal.NoSuchName) × (party_of self.now.players account.now ≡ None)) }
     {
         match account {
             Account::Bank => Ok(Party::Bank),
@@ -39,10 +38,10 @@ impl Game {
     /// # Errors
     ///
     /// `NoSuchName` for a player who isn't at the table.
-    pub fn place(&self, owner: &Owner) -> Result<Place, Fault>
+    pub fn place(&self, owner: &Owner) -> Result<Place, Refusal>
         ensures { MatchResult result
             (λ place. owner_place self.now.players owner.now ≡ Some place)
-            (λ fault. (fault ≡ Fault.NoSuchName) × (owner_place self.now.players owner.now ≡ None)) }
+            (λ fault. (fault ≡ Refusal.NoSuchName) × (owner_place self.now.players owner.now ≡ None)) }
     {
         match owner {
             Owner::Corp(corp) => Ok(Place::Corp(*corp)),

@@ -13,11 +13,10 @@ ghost use Rattle.rr_game.specs.Names.{party_of, seat_of, trains_place};
 ghost use Rattle.rr_desk.specs.Position.Position.{IsPositionOf};
 ghost use Rattle.rr_game.specs.Queries.{debt, holding, iou, quote};
 
-use crate::fault::Fault;
 use crate::game::Game;
-use rr_books::{Cell, Cert, Corp, Kind, Money, Party, Place, Private};
+use rr_books::{Cell, Cert, Corp, Kind, Money, Party, Place, Private, Refusal};
 use rr_code::{Account, TrainHolder};
-use rr_desk::position::Position;
+use rr_desk::Position;
 use rr_kit::Kit;
 use rr_market::OperatingOrder;
 use rr_words::Name;
@@ -35,10 +34,10 @@ impl Game {
     /// # Errors
     ///
     /// `NoSuchName` for a player who isn't at the table.
-    pub fn cash(&self, account: &Account) -> Result<Money, Fault>
+    pub fn cash(&self, account: &Account) -> Result<Money, Refusal>
         ensures { MatchResult result
             (λ money. option_map (cash_of self.now.standing.position.books) (party_of self.now.players account.now) ≡ Some money.0)
-            (λ fault. (fault ≡ Fault.NoSuchName) × (party_of self.now.players account.now ≡ None)) }
+            (λ fault. (fault ≡ Refusal.NoSuchName) × (party_of self.now.players account.now ≡ None)) }
     {
         let party = self.party(account)?;
         Ok(self.position().books().balance(party))
@@ -77,10 +76,10 @@ impl Game {
     /// # Errors
     ///
     /// `NoSuchName` for a player who isn't at the table.
-    pub fn holds(&self, player: &Name, corp: Corp) -> Result<u8, Fault>
+    pub fn holds(&self, player: &Name, corp: Corp) -> Result<u8, Refusal>
         ensures book { (book : Book) → IsPositionOf book self.now.standing.position → MatchResult result
             (λ percent. option_map (holding book corp) (seat_of self.now.players player.now) ≡ Some percent)
-            (λ fault. (fault ≡ Fault.NoSuchName) × (seat_of self.now.players player.now ≡ None)) }
+            (λ fault. (fault ≡ Refusal.NoSuchName) × (seat_of self.now.players player.now ≡ None)) }
         ensures bound { IfOk result (λ percent. percent ≤ 100) }
     {
         let seat = self.seat(player)?;

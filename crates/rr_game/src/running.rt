@@ -3,9 +3,8 @@ ghost use Rattle.std.specs.Prelude.{◌≡◌, ℕ, List, None, Some, MatchResul
 ghost use Rattle.rr_rules.specs.State.{GameState, IsStandingOf};
 ghost use Rattle.rr_game.specs.Running.{run_verdict};
 
-use crate::fault::Fault;
 use crate::game::Game;
-use rr_books::Corp;
+use rr_books::{Corp, Refusal};
 use rr_kit::Kit;
 use rr_rules::Standing;
 use std::alloc::Global;
@@ -17,7 +16,7 @@ impl Game {
     /// # Errors
     ///
     /// `GameOver` once the game is over; then `MustDiscardFirst`, `WrongStep` or `NotYourTurn` by the rules in force.
-    pub fn judge_run(&self, alloc: Global, kit: &Kit, corp: Corp) -> Result<(), Fault>
+    pub fn judge_run(&self, alloc: Global, kit: &Kit, corp: Corp) -> Result<(), Refusal>
         ensures { (players : List (List ℕ)) (state : GameState) → IsStandingOf state self.now.standing → MatchResult result
             (λ _. run_verdict kit.now players state corp ≡ None)
             (λ fault. run_verdict kit.now players state corp ≡ Some fault) }

@@ -6,10 +6,9 @@ ghost use Rattle.rr_roster.specs.Company.{corps, privates};
 ghost use Rattle.rr_game.specs.Names.{seat_of};
 ghost use Rattle.rr_game.specs.Queries.{assets_in, private_value, shares_value, worth, worth_by};
 
-use crate::fault::Fault;
 use crate::game::Game;
-use rr_books::{Cert, Corp, Money, Party, Place, Private, Seat};
-use rr_desk::position::Position;
+use rr_books::{Cert, Corp, Money, Party, Place, Private, Refusal, Seat};
+use rr_desk::Position;
 use rr_kit::Kit;
 use rr_words::Name;
 
@@ -20,10 +19,10 @@ impl Game {
     /// # Errors
     ///
     /// `NoSuchName` for a player who isn't at the table.
-    pub fn worth(&self, player: &Name, kit: &Kit) -> Result<Money, Fault>
+    pub fn worth(&self, player: &Name, kit: &Kit) -> Result<Money, Refusal>
         ensures { (book : Book) → IsPositionOf book self.now.standing.position → MatchResult result
             (λ money. option_map (worth kit.now book) (seat_of self.now.players player.now) ≡ Some money.0)
-            (λ fault. (fault ≡ Fault.NoSuchName) × (seat_of self.now.players player.now ≡ None)) }
+            (λ fault. (fault ≡ Refusal.NoSuchName) × (seat_of self.now.players player.now ≡ None)) }
     {
         let seat = self.seat(player)?;
         Ok(worth(self.standing.position(), kit, seat))

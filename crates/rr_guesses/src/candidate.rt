@@ -5,8 +5,9 @@ ghost use Rattle.rr_guesses.specs.Certified.{IsCertified, IsModest};
 use crate::certificate::tree_for;
 use crate::runs::good_sheet;
 use crate::tracks::reached_tracks;
+use rr_books::Refusal;
 use rr_checker::{CertTree, Net, check};
-use rr_referee::{Fault, legal};
+use rr_referee::legal;
 use rr_roster::Kind;
 use rr_routes::sheets::Sheet;
 use std::alloc::{AllocError, Global};
@@ -57,7 +58,7 @@ fn stands(
     }
     match legal(alloc, net, sheet) {
         Ok(revenue) => check(alloc, net, revenue, tree),
-        Err(Fault::OutOfMemory) => Err(AllocError),
-        Err(Fault::IllegalSheet(_)) => Ok(false),
+        Err(Refusal::OutOfMemory) => Err(AllocError),
+        Err(_) => Ok(false),
     }
 }

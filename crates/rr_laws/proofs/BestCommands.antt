@@ -1,5 +1,5 @@
 -- A command that runs as best, and isn't refused, was a best run.
-use Rattle.std.specs.Prelude.{◌≡◌, ℕ, List, [], ◌∷◌, ◌++◌, Option, None, Some, fold, option_map, refl}
+use Rattle.std.specs.Prelude.{ℕ, List, [], ◌∷◌, ◌++◌, Option, None, Some, fold, refl}
 use Rattle.std.proofs.Common.{◌∙◌, sym, subst}
 use Rattle.std.proofs.lemmas.Option.{none-some}
 use Rattle.rr_roster.specs.declared.company.Corp.{Corp}
@@ -9,8 +9,7 @@ use Rattle.rr_code.specs.declared.command.Command.{Command}
 use Rattle.rr_code.specs.declared.command.Command.TheVariants.{Open, Order}
 use Rattle.rr_orders.specs.declared.order.Order.TheVariants.{RunBest}
 use Rattle.rr_kit.specs.declared.kit.Kit.{Kit}
-use Rattle.rr_operate.specs.declared.fault.Fault as operate
-use Rattle.rr_operate.specs.Fault.{of_running}
+use Rattle.rr_books.specs.declared.refusal.Refusal.{Refusal}
 use Rattle.rr_operate.specs.Rows.{IsRowVerdict, first_verdict}
 use Rattle.rr_market.specs.declared.operations.turn.Stage.{Stage}
 use Rattle.rr_market.specs.declared.operations.turn.Stage.TheVariants as G
@@ -19,21 +18,17 @@ use Rattle.rr_routes.specs.declared.certificate.CertTree.{CertTree}
 use Rattle.rr_routes.specs.Net.{Net}
 use Rattle.rr_routes.specs.Routes.{Optimal}
 use Rattle.rr_referee.specs.Sheets.{IsLegal}
-use Rattle.rr_running.specs.declared.fault.Fault as running
-use Rattle.rr_running.specs.declared.fault.Fault.TheVariants as R
+use Rattle.rr_books.specs.declared.refusal.Refusal.TheVariants as R
 use Rattle.rr_running.specs.Running.{IsBestRunVerdict, is_best, is_refused, is_unshown, net_now}
 use Rattle.rr_running.proofs.Judged.{words_earn}
 use Rattle.rr_routes.specs.declared.sheets.sheet.TrainWord.{TrainWord}
-use Rattle.rr_rules.specs.Fault.{of_turn}
 use Rattle.rr_rules.specs.Judging.{judgement, judgement_in, name_verdict, stage, turn_judgement}
 use Rattle.rr_rules.specs.State.{GameState}
 use Rattle.rr_rules.proofs.Judging.{at_stage}
-use Rattle.rr_rules.specs.declared.fault.Fault as rules
-use Rattle.rr_game.specs.Fault.{of_rules}
 use Rattle.rr_game.specs.Play.{opened_state, play, played_on}
 use Rattle.rr_game.specs.Verdict.{command_judgement, command_judgement_in_play, over_verdict}
 use Rattle.rr_turns.specs.Judgement.{IsFirstOrBehind, IsVerdict, Judgement}
-use Rattle.rr_turns.proofs.JudgementLemmas.{lawful-behind, lawful-map}
+use Rattle.rr_turns.proofs.JudgementLemmas.{lawful-behind}
 use Rattle.rr_laws.specs.Best.{IsBestRun}
 use Rattle.rr_laws.specs.Sound.{AreAccepted, ArePlayed}
 
@@ -42,8 +37,8 @@ abbrev pub CertifiedAreOptimal : Type 0
 CertifiedAreOptimal = (net : Net) (sheet : List TrainWord) (claim : ℕ) (tree : CertTree) → Accepts net claim tree → (legal : IsLegal net sheet claim) → Optimal net legal.run
 
 module _ (law : CertifiedAreOptimal) where
-  by_referee : (kit : Kit) (book : Book) (c : Corp) (words text : List ℕ) (verdict : Option running.Fault) → verdict ≡ None → IsBestRunVerdict kit book c words text verdict → IsBestRun kit book c words
-  by_referee kit book c words text verdict none (is_best sheet earned spelled legal shows is) =
+  by_referee : (kit : Kit) (book : Book) (c : Corp) (words text : List ℕ) → IsBestRunVerdict kit book c words text None → IsBestRun kit book c words
+  by_referee kit book c words text (is_best sheet earned spelled legal shows is) =
       let net = net_now kit.board kit.tiles book c in
       record {
         sheet = sheet;
@@ -53,14 +48,10 @@ module _ (law : CertifiedAreOptimal) where
         optimal = law net sheet earned shows.0 shows.2 legal;
         pays = sym (words_earn net words sheet earned spelled legal) ∙ sym legal.earns;
       }
-  by_referee kit book c words text verdict none (is_unshown sheet earned spelled legal shows is) = absurd (none-some R.CertificateRefused (sym none ∙ is))
-  by_referee kit book c words text verdict none (is_refused fault told is) = absurd (none-some fault (sym none ∙ is))
+  by_referee kit book c words text (is_unshown sheet earned spelled legal shows is) = absurd (none-some R.CertificateRefused is)
+  by_referee kit book c words text (is_refused fault told is) = absurd (none-some fault is)
 
-  none_before : (found : Option running.Fault) → None ≡ option_map of_running found → found ≡ None
-  none_before None e = refl
-  none_before (Some fault) e = absurd cc
-
-  behind_first : (first : Option operate.Fault) (Next : Option operate.Fault → Type 0) → IsFirstOrBehind first Next None → Next None
+  behind_first : (first : Option Refusal) (Next : Option Refusal → Type 0) → IsFirstOrBehind first Next None → Next None
   behind_first None Next h = h
   behind_first (Some fault) Next h = absurd cc
 
@@ -68,20 +59,20 @@ module _ (law : CertifiedAreOptimal) where
   by_turn kit state c sheet certificate lawful =
       let act = A.RunBest c sheet certificate in
       let row : IsRowVerdict kit state.book act None = behind_first (first_verdict kit state.book state.revenue act) (IsRowVerdict kit state.book act) lawful in
-      by_referee kit state.book c sheet certificate row.0 (none_before row.0 row.2) row.1
+      by_referee kit state.book c sheet certificate row
 
   -- by the rules in force, which are those of a corporation's turn
   pub at_its_stage : (s : Stage) (kit : Kit) (state : GameState) (c : Corp) (sheet certificate : List ℕ) → IsVerdict (judgement_in s kit state (A.RunBest c sheet certificate)) None → IsBestRun kit state.book c sheet
   at_its_stage G.Auction kit state c sheet certificate lawful = absurd cc
   at_its_stage G.Stock kit state c sheet certificate lawful = absurd cc
   at_its_stage G.Operating kit state c sheet certificate lawful =
-      by_turn kit state c sheet certificate (lawful-map of_turn (turn_judgement kit state (A.RunBest c sheet certificate)) lawful)
+      by_turn kit state c sheet certificate lawful
 
   by_rules : (kit : Kit) (state : GameState) (c : Corp) (sheet certificate : List ℕ) → IsVerdict (judgement kit state (A.RunBest c sheet certificate)) None → IsBestRun kit state.book c sheet
   by_rules kit state c sheet certificate lawful =
       let act = A.RunBest c sheet certificate in
       let s = stage state.book in
-      let IsLawful : Judgement rules.Fault → Type 0 = λ j. IsVerdict j None in
+      let IsLawful : Judgement Refusal → Type 0 = λ j. IsVerdict j None in
       at_its_stage s kit state c sheet certificate
       (lawful-behind (name_verdict kit act) (judgement_in s kit state act) (subst IsLawful (at_stage s kit state act refl) lawful))
 
@@ -91,7 +82,7 @@ module _ (law : CertifiedAreOptimal) where
       let act = A.RunBest c sheet certificate in
       let command = Order (RunBest c sheet certificate) in
       by_rules kit state c sheet certificate
-      (lawful-map of_rules (judgement kit state act) (lawful-behind (over_verdict kit state) (command_judgement_in_play kit players state command) lawful))
+      (lawful-behind (over_verdict kit state) (command_judgement_in_play kit players state command) lawful)
 
   in_turn : (kit : Kit) (players : List (List ℕ)) (state : GameState) (front rest : List Command) (c : Corp) (sheet certificate : List ℕ)
       → AreAccepted kit players state (front ++ Order (RunBest c sheet certificate) ∷ rest) → IsBestRun kit (fold (played_on kit players) state front).book c sheet

@@ -18,17 +18,16 @@ use Rattle.rr_kit.specs.declared.kit.Kit.{Kit}
 use Rattle.rr_operate.specs.Effects.{entries_of, runs_best}
 use Rattle.rr_market.specs.declared.operations.turn.Stage.{Stage}
 use Rattle.rr_market.specs.declared.operations.turn.Stage.TheVariants as G
-use Rattle.rr_rules.specs.declared.fault.Fault as rules
+use Rattle.rr_books.specs.declared.refusal.Refusal.{Refusal}
 use Rattle.rr_rules.specs.Judging.{judgement, judgement_in, name_verdict, stage}
 use Rattle.rr_rules.specs.Playing.{operating_entries, state_after, state_in, stock_entries}
 use Rattle.rr_rules.specs.State.{GameState}
 use Rattle.rr_rules.proofs.Judging.{at_stage}
-use Rattle.rr_game.specs.Fault.{of_rules}
 use Rattle.rr_game.specs.Names.{act_of}
 use Rattle.rr_game.specs.Play.{opened_state, play, played_on, state_with}
 use Rattle.rr_game.specs.Verdict.{act_judgement, command_judgement_in_play, over_verdict}
 use Rattle.rr_turns.specs.Judgement.{IsVerdict, Judgement}
-use Rattle.rr_turns.proofs.JudgementLemmas.{lawful-behind, lawful-map}
+use Rattle.rr_turns.proofs.JudgementLemmas.{lawful-behind}
 use Rattle.rr_laws.specs.Best.{HasBestRuns, IsBestRun}
 use Rattle.rr_laws.specs.Sound.{AreAccepted, ArePlayed}
 use Rattle.rr_laws.proofs.AuctionAdds.{auction_adds}
@@ -37,7 +36,7 @@ use Rattle.rr_laws.proofs.ForcedLeaves.{need_goes}
 use Rattle.rr_laws.proofs.LeavesAuction.{bare_have_none, has_no_best, plain_have_none, still_plain}
 use Rattle.rr_laws.proofs.Opened.{opening_meets}
 use Rattle.rr_laws.proofs.RoundLeaves.{stock_leaves}
-use Rattle.rr_laws.proofs.Soundness.{in_play}
+use Rattle.rr_laws.proofs.SoundTables.{in_play}
 use Rattle.rr_laws.proofs.TurnLeaves.{is_best_run, turn_plain}
 
 -- of these entries, behind those before them, each run as best was best
@@ -103,12 +102,12 @@ module _ (law : CertifiedAreOptimal) where
   by_act : (kit : Kit) (state : GameState) (act : Act) → IsVerdict (judgement kit state act) None → WereBest kit [] state.book → WereBest kit [] (state_after kit state act).book
   by_act kit state act lawful h =
       let s = stage state.book in
-      let IsLawful : Judgement rules.Fault → Type 0 = λ j. IsVerdict j None in
+      let IsLawful : Judgement Refusal → Type 0 = λ j. IsVerdict j None in
       by_stage s kit state act (lawful-behind (name_verdict kit act) (judgement_in s kit state act) (subst IsLawful (at_stage s kit state act refl) lawful)) h
 
   by_named : (kit : Kit) (state : GameState) (named : Option Act) → IsVerdict (act_judgement kit state named) None → WereBest kit [] state.book → WereBest kit [] (state_with kit state named).book
   by_named kit state None lawful h = h
-  by_named kit state (Some act) lawful h = by_act kit state act (lawful-map of_rules (judgement kit state act) lawful) h
+  by_named kit state (Some act) lawful h = by_act kit state act lawful h
 
   by_commands : (kit : Kit) (players : List (List ℕ)) (commands : List Command) (state : GameState) → AreAccepted kit players state commands
       → WereBest kit [] state.book → WereBest kit [] (fold (played_on kit players) state commands).book

@@ -1,5 +1,5 @@
 -- There is a verdict on each command.
-use Rattle.std.specs.Prelude.{◌≡◌, ℕ, Bool, true, false, List, Option, None, Some, option_map, refl}
+use Rattle.std.specs.Prelude.{◌≡◌, ℕ, Bool, true, false, List, Option, None, Some, refl}
 use Rattle.std.proofs.Common.{inl, inr}
 use Rattle.std.proofs.lemmas.Bool.{false≢true}
 use Rattle.rr_roster.specs.declared.company.Corp.{Corp}
@@ -17,8 +17,8 @@ use Rattle.rr_code.specs.declared.command.Command.TheVariants.{Open}
 use Rattle.rr_kit.specs.declared.kit.Kit.{Kit}
 use Rattle.rr_desk.specs.declared.layout.layout.Lay.{Lay}
 use Rattle.rr_desk.specs.declared.layout.layout.Station.{Station}
-use Rattle.rr_lay.specs.declared.fault.Fault as lay
-use Rattle.rr_lay.specs.declared.fault.Fault.TheVariants as L
+use Rattle.rr_books.specs.declared.refusal.Refusal.{Refusal}
+use Rattle.rr_books.specs.declared.refusal.Refusal.TheVariants as L
 use Rattle.rr_lay.specs.Costs.{cost_verdict}
 use Rattle.rr_lay.specs.Judging as checks
 use Rattle.rr_lay.specs.Laying as laying
@@ -30,22 +30,15 @@ use Rattle.rr_market.specs.Operations.Due.{due}
 use Rattle.rr_market.specs.declared.operations.turn.Stage.{Stage}
 use Rattle.rr_market.specs.declared.operations.turn.Stage.TheVariants as G
 use Rattle.rr_running.specs.Running.{net_now}
-use Rattle.rr_operate.specs.declared.fault.Fault.TheVariants as O
-use Rattle.rr_operate.specs.Fault.{of_lay, of_running}
 use Rattle.rr_operate.specs.Rows as rows
-use Rattle.rr_rules.specs.declared.forced.fault.Fault.TheVariants as C
 use Rattle.rr_rules.specs.Forced.Needs.{IsNeedOf}
 use Rattle.rr_rules.specs.Forced.Rules as force
 use Rattle.rr_rules.specs.Forced.Sales.{CanRaise, bankrupt_verdict, raise_verdict}
-use Rattle.rr_rules.specs.declared.fault.Fault.TheVariants as F
-use Rattle.rr_rules.specs.Fault.{of_forced, of_turn}
 use Rattle.rr_rules.specs.Judging.{force_judgement, judgement, judgement_in, name_verdict, operating_judgement, stage, turn_judgement}
 use Rattle.rr_rules.specs.State.{GameState}
-use Rattle.rr_game.specs.declared.fault.Fault.TheVariants as T
-use Rattle.rr_game.specs.Fault.{of_rules}
 use Rattle.rr_game.specs.Names.{act_of}
 use Rattle.rr_game.specs.Verdict.{act_judgement, command_judgement, command_judgement_in_play, over_verdict}
-use Rattle.rr_turns.specs.Judgement.{IsFirstOrBehind, IsVerdict, Judgement, judgement_behind, judgement_map, settled}
+use Rattle.rr_turns.specs.Judgement.{IsFirstOrBehind, IsVerdict, Judgement, judgement_behind, settled}
 use Rattle.rr_laws.specs.Verdicts.{EachCommandHasAVerdict, HasAVerdict}
 use Rattle.rr_laws.proofs.SheetVerdicts.{best_judged, words_judged}
 
@@ -72,20 +65,12 @@ behind_has : {F : Type 0} (check : Option F) (j : Judgement F) → Judged j → 
 behind_has None j h = h
 behind_has (Some fault) j h = λ none. none (Some fault) refl
 
-mapped_has : {F G : Type 0} (f : F → G) (first : Option F) (Behind : Option F → Type 0) → Something (IsFirstOrBehind first Behind)
-    → Judged (judgement_map f (record { first = first; Behind = Behind }))
-mapped_has f None Behind h = λ none. h (λ found is. none (option_map f found) (found, is, refl))
-mapped_has f (Some fault) Behind h = λ none. none (Some (f fault)) refl
-
-map_has : {F G : Type 0} (f : F → G) (j : Judgement F) → Judged j → Judged (judgement_map f j)
-map_has f j h = mapped_has f j.first j.Behind h
-
 -- tiles and tokens
 
-needs_has : (Needed : Type 0) (lacking : lay.Fault) (Next : Option lay.Fault → Type 0) → Something Next → Something (checks.Needs Needed lacking Next)
+needs_has : (Needed : Type 0) (lacking : Refusal) (Next : Option Refusal → Type 0) → Something Next → Something (checks.Needs Needed lacking Next)
 needs_has Needed lacking Next h = λ none. none (Some lacking) (inl (λ needed. h (λ verdict is. none verdict (inr (needed, is))), refl))
 
-after_has : (early : Option lay.Fault) (Next : Option lay.Fault → Type 0) → Something Next → Something (checks.After early Next)
+after_has : (early : Option Refusal) (Next : Option Refusal → Type 0) → Something Next → Something (checks.After early Next)
 after_has None Next h = h
 after_has (Some fault) Next h = λ none. none (Some fault) refl
 
@@ -94,7 +79,7 @@ lay_has_at plan tiles now c l None supply = λ none. none (Some L.NoSuchName) re
 lay_has_at plan tiles now c l (Some hex) None = λ none. none (Some L.NoSuchName) refl
 lay_has_at plan tiles now c l (Some hex) (Some supply) =
     let cost = cost_verdict now.cash c (laying.lay_cost now.lays hex) in
-    let Last : Option lay.Fault → Type 0 = λ verdict. verdict ≡ cost in
+    let Last : Option Refusal → Type 0 = λ verdict. verdict ≡ cost in
     let Reaches : Type 0 = laying.ReachesNewLink (laying.net_now plan tiles now) (laying.net_with plan tiles now l) c in
     let Fits : Type 0 = laying.IsUpgrade plan tiles now.lays hex supply l.turn in
     after_has (laying.supply_verdict plan tiles now hex supply) (checks.Needs Fits L.NotAnUpgrade (checks.Needs Reaches L.NotReached Last))
@@ -104,7 +89,7 @@ station_has_at : (plan : Plan) (tiles : List Supply) (tokens : ℕ) (now : Posit
 station_has_at plan tiles tokens now s None = λ none. none (Some L.NoSuchName) refl
 station_has_at plan tiles tokens now s (Some hex) =
     let cost = cost_verdict now.cash s.corp (Some (placing.token_cost (placing.placed_by now.stations s.corp))) in
-    let Last : Option lay.Fault → Type 0 = λ verdict. verdict ≡ cost in
+    let Last : Option Refusal → Type 0 = λ verdict. verdict ≡ cost in
     let Reaches : Type 0 = ReachesNode (laying.net_now plan tiles now) s.corp (node_of s) in
     after_has (placing.slot_verdict plan tiles tokens (record { lays = now.lays; stations = now.stations }) hex s) (checks.Needs Reaches L.NotReached Last)
     (needs_has Reaches L.NotReached Last (this_is Last cost refl))
@@ -113,16 +98,12 @@ station_has_at plan tiles tokens now s (Some hex) =
 
 row_has : (kit : Kit) (book : Book) (act : Act) → Something (rows.IsRowVerdict kit book act)
 row_has kit book (A.Lay c hex tile turn) =
-    let l = rows.lay_of hex tile turn in
-    λ none. lay_has_at kit.board kit.tiles (position_of book) c l (hex_named kit.board.hexes hex) (supply_at kit.tiles tile) (λ theirs is. none (option_map of_lay theirs) (theirs, is, refl))
+    lay_has_at kit.board kit.tiles (position_of book) c (rows.lay_of hex tile turn) (hex_named kit.board.hexes hex) (supply_at kit.tiles tile)
 row_has kit book (A.Station c hex centre) =
-    let s = rows.station_of c hex centre in
-    λ none. station_has_at kit.board kit.tiles (tokens_of kit.roster c) (position_of book) s (hex_named kit.board.hexes hex) (λ theirs is. none (option_map of_lay theirs) (theirs, is, refl))
-row_has kit book (A.Run c sheet) =
-    λ none. words_judged (net_now kit.board kit.tiles book c) sheet (λ theirs is. none (option_map of_running theirs) (theirs, is, refl))
-row_has kit book (A.RunBest c sheet certificate) =
-    λ none. best_judged (net_now kit.board kit.tiles book c) sheet certificate (λ theirs is. none (option_map of_running theirs) (theirs, is, refl))
-row_has kit book (A.End c) = λ none. none None (inl (λ owes. none (Some O.MustOwnTrain) (inr (owes, refl)), refl))
+    station_has_at kit.board kit.tiles (tokens_of kit.roster c) (position_of book) (rows.station_of c hex centre) (hex_named kit.board.hexes hex)
+row_has kit book (A.Run c sheet) = words_judged (net_now kit.board kit.tiles book c) sheet
+row_has kit book (A.RunBest c sheet certificate) = best_judged (net_now kit.board kit.tiles book c) sheet certificate
+row_has kit book (A.End c) = λ none. none None (inl (λ owes. none (Some L.MustOwnTrain) (inr (owes, refl)), refl))
 row_has kit book _ = λ none. none None refl
 
 turn_has : (kit : Kit) (state : GameState) (act : Act) → Judged (turn_judgement kit state act)
@@ -146,7 +127,7 @@ forced_has : (kit : Kit) (book : Book) (act : Act) → Something (force.IsRowVer
 forced_has kit book (A.Force c) = λ none. need_has kit book (Some c) (λ need is. none (force.force_verdict (due kit.chart book) need) (need, is, refl))
 forced_has kit book (A.Raise s c n) = λ none. need_has kit book (due kit.chart book) (λ need is. none (raise_verdict (holdings_of kit.chart book) need s c n) (need, is, refl))
 forced_has kit book (A.Bankrupt s) = bankrupt_has kit book s
-forced_has kit book _ = λ none. none (Some C.WrongStep) refl
+forced_has kit book _ = λ none. none (Some L.WrongStep) refl
 
 force_has : (kit : Kit) (state : GameState) (act : Act) → Judged (force_judgement kit state act)
 force_has kit state act = first_or (force.first_verdict kit state.book act) (force.IsRowVerdict kit state.book act) (forced_has kit state.book act)
@@ -154,8 +135,8 @@ force_has kit state act = first_or (force.first_verdict kit state.book act) (for
 -- the rules in force
 
 operating_has : (is_forced : Bool) (kit : Kit) (state : GameState) (act : Act) → Judged (operating_judgement is_forced kit state act)
-operating_has true kit state act = map_has of_forced (force_judgement kit state act) (force_has kit state act)
-operating_has false kit state act = map_has of_turn (turn_judgement kit state act) (turn_has kit state act)
+operating_has true kit state act = force_has kit state act
+operating_has false kit state act = turn_has kit state act
 
 stage_has : (s : Stage) (kit : Kit) (state : GameState) (act : Act) → Judged (judgement_in s kit state act)
 stage_has G.Auction kit state act = settled_has _
@@ -167,11 +148,11 @@ unfolding judgement
 act_has kit state act = behind_has (name_verdict kit act) (judgement_in (stage state.book) kit state act) (stage_has (stage state.book) kit state act)
 
 named_has : (kit : Kit) (state : GameState) (named : Option Act) → Judged (act_judgement kit state named)
-named_has kit state None = settled_has (Some T.NoSuchName)
-named_has kit state (Some act) = map_has of_rules (judgement kit state act) (act_has kit state act)
+named_has kit state None = settled_has (Some L.NoSuchName)
+named_has kit state (Some act) = act_has kit state act
 
 in_play_has : (kit : Kit) (players : List (List ℕ)) (state : GameState) (command : Command) → Judged (command_judgement_in_play kit players state command)
-in_play_has kit players state (Open others) = settled_has (Some (T.Rules F.WrongStep))
+in_play_has kit players state (Open others) = settled_has (Some L.WrongStep)
 in_play_has kit players state command = named_has kit state (act_of players command)
 
 command_has : (kit : Kit) (players : List (List ℕ)) (state : GameState) (command : Command) → Judged (command_judgement kit players state command)

@@ -1,7 +1,7 @@
 -- A lawful forced purchase, and a bankruptcy, leave a table in good order.
-use Rattle.std.specs.Prelude.{◌≡◌, ◌⊎◌, ℕ, ◌+◌, ◌-◌, ◌==◌, ℤ, pos, negsuc, ◌+ℤ◌, ◌-ℤ◌, ◌≤ℤ◌, nat_lt, Bool, true, false, cond, not, ◌&&◌, List, [], ◌∷◌, ◌++◌, Option, None, Some, option_map, refl, if◌then◌else◌}
+use Rattle.std.specs.Prelude.{◌≡◌, ℕ, ◌+◌, ◌-◌, ◌==◌, ℤ, pos, negsuc, ◌+ℤ◌, ◌-ℤ◌, ◌≤ℤ◌, nat_lt, Bool, true, false, cond, not, ◌&&◌, [], ◌∷◌, ◌++◌, Option, None, Some, option_map, refl, if◌then◌else◌}
 use Rattle.std.proofs.Common.{sym, ◌∙◌, ap, subst, arith, inl, inr}
-use Rattle.std.proofs.lemmas.Bool.{and_parts, eqb-true, false≢true}
+use Rattle.std.proofs.lemmas.Bool.{eqb-true, false≢true}
 use Rattle.std.proofs.lemmas.Int.{ints}
 use Rattle.rr_roster.specs.declared.company.Corp.{Corp}
 use Rattle.rr_roster.specs.Terms.{Terms, price_of}
@@ -10,28 +10,23 @@ use Rattle.rr_books.specs.declared.entries.Entry.TheVariants as E
 use Rattle.rr_books.specs.declared.entries.Marker.TheVariants as M
 use Rattle.rr_books.specs.declared.parties.Party.{Party}
 use Rattle.rr_books.specs.declared.parties.Party.TheVariants as P
-use Rattle.rr_books.specs.declared.parties.Place.TheVariants as L
 use Rattle.rr_books.specs.declared.parties.Seat.{Seat}
 use Rattle.rr_books.specs.Book.{Book, balance, balance-push, players}
 use Rattle.rr_books.specs.Same.{same_corp, same_seat}
 use Rattle.rr_books.specs.Shares.{president}
-use Rattle.rr_books.specs.State.{has_party}
 use Rattle.rr_kit.specs.declared.kit.Kit.{Kit}
-use Rattle.rr_desk.specs.Effects.{adds, in_turn}
 use Rattle.rr_desk.specs.Incomes.{dollars}
-use Rattle.rr_trains.specs.Depot.Effects.{is_first_sold, pays, says}
-use Rattle.rr_trains.specs.Depot.Situation.{Situation, situation_of}
+use Rattle.rr_trains.specs.Depot.Effects.{says}
+use Rattle.rr_trains.specs.Depot.Situation.{situation_of}
 use Rattle.rr_market.specs.Operations.Due.{due}
 use Rattle.rr_operate.specs.Order.{is_due}
 use Rattle.rr_shares.specs.Succession.{at_table}
 use Rattle.rr_trains.specs.declared.prices.TrainOnSale.{TrainOnSale}
-use Rattle.rr_trains.specs.Effects.{first_train, moves_lowest_train}
 use Rattle.rr_trains.specs.Sales.{cheapest, source_place}
-use Rattle.rr_rules.specs.declared.forced.fault.Fault.{Fault}
-use Rattle.rr_rules.specs.declared.forced.fault.Fault.TheVariants as F
+use Rattle.rr_books.specs.declared.refusal.Refusal.TheVariants as F
 use Rattle.rr_rules.specs.declared.forced.needs.Need.{Need}
 use Rattle.rr_rules.specs.Forced.Effects.{forces, forces_if, gets_train, helps}
-use Rattle.rr_rules.specs.Forced.Needs.{IsNeedOf, cheapest_need, joint_cash, leader, missing, need_for, with_leader}
+use Rattle.rr_rules.specs.Forced.Needs.{IsNeedOf, cheapest_need, leader, missing, need_for, with_leader}
 use Rattle.rr_rules.specs.Forced.Rules.{IsForceVerdict, force_verdict}
 use Rattle.rr_laws.specs.Soundness.GoodOrder.{IsInGoodOrder}
 use Rattle.rr_laws.specs.Soundness.Sound.{IsSolvent}

@@ -7,7 +7,6 @@ use Rattle.rr_roster.specs.declared.company.Corp.{Corp}
 use Rattle.rr_books.specs.declared.parties.Seat.{Seat}
 use Rattle.rr_books.specs.declared.parties.Place.{Place}
 use Rattle.rr_books.specs.declared.parties.Place.TheVariants as L
-use Rattle.rr_books.specs.declared.certificates.Cert.{Cert}
 use Rattle.rr_books.specs.declared.certificates.Cert.TheVariants as C
 use Rattle.rr_books.specs.declared.entries.Entry.{Entry}
 use Rattle.rr_books.specs.declared.entries.Entry.TheVariants as E
@@ -18,7 +17,7 @@ use Rattle.rr_books.specs.declared.acts.Act.TheVariants as A
 use Rattle.rr_books.specs.Book.{Book, holder, holder-push, holder_after, players}
 use Rattle.rr_books.specs.Shares.{Holders, is_at, privates}
 use Rattle.rr_books.specs.Same.{same_cert}
-use Rattle.rr_rounds.specs.Bids.Progress.{Progress, after, after_act, after_par, beginning, follow, progress, raise_due}
+use Rattle.rr_rounds.specs.Bids.Progress.{Progress, after, after_act, after_par, follow, progress, raise_due}
 use Rattle.rr_auction.specs.Effects.{is_over}
 use Rattle.rr_auction.specs.Rules.{due, due_by}
 use Rattle.rr_rounds.specs.Bids.Unsold.{cheapest, is_unsold}

@@ -11,12 +11,13 @@ pub mod StockOrder
 pub mod ForcedOrder
 pub mod MaySell
 pub mod RaiseOrder
-mod Soundness
+mod SoundTables
 mod AuctionAdds
 mod BestCommands
 mod BestEntries
 mod SheetVerdicts
 mod EachVerdict
+mod Sparing
 mod Wanting
 mod SoldAlong
 pub mod SequenceLemmas

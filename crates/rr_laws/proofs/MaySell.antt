@@ -1,5 +1,5 @@
 -- What a sale that no rule on sales refuses tells of the seller's shares and of the pool.
-use Rattle.std.specs.Prelude.{◌≡◌, ℕ, zero, suc, ◌+◌, ◌-◌, ◌*◌, ◌<◌, ◌≤◌, ◌==◌, ◌⊎◌, nat_le, nat_lt, not, Bool, true, false, ◌&&◌, ◌||◌, List, Option, None, Some, is_some, refl}
+use Rattle.std.specs.Prelude.{◌≡◌, ℕ, zero, suc, ◌+◌, ◌-◌, ◌*◌, ◌<◌, ◌≤◌, ◌==◌, ◌⊎◌, nat_le, nat_lt, not, Bool, true, false, ◌&&◌, ◌||◌, List, Option, None, is_some, refl}
 use Rattle.std.specs.List.{list_any, range_with_len}
 use Rattle.std.proofs.Common.{sym, ◌∙◌, ap, arith, inl, inr}
 use Rattle.std.proofs.lemmas.Bool.{and_parts, eq-eqb, false≢true}
@@ -15,7 +15,7 @@ use Rattle.rr_books.specs.Same.{same_seat}
 use Rattle.rr_books.specs.Shares.{is_at, share}
 use Rattle.rr_shares.specs.Presidents.{IsPresident}
 use Rattle.rr_shares.specs.Sales.{AnotherHasTwenty, MaySell}
-use Rattle.rr_shares.specs.declared.limits.fault.Fault.TheVariants as H
+use Rattle.rr_books.specs.declared.refusal.Refusal.TheVariants as H
 use Rattle.rr_shares.specs.Limits.Holdings.{holdings_of, percent_of}
 use Rattle.rr_shares.specs.Limits.Sales.{has_successor, is_successor, leaves_no_president, sale_verdict}
 use Rattle.rr_market.specs.Marks.{price_of}

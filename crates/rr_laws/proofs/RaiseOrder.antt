@@ -14,7 +14,6 @@ use Rattle.rr_books.specs.declared.entries.Cell.{Cell}
 use Rattle.rr_books.specs.declared.entries.Entry.TheVariants as E
 use Rattle.rr_books.specs.declared.entries.Marker.TheVariants as M
 use Rattle.rr_books.specs.declared.parties.Party.TheVariants as P
-use Rattle.rr_books.specs.declared.parties.Place.{Place}
 use Rattle.rr_books.specs.declared.parties.Place.TheVariants as L
 use Rattle.rr_books.specs.declared.parties.Seat.{Seat}
 use Rattle.rr_books.specs.Book.{Book, holder, holder-push, players, players-push}
@@ -39,21 +38,19 @@ use Rattle.rr_stock.specs.Effects.{pays_seller, proceeds, says}
 use Rattle.rr_stock.specs.PoolLimits.{HasHalfAtMost}
 use Rattle.rr_stock.specs.Situation as stock
 use Rattle.rr_stock.proofs.PoolLemmas.{Raises, moves_to_pool, pool, raises_by_shares, raises_no_more, raises_one, raises_then}
-use Rattle.rr_stock.proofs.SaleVerdicts.{none_before, passed}
+use Rattle.rr_stock.proofs.SaleVerdicts.{passed}
 use Rattle.rr_stock.proofs.TurnLemmas as free
 use Rattle.rr_stock.proofs.TurnLemmas.{after_sale_free, seller_free}
 use Rattle.rr_trains.specs.declared.prices.TrainOnSale.{TrainOnSale}
 use Rattle.rr_trains.specs.Sales.{cheapest}
-use Rattle.rr_rules.specs.declared.forced.fault.Fault.TheVariants as F
+use Rattle.rr_books.specs.declared.refusal.Refusal.TheVariants as F
 use Rattle.rr_rules.specs.declared.forced.needs.Need.{Need}
 use Rattle.rr_rules.specs.Forced.Effects.{raises}
-use Rattle.rr_rules.specs.Forced.Fault.{of_holdings}
-use Rattle.rr_rules.specs.Forced.Needs.{IsNeedOf, cheapest_need, leader, need_for}
+use Rattle.rr_rules.specs.Forced.Needs.{IsNeedOf, leader, need_for}
 use Rattle.rr_rules.specs.Forced.Rules.{IsRaiseVerdict}
 use Rattle.rr_rules.specs.Forced.Sales.{is_seat, president_verdict, raise_verdict, share_verdict}
 use Rattle.rr_laws.specs.Soundness.GoodOrder.{IsInGoodOrder}
 use Rattle.rr_laws.specs.Soundness.Presidencies.{AwaitsPar, IsGoverned, IsLed}
-use Rattle.rr_laws.specs.Soundness.Sound.{IsSolvent}
 use Rattle.rr_laws.proofs.SoundnessLemmas.Corporations.{keeps_mark_at, keeps_sale}
 use Rattle.rr_laws.proofs.SoundnessLemmas.Going.{GoesOn, Keeps, keeps_paid, keeps_step, keeps_three, keeps_two, no_debt, solvent_without_debt, without_debt}
 use Rattle.rr_laws.proofs.SoundnessLemmas.GoodOrder.{sum_kept}
@@ -267,7 +264,7 @@ told_by n rows book need s c k sits lawful =
     let two = passed (need.shortfall == 0) F.SaleNotNeeded _ one.1 in
     record {
       there = seat_sits n need.president s sits (not_refused (is_seat need.president s) one.0);
-      lawful = none_before of_holdings (sale_verdict h s c k) (first_none (option_map of_holdings (sale_verdict h s c k)) (president_verdict h.holders h.players need.corp s c k) two.1);
+      lawful = first_none (sale_verdict h s c k) (president_verdict h.holders h.players need.corp s c k) two.1;
     }
 
 by_offer : (n : ℕ) (kit : Kit) (book : Book) (d : Corp) (offer : Option TrainOnSale) (s : Seat) (c : Corp) (k : ℕ) → players book ≡ n

@@ -8,14 +8,14 @@ use Rattle.rr_routes.specs.Net.{IsWithin, Net, limit_of}
 use Rattle.rr_routes.specs.Routes.{NoTerminalInside, NoneTwice, Route, Trip, centres, earned, no_trip}
 use Rattle.rr_routes.specs.declared.sheets.sheet.TrainWord.{TrainWord}
 use Rattle.rr_routes.specs.Sheets.Sheet.{SpellsSheet}
-use Rattle.rr_referee.specs.declared.clause.Clause.{Clause}
-use Rattle.rr_referee.specs.declared.clause.Clause.TheVariants.{SharedHexside, WrongWord}
+use Rattle.rr_books.specs.declared.clause.Clause.{Clause}
+use Rattle.rr_books.specs.declared.clause.Clause.TheVariants.{SharedHexside, WrongWord}
 use Rattle.rr_referee.specs.Sheets.{AreLawful, Asks, Breaks, BreaksWord, Course, IsFirstBroken, IsItsWord, IsLegal, SomeToken, another, at_train, links_of, missing, route_clauses}
 use Rattle.rr_referee.specs.Tests.{IsLawfulWord, IsRouteUp}
 use Rattle.rr_referee.proofs.CourseLemmas.{breaks, one_course, runs, stays}
 use Rattle.rr_referee.proofs.SheetLemmas.{is_legal, lawful_first, lawful_next, side_shared, words_left}
-use Rattle.rr_running.specs.declared.fault.Fault.{Fault}
-use Rattle.rr_running.specs.declared.fault.Fault.TheVariants as F
+use Rattle.rr_books.specs.declared.refusal.Refusal.{Refusal}
+use Rattle.rr_books.specs.declared.refusal.Refusal.TheVariants as F
 use Rattle.rr_running.specs.Running.{IsBestVerdictOn, IsVerdictOn, Shows, ShowsNot, is_best, is_broken, is_refused, is_run, is_unread, is_unshown}
 
 -- clauses that all hold
@@ -101,7 +101,7 @@ module _ (net : Net) (sheet : List TrainWord) (never : (clause : Clause) → ¬ 
 
 -- there is a verdict on words
 module _ (net : Net) (words : List ℕ) where
-  pub words_judged : ((verdict : Option Fault) → ¬ IsVerdictOn net words verdict) → ⊥
+  pub words_judged : ((verdict : Option Refusal) → ¬ IsVerdictOn net words verdict) → ⊥
   words_judged none =
       let unspelled : (sheet : List TrainWord) → ¬ SpellsSheet words sheet = λ sheet spelled.
       sheet_judged net sheet (λ clause broken. none (Some (F.IllegalSheet clause)) (is_broken sheet clause spelled broken refl))
@@ -109,14 +109,14 @@ module _ (net : Net) (words : List ℕ) where
       none (Some (F.IllegalSheet WrongWord)) (is_unread (λ spelled. unspelled spelled.0 spelled.1) refl)
 
   -- and on words with a certificate
-  module _ (text : List ℕ) (none : (verdict : Option Fault) → ¬ IsBestVerdictOn net words text verdict) where
+  module _ (text : List ℕ) (none : (verdict : Option Refusal) → ¬ IsBestVerdictOn net words text verdict) where
     lawful_judged : (sheet : List TrainWord) (revenue : ℕ) → SpellsSheet words sheet → ¬ IsLegal net sheet revenue
     lawful_judged sheet revenue spelled legal =
         let unshown : ShowsNot net text revenue → ⊥ = λ shows_not. none (Some F.CertificateRefused) (is_unshown sheet revenue spelled legal shows_not refl) in
         let shown : ¬ Shows net text revenue = λ shows. none None (is_best sheet revenue spelled legal shows refl) in
         unshown (inl (λ tree spells. unshown (inr (tree, spells, λ accepted. shown (tree, spells, accepted)))))
 
-    by_words : (verdict : Option Fault) → ¬ IsVerdictOn net words verdict
+    by_words : (verdict : Option Refusal) → ¬ IsVerdictOn net words verdict
     by_words verdict (is_run sheet revenue spelled legal same) = lawful_judged sheet revenue spelled legal
     by_words verdict (is_broken sheet clause spelled broken same) =
         none (Some (F.IllegalSheet clause)) (is_refused (F.IllegalSheet clause) (is_broken sheet clause spelled broken refl) refl)

@@ -1,5 +1,5 @@
 -- Lawful commands of a stock round leave a table in good order, with what follows on them by itself.
-use Rattle.std.specs.Prelude.{◌≡◌, ℕ, ◌<◌, ◌≤◌, Bool, true, false, List, [], ◌∷◌, ◌++◌, None, map, if◌then◌else◌, refl}
+use Rattle.std.specs.Prelude.{◌≡◌, ℕ, ◌<◌, ◌≤◌, Bool, true, false, List, [], ◌++◌, None}
 use Rattle.std.proofs.Common.{sym, subst, ◌∙◌}
 use Rattle.rr_roster.specs.declared.company.Corp.{Corp}
 use Rattle.rr_chart.specs.Chart.{Row}
@@ -27,7 +27,6 @@ use Rattle.rr_shares.specs.Sales.{SalesMoveShares}
 use Rattle.rr_operate.specs.Sets.Following.{begins_set, goes_on_in_operating_round, goes_on_in_stock_round}
 use Rattle.rr_stock.specs.Effects.{ends_if, ends_stock_round, ends_turn, entries_of, is_sold_out, rises, rises_among, rises_if_sold_out, says}
 use Rattle.rr_stock.specs.Rules.{verdict}
-use Rattle.rr_stock.specs.Situation.{situation_of}
 use Rattle.rr_laws.specs.Soundness.GoodOrder.{IsInGoodOrder}
 use Rattle.rr_laws.proofs.SoundnessLemmas.Going.{solvent_without_debt}
 use Rattle.rr_laws.proofs.SoundnessLemmas.GoodOrder.{order_kept, sum_kept}

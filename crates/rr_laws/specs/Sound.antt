@@ -1,5 +1,5 @@
 -- A table that is in order whatever commands it accepted.
-use Rattle.std.specs.Prelude.{◌≡◌, ℕ, ◌≤◌, List, [], ◌∷◌, ◌++◌, None, length, ⊤}
+use Rattle.std.specs.Prelude.{ℕ, ◌≤◌, List, [], ◌∷◌, ◌++◌, None, length, ⊤}
 use Rattle.rr_roster.specs.Terms.{IsOrder, order_of}
 use Rattle.rr_books.specs.Book.{Book}
 use Rattle.rr_auction.specs.SoundMoney.{HasSoundMoney}

@@ -4,7 +4,7 @@ use Rattle.rr_code.specs.declared.command.Command.{Command}
 use Rattle.rr_kit.specs.declared.kit.Kit.{Kit}
 use Rattle.rr_rules.specs.State.{GameState}
 use Rattle.rr_turns.specs.Judgement.{IsVerdict, Judgement}
-use Rattle.rr_game.specs.declared.fault.Fault.TheVariants as F
+use Rattle.rr_books.specs.declared.refusal.Refusal.TheVariants as F
 use Rattle.rr_game.specs.Verdict.{command_judgement}
 
 -- there is a verdict: no fault, or one; it can't be that neither is so

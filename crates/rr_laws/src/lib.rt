@@ -1,8 +1,10 @@
 //! The laws that every table is sound, whatever commands it accepted, that each run paid as best was best, that each
-//! command has a verdict, and that the phase is the greatest kind of which a train was ever sold.
+//! command has a verdict, and that the phase is the greatest kind of which a train was ever sold. Its modules have laws on
+//! commands of stock rounds (`sequence`), on the auction and the stock rounds behind it (`soundness`), and on corporations'
+//! turns (`turns`).
 //!
-//! Stands on `rr_sound`, `rr_sound_turns`, `rr_runs` and `rr_game`; nothing of the program stands on it. Its promises:
-//! `sound`, `best_runs_were_best`, `each_command_has_a_verdict` and `phases_are_greatest_sold`.
+//! Stands on `rr_game`, the rules and `rr_referee`; nothing of the program stands on it. Its promises: `sound`,
+//! `best_runs_were_best`, `each_command_has_a_verdict` and `phases_are_greatest_sold`.
 #![tactic(auto)]
 
 pub mod sequence;

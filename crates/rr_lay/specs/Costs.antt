@@ -8,11 +8,11 @@ use Rattle.rr_books.specs.declared.entries.Entry.{Entry}
 use Rattle.rr_books.specs.declared.entries.Entry.TheVariants as E
 use Rattle.rr_books.specs.declared.entries.Marker.TheVariants as M
 use Rattle.rr_desk.specs.Effects.{Effect, adds, in_turn}
-use Rattle.rr_lay.specs.declared.fault.Fault.{Fault}
-use Rattle.rr_lay.specs.declared.fault.Fault.TheVariants as F
+use Rattle.rr_books.specs.declared.refusal.Refusal.{Refusal}
+use Rattle.rr_books.specs.declared.refusal.Refusal.TheVariants as F
 
 -- the corporation has the cost, where there is one
-abbrev pub cost_verdict : (Party → ℤ) → Corp → Option ℕ → Option Fault
+abbrev pub cost_verdict : (Party → ℤ) → Corp → Option ℕ → Option Refusal
 cost_verdict cash corp None = None
 cost_verdict cash corp (Some cost) = if int_lt (cash (P.Corp corp)) (pos cost) then Some F.TooLittleCash else None
 

@@ -19,8 +19,8 @@ use Rattle.rr_network.specs.Network.{Net, face_on, net_of}
 use Rattle.rr_network.specs.Node.{same_node}
 use Rattle.rr_network.specs.Walk.{ReachesLink, Reached, reaches_link}
 use Rattle.rr_market.specs.Operations.Phases.{phase}
-use Rattle.rr_lay.specs.declared.fault.Fault.{Fault}
-use Rattle.rr_lay.specs.declared.fault.Fault.TheVariants as F
+use Rattle.rr_books.specs.declared.refusal.Refusal.{Refusal}
+use Rattle.rr_books.specs.declared.refusal.Refusal.TheVariants as F
 use Rattle.rr_lay.specs.Judging.{After, Needs}
 use Rattle.rr_lay.specs.Phase.{is_open}
 use Rattle.rr_lay.specs.Position.{Position}
@@ -29,7 +29,7 @@ use Rattle.rr_desk.specs.Effects.{Effect}
 use Rattle.rr_lay.specs.Tiles.{faces_hexes, hexes_with, is_blocked, is_next_colour, laid_colour}
 
 -- the colour is open and the next one on the hex, a tile is left, and nothing blocks the hex
-abbrev pub supply_verdict : Plan → List Supply → Position → Hex → Supply → Option Fault
+abbrev pub supply_verdict : Plan → List Supply → Position → Hex → Supply → Option Refusal
 supply_verdict plan tiles now hex supply =
     if not (is_open (phase now.trains) supply.colour) then Some F.ColourNotOpen
     else if not (is_next_colour hex.colour (laid_colour tiles now.lays hex.name) supply.colour) then Some F.ColourNotOpen
@@ -38,12 +38,12 @@ supply_verdict plan tiles now hex supply =
     else None
 
 -- the checks that come before any that takes memory: there are such a hex and such a tile, and the supply's
-abbrev pub first_verdict : Plan → List Supply → Position → Option Hex → Option Supply → Option Fault
+abbrev pub first_verdict : Plan → List Supply → Position → Option Hex → Option Supply → Option Refusal
 first_verdict plan tiles now None supply = Some F.NoSuchName
 first_verdict plan tiles now (Some hex) None = Some F.NoSuchName
 first_verdict plan tiles now (Some hex) (Some supply) = supply_verdict plan tiles now hex supply
 
-abbrev pub first_lay_verdict : Plan → List Supply → Position → Lay → Option Fault
+abbrev pub first_lay_verdict : Plan → List Supply → Position → Lay → Option Refusal
 first_lay_verdict plan tiles now lay = first_verdict plan tiles now (hex_named plan.hexes lay.hex) (supply_at tiles lay.tile)
 
 -- the turned tile keeps what lies on the hex, and each edge that it uses faces a hex
@@ -98,20 +98,20 @@ lay_cost all hex = cost_after (last_lay all hex.name) hex
     cost_after (Some lay) hex = None
 
 -- the verdict on a tile, of this hex and this supply
-abbrev pub IsVerdictOn : Plan → List Supply → Position → Corp → Lay → Hex → Supply → Option Fault → Type 0
+abbrev pub IsVerdictOn : Plan → List Supply → Position → Corp → Lay → Hex → Supply → Option Refusal → Type 0
 IsVerdictOn plan tiles now corp lay hex supply =
     After (supply_verdict plan tiles now hex supply)
     (Needs (IsUpgrade plan tiles now.lays hex supply lay.turn) F.NotAnUpgrade
     (Needs (ReachesNewLink (net_now plan tiles now) (net_with plan tiles now lay) corp) F.NotReached
     (λ verdict. verdict ≡ cost_verdict now.cash corp (lay_cost now.lays hex))))
 
-abbrev pub IsVerdictAt : Plan → List Supply → Position → Corp → Lay → Option Hex → Option Supply → Option Fault → Type 0
+abbrev pub IsVerdictAt : Plan → List Supply → Position → Corp → Lay → Option Hex → Option Supply → Option Refusal → Type 0
 IsVerdictAt plan tiles now corp lay None supply verdict = verdict ≡ Some F.NoSuchName
 IsVerdictAt plan tiles now corp lay (Some hex) None verdict = verdict ≡ Some F.NoSuchName
 IsVerdictAt plan tiles now corp lay (Some hex) (Some supply) verdict = IsVerdictOn plan tiles now corp lay hex supply verdict
 
 -- the verdict on a corporation's laying a tile: the first check that fails, if one does
-abbrev pub IsLayVerdict : Plan → List Supply → Position → Corp → Lay → Option Fault → Type 0
+abbrev pub IsLayVerdict : Plan → List Supply → Position → Corp → Lay → Option Refusal → Type 0
 IsLayVerdict plan tiles now corp lay verdict = IsVerdictAt plan tiles now corp lay (hex_named plan.hexes lay.hex) (supply_at tiles lay.tile) verdict
 
 -- what the tile costs on that hex, if it is one

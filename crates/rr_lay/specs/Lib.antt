@@ -1,4 +1,3 @@
-pub mod Fault
 pub mod Position
 pub mod Phase
 pub mod Judging

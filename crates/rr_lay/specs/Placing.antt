@@ -14,8 +14,8 @@ use Rattle.rr_desk.specs.declared.layout.layout.Station.{Station}
 use Rattle.rr_desk.specs.Layout.Layout.{Placed, stations}
 use Rattle.rr_network.specs.Network.{face_on}
 use Rattle.rr_network.specs.Walk.{ReachesNode, node_of}
-use Rattle.rr_lay.specs.declared.fault.Fault.{Fault}
-use Rattle.rr_lay.specs.declared.fault.Fault.TheVariants as F
+use Rattle.rr_books.specs.declared.refusal.Refusal.{Refusal}
+use Rattle.rr_books.specs.declared.refusal.Refusal.TheVariants as F
 use Rattle.rr_lay.specs.Judging.{After, Needs}
 use Rattle.rr_lay.specs.Laying.{net_now}
 use Rattle.rr_lay.specs.Position.{Position}
@@ -44,7 +44,7 @@ abbrev pub is_own_at : Corp → List ℕ → ℕ → Station → Bool
 is_own_at corp hex centre station = is_token_of corp station && is_token_at hex centre station
 
 -- there is a city, one of its slots is neither filled nor kept, and the corporation has no token there
-abbrev pub city_verdict : List Home → List Station → Station → Option ℕ → Option Fault
+abbrev pub city_verdict : List Home → List Station → Station → Option ℕ → Option Refusal
 city_verdict homes all station None = Some F.NoSlot
 city_verdict homes all station (Some slots) =
     if nat_le slots (slots_taken homes all station.hex station.centre) then Some F.NoSlot
@@ -52,19 +52,19 @@ city_verdict homes all station (Some slots) =
     else None
 
 -- the corporation, which has so many tokens, has one left
-abbrev pub token_verdict : ℕ → List Station → Corp → Option Fault
+abbrev pub token_verdict : ℕ → List Station → Corp → Option Refusal
 token_verdict tokens all corp = if nat_le tokens (placed_by all corp) then Some F.NoTokenLeft else None
 
 -- the checks that come before any that takes memory: there is such a hex, and a token is left
-abbrev pub first_verdict : ℕ → List Station → Corp → Option Hex → Option Fault
+abbrev pub first_verdict : ℕ → List Station → Corp → Option Hex → Option Refusal
 first_verdict tokens all corp None = Some F.NoSuchName
 first_verdict tokens all corp (Some hex) = token_verdict tokens all corp
 
-abbrev pub first_station_verdict : Plan → ℕ → Position → Station → Option Fault
+abbrev pub first_station_verdict : Plan → ℕ → Position → Station → Option Refusal
 first_station_verdict plan tokens now station = first_verdict tokens now.stations station.corp (hex_named plan.hexes station.hex)
 
 -- a token is left, and the city takes it
-abbrev pub slot_verdict : Plan → List Supply → ℕ → Placed → Hex → Station → Option Fault
+abbrev pub slot_verdict : Plan → List Supply → ℕ → Placed → Hex → Station → Option Refusal
 slot_verdict plan tiles tokens placed hex station =
     if nat_le tokens (placed_by placed.stations station.corp) then Some F.NoTokenLeft
     else city_verdict plan.homes placed.stations station (slots_at (face_on tiles placed.lays hex).parts station.centre)
@@ -74,18 +74,18 @@ abbrev pub token_cost : ℕ → ℕ
 token_cost before = if before == 0 then 0 else if before == 1 then 40 else 100
 
 -- the verdict on a token, of this hex
-abbrev pub IsVerdictOn : Plan → List Supply → ℕ → Position → Station → Hex → Option Fault → Type 0
+abbrev pub IsVerdictOn : Plan → List Supply → ℕ → Position → Station → Hex → Option Refusal → Type 0
 IsVerdictOn plan tiles tokens now station hex =
     After (slot_verdict plan tiles tokens (record { lays = now.lays; stations = now.stations }) hex station)
     (Needs (ReachesNode (net_now plan tiles now) station.corp (node_of station)) F.NotReached
     (λ verdict. verdict ≡ cost_verdict now.cash station.corp (Some (token_cost (placed_by now.stations station.corp)))))
 
-abbrev pub IsVerdictAt : Plan → List Supply → ℕ → Position → Station → Option Hex → Option Fault → Type 0
+abbrev pub IsVerdictAt : Plan → List Supply → ℕ → Position → Station → Option Hex → Option Refusal → Type 0
 IsVerdictAt plan tiles tokens now station None verdict = verdict ≡ Some F.NoSuchName
 IsVerdictAt plan tiles tokens now station (Some hex) verdict = IsVerdictOn plan tiles tokens now station hex verdict
 
 -- the verdict on placing a token of a corporation that has so many: the first check that fails, if one does
-abbrev pub IsStationVerdict : Plan → List Supply → ℕ → Position → Station → Option Fault → Type 0
+abbrev pub IsStationVerdict : Plan → List Supply → ℕ → Position → Station → Option Refusal → Type 0
 IsStationVerdict plan tiles tokens now station verdict = IsVerdictAt plan tiles tokens now station (hex_named plan.hexes station.hex) verdict
 
 -- what placing the token adds: the command's words, the payment of its cost, be it 0, and the token

@@ -3,14 +3,13 @@ ghost use Rattle.std.specs.Prelude.{◌≡◌, None, Some, MatchResult, OnOk, If
 ghost use Rattle.rr_books.specs.State.{cash_of};
 ghost use Rattle.rr_desk.specs.Desk.{Takes};
 ghost use Rattle.rr_lay.specs.Costs.{cost_verdict, pays_cost};
-ghost use Rattle.rr_books.specs.declared.faults.Fault.TheVariants as B;
+ghost use Rattle.rr_books.specs.declared.refusal.Refusal.TheVariants as B;
 
-use crate::fault::Fault;
-use rr_books::{Books, Corp, Entry, Money, Party};
+use rr_books::{Books, Corp, Entry, Money, Party, Refusal};
 use rr_desk::Desk;
 
 // Whether the corporation has the cost, if there is one.
-pub(crate) fn judge_cost(books: &Books, corp: Corp, cost: Option<u16>) -> Result<(), Fault>
+pub(crate) fn judge_cost(books: &Books, corp: Corp, cost: Option<u16>) -> Result<(), Refusal>
     ensures { MatchResult result
         (λ _. cost_verdict (cash_of books.now) corp cost ≡ None)
         (λ fault. cost_verdict (cash_of books.now) corp cost ≡ Some fault) }
@@ -19,17 +18,13 @@ pub(crate) fn judge_cost(books: &Books, corp: Corp, cost: Option<u16>) -> Result
         return Ok(());
     };
     if books.balance(Party::Corp(corp)).0 < i64::from(cost) {
-        return Err(Fault::TooLittleCash);
+        return Err(Refusal::TooLittleCash);
     }
     Ok(())
 }
 
 // Pays the cost to the bank, if there is one.
-pub(crate) fn pay_cost(
-    desk: &mut Desk,
-    corp: Corp,
-    cost: Option<u16>,
-) -> Result<(), rr_books::Fault>
+pub(crate) fn pay_cost(desk: &mut Desk, corp: Corp, cost: Option<u16>) -> Result<(), Refusal>
     ensures fault { IfErr result (λ fault. fault ≡ B.OutOfMemory) }
     ensures takes { OnOk result (Takes (pays_cost corp cost) desk.old desk.new) }
 {

@@ -9,14 +9,13 @@ ghost use Rattle.rr_desk.specs.Desk.{Takes};
 ghost use Rattle.rr_lay.specs.Costs.{puts};
 ghost use Rattle.rr_lay.specs.Position.{position_in, position_of};
 ghost use Rattle.rr_lay.specs.Laying.{IsLayVerdict, IsVerdictOn, cost_at, first_lay_verdict, lay_cost, lays_tile, supply_verdict};
-ghost use Rattle.rr_books.specs.declared.faults.Fault.TheVariants as B;
+ghost use Rattle.rr_books.specs.declared.refusal.Refusal.TheVariants as B;
 
 use crate::colours::is_open;
 use crate::costs::{judge_cost, pay_cost};
-use crate::fault::Fault;
 use crate::hexes::{hexes_with, is_blocked, is_next_colour, laid_colour};
 use crate::upgrades::{NamedLay, is_upgrade, reaches_new_link};
-use rr_books::{Act, Corp, Entry, Marker};
+use rr_books::{Act, Corp, Entry, Marker, Refusal};
 use rr_desk::layout::Lay;
 use rr_desk::{Desk, Position};
 use rr_kit::Kit;
@@ -44,10 +43,10 @@ pub fn judge_lay(
     position: &Position,
     corp: Corp,
     lay: &Lay,
-) -> Result<(), Fault>
+) -> Result<(), Refusal>
     ensures verdict { (book : Book) → IsPositionOf book position.now → MatchResult result
         (λ _. IsLayVerdict kit.now.board kit.now.tiles (position_of book) corp lay.now None)
-        (λ fault. ((fault ≡ Fault.OutOfMemory) × (first_lay_verdict kit.now.board kit.now.tiles (position_of book) lay.now ≡ None)) ⊎ IsLayVerdict kit.now.board kit.now.tiles (position_of book) corp lay.now (Some fault)) }
+        (λ fault. ((fault ≡ Refusal.OutOfMemory) × (first_lay_verdict kit.now.board kit.now.tiles (position_of book) lay.now ≡ None)) ⊎ IsLayVerdict kit.now.board kit.now.tiles (position_of book) corp lay.now (Some fault)) }
     ensures room { OnOk result (length position.now.layout.lays < MOST_LAYS) }
 {
     judge(alloc, kit, position, corp, lay)
@@ -60,7 +59,7 @@ pub fn judge_lay(
 ///
 /// `OutOfMemory`, also where `rr_desk::layout::MOST_LAYS` tiles were laid already; the desk may have some of the entries
 /// then.
-pub fn play_lay(kit: &Kit, desk: &mut Desk, corp: Corp, lay: &Lay) -> Result<(), rr_books::Fault>
+pub fn play_lay(kit: &Kit, desk: &mut Desk, corp: Corp, lay: &Lay) -> Result<(), Refusal>
     ensures fault { IfErr result (λ fault. fault ≡ B.OutOfMemory) }
     ensures takes { OnOk result (Takes (lays_tile kit.now.board corp lay.now) desk.old desk.new) }
 {
@@ -78,7 +77,7 @@ fn cost_of(kit: &Kit, position: &Position, lay: &Lay) -> Option<u16>
 
 // Adds the words, the payment and the tile.
 #[tactic(auto, unfolding(crate::specs::Costs::puts))]
-fn put(desk: &mut Desk, corp: Corp, lay: &Lay, cost: Option<u16>) -> Result<(), rr_books::Fault>
+fn put(desk: &mut Desk, corp: Corp, lay: &Lay, cost: Option<u16>) -> Result<(), Refusal>
     ensures fault { IfErr result (λ fault. fault ≡ B.OutOfMemory) }
     ensures takes { OnOk result (Takes (puts (Act.Lay corp lay.now.hex lay.now.tile lay.now.turn) corp cost (Entry.Lay lay.now.hex lay.now.tile lay.now.turn)) desk.old desk.new) }
 {
@@ -97,17 +96,23 @@ fn put(desk: &mut Desk, corp: Corp, lay: &Lay, cost: Option<u16>) -> Result<(), 
     Ok(())
 }
 
-fn judge(alloc: Global, kit: &Kit, position: &Position, corp: Corp, lay: &Lay) -> Result<(), Fault>
+fn judge(
+    alloc: Global,
+    kit: &Kit,
+    position: &Position,
+    corp: Corp,
+    lay: &Lay,
+) -> Result<(), Refusal>
     ensures verdict { MatchResult result
         (λ _. IsLayVerdict kit.now.board kit.now.tiles (position_in position.now.books position.now.layout) corp lay.now None)
-        (λ fault. ((fault ≡ Fault.OutOfMemory) × (first_lay_verdict kit.now.board kit.now.tiles (position_in position.now.books position.now.layout) lay.now ≡ None)) ⊎ IsLayVerdict kit.now.board kit.now.tiles (position_in position.now.books position.now.layout) corp lay.now (Some fault)) }
+        (λ fault. ((fault ≡ Refusal.OutOfMemory) × (first_lay_verdict kit.now.board kit.now.tiles (position_in position.now.books position.now.layout) lay.now ≡ None)) ⊎ IsLayVerdict kit.now.board kit.now.tiles (position_in position.now.books position.now.layout) corp lay.now (Some fault)) }
     ensures room { OnOk result (length position.now.layout.lays < MOST_LAYS) }
 {
     let Some(hex) = kit.board().hex(lay.hex.as_bytes()) else {
-        return Err(Fault::NoSuchName);
+        return Err(Refusal::NoSuchName);
     };
     let Some(supply) = kit.tiles().supply(lay.tile) else {
-        return Err(Fault::NoSuchName);
+        return Err(Refusal::NoSuchName);
     };
     judge_on(alloc, kit, position, corp, &NamedLay { lay, hex, supply })?;
     Ok(())
@@ -119,40 +124,40 @@ fn judge_on(
     position: &Position,
     corp: Corp,
     named: &NamedLay,
-) -> Result<(), Fault>
+) -> Result<(), Refusal>
     ensures verdict { MatchResult result
         (λ _. IsVerdictOn kit.now.board kit.now.tiles (position_in position.now.books position.now.layout) corp named.now.lay.now named.now.hex.now named.now.supply.now None)
-        (λ fault. ((fault ≡ Fault.OutOfMemory) × (supply_verdict kit.now.board kit.now.tiles (position_in position.now.books position.now.layout) named.now.hex.now named.now.supply.now ≡ None)) ⊎ IsVerdictOn kit.now.board kit.now.tiles (position_in position.now.books position.now.layout) corp named.now.lay.now named.now.hex.now named.now.supply.now (Some fault)) }
+        (λ fault. ((fault ≡ Refusal.OutOfMemory) × (supply_verdict kit.now.board kit.now.tiles (position_in position.now.books position.now.layout) named.now.hex.now named.now.supply.now ≡ None)) ⊎ IsVerdictOn kit.now.board kit.now.tiles (position_in position.now.books position.now.layout) corp named.now.lay.now named.now.hex.now named.now.supply.now (Some fault)) }
     ensures room { OnOk result (length position.now.layout.lays < MOST_LAYS) }
 {
     judge_supply(kit, position, named.hex, named.supply)?;
     let layout = position.layout();
     if !is_upgrade(alloc, kit, layout, named)? {
-        return Err(Fault::NotAnUpgrade);
+        return Err(Refusal::NotAnUpgrade);
     }
     if !reaches_new_link(alloc, kit, position, corp, named.lay)? {
-        return Err(Fault::NotReached);
+        return Err(Refusal::NotReached);
     }
     let cost = lay_cost(layout.lays(), named.hex);
     judge_cost(position.books(), corp, cost)?;
     Ok(())
 }
 
-fn judge_supply(kit: &Kit, position: &Position, hex: &Hex, supply: &Supply) -> Result<(), Fault>
+fn judge_supply(kit: &Kit, position: &Position, hex: &Hex, supply: &Supply) -> Result<(), Refusal>
     ensures { MatchResult result
         (λ _. supply_verdict kit.now.board kit.now.tiles (position_in position.now.books position.now.layout) hex.now supply.now ≡ None)
         (λ fault. supply_verdict kit.now.board kit.now.tiles (position_in position.now.books position.now.layout) hex.now supply.now ≡ Some fault) }
 {
     let lays = position.layout().lays();
     if !is_open(phase(position.books()), supply.colour) {
-        return Err(Fault::ColourNotOpen);
+        return Err(Refusal::ColourNotOpen);
     }
     let laid = laid_colour(kit.tiles(), lays, &hex.name);
     if !is_next_colour(hex.colour, laid, supply.colour) {
-        return Err(Fault::ColourNotOpen);
+        return Err(Refusal::ColourNotOpen);
     }
     if supply.count as usize <= hexes_with(lays, supply.number, kit.board().hexes()) {
-        return Err(Fault::TileGone);
+        return Err(Refusal::TileGone);
     }
     if is_blocked(
         position.books(),
@@ -160,7 +165,7 @@ fn judge_supply(kit: &Kit, position: &Position, hex: &Hex, supply: &Supply) -> R
         &hex.name,
         supply.colour,
     ) {
-        return Err(Fault::BlockedHex);
+        return Err(Refusal::BlockedHex);
     }
     Ok(())
 }

@@ -6,7 +6,6 @@
 
 mod colours;
 mod costs;
-mod fault;
 mod hexes;
 pub mod laws;
 mod laying;
@@ -14,6 +13,5 @@ mod placing;
 mod slots;
 mod upgrades;
 
-pub use fault::Fault;
 pub use laying::{judge_lay, play_lay};
 pub use placing::{judge_station, play_station};

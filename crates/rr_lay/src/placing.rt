@@ -10,12 +10,11 @@ ghost use Rattle.rr_desk.specs.Desk.{Takes};
 ghost use Rattle.rr_lay.specs.Costs.{puts};
 ghost use Rattle.rr_lay.specs.Position.{position_in, position_of};
 ghost use Rattle.rr_lay.specs.Placing.{IsStationVerdict, IsVerdictOn, city_verdict, first_station_verdict, placed_by, slot_verdict, places_token, token_cost, token_verdict};
-ghost use Rattle.rr_books.specs.declared.faults.Fault.TheVariants as B;
+ghost use Rattle.rr_books.specs.declared.refusal.Refusal.TheVariants as B;
 
 use crate::costs::{judge_cost, pay_cost};
-use crate::fault::Fault;
 use crate::slots::{city_slots, has_own_at, is_full, placed_by, token_cost};
-use rr_books::{Act, Entry, Marker};
+use rr_books::{Act, Entry, Marker, Refusal};
 use rr_desk::layout::{Layout, Station};
 use rr_desk::{Desk, Position};
 use rr_kit::Kit;
@@ -38,10 +37,10 @@ pub fn judge_station(
     kit: &Kit,
     position: &Position,
     station: &Station,
-) -> Result<(), Fault>
+) -> Result<(), Refusal>
     ensures { (book : Book) → IsPositionOf book position.now → MatchResult result
         (λ _. IsStationVerdict kit.now.board kit.now.tiles (tokens_of kit.now.roster station.now.corp) (position_of book) station.now None)
-        (λ fault. ((fault ≡ Fault.OutOfMemory) × (first_station_verdict kit.now.board (tokens_of kit.now.roster station.now.corp) (position_of book) station.now ≡ None)) ⊎ IsStationVerdict kit.now.board kit.now.tiles (tokens_of kit.now.roster station.now.corp) (position_of book) station.now (Some fault)) }
+        (λ fault. ((fault ≡ Refusal.OutOfMemory) × (first_station_verdict kit.now.board (tokens_of kit.now.roster station.now.corp) (position_of book) station.now ≡ None)) ⊎ IsStationVerdict kit.now.board kit.now.tiles (tokens_of kit.now.roster station.now.corp) (position_of book) station.now (Some fault)) }
 {
     judge(alloc, kit, position, station)
 }
@@ -53,7 +52,7 @@ pub fn judge_station(
 ///
 /// `OutOfMemory`, also where `rr_desk::layout::MOST_STATIONS` tokens were placed already; the desk may have some of the
 /// entries then.
-pub fn play_station(desk: &mut Desk, station: &Station) -> Result<(), rr_books::Fault>
+pub fn play_station(desk: &mut Desk, station: &Station) -> Result<(), Refusal>
     ensures fault { IfErr result (λ fault. fault ≡ B.OutOfMemory) }
     ensures takes { OnOk result (Takes (places_token station.now) desk.old desk.new) }
 {
@@ -72,7 +71,7 @@ fn cost_of(position: &Position, corp: Corp) -> u16
 
 // Adds the words, the payment and the token.
 #[tactic(auto, unfolding(crate::specs::Costs::puts))]
-fn put(desk: &mut Desk, station: &Station, cost: u16) -> Result<(), rr_books::Fault>
+fn put(desk: &mut Desk, station: &Station, cost: u16) -> Result<(), Refusal>
     ensures fault { IfErr result (λ fault. fault ≡ B.OutOfMemory) }
     ensures takes { OnOk result (Takes (puts (Act.Station station.now.corp station.now.hex station.now.centre) station.now.corp (Some cost) (Entry.Station station.now.corp station.now.hex station.now.centre)) desk.old desk.new) }
 {
@@ -90,13 +89,13 @@ fn put(desk: &mut Desk, station: &Station, cost: u16) -> Result<(), rr_books::Fa
     Ok(())
 }
 
-fn judge(alloc: Global, kit: &Kit, position: &Position, station: &Station) -> Result<(), Fault>
+fn judge(alloc: Global, kit: &Kit, position: &Position, station: &Station) -> Result<(), Refusal>
     ensures { MatchResult result
         (λ _. IsStationVerdict kit.now.board kit.now.tiles (tokens_of kit.now.roster station.now.corp) (position_in position.now.books position.now.layout) station.now None)
-        (λ fault. ((fault ≡ Fault.OutOfMemory) × (first_station_verdict kit.now.board (tokens_of kit.now.roster station.now.corp) (position_in position.now.books position.now.layout) station.now ≡ None)) ⊎ IsStationVerdict kit.now.board kit.now.tiles (tokens_of kit.now.roster station.now.corp) (position_in position.now.books position.now.layout) station.now (Some fault)) }
+        (λ fault. ((fault ≡ Refusal.OutOfMemory) × (first_station_verdict kit.now.board (tokens_of kit.now.roster station.now.corp) (position_in position.now.books position.now.layout) station.now ≡ None)) ⊎ IsStationVerdict kit.now.board kit.now.tiles (tokens_of kit.now.roster station.now.corp) (position_in position.now.books position.now.layout) station.now (Some fault)) }
 {
     let Some(hex) = kit.board().hex(station.hex.as_bytes()) else {
-        return Err(Fault::NoSuchName);
+        return Err(Refusal::NoSuchName);
     };
     judge_on(alloc, kit, position, station, hex)?;
     Ok(())
@@ -108,14 +107,14 @@ fn judge_on(
     position: &Position,
     station: &Station,
     hex: &Hex,
-) -> Result<(), Fault>
+) -> Result<(), Refusal>
     ensures { MatchResult result
         (λ _. IsVerdictOn kit.now.board kit.now.tiles (tokens_of kit.now.roster station.now.corp) (position_in position.now.books position.now.layout) station.now hex.now None)
-        (λ fault. ((fault ≡ Fault.OutOfMemory) × (token_verdict (tokens_of kit.now.roster station.now.corp) position.now.layout.stations station.now.corp ≡ None)) ⊎ IsVerdictOn kit.now.board kit.now.tiles (tokens_of kit.now.roster station.now.corp) (position_in position.now.books position.now.layout) station.now hex.now (Some fault)) }
+        (λ fault. ((fault ≡ Refusal.OutOfMemory) × (token_verdict (tokens_of kit.now.roster station.now.corp) position.now.layout.stations station.now.corp ≡ None)) ⊎ IsVerdictOn kit.now.board kit.now.tiles (tokens_of kit.now.roster station.now.corp) (position_in position.now.books position.now.layout) station.now hex.now (Some fault)) }
 {
     judge_slot(alloc, kit, position.layout(), station, hex)?;
     if !is_reached(alloc, kit, position.layout(), station)? {
-        return Err(Fault::NotReached);
+        return Err(Refusal::NotReached);
     }
     let cost = cost_of(position, station.corp);
     judge_cost(position.books(), station.corp, Some(cost))?;
@@ -129,36 +128,41 @@ fn judge_slot(
     layout: &Layout,
     station: &Station,
     hex: &Hex,
-) -> Result<(), Fault>
+) -> Result<(), Refusal>
     ensures verdict { MatchResult result
         (λ _. slot_verdict kit.now.board kit.now.tiles (tokens_of kit.now.roster station.now.corp) layout.now hex.now station.now ≡ None)
-        (λ fault. ((fault ≡ Fault.OutOfMemory) × (token_verdict (tokens_of kit.now.roster station.now.corp) layout.now.stations station.now.corp ≡ None)) ⊎ (slot_verdict kit.now.board kit.now.tiles (tokens_of kit.now.roster station.now.corp) layout.now hex.now station.now ≡ Some fault)) }
+        (λ fault. ((fault ≡ Refusal.OutOfMemory) × (token_verdict (tokens_of kit.now.roster station.now.corp) layout.now.stations station.now.corp ≡ None)) ⊎ (slot_verdict kit.now.board kit.now.tiles (tokens_of kit.now.roster station.now.corp) layout.now hex.now station.now ≡ Some fault)) }
     ensures token { IfOk result (λ _. token_verdict (tokens_of kit.now.roster station.now.corp) layout.now.stations station.now.corp ≡ None) }
 {
     let tokens = kit.roster().tokens(station.corp);
     if tokens as usize <= placed_by(layout.stations(), station.corp) {
-        return Err(Fault::NoTokenLeft);
+        return Err(Refusal::NoTokenLeft);
     }
     let slots = city_slots(alloc, kit.tiles(), layout.lays(), hex, station.centre)?;
     judge_city(kit, layout, station, slots)?;
     Ok(())
 }
 
-fn judge_city(kit: &Kit, layout: &Layout, station: &Station, slots: Option<u8>) -> Result<(), Fault>
+fn judge_city(
+    kit: &Kit,
+    layout: &Layout,
+    station: &Station,
+    slots: Option<u8>,
+) -> Result<(), Refusal>
     ensures { MatchResult result
         (λ _. city_verdict kit.now.board.homes layout.now.stations station.now slots ≡ None)
         (λ fault. city_verdict kit.now.board.homes layout.now.stations station.now slots ≡ Some fault) }
 {
     let Some(slots) = slots else {
-        return Err(Fault::NoSlot);
+        return Err(Refusal::NoSlot);
     };
     let stations = layout.stations();
     let homes = kit.board().homes();
     if is_full(homes, stations, &station.hex, station.centre, slots) {
-        return Err(Fault::NoSlot);
+        return Err(Refusal::NoSlot);
     }
     if has_own_at(stations, station.corp, &station.hex, station.centre) {
-        return Err(Fault::NoSlot);
+        return Err(Refusal::NoSlot);
     }
     Ok(())
 }

@@ -27,7 +27,7 @@ fn cite_laws() {
 // The number of the first fault that has another number or text than it is to have.
 fn unlike(alloc: Global) -> Result<Option<u8>, Fail> {
     let rows = [
-        (Fault::Game(rr_game::Fault::GameOver), 51, "game is over"),
+        (Fault::Game(rr_books::Refusal::GameOver), 51, "game is over"),
         (
             Fault::from(rr_game::history::Fault::StaleStamp(7)),
             52,

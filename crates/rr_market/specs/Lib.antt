@@ -1,4 +1,3 @@
-pub mod Fault
 pub mod Marks
 pub mod MarkLaws
 pub mod Moves

@@ -7,10 +7,9 @@ ghost use Rattle.rr_market.specs.Order.{order_by, operating_order, operates_befo
 ghost use Rattle.rr_market.specs.State.{IsMarketOf, Follows, after, IsMarked, token_in, cell_in, first_in, arrival_in};
 
 use crate::arrivals::Arrivals;
-use crate::fault::Fault;
 use crate::moves;
 use crate::order::{OperatingOrder, Standing};
-use rr_books::{Cell, Corp, Entry};
+use rr_books::{Cell, Corp, Entry, Refusal};
 use rr_chart::{Chart, Zone};
 use std::marker::Model;
 
@@ -136,17 +135,17 @@ impl Market {
     /// # Errors
     ///
     /// `NotAPar` where the chart has no par cell of this price. The market is as before then.
-    pub fn set(&mut self, chart: &Chart, corp: Corp, par: u16) -> Result<Cell, Fault>
+    pub fn set(&mut self, chart: &Chart, corp: Corp, par: u16) -> Result<Cell, Refusal>
         ensures verdict { MatchResult result
             (λ cell. option_map cell_of (par_place chart.now par) ≡ Some cell)
-            (λ fault. (fault ≡ Fault.NotAPar) × (par_place chart.now par ≡ None)) }
+            (λ fault. (fault ≡ Refusal.NotAPar) × (par_place chart.now par ≡ None)) }
         ensures marked { IfOk result (λ cell. IsMarked self.old self.new corp cell) }
         ensures entries { IfOk result (λ cell. (book : Book) → mark_at corp (Some cell) ≡ par_marks chart.now corp par book) }
         ensures book { Follows self.old self.new (par_marks chart.now corp par) }
         ensures err { OnErr result (self.new ≡ self.old) }
     {
         let Some(cell) = moves::par_cell(chart, u64::from(par)) else {
-            return Err(Fault::NotAPar);
+            return Err(Refusal::NotAPar);
         };
         self.mark(corp, cell);
         Ok(cell)

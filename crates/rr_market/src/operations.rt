@@ -1,7 +1,7 @@
 //! How far the operating rounds of a table have come: which round of which set it is, which corporation is due, and at
 //! which step of its turn.
 //!
-//! Stands on `rr_market` and `rr_rounds`. Its promise: `IsOperationsOf`, kept by `follow` for any entry.
+//! Stands on `Market` and on `rr_rounds`. Its promise: `IsOperationsOf`, kept by `follow` for any entry.
 
 pub mod laws;
 mod operations;

@@ -281,12 +281,12 @@ module _ {D : Type 0} (Honest Works : D → Type 0) (state : D → DiskState) (p
         refused = ap tells_acceptance told ∙ refusal_calm F.FileFull
 
     -- memory was wanted
-    wanting : reply ≡ refusal_of F.OutOfMemory → held_of new ≡ held_of old → Committed (Err T.OutOfMemory) → IsUnchanged old new ⊎ Lawful → Lasting
+    wanting : reply ≡ refusal_of F.OutOfMemory → held_of new ≡ held_of old → Committed (Err T.OutOfMemory) → IsUnchanged old new ⊎ (Lawful × HasNoRoom new name c) → Lasting
     wanting told same k (inl unchanged) =
         let calm = subst SaysNeither (sym told) memory_calm in
         lasts_unchanged unchanged k.carries calm (by_commit (Err T.OutOfMemory) None k calm.2)
-    wanting told same k (inr lawful) =
-        reached (Err T.OutOfMemory) lawful k calm.2
+    wanting told same k (inr wants) =
+        reached (Err T.OutOfMemory) wants.0 k calm.2
         (record {
           accepted = λ is. both_ways (tells_acceptance reply) is calm.2;
           reaches = ap reaches_file told ∙ memory_reaches;

@@ -3,7 +3,6 @@ use Rattle.std.proofs.Common.{◌≡◌, ◌∙◌, ℕ, List, Option, None, Som
 use Rattle.std.specs.Option.{option_or}
 use Rattle.rr_books.specs.declared.acts.Act.TheVariants as A
 use Rattle.rr_code.specs.declared.command.Command.TheVariants.{Order}
-use Rattle.rr_game.specs.Fault.{of_rules}
 use Rattle.rr_game.specs.Play.{play, players_of}
 use Rattle.rr_game.specs.Verdict.{act_judgement, over_verdict}
 use Rattle.rr_game.specs.History.Fault.{of_game}
@@ -52,7 +51,7 @@ in_stage G.Auction kit state c sheet certificate h best = absurd cc
 in_stage G.Stock kit state c sheet certificate h best = absurd cc
 in_stage G.Operating kit state c sheet certificate h best =
     from_behind (judgement_in G.Operating kit state (A.RunBest c sheet certificate)).first (judgement_in G.Operating kit state (A.RunBest c sheet certificate)).Behind None h
-    (None, (None, best, refl), refl)
+    best
 
 by_rules : (kit : Kit) (state : GameState) (c : Corp) (sheet certificate : List ℕ) → (judgement kit state (A.RunBest c sheet certificate)).first ≡ None
     → IsBestRunVerdict kit state.book c sheet certificate None → IsVerdict (judgement kit state (A.RunBest c sheet certificate)) None
@@ -66,7 +65,7 @@ at_table : (kit : Kit) (table : TableState) (stamp : ℕ) (c : Corp) (sheet cert
 at_table kit table stamp c sheet certificate h best =
     let state = play kit table.commands in
     let players = players_of table.commands in
-    let ruled = option_map of_rules (runs.run_verdict kit state c) in
+    let ruled = runs.run_verdict kit state c in
     let gamed = option_map of_game (option_or (over_verdict kit state) ruled) in
     let all = map_none of_table (option_or (stamp_verdict table stamp) (option_or (room_verdict table) gamed)) h in
     let stamped = first_none (stamp_verdict table stamp) (option_or (room_verdict table) gamed) all in
@@ -74,11 +73,11 @@ at_table kit table stamp c sheet certificate h best =
     let roomed = first_none (room_verdict table) gamed own in
     let game = map_none of_game (option_or (over_verdict kit state) ruled) (rest_none (room_verdict table) gamed own) in
     let going_on = first_none (over_verdict kit state) ruled game in
-    let free = map_none of_rules (runs.run_verdict kit state c) (rest_none (over_verdict kit state) ruled game) in
+    let free = rest_none (over_verdict kit state) ruled game in
     let act = A.RunBest c sheet certificate in
     let command = Order (O.RunBest c sheet certificate) in
     let lawful = by_rules kit state c sheet certificate (best_run_alike kit state c sheet certificate ∙ free) best in
-    let by_game = behind-is (over_verdict kit state) (act_judgement kit state (Some act)) None going_on (map-is of_rules (judgement kit state act) None lawful) in
+    let by_game = behind-is (over_verdict kit state) (act_judgement kit state (Some act)) None going_on lawful in
     let by_own = behind-is (room_verdict table) (judgement_map of_game (game_judgement kit table.commands command)) None roomed (map-is of_game (game_judgement kit table.commands command) None by_game) in
     let by_stamp = behind-is (stamp_verdict table stamp) (own_judgement kit table (best_run c sheet certificate)) None stamped by_own in
     map-is of_table (request_judgement kit table stamp (best_run c sheet certificate)) None by_stamp

@@ -4,10 +4,8 @@ use Rattle.std.specs.Fmt.{digits}
 use Rattle.rr_kit.specs.declared.kit.Kit.{Kit}
 use Rattle.rr_kit.specs.declared.fault.Fault as kit
 use Rattle.rr_kit.specs.declared.fault.Fault.TheVariants as I
-use Rattle.rr_rules.specs.declared.fault.Fault as rules
-use Rattle.rr_rules.specs.declared.fault.Fault.TheVariants as U
-use Rattle.rr_game.specs.declared.fault.Fault as game
-use Rattle.rr_game.specs.declared.fault.Fault.TheVariants as G
+use Rattle.rr_books.specs.declared.refusal.Refusal.{Refusal}
+use Rattle.rr_books.specs.declared.refusal.Refusal.TheVariants as U
 use Rattle.rr_game.specs.declared.history.fault.Fault as hist
 use Rattle.rr_game.specs.declared.history.fault.Fault.TheVariants as H
 use Rattle.rr_game.specs.History.Verdict.{request_judgement}
@@ -42,17 +40,10 @@ unfolding digits
 counts_kit old new I.BadRoster h = h
 counts_kit old new _ h = h
 
-counts_rules : (old new : ℕ) (fault : rules.Fault) → new ≡ old → CountsTold old new (tells_failure (refusal_of (F.Game (G.Rules fault))))
+counts_game : (old new : ℕ) (fault : Refusal) → new ≡ old → CountsTold old new (tells_failure (refusal_of (F.Game fault)))
 unfolding digits
-counts_rules old new U.NoSuchName h = h
-counts_rules old new _ h = h
-
-counts_game : (old new : ℕ) (fault : game.Fault) → new ≡ old → CountsTold old new (tells_failure (refusal_of (F.Game fault)))
-unfolding digits
-counts_game old new (G.Rules fault) h = counts_rules old new fault h
-counts_game old new G.GameOver h = h
-counts_game old new G.NoSuchName h = h
-counts_game old new G.OutOfMemory h = h
+counts_game old new U.NoSuchName h = h
+counts_game old new _ h = h
 
 -- a count that follows a fault follows the reply that refuses by it
 pub counts_told : (old new : ℕ) (fault : store.Fault) → CountsFailure old new fault → CountsTold old new (tells_failure (refusal_of (of_store fault)))
@@ -133,17 +124,10 @@ calm_if : (b : Bool) (o p : Option judge.Fault) → IsCalm o → IsCalm p → Is
 calm_if true o p h k = h
 calm_if false o p h k = k
 
-rules_calm : (fault : rules.Fault) → SaysNeither (refusal_of (F.Game (G.Rules fault)))
+game_calm : (fault : Refusal) → SaysNeither (refusal_of (F.Game fault))
 unfolding digits
-rules_calm U.NoSuchName = (refl, refl, refl)
-rules_calm _ = (refl, refl, refl)
-
-game_calm : (fault : game.Fault) → SaysNeither (refusal_of (F.Game fault))
-unfolding digits
-game_calm (G.Rules fault) = rules_calm fault
-game_calm G.GameOver = (refl, refl, refl)
-game_calm G.NoSuchName = (refl, refl, refl)
-game_calm G.OutOfMemory = (refl, refl, refl)
+game_calm U.NoSuchName = (refl, refl, refl)
+game_calm _ = (refl, refl, refl)
 
 table_calm : (o : Option hist.Fault) → IsCalm (option_map of_table o)
 unfolding digits

@@ -3,12 +3,10 @@ use Rattle.std.specs.Prelude.{ℕ, List, [], ◌++◌, codes, decimal}
 use Rattle.rr_kit.specs.declared.fault.Fault as kit
 use Rattle.rr_kit.specs.declared.fault.Fault.TheVariants as I
 use Rattle.rr_kit.specs.Fault as kits
-use Rattle.rr_game.specs.declared.fault.Fault as game
-use Rattle.rr_game.specs.declared.fault.Fault.TheVariants as G
-use Rattle.rr_game.specs.Fault as numbers
-use Rattle.rr_rules.specs.declared.fault.Fault as rules
-use Rattle.rr_rules.specs.declared.fault.Fault.TheVariants as U
-use Rattle.rr_referee.specs.Fault.{clause_number}
+use Rattle.rr_books.specs.declared.refusal.Refusal.{Refusal}
+use Rattle.rr_books.specs.declared.refusal.Refusal.TheVariants as G
+use Rattle.rr_books.specs.Refusal.{clause_number}
+use Rattle.rr_books.specs.Refusal as numbers
 use Rattle.rr_code.specs.declared.fault.Fault as code
 use Rattle.rr_code.specs.declared.fault.Fault.TheVariants as C
 use Rattle.rr_tables.specs.declared.records.fault.Fault as judge
@@ -52,45 +50,40 @@ kit_words (I.BadManifest line) = codes "bad manifest"
 kit_words (I.BadBoard line) = codes "bad board"
 kit_words I.OutOfMemory = codes "out of memory"
 
-abbrev pub rule_words : rules.Fault → List ℕ
-rule_words U.NoSuchName = codes "no such name"
-rule_words U.TooLittleCash = codes "too little cash"
-rule_words U.NotYourTurn = codes "not your turn"
-rule_words (U.BidTooLow least) = codes "bid too low"
-rule_words U.NotForSale = codes "not for sale"
-rule_words U.CashTiedUp = codes "cash tied up"
-rule_words U.CertificateLimit = codes "certificate limit"
-rule_words U.OverSixty = codes "over 60 percent"
-rule_words U.SoldThisRound = codes "sold this round"
-rule_words U.FirstStockRound = codes "first stock round"
-rule_words U.PoolOverHalf = codes "pool over 50 percent"
-rule_words U.SecondPurchase = codes "second buy"
-rule_words U.MustSellFirst = codes "must sell first"
-rule_words U.NotAPar = codes "not a par"
-rule_words U.ColourNotOpen = codes "colour not open"
-rule_words U.TileGone = codes "tile gone"
-rule_words U.NotAnUpgrade = codes "not an upgrade"
-rule_words U.NotReached = codes "not reached"
-rule_words U.BlockedHex = codes "blocked hex"
-rule_words U.NoSlot = codes "no slot"
-rule_words U.NoTokenLeft = codes "no token left"
-rule_words (U.IllegalSheet clause) = codes "illegal sheet"
-rule_words U.CertificateRefused = codes "certificate refused"
-rule_words U.WrongStep = codes "wrong step"
-rule_words U.TrainLimit = codes "train limit"
-rule_words U.NotOnSale = codes "not on sale"
-rule_words U.PriceOutOfBounds = codes "price out of bounds"
-rule_words U.MustDiscardFirst = codes "must discard first"
-rule_words U.MustOwnTrain = codes "must own a train"
-rule_words U.SaleNotNeeded = codes "sale not needed"
-rule_words U.PresidencyWouldChange = codes "presidency would change"
-rule_words U.NotBankrupt = codes "not bankrupt"
-rule_words U.OutOfMemory = codes "out of memory"
-
-abbrev pub game_words : game.Fault → List ℕ
-game_words G.GameOver = codes "game is over"
+abbrev pub game_words : Refusal → List ℕ
 game_words G.NoSuchName = codes "no such name"
-game_words (G.Rules fault) = rule_words fault
+game_words G.TooLittleCash = codes "too little cash"
+game_words G.NotYourTurn = codes "not your turn"
+game_words (G.BidTooLow least) = codes "bid too low"
+game_words G.NotForSale = codes "not for sale"
+game_words G.CashTiedUp = codes "cash tied up"
+game_words G.CertificateLimit = codes "certificate limit"
+game_words G.OverSixty = codes "over 60 percent"
+game_words G.SoldThisRound = codes "sold this round"
+game_words G.FirstStockRound = codes "first stock round"
+game_words G.PoolOverHalf = codes "pool over 50 percent"
+game_words G.SecondPurchase = codes "second buy"
+game_words G.MustSellFirst = codes "must sell first"
+game_words G.NotAPar = codes "not a par"
+game_words G.ColourNotOpen = codes "colour not open"
+game_words G.TileGone = codes "tile gone"
+game_words G.NotAnUpgrade = codes "not an upgrade"
+game_words G.NotReached = codes "not reached"
+game_words G.BlockedHex = codes "blocked hex"
+game_words G.NoSlot = codes "no slot"
+game_words G.NoTokenLeft = codes "no token left"
+game_words (G.IllegalSheet clause) = codes "illegal sheet"
+game_words G.CertificateRefused = codes "certificate refused"
+game_words G.WrongStep = codes "wrong step"
+game_words G.TrainLimit = codes "train limit"
+game_words G.NotOnSale = codes "not on sale"
+game_words G.PriceOutOfBounds = codes "price out of bounds"
+game_words G.MustDiscardFirst = codes "must discard first"
+game_words G.MustOwnTrain = codes "must own a train"
+game_words G.SaleNotNeeded = codes "sale not needed"
+game_words G.PresidencyWouldChange = codes "presidency would change"
+game_words G.NotBankrupt = codes "not bankrupt"
+game_words G.GameOver = codes "game is over"
 game_words G.OutOfMemory = codes "out of memory"
 
 abbrev pub words_of : Fault → List ℕ
@@ -121,9 +114,9 @@ kit_data (I.BadManifest line) = codes " " ++ decimal line
 kit_data (I.BadBoard line) = codes " " ++ decimal line
 kit_data _ = []
 
-abbrev pub game_data : game.Fault → List ℕ
-game_data (G.Rules (U.BidTooLow least)) = codes " " ++ decimal least
-game_data (G.Rules (U.IllegalSheet clause)) = codes " " ++ decimal (clause_number clause)
+abbrev pub game_data : Refusal → List ℕ
+game_data (G.BidTooLow least) = codes " " ++ decimal least
+game_data (G.IllegalSheet clause) = codes " " ++ decimal (clause_number clause)
 game_data _ = []
 
 abbrev pub data_of : Fault → List ℕ
@@ -138,7 +131,7 @@ abbrev pub refusal_of : Fault → List ℕ
 refusal_of fault = codes "no " ++ decimal (number_of fault) ++ codes " " ++ words_of fault ++ data_of fault ++ codes "\n"
 
 -- the refusals of the layers below, as those of the moderator
-abbrev pub of_game : game.Fault → Fault
+abbrev pub of_game : Refusal → Fault
 of_game G.OutOfMemory = F.OutOfMemory
 of_game fault = F.Game fault
 

@@ -28,7 +28,7 @@ use Rattle.rr_moderator.specs.declared.fault.Fault.{Fault}
 use Rattle.rr_moderator.specs.declared.fault.Fault.TheVariants as F
 use Rattle.rr_moderator.specs.Answer.{answer_of, asked_words, owned, price_words}
 use Rattle.rr_moderator.specs.Fault.{refusal_of}
-use Rattle.rr_game.specs.declared.fault.Fault.TheVariants as G
+use Rattle.rr_books.specs.declared.refusal.Refusal.TheVariants as G
 use Rattle.rr_game.specs.Names.{owner_place, party_of, player_word, seat_of, trains_place}
 use Rattle.rr_game.specs.Play.{play, players_of}
 use Rattle.rr_game.specs.Queries.{due, holding, iou, quote, worth}

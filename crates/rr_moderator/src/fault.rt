@@ -1,8 +1,9 @@
 ghost use Rattle.std.specs.Prelude.{◌≡◌, ◌+◌, ◌≤◌, ◌++◌, length};
-ghost use Rattle.rr_moderator.specs.Fault.{data_of, game_data, game_words, kit_data, kit_words, number_of, of_code, of_game, of_rules, of_search, of_store, of_serve, refusal_of, rule_words, words_of};
+ghost use Rattle.rr_moderator.specs.Fault.{data_of, game_data, game_words, kit_data, kit_words, number_of, of_code, of_game, of_rules, of_search, of_store, of_serve, refusal_of, words_of};
 ghost use Rattle.rr_moderator.specs.declared.fault.Fault.TheVariants.{OutOfMemory};
 
-use crate::reply::Reply;
+use crate::reply::{Reply, ShortReply};
+use rr_books::Refusal;
 use rr_tables::records;
 use std::alloc::{AllocError, AllocFailed};
 use thiserror::Error;
@@ -15,7 +16,7 @@ pub enum Fault {
     Kit(rr_kit::Fault),
     /// The rules of the game refuse it. Want of memory isn't told by this, but by `OutOfMemory`.
     #[error("{0}")]
-    Game(rr_game::Fault),
+    Game(Refusal),
     /// No best run was found whose certificate has at most 1,024 nodes and which a line has room for.
     #[error("no certificate found")]
     NoCertificate,
@@ -93,22 +94,33 @@ impl Fault {
         }
     }
 
-    /// Writes the reply that refuses: `no`, the number and the text.
-    pub fn write(&self, reply: &mut Reply)
-        ensures text { reply.new ≡ refusal_of self.now }
-        ensures bounded { length reply.new ≤ 100 }
+    /// The reply that refuses: `no`, the number and the text. It takes no memory.
+    pub fn refusal(&self) -> ShortReply
+        ensures text { result ≡ refusal_of self.now }
+        ensures bounded { length result ≤ 100 }
     {
-        reply.clear();
+        let mut reply = ShortReply::new();
         reply.text(b"no ");
         reply.number(u64::from(self.number()));
         reply.text(b" ");
         reply.text(self.words().as_bytes());
-        self.write_data(reply);
+        self.write_data(&mut reply);
         reply.text(b"\n");
+        reply
+    }
+
+    /// Writes the reply that refuses.
+    pub fn write(&self, reply: &mut Reply)
+        ensures text { reply.new ≡ refusal_of self.now }
+        ensures bounded { length reply.new ≤ 100 }
+    {
+        let refusal = self.refusal();
+        reply.clear();
+        reply.text(refusal.as_bytes());
     }
 
     /// What follows the words.
-    fn write_data(&self, reply: &mut Reply)
+    fn write_data(&self, reply: &mut ShortReply)
         requires { length reply.old ≤ 50 }
         ensures text { reply.new ≡ reply.old ++ data_of self.now }
         ensures bounded { length reply.new ≤ length reply.old + 42 }
@@ -171,73 +183,61 @@ fn kit_words(fault: rr_kit::Fault) -> &'static str
     }
 }
 
-/// The words of a refusal by the game.
-fn game_words(fault: rr_game::Fault) -> &'static str
+/// The words of a refusal by the rules of the game.
+fn game_words(fault: Refusal) -> &'static str
     ensures value { result.now ≡ game_words fault }
     ensures short { length result.now ≤ 24 }
 {
     match fault {
-        rr_game::Fault::GameOver => "game is over",
-        rr_game::Fault::NoSuchName => "no such name",
-        rr_game::Fault::Rules(fault) => rule_words(fault),
-        rr_game::Fault::OutOfMemory => "out of memory",
-    }
-}
-
-/// The words of a refusal by the rules.
-fn rule_words(fault: rr_rules::Fault) -> &'static str
-    ensures value { result.now ≡ rule_words fault }
-    ensures short { length result.now ≤ 24 }
-{
-    match fault {
-        rr_rules::Fault::NoSuchName => "no such name",
-        rr_rules::Fault::TooLittleCash => "too little cash",
-        rr_rules::Fault::NotYourTurn => "not your turn",
-        rr_rules::Fault::BidTooLow(_) => "bid too low",
-        rr_rules::Fault::NotForSale => "not for sale",
-        rr_rules::Fault::CashTiedUp => "cash tied up",
-        rr_rules::Fault::CertificateLimit => "certificate limit",
-        rr_rules::Fault::OverSixty => "over 60 percent",
-        rr_rules::Fault::SoldThisRound => "sold this round",
-        rr_rules::Fault::FirstStockRound => "first stock round",
-        rr_rules::Fault::PoolOverHalf => "pool over 50 percent",
-        rr_rules::Fault::SecondPurchase => "second buy",
-        rr_rules::Fault::MustSellFirst => "must sell first",
-        rr_rules::Fault::NotAPar => "not a par",
-        rr_rules::Fault::ColourNotOpen => "colour not open",
-        rr_rules::Fault::TileGone => "tile gone",
-        rr_rules::Fault::NotAnUpgrade => "not an upgrade",
-        rr_rules::Fault::NotReached => "not reached",
-        rr_rules::Fault::BlockedHex => "blocked hex",
-        rr_rules::Fault::NoSlot => "no slot",
-        rr_rules::Fault::NoTokenLeft => "no token left",
-        rr_rules::Fault::IllegalSheet(_) => "illegal sheet",
-        rr_rules::Fault::CertificateRefused => "certificate refused",
-        rr_rules::Fault::WrongStep => "wrong step",
-        rr_rules::Fault::TrainLimit => "train limit",
-        rr_rules::Fault::NotOnSale => "not on sale",
-        rr_rules::Fault::PriceOutOfBounds => "price out of bounds",
-        rr_rules::Fault::MustDiscardFirst => "must discard first",
-        rr_rules::Fault::MustOwnTrain => "must own a train",
-        rr_rules::Fault::SaleNotNeeded => "sale not needed",
-        rr_rules::Fault::PresidencyWouldChange => "presidency would change",
-        rr_rules::Fault::NotBankrupt => "not bankrupt",
-        rr_rules::Fault::OutOfMemory => "out of memory",
+        Refusal::NoSuchName => "no such name",
+        Refusal::TooLittleCash => "too little cash",
+        Refusal::NotYourTurn => "not your turn",
+        Refusal::BidTooLow(_) => "bid too low",
+        Refusal::NotForSale => "not for sale",
+        Refusal::CashTiedUp => "cash tied up",
+        Refusal::CertificateLimit => "certificate limit",
+        Refusal::OverSixty => "over 60 percent",
+        Refusal::SoldThisRound => "sold this round",
+        Refusal::FirstStockRound => "first stock round",
+        Refusal::PoolOverHalf => "pool over 50 percent",
+        Refusal::SecondPurchase => "second buy",
+        Refusal::MustSellFirst => "must sell first",
+        Refusal::NotAPar => "not a par",
+        Refusal::ColourNotOpen => "colour not open",
+        Refusal::TileGone => "tile gone",
+        Refusal::NotAnUpgrade => "not an upgrade",
+        Refusal::NotReached => "not reached",
+        Refusal::BlockedHex => "blocked hex",
+        Refusal::NoSlot => "no slot",
+        Refusal::NoTokenLeft => "no token left",
+        Refusal::IllegalSheet(_) => "illegal sheet",
+        Refusal::CertificateRefused => "certificate refused",
+        Refusal::WrongStep => "wrong step",
+        Refusal::TrainLimit => "train limit",
+        Refusal::NotOnSale => "not on sale",
+        Refusal::PriceOutOfBounds => "price out of bounds",
+        Refusal::MustDiscardFirst => "must discard first",
+        Refusal::MustOwnTrain => "must own a train",
+        Refusal::SaleNotNeeded => "sale not needed",
+        Refusal::PresidencyWouldChange => "presidency would change",
+        Refusal::NotBankrupt => "not bankrupt",
+        Refusal::GameOver => "game is over",
+        Refusal::OutOfMemory => "out of memory",
     }
 }
 
 /// What follows the words of a refusal by the game: the least lawful bid, or the clause that a sheet breaks.
-fn write_game_data(fault: rr_game::Fault, reply: &mut Reply)
+fn write_game_data(fault: Refusal, reply: &mut ShortReply)
     requires { length reply.old ≤ 50 }
     ensures text { reply.new ≡ reply.old ++ game_data fault }
     ensures bounded { length reply.new ≤ length reply.old + 42 }
 {
     match fault {
-        rr_game::Fault::Rules(rr_rules::Fault::BidTooLow(least)) => {
+        Refusal::BidTooLow(least) => {
             reply.text(b" ");
             reply.number(least);
         }
-        rr_game::Fault::Rules(rr_rules::Fault::IllegalSheet(clause)) => {
+        Refusal::IllegalSheet(clause) => {
             reply.text(b" ");
             reply.number(u64::from(clause.number()));
         }
@@ -246,7 +246,7 @@ fn write_game_data(fault: rr_game::Fault, reply: &mut Reply)
 }
 
 /// What follows the words of a refusal of a kit: a line, a word or a rule.
-fn write_kit_data(fault: rr_kit::Fault, reply: &mut Reply)
+fn write_kit_data(fault: rr_kit::Fault, reply: &mut ShortReply)
     requires { length reply.old ≤ 50 }
     ensures text { reply.new ≡ reply.old ++ kit_data fault }
     ensures bounded { length reply.new ≤ length reply.old + 42 }
@@ -270,12 +270,12 @@ fn write_kit_data(fault: rr_kit::Fault, reply: &mut Reply)
     }
 }
 
-impl From<rr_game::Fault> for Fault {
+impl From<Refusal> for Fault {
     ghost from_gives = { λ fault wrapped. wrapped ≡ of_game fault };
 
-    fn from(fault: rr_game::Fault) -> Fault {
+    fn from(fault: Refusal) -> Fault {
         match fault {
-            rr_game::Fault::OutOfMemory => Fault::OutOfMemory,
+            Refusal::OutOfMemory => Fault::OutOfMemory,
             _ => Fault::Game(fault),
         }
     }

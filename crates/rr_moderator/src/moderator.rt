@@ -73,7 +73,7 @@ impl<D: Disk + Drop> Moderator<D> {
     /// `OutOfMemory`, and only where a root is taken.
     pub fn open(alloc: Global, disk: D) -> Result<Moderator<D>, Refused<D>>
         // The moderator holds what the file stands for; else the file breaks a clause, or the device failed or memory was
-        // wanted.
+        // wanted. Whatever is answered, the sync was made, unless the device failed.
         ensures opened { IfOk result (λ moderator. D.Honest (disk_under moderator)
             → Opens (D.state disk).content (held_of moderator)) }
         ensures stands { IfOk result (λ moderator. D.Honest (disk_under moderator) → (texts : KitTexts)
@@ -110,7 +110,7 @@ impl<D: Disk + Drop> Moderator<D> {
             CountsFailure (D.fault_count disk) (D.fault_count refused.disk) refused.fault) }
         ensures syncs { IfOk result (λ moderator.
             D.sync_count (disk_under moderator) ≡ counted (D.sync_count disk)) }
-        ensures syncs_left { IfErr result (λ refused. D.sync_count refused.disk ≤ D.sync_count disk + 1) }
+        ensures syncs_left { IfErr result (λ refused. D.sync_count refused.disk ≡ counted (D.sync_count disk)) }
 
         // A disk that works doesn't fail here.
         ensures device { IfErr result (λ refused. OnDevice refused.fault (D.Works refused.disk → ⊥)) }

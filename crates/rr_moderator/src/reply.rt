@@ -1,6 +1,7 @@
 ghost use Rattle.std.specs.Prelude.{◌≡◌, ◌+◌, ◌≤◌, [], ◌++◌, codes, length, decimal, IfOk};
 ghost use Rattle.std.specs.Fmt.{signed_decimal};
 
+use arrayvec::ArrayVec;
 use itoa::Buffer;
 use std::alloc::{AllocError, Global};
 use std::marker::Model;
@@ -79,6 +80,56 @@ impl Reply {
     pub(crate) fn signed(&mut self, number: i64)
         requires { length self.old + 20 ≤ 8192 }
         ensures digits { self.new ≡ self.old ++ signed_decimal number }
+        ensures bounded { length self.new ≤ length self.old + 20 }
+    {
+        let mut buffer = Buffer::new();
+        self.text(buffer.format(number).as_bytes());
+    }
+}
+
+/// The bytes of a reply of at most 128. They lie in the value itself, so it takes no memory.
+#[derive(Drop)]
+pub struct ShortReply {
+    bytes: ArrayVec<u8, 128>,
+}
+
+impl Model for ShortReply {
+    ghost use Rattle.std.specs.Prelude.{List, ℕ};
+
+    ghost Value = { List ℕ };
+
+    ghost view = { λ reply. reply.bytes.items };
+}
+
+impl ShortReply {
+    pub(crate) fn new() -> ShortReply
+        ensures { result ≡ [] }
+    {
+        ShortReply {
+            bytes: ArrayVec::new(),
+        }
+    }
+
+    /// The bytes written since the reply was made.
+    pub fn as_bytes(&self) -> &[u8]
+        ensures { result.now ≡ self.now }
+    {
+        self.bytes.as_slice()
+    }
+
+    /// Writes bytes behind the others.
+    pub(crate) fn text(&mut self, text: &[u8])
+        requires { length self.old + length text.now ≤ 128 }
+        ensures text { self.new ≡ self.old ++ text.now }
+        ensures len { length self.new ≡ length self.old + length text.now }
+    {
+        self.bytes.try_extend_from_slice(text).unwrap();
+    }
+
+    /// Writes a number, in decimal digits.
+    pub(crate) fn number(&mut self, number: u64)
+        requires { length self.old + 20 ≤ 128 }
+        ensures digits { self.new ≡ self.old ++ decimal number }
         ensures bounded { length self.new ≤ length self.old + 20 }
     {
         let mut buffer = Buffer::new();

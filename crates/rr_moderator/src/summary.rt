@@ -1,8 +1,8 @@
 //! How much a file holds, in two numbers.
-ghost use Rattle.std.specs.Prelude.{◌≡◌};
+ghost use Rattle.std.specs.Prelude.{◌≡◌, ◌≤◌, length};
 ghost use Rattle.rr_moderator.specs.Answer.{summary_text};
 
-use crate::reply::Reply;
+use crate::reply::{Reply, ShortReply};
 
 /// How much a file holds.
 #[derive(Clone, Copy, Debug, PartialEq, Eq)]
@@ -14,15 +14,26 @@ pub struct Summary {
 }
 
 impl Summary {
-    /// Writes the reply that tells it: `ok` and both numbers.
-    pub fn write(&self, reply: &mut Reply)
-        ensures { reply.new ≡ summary_text self.now }
+    /// The reply that tells it: `ok` and both numbers. It takes no memory.
+    pub fn line(&self) -> ShortReply
+        ensures text { result ≡ summary_text self.now }
+        ensures bounded { length result ≤ 100 }
     {
-        reply.clear();
+        let mut reply = ShortReply::new();
         reply.text(b"ok ");
         reply.number(self.tables as u64);
         reply.text(b" ");
         reply.number(self.last);
         reply.text(b"\n");
+        reply
+    }
+
+    /// Writes that reply.
+    pub fn write(&self, reply: &mut Reply)
+        ensures { reply.new ≡ summary_text self.now }
+    {
+        let line = self.line();
+        reply.clear();
+        reply.text(line.as_bytes());
     }
 }

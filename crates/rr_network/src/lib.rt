@@ -1,7 +1,7 @@
 //! What was laid on a board, the links of the network that it makes, and what of it a corporation reaches.
 //!
-//! Stands on `rr_board`, `rr_layout` and `rr_reach`. Its promise: `Network::of` and `Reach::of`, the network of what
-//! lies, and what a walk of a corporation ends at.
+//! Stands on `rr_kit`, `rr_desk` and `rr_routes`. Its promise: `Network::of` and `Reach::of`, the network of what lies,
+//! and what a walk of a corporation ends at.
 #![tactic(auto)]
 
 pub mod laws;

@@ -14,23 +14,23 @@ use Rattle.rr_market.specs.Operations.Turn.{takes}
 use Rattle.rr_market.specs.Operations.Progress.{progress}
 use Rattle.rr_market.specs.Operations.Due.{due}
 use Rattle.rr_trains.specs.Depot.Over.{is_any_over_limit}
-use Rattle.rr_operate.specs.declared.fault.Fault.{Fault}
-use Rattle.rr_operate.specs.declared.fault.Fault.TheVariants as F
+use Rattle.rr_books.specs.declared.refusal.Refusal.{Refusal}
+use Rattle.rr_books.specs.declared.refusal.Refusal.TheVariants as F
 use Rattle.rr_operate.specs.declared.order.Turn.{Turn}
 use Rattle.rr_operate.specs.Order.{actor, is_discard, is_due, is_played, order_verdict, revenue_verdict, step_verdict, turn_of, verdict_at}
 use Rattle.rr_operate.specs.Rows.{After, IsRowVerdict, IsVerdict, row_first}
 use Rattle.rr_operate.specs.TurnLaws.{DiscardsComeFirst, OnlyTheCorporationDue, StepsAreKept}
 
 -- a test that refuses nothing fails, and so do those behind it
-passed : (b : Bool) (fault : Fault) (others : Option Fault) → (if b then Some fault else others) ≡ None → (b ≡ false) × (others ≡ None)
+passed : (b : Bool) (fault : Refusal) (others : Option Refusal) → (if b then Some fault else others) ≡ None → (b ≡ false) × (others ≡ None)
 passed true fault others e = absurd (cc)
 passed false fault others e = (refl, e)
 
-first_of : (first second : Option Fault) → option_or first second ≡ None → (first ≡ None) × (second ≡ None)
+first_of : (first second : Option Refusal) → option_or first second ≡ None → (first ≡ None) × (second ≡ None)
 first_of None second e = (refl, e)
 first_of (Some fault) second e = absurd (cc)
 
-after_none : (first : Option Fault) (Next : Option Fault → Type 0) → After first Next None → first ≡ None
+after_none : (first : Option Refusal) (Next : Option Refusal → Type 0) → After first Next None → first ≡ None
 after_none None Next h = refl
 after_none (Some fault) Next h = absurd (cc)
 
@@ -44,7 +44,7 @@ in_order : (turn : Turn) (revenue : Money) (act : Act) → verdict_at turn reven
 unfolding verdict_at
 in_order turn revenue act e =
     let waits = not (is_discard act || is_due turn.due (actor act)) in
-    let last : Option Fault = if waits then Some F.NotYourTurn else None in
+    let last : Option Refusal = if waits then Some F.NotYourTurn else None in
     let one = passed (turn.is_over_limit && not (is_discard act)) F.MustDiscardFirst (option_or (step_verdict turn revenue act) last) e in
     let two = first_of (step_verdict turn revenue act) last one.1 in
     let three = passed waits F.NotYourTurn None two.1 in

@@ -1,2 +1,2 @@
-mod WorkedRows
-mod PassLemmas
+pub mod WorkedRows
+pub mod PassLemmas

@@ -1,4 +1,3 @@
-pub mod Fault
 pub mod Dividends
 pub mod DividendLaws
 pub mod WorkedDividends

@@ -1,4 +1,3 @@
-pub mod Fault
 pub mod Order
 pub mod Rows
 pub mod Effects

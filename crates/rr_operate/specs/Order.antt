@@ -1,5 +1,5 @@
 -- Whether a command comes in its order: what is asked of each command before the checks of its own row.
-use Rattle.std.specs.Prelude.{Bool, true, false, not, ◌&&◌, ◌||◌, Option, None, Some, option_map, if◌then◌else◌}
+use Rattle.std.specs.Prelude.{Bool, true, false, not, ◌&&◌, ◌||◌, Option, None, Some, if◌then◌else◌}
 use Rattle.std.specs.Option.{option_or}
 use Rattle.rr_roster.specs.declared.company.Corp.{Corp}
 use Rattle.rr_books.specs.declared.parties.Money.{Money}
@@ -13,10 +13,9 @@ use Rattle.rr_market.specs.Operations.Progress.{progress}
 use Rattle.rr_market.specs.Operations.Due.{due}
 use Rattle.rr_operate.specs.Dividends.Dividends.{pay_verdict}
 use Rattle.rr_trains.specs.Depot.Over.{is_any_over_limit}
-use Rattle.rr_operate.specs.declared.fault.Fault.{Fault}
-use Rattle.rr_operate.specs.declared.fault.Fault.TheVariants as F
+use Rattle.rr_books.specs.declared.refusal.Refusal.{Refusal}
+use Rattle.rr_books.specs.declared.refusal.Refusal.TheVariants as F
 use Rattle.rr_operate.specs.declared.order.Turn.{Turn}
-use Rattle.rr_operate.specs.Fault.{of_dividends}
 
 -- the corporation that acts, in a command of a corporation's turn
 abbrev pub actor : Act → Option Corp
@@ -68,22 +67,22 @@ abbrev pub turn_of : Kit → Book → Turn
 turn_of kit book = record { is_over_limit = is_any_over_limit (train_holder book); step = (progress book).step; due = due kit.chart book }
 
 -- what the trains earned in this turn is paid out, if they earned something
-abbrev pub revenue_verdict : Money → Act → Option Fault
-revenue_verdict revenue (A.PayOut c) = option_map of_dividends (pay_verdict revenue)
+abbrev pub revenue_verdict : Money → Act → Option Refusal
+revenue_verdict revenue (A.PayOut c) = pay_verdict revenue
 revenue_verdict revenue _ = None
 
 -- the step of the turn takes the command
-unfoldable pub step_verdict : Turn → Money → Act → Option Fault
+unfoldable pub step_verdict : Turn → Money → Act → Option Refusal
 step_verdict turn revenue act = if not (takes turn.step act && is_played act) then Some F.WrongStep else revenue_verdict revenue act
 
 -- trains over a limit are given up before anything else; then the step takes the command; then it is the corporation's
 -- turn
-unfoldable pub verdict_at : Turn → Money → Act → Option Fault
+unfoldable pub verdict_at : Turn → Money → Act → Option Refusal
 verdict_at turn revenue act =
     if turn.is_over_limit && not (is_discard act) then Some F.MustDiscardFirst
     else option_or (step_verdict turn revenue act)
     (if not (is_discard act || is_due turn.due (actor act)) then Some F.NotYourTurn else None)
 
 -- the first of these that refuses the command, if one does, where the trains earned this revenue in this turn
-abbrev pub order_verdict : Kit → Book → Money → Act → Option Fault
+abbrev pub order_verdict : Kit → Book → Money → Act → Option Refusal
 order_verdict kit book revenue act = verdict_at (turn_of kit book) revenue act

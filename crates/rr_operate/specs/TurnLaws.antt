@@ -9,14 +9,14 @@ use Rattle.rr_market.specs.Operations.Progress.{progress}
 use Rattle.rr_market.specs.Operations.Turn.{takes}
 use Rattle.rr_market.specs.Operations.Due.{due}
 use Rattle.rr_trains.specs.Depot.Over.{is_any_over_limit}
-use Rattle.rr_operate.specs.declared.fault.Fault.{Fault}
+use Rattle.rr_books.specs.declared.refusal.Refusal.{Refusal}
 use Rattle.rr_operate.specs.Order.{actor, is_discard}
 use Rattle.rr_operate.specs.Rows.{IsVerdict}
 
 -- no two verdicts on one command
 abbrev pub OneVerdict : Type 0
 OneVerdict =
-    (kit : Kit) (book : Book) (revenue : Money) (act : Act) (one other : Option Fault)
+    (kit : Kit) (book : Book) (revenue : Money) (act : Act) (one other : Option Refusal)
     → IsVerdict kit book revenue act one → IsVerdict kit book revenue act other → one ≡ other
 
 -- a lawful command acts for the corporation that is due, unless it gives up a train

@@ -16,7 +16,7 @@ use Rattle.rr_market.specs.Operations.Phases.{train}
 use Rattle.rr_market.specs.Operations.OperatingLaws.{end}
 use Rattle.rr_market.specs.Operations.WorkedRound.{one_row, sells, set_begun}
 use Rattle.rr_operate.specs.Sets.WorkedSets.{usual_terms}
-use Rattle.rr_operate.specs.declared.fault.Fault.TheVariants as F
+use Rattle.rr_books.specs.declared.refusal.Refusal.TheVariants as F
 use Rattle.rr_operate.specs.Rows.{IsVerdict, could_buy_first, first_verdict}
 use Rattle.rr_operate.specs.Effects.{entries_of, revenue_after}
 

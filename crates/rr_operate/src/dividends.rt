@@ -4,9 +4,7 @@
 //! Stands on `rr_desk`. Its promise: `pay_out` and `withhold` take exactly the effects `pays_out` and `withholds`, and
 //! `judge_pay` gives exactly the verdict `pay_verdict`.
 
-mod fault;
 pub mod laws;
 mod paying;
 
-pub use fault::Fault;
 pub use paying::{MOST_REVENUE, judge_pay, pay_out, withhold};

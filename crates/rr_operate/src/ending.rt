@@ -12,8 +12,7 @@ ghost use Rattle.rr_referee.specs.Trips.Having.{HasRoute};
 ghost use Rattle.rr_running.specs.Running.{net_now};
 ghost use Rattle.rr_operate.specs.Rows.{IsVerdictOfRow, MayJudgeRow, OwesTrain, could_buy_first, is_kind_on_sale};
 
-use crate::fault::Fault;
-use rr_books::{Books, Corp, Kind, Place, TrainSource};
+use rr_books::{Books, Corp, Kind, Place, Refusal, TrainSource};
 use rr_checker::CentreLimit;
 use rr_desk::Position;
 use rr_kit::Kit;
@@ -28,13 +27,13 @@ pub(crate) fn judge_end(
     kit: &Kit,
     position: &Position,
     corp: Corp,
-) -> Result<(), Fault>
+) -> Result<(), Refusal>
     ensures { (book : Book) → IsPositionOf book position.now → MatchResult result
         (λ _. IsVerdictOfRow kit.now book (A.End corp) None)
         (λ fault. MayJudgeRow kit.now book (A.End corp) fault) }
 {
     if owes_train(alloc, kit, position, corp)? {
-        return Err(Fault::MustOwnTrain);
+        return Err(Refusal::MustOwnTrain);
     }
     Ok(())
 }

@@ -6,10 +6,9 @@ ghost use Rattle.rr_operate.specs.Effects.{keeps_revenue, revenue_after};
 ghost use Rattle.rr_operate.specs.Rows.{IsVerdict, IsVerdictOfRow, MayJudge, MayJudgeRow, lay_of, station_of};
 
 use crate::ending::judge_end;
-use crate::fault::Fault;
 use crate::order::judge_order;
 use crate::rows::{judge_best_sheet, judge_purchase, judge_sheet, judge_tile, judge_token};
-use rr_books::{Act, Corp, Money};
+use rr_books::{Act, Corp, Money, Refusal};
 use rr_desk::Position;
 use rr_desk::layout::{Lay, Station};
 use rr_kit::Kit;
@@ -27,7 +26,7 @@ use std::alloc::Global;
 ///
 /// - `lay` and `station` as `rr_lay` tells;
 /// - `run` as `rr_running` tells, with a certificate also `CertificateRefused`;
-/// - `train`, `trade`, `drop` and `private` as `rr_depot` tells;
+/// - `train`, `trade`, `drop` and `private` as `rr_trains::depot` tells;
 /// - `end`: `MustOwnTrain` where the corporation has no train, one is on sale at the bank or in the pool, whatever it
 ///   costs, and the corporation has a route.
 ///
@@ -38,7 +37,7 @@ pub fn judge(
     position: &Position,
     revenue: Money,
     act: &Act,
-) -> Result<Money, Fault>
+) -> Result<Money, Refusal>
     requires least { pos 0 ≤ℤ revenue.0 }
     requires greatest { revenue.0 ≤ℤ pos 10000000000 }
     ensures verdict { (book : Book) → IsPositionOf book position.now → MatchResult result
@@ -59,7 +58,7 @@ fn judge_row(
     position: &Position,
     revenue: Money,
     act: &Act,
-) -> Result<Money, Fault>
+) -> Result<Money, Refusal>
     requires least { pos 0 ≤ℤ revenue.0 }
     requires greatest { revenue.0 ≤ℤ pos 10000000000 }
     ensures verdict { (book : Book) → IsPositionOf book position.now → MatchResult result
@@ -93,7 +92,7 @@ fn judge_row(
 }
 
 // Judges a command behind which the revenue stays.
-fn judge_other(alloc: Global, kit: &Kit, position: &Position, act: &Act) -> Result<(), Fault>
+fn judge_other(alloc: Global, kit: &Kit, position: &Position, act: &Act) -> Result<(), Refusal>
     requires { keeps_revenue act.now ≡ true }
     ensures { (book : Book) → IsPositionOf book position.now → MatchResult result
         (λ _. IsVerdictOfRow kit.now book act.now None)

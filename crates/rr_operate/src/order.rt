@@ -7,8 +7,7 @@ ghost use Rattle.rr_desk.specs.Position.Position.{IsPositionOf};
 ghost use Rattle.rr_operate.specs.Order.{actor, is_discard, is_due, is_played, order_verdict, revenue_verdict, step_verdict, turn_of, verdict_at};
 
 use crate::dividends::judge_pay;
-use crate::fault::Fault;
-use rr_books::{Act, Corp, Money};
+use rr_books::{Act, Corp, Money, Refusal};
 use rr_desk::Position;
 use rr_kit::Kit;
 use rr_market::operations::TurnStep;
@@ -33,7 +32,7 @@ pub(crate) struct Turn {
 /// but `drop`; `WrongStep` where the step of the turn doesn't take the command, for one that isn't of a turn or that no
 /// line spells, and for `pay` without revenue; `NotYourTurn` where another corporation is due, or none, but for `drop`,
 /// which any corporation over its limit says.
-pub fn judge_order(kit: &Kit, position: &Position, revenue: Money, act: &Act) -> Result<(), Fault>
+pub fn judge_order(kit: &Kit, position: &Position, revenue: Money, act: &Act) -> Result<(), Refusal>
     ensures { (book : Book) → IsPositionOf book position.now → MatchResult result
         (λ _. order_verdict kit.now book revenue act.now ≡ None)
         (λ fault. order_verdict kit.now book revenue act.now ≡ Some fault) }
@@ -57,30 +56,30 @@ impl Turn {
 
     // Whether the command comes in its order.
     #[tactic(auto, unfolding(crate::specs::Order::verdict_at))]
-    fn judge(&self, revenue: Money, act: &Act) -> Result<(), Fault>
+    fn judge(&self, revenue: Money, act: &Act) -> Result<(), Refusal>
         ensures { MatchResult result
             (λ _. verdict_at self.now revenue act.now ≡ None)
             (λ fault. verdict_at self.now revenue act.now ≡ Some fault) }
     {
         if self.is_over_limit && !is_discard(act) {
-            return Err(Fault::MustDiscardFirst);
+            return Err(Refusal::MustDiscardFirst);
         }
         self.judge_step(revenue, act)?;
         if !(is_discard(act) || is_due(self.due, actor(act))) {
-            return Err(Fault::NotYourTurn);
+            return Err(Refusal::NotYourTurn);
         }
         Ok(())
     }
 
     // Whether the step takes the command.
     #[tactic(auto, unfolding(crate::specs::Order::step_verdict))]
-    fn judge_step(&self, revenue: Money, act: &Act) -> Result<(), Fault>
+    fn judge_step(&self, revenue: Money, act: &Act) -> Result<(), Refusal>
         ensures { MatchResult result
             (λ _. step_verdict self.now revenue act.now ≡ None)
             (λ fault. step_verdict self.now revenue act.now ≡ Some fault) }
     {
         if !(self.step.takes(act) && is_played(act)) {
-            return Err(Fault::WrongStep);
+            return Err(Refusal::WrongStep);
         }
         judge_revenue(revenue, act)?;
         Ok(())
@@ -100,7 +99,7 @@ fn due(kit: &Kit, position: &Position) -> Option<Corp>
 }
 
 // Whether there is something to pay out, where that is to be done.
-fn judge_revenue(revenue: Money, act: &Act) -> Result<(), Fault>
+fn judge_revenue(revenue: Money, act: &Act) -> Result<(), Refusal>
     ensures { MatchResult result
         (λ _. revenue_verdict revenue act.now ≡ None)
         (λ fault. revenue_verdict revenue act.now ≡ Some fault) }

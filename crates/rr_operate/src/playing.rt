@@ -10,24 +10,24 @@ ghost use Rattle.rr_books.specs.declared.acts.Act.TheVariants as A;
 use crate::dividends::{pay_out, withhold};
 use crate::judging::{tile_of, token_of};
 use crate::sets::go_on_in_operating_round;
-use rr_books::{Act, Corp, Entry, Fault, Marker, Money, Words};
+use rr_books::{Act, Corp, Entry, Marker, Money, Refusal, Words};
 use rr_desk::Desk;
 use rr_kit::Kit;
 use rr_lay::{play_lay, play_station};
 
 /// Adds to the desk what a command of a corporation's turn brings about, where its trains earned this revenue in this
-/// turn: what `rr_lay`, `rr_dividends` and `rr_depot` tell; behind `run` its words, behind the certificate where there is
-/// one; behind `end` what follows by itself. Any other command adds nothing. It doesn't ask whether the command is lawful,
-/// which `judge` tells.
+/// turn: what `rr_lay`, `dividends` and `rr_trains::depot` tell; behind `run` its words, behind the certificate where
+/// there is one; behind `end` what follows by itself. Any other command adds nothing. It doesn't ask whether the
+/// command is lawful, which `judge` tells.
 ///
 /// # Errors
 ///
 /// `OutOfMemory`, also where the board has no room for a tile or token more; the desk may have some of the entries then.
-pub fn play(kit: &Kit, desk: &mut Desk, revenue: Money, act: &Act) -> Result<(), Fault>
+pub fn play(kit: &Kit, desk: &mut Desk, revenue: Money, act: &Act) -> Result<(), Refusal>
     requires least { pos 0 ≤ℤ revenue.0 }
     requires greatest { revenue.0 ≤ℤ pos 10000000000 }
     requires small { IsSmall act.now }
-    ensures fault { IfErr result (λ fault. fault ≡ Fault.OutOfMemory) }
+    ensures fault { IfErr result (λ fault. fault ≡ Refusal.OutOfMemory) }
     ensures takes { OnOk result (Takes (λ book. entries_of kit.now revenue book act.now) desk.old desk.new) }
 {
     match act {
@@ -59,8 +59,8 @@ pub fn play(kit: &Kit, desk: &mut Desk, revenue: Money, act: &Act) -> Result<(),
 }
 
 // The trains run by a sheet.
-fn play_run(desk: &mut Desk, corp: Corp, sheet: &Words) -> Result<(), Fault>
-    ensures fault { IfErr result (λ fault. fault ≡ Fault.OutOfMemory) }
+fn play_run(desk: &mut Desk, corp: Corp, sheet: &Words) -> Result<(), Refusal>
+    ensures fault { IfErr result (λ fault. fault ≡ Refusal.OutOfMemory) }
     ensures takes { OnOk result (Takes (says (A.Run corp sheet.now)) desk.old desk.new) }
 {
     let sheet = sheet.copy()?;
@@ -75,8 +75,8 @@ fn play_best_run(
     corp: Corp,
     sheet: &Words,
     certificate: &Words,
-) -> Result<(), Fault>
-    ensures fault { IfErr result (λ fault. fault ≡ Fault.OutOfMemory) }
+) -> Result<(), Refusal>
+    ensures fault { IfErr result (λ fault. fault ≡ Refusal.OutOfMemory) }
     ensures takes { OnOk result (Takes (runs_best corp sheet.now certificate.now) desk.old desk.new) }
 {
     keep_best(desk, corp, sheet, certificate)?;
@@ -85,8 +85,8 @@ fn play_best_run(
 }
 
 // The certificate is kept, with its sheet.
-fn keep_best(desk: &mut Desk, corp: Corp, sheet: &Words, certificate: &Words) -> Result<(), Fault>
-    ensures fault { IfErr result (λ fault. fault ≡ Fault.OutOfMemory) }
+fn keep_best(desk: &mut Desk, corp: Corp, sheet: &Words, certificate: &Words) -> Result<(), Refusal>
+    ensures fault { IfErr result (λ fault. fault ≡ Refusal.OutOfMemory) }
     ensures takes { OnOk result (Takes (adds (Entry.Best corp sheet.now certificate.now)) desk.old desk.new) }
 {
     let sheet = sheet.copy()?;
@@ -100,8 +100,8 @@ fn keep_best(desk: &mut Desk, corp: Corp, sheet: &Words, certificate: &Words) ->
 }
 
 // The command's words.
-fn say_best(desk: &mut Desk, corp: Corp, sheet: &Words, certificate: &Words) -> Result<(), Fault>
-    ensures fault { IfErr result (λ fault. fault ≡ Fault.OutOfMemory) }
+fn say_best(desk: &mut Desk, corp: Corp, sheet: &Words, certificate: &Words) -> Result<(), Refusal>
+    ensures fault { IfErr result (λ fault. fault ≡ Refusal.OutOfMemory) }
     ensures takes { OnOk result (Takes (says (A.RunBest corp sheet.now certificate.now)) desk.old desk.new) }
 {
     let sheet = sheet.copy()?;
@@ -116,8 +116,8 @@ fn say_best(desk: &mut Desk, corp: Corp, sheet: &Words, certificate: &Words) -> 
 
 // The corporation ends its turn, and what follows by itself comes about.
 #[tactic(auto, unfolding(crate::specs::Effects::ends_turn))]
-fn end_turn(kit: &Kit, desk: &mut Desk, corp: Corp) -> Result<(), Fault>
-    ensures fault { IfErr result (λ fault. fault ≡ Fault.OutOfMemory) }
+fn end_turn(kit: &Kit, desk: &mut Desk, corp: Corp) -> Result<(), Refusal>
+    ensures fault { IfErr result (λ fault. fault ≡ Refusal.OutOfMemory) }
     ensures takes { OnOk result (Takes (ends_turn kit.now corp) desk.old desk.new) }
 {
     desk.push(Entry::Step(Marker::Act(Act::End { corp })))?;

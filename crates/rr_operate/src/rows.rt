@@ -6,8 +6,7 @@ ghost use Rattle.rr_desk.specs.Position.Position.{IsPositionOf};
 ghost use Rattle.rr_running.specs.Running.{run_revenue};
 ghost use Rattle.rr_operate.specs.Rows.{IsVerdictOfRow, MayJudgeRow, purchase_verdict};
 
-use crate::fault::Fault;
-use rr_books::{Act, Corp, Money};
+use rr_books::{Act, Corp, Money, Refusal};
 use rr_desk::Position;
 use rr_desk::layout::{Lay, Station};
 use rr_kit::Kit;
@@ -22,7 +21,7 @@ pub(crate) fn judge_tile(
     position: &Position,
     corp: Corp,
     lay: &Lay,
-) -> Result<(), Fault>
+) -> Result<(), Refusal>
     ensures { (book : Book) → IsPositionOf book position.now → MatchResult result
         (λ _. IsVerdictOfRow kit.now book (A.Lay corp lay.now.hex lay.now.tile lay.now.turn) None)
         (λ fault. MayJudgeRow kit.now book (A.Lay corp lay.now.hex lay.now.tile lay.now.turn) fault) }
@@ -37,7 +36,7 @@ pub(crate) fn judge_token(
     kit: &Kit,
     position: &Position,
     station: &Station,
-) -> Result<(), Fault>
+) -> Result<(), Refusal>
     ensures { (book : Book) → IsPositionOf book position.now → MatchResult result
         (λ _. IsVerdictOfRow kit.now book (A.Station station.now.corp station.now.hex station.now.centre) None)
         (λ fault. MayJudgeRow kit.now book (A.Station station.now.corp station.now.hex station.now.centre) fault) }
@@ -47,7 +46,7 @@ pub(crate) fn judge_token(
 }
 
 // Whether the corporation may buy, or give up, what it says.
-pub(crate) fn judge_purchase(kit: &Kit, position: &Position, act: &Act) -> Result<(), Fault>
+pub(crate) fn judge_purchase(kit: &Kit, position: &Position, act: &Act) -> Result<(), Refusal>
     ensures { (book : Book) → IsPositionOf book position.now → MatchResult result
         (λ _. purchase_verdict kit.now book act.now ≡ None)
         (λ fault. purchase_verdict kit.now book act.now ≡ Some fault) }
@@ -63,7 +62,7 @@ pub(crate) fn judge_sheet(
     position: &Position,
     corp: Corp,
     words: &[u8],
-) -> Result<Money, Fault>
+) -> Result<Money, Refusal>
     ensures verdict { (book : Book) → IsPositionOf book position.now → MatchResult result
         (λ revenue. IsVerdictOfRow kit.now book (A.Run corp words.now) None × (revenue ≡ run_revenue kit.now book corp words.now))
         (λ fault. MayJudgeRow kit.now book (A.Run corp words.now) fault) }
@@ -81,7 +80,7 @@ pub(crate) fn judge_best_sheet(
     position: &Position,
     corp: Corp,
     run: &BestRun<'_>,
-) -> Result<Money, Fault>
+) -> Result<Money, Refusal>
     ensures verdict { (book : Book) → IsPositionOf book position.now → MatchResult result
         (λ revenue. IsVerdictOfRow kit.now book (A.RunBest corp run.now.words.now run.now.certificate.now) None × (revenue ≡ run_revenue kit.now book corp run.now.words.now))
         (λ fault. MayJudgeRow kit.now book (A.RunBest corp run.now.words.now run.now.certificate.now) fault) }

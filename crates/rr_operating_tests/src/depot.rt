@@ -11,7 +11,7 @@ use rr_trains::depot::laws::{
     privates_go_at_fair_prices, purchases_keep_the_limit, worked_discard, worked_first_four,
     worked_private, worked_sale, worked_trade,
 };
-use rr_trains::depot::{Fault, is_over_limit_somewhere, judge, play};
+use rr_trains::depot::{is_over_limit_somewhere, judge, play};
 use std::alloc::Global;
 use std::process::Abort;
 
@@ -237,21 +237,6 @@ fn a_private_goes_for_half_to_twice_its_face(rt: HostRuntime) {
     assert!(rt; table.books().holder(Cert::Private(Private::Sv)) == Place::Corp(Corp::Bo));
     assert!(rt; cash(&table, Party::Seat(A)) == 1240);
     assert!(rt; cash(&table, Party::Corp(Corp::Bo)) == 60);
-}
-
-#[test]
-fn refusals_have_their_numbers(rt: HostRuntime) {
-    for (fault, number) in [
-        (Fault::TooLittleCash, 2),
-        (Fault::NotYourTurn, 20),
-        (Fault::NotForSale, 22),
-        (Fault::WrongStep, 42),
-        (Fault::TrainLimit, 43),
-        (Fault::NotOnSale, 44),
-        (Fault::PriceOutOfBounds, 45),
-    ] {
-        assert!(rt; fault.number() == number);
-    }
 }
 
 #[test]

@@ -11,7 +11,7 @@ use rr_operate::owes_train;
 use rr_rules::forced::laws::{
     one_share_suffices, worked_bankruptcy, worked_force, worked_presidency, worked_raise,
 };
-use rr_rules::forced::{Fault, TrainOnSale, judge, needed_train, play};
+use rr_rules::forced::{TrainOnSale, judge, needed_train, play};
 use std::alloc::Global;
 use std::process::Abort;
 
@@ -132,7 +132,6 @@ fn a_president_with_too_little_is_refused(rt: HostRuntime) {
     assert!(rt; fault(&rt, alloc, &table, &force) == 2);
     fund(&rt, &mut table, Party::Corp(corp), 30);
     assert!(rt; fault(&rt, alloc, &table, &force) == 42);
-    assert!(rt; Fault::OutOfMemory.number() == 70);
 }
 
 fn raise(seat: Seat, corp: Corp, count: u64) -> Act {

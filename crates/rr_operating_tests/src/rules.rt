@@ -7,8 +7,8 @@ ghost use Rattle.rr_trains.specs.Depot.Small as depot;
 use crate::fixtures::{A, B, kit, name};
 use rr_books::{Act, Corp, Kind, Party, Seat, ShareSource, TrainSource, Words};
 use rr_kit::Kit;
+use rr_rules::Standing;
 use rr_rules::laws::{acts_have_one_verdict, bankruptcy_ends_the_game};
-use rr_rules::{Fault, Standing};
 use std::alloc::Global;
 use std::process::Abort;
 
@@ -168,7 +168,6 @@ fn an_auction_by_its_rules(rt: HostRuntime) {
     assert!(rt; fault(alloc, &kit, &table, &Act::Pass { seat: A }) == 42);
     assert!(rt; fault(alloc, &kit, &table, &Act::Hold { corp: Corp::Bo }) == 42);
     assert!(rt; table.revenue().0 == 0);
-    assert!(rt; Fault::OutOfMemory.number() == 70);
 }
 
 #[test]

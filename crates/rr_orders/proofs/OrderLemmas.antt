@@ -21,8 +21,8 @@ use Rattle.rr_orders.specs.Order.{IsOrder, SpellsOrder, source_word, spelling}
 use Rattle.rr_orders.specs.Reading.{read_order, source_of}
 use Rattle.rr_orders.specs.declared.order.Order.{Order}
 use Rattle.rr_orders.specs.declared.order.Order.TheVariants.{Lay, Station, Run, RunBest, PayOut, Hold, BuyTrain, BuyTrainFrom, Trade, Discard, TakePrivate, End, Force, Raise, Bankrupt}
-use Rattle.rr_orders.specs.declared.trains.TrainSource.{TrainSource}
-use Rattle.rr_orders.specs.declared.trains.TrainSource.TheVariants as S
+use Rattle.rr_roster.specs.declared.sources.TrainSource.{TrainSource}
+use Rattle.rr_roster.specs.declared.sources.TrainSource.TheVariants as S
 use Rattle.rr_orders.proofs.CutLemmas.{cut-found, cut-none, list_all-joined, words_of-unspaced}
 use Rattle.rr_orders.proofs.SpelledLemmas.{certificate_text-told, kind_of-name, sheet_text-told}
 

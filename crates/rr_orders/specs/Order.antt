@@ -7,8 +7,8 @@ use Rattle.rr_roster.specs.declared.company.Corp.{Corp}
 use Rattle.rr_orders.specs.Texts.{parts, IsSheetText, IsCertificateText}
 use Rattle.rr_orders.specs.declared.order.Order.{Order}
 use Rattle.rr_orders.specs.declared.order.Order.TheVariants.{Lay, Station, Run, RunBest, PayOut, Hold, BuyTrain, BuyTrainFrom, Trade, Discard, TakePrivate, End, Force, Raise, Bankrupt}
-use Rattle.rr_orders.specs.declared.trains.TrainSource.{TrainSource}
-use Rattle.rr_orders.specs.declared.trains.TrainSource.TheVariants.{Bank, Pool}
+use Rattle.rr_roster.specs.declared.sources.TrainSource.{TrainSource}
+use Rattle.rr_roster.specs.declared.sources.TrainSource.TheVariants.{Bank, Pool}
 
 -- the word of the place where a train is bought
 abbrev pub source_word : TrainSource → List ℕ

@@ -10,8 +10,8 @@ use Rattle.rr_orders.specs.Scan.Company.{corp_of, private_of}
 use Rattle.rr_orders.specs.Texts.{sheet_text, certificate_text, cut_at_best}
 use Rattle.rr_orders.specs.declared.order.Order.{Order}
 use Rattle.rr_orders.specs.declared.order.Order.TheVariants.{Lay, Station, Run, RunBest, PayOut, Hold, BuyTrain, BuyTrainFrom, Trade, Discard, TakePrivate, End, Force, Raise, Bankrupt}
-use Rattle.rr_orders.specs.declared.trains.TrainSource.{TrainSource}
-use Rattle.rr_orders.specs.declared.trains.TrainSource.TheVariants.{Bank, Pool}
+use Rattle.rr_roster.specs.declared.sources.TrainSource.{TrainSource}
+use Rattle.rr_roster.specs.declared.sources.TrainSource.TheVariants.{Bank, Pool}
 
 -- the kind of train that a word names
 abbrev pub kind_of : List ℕ → Option Kind

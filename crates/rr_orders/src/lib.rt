@@ -1,7 +1,8 @@
-//! What is ordered in a corporation's turn of an operating round: one spelling for each order.
+//! What is ordered in a corporation's turn of an operating round: one spelling for each order. A line is read word by
+//! word (`scan`).
 //!
-//! Stands on `rr_scan`, `rr_sheets`, `rr_roster` and `rr_words`. Its promise: `Order::read` reads exactly what is spelled,
-//! one text an order (`laws::one_spelling`), and takes no memory.
+//! Stands on `rr_routes`, `rr_roster` and `rr_words`. Its promise: `Order::read` reads exactly what is spelled, one
+//! text an order (`laws::one_spelling`), and takes no memory.
 #![tactic(auto)]
 
 mod forced;
@@ -16,4 +17,3 @@ mod turns;
 
 pub use order::Order;
 pub use texts::{CertificateWords, SheetWords};
-pub use trains::TrainSource;

@@ -6,9 +6,8 @@ ghost use Rattle.rr_orders.specs.Reading.{read_order};
 
 use crate::scan::Words;
 use crate::texts::{CertificateWords, SheetWords};
-use crate::trains::{self, TrainSource};
-use crate::{forced, runs, tiles, turns};
-use rr_roster::{Corp, Kind, Private};
+use crate::{forced, runs, tiles, trains, turns};
+use rr_roster::{Corp, Kind, Private, TrainSource};
 use rr_words::{HexName, Name};
 use std::alloc::AllocError;
 

@@ -7,40 +7,29 @@ ghost use Rattle.rr_orders.specs.Reading.{kind_of, read_kind, read_train, source
 
 use crate::order::Order;
 use crate::scan::{Words, next_player, read_corp, write_number, write_word};
-use rr_roster::{Corp, Kind};
+use rr_roster::{Corp, Kind, TrainSource};
 use rr_words::{Name, number};
 use std::alloc::AllocError;
 
-/// Where a train is bought, if not from a corporation.
-#[derive(Clone, Copy, Debug, PartialEq, Eq)]
-pub enum TrainSource {
-    /// The bank, at the price of its kind.
-    Bank,
-    /// The bank's pool, at the same price.
-    Pool,
+fn read_source(word: &[u8]) -> Option<TrainSource>
+    ensures exact { result ≡ source_of word.now }
+    ensures found { IfSome result (λ source. word.now ≡ source_word source) }
+{
+    if word == b"bank".as_slice() {
+        return Some(TrainSource::Bank);
+    }
+    if word == b"pool".as_slice() {
+        return Some(TrainSource::Pool);
+    }
+    None
 }
 
-impl TrainSource {
-    fn read(word: &[u8]) -> Option<TrainSource>
-        ensures exact { result ≡ source_of word.now }
-        ensures found { IfSome result (λ source. word.now ≡ source_word source) }
-    {
-        if word == b"bank".as_slice() {
-            return Some(TrainSource::Bank);
-        }
-        if word == b"pool".as_slice() {
-            return Some(TrainSource::Pool);
-        }
-        None
-    }
-
-    fn name(self) -> &'static str
-        ensures { result.now ≡ source_word self }
-    {
-        match self {
-            TrainSource::Bank => "bank",
-            TrainSource::Pool => "pool",
-        }
+fn source_name(source: TrainSource) -> &'static str
+    ensures { result.now ≡ source_word source }
+{
+    match source {
+        TrainSource::Bank => "bank",
+        TrainSource::Pool => "pool",
     }
 }
 
@@ -60,7 +49,7 @@ pub fn read_train<'a>(words: &mut Words<'a>) -> Option<Order<'a>>
     let kind = read_kind(words.next()?)?;
     let word = words.next()?;
     if words.end().is_some() {
-        let source = TrainSource::read(word)?;
+        let source = read_source(word)?;
         return Some(Order::BuyTrain { corp, kind, source });
     }
     let seller = read_corp(word)?;
@@ -107,7 +96,7 @@ pub fn write_train(
     out.extend_from_slice(b"train")?;
     write_word(corp.name().as_bytes(), out)?;
     write_word(kind.name().as_bytes(), out)?;
-    write_word(source.name().as_bytes(), out)
+    write_word(source_name(source).as_bytes(), out)
 }
 
 pub fn write_train_from(

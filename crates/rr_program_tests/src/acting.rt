@@ -102,7 +102,7 @@ fn serves_and_checks(rt: HostRuntime) -> Result<(), Fail> {
 /// How the program ends, and what it writes, where it is refused before a plan.
 fn refused(alloc: Global, fault: Fault) -> (Ending, Vec<u8>) {
     let mut output = CountingWriter::new(Vec::new(alloc));
-    let ending = refuse(alloc, fault, &mut output);
+    let ending = refuse(fault, &mut output);
     (ending, output.into_inner())
 }
 

@@ -11,9 +11,9 @@ use Rattle.rr_routes.specs.Routes.{Walk, one_link, goes_on, NoneTwice, EndsAreCe
 use Rattle.rr_checker.specs.Trips.{centre_of, centre_at, trip_over}
 use Rattle.rr_checker.proofs.FollowLemmas.{far_end_to}
 use Rattle.rr_routes.specs.declared.sheets.sheet.TrainWord.{TrainWord}
-use Rattle.rr_referee.specs.declared.clause.Clause.{Clause}
-use Rattle.rr_referee.specs.declared.clause.Clause.TheVariants.{NoWalk, NodeTwice, TerminalInside, NoToken, TooManyCentres}
-use Rattle.rr_referee.specs.declared.fault.Fault.{Fault}
+use Rattle.rr_books.specs.declared.clause.Clause.{Clause}
+use Rattle.rr_books.specs.declared.clause.Clause.TheVariants.{NoWalk, NodeTwice, TerminalInside, NoToken, TooManyCentres}
+use Rattle.rr_books.specs.declared.refusal.Refusal.{Refusal}
 use Rattle.rr_referee.specs.Revenue.{course_from, course_of}
 use Rattle.rr_referee.specs.Sheets.{Course, SomeToken, Asks, route_clauses, IsFirstBroken, IsItsWord, links_of, BreaksWord, no_route, IsRefusal}
 use Rattle.rr_referee.specs.Tests.{start_of, onward, IsCourse, IsOnlyCourse, IsRouteUp, IsLawfulWord}
@@ -139,7 +139,7 @@ module _ (net : Net) (limit : CentreLimit) (links : List ℕ) (nodes : List Node
       (course.ascends, record { path = (course.walk, simple); ends = course.ends; no_terminal = clear; token = token; counted = counted })
 
 -- a refusal for one thing as one for another
-pub IsRefusal-like : (Broken Also : Clause → Type 0) (fault : Fault) → ((clause : Clause) → Broken clause → Also clause) → IsRefusal Broken fault → IsRefusal Also fault
+pub IsRefusal-like : (Broken Also : Clause → Type 0) (fault : Refusal) → ((clause : Clause) → Broken clause → Also clause) → IsRefusal Broken fault → IsRefusal Also fault
 IsRefusal-like Broken Also fault each (inl memory) = inl memory
 IsRefusal-like Broken Also fault each (inr named) = inr (named.0, named.1, each named.0 named.2)
 
@@ -165,7 +165,7 @@ module _ (net : Net) (limit : CentreLimit) (word : TrainWord) (its : IsItsWord n
       no_route word refl its (λ none. some (links_are ∙ ap (λ (ns : List ℕ). map (λ number. number - 1) ns) none))
       (subst (λ (ls : List ℕ). IsFirstBroken (Asks net limit ls) route_clauses clause) links_are broken)
 
-  pub refused_links : (links : List ℕ) (fault : Fault) → links ≡ links_of word → links ≢ [] → IsRefusal (IsFirstBroken (Asks net limit links) route_clauses) fault
+  pub refused_links : (links : List ℕ) (fault : Refusal) → links ≡ links_of word → links ≢ [] → IsRefusal (IsFirstBroken (Asks net limit links) route_clauses) fault
       → IsRefusal (BreaksWord net limit (Some word)) fault
   refused_links links fault links_are some =
       IsRefusal-like (IsFirstBroken (Asks net limit links) route_clauses) (BreaksWord net limit (Some word)) fault (λ clause broken. breaks links clause links_are some broken)

@@ -15,8 +15,8 @@ use Rattle.rr_routes.proofs.Elements.{Contains-here, Contains-there, Contains-ca
 use Rattle.rr_routes.proofs.Optimality.{accepted_most, accepted_optimal}
 use Rattle.rr_routes.proofs.Walks.{Walk-in_net}
 use Rattle.rr_routes.specs.declared.sheets.sheet.TrainWord.{TrainWord}
-use Rattle.rr_referee.specs.declared.clause.Clause.{Clause}
-use Rattle.rr_referee.specs.declared.clause.Clause.TheVariants.{NoWalk, NodeTwice, TerminalInside, NoToken, TooManyCentres}
+use Rattle.rr_books.specs.declared.clause.Clause.{Clause}
+use Rattle.rr_books.specs.declared.clause.Clause.TheVariants.{NoWalk, NodeTwice, TerminalInside, NoToken, TooManyCentres}
 use Rattle.rr_referee.specs.Sheets.{AreApart, AreLawful, Ascends, Asks, Breaks, at_train, left_over, shared, BreaksWord, missing, another, no_route, Course, IsFirstBroken, IsItsWord, IsLegal, IsSheetOf, IsWordOf, links_of, route_clauses, SomeToken}
 use Rattle.rr_referee.proofs.CourseLemmas.{one_course}
 

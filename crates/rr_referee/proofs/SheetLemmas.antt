@@ -7,8 +7,8 @@ use Rattle.std.proofs.lemmas.Option.{slice_get_within}
 use Rattle.rr_routes.specs.Net.{Net, limit_of}
 use Rattle.rr_routes.specs.Routes.{Trip, no_trip, trip_of, Route, Run, earned}
 use Rattle.rr_routes.specs.declared.sheets.sheet.TrainWord.{TrainWord}
-use Rattle.rr_referee.specs.declared.clause.Clause.TheVariants.{WrongWord, SharedHexside}
-use Rattle.rr_referee.specs.declared.fault.Fault.{Fault}
+use Rattle.rr_books.specs.declared.clause.Clause.TheVariants.{WrongWord, SharedHexside}
+use Rattle.rr_books.specs.declared.refusal.Refusal.{Refusal}
 use Rattle.rr_referee.specs.Sheets.{AreApart, AreLawful, Breaks, at_train, left_over, shared, BreaksWord, IsLegal, IsWordOf, WordAt, IsRefusal}
 use Rattle.rr_referee.specs.Tests.{BreaksAWord, IsLawfulAt}
 use Rattle.rr_referee.proofs.CourseLemmas.{IsRefusal-like}
@@ -64,12 +64,12 @@ module _ (net : Net) (sheet : List TrainWord) where
         }
 
   -- a word that breaks a clause
-  pub refused_word : (train : ℕ) (run : List Trip) (fault : Fault) → train < length net.trains → AreLawful net sheet train run
+  pub refused_word : (train : ℕ) (run : List Trip) (fault : Refusal) → train < length net.trains → AreLawful net sheet train run
       → IsRefusal (BreaksWord net (limit_of net train) (slice_get sheet train)) fault → IsRefusal (BreaksAWord net sheet) fault
   refused_word train run fault less so_far =
       IsRefusal-like (BreaksWord net (limit_of net train) (slice_get sheet train)) (BreaksAWord net sheet) fault (λ clause broken. (train, run, less, so_far, broken))
 
-  pub refused_sheet : (fault : Fault) → IsRefusal (BreaksAWord net sheet) fault → IsRefusal (Breaks net sheet) fault
+  pub refused_sheet : (fault : Refusal) → IsRefusal (BreaksAWord net sheet) fault → IsRefusal (Breaks net sheet) fault
   refused_sheet fault =
       IsRefusal-like (BreaksAWord net sheet) (Breaks net sheet) fault (λ clause broken. at_train broken.0 broken.1 broken.2 broken.3 broken.4)
 

@@ -1,4 +1,3 @@
-pub mod Fault
 pub mod Revenue
 pub mod Sheets
 pub mod Tests

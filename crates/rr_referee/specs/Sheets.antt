@@ -8,10 +8,10 @@ use Rattle.rr_routes.specs.declared.net.Node.{Node}
 use Rattle.rr_routes.specs.Net.{Net, HasToken, limit_of, IsWithin}
 use Rattle.rr_routes.specs.Routes.{Walk, EndsAreCentres, NoneTwice, NoTerminalInside, centres, Trip, no_trip, trip_of, Route, Apart, Run, earned}
 use Rattle.rr_routes.specs.declared.sheets.sheet.TrainWord.{TrainWord}
-use Rattle.rr_referee.specs.declared.clause.Clause.{Clause}
-use Rattle.rr_referee.specs.declared.clause.Clause.TheVariants.{WrongWord, NoWalk, NodeTwice, TerminalInside, NoToken, TooManyCentres, SharedHexside}
-use Rattle.rr_referee.specs.declared.fault.Fault.{Fault}
-use Rattle.rr_referee.specs.declared.fault.Fault.TheVariants.{IllegalSheet, OutOfMemory}
+use Rattle.rr_books.specs.declared.clause.Clause.{Clause}
+use Rattle.rr_books.specs.declared.clause.Clause.TheVariants.{WrongWord, NoWalk, NodeTwice, TerminalInside, NoToken, TooManyCentres, SharedHexside}
+use Rattle.rr_books.specs.declared.refusal.Refusal.{Refusal}
+use Rattle.rr_books.specs.declared.refusal.Refusal.TheVariants.{IllegalSheet, OutOfMemory}
 
 -- how many centres a train of the kind counts
 abbrev pub limit_of_kind : Kind → CentreLimit
@@ -121,5 +121,5 @@ pub data Breaks (net : Net) (sheet : List TrainWord) (clause : Clause) : Type 0 
       → Breaks net sheet clause
 
 -- memory is wanting, or the fault names the clause that is broken
-abbrev pub IsRefusal : (Clause → Type 0) → Fault → Type 0
+abbrev pub IsRefusal : (Clause → Type 0) → Refusal → Type 0
 IsRefusal Broken fault = (fault ≡ OutOfMemory) ⊎ ((clause : Clause) × (fault ≡ IllegalSheet clause) × Broken clause)

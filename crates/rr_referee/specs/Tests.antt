@@ -9,7 +9,7 @@ use Rattle.rr_routes.specs.Routes.{Walk, EndsAreCentres, Trip, no_trip, Route}
 use Rattle.rr_checker.specs.Steps.{same_node}
 use Rattle.rr_checker.specs.Trips.{centre_at, far_end}
 use Rattle.rr_routes.specs.declared.sheets.sheet.TrainWord.{TrainWord}
-use Rattle.rr_referee.specs.declared.clause.Clause.{Clause}
+use Rattle.rr_books.specs.declared.clause.Clause.{Clause}
 use Rattle.rr_referee.specs.Sheets.{Ascends, AreLawful, BreaksWord, IsWordOf, WordAt}
 
 -- there is no link of that number among so many

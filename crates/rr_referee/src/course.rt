@@ -6,9 +6,8 @@ ghost use Rattle.rr_checker.specs.Trips.{trip_over};
 ghost use Rattle.rr_referee.specs.Sheets.{Ascends, Asks, BreaksWord, IsFirstBroken, IsRefusal, route_clauses};
 ghost use Rattle.rr_referee.specs.Tests.{IsCourse, IsLawfulWord, IsOnlyCourse, IsRouteUp, onward, start_of};
 
-use crate::clause::Clause;
-use crate::fault::Fault;
 use crate::word::{is_its_word, links_of};
+use rr_books::{Clause, Refusal};
 use rr_checker::{
     CentreLimit, Net, Node, centre_at, centres_of, counts_over, ends_at_centres, far_end,
     has_token_on, is_clear, is_simple, is_walk,
@@ -46,12 +45,12 @@ pub(crate) fn journey_of(
     net: &Net,
     limit: &CentreLimit,
     word: &TrainWord,
-) -> Result<Journey, Fault>
+) -> Result<Journey, Refusal>
     ensures { MatchResult result (λ journey. IsLawfulWord net.now limit.now word.now journey)
         (λ fault. IsRefusal (BreaksWord net.now limit.now (Some word.now)) fault) }
 {
     if !is_its_word(net, limit, word) {
-        return Err(Fault::IllegalSheet(Clause::WrongWord));
+        return Err(Refusal::IllegalSheet(Clause::WrongWord));
     }
     let links = links_of(alloc, word)?;
     if links.is_empty() {
@@ -70,16 +69,16 @@ fn journey_over(
     net: &Net,
     limit: &CentreLimit,
     links: Vec<usize>,
-) -> Result<Journey, Fault>
+) -> Result<Journey, Refusal>
     ensures { MatchResult result (λ journey. (journey.links ≡ links.items) × IsRouteUp net.now limit.now journey)
         (λ fault. IsRefusal (IsFirstBroken (Asks net.now limit.now links.items) route_clauses) fault) }
 {
     match start_of(net, &links) {
-        None => Err(Fault::IllegalSheet(Clause::NoWalk)),
+        None => Err(Refusal::IllegalSheet(Clause::NoWalk)),
         Some(centre) => {
             let nodes = nodes_from(alloc, net, centre, &links)?;
             match first_broken(alloc, net, limit, &links, &nodes)? {
-                Some(clause) => Err(Fault::IllegalSheet(clause)),
+                Some(clause) => Err(Refusal::IllegalSheet(clause)),
                 None => Ok(Journey { links, nodes }),
             }
         }

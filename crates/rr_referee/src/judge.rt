@@ -6,10 +6,9 @@ ghost use Rattle.rr_referee.specs.Sheets.{AreLawful, Breaks, BreaksWord, IsLegal
 ghost use Rattle.rr_referee.specs.Tests.{BreaksAWord, IsLawfulAt};
 
 use crate::apart::are_apart;
-use crate::clause::Clause;
 use crate::course::{Journey, journey_of};
-use crate::fault::Fault;
 use crate::revenue::revenue_of;
+use rr_books::{Clause, Refusal};
 use rr_checker::{CentreLimit, Net};
 use rr_routes::sheets::{Sheet, TrainWord};
 use std::alloc::Global;
@@ -24,7 +23,7 @@ use std::alloc::Global;
 ///
 /// `IllegalSheet` with the clause that is broken first: the clauses on one word are tried train by train, then whether
 /// words are left over, then whether two routes use one hexside. `OutOfMemory` may come of any sheet.
-pub fn legal(alloc: Global, net: &Net, sheet: &Sheet) -> Result<usize, Fault>
+pub fn legal(alloc: Global, net: &Net, sheet: &Sheet) -> Result<usize, Refusal>
     requires values { (centre : ℕ) → value net.now centre ≤ 65535 }
     requires centres { length net.now.values ≤ 65536 }
     requires trains { length net.now.trains ≤ 1000 }
@@ -35,17 +34,17 @@ pub fn legal(alloc: Global, net: &Net, sheet: &Sheet) -> Result<usize, Fault>
     let words = sheet.as_slice();
     let journeys = journeys_of(alloc, net, words)?;
     if net.trains().len() < words.len() {
-        return Err(Fault::IllegalSheet(Clause::WrongWord));
+        return Err(Refusal::IllegalSheet(Clause::WrongWord));
     }
     if !are_apart(&journeys) {
-        return Err(Fault::IllegalSheet(Clause::SharedHexside));
+        return Err(Refusal::IllegalSheet(Clause::SharedHexside));
     }
     let revenue = revenue_of(alloc, net, &journeys)?;
     Ok(revenue)
 }
 
 // Where the words of the trains lead.
-fn journeys_of(alloc: Global, net: &Net, words: &[TrainWord]) -> Result<Vec<Journey>, Fault>
+fn journeys_of(alloc: Global, net: &Net, words: &[TrainWord]) -> Result<Vec<Journey>, Refusal>
     ensures { MatchResult result (λ journeys. AreLawful net.now words.now (length net.now.trains) journeys.items)
         (λ fault. IsRefusal (BreaksAWord net.now words.now) fault) }
 {
@@ -64,13 +63,13 @@ fn journey_at(
     limit: &CentreLimit,
     words: &[TrainWord],
     train: usize,
-) -> Result<Journey, Fault>
+) -> Result<Journey, Refusal>
     requires { limit.now ≡ limit_of net.now train }
     ensures { MatchResult result (λ journey. IsLawfulAt net.now (limit_of net.now train) words.now train journey)
         (λ fault. IsRefusal (BreaksWord net.now (limit_of net.now train) (slice_get words.now train)) fault) }
 {
     match words.get(train) {
-        None => Err(Fault::IllegalSheet(Clause::WrongWord)),
+        None => Err(Refusal::IllegalSheet(Clause::WrongWord)),
         Some(word) => journey_of(alloc, net, limit, word),
     }
 }

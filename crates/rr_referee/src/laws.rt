@@ -7,7 +7,7 @@ ghost use Rattle.rr_routes.specs.declared.certificate.CertTree.{CertTree};
 ghost use Rattle.rr_routes.specs.declared.sheets.sheet.TrainWord.{TrainWord};
 ghost use Rattle.rr_referee.specs.Revenue.{revenue_of};
 ghost use Rattle.rr_referee.specs.Sheets.{Breaks, IsLegal, IsSheetOf};
-ghost use Rattle.rr_referee.specs.declared.clause.Clause.{Clause};
+ghost use Rattle.rr_books.specs.declared.clause.Clause.{Clause};
 
 /// Where a sheet is legal and a certificate is accepted for its revenue, no legal sheet of the net earns more, and its
 /// run is optimal.

@@ -1,13 +1,12 @@
 //! Sheets of runs: whether a sheet is that of a lawful run, what the run earns, and the law of certificates for sheets.
+//! And whether a corporation has a route (`trips`).
 //!
-//! Stands on `rr_checker` and `rr_sheets`. Its promise: `legal` tells the revenue exactly where the sheet `IsLegal`,
+//! Stands on `rr_checker` and `rr_routes`. Its promise: `legal` tells the revenue exactly where the sheet `IsLegal`,
 //! else the clause that it `Breaks`.
 #![tactic(auto)]
 
 mod apart;
-mod clause;
 mod course;
-mod fault;
 mod judge;
 pub mod laws;
 mod limit;
@@ -15,8 +14,6 @@ mod revenue;
 pub mod trips;
 mod word;
 
-pub use clause::Clause;
-pub use fault::Fault;
 pub use judge::legal;
 pub use limit::limit_of_kind;
 pub use rr_checker::{CentreLimit, CertTree, Fate, Link, Net, Node, check};

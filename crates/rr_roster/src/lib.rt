@@ -11,8 +11,10 @@ pub mod laws;
 mod numbers;
 mod roster;
 mod rules;
+mod sources;
 mod spelled;
 
 pub use company::{Corp, Kind, Private};
 pub use fault::{Fault, Rule};
 pub use roster::Roster;
+pub use sources::{ShareSource, TrainSource};

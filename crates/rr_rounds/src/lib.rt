@@ -1,6 +1,7 @@
-//! How far the stock rounds of a table have come: whose turn it is, who passed, who sold what, who has priority.
+//! How far the stock rounds of a table have come: whose turn it is, who passed, who sold what, who has priority; and
+//! how far its auction has (`bids`).
 //!
-//! Stands on `rr_books`. Its promise: `IsRoundOf`, kept by `read` for any entry.
+//! Stands on `rr_books`. Its promise: `IsRoundOf`, kept by `follow` for any entry.
 #![tactic(auto)]
 
 pub mod bids;

@@ -1,6 +1,8 @@
-//! Routes, runs and their revenue, the certificates that no run earns more, and the law that they tell the truth.
+//! Routes, runs and their revenue, the certificates that no run earns more, and the law that they tell the truth; their
+//! words (`sheets`), and what is reached in a graph (`reachability`).
 //!
-//! Stands on std alone. Its promise: `laws::optimal`, a certificate that is accepted proves that no run earns more.
+//! Stands on `rr_words` and `rr_roster`, for `sheets` alone. Its promise: `laws::optimal`, a certificate that is
+//! accepted proves that no run earns more.
 #![tactic(auto)]
 
 mod certificate;

@@ -1,7 +1,7 @@
 //! The words of sheets and certificates: which links each train runs over, and the tree that shows that no run earns more.
 //!
-//! Stands on `rr_routes` and `rr_words`. Its promise: sheets and certificates are read exactly where they are spelled,
-//! and written as that text; and whether a text has their form is told without memory.
+//! Stands on `CertTree`, `rr_roster` and `rr_words`. Its promise: sheets and certificates are read exactly where they
+//! are spelled, and written as that text; and whether a text has their form is told without memory.
 
 mod certificate;
 mod fault;

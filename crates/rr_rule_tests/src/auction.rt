@@ -9,8 +9,8 @@ use rr_auction::laws::{
     raisers_sit_left_of_the_highest, raising_goes_left, seat_in_turn_buys,
     turn_is_left_of_the_last, turns_are_counted, worked_auction, worked_tellings,
 };
-use rr_auction::{Due, Fault, asked, is_over, judge, open_table, play, turns};
-use rr_books::{Act, Cell, Cert, Corp, Entry, Marker, Money, Party, Place, Private, Seat};
+use rr_auction::{Due, asked, is_over, judge, open_table, play, turns};
+use rr_books::{Act, Cell, Cert, Corp, Entry, Marker, Money, Party, Place, Private, Refusal, Seat};
 use rr_chart::Chart;
 use rr_desk::Desk;
 use rr_market::Market;
@@ -44,7 +44,7 @@ impl Table {
         act: &Act,
         roster: &Roster,
         chart: &Chart,
-    ) -> (Table, Option<Fault>) {
+    ) -> (Table, Option<Refusal>) {
         let Table { mut desk } = self;
         if let Err(fault) = judge(roster, chart, desk.position(), act) {
             return (Table { desk }, Some(fault));
@@ -152,7 +152,7 @@ fn a_purchase_and_a_bid_that_is_too_low(rt: HostRuntime) {
         amount: 74,
     };
     let (_table, fault) = table.after(&rt, &low, &roster, &chart);
-    assert!(rt; fault == Some(Fault::BidTooLow(75)));
+    assert!(rt; fault == Some(Refusal::BidTooLow(75)));
 }
 
 /// Two players have bought the six privates in turn, and the second of them got the B&O's.
@@ -171,7 +171,7 @@ fn a_par_puts_the_token_on_the_chart(rt: HostRuntime) {
     let roster = roster(&rt, rt.alloc(), ROSTER);
     let chart = chart(&rt, rt.alloc(), CHART);
     let mut table = all_sold(&rt, rt.alloc(), &roster, &chart);
-    for (price, refusal) in [(67, Some(Fault::NotAPar)), (90, None)] {
+    for (price, refusal) in [(67, Some(Refusal::NotAPar)), (90, None)] {
         let par = Act::Par {
             seat: B,
             corp: Corp::Bo,
@@ -184,21 +184,6 @@ fn a_par_puts_the_token_on_the_chart(rt: HostRuntime) {
     assert!(rt; table.is_over());
     assert!(rt; end_with_the_par(table.entries()));
     assert!(rt; price_after(table.entries(), &chart, Corp::Bo) == Some(90));
-}
-
-#[test]
-fn refusals_have_their_numbers(rt: HostRuntime) {
-    for (fault, number) in [
-        (Fault::TooLittleCash, 2),
-        (Fault::NotYourTurn, 20),
-        (Fault::BidTooLow(75), 21),
-        (Fault::NotForSale, 22),
-        (Fault::CashTiedUp, 23),
-        (Fault::NotAPar, 31),
-        (Fault::WrongStep, 42),
-    ] {
-        assert!(rt; fault.number() == number);
-    }
 }
 
 #[test]

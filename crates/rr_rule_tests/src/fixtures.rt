@@ -1,7 +1,7 @@
 //! What several of the tests share. The helpers have no contract, so that their callers' proofs stay small.
 use rr_books::Seat;
 use rr_chart::Chart;
-use rr_desk::position::Position;
+use rr_desk::Position;
 use rr_roster::Roster;
 use std::alloc::Global;
 use std::process::Abort;

@@ -3,9 +3,9 @@ ghost use Rattle.std.specs.Prelude.{◌≡◌, ◌≤◌, true};
 ghost use Rattle.rr_game.specs.Names.{amount_in, price_in};
 
 use crate::fixtures::{A, B, ROSTER};
-use rr_books::{Cell, Corp, Kind, Money, Place, Private};
+use rr_books::{Cell, Corp, Kind, Money, Place, Private, Refusal};
 use rr_code::{Account, Command, Owner, TrainHolder};
-use rr_game::{Due, Fault, Game, Kit, TurnStep};
+use rr_game::{Due, Game, Kit, TurnStep};
 use rr_orders::Order;
 use rr_words::Name;
 use std::alloc::Global;
@@ -62,7 +62,7 @@ fn refusal(
     alloc: Global,
     command: &Command,
     kit: &Kit,
-) -> Option<Fault> {
+) -> Option<Refusal> {
     assert!(rt; game.played() < 4096);
     assert!(rt; is_small(command));
     game.step(alloc, command, kit).err()
@@ -146,11 +146,9 @@ fn the_auction_takes_no_order(rt: HostRuntime) {
     let kit = kit(&rt, alloc, CHART, ROSTER.as_bytes(), BOARD);
     let game = played(&rt, alloc, &kit, &[]);
     let run = command(&rt, b"run PRR 2=1-2 best s1 b f");
-    assert!(rt;
-        refusal(&rt, &game, alloc, &run, &kit) == Some(Fault::Rules(rr_rules::Fault::WrongStep))
-    );
+    assert!(rt; refusal(&rt, &game, alloc, &run, &kit) == Some(Refusal::WrongStep));
     let sale = command(&rt, b"train PRR 2 NYC 40 nobody b");
-    assert!(rt; refusal(&rt, &game, alloc, &sale, &kit) == Some(Fault::NoSuchName));
+    assert!(rt; refusal(&rt, &game, alloc, &sale, &kit) == Some(Refusal::NoSuchName));
 }
 
 // Two players buy the privates; a floats the PRR, which is due as the first operating round begins.

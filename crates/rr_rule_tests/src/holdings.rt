@@ -1,13 +1,13 @@
 //! Rows on a small chart that has each zone.
 use crate::fixtures::{A, B, chart, position};
-use rr_books::{Cell, Cert, Corp, Entry, Marker, Place, Private, Seat, ShareNumber};
+use rr_books::{Cell, Cert, Corp, Entry, Marker, Place, Private, Refusal, Seat, ShareNumber};
 use rr_chart::Chart;
-use rr_desk::position::Position;
+use rr_desk::Position;
 use rr_market::par_cell;
 use rr_shares::limits::laws::one_share_suffices;
 use rr_shares::limits::{
-    Fault, certificates_counted, has_lawful_sale, is_over_certificates, is_over_limit,
-    is_over_sixty, judge_sale, judge_sell, must_sell_first, would_be_over_certificates,
+    certificates_counted, has_lawful_sale, is_over_certificates, is_over_limit, is_over_sixty,
+    judge_sale, judge_sale_in_round, must_sell_first, would_be_over_certificates,
     would_be_over_sixty,
 };
 use std::alloc::Global;
@@ -152,12 +152,12 @@ impl Table {
         is_over_limit(&self.position, &self.chart, seat)
     }
 
-    fn sale(&self, seat: Seat, corp: Corp, count: u64) -> Result<(), Fault> {
+    fn sale(&self, seat: Seat, corp: Corp, count: u64) -> Result<(), Refusal> {
         judge_sale(&self.position, &self.chart, seat, corp, count)
     }
 
-    fn sell(&self, seat: Seat, corp: Corp) -> Result<(), Fault> {
-        judge_sell(&self.position, &self.chart, seat, corp, 1)
+    fn sell(&self, seat: Seat, corp: Corp) -> Result<(), Refusal> {
+        judge_sale_in_round(&self.position, &self.chart, seat, corp, 1)
     }
 
     fn can_sell(&self, seat: Seat) -> bool {
@@ -167,12 +167,6 @@ impl Table {
     fn must_sell(&self, seat: Seat) -> bool {
         must_sell_first(&self.position, &self.chart, seat)
     }
-}
-
-/// Whether these are the fault's words.
-fn is_worded(rt: &impl Abort, alloc: Global, fault: Fault, words: &str) -> bool {
-    let said = format!(in alloc; "{fault}").expect(rt, "enough memory");
-    said.as_str() == words
 }
 
 #[test]
@@ -242,14 +236,14 @@ fn more_than_sixty_percent_is_held_in_orange_and_brown(rt: HostRuntime) {
 fn the_pool_holds_half(rt: HostRuntime) {
     let lots = [(PRR, false, 0, 3, Place::Pool), (PRR, false, 3, 3, AT_A)];
     let mut table = Table::dealt(&rt, rt.alloc(), 3, &[], &lots, &[]);
-    assert!(rt; table.sale(A, PRR, 1) == Err(Fault::NotForSale));
+    assert!(rt; table.sale(A, PRR, 1) == Err(Refusal::NotForSale));
     table.put(&rt, PRR, At::White);
     for (count, verdict) in [
-        (3, Err(Fault::PoolOverHalf)),
+        (3, Err(Refusal::PoolOverHalf)),
         (2, Ok(())),
-        (0, Err(Fault::NotForSale)),
-        (4, Err(Fault::NotForSale)),
-        (1844674407370955162, Err(Fault::NotForSale)),
+        (0, Err(Refusal::NotForSale)),
+        (4, Err(Refusal::NotForSale)),
+        (1844674407370955162, Err(Refusal::NotForSale)),
     ] {
         assert!(rt; table.sale(A, PRR, count) == verdict);
     }
@@ -260,7 +254,7 @@ fn a_president_leaves_a_successor(rt: HostRuntime) {
     let lots = [(PRR, true, 0, 1, AT_A), (PRR, false, 1, 1, AT_B)];
     let mut table = Table::dealt(&rt, rt.alloc(), 3, &[], &lots, &[(PRR, At::White)]);
     assert!(rt; table.sale(A, PRR, 1) == Ok(()));
-    assert!(rt; table.sale(A, PRR, 2) == Err(Fault::NotForSale));
+    assert!(rt; table.sale(A, PRR, 2) == Err(Refusal::NotForSale));
     table.give_lot(&rt, (PRR, false, 2, 1, AT_B));
     assert!(rt; table.sale(A, PRR, 2) == Ok(()));
 }
@@ -270,11 +264,11 @@ fn nothing_is_sold_in_the_first_stock_round(rt: HostRuntime) {
     let lots = [(NYC, true, 0, 5, AT_A)];
     let mut table = Table::dealt(&rt, rt.alloc(), 3, &[], &lots, &[(NYC, At::White)]);
     table.begin_round(&rt);
-    assert!(rt; table.sell(A, PRR) == Err(Fault::FirstStockRound));
+    assert!(rt; table.sell(A, PRR) == Err(Refusal::FirstStockRound));
     assert!(rt; !table.can_sell(A));
     assert!(rt; !table.must_sell(A));
     table.begin_round(&rt);
-    assert!(rt; table.sell(A, PRR) == Err(Fault::NotForSale));
+    assert!(rt; table.sell(A, PRR) == Err(Refusal::NotForSale));
     for (seat, may_and_must) in [(A, true), (B, false)] {
         assert!(rt; table.can_sell(seat) == may_and_must);
         assert!(rt; table.must_sell(seat) == may_and_must);
@@ -282,18 +276,6 @@ fn nothing_is_sold_in_the_first_stock_round(rt: HostRuntime) {
     table.give_lot(&rt, (NYC, false, 0, 1, Place::Pool));
     assert!(rt; table.can_sell(A));
     assert!(rt; !table.must_sell(A));
-}
-
-#[test]
-fn faults_have_words_and_numbers(rt: HostRuntime) {
-    for (fault, words, number) in [
-        (Fault::NotForSale, "not for sale", 22),
-        (Fault::FirstStockRound, "first stock round", 27),
-        (Fault::PoolOverHalf, "pool over 50 percent", 28),
-    ] {
-        assert!(rt; is_worded(&rt, rt.alloc(), fault, words));
-        assert!(rt; fault.number() == number);
-    }
 }
 
 #[test]

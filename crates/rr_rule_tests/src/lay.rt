@@ -1,10 +1,9 @@
 //! Tiles and tokens on the small board, with PRR's first token in A.
 use crate::fixtures::{B, ROSTER, position};
-use rr_books::{Cert, Corp, Entry, Kind, Marker, Money, Party, Place, Private, Train};
+use rr_books::{Cert, Corp, Entry, Kind, Marker, Money, Party, Place, Private, Refusal, Train};
 use rr_desk::layout::{Lay, Station};
 use rr_desk::{Desk, Position};
 use rr_kit::Kit;
-use rr_lay::Fault;
 use rr_lay::laws::{one_verdict_on_a_tile, one_verdict_on_a_token};
 use rr_words::HexName;
 use std::alloc::Global;
@@ -81,7 +80,7 @@ fn begins_with_words(entries: &[Entry]) -> bool {
     matches!(entries, [Entry::Step(Marker::Act(_)), ..])
 }
 
-fn refused(fault: Fault) -> Outcome {
+fn refused(fault: Refusal) -> Outcome {
     Outcome {
         fault: fault.number(),
         entries: 0,

@@ -1,6 +1,6 @@
-//! A par in the first stock round, the end of a round, numbers and laws.
+//! A par in the first stock round, the end of a round, and laws.
 use crate::fixtures::{A, B, ROSTER, chart, position, roster};
-use rr_books::{Act, Cert, Corp, Entry, Marker, Party, Place, Private};
+use rr_books::{Act, Cert, Corp, Entry, Marker, Party, Place, Private, Refusal};
 use rr_desk::Desk;
 use rr_laws::sequence::go_on;
 use rr_stock::laws::{
@@ -8,7 +8,7 @@ use rr_stock::laws::{
     worked_must_sell, worked_par, worked_presidency, worked_sale, worked_second_purchase,
     worked_sixty, worked_succession,
 };
-use rr_stock::{Fault, due, judge, play};
+use rr_stock::{due, judge, play};
 use std::alloc::Global;
 use std::process::Abort;
 
@@ -46,7 +46,7 @@ fn a_par_of_100_costs_200(rt: HostRuntime) {
     let price = desk.position().market().price(&chart, Corp::Prr);
     assert!(rt; price == Some(100));
     let done = Act::Done { seat: A };
-    assert!(rt; judge(&chart, desk.position(), &done).err() == Some(Fault::NotYourTurn));
+    assert!(rt; judge(&chart, desk.position(), &done).err() == Some(Refusal::NotYourTurn));
 }
 
 #[test]
@@ -63,20 +63,6 @@ fn a_round_ends_as_both_pass(rt: HostRuntime) {
     assert!(rt; due(desk.position()) == Some(B));
     assert!(rt; cash(&desk, Party::Seat(A)) == 1205);
     assert!(rt; !desk.position().rounds().is_first());
-}
-
-#[test]
-fn refusals_have_their_numbers(rt: HostRuntime) {
-    for (fault, number) in [
-        (Fault::TooLittleCash, 2),
-        (Fault::from(rr_shares::limits::Fault::FirstStockRound), 27),
-        (Fault::CertificateLimit, 24),
-        (Fault::SecondPurchase, 29),
-        (Fault::MustSellFirst, 30),
-        (Fault::WrongStep, 42),
-    ] {
-        assert!(rt; fault.number() == number);
-    }
 }
 
 #[test]

@@ -6,14 +6,14 @@ use Rattle.rr_operate.specs.Order.{step_verdict, verdict_at}
 use Rattle.rr_market.specs.declared.operations.turn.Stage.{Stage}
 use Rattle.rr_market.specs.declared.operations.turn.Stage.TheVariants as G
 use Rattle.rr_roster.specs.declared.company.Corp.{Corp}
-use Rattle.rr_rules.specs.declared.fault.Fault.{Fault}
+use Rattle.rr_books.specs.declared.refusal.Refusal.{Refusal}
 use Rattle.rr_rules.specs.Judging.{judgement, judgement_in, stage}
 use Rattle.rr_rules.specs.Runs.{run_verdict}
 use Rattle.rr_rules.specs.State.{GameState}
 
 -- by the rules in force
 
-pub at_its_stage : (s : Stage) (kit : Kit) (state : GameState) (c : Corp) (verdict : Option Fault) → stage state.book ≡ s
+pub at_its_stage : (s : Stage) (kit : Kit) (state : GameState) (c : Corp) (verdict : Option Refusal) → stage state.book ≡ s
     → (judgement_in s kit state (A.Run c [])).first ≡ verdict → run_verdict kit state c ≡ verdict
 unfolding judgement
 at_its_stage s kit state c verdict e h = ap (λ (g : Stage). (judgement_in g kit state (A.Run c [])).first) e ∙ h

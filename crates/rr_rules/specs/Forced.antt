@@ -1,4 +1,3 @@
-pub mod Fault
 pub mod Needs
 pub mod Sales
 pub mod SaleLaws

@@ -1,5 +1,5 @@
 -- The judgement on a command, by the rules that are in force.
-use Rattle.std.specs.Prelude.{Bool, true, false, not, ◌&&◌, ◌||◌, is_some, List, Option, None, Some, option_map, if◌then◌else◌}
+use Rattle.std.specs.Prelude.{Bool, true, false, not, ◌&&◌, ◌||◌, is_some, List, Option, None, Some, if◌then◌else◌}
 use Rattle.rr_chart.specs.Chart.{Row}
 use Rattle.rr_kit.specs.Board.Plan.{hex_named}
 use Rattle.rr_tiles.specs.Supply.{supply_at}
@@ -15,14 +15,11 @@ use Rattle.rr_market.specs.declared.operations.turn.Stage.{Stage}
 use Rattle.rr_market.specs.declared.operations.turn.Stage.TheVariants as G
 use Rattle.rr_market.specs.Operations.Progress.{has_more_rounds, progress}
 use Rattle.rr_operate.specs.Sets.Rounds.{round_is_over}
-use Rattle.rr_operate.specs.declared.fault.Fault as operate
+use Rattle.rr_books.specs.declared.refusal.Refusal.{Refusal}
 use Rattle.rr_operate.specs.Rows.{IsRowVerdict, first_verdict}
-use Rattle.rr_rules.specs.declared.forced.fault.Fault as forced
 use Rattle.rr_rules.specs.Forced.Rules.{IsRowVerdict as IsForcedVerdict, first_verdict as first_forced, is_forced}
-use Rattle.rr_turns.specs.Judgement.{Judgement, judgement_behind, judgement_map, settled}
-use Rattle.rr_rules.specs.declared.fault.Fault.{Fault}
-use Rattle.rr_rules.specs.declared.fault.Fault.TheVariants as F
-use Rattle.rr_rules.specs.Fault.{of_auction, of_forced, of_stock, of_turn}
+use Rattle.rr_turns.specs.Judgement.{Judgement, judgement_behind, settled}
+use Rattle.rr_books.specs.declared.refusal.Refusal.TheVariants as F
 use Rattle.rr_rules.specs.State.{GameState}
 
 -- whose rules are in force: those of the auction until it is over; then those of a stock round while one is under way,
@@ -44,33 +41,33 @@ abbrev pub game_is_over : List Row → Book → Bool
 game_is_over rows book = (progress book).bankrupt || bank_is_broken rows book
 
 -- a hex that the board lacks, or a tile that the manifest lacks
-abbrev pub refused_unless : Bool → Option Fault
+abbrev pub refused_unless : Bool → Option Refusal
 refused_unless known = if known then None else Some F.NoSuchName
 
-abbrev pub name_verdict : Kit → Act → Option Fault
+abbrev pub name_verdict : Kit → Act → Option Refusal
 name_verdict kit (A.Lay c hex tile turn) = refused_unless (is_some (hex_named kit.board.hexes hex) && is_some (supply_at kit.tiles tile))
 name_verdict kit (A.Station c hex centre) = refused_unless (is_some (hex_named kit.board.hexes hex))
 name_verdict kit _ = None
 
 -- the judgement on a command of a corporation's turn
-abbrev pub turn_judgement : Kit → GameState → Act → Judgement operate.Fault
+abbrev pub turn_judgement : Kit → GameState → Act → Judgement Refusal
 turn_judgement kit state act = record { first = first_verdict kit state.book state.revenue act; Behind = IsRowVerdict kit state.book act }
 
 -- the judgement on a command of a corporation that must own a train and can't pay it
-abbrev pub force_judgement : Kit → GameState → Act → Judgement forced.Fault
+abbrev pub force_judgement : Kit → GameState → Act → Judgement Refusal
 force_judgement kit state act = record { first = first_forced kit state.book act; Behind = IsForcedVerdict kit state.book act }
 
 -- the judgement in an operating round, on such a command or any other
-abbrev pub operating_judgement : Bool → Kit → GameState → Act → Judgement Fault
-operating_judgement true kit state act = judgement_map of_forced (force_judgement kit state act)
-operating_judgement false kit state act = judgement_map of_turn (turn_judgement kit state act)
+abbrev pub operating_judgement : Bool → Kit → GameState → Act → Judgement Refusal
+operating_judgement true kit state act = force_judgement kit state act
+operating_judgement false kit state act = turn_judgement kit state act
 
 -- the judgement by the rules of a stage
-abbrev pub judgement_in : Stage → Kit → GameState → Act → Judgement Fault
-judgement_in G.Auction kit state act = settled (option_map of_auction (auction.verdict kit.roster kit.chart state.book act))
-judgement_in G.Stock kit state act = settled (option_map of_stock (stock.verdict kit.chart state.book act))
+abbrev pub judgement_in : Stage → Kit → GameState → Act → Judgement Refusal
+judgement_in G.Auction kit state act = settled (auction.verdict kit.roster kit.chart state.book act)
+judgement_in G.Stock kit state act = settled (stock.verdict kit.chart state.book act)
 judgement_in G.Operating kit state act = operating_judgement (is_forced act) kit state act
 
 -- a name that the kit lacks is told first, and then what the rules in force refuse
-unfoldable pub judgement : Kit → GameState → Act → Judgement Fault
+unfoldable pub judgement : Kit → GameState → Act → Judgement Refusal
 judgement kit state act = judgement_behind (name_verdict kit act) (judgement_in (stage state.book) kit state act)

@@ -1,4 +1,3 @@
-pub mod Fault
 pub mod State
 pub mod Judging
 pub mod Playing

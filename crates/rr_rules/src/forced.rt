@@ -5,14 +5,12 @@
 //! book, `judge` is exactly `IsVerdict` over the book, want of memory apart, and `play` `Takes` exactly `entries_of`.
 
 mod bankruptcy;
-mod fault;
 mod judging;
 pub mod laws;
 mod needs;
 mod playing;
 mod raising;
 
-pub use fault::Fault;
 pub use judging::judge;
 pub use needs::{Need, needed_train};
 pub use playing::play;

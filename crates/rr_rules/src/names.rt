@@ -2,12 +2,11 @@
 ghost use Rattle.std.specs.Prelude.{◌≡◌, None, Some, MatchResult};
 ghost use Rattle.rr_rules.specs.Judging.{name_verdict, refused_unless};
 
-use crate::fault::Fault;
-use rr_books::Act;
+use rr_books::{Act, Refusal};
 use rr_kit::Kit;
 
 // Whether the board has the hex that a command names, and the manifest the tile.
-pub(crate) fn judge_names(kit: &Kit, act: &Act) -> Result<(), Fault>
+pub(crate) fn judge_names(kit: &Kit, act: &Act) -> Result<(), Refusal>
     ensures { MatchResult result
         (λ _. name_verdict kit.now act.now ≡ None)
         (λ fault. name_verdict kit.now act.now ≡ Some fault) }
@@ -23,13 +22,13 @@ pub(crate) fn judge_names(kit: &Kit, act: &Act) -> Result<(), Fault>
     }
 }
 
-fn refuse_unless(known: bool) -> Result<(), Fault>
+fn refuse_unless(known: bool) -> Result<(), Refusal>
     ensures { MatchResult result
         (λ _. refused_unless known ≡ None)
         (λ fault. refused_unless known ≡ Some fault) }
 {
     if !known {
-        return Err(Fault::NoSuchName);
+        return Err(Refusal::NoSuchName);
     }
     Ok(())
 }

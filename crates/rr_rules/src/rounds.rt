@@ -10,9 +10,8 @@ ghost use Rattle.rr_rules.specs.Judging.{judgement_in, operating_judgement};
 ghost use Rattle.rr_rules.specs.Playing.{operating_entries, state_in};
 ghost use Rattle.rr_rules.specs.State.{GameState, IsStandingOf};
 
-use crate::fault::Fault;
 use crate::standing::Standing;
-use rr_books::Act;
+use rr_books::{Act, Refusal};
 use rr_desk::Desk;
 use rr_kit::Kit;
 use std::alloc::Global;
@@ -24,11 +23,11 @@ impl Standing {
         alloc: Global,
         kit: &Kit,
         act: &Act,
-    ) -> Result<Standing, Fault>
+    ) -> Result<Standing, Refusal>
         requires { auction.IsSmall act.now }
         ensures verdict { (state : GameState) → IsStandingOf state self.now → MatchResult result
             (λ _. IsVerdict (judgement_in G.Auction kit.now state act.now) None)
-            (λ fault. MayFind (judgement_in G.Auction kit.now state act.now) Fault.OutOfMemory fault) }
+            (λ fault. MayFind (judgement_in G.Auction kit.now state act.now) Refusal.OutOfMemory fault) }
         ensures standing { IfOk result (λ next. (state : GameState) → IsStandingOf state self.now → IsStandingOf (state_in G.Auction kit.now state act.now) next) }
     {
         rr_auction::judge(kit.roster(), kit.chart(), &self.position, act)?;
@@ -47,11 +46,11 @@ impl Standing {
         alloc: Global,
         kit: &Kit,
         act: &Act,
-    ) -> Result<Standing, Fault>
+    ) -> Result<Standing, Refusal>
         requires { HasSeat act.now }
         ensures verdict { (state : GameState) → IsStandingOf state self.now → MatchResult result
             (λ _. IsVerdict (judgement_in G.Stock kit.now state act.now) None)
-            (λ fault. MayFind (judgement_in G.Stock kit.now state act.now) Fault.OutOfMemory fault) }
+            (λ fault. MayFind (judgement_in G.Stock kit.now state act.now) Refusal.OutOfMemory fault) }
         ensures standing { IfOk result (λ next. (state : GameState) → IsStandingOf state self.now → IsStandingOf (state_in G.Stock kit.now state act.now) next) }
     {
         rr_stock::judge(kit.chart(), &self.position, act)?;
@@ -71,11 +70,11 @@ impl Standing {
         alloc: Global,
         kit: &Kit,
         act: &Act,
-    ) -> Result<Standing, Fault>
+    ) -> Result<Standing, Refusal>
         requires { depot.IsSmall act.now }
         ensures verdict { (state : GameState) → IsStandingOf state self.now → MatchResult result
             (λ _. IsVerdict (judgement_in G.Operating kit.now state act.now) None)
-            (λ fault. MayFind (judgement_in G.Operating kit.now state act.now) Fault.OutOfMemory fault) }
+            (λ fault. MayFind (judgement_in G.Operating kit.now state act.now) Refusal.OutOfMemory fault) }
         ensures standing { IfOk result (λ next. (state : GameState) → IsStandingOf state self.now → IsStandingOf (state_in G.Operating kit.now state act.now) next) }
     {
         match act {
@@ -87,11 +86,11 @@ impl Standing {
     }
 
     // A command of a corporation that must own a train and can't pay it.
-    fn take_forced(&self, alloc: Global, kit: &Kit, act: &Act) -> Result<Standing, Fault>
+    fn take_forced(&self, alloc: Global, kit: &Kit, act: &Act) -> Result<Standing, Refusal>
         requires { is_forced act.now ≡ true }
         ensures verdict { (state : GameState) → IsStandingOf state self.now → MatchResult result
             (λ _. IsVerdict (operating_judgement true kit.now state act.now) None)
-            (λ fault. MayFind (operating_judgement true kit.now state act.now) Fault.OutOfMemory fault) }
+            (λ fault. MayFind (operating_judgement true kit.now state act.now) Refusal.OutOfMemory fault) }
         ensures standing { IfOk result (λ next. (state : GameState) → IsStandingOf state self.now → IsStandingOf (state_in G.Operating kit.now state act.now) next) }
     {
         crate::forced::judge(alloc, kit, &self.position, act)?;
@@ -105,12 +104,12 @@ impl Standing {
     }
 
     // A command of a corporation's turn.
-    fn take_in_turn(&self, alloc: Global, kit: &Kit, act: &Act) -> Result<Standing, Fault>
+    fn take_in_turn(&self, alloc: Global, kit: &Kit, act: &Act) -> Result<Standing, Refusal>
         requires turn { is_forced act.now ≡ false }
         requires small { depot.IsSmall act.now }
         ensures verdict { (state : GameState) → IsStandingOf state self.now → MatchResult result
             (λ _. IsVerdict (operating_judgement false kit.now state act.now) None)
-            (λ fault. MayFind (operating_judgement false kit.now state act.now) Fault.OutOfMemory fault) }
+            (λ fault. MayFind (operating_judgement false kit.now state act.now) Refusal.OutOfMemory fault) }
         ensures standing { IfOk result (λ next. (state : GameState) → IsStandingOf state self.now → IsStandingOf (state_in G.Operating kit.now state act.now) next) }
     {
         let revenue = rr_operate::judge(alloc, kit, &self.position, self.revenue, act)?;

@@ -5,9 +5,8 @@ ghost use Rattle.rr_rules.specs.Judging.{judgement_in};
 ghost use Rattle.rr_rules.specs.Runs.{run_verdict};
 ghost use Rattle.rr_rules.specs.State.{GameState, IsStandingOf};
 
-use crate::fault::Fault;
 use crate::standing::Standing;
-use rr_books::{Act, Words};
+use rr_books::{Act, Refusal, Words};
 use rr_kit::Kit;
 use rr_market::operations::Stage;
 use rr_roster::Corp;
@@ -20,7 +19,7 @@ impl Standing {
     /// # Errors
     ///
     /// `MustDiscardFirst`, `WrongStep` or `NotYourTurn`.
-    pub fn judge_run(&self, alloc: Global, kit: &Kit, corp: Corp) -> Result<(), Fault>
+    pub fn judge_run(&self, alloc: Global, kit: &Kit, corp: Corp) -> Result<(), Refusal>
         ensures { (state : GameState) → IsStandingOf state self.now → MatchResult result
             (λ _. run_verdict kit.now state corp ≡ None)
             (λ fault. run_verdict kit.now state corp ≡ Some fault) }
@@ -34,7 +33,7 @@ impl Standing {
     }
 
     // By the rules of a stage.
-    fn judge_run_in(&self, stage: Stage, kit: &Kit, corp: Corp, run: &Act) -> Result<(), Fault>
+    fn judge_run_in(&self, stage: Stage, kit: &Kit, corp: Corp, run: &Act) -> Result<(), Refusal>
         requires { run.now ≡ Act.Run corp [] }
         ensures { (state : GameState) → IsStandingOf state self.now → MatchResult result
             (λ _. (judgement_in stage kit.now state (Act.Run corp [])).first ≡ None)
@@ -47,7 +46,7 @@ impl Standing {
         }
     }
 
-    fn judge_run_in_auction(&self, kit: &Kit, corp: Corp, run: &Act) -> Result<(), Fault>
+    fn judge_run_in_auction(&self, kit: &Kit, corp: Corp, run: &Act) -> Result<(), Refusal>
         requires { run.now ≡ Act.Run corp [] }
         ensures { (state : GameState) → IsStandingOf state self.now → MatchResult result
             (λ _. (judgement_in G.Auction kit.now state (Act.Run corp [])).first ≡ None)
@@ -57,7 +56,7 @@ impl Standing {
         Ok(())
     }
 
-    fn judge_run_in_stock_round(&self, kit: &Kit, corp: Corp, run: &Act) -> Result<(), Fault>
+    fn judge_run_in_stock_round(&self, kit: &Kit, corp: Corp, run: &Act) -> Result<(), Refusal>
         requires { run.now ≡ Act.Run corp [] }
         ensures { (state : GameState) → IsStandingOf state self.now → MatchResult result
             (λ _. (judgement_in G.Stock kit.now state (Act.Run corp [])).first ≡ None)
@@ -67,7 +66,7 @@ impl Standing {
         Ok(())
     }
 
-    fn judge_run_in_turn(&self, kit: &Kit, corp: Corp, run: &Act) -> Result<(), Fault>
+    fn judge_run_in_turn(&self, kit: &Kit, corp: Corp, run: &Act) -> Result<(), Refusal>
         requires { run.now ≡ Act.Run corp [] }
         ensures { (state : GameState) → IsStandingOf state self.now → MatchResult result
             (λ _. (judgement_in G.Operating kit.now state (Act.Run corp [])).first ≡ None)

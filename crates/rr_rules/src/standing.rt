@@ -10,9 +10,8 @@ ghost use Rattle.rr_rules.specs.Judging.{bank_is_broken, game_is_over, judgement
 ghost use Rattle.rr_rules.specs.Playing.{state_after, state_in};
 ghost use Rattle.rr_rules.specs.State.{GameState, IsStandingOf};
 
-use crate::fault::Fault;
 use crate::names::judge_names;
-use rr_books::{Act, Money};
+use rr_books::{Act, Money, Refusal};
 use rr_desk::Position;
 use rr_kit::Kit;
 use rr_market::operations::Stage;
@@ -97,13 +96,13 @@ impl Standing {
     /// `NoSuchName` for a hex that the board lacks or a tile that the manifest lacks; then what the rules in force
     /// refuse: those of the auction until it is over, and then those of the stock round or operating round under way.
     /// `OutOfMemory` where none of those comes that take no memory.
-    pub fn take(&self, alloc: Global, kit: &Kit, act: &Act) -> Result<Standing, Fault>
+    pub fn take(&self, alloc: Global, kit: &Kit, act: &Act) -> Result<Standing, Refusal>
         requires seated { HasSeat act.now }
         requires small_bid { auction.IsSmall act.now }
         requires small_price { depot.IsSmall act.now }
         ensures verdict { (state : GameState) → IsStandingOf state self.now → MatchResult result
             (λ _. IsVerdict (judgement kit.now state act.now) None)
-            (λ fault. MayFind (judgement kit.now state act.now) Fault.OutOfMemory fault) }
+            (λ fault. MayFind (judgement kit.now state act.now) Refusal.OutOfMemory fault) }
         ensures standing { IfOk result (λ next. (state : GameState) → IsStandingOf state self.now → IsStandingOf (state_after kit.now state act.now) next) }
     {
         judge_names(kit, act)?;
@@ -112,13 +111,19 @@ impl Standing {
     }
 
     // Takes it by the rules of a stage.
-    fn take_in(&self, stage: Stage, alloc: Global, kit: &Kit, act: &Act) -> Result<Standing, Fault>
+    fn take_in(
+        &self,
+        stage: Stage,
+        alloc: Global,
+        kit: &Kit,
+        act: &Act,
+    ) -> Result<Standing, Refusal>
         requires seated { HasSeat act.now }
         requires small_bid { auction.IsSmall act.now }
         requires small_price { depot.IsSmall act.now }
         ensures verdict { (state : GameState) → IsStandingOf state self.now → MatchResult result
             (λ _. IsVerdict (judgement_in stage kit.now state act.now) None)
-            (λ fault. MayFind (judgement_in stage kit.now state act.now) Fault.OutOfMemory fault) }
+            (λ fault. MayFind (judgement_in stage kit.now state act.now) Refusal.OutOfMemory fault) }
         ensures standing { IfOk result (λ next. (state : GameState) → IsStandingOf state self.now → IsStandingOf (state_in stage kit.now state act.now) next) }
     {
         match stage {

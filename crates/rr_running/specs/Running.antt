@@ -18,16 +18,16 @@ use Rattle.rr_routes.specs.declared.sheets.sheet.TrainWord.{TrainWord}
 use Rattle.rr_routes.specs.Sheets.Certificate.{Spells}
 use Rattle.rr_routes.specs.Sheets.Reading.{sheet_in}
 use Rattle.rr_routes.specs.Sheets.Sheet.{SpellsSheet, SpellsSomeSheet}
-use Rattle.rr_referee.specs.declared.clause.Clause.{Clause}
-use Rattle.rr_referee.specs.declared.clause.Clause.TheVariants.{WrongWord}
+use Rattle.rr_books.specs.declared.clause.Clause.{Clause}
+use Rattle.rr_books.specs.declared.clause.Clause.TheVariants.{WrongWord}
 use Rattle.rr_referee.specs.Revenue.{revenue_of}
 use Rattle.rr_referee.specs.Sheets.{Breaks, IsLegal}
 use Rattle.rr_running.specs.Net.Running.{net_of}
 use Rattle.rr_market.specs.Operations.Phases.{TrainHolders, phase}
 use Rattle.rr_trains.specs.Places.{trains_at}
 use Rattle.rr_desk.specs.Incomes.{dollars}
-use Rattle.rr_running.specs.declared.fault.Fault.{Fault}
-use Rattle.rr_running.specs.declared.fault.Fault.TheVariants as F
+use Rattle.rr_books.specs.declared.refusal.Refusal.{Refusal}
+use Rattle.rr_books.specs.declared.refusal.Refusal.TheVariants as F
 
 -- a kind as often as a corporation has a train of it
 abbrev pub of_kind : TrainHolders → Corp → Kind → List Kind
@@ -50,7 +50,7 @@ abbrev pub ShowsNot : Net → List ℕ → ℕ → Type 0
 ShowsNot net text earned = ((tree : CertTree) → Spells text (length net.trains) tree → ⊥) ⊎ ((tree : CertTree) × Spells text (length net.trains) tree × (Accepts net earned tree → ⊥))
 
 -- what the words of a run over a net are told: nothing, or the fault
-pub data IsVerdictOn (net : Net) (words : List ℕ) (verdict : Option Fault) : Type 0 where
+pub data IsVerdictOn (net : Net) (words : List ℕ) (verdict : Option Refusal) : Type 0 where
   -- they spell the sheet of a lawful run
   is_run : (sheet : List TrainWord) (earned : ℕ) → SpellsSheet words sheet → IsLegal net sheet earned → verdict ≡ None → IsVerdictOn net words verdict
   -- they spell a sheet, and this is the first clause that it breaks
@@ -59,7 +59,7 @@ pub data IsVerdictOn (net : Net) (words : List ℕ) (verdict : Option Fault) : T
   is_unread : (SpellsSomeSheet words → ⊥) → verdict ≡ Some (F.IllegalSheet WrongWord) → IsVerdictOn net words verdict
 
 -- the same with the text of a certificate
-pub data IsBestVerdictOn (net : Net) (words text : List ℕ) (verdict : Option Fault) : Type 0 where
+pub data IsBestVerdictOn (net : Net) (words text : List ℕ) (verdict : Option Refusal) : Type 0 where
   -- the words spell the sheet of a lawful run, and the text shows that none earns more
   is_best : (sheet : List TrainWord) (earned : ℕ) → SpellsSheet words sheet → IsLegal net sheet earned → Shows net text earned → verdict ≡ None
       → IsBestVerdictOn net words text verdict
@@ -67,14 +67,14 @@ pub data IsBestVerdictOn (net : Net) (words text : List ℕ) (verdict : Option F
   is_unshown : (sheet : List TrainWord) (earned : ℕ) → SpellsSheet words sheet → IsLegal net sheet earned → ShowsNot net text earned → verdict ≡ Some F.CertificateRefused
       → IsBestVerdictOn net words text verdict
   -- the words are refused, whatever the text
-  is_refused : (fault : Fault) → IsVerdictOn net words (Some fault) → verdict ≡ Some fault → IsBestVerdictOn net words text verdict
+  is_refused : (fault : Refusal) → IsVerdictOn net words (Some fault) → verdict ≡ Some fault → IsBestVerdictOn net words text verdict
 
 -- what the words of a corporation's run are told
-abbrev pub IsRunVerdict : Kit → Book → Corp → List ℕ → Option Fault → Type 0
+abbrev pub IsRunVerdict : Kit → Book → Corp → List ℕ → Option Refusal → Type 0
 IsRunVerdict kit book c words verdict = IsVerdictOn (net_now kit.board kit.tiles book c) words verdict
 
 -- what they are told with a certificate that no run earns more
-abbrev pub IsBestRunVerdict : Kit → Book → Corp → List ℕ → List ℕ → Option Fault → Type 0
+abbrev pub IsBestRunVerdict : Kit → Book → Corp → List ℕ → List ℕ → Option Refusal → Type 0
 IsBestRunVerdict kit book c words text verdict = IsBestVerdictOn (net_now kit.board kit.tiles book c) words text verdict
 
 -- what the words of a run earn
@@ -86,5 +86,5 @@ abbrev pub run_revenue : Kit → Book → Corp → List ℕ → Money
 run_revenue kit book c words = dollars (earned_on (net_now kit.board kit.tiles book c) words)
 
 -- why a certificate is refused
-abbrev pub IsCertificateRefusal : Net → List ℕ → ℕ → Fault → Type 0
+abbrev pub IsCertificateRefusal : Net → List ℕ → ℕ → Refusal → Type 0
 IsCertificateRefusal net text earned fault = (fault ≡ F.OutOfMemory) ⊎ ((fault ≡ F.CertificateRefused) × ShowsNot net text earned)

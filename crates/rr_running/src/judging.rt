@@ -7,13 +7,12 @@ ghost use Rattle.rr_routes.specs.Net.{value};
 ghost use Rattle.rr_routes.specs.Sheets.Sheet.{SpellsSheet, SpellsSomeSheet};
 ghost use Rattle.rr_running.specs.Running.{IsBestRunVerdict, IsCertificateRefusal, IsRunVerdict, IsVerdictOn, Shows, earned_on, net_now, run_revenue};
 
-use crate::fault::Fault;
 use crate::nets::net_now;
-use rr_books::{Corp, Money};
+use rr_books::{Clause, Corp, Money, Refusal};
 use rr_checker::{Net, check};
 use rr_desk::Position;
 use rr_kit::Kit;
-use rr_referee::{Clause, legal};
+use rr_referee::legal;
 use rr_routes::sheets::{Sheet, read_certificate};
 use std::alloc::Global;
 
@@ -39,10 +38,10 @@ pub fn judge_run(
     position: &Position,
     corp: Corp,
     words: &[u8],
-) -> Result<Money, Fault>
+) -> Result<Money, Refusal>
     ensures judged { (book : Book) → IsPositionOf book position.now → MatchResult result
         (λ revenue. IsRunVerdict kit.now book corp words.now None × (revenue ≡ run_revenue kit.now book corp words.now))
-        (λ fault. (fault ≡ Fault.OutOfMemory) ⊎ IsRunVerdict kit.now book corp words.now (Some fault)) }
+        (λ fault. (fault ≡ Refusal.OutOfMemory) ⊎ IsRunVerdict kit.now book corp words.now (Some fault)) }
     ensures least { IfOk result (λ revenue. pos 0 ≤ℤ revenue.0) }
     ensures greatest { IfOk result (λ revenue. revenue.0 ≤ℤ pos 7785676800) }
 {
@@ -64,10 +63,10 @@ pub fn judge_best_run(
     position: &Position,
     corp: Corp,
     run: &BestRun<'_>,
-) -> Result<Money, Fault>
+) -> Result<Money, Refusal>
     ensures judged { (book : Book) → IsPositionOf book position.now → MatchResult result
         (λ revenue. IsBestRunVerdict kit.now book corp run.now.words.now run.now.certificate.now None × (revenue ≡ run_revenue kit.now book corp run.now.words.now))
-        (λ fault. (fault ≡ Fault.OutOfMemory) ⊎ IsBestRunVerdict kit.now book corp run.now.words.now run.now.certificate.now (Some fault)) }
+        (λ fault. (fault ≡ Refusal.OutOfMemory) ⊎ IsBestRunVerdict kit.now book corp run.now.words.now run.now.certificate.now (Some fault)) }
     ensures least { IfOk result (λ revenue. pos 0 ≤ℤ revenue.0) }
     ensures greatest { IfOk result (λ revenue. revenue.0 ≤ℤ pos 7785676800) }
 {
@@ -78,13 +77,13 @@ pub fn judge_best_run(
 }
 
 // What the run of these words earns on the net.
-fn earned_by(alloc: Global, net: &Net, words: &[u8]) -> Result<usize, Fault>
+fn earned_by(alloc: Global, net: &Net, words: &[u8]) -> Result<usize, Refusal>
     requires values { (centre : ℕ) → value net.now centre ≤ 990 }
     requires centres { length net.now.values ≤ 65536 }
     requires trains { length net.now.trains ≤ 120 }
     ensures judged { MatchResult result
         (λ earned. IsVerdictOn net.now words.now None × (earned ≡ earned_on net.now words.now))
-        (λ fault. (fault ≡ Fault.OutOfMemory) ⊎ IsVerdictOn net.now words.now (Some fault)) }
+        (λ fault. (fault ≡ Refusal.OutOfMemory) ⊎ IsVerdictOn net.now words.now (Some fault)) }
     ensures greatest { IfOk result (λ earned. earned ≤ 7785676800) }
 {
     let sheet = sheet_of(alloc, words)?;
@@ -93,31 +92,31 @@ fn earned_by(alloc: Global, net: &Net, words: &[u8]) -> Result<usize, Fault>
 }
 
 // The sheet that the words spell.
-fn sheet_of(alloc: Global, words: &[u8]) -> Result<Sheet, Fault>
+fn sheet_of(alloc: Global, words: &[u8]) -> Result<Sheet, Refusal>
     ensures { MatchResult result
         (λ sheet. SpellsSheet words.now sheet)
-        (λ fault. (fault ≡ Fault.OutOfMemory) ⊎ ((fault ≡ Fault.IllegalSheet Clause.WrongWord) × (SpellsSomeSheet words.now → ⊥))) }
+        (λ fault. (fault ≡ Refusal.OutOfMemory) ⊎ ((fault ≡ Refusal.IllegalSheet Clause.WrongWord) × (SpellsSomeSheet words.now → ⊥))) }
 {
     match Sheet::read(alloc, words) {
         Ok(sheet) => Ok(sheet),
-        Err(rr_routes::sheets::Fault::OutOfMemory) => Err(Fault::OutOfMemory),
-        Err(_) => Err(Fault::IllegalSheet(Clause::WrongWord)),
+        Err(rr_routes::sheets::Fault::OutOfMemory) => Err(Refusal::OutOfMemory),
+        Err(_) => Err(Refusal::IllegalSheet(Clause::WrongWord)),
     }
 }
 
 // Whether the text shows that no run of the net earns more.
-fn judge_certificate(alloc: Global, net: &Net, earned: usize, text: &[u8]) -> Result<(), Fault>
+fn judge_certificate(alloc: Global, net: &Net, earned: usize, text: &[u8]) -> Result<(), Refusal>
     ensures { MatchResult result
         (λ _. Shows net.now text.now earned)
         (λ fault. IsCertificateRefusal net.now text.now earned fault) }
 {
     let tree = match read_certificate(alloc, net.trains().len(), text) {
         Ok(tree) => tree,
-        Err(rr_routes::sheets::Fault::OutOfMemory) => return Err(Fault::OutOfMemory),
-        Err(_) => return Err(Fault::CertificateRefused),
+        Err(rr_routes::sheets::Fault::OutOfMemory) => return Err(Refusal::OutOfMemory),
+        Err(_) => return Err(Refusal::CertificateRefused),
     };
     if !check(alloc, net, earned, &tree)? {
-        return Err(Fault::CertificateRefused);
+        return Err(Refusal::CertificateRefused);
     }
     Ok(())
 }

@@ -5,15 +5,15 @@ ghost use Rattle.rr_roster.specs.declared.company.Corp.{Corp};
 ghost use Rattle.rr_books.specs.Book.{Book};
 ghost use Rattle.rr_kit.specs.declared.kit.Kit.{Kit};
 ghost use Rattle.rr_running.specs.Running.{IsBestRunVerdict, IsRunVerdict, earned_on, net_now};
-ghost use Rattle.rr_running.specs.declared.fault.Fault.{Fault};
+ghost use Rattle.rr_books.specs.declared.refusal.Refusal.{Refusal};
 
 use crate::nets::MOST_CENTRES;
 
 /// No words have two verdicts as a run, with a certificate or without.
 pub fn one_verdict_on_a_run()
-    ensures alone { (kit : Kit) (book : Book) (c : Corp) (words : List ℕ) (one other : Option Fault) →
+    ensures alone { (kit : Kit) (book : Book) (c : Corp) (words : List ℕ) (one other : Option Refusal) →
         IsRunVerdict kit book c words one → IsRunVerdict kit book c words other → one ≡ other }
-    ensures best { (kit : Kit) (book : Book) (c : Corp) (words certificate : List ℕ) (one other : Option Fault) →
+    ensures best { (kit : Kit) (book : Book) (c : Corp) (words certificate : List ℕ) (one other : Option Refusal) →
         IsBestRunVerdict kit book c words certificate one → IsBestRunVerdict kit book c words certificate other → one ≡ other }
 {}
 

@@ -1,17 +1,15 @@
 //! A corporation's run as the rules judge it: whether the words of a command spell the sheet of a lawful run of its trains
 //! over the board as it lies, what the run earns, and whether a certificate shows that none earns more.
 //!
-//! Stands on `rr_net` and `rr_runs`, and ties them to the book. Its promise: `judge_run` and `judge_best_run` answer
-//! exactly by `IsRunVerdict` and `IsBestRunVerdict`, want of memory apart, and give `run_revenue`.
+//! Stands on `rr_network` and `rr_referee`, and ties them to the book. Its promise: `judge_run` and `judge_best_run`
+//! answer exactly by `IsRunVerdict` and `IsBestRunVerdict`, want of memory apart, and give `run_revenue`.
 #![tactic(auto)]
 
-mod fault;
 mod judging;
 pub mod laws;
 pub mod net;
 mod nets;
 
-pub use fault::Fault;
 pub use judging::{BestRun, judge_best_run, judge_run};
 pub use nets::{kinds_held, net_now};
-pub use rr_referee::{Clause, Net, Sheet};
+pub use rr_referee::{Net, Sheet};

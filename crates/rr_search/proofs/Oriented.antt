@@ -16,7 +16,7 @@ use Rattle.rr_checker.specs.declared.trips.Journey.{Journey}
 use Rattle.rr_checker.proofs.StepLemmas.{yes, no}
 use Rattle.rr_checker.proofs.FullLemmas.{is_run_now}
 use Rattle.rr_routes.specs.declared.sheets.sheet.TrainWord.{TrainWord}
-use Rattle.rr_referee.specs.declared.clause.Clause.{Clause}
+use Rattle.rr_books.specs.declared.clause.Clause.{Clause}
 use Rattle.rr_referee.specs.Sheets.{Ascends, IsWordOf, IsSheetOf, IsLegal, Breaks}
 use Rattle.rr_referee.proofs.LawLemmas.{none_broken}
 use Rattle.rr_search.specs.Found.{AreKinds, AreOwnTrips, IsSheetFor, trip_along}

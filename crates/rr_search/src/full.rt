@@ -12,10 +12,11 @@ ghost use Rattle.rr_search.specs.declared.fault.Fault.TheVariants.{OutOfMemory};
 use crate::fault::Fault;
 use crate::found::Found;
 use crate::sheets::sheet_of;
+use rr_books::Refusal;
 use rr_checker::{
     CentreLimit, Fate, Journey, Net, is_shared, journey_over, others_links, own_links,
 };
-use rr_referee::{Fault as Refusal, legal};
+use rr_referee::legal;
 use rr_roster::Kind;
 use std::alloc::{AllocError, Global};
 
@@ -77,8 +78,8 @@ fn found_by(
     let sheet = sheet_of(alloc, kinds, journeys)?;
     match legal(alloc, net, &sheet) {
         Ok(revenue) => Ok(Found { sheet, revenue }),
-        Err(Refusal::OutOfMemory) => Err(Fault::OutOfMemory),
         Err(Refusal::IllegalSheet(_)) => unreachable!(),
+        Err(_) => Err(Fault::OutOfMemory),
     }
 }
 

@@ -1,4 +1,3 @@
-pub mod Fault
 pub mod Holdings
 pub mod HoldingLaws
 pub mod Limits

@@ -4,7 +4,7 @@ ghost use Rattle.rr_books.specs.State.{IsStateOf, holder_in};
 ghost use Rattle.rr_desk.specs.Desk.{Takes};
 ghost use Rattle.rr_shares.specs.Effects.{float, float_if_due, floats_now};
 
-use rr_books::{Books, Corp, Entry, Fault, Marker, Money, Party, Place};
+use rr_books::{Books, Corp, Entry, Marker, Money, Party, Place, Refusal};
 use rr_desk::Desk;
 
 /// Whether the corporation floats now: it has a par, hasn't floated, and 60% of it has left the offer.
@@ -24,8 +24,8 @@ pub fn floats_now(books: &Books, corp: Corp, par: Option<u16>, floated: bool) ->
 ///
 /// `OutOfMemory`; the corporation may have been paid then.
 #[tactic(auto, unfolding(crate::specs::Effects::float))]
-pub fn float(desk: &mut Desk, corp: Corp, par: u16) -> Result<(), Fault>
-    ensures fault { IfErr result (λ fault. fault ≡ Fault.OutOfMemory) }
+pub fn float(desk: &mut Desk, corp: Corp, par: u16) -> Result<(), Refusal>
+    ensures fault { IfErr result (λ fault. fault ≡ Refusal.OutOfMemory) }
     ensures takes { OnOk result (Takes (float corp par) desk.old desk.new) }
 {
     let capital = capital(par);
@@ -57,8 +57,8 @@ pub fn float_if_due(
     corp: Corp,
     par: Option<u16>,
     floated: bool,
-) -> Result<(), Fault>
-    ensures fault { IfErr result (λ fault. fault ≡ Fault.OutOfMemory) }
+) -> Result<(), Refusal>
+    ensures fault { IfErr result (λ fault. fault ≡ Refusal.OutOfMemory) }
     ensures takes { OnOk result (Takes (float_if_due corp par floated) desk.old desk.new) }
 {
     if !floats_now(desk.books(), corp, par, floated) {

@@ -1,5 +1,5 @@
 //! Which certificates move when shares change hands: the lowest shares of a place, the presidency, what is sold, and
-//! the money with which a corporation begins.
+//! the money with which a corporation begins. What a seat may hold and may sell says `limits`.
 //!
 //! Stands on `rr_desk`. Its promise: each call `Takes` exactly its effect: a sale, a presidency handed over, a float.
 #![tactic(auto)]

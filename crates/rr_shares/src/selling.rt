@@ -4,7 +4,7 @@ ghost use Rattle.rr_shares.specs.Effects.{presidency_after_sale, sale_shares};
 
 use crate::giving::give_lowest_shares;
 use crate::succession::{hand_over_if, handover_after_sale};
-use rr_books::{Corp, Fault, Place, Seat};
+use rr_books::{Corp, Place, Refusal, Seat};
 use rr_desk::Desk;
 
 /// The seat's shares go to the pool: first the presidency, judged by what the seats hold after the sale, and then the
@@ -14,8 +14,8 @@ use rr_desk::Desk;
 ///
 /// `OutOfMemory`; some certificates may have moved then.
 #[tactic(auto, unfolding(crate::specs::Effects::sale_shares))]
-pub fn sell_shares(desk: &mut Desk, corp: Corp, seller: Seat, count: u8) -> Result<(), Fault>
-    ensures fault { IfErr result (λ fault. fault ≡ Fault.OutOfMemory) }
+pub fn sell_shares(desk: &mut Desk, corp: Corp, seller: Seat, count: u8) -> Result<(), Refusal>
+    ensures fault { IfErr result (λ fault. fault ≡ Refusal.OutOfMemory) }
     ensures takes { OnOk result (Takes (sale_shares corp seller count) desk.old desk.new) }
 {
     settle_presidency_after_sale(desk, corp, seller, count)?;
@@ -30,8 +30,8 @@ fn settle_presidency_after_sale(
     corp: Corp,
     seller: Seat,
     count: u8,
-) -> Result<(), Fault>
-    ensures fault { IfErr result (λ fault. fault ≡ Fault.OutOfMemory) }
+) -> Result<(), Refusal>
+    ensures fault { IfErr result (λ fault. fault ≡ Refusal.OutOfMemory) }
     ensures takes { OnOk result (Takes (presidency_after_sale corp seller count) desk.old desk.new) }
 {
     let due = handover_after_sale(desk.books(), corp, seller, count);

@@ -8,7 +8,7 @@ ghost use Rattle.rr_shares.specs.Succession.{at_table, handover_after_sale, hand
 
 use crate::giving::give_lowest_shares;
 use crate::holdings::{heir, percents, percents_after_sale};
-use rr_books::{Books, Cert, Corp, Entry, Fault, Place, Seat};
+use rr_books::{Books, Cert, Corp, Entry, Place, Refusal, Seat};
 use rr_desk::Desk;
 
 /// A presidency changes hands.
@@ -83,8 +83,8 @@ fn president_at_table(books: &Books, corp: Corp) -> Option<Seat>
 ///
 /// `OutOfMemory`; some certificates may have moved then.
 #[tactic(auto, unfolding(crate::specs::Effects::hands_over))]
-pub fn hand_over(desk: &mut Desk, corp: Corp, handover: &Handover) -> Result<(), Fault>
-    ensures fault { IfErr result (λ fault. fault ≡ Fault.OutOfMemory) }
+pub fn hand_over(desk: &mut Desk, corp: Corp, handover: &Handover) -> Result<(), Refusal>
+    ensures fault { IfErr result (λ fault. fault ≡ Refusal.OutOfMemory) }
     ensures takes { OnOk result (Takes (hands_over corp handover.now) desk.old desk.new) }
 {
     give_lowest_shares(
@@ -106,8 +106,8 @@ pub(crate) fn hand_over_if(
     desk: &mut Desk,
     corp: Corp,
     handover: Option<Handover>,
-) -> Result<(), Fault>
-    ensures fault { IfErr result (λ fault. fault ≡ Fault.OutOfMemory) }
+) -> Result<(), Refusal>
+    ensures fault { IfErr result (λ fault. fault ≡ Refusal.OutOfMemory) }
     ensures takes { OnOk result (Takes (hands_over_if corp handover) desk.old desk.new) }
 {
     match handover {
@@ -126,8 +126,8 @@ pub(crate) fn hand_over_if(
 ///
 /// `OutOfMemory`; some certificates may have moved then.
 #[tactic(auto, unfolding(crate::specs::Effects::presidency))]
-pub fn settle_presidency(desk: &mut Desk, corp: Corp) -> Result<(), Fault>
-    ensures fault { IfErr result (λ fault. fault ≡ Fault.OutOfMemory) }
+pub fn settle_presidency(desk: &mut Desk, corp: Corp) -> Result<(), Refusal>
+    ensures fault { IfErr result (λ fault. fault ≡ Refusal.OutOfMemory) }
     ensures takes { OnOk result (Takes (presidency corp) desk.old desk.new) }
 {
     let due = handover_due(desk.books(), corp);

@@ -17,11 +17,10 @@ use Rattle.rr_books.specs.Same.{same_seat}
 use Rattle.rr_books.specs.Shares.{is_at, share}
 use Rattle.rr_shares.specs.Presidents.{IsPresident}
 use Rattle.rr_shares.specs.Sales.{AnotherHasTwenty, MaySell}
-use Rattle.rr_shares.specs.declared.limits.fault.Fault.TheVariants as H
+use Rattle.rr_books.specs.declared.refusal.Refusal.TheVariants as H
 use Rattle.rr_shares.specs.Limits.Holdings.{percent_of}
-use Rattle.rr_shares.specs.Limits.Sales.{has_successor, is_successor, leaves_no_president, sale_verdict, sell_verdict}
+use Rattle.rr_shares.specs.Limits.Sales.{has_successor, is_successor, leaves_no_president, sale_verdict}
 use Rattle.rr_rounds.specs.Round.{is_first}
-use Rattle.rr_stock.specs.Fault.{of_holdings}
 use Rattle.rr_stock.specs.Rules as rules
 use Rattle.rr_stock.specs.Situation.{situation_of}
 
@@ -88,7 +87,7 @@ unfolding rules.sale_verdict
 may_sell rows book p s c n lawful e =
     let t = situation_of rows book in
     let h = t.holdings in
-    let judged = none_before of_holdings (sell_verdict h (is_first t.progress) s c n) (neither (rules.turn_verdict t.progress s) _ lawful) in
+    let judged = (neither (rules.turn_verdict t.progress s) _ lawful) in
     let later = passed (is_first t.progress) H.FirstStockRound (sale_verdict h s c n) judged in
     let priced = passed (not (is_some (h.prices c))) H.NotForSale _ later.1 in
     let some = passed (n == 0) H.NotForSale _ priced.1 in

@@ -5,7 +5,7 @@ use Rattle.rr_roster.specs.declared.company.Corp.{Corp}
 use Rattle.rr_chart.specs.Chart.{Row}
 use Rattle.rr_books.specs.declared.parties.Seat.{Seat}
 use Rattle.rr_books.specs.declared.acts.Act.TheVariants as A
-use Rattle.rr_books.specs.declared.acts.ShareSource.{ShareSource}
+use Rattle.rr_roster.specs.declared.sources.ShareSource.{ShareSource}
 use Rattle.rr_books.specs.Book.{Book}
 use Rattle.rr_desk.specs.Effects.{Effect, in_turn}
 use Rattle.rr_market.specs.Marks.{par_of, price_of}

@@ -19,7 +19,7 @@ use Rattle.rr_books.specs.declared.entries.Entry.TheVariants as E
 use Rattle.rr_books.specs.declared.entries.Marker.TheVariants as M
 use Rattle.rr_books.specs.declared.acts.Act.{Act}
 use Rattle.rr_books.specs.declared.acts.Act.TheVariants as A
-use Rattle.rr_books.specs.declared.acts.ShareSource.{ShareSource}
+use Rattle.rr_roster.specs.declared.sources.ShareSource.{ShareSource}
 use Rattle.rr_books.specs.Book.{Book, holder, players}
 use Rattle.rr_books.specs.Same.{same_place}
 use Rattle.rr_desk.specs.Effects.{Effect, adds, in_turn, lowest_share, moves_if, moves_lowest_share}

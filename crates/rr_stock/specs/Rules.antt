@@ -1,5 +1,5 @@
 -- The rules of a stock round, from a table's book and the stock chart alone.
-use Rattle.std.specs.Prelude.{ℕ, ◌*◌, pos, int_lt, Bool, true, false, not, List, Option, None, Some, is_some, option_map, unwrap_or, if◌then◌else◌, ◌&&◌}
+use Rattle.std.specs.Prelude.{ℕ, ◌*◌, pos, int_lt, Bool, true, false, not, List, Option, None, Some, is_some, unwrap_or, if◌then◌else◌, ◌&&◌}
 use Rattle.std.specs.Option.{option_or}
 use Rattle.rr_roster.specs.declared.company.Private.{Private}
 use Rattle.rr_roster.specs.declared.company.Corp.{Corp}
@@ -13,8 +13,8 @@ use Rattle.rr_books.specs.declared.parties.Place.TheVariants as L
 use Rattle.rr_books.specs.declared.certificates.Cert.TheVariants as C
 use Rattle.rr_books.specs.declared.acts.Act.{Act}
 use Rattle.rr_books.specs.declared.acts.Act.TheVariants as A
-use Rattle.rr_books.specs.declared.acts.ShareSource.{ShareSource}
-use Rattle.rr_books.specs.declared.acts.ShareSource.TheVariants as S
+use Rattle.rr_roster.specs.declared.sources.ShareSource.{ShareSource}
+use Rattle.rr_roster.specs.declared.sources.ShareSource.TheVariants as S
 use Rattle.rr_books.specs.Book.{Book}
 use Rattle.rr_books.specs.Shares.{Holders, is_at}
 use Rattle.rr_books.specs.Same.{same_seat}
@@ -25,9 +25,8 @@ use Rattle.rr_rounds.specs.declared.purchases.Purchases.TheVariants as U
 use Rattle.rr_rounds.specs.Round.{Round, has_sold, is_first, may_buy_again}
 use Rattle.rr_shares.specs.Limits.Limits.{would_be_over_certificates, would_be_over_sixty}
 use Rattle.rr_shares.specs.Limits.Sales.{must_sell_first, sell_verdict}
-use Rattle.rr_stock.specs.declared.fault.Fault.{Fault}
-use Rattle.rr_stock.specs.declared.fault.Fault.TheVariants as F
-use Rattle.rr_stock.specs.Fault.{of_holdings}
+use Rattle.rr_books.specs.declared.refusal.Refusal.{Refusal}
+use Rattle.rr_books.specs.declared.refusal.Refusal.TheVariants as F
 use Rattle.rr_stock.specs.Situation.{Situation, situation_of}
 
 -- where the shares of a source are
@@ -65,14 +64,14 @@ abbrev pub is_short : Situation → Seat → ℕ → Bool
 is_short t s amount = int_lt (t.money (P.Seat s)) (pos amount)
 
 -- why a seat can't act in a stock round now, if it can't
-unfoldable pub turn_verdict : Round → Seat → Option Fault
+unfoldable pub turn_verdict : Round → Seat → Option Refusal
 turn_verdict r s =
     if not r.under_way then Some F.WrongStep
     else if not (same_seat s r.turn) then Some F.NotYourTurn
     else None
 
 -- why a corporation's par can't be set, if it can't
-unfoldable pub par_verdict : List Row → Situation → Seat → Corp → ℕ → Option Fault
+unfoldable pub par_verdict : List Row → Situation → Seat → Corp → ℕ → Option Refusal
 par_verdict rows t s c n =
     if must_sell t s then Some F.MustSellFirst
     else if not (is_at (t.holdings.holders (C.President c)) L.Offer) then Some F.NotForSale
@@ -84,7 +83,7 @@ par_verdict rows t s c n =
     else None
 
 -- why a share can't be bought, if it can't
-unfoldable pub purchase_verdict : Situation → Seat → Corp → ShareSource → Option Fault
+unfoldable pub purchase_verdict : Situation → Seat → Corp → ShareSource → Option Refusal
 purchase_verdict t s c source =
     if must_sell t s then Some F.MustSellFirst
     else if not (has_share t.holdings.holders c source && is_some (t.pars c)) then Some F.NotForSale
@@ -96,23 +95,23 @@ purchase_verdict t s c source =
     else None
 
 -- why so many 10% shares can't be sold, if they can't
-unfoldable pub sale_verdict : Situation → Seat → Corp → ℕ → Option Fault
-sale_verdict t s c n = option_map of_holdings (sell_verdict t.holdings (is_first t.progress) s c n)
+unfoldable pub sale_verdict : Situation → Seat → Corp → ℕ → Option Refusal
+sale_verdict t s c n = sell_verdict t.holdings (is_first t.progress) s c n
 
 -- why the M&H can't be changed for a share of the NYC, if it can't
-unfoldable pub swap_verdict : Situation → Seat → ShareSource → Option Fault
+unfoldable pub swap_verdict : Situation → Seat → ShareSource → Option Refusal
 swap_verdict t s source =
     if not (is_at (t.holdings.holders (C.Private Private.Mh)) (L.Seat s) && has_share t.holdings.holders Corp.Nyc source) then Some F.NotForSale
     else if would_be_over_sixty t.holdings s Corp.Nyc 10 then Some F.OverSixty
     else None
 
 -- why a turn can't end, if it can't
-unfoldable pub done_verdict : Situation → Seat → Option Fault
+unfoldable pub done_verdict : Situation → Seat → Option Refusal
 done_verdict t s = if must_sell t s then Some F.MustSellFirst else None
 
 -- why a command is refused, if it is: it must be one of the stock round under way, by the seat in turn, and the rules
 -- must allow it
-abbrev pub verdict_in : List Row → Situation → Act → Option Fault
+abbrev pub verdict_in : List Row → Situation → Act → Option Refusal
 verdict_in rows t (A.Par s c n) = option_or (turn_verdict t.progress s) (par_verdict rows t s c n)
 verdict_in rows t (A.BuyShare s c source) = option_or (turn_verdict t.progress s) (purchase_verdict t s c source)
 verdict_in rows t (A.Sell s c n) = option_or (turn_verdict t.progress s) (sale_verdict t s c n)
@@ -120,5 +119,5 @@ verdict_in rows t (A.Swap s source) = option_or (turn_verdict t.progress s) (swa
 verdict_in rows t (A.Done s) = option_or (turn_verdict t.progress s) (done_verdict t s)
 verdict_in rows t _ = Some F.WrongStep
 
-abbrev pub verdict : List Row → Book → Act → Option Fault
+abbrev pub verdict : List Row → Book → Act → Option Refusal
 verdict rows book act = verdict_in rows (situation_of rows book) act

@@ -15,11 +15,11 @@ use Rattle.rr_books.specs.declared.entries.Entry.TheVariants as E
 use Rattle.rr_books.specs.declared.entries.Marker.TheVariants as M
 use Rattle.rr_books.specs.declared.acts.Act.{Act}
 use Rattle.rr_books.specs.declared.acts.Act.TheVariants as A
-use Rattle.rr_books.specs.declared.acts.ShareSource.TheVariants as S
+use Rattle.rr_roster.specs.declared.sources.ShareSource.TheVariants as S
 use Rattle.rr_books.specs.Book.{Book}
 use Rattle.rr_desk.specs.Incomes.{dollars}
-use Rattle.rr_stock.specs.declared.fault.Fault.{Fault}
-use Rattle.rr_stock.specs.declared.fault.Fault.TheVariants as F
+use Rattle.rr_books.specs.declared.refusal.Refusal.{Refusal}
+use Rattle.rr_books.specs.declared.refusal.Refusal.TheVariants as F
 use Rattle.rr_stock.specs.Rules.{verdict}
 use Rattle.rr_stock.specs.Effects.{entries_of}
 use Rattle.rr_stock.specs.WorkedRounds.{a, b, cell_in_row, corner, opening, par, president_with, shares_to}
@@ -48,7 +48,7 @@ abbrev pub second_round : Book
 second_round = E.Step M.Stock ∷ E.Step M.Operating ∷ E.Step M.Stock ∷ []
 
 -- the verdicts on several commands, each given in this book
-abbrev pub verdicts_in : List Row → Book → List Act → List (Option Fault)
+abbrev pub verdicts_in : List Row → Book → List Act → List (Option Refusal)
 verdicts_in rows book acts = map (verdict rows book) acts
 
 -- a share of the PRR more for a, from the offer or from the pool

@@ -17,13 +17,13 @@ use Rattle.rr_books.specs.declared.entries.Entry.TheVariants as E
 use Rattle.rr_books.specs.declared.entries.Marker.TheVariants as M
 use Rattle.rr_books.specs.declared.acts.Act.{Act}
 use Rattle.rr_books.specs.declared.acts.Act.TheVariants as A
-use Rattle.rr_books.specs.declared.acts.ShareSource.{ShareSource}
-use Rattle.rr_books.specs.declared.acts.ShareSource.TheVariants as S
+use Rattle.rr_roster.specs.declared.sources.ShareSource.{ShareSource}
+use Rattle.rr_roster.specs.declared.sources.ShareSource.TheVariants as S
 use Rattle.rr_books.specs.Book.{Book, balance, holder}
 use Rattle.rr_books.specs.Shares.{certificates_of, share}
 use Rattle.rr_market.specs.Marks.{price_of}
-use Rattle.rr_stock.specs.declared.fault.Fault.{Fault}
-use Rattle.rr_stock.specs.declared.fault.Fault.TheVariants as F
+use Rattle.rr_books.specs.declared.refusal.Refusal.{Refusal}
+use Rattle.rr_books.specs.declared.refusal.Refusal.TheVariants as F
 use Rattle.rr_desk.specs.Incomes.{dollars}
 use Rattle.rr_stock.specs.Rules.{verdict}
 use Rattle.rr_stock.specs.Effects.{entries_of}
@@ -79,7 +79,7 @@ abbrev pub after_acts : Book → List Act → Book
 after_acts book acts = fold after_act book acts
 
 -- the verdict on each of several commands, one given after another
-abbrev pub verdicts : Book → List Act → List (Option Fault)
+abbrev pub verdicts : Book → List Act → List (Option Refusal)
 verdicts book [] = []
 verdicts book (act ∷ acts) = verdict corner book act ∷ verdicts (after_act book act) acts
 

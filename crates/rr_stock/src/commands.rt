@@ -8,7 +8,7 @@ use crate::reading::{ends_with_done, has_floated, par, proceeds, share_price};
 use crate::trading::{
     Sale, get_share, give_up_private, pay_seller, settle_corporation, take_presidency,
 };
-use rr_books::{Act, Corp, Entry, Fault, Marker, Seat, ShareSource};
+use rr_books::{Act, Corp, Entry, Marker, Refusal, Seat, ShareSource};
 use rr_chart::Chart;
 use rr_desk::Desk;
 use rr_shares::{float_if_due, sell_shares};
@@ -20,10 +20,10 @@ pub(crate) fn play_par(
     seat: Seat,
     corp: Corp,
     price: u64,
-) -> Result<(), Fault>
+) -> Result<(), Refusal>
     requires seated { seat.0 < 6 }
     requires small { price ≤ 999 }
-    ensures fault { IfErr result (λ fault. fault ≡ Fault.OutOfMemory) }
+    ensures fault { IfErr result (λ fault. fault ≡ Refusal.OutOfMemory) }
     ensures takes { OnOk result (Takes (λ book. sets_par chart.now (situation_of chart.now book) seat corp price book) desk.old desk.new) }
 {
     let par = price as u16;
@@ -41,9 +41,9 @@ pub(crate) fn play_purchase(
     seat: Seat,
     corp: Corp,
     source: ShareSource,
-) -> Result<(), Fault>
+) -> Result<(), Refusal>
     requires { seat.0 < 6 }
-    ensures fault { IfErr result (λ fault. fault ≡ Fault.OutOfMemory) }
+    ensures fault { IfErr result (λ fault. fault ≡ Refusal.OutOfMemory) }
     ensures takes { OnOk result (Takes (λ book. buys_share (situation_of chart.now book) seat corp source book) desk.old desk.new) }
 {
     let price = share_price(desk.position(), chart, corp, source);
@@ -62,10 +62,10 @@ pub(crate) fn play_sale(
     seat: Seat,
     corp: Corp,
     count: u64,
-) -> Result<(), Fault>
+) -> Result<(), Refusal>
     requires seated { seat.0 < 6 }
     requires small { count ≤ 10 }
-    ensures fault { IfErr result (λ fault. fault ≡ Fault.OutOfMemory) }
+    ensures fault { IfErr result (λ fault. fault ≡ Refusal.OutOfMemory) }
     ensures takes { OnOk result (Takes (λ book. sells chart.now (situation_of chart.now book) seat corp count book) desk.old desk.new) }
 {
     let shares = count as u8;
@@ -88,8 +88,8 @@ pub(crate) fn play_swap(
     chart: &Chart,
     seat: Seat,
     source: ShareSource,
-) -> Result<(), Fault>
-    ensures fault { IfErr result (λ fault. fault ≡ Fault.OutOfMemory) }
+) -> Result<(), Refusal>
+    ensures fault { IfErr result (λ fault. fault ≡ Refusal.OutOfMemory) }
     ensures takes { OnOk result (Takes (λ book. swaps (situation_of chart.now book) seat source book) desk.old desk.new) }
 {
     let par = par(desk.position(), chart, Corp::Nyc);
@@ -101,8 +101,8 @@ pub(crate) fn play_swap(
 }
 
 /// The seat ends its turn.
-pub(crate) fn play_done(desk: &mut Desk, chart: &Chart, seat: Seat) -> Result<(), Fault>
-    ensures fault { IfErr result (λ fault. fault ≡ Fault.OutOfMemory) }
+pub(crate) fn play_done(desk: &mut Desk, chart: &Chart, seat: Seat) -> Result<(), Refusal>
+    ensures fault { IfErr result (λ fault. fault ≡ Refusal.OutOfMemory) }
     ensures takes { OnOk result (Takes (λ book. ends_turn chart.now (situation_of chart.now book) seat book) desk.old desk.new) }
 {
     let ends = ends_with_done(desk.position());

@@ -10,15 +10,14 @@ ghost use Rattle.rr_stock.specs.Rules.{done_verdict, has_share, is_brown, is_pur
 ghost use Rattle.rr_stock.specs.Situation.{situation_in};
 ghost use Rattle.rr_stock.specs.Small.{HasSeat, HasSmallNumbers};
 
-use crate::fault::Fault;
 use crate::reading::{place_of_source, share_price};
-use rr_books::{Act, Books, Cert, Corp, Party, Place, Private, Seat, ShareSource};
+use rr_books::{Act, Books, Cert, Corp, Party, Place, Private, Refusal, Seat, ShareSource};
 use rr_chart::{Chart, Zone};
 use rr_desk::{Position, lowest_share};
 use rr_market::{Market, par_cell};
 use rr_rounds::{Purchases, Rounds};
 use rr_shares::limits::{
-    judge_sell, must_sell_first, would_be_over_certificates, would_be_over_sixty,
+    judge_sale_in_round, must_sell_first, would_be_over_certificates, would_be_over_sixty,
 };
 
 /// Whether a stock round takes the command now.
@@ -38,7 +37,7 @@ use rr_shares::limits::{
 /// - `sell`: `FirstStockRound`, `NotForSale`, `PoolOverHalf`.
 /// - `swap`: `NotForSale` where the seat doesn't hold the M&H or no 10% certificate of the NYC is there; `OverSixty`.
 /// - `done`: `MustSellFirst`.
-pub fn judge(chart: &Chart, position: &Position, act: &Act) -> Result<(), Fault>
+pub fn judge(chart: &Chart, position: &Position, act: &Act) -> Result<(), Refusal>
     ensures shown { MatchResult result
         (λ _. verdict_in chart.now (situation_in chart.now position.now) act.now ≡ None)
         (λ fault. verdict_in chart.now (situation_in chart.now position.now) act.now ≡ Some fault) }
@@ -52,7 +51,7 @@ pub fn judge(chart: &Chart, position: &Position, act: &Act) -> Result<(), Fault>
 }
 
 // Whether a stock round takes the command, by what runs along with the book.
-fn judge_act(position: &Position, chart: &Chart, act: &Act) -> Result<(), Fault>
+fn judge_act(position: &Position, chart: &Chart, act: &Act) -> Result<(), Refusal>
     ensures verdict { MatchResult result
         (λ _. verdict_in chart.now (situation_in chart.now position.now) act.now ≡ None)
         (λ fault. verdict_in chart.now (situation_in chart.now position.now) act.now ≡ Some fault) }
@@ -67,7 +66,7 @@ fn judge_act(position: &Position, chart: &Chart, act: &Act) -> Result<(), Fault>
         Act::Sell { seat, corp, count } => judge_sale(position, chart, *seat, *corp, *count),
         Act::Swap { seat, source } => judge_swap(position, chart, *seat, *source),
         Act::Done { seat } => judge_done(position, chart, *seat),
-        _ => Err(Fault::WrongStep),
+        _ => Err(Refusal::WrongStep),
     }
 }
 
@@ -78,7 +77,7 @@ fn judge_par(
     seat: Seat,
     corp: Corp,
     price: u64,
-) -> Result<(), Fault>
+) -> Result<(), Refusal>
     ensures verdict { MatchResult result
         (λ _. verdict_in chart.now (situation_in chart.now position.now) (Act.Par seat corp price) ≡ None)
         (λ fault. verdict_in chart.now (situation_in chart.now position.now) (Act.Par seat corp price) ≡ Some fault) }
@@ -97,7 +96,7 @@ fn judge_purchase(
     seat: Seat,
     corp: Corp,
     source: ShareSource,
-) -> Result<(), Fault>
+) -> Result<(), Refusal>
     ensures verdict { MatchResult result
         (λ _. verdict_in chart.now (situation_in chart.now position.now) (Act.BuyShare seat corp source) ≡ None)
         (λ fault. verdict_in chart.now (situation_in chart.now position.now) (Act.BuyShare seat corp source) ≡ Some fault) }
@@ -115,7 +114,7 @@ fn judge_sale(
     seat: Seat,
     corp: Corp,
     count: u64,
-) -> Result<(), Fault>
+) -> Result<(), Refusal>
     ensures verdict { MatchResult result
         (λ _. verdict_in chart.now (situation_in chart.now position.now) (Act.Sell seat corp count) ≡ None)
         (λ fault. verdict_in chart.now (situation_in chart.now position.now) (Act.Sell seat corp count) ≡ Some fault) }
@@ -133,7 +132,7 @@ fn judge_swap(
     chart: &Chart,
     seat: Seat,
     source: ShareSource,
-) -> Result<(), Fault>
+) -> Result<(), Refusal>
     ensures verdict { MatchResult result
         (λ _. verdict_in chart.now (situation_in chart.now position.now) (Act.Swap seat source) ≡ None)
         (λ fault. verdict_in chart.now (situation_in chart.now position.now) (Act.Swap seat source) ≡ Some fault) }
@@ -145,7 +144,7 @@ fn judge_swap(
 }
 
 // Whether the seat may end its turn now.
-fn judge_done(position: &Position, chart: &Chart, seat: Seat) -> Result<(), Fault>
+fn judge_done(position: &Position, chart: &Chart, seat: Seat) -> Result<(), Refusal>
     ensures verdict { MatchResult result
         (λ _. verdict_in chart.now (situation_in chart.now position.now) (Act.Done seat) ≡ None)
         (λ fault. verdict_in chart.now (situation_in chart.now position.now) (Act.Done seat) ≡ Some fault) }
@@ -158,7 +157,7 @@ fn judge_done(position: &Position, chart: &Chart, seat: Seat) -> Result<(), Faul
 
 // Whether the seat may act in a stock round now.
 #[tactic(auto, unfolding(crate::specs::Rules::turn_verdict))]
-fn judge_turn(position: &Position, seat: Seat) -> Result<(), Fault>
+fn judge_turn(position: &Position, seat: Seat) -> Result<(), Refusal>
     ensures verdict { MatchResult result
         (λ _. turn_verdict position.now.rounds seat ≡ None)
         (λ fault. turn_verdict position.now.rounds seat ≡ Some fault) }
@@ -168,10 +167,10 @@ fn judge_turn(position: &Position, seat: Seat) -> Result<(), Fault>
     // There are at most six players, so the seat in turn is one of six.
     let _players = position.books().players();
     if !rounds.is_under_way() {
-        return Err(Fault::WrongStep);
+        return Err(Refusal::WrongStep);
     }
     if seat != rounds.turn() {
-        return Err(Fault::NotYourTurn);
+        return Err(Refusal::NotYourTurn);
     }
     Ok(())
 }
@@ -184,32 +183,32 @@ fn judge_par_rules(
     seat: Seat,
     corp: Corp,
     price: u64,
-) -> Result<(), Fault>
+) -> Result<(), Refusal>
     ensures verdict { MatchResult result
         (λ _. par_verdict chart.now (situation_in chart.now position.now) seat corp price ≡ None)
         (λ fault. par_verdict chart.now (situation_in chart.now position.now) seat corp price ≡ Some fault) }
     ensures small { OnOk result (price ≤ 999) }
 {
     if must_sell(position, chart, seat) {
-        return Err(Fault::MustSellFirst);
+        return Err(Refusal::MustSellFirst);
     }
     if position.books().holder(Cert::President(corp)) != Place::Offer {
-        return Err(Fault::NotForSale);
+        return Err(Refusal::NotForSale);
     }
     let Some(par) = par_on_chart(chart, price) else {
-        return Err(Fault::NotAPar);
+        return Err(Refusal::NotAPar);
     };
     if has_bought(position.rounds()) {
-        return Err(Fault::SecondPurchase);
+        return Err(Refusal::SecondPurchase);
     }
     if would_be_over_certificates(position, chart, seat, corp) {
-        return Err(Fault::CertificateLimit);
+        return Err(Refusal::CertificateLimit);
     }
     if would_be_over_sixty(position, chart, seat, corp, 20) {
-        return Err(Fault::OverSixty);
+        return Err(Refusal::OverSixty);
     }
     if is_short(position.books(), seat, 2 * u32::from(par)) {
-        return Err(Fault::TooLittleCash);
+        return Err(Refusal::TooLittleCash);
     }
     Ok(())
 }
@@ -222,35 +221,35 @@ fn judge_purchase_rules(
     seat: Seat,
     corp: Corp,
     source: ShareSource,
-) -> Result<(), Fault>
+) -> Result<(), Refusal>
     ensures { MatchResult result
         (λ _. purchase_verdict (situation_in chart.now position.now) seat corp source ≡ None)
         (λ fault. purchase_verdict (situation_in chart.now position.now) seat corp source ≡ Some fault) }
 {
     if must_sell(position, chart, seat) {
-        return Err(Fault::MustSellFirst);
+        return Err(Refusal::MustSellFirst);
     }
     if !is_for_sale(position, chart, corp, source) {
-        return Err(Fault::NotForSale);
+        return Err(Refusal::NotForSale);
     }
     if !may_buy_again(position, chart, corp, source) {
-        return Err(Fault::SecondPurchase);
+        return Err(Refusal::SecondPurchase);
     }
     if position.rounds().has_sold(seat, corp) {
-        return Err(Fault::SoldThisRound);
+        return Err(Refusal::SoldThisRound);
     }
     if would_be_over_certificates(position, chart, seat, corp) {
-        return Err(Fault::CertificateLimit);
+        return Err(Refusal::CertificateLimit);
     }
     if would_be_over_sixty(position, chart, seat, corp, 10) {
-        return Err(Fault::OverSixty);
+        return Err(Refusal::OverSixty);
     }
     if is_short(
         position.books(),
         seat,
         share_price(position, chart, corp, source),
     ) {
-        return Err(Fault::TooLittleCash);
+        return Err(Refusal::TooLittleCash);
     }
     Ok(())
 }
@@ -263,13 +262,13 @@ fn judge_sale_rules(
     seat: Seat,
     corp: Corp,
     count: u64,
-) -> Result<(), Fault>
+) -> Result<(), Refusal>
     ensures verdict { MatchResult result
         (λ _. sale_verdict (situation_in chart.now position.now) seat corp count ≡ None)
         (λ fault. sale_verdict (situation_in chart.now position.now) seat corp count ≡ Some fault) }
     ensures small { OnOk result (count ≤ 10) }
 {
-    judge_sell(position, chart, seat, corp, count)?;
+    judge_sale_in_round(position, chart, seat, corp, count)?;
     Ok(())
 }
 
@@ -280,33 +279,33 @@ fn judge_swap_rules(
     chart: &Chart,
     seat: Seat,
     source: ShareSource,
-) -> Result<(), Fault>
+) -> Result<(), Refusal>
     ensures { MatchResult result
         (λ _. swap_verdict (situation_in chart.now position.now) seat source ≡ None)
         (λ fault. swap_verdict (situation_in chart.now position.now) seat source ≡ Some fault) }
 {
     let books = position.books();
     if books.holder(Cert::Private(Private::Mh)) != Place::Seat(seat) {
-        return Err(Fault::NotForSale);
+        return Err(Refusal::NotForSale);
     }
     if !has_share(books, Corp::Nyc, source) {
-        return Err(Fault::NotForSale);
+        return Err(Refusal::NotForSale);
     }
     if would_be_over_sixty(position, chart, seat, Corp::Nyc, 10) {
-        return Err(Fault::OverSixty);
+        return Err(Refusal::OverSixty);
     }
     Ok(())
 }
 
 // Whether the seat may end its turn.
 #[tactic(auto, unfolding(crate::specs::Rules::done_verdict))]
-fn judge_done_rules(position: &Position, chart: &Chart, seat: Seat) -> Result<(), Fault>
+fn judge_done_rules(position: &Position, chart: &Chart, seat: Seat) -> Result<(), Refusal>
     ensures { MatchResult result
         (λ _. done_verdict (situation_in chart.now position.now) seat ≡ None)
         (λ fault. done_verdict (situation_in chart.now position.now) seat ≡ Some fault) }
 {
     if must_sell(position, chart, seat) {
-        return Err(Fault::MustSellFirst);
+        return Err(Refusal::MustSellFirst);
     }
     Ok(())
 }

@@ -1,12 +1,11 @@
 //! The stock rounds: pars, purchases and sales of shares, and the end of a round.
 //!
-//! Stands on `rr_shares` and `rr_holdings`. Its promise: `judge` is exactly `verdict` over the book, `play` exactly
-//! `entries_of`. What a forced sale shares with a sale, `proceeds` and `pay_seller`, it shows too.
+//! Stands on `rr_shares`. Its promise: `judge` is exactly `verdict` over the book, `play` exactly `entries_of`. What a
+//! forced sale shares with a sale, `proceeds` and `pay_seller`, it shows too.
 #![tactic(auto)]
 
 mod commands;
 mod ending;
-mod fault;
 mod judging;
 pub mod laws;
 mod playing;
@@ -14,7 +13,6 @@ mod reading;
 mod trading;
 mod waiting;
 
-pub use fault::Fault;
 pub use judging::judge;
 pub use playing::play;
 pub use reading::proceeds;

@@ -4,7 +4,7 @@ ghost use Rattle.rr_stock.specs.Effects.{entries_of};
 ghost use Rattle.rr_stock.specs.Small.{HasSeat, HasSmallNumbers};
 
 use crate::commands::{play_done, play_par, play_purchase, play_sale, play_swap};
-use rr_books::{Act, Fault};
+use rr_books::{Act, Refusal};
 use rr_chart::Chart;
 use rr_desk::Desk;
 
@@ -15,10 +15,10 @@ use rr_desk::Desk;
 /// # Errors
 ///
 /// `OutOfMemory`; the desk may have some of the entries then.
-pub fn play(chart: &Chart, desk: &mut Desk, act: &Act) -> Result<(), Fault>
+pub fn play(chart: &Chart, desk: &mut Desk, act: &Act) -> Result<(), Refusal>
     requires seated { HasSeat act.now }
     requires small { HasSmallNumbers act.now }
-    ensures fault { IfErr result (λ fault. fault ≡ Fault.OutOfMemory) }
+    ensures fault { IfErr result (λ fault. fault ≡ Refusal.OutOfMemory) }
     ensures takes { OnOk result (Takes (λ book. entries_of chart.now book act.now) desk.old desk.new) }
 {
     match act {

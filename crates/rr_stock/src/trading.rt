@@ -1,4 +1,4 @@
-ghost use Rattle.std.specs.Prelude.{◌≡◌, ◌*◌, ◌<◌, ◌≤ℤ◌, pos, OnOk, IfErr};
+ghost use Rattle.std.specs.Prelude.{◌≡◌, ◌*◌, ◌<◌, OnOk, IfErr};
 ghost use Rattle.rr_desk.specs.Effects.{adds};
 ghost use Rattle.rr_desk.specs.Incomes.{dollars};
 ghost use Rattle.rr_market.specs.Moves.{par_marks, sale_marks};
@@ -6,9 +6,9 @@ ghost use Rattle.rr_desk.specs.Desk.{Takes};
 ghost use Rattle.rr_stock.specs.Effects.{gets_share, gives_up_private, marks, pays_bank, pays_seller, settles_corporation, takes_presidency};
 
 use crate::reading::{cell_after_sale, place_of_source};
-use rr_books::{Cell, Cert, Corp, Entry, Fault, Money, Party, Place, Private, Seat, ShareSource};
+use rr_books::{Cell, Cert, Corp, Entry, Money, Party, Place, Private, Refusal, Seat, ShareSource};
 use rr_chart::Chart;
-use rr_desk::{Desk, give_lowest_share};
+use rr_desk::{Desk, dollars, give_lowest_share};
 use rr_market::par_cell;
 use rr_shares::{float_if_due, settle_presidency};
 
@@ -20,9 +20,9 @@ pub(crate) fn take_presidency(
     seat: Seat,
     corp: Corp,
     par: u16,
-) -> Result<(), Fault>
+) -> Result<(), Refusal>
     requires { seat.0 < 6 }
-    ensures fault { IfErr result (λ fault. fault ≡ Fault.OutOfMemory) }
+    ensures fault { IfErr result (λ fault. fault ≡ Refusal.OutOfMemory) }
     ensures takes { OnOk result (Takes (takes_presidency chart.now seat corp par) desk.old desk.new) }
 {
     put_at_par(desk, chart, corp, par)?;
@@ -35,8 +35,8 @@ pub(crate) fn take_presidency(
 }
 
 // The corporation's token is put on the par cell of a price, if the chart has one.
-fn put_at_par(desk: &mut Desk, chart: &Chart, corp: Corp, par: u16) -> Result<(), Fault>
-    ensures fault { IfErr result (λ fault. fault ≡ Fault.OutOfMemory) }
+fn put_at_par(desk: &mut Desk, chart: &Chart, corp: Corp, par: u16) -> Result<(), Refusal>
+    ensures fault { IfErr result (λ fault. fault ≡ Refusal.OutOfMemory) }
     ensures takes { OnOk result (Takes (par_marks chart.now corp par) desk.old desk.new) }
 {
     let cell = par_cell(chart, u64::from(par));
@@ -45,9 +45,9 @@ fn put_at_par(desk: &mut Desk, chart: &Chart, corp: Corp, par: u16) -> Result<()
 }
 
 // The seat pays for a 20% certificate.
-fn pay_presidency(desk: &mut Desk, seat: Seat, par: u16) -> Result<(), Fault>
+fn pay_presidency(desk: &mut Desk, seat: Seat, par: u16) -> Result<(), Refusal>
     requires { seat.0 < 6 }
-    ensures fault { IfErr result (λ fault. fault ≡ Fault.OutOfMemory) }
+    ensures fault { IfErr result (λ fault. fault ≡ Refusal.OutOfMemory) }
     ensures takes { OnOk result (Takes (pays_bank seat (2 * par)) desk.old desk.new) }
 {
     let price = twice(par);
@@ -62,27 +62,18 @@ fn twice(par: u16) -> u32
 }
 
 // The seat pays the bank.
-fn pay_bank(desk: &mut Desk, seat: Seat, amount: u32) -> Result<(), Fault>
+fn pay_bank(desk: &mut Desk, seat: Seat, amount: u32) -> Result<(), Refusal>
     requires { seat.0 < 6 }
-    ensures fault { IfErr result (λ fault. fault ≡ Fault.OutOfMemory) }
+    ensures fault { IfErr result (λ fault. fault ≡ Refusal.OutOfMemory) }
     ensures takes { OnOk result (Takes (pays_bank seat amount) desk.old desk.new) }
 {
-    let amount = dollars(amount);
+    let amount = dollars(u64::from(amount));
     desk.push(Entry::Pay {
         from: Party::Seat(seat),
         to: Party::Bank,
         amount,
     })?;
     Ok(())
-}
-
-// The amount as money.
-fn dollars(amount: u32) -> Money
-    ensures value { result ≡ dollars amount }
-    ensures low { pos 0 ≤ℤ result.0 }
-    ensures high { result.0 ≤ℤ pos 10000000000 }
-{
-    Money(i64::from(amount))
 }
 
 /// The seat gets the lowest of the corporation's 10% certificates that are there, for a price.
@@ -92,9 +83,9 @@ pub(crate) fn get_share(
     corp: Corp,
     source: ShareSource,
     price: u32,
-) -> Result<(), Fault>
+) -> Result<(), Refusal>
     requires { seat.0 < 6 }
-    ensures fault { IfErr result (λ fault. fault ≡ Fault.OutOfMemory) }
+    ensures fault { IfErr result (λ fault. fault ≡ Refusal.OutOfMemory) }
     ensures takes { OnOk result (Takes (gets_share seat corp source price) desk.old desk.new) }
 {
     give_lowest_share(desk, corp, place_of_source(source), Place::Seat(seat))?;
@@ -109,8 +100,8 @@ pub(crate) fn settle_corporation(
     corp: Corp,
     par: Option<u16>,
     floated: bool,
-) -> Result<(), Fault>
-    ensures fault { IfErr result (λ fault. fault ≡ Fault.OutOfMemory) }
+) -> Result<(), Refusal>
+    ensures fault { IfErr result (λ fault. fault ≡ Refusal.OutOfMemory) }
     ensures takes { OnOk result (Takes (settles_corporation corp par floated) desk.old desk.new) }
 {
     settle_presidency(desk, corp)?;
@@ -135,9 +126,9 @@ pub struct Sale {
 ///
 /// `OutOfMemory`; the seller may have been paid then.
 #[tactic(auto, unfolding(crate::specs::Effects::pays_seller))]
-pub fn pay_seller(desk: &mut Desk, chart: &Chart, sale: Sale) -> Result<(), Fault>
+pub fn pay_seller(desk: &mut Desk, chart: &Chart, sale: Sale) -> Result<(), Refusal>
     requires { sale.seat.0 < 6 }
-    ensures fault { IfErr result (λ fault. fault ≡ Fault.OutOfMemory) }
+    ensures fault { IfErr result (λ fault. fault ≡ Refusal.OutOfMemory) }
     ensures takes { OnOk result (Takes (pays_seller chart.now sale.seat sale.corp sale.count sale.amount) desk.old desk.new) }
 {
     pay_seat(desk, sale.seat, sale.amount)?;
@@ -146,12 +137,12 @@ pub fn pay_seller(desk: &mut Desk, chart: &Chart, sale: Sale) -> Result<(), Faul
 }
 
 // The bank pays the seat.
-fn pay_seat(desk: &mut Desk, seat: Seat, amount: u32) -> Result<(), Fault>
+fn pay_seat(desk: &mut Desk, seat: Seat, amount: u32) -> Result<(), Refusal>
     requires { seat.0 < 6 }
-    ensures fault { IfErr result (λ fault. fault ≡ Fault.OutOfMemory) }
+    ensures fault { IfErr result (λ fault. fault ≡ Refusal.OutOfMemory) }
     ensures takes { OnOk result (Takes (adds (Entry.Pay Party.Bank (Party.Seat seat) (dollars amount))) desk.old desk.new) }
 {
-    let amount = dollars(amount);
+    let amount = dollars(u64::from(amount));
     desk.push(Entry::Pay {
         from: Party::Bank,
         to: Party::Seat(seat),
@@ -161,8 +152,8 @@ fn pay_seat(desk: &mut Desk, seat: Seat, amount: u32) -> Result<(), Fault>
 }
 
 // The token falls a row for each of so many 10% shares.
-fn fall(desk: &mut Desk, chart: &Chart, corp: Corp, count: u8) -> Result<(), Fault>
-    ensures fault { IfErr result (λ fault. fault ≡ Fault.OutOfMemory) }
+fn fall(desk: &mut Desk, chart: &Chart, corp: Corp, count: u8) -> Result<(), Refusal>
+    ensures fault { IfErr result (λ fault. fault ≡ Refusal.OutOfMemory) }
     ensures takes { OnOk result (Takes (sale_marks chart.now count corp) desk.old desk.new) }
 {
     let cell = cell_after_sale(desk.position(), chart, corp, count);
@@ -171,8 +162,8 @@ fn fall(desk: &mut Desk, chart: &Chart, corp: Corp, count: u8) -> Result<(), Fau
 }
 
 /// Marks the token at a cell, if there is one.
-pub(crate) fn mark_if(desk: &mut Desk, corp: Corp, cell: Option<Cell>) -> Result<(), Fault>
-    ensures fault { IfErr result (λ fault. fault ≡ Fault.OutOfMemory) }
+pub(crate) fn mark_if(desk: &mut Desk, corp: Corp, cell: Option<Cell>) -> Result<(), Refusal>
+    ensures fault { IfErr result (λ fault. fault ≡ Refusal.OutOfMemory) }
     ensures takes { OnOk result (Takes (marks corp cell) desk.old desk.new) }
 {
     match cell {
@@ -183,8 +174,12 @@ pub(crate) fn mark_if(desk: &mut Desk, corp: Corp, cell: Option<Cell>) -> Result
 
 /// The M&H leaves the game for the lowest 10% certificate of the NYC that is there.
 #[tactic(auto, unfolding(crate::specs::Effects::gives_up_private))]
-pub(crate) fn give_up_private(desk: &mut Desk, seat: Seat, source: ShareSource) -> Result<(), Fault>
-    ensures fault { IfErr result (λ fault. fault ≡ Fault.OutOfMemory) }
+pub(crate) fn give_up_private(
+    desk: &mut Desk,
+    seat: Seat,
+    source: ShareSource,
+) -> Result<(), Refusal>
+    ensures fault { IfErr result (λ fault. fault ≡ Refusal.OutOfMemory) }
     ensures takes { OnOk result (Takes (gives_up_private seat source) desk.old desk.new) }
 {
     desk.push(Entry::Move {

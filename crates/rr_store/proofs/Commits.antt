@@ -39,7 +39,7 @@ use Rattle.rr_store.specs.Committing.{Commits, NumberBehind, Spares, layout_behi
 use Rattle.rr_store.specs.Fault.{CountsEnd, OnDeviceFault, of_log, of_rules, of_tables}
 use Rattle.rr_store.specs.Files.{AreTablesOf}
 use Rattle.rr_store.specs.Held.{Accepted, Again, Fails, Held, NoRoom, Refused, Takes, Wants, stamp_after, with_tables}
-use Rattle.rr_store.specs.Holding.{Carries, IsUnchanged, disk_of, file_of, held_of, number_of_next, ticks_left}
+use Rattle.rr_store.specs.Holding.{Carries, HasNoRoom, IsUnchanged, disk_of, file_of, held_of, number_of_next, ticks_left}
 use Rattle.rr_store.specs.Keeping.{Keeping, MakesAtMost}
 use Rattle.rr_store.specs.World.{World, for_table, judgement_in, world_after}
 use Rattle.rr_store.proofs.Standing.{carried_keeps, carried_now, keeps_either, record_leads, stands_either, tables_after}
@@ -329,7 +329,7 @@ module _ {D : Type 0} (Honest Works : D → Type 0) (state : D → DiskState) (p
           renews = λ whole one none h texts s. renews_on L.OutOfMemory lawful k whole held_is one none h texts s;
           number = k.number;
           spares = tt;
-          wanting = λ is. inr lawful;
+          wanting = λ is. wants (k.memory refl);
           counts = k.counts;
           works = k.works;
           few_writes = k.few_writes;
@@ -343,6 +343,10 @@ module _ {D : Type 0} (Honest Works : D → Type 0) (state : D → DiskState) (p
           full = λ is. absurd (cc is);
           device = tt;
         }
+      where
+        wants : (file_of new ≡ file_of old) ⊎ HasNoRoom new name c → IsUnchanged old new ⊎ (Lawful × HasNoRoom new name c)
+        wants (inl same) = inl (record { same_file = same; same_held = held_is })
+        wants (inr none) = inr (lawful, none)
 
     module _ (was : is_broken (file_of old) ≡ false) (kit_is : new.tables.kit ≡ old.tables.kit) where
       pub commits : (n : ℕ) → IsVerdict (ruled.judgement_in kit_now tables_now stamp name c) None

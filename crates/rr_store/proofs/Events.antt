@@ -38,6 +38,7 @@ use Rattle.rr_store.specs.Holding.{Carries, disk_of, file_of, held_of}
 use Rattle.rr_store.specs.Opening.{IsNoVerdict, SyncsAtMost}
 use Rattle.rr_store.specs.Ticking.{Steps}
 use Rattle.rr_store.specs.World.{TableRequest, World, for_table, world_after}
+use Rattle.rr_store.proofs.Openings.{syncs_at_most}
 use Rattle.rr_store.proofs.Standing.{carried_now, lawful_now}
 use Rattle.rr_store.proofs.Steps.{ends_so, first_of}
 use Rattle.rr_store.proofs.Worlds.{kept_stand, one_world}
@@ -241,7 +242,7 @@ module _ {D : Type 0} (Honest Works : D → Type 0) (state : D → DiskState) (p
         let none = o.only h texts kit tables right of_kit keeps in
         let told = o.left h in
         let told_are = same_moments told.moments moments (past disk) (past refused.disk) (state disk) (state refused.disk) told.passed passes in
-        let each = synced moments (o.honest_left h) (subst (λ (m : List DiskState). SyncsAtMost (state disk) m) told_are told.allowed.0) in
+        let each = synced moments (o.honest_left h) (subst (λ (m : List DiskState). SyncsAtMost (state disk) m) told_are (syncs_at_most refused.fault (state disk) told.moments told.allowed.0)) in
         record {
           ends = subst (λ (e : _). MayOpen of_tables (state disk) moments (state refused.disk) e) (sym (unread refused.fault none))
               (each, ends_so moments (past disk) (past refused.disk) (state disk) (state refused.disk) (IsImage (state disk)) passes (λ image is. is) each);

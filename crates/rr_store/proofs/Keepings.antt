@@ -170,6 +170,7 @@ module _ {D : Type 0} (Honest Works : D → Type 0) (state : D → DiskState) (p
         broken = whole;
         full = λ is. absurd (cc is);
         room = λ is. absurd (cc is);
+        memory = λ is. inl refl;
         counts = refl;
         works = λ w. w;
         device = tt;
@@ -196,6 +197,7 @@ module _ {D : Type 0} (Honest Works : D → Type 0) (state : D → DiskState) (p
         broken = broken;
         full = λ is. absurd (cc is);
         room = λ is. absurd (cc is);
+        memory = λ is. absurd (cc is);
         counts = refl;
         works = λ w. w;
         device = tt;
@@ -234,6 +236,7 @@ module _ {D : Type 0} (Honest Works : D → Type 0) (state : D → DiskState) (p
         broken = t.broken;
         full = λ is. inr (t.full_file is);
         room = room;
+        memory = λ is. inr (subst (λ (r : Kept). IfErr r (MayRefuse (place_of new) (length bytes))) is t.refused);
         counts = t.fault;
         works = t.works;
         device = device_more result (λ device h before behind takes lent carries. device h before carries) t.device;
@@ -297,6 +300,7 @@ module _ {D : Type 0} (Honest Works : D → Type 0) (state : D → DiskState) (p
           broken = m.broken;
           full = λ is. absurd ((told fault new some m).1 (let same : fault ≡ F.FileFull = cc is in same));
           room = m.room;
+          memory = λ is. let same : fault ≡ F.OutOfMemory = cc is in let none = m.first (inr same) in absurd (omega (arith, some, none));
           counts = subst (λ (n : ℕ). CountsFault {T = Unit {0}} n (faults (disk_of new)) (Err fault)) t.fault m.fault;
           works = λ w. t.works (m.works w);
           device = device_more {T = Unit {0}} (Err fault) (λ device h before behind takes lent carries. device h before lent (carried (m.honest h) before behind takes lent carries)) m.device;
@@ -366,6 +370,7 @@ module _ {D : Type 0} (Honest Works : D → Type 0) (state : D → DiskState) (p
             broken = again.broken;
             full = λ is. absurd (cc is);
             room = λ is. absurd (cc is);
+            memory = λ is. absurd (cc is);
             counts = again.fault ∙ same_count;
             works = λ w. t.works (m.works (again.works w));
             device = tt;
@@ -391,6 +396,13 @@ module _ {D : Type 0} (Honest Works : D → Type 0) (state : D → DiskState) (p
       refused_by F.OpenAgain again = (λ is. let both : true ≡ false = sym (again.again.0 refl) ∙ m.broken in cc both, λ is. cc is, λ is. absurd (cc is), refl, again.number, again.fault)
       refused_by F.OutOfMemory again = (λ is. cc is, λ is. cc is, λ is. absurd (cc is), refl, again.number, again.fault)
 
+      wants_by : (fault : Fault) → Tried made (Err fault) new → told_of fault ≡ F.OutOfMemory → HasNoRoom (place_of new) (length bytes)
+      wants_by F.DeviceFailed again is = absurd (cc is)
+      wants_by F.HalfFull again is = absurd (cc is)
+      wants_by F.FileFull again is = absurd (cc is)
+      wants_by F.OpenAgain again is = absurd (cc is)
+      wants_by F.OutOfMemory again is = again.refused
+
       pub kept_never : (fault : Fault) → Tried made (Err fault) new → Done old (Err (told_of fault)) new
       kept_never fault again =
           let so = refused_by fault again in
@@ -405,6 +417,7 @@ module _ {D : Type 0} (Honest Works : D → Type 0) (state : D → DiskState) (p
             broken = again.broken ∙ so.3;
             full = λ is. so.2 (let same : told_of fault ≡ F.FileFull = cc is in same);
             room = λ is. so.1 (let same : told_of fault ≡ F.HalfFull = cc is in same);
+            memory = λ is. inr (wants_by fault again (let same : told_of fault ≡ F.OutOfMemory = cc is in same));
             counts = subst (λ (n : ℕ). CountsFault {T = Unit {0}} n (faults (disk_of new)) (Err (told_of fault))) same_count so.5;
             works = λ w. t.works (m.works (again.works w));
             device = device_told fault

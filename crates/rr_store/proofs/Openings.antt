@@ -11,7 +11,7 @@ use Rattle.rr_kit.specs.Kits.{KitTexts, SpellsKit}
 use Rattle.rr_log.specs.Opening.Carrying.{CarriesRead}
 use Rattle.rr_log.specs.Opening.Opened.{held_by}
 use Rattle.rr_log.specs.Opening.Place.{GoesBehind}
-use Rattle.rr_log.specs.Opening.Syncing.{WasSynced}
+use Rattle.rr_log.specs.Opening.Syncing.{IsSynced, WasSynced}
 use Rattle.rr_reading.specs.declared.fault.Fault as reading
 use Rattle.rr_reading.specs.declared.fault.Fault.TheVariants as R
 use Rattle.rr_reading.specs.Faults as reading_of
@@ -36,7 +36,7 @@ use Rattle.rr_store.specs.Allowing.{Between, Keeps}
 use Rattle.rr_store.specs.Fault.{of_reading, of_recovery}
 use Rattle.rr_store.specs.Files.{AreTablesOf, StandsFor}
 use Rattle.rr_store.specs.Holding.{Carries, disk_of, held_of}
-use Rattle.rr_store.specs.Opening.{IsFound, IsNoVerdict, OpenAllows, Refuses}
+use Rattle.rr_store.specs.Opening.{IsFound, IsNoVerdict, IsSyncedFirst, OpenAllows, Refuses, SyncsAtMost, SyncsFirst}
 use Rattle.rr_store.specs.World.{World}
 use Rattle.rr_store.proofs.Recovering.{stands_now}
 
@@ -84,12 +84,40 @@ opened_by past_old old past_new new texts tables was stands =
       );
     }
 
-pub left_by : (past_old : List DiskState) (old : DiskState) (past_new : List DiskState) (new : DiskState) (fault : Fault) → SyncsOnce past_old old past_new new → Refuses old.content fault
+failed_by : (past_old : List DiskState) (old : DiskState) (past_new : List DiskState) (new : DiskState) → SyncsOnce past_old old past_new new
+    → Between past_old old past_new new (λ moments. OpenAllows old moments new (Err F.DeviceFailed))
+failed_by past_old old past_new new (Not_synced same_past same_state) =
+    record { moments = []; passed = λ i. same_state i ∷ same_past i; allowed = (inl refl, tt) }
+failed_by past_old old past_new new (Synced passed settled) =
+    record { moments = after_sync old ∷ []; passed = λ i. settled i ∷ passed i; allowed = (inr refl, tt) }
+
+pub left_by : (past_old : List DiskState) (old : DiskState) (past_new : List DiskState) (new : DiskState) (fault : Fault) → IsSyncedFirst fault past_old old past_new new → Refuses old.content fault
     → Between past_old old past_new new (λ moments. OpenAllows old moments new (Err fault))
-left_by past_old old past_new new fault (Not_synced same_past same_state) why =
-    record { moments = []; passed = λ i. same_state i ∷ same_past i; allowed = (inl refl, why) }
-left_by past_old old past_new new fault (Synced passed settled) why =
-    record { moments = after_sync old ∷ []; passed = λ i. settled i ∷ passed i; allowed = (inr refl, why) }
+left_by past_old old past_new new F.DeviceFailed was why = failed_by past_old old past_new new was
+left_by past_old old past_new new _ was why =
+    record { moments = after_sync old ∷ []; passed = λ i. was.settled i ∷ was.passed i; allowed = (refl, why) }
+
+-- one sync at most
+pub syncs_at_most : (fault : Fault) (old : DiskState) (moments : List DiskState) → SyncsFirst fault old moments → SyncsAtMost old moments
+syncs_at_most F.DeviceFailed old moments at_most = at_most
+syncs_at_most _ old moments first = inr first
+
+-- the sync behind which a layer below refuses the file
+module _ (past_old : List DiskState) (old : DiskState) (past_new : List DiskState) (new : DiskState) where
+  pub synced_read : (counted_old counted_new : ℕ) (fault : reading.Fault) → reading_of.CountsFault {T = Unit {0}} counted_old counted_new (Err fault)
+      → IsSynced {T = Unit {0}} (Err fault) past_old old past_new new → IsSyncedFirst (of_reading fault) past_old old past_new new
+  synced_read counted_old counted_new (R.Damaged damage) counts was = was
+  synced_read counted_old counted_new R.NotAStore counts was = was
+  synced_read counted_old counted_new (R.Disk D.DeviceFailed) counts once = once
+  synced_read counted_old counted_new (R.Disk D.OutOfMemory) counts once = let never : D.OutOfMemory ≡ D.DeviceFailed = counts.0 in absurd (cc never)
+  synced_read counted_old counted_new R.OutOfMemory counts was = was
+
+  pub synced_recovered : (fault : recovery.Fault) → WasSynced past_old old past_new new → IsSyncedFirst (of_recovery fault) past_old old past_new new
+  synced_recovered (C.Damaged damage) was = was
+  synced_recovered C.OutOfMemory was = was
+
+  pub synced_wanting : (fault : Fault) → fault ≡ F.OutOfMemory → WasSynced past_old old past_new new → IsSyncedFirst fault past_old old past_new new
+  synced_wanting fault wanted was = subst (λ (f : Fault). IsSyncedFirst f past_old old past_new new) (sym wanted) was
 
 module _ {D : Type 0} (Honest : D → Type 0) (state : D → DiskState) (past : D → List DiskState) (old then : D) (store : Store D) (found : Found)
     (disk_is : disk_of store ≡ then) (kit_is : (held_of store).kit ≡ found.recovered.tables.kit) (tables_are : (held_of store).tables ≡ world_of found.recovered.tables)

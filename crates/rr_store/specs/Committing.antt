@@ -47,7 +47,8 @@ Spares old (Err fault) new = IsUnchanged old new
 -- What a commit does, by its result: what the store holds then; and, on an honest disk that carries what was held, what the
 -- disk passed through, that each file which a stop leaves keeps what was held or, of a lawful request, that with it, and that
 -- the disk carries what is held now. Of every disk: the number of the next record; that a refusal by the rules changes nothing,
--- nor does want of memory where the request isn't lawful; and that a device fault is told exactly where the disk counts one.
+-- nor does want of memory, unless the request is lawful and behind the call the half in use has no room for its record, so that
+-- none is refused for want of a checkpoint's memory that has room; and that a device fault is told exactly where the disk counts one.
 -- The file is told to be full only where no checkpoint makes room for the request's record: it takes more than two slots, or
 -- behind the call its number would be past the last, or the half in use has no room for it and a checkpoint finds too few free
 -- pages or no number for its root. Where the half had room for the record, and there was a number for it, three writes and three
@@ -75,7 +76,7 @@ pub record Commits {D : Type 0} (Honest Works : D → Type 0) (state : D → Dis
   pub number : NumberBehind result (number_of_next old) (number_of_next new)
   pub spares : Spares old result new
   pub wanting : result ≡ Err F.OutOfMemory → IsUnchanged old new
-      ⊎ IsVerdict (judgement_in (held_of old).kit (held_of old).tables stamp name request) None
+      ⊎ (IsVerdict (judgement_in (held_of old).kit (held_of old).tables stamp name request) None × HasNoRoom new name request)
   pub counts : CountsEnd (faults (disk_of old)) (faults (disk_of new)) result
   pub works : Works (disk_of new) → Works (disk_of old)
   pub few_writes : (IsFull old name request → ⊥) → writes (disk_of new) ≤ writes (disk_of old) + 3

@@ -3,7 +3,7 @@ use Rattle.std.specs.Prelude.{◌≡◌, ℕ, Result, Ok, Err}
 use Rattle.rr_disk.specs.declared.fault.Fault as disk
 use Rattle.rr_disk.specs.declared.fault.Fault.TheVariants as D
 use Rattle.rr_disk.specs.Disk.{counted}
-use Rattle.rr_game.specs.Fault as numbers
+use Rattle.rr_books.specs.Refusal as numbers
 use Rattle.rr_kit.specs.declared.fault.Fault as kit
 use Rattle.rr_kit.specs.declared.fault.Fault.TheVariants as K
 use Rattle.rr_kit.specs.Fault as kits

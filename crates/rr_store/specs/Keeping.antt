@@ -52,9 +52,10 @@ pub record MakesAtMost {D R : Type 0} (calls : D → ℕ) (tables : List Table) 
 -- every disk: the next record's number is one more behind a record that was kept; the log is broken exactly where the device
 -- failed; a broken one refuses and stays as it is. That a half is full is never told; and that the file is, only where the
 -- record takes more than two slots, or where behind the call its number would be past the last, or the half in use has no room
--- for it and a checkpoint finds too few free pages or no number for its root. Where there was room and a number, three writes and
--- three syncs are made at most, two of each where no checkpoint was under way or to begin, and a checkpoint comes on with a
--- record that was kept. Where there was no room, one that was under way may be ended, and a record that was kept stands behind
+-- for it and a checkpoint finds too few free pages or no number for its root. Memory is wanted only before anything is changed, or
+-- where behind the call the half in use has no room. Where there was room and a number, three writes and three syncs are made at
+-- most, two of each where no checkpoint was under way or to begin, and a checkpoint comes on with a record that was kept. Where
+-- there was no room, one that was under way may be ended, and a record that was kept stands behind
 -- the first step of another, which has four left at least. Whatever is to be done, it makes at most the calls of `MakesAtMost`.
 -- Where the last step of a checkpoint was made, and no other is begun, each file that a stop may leave takes a newer root, whose
 -- chains spell the world as the checkpoint began; only the records since then stand behind it. And an honest disk that works, and
@@ -76,6 +77,7 @@ pub record Keeping {D : Type 0} (Honest Works : D → Type 0) (state : D → Dis
   pub broken : is_broken new ≡ ends_broken result
   pub full : IsErrOf result F.FileFull → IsTooLong (length bytes) ⊎ MeetsFullFile new tables (length bytes)
   pub room : IsErrOf result F.HalfFull → ⊥
+  pub memory : IsErrOf result F.OutOfMemory → (new ≡ old) ⊎ HasNoRoom (place_of new) (length bytes)
   pub counts : CountsFault (faults (disk_of old)) (faults (disk_of new)) result
   pub works : Works (disk_of new) → Works (disk_of old)
   pub device : OnDeviceFault result (Honest (disk_of new) → (before behind : words.World) → Takes bytes before behind → before.tables ≡ tables

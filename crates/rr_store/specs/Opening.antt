@@ -1,8 +1,10 @@
 -- What an opening may do to a disk, and when it refuses its file.
 use Rattle.std.specs.Prelude.{◌≡◌, ◌⊎◌, ℕ, List, [], ◌∷◌, Result, Ok, Err}
 use Rattle.rr_disk.specs.Disk.{DiskState, after_sync}
+use Rattle.rr_disk.specs.Moments.{SyncsOnce}
 use Rattle.rr_kit.specs.Kits.{KitTexts}
 use Rattle.rr_log.specs.Opening.Opened.{held_by}
+use Rattle.rr_log.specs.Opening.Syncing.{WasSynced}
 use Rattle.rr_pages.specs.Choosing.{IsNoStore}
 use Rattle.rr_pages.specs.declared.fault.Damage.{Damage}
 use Rattle.rr_pages.specs.Faults.{clause_of}
@@ -49,12 +51,22 @@ IsNoVerdict fault = (fault ≡ F.DeviceFailed) ⊎ (fault ≡ F.OutOfMemory)
 abbrev pub SyncsAtMost : DiskState → List DiskState → Type 0
 SyncsAtMost old moments = (moments ≡ []) ⊎ (moments ≡ after_sync old ∷ [])
 
--- What an opening may do, and what it may answer: the texts and the world for which the file stands, behind a sync; or why
--- it stands for none, or that the device failed or memory was wanted.
+-- the sync of an opening that is refused: it was made, unless the device failed; then it may be the sync that did
+abbrev pub SyncsFirst : Fault → DiskState → List DiskState → Type 0
+SyncsFirst F.DeviceFailed old moments = SyncsAtMost old moments
+SyncsFirst _ old moments = moments ≡ after_sync old ∷ []
+
+-- What an opening may do, and what it may answer, behind a sync: the texts and the world for which the file stands; or why it
+-- stands for none, or that memory was wanted. Or the device failed, at the sync or behind it.
 abbrev pub OpenAllows : DiskState → List DiskState → DiskState → Result (KitTexts × World) Fault → Type 0
 OpenAllows old moments new (Ok found) =
     StandsFor old.content found.0 found.1 × (moments ≡ after_sync old ∷ []) × Keeps new found.0 found.1
-OpenAllows old moments new (Err fault) = SyncsAtMost old moments × Refuses old.content fault
+OpenAllows old moments new (Err fault) = SyncsFirst fault old moments × Refuses old.content fault
+
+-- what the disk went through then
+abbrev pub IsSyncedFirst : Fault → List DiskState → DiskState → List DiskState → DiskState → Type 0
+IsSyncedFirst F.DeviceFailed past_old old past_new new = SyncsOnce past_old old past_new new
+IsSyncedFirst _ past_old old past_new new = WasSynced past_old old past_new new
 
 -- what was found is what the file holds, and what is recovered of that
 pub record IsFound (file : List ℕ) (found : Found) : Type 0 where

@@ -3,6 +3,7 @@ ghost use Rattle.rr_store.specs.Fault.{number_of, of_kit, of_log, of_pages, of_r
 ghost use Rattle.rr_store.specs.declared.fault.Fault.TheVariants.{OutOfMemory};
 
 use crate::recovery;
+use rr_books::Refusal;
 use rr_tables::records;
 use std::alloc::{AllocError, AllocFailed};
 use thiserror::Error;
@@ -15,7 +16,7 @@ pub enum Fault {
     Kit(rr_kit::Fault),
     /// The rules of the game refuse it. Want of memory isn't told by this, but by `OutOfMemory`.
     #[error("{0}")]
-    Game(rr_game::Fault),
+    Game(Refusal),
     /// The stamp isn't the table's, which is given.
     #[error("stale stamp {0}")]
     StaleStamp(u64),

@@ -1,8 +1,7 @@
 //! Opening a file: after one sync its bytes are read, and its tables are recovered by the rules of the game.
-ghost use Rattle.std.specs.Prelude.{◌≡◌, ◌+◌, ◌≤◌, ℕ, List, false, IfOk, IfErr, Ok, Err};
+ghost use Rattle.std.specs.Prelude.{◌≡◌, ℕ, List, false, IfOk, IfErr, Ok, Err};
 ghost use Rattle.rr_checkpoint.specs.Writer as writer;
 ghost use Rattle.rr_disk.specs.Disk.{DiskState, counted};
-ghost use Rattle.rr_disk.specs.Moments.{SyncsOnce};
 ghost use Rattle.rr_images.specs.Layout.{Keeps as KeepsFile};
 ghost use Rattle.rr_kit.specs.declared.kit.Kit.{Kit as AnyKit};
 ghost use Rattle.rr_kit.specs.Kits.{KitTexts, SpellsKit};
@@ -21,7 +20,7 @@ ghost use Rattle.rr_store.specs.Allowing.{Between};
 ghost use Rattle.rr_store.specs.Fault.{CountsEnd, CountsFailure, OnDevice, OnDeviceFault};
 ghost use Rattle.rr_store.specs.Files.{AreTablesOf};
 ghost use Rattle.rr_store.specs.Holding.{Carries, disk_of, held_of};
-ghost use Rattle.rr_store.specs.Opening.{IsFound, IsNoVerdict, OpenAllows, Refuses};
+ghost use Rattle.rr_store.specs.Opening.{IsFound, IsNoVerdict, IsSyncedFirst, OpenAllows, Refuses};
 
 use crate::fault::Fault;
 use crate::found::Found;
@@ -54,7 +53,7 @@ pub struct Refused<D: Drop> {
 /// `OutOfMemory` alone, and only where a root is taken.
 pub fn open<D: Disk + Drop>(alloc: Global, disk: D) -> Result<Store<D>, Refused<D>>
     // The store holds the world for which the file stands; else the file breaks a clause, or the device failed or memory was
-    // wanted.
+    // wanted. Whatever is answered, the sync was made, unless the device failed.
     ensures opened { IfOk result (λ store. D.Honest (disk_of store) → (texts : KitTexts)
         × Between (D.past disk) (D.state disk) (D.past (disk_of store)) (D.state (disk_of store))
         (λ moments. OpenAllows (D.state disk) moments (D.state (disk_of store)) (Ok (texts, (held_of store).tables)))
@@ -84,7 +83,7 @@ pub fn open<D: Disk + Drop>(alloc: Global, disk: D) -> Result<Store<D>, Refused<
     ensures writes { IfOk result (λ store. D.write_count (disk_of store) ≡ D.write_count disk) }
     ensures writes_left { IfErr result (λ refused. D.write_count refused.disk ≡ D.write_count disk) }
     ensures syncs { IfOk result (λ store. D.sync_count (disk_of store) ≡ counted (D.sync_count disk)) }
-    ensures syncs_left { IfErr result (λ refused. D.sync_count refused.disk ≤ D.sync_count disk + 1) }
+    ensures syncs_left { IfErr result (λ refused. D.sync_count refused.disk ≡ counted (D.sync_count disk)) }
     ensures no_fault { IfOk result (λ store. D.fault_count (disk_of store) ≡ D.fault_count disk) }
     ensures device { IfErr result (λ refused. OnDevice refused.fault (D.Works refused.disk → ⊥)) }
     ensures fault { IfErr result (λ refused.
@@ -110,7 +109,7 @@ fn find<D: Disk>(alloc: Global, disk: &mut D) -> Result<Found, Fault>
     ensures synced { IfOk result (λ found. D.Honest disk.new
         → WasSynced (D.past disk.old) (D.state disk.old) (D.past disk.new) (D.state disk.new)) }
     ensures left { IfErr result (λ fault. D.Honest disk.new
-        → SyncsOnce (D.past disk.old) (D.state disk.old) (D.past disk.new) (D.state disk.new)) }
+        → IsSyncedFirst fault (D.past disk.old) (D.state disk.old) (D.past disk.new) (D.state disk.new)) }
     ensures refused { IfErr result (λ fault. D.Honest disk.new → Refuses (D.state disk.old).content fault) }
     ensures only { IfErr result (λ fault. D.Honest disk.new → (texts : KitTexts) (kit : AnyKit) (tables : World)
         → SpellsKit texts kit → AreTablesOf kit tables
@@ -118,8 +117,7 @@ fn find<D: Disk>(alloc: Global, disk: &mut D) -> Result<Found, Fault>
     ensures device { OnDeviceFault result (D.Works disk.new → ⊥) }
     ensures fault { CountsEnd (D.fault_count disk.old) (D.fault_count disk.new) result }
     ensures writes { D.write_count disk.new ≡ D.write_count disk.old }
-    ensures syncs { IfOk result (λ found. D.sync_count disk.new ≡ counted (D.sync_count disk.old)) }
-    ensures few_syncs { D.sync_count disk.new ≤ D.sync_count disk.old + 1 }
+    ensures syncs { D.sync_count disk.new ≡ counted (D.sync_count disk.old) }
     ensures honest { D.Honest disk.new → D.Honest disk.old }
     ensures works { D.Works disk.new → D.Works disk.old }
 {

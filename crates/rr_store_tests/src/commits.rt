@@ -19,7 +19,7 @@ const ROWS: [Row; 9] = [
     (
         2,
         b"t1 pass c",
-        Err(Fault::Game(rr_game::Fault::NoSuchName)),
+        Err(Fault::Game(rr_books::Refusal::NoSuchName)),
     ),
     (2, b"t1 back 2", Err(Fault::TurnNotKept)),
     (0, b"t2 open c d e", Ok(1)),

@@ -6,7 +6,7 @@ use std::test::Fail;
 
 const TEXTS: [(Fault, u8, &str); 14] = [
     (Fault::Kit(rr_kit::Fault::BadRoster), 4, "bad roster"),
-    (Fault::Game(rr_game::Fault::GameOver), 51, "game is over"),
+    (Fault::Game(rr_books::Refusal::GameOver), 51, "game is over"),
     (Fault::StaleStamp(7), 52, "stale stamp 7"),
     (Fault::TurnNotKept, 53, "turn not kept"),
     (Fault::TooManyCommands, 54, "too many commands"),

@@ -2,9 +2,9 @@
 //! words for a checkpoint. Which records are lawful, and what a file then keeps whatever comes, says `records`. The crate
 //! knows no file: what keeps records is a `Journal`.
 //!
-//! Stands on `rr_hist` and `rr_log`. Its promises: the clauses of `Tables::take`, and `records::laws::prefix`. A request
-//! is judged by `judgement_in`, what keeps its record is asked once and with the tables from before, and the tables are
-//! then those of `world_after`.
+//! Stands on `rr_game` and `rr_log`. Its promises: the clauses of `Tables::take`, and `records::laws::prefix`. A
+//! request is judged by `judgement_in`, what keeps its record is asked once and with the tables from before, and the
+//! tables are then those of `world_after`.
 #![tactic(auto)]
 
 mod fault;

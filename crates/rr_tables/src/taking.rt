@@ -19,9 +19,8 @@ ghost use Rattle.rr_turns.specs.Judgement.{IsVerdict, MayFind, settled};
 ghost use Rattle.rr_turns.specs.Kept.{kept_after};
 ghost use Rattle.rr_turns.specs.declared.request.Request.{Request as AnyRequest};
 
-use crate::records::Fault as Refusal;
 use crate::tables::MOST_TABLES;
-use crate::{Fault, Journal, Tables};
+use crate::{Fault, Journal, Tables, records};
 use rr_code::{Command, Players};
 use rr_game::history::{Change, Request, Table};
 use rr_kit::Kit;
@@ -91,7 +90,7 @@ impl Tables {
         Ok(1)
     }
 
-    fn judge_opening(&self, stamp: u64, name: &Name) -> Result<(), Refusal>
+    fn judge_opening(&self, stamp: u64, name: &Name) -> Result<(), records::Fault>
         ensures verdict { MatchResult result
             (λ _. opening_verdict (option_map kept_in_box (get bytes_eq self.now.map name.now)) (index_map_len self.now.map) stamp ≡ None)
             (λ fault. opening_verdict (option_map kept_in_box (get bytes_eq self.now.map name.now)) (index_map_len self.now.map) stamp ≡ Some fault) }
@@ -99,13 +98,13 @@ impl Tables {
         ensures few { OnOk result (index_map_len self.now.map < 64) }
     {
         if let Some(table) = self.map.get(name) {
-            return Err(Refusal::StaleStamp(table.stamp()));
+            return Err(records::Fault::StaleStamp(table.stamp()));
         }
         if stamp != 0 {
-            return Err(Refusal::StaleStamp(0));
+            return Err(records::Fault::StaleStamp(0));
         }
         if self.map.len() >= MOST_TABLES {
-            return Err(Refusal::TooManyTables);
+            return Err(records::Fault::TooManyTables);
         }
         Ok(())
     }
@@ -141,7 +140,7 @@ impl Tables {
         stamp: u64,
         name: &Name,
         request: &Request<Command>,
-    ) -> Result<Change, Refusal>
+    ) -> Result<Change, records::Fault>
         requires { IsRequest request.now }
         ensures verdict { MatchResult result
             (λ _. IsVerdict (step_judgement self.now.kit (option_map kept_in_box (get bytes_eq self.now.map name.now)) stamp request.now) None)
@@ -150,7 +149,7 @@ impl Tables {
     {
         match self.map.get(name) {
             Some(table) => judge_at(alloc, stamp, request, table, &self.kit),
-            None => Err(Refusal::NoSuchTable),
+            None => Err(records::Fault::NoSuchTable),
         }
     }
 
@@ -185,7 +184,7 @@ fn opening_of<'a>(request: &'a Request<Command>) -> Option<&'a Players>
 }
 
 // The table that these players open, in a box: a map moves its values about.
-fn open_table(alloc: Global, players: &Players, kit: &Kit) -> Result<Box<Table>, Refusal>
+fn open_table(alloc: Global, players: &Players, kit: &Kit) -> Result<Box<Table>, records::Fault>
     requires { IsRequest (Request.Play (Command.Open players.now)) }
     ensures kept { IfOk result (λ table. kept_in_box table ≡ state_after kit.now None (Request.Play (Command.Open players.now))) }
     ensures played { IfOk result (λ table. IsPlayed kit.now table.value) }
@@ -195,7 +194,7 @@ fn open_table(alloc: Global, players: &Players, kit: &Kit) -> Result<Box<Table>,
     let table = Table::open(alloc, players, kit)?;
     match Box::new(alloc, table) {
         Ok(table) => Ok(table),
-        Err(_) => Err(Refusal::OutOfMemory),
+        Err(_) => Err(records::Fault::OutOfMemory),
     }
 }
 
@@ -207,7 +206,7 @@ fn judge_at(
     request: &Request<Command>,
     table: &Table,
     kit: &Kit,
-) -> Result<Change, Refusal>
+) -> Result<Change, records::Fault>
     requires request { IsRequest request.now }
     requires played { IsPlayed kit.now table.now }
     requires writable { IsWritable (kept_in table.now) }
@@ -219,7 +218,7 @@ fn judge_at(
     rr_game::history::laws::accepted_turns_are_kept();
     let change = table.judge(alloc, stamp, request, kit)?;
     if adds_long_command(&change) {
-        return Err(Refusal::OutOfMemory);
+        return Err(records::Fault::OutOfMemory);
     }
     Ok(change)
 }

@@ -1,4 +1,3 @@
-pub mod Fault
 pub mod Situation
 pub mod SituationLaws
 pub mod Rules

@@ -6,8 +6,8 @@ use Rattle.rr_roster.specs.declared.company.Kind.{Kind}
 use Rattle.rr_roster.specs.declared.company.Kind.TheVariants as K
 use Rattle.rr_roster.specs.Company.{kind_index}
 use Rattle.rr_roster.specs.Terms.{Terms, price_of}
-use Rattle.rr_books.specs.declared.acts.TrainSource.{TrainSource}
-use Rattle.rr_books.specs.declared.acts.TrainSource.TheVariants as S
+use Rattle.rr_roster.specs.declared.sources.TrainSource.{TrainSource}
+use Rattle.rr_roster.specs.declared.sources.TrainSource.TheVariants as S
 use Rattle.rr_market.specs.Operations.Phases.{TrainHolders}
 use Rattle.rr_trains.specs.declared.prices.TrainOnSale.{TrainOnSale}
 use Rattle.rr_trains.specs.Sales.{IsCheapest, better, cheapest, comes_before, every_offer, first_of_two, is_on_sale, source_rank}

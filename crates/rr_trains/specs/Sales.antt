@@ -5,8 +5,8 @@ use Rattle.rr_roster.specs.declared.company.Kind.{Kind}
 use Rattle.rr_roster.specs.declared.company.Kind.TheVariants as K
 use Rattle.rr_roster.specs.Company.{kind_index, kinds}
 use Rattle.rr_roster.specs.Terms.{Terms, price_of}
-use Rattle.rr_books.specs.declared.acts.TrainSource.{TrainSource}
-use Rattle.rr_books.specs.declared.acts.TrainSource.TheVariants as S
+use Rattle.rr_roster.specs.declared.sources.TrainSource.{TrainSource}
+use Rattle.rr_roster.specs.declared.sources.TrainSource.TheVariants as S
 use Rattle.rr_books.specs.declared.parties.Place.{Place}
 use Rattle.rr_books.specs.declared.parties.Place.TheVariants as L
 use Rattle.rr_market.specs.Operations.Phases.{TrainHolders, is_sold}

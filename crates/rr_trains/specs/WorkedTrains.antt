@@ -6,7 +6,7 @@ use Rattle.rr_roster.specs.declared.company.Corp.TheVariants as C
 use Rattle.rr_roster.specs.declared.company.Kind.{Kind}
 use Rattle.rr_roster.specs.declared.company.Kind.TheVariants as K
 use Rattle.rr_roster.specs.Terms.{Terms}
-use Rattle.rr_books.specs.declared.acts.TrainSource.TheVariants as S
+use Rattle.rr_roster.specs.declared.sources.TrainSource.TheVariants as S
 use Rattle.rr_books.specs.declared.parties.Place.{Place}
 use Rattle.rr_books.specs.declared.parties.Place.TheVariants as L
 use Rattle.rr_books.specs.declared.certificates.Cert.TheVariants as Cert

@@ -3,7 +3,7 @@ ghost use Rattle.rr_desk.specs.Desk.{AddsSome, Takes};
 ghost use Rattle.rr_trains.specs.Effects.{all_close, all_rust, closes, closes_own_private, first_if, first_of_kind, first_train, is_in_game, moves_lowest_train, rusts};
 
 use crate::places::{NUMBERS, lowest_train};
-use rr_books::{Cert, Corp, Entry, Fault, Kind, Place, Private, Train};
+use rr_books::{Cert, Corp, Entry, Kind, Place, Private, Refusal, Train};
 use rr_desk::Desk;
 
 /// Moves the train of the kind with the lowest number at one place to another, if there is one.
@@ -11,8 +11,8 @@ use rr_desk::Desk;
 /// # Errors
 ///
 /// `OutOfMemory`, where there is one; the desk is as before then.
-pub fn give_lowest_train(desk: &mut Desk, kind: Kind, from: Place, to: Place) -> Result<(), Fault>
-    ensures fault { IfErr result (λ fault. fault ≡ Fault.OutOfMemory) }
+pub fn give_lowest_train(desk: &mut Desk, kind: Kind, from: Place, to: Place) -> Result<(), Refusal>
+    ensures fault { IfErr result (λ fault. fault ≡ Refusal.OutOfMemory) }
     ensures takes { OnOk result (Takes (moves_lowest_train kind from to) desk.old desk.new) }
     ensures err { OnErr result (desk.new ≡ desk.old) }
     ensures needed { OnErr result (AddsSome (moves_lowest_train kind from to) desk.old) }
@@ -33,8 +33,8 @@ pub fn give_lowest_train(desk: &mut Desk, kind: Kind, from: Place, to: Place) ->
 ///
 /// `OutOfMemory`; some trains and privates may have left the game then.
 #[tactic(auto, unfolding(crate::specs::Effects::first_train))]
-pub fn first_train(desk: &mut Desk, is_first: bool, kind: Kind, corp: Corp) -> Result<(), Fault>
-    ensures fault { IfErr result (λ fault. fault ≡ Fault.OutOfMemory) }
+pub fn first_train(desk: &mut Desk, is_first: bool, kind: Kind, corp: Corp) -> Result<(), Refusal>
+    ensures fault { IfErr result (λ fault. fault ≡ Refusal.OutOfMemory) }
     ensures takes { OnOk result (Takes (first_train is_first kind corp) desk.old desk.new) }
 {
     first_if(desk, is_first, kind)?;
@@ -42,8 +42,8 @@ pub fn first_train(desk: &mut Desk, is_first: bool, kind: Kind, corp: Corp) -> R
     Ok(())
 }
 
-fn first_if(desk: &mut Desk, is_first: bool, kind: Kind) -> Result<(), Fault>
-    ensures fault { IfErr result (λ fault. fault ≡ Fault.OutOfMemory) }
+fn first_if(desk: &mut Desk, is_first: bool, kind: Kind) -> Result<(), Refusal>
+    ensures fault { IfErr result (λ fault. fault ≡ Refusal.OutOfMemory) }
     ensures takes { OnOk result (Takes (first_if is_first kind) desk.old desk.new) }
 {
     if !is_first {
@@ -53,8 +53,8 @@ fn first_if(desk: &mut Desk, is_first: bool, kind: Kind) -> Result<(), Fault>
     Ok(())
 }
 
-fn first_of_kind(desk: &mut Desk, kind: Kind) -> Result<(), Fault>
-    ensures fault { IfErr result (λ fault. fault ≡ Fault.OutOfMemory) }
+fn first_of_kind(desk: &mut Desk, kind: Kind) -> Result<(), Refusal>
+    ensures fault { IfErr result (λ fault. fault ≡ Refusal.OutOfMemory) }
     ensures takes { OnOk result (Takes (first_of_kind kind) desk.old desk.new) }
 {
     match kind {
@@ -68,8 +68,8 @@ fn first_of_kind(desk: &mut Desk, kind: Kind) -> Result<(), Fault>
 
 // All trains of the kind leave the game.
 #[tactic(auto, unfolding(crate::specs::Effects::all_rust))]
-fn rust_all(desk: &mut Desk, kind: Kind) -> Result<(), Fault>
-    ensures fault { IfErr result (λ fault. fault ≡ Fault.OutOfMemory) }
+fn rust_all(desk: &mut Desk, kind: Kind) -> Result<(), Refusal>
+    ensures fault { IfErr result (λ fault. fault ≡ Refusal.OutOfMemory) }
     ensures takes { OnOk result (Takes (all_rust kind) desk.old desk.new) }
 {
     for number in NUMBERS {
@@ -80,8 +80,8 @@ fn rust_all(desk: &mut Desk, kind: Kind) -> Result<(), Fault>
 
 // The train leaves the game, unless it has.
 #[tactic(auto, unfolding(crate::specs::Effects::rusts))]
-fn rust(desk: &mut Desk, kind: Kind, number: u8) -> Result<(), Fault>
-    ensures fault { IfErr result (λ fault. fault ≡ Fault.OutOfMemory) }
+fn rust(desk: &mut Desk, kind: Kind, number: u8) -> Result<(), Refusal>
+    ensures fault { IfErr result (λ fault. fault ≡ Refusal.OutOfMemory) }
     ensures takes { OnOk result (Takes (rusts kind number) desk.old desk.new) }
 {
     let train = Train { kind, number };
@@ -97,8 +97,8 @@ fn rust(desk: &mut Desk, kind: Kind, number: u8) -> Result<(), Fault>
 
 // All privates close.
 #[tactic(auto, unfolding(crate::specs::Effects::all_close))]
-fn close_all(desk: &mut Desk) -> Result<(), Fault>
-    ensures fault { IfErr result (λ fault. fault ≡ Fault.OutOfMemory) }
+fn close_all(desk: &mut Desk) -> Result<(), Refusal>
+    ensures fault { IfErr result (λ fault. fault ≡ Refusal.OutOfMemory) }
     ensures takes { OnOk result (Takes all_close desk.old desk.new) }
 {
     for private in Private::ALL {
@@ -107,8 +107,8 @@ fn close_all(desk: &mut Desk) -> Result<(), Fault>
     Ok(())
 }
 
-fn close_own_private(desk: &mut Desk, corp: Corp) -> Result<(), Fault>
-    ensures fault { IfErr result (λ fault. fault ≡ Fault.OutOfMemory) }
+fn close_own_private(desk: &mut Desk, corp: Corp) -> Result<(), Refusal>
+    ensures fault { IfErr result (λ fault. fault ≡ Refusal.OutOfMemory) }
     ensures takes { OnOk result (Takes (closes_own_private corp) desk.old desk.new) }
 {
     match corp {
@@ -119,8 +119,8 @@ fn close_own_private(desk: &mut Desk, corp: Corp) -> Result<(), Fault>
 
 // The private closes, unless it has.
 #[tactic(auto, unfolding(crate::specs::Effects::closes))]
-fn close(desk: &mut Desk, private: Private) -> Result<(), Fault>
-    ensures fault { IfErr result (λ fault. fault ≡ Fault.OutOfMemory) }
+fn close(desk: &mut Desk, private: Private) -> Result<(), Refusal>
+    ensures fault { IfErr result (λ fault. fault ≡ Refusal.OutOfMemory) }
     ensures takes { OnOk result (Takes (closes private) desk.old desk.new) }
 {
     if desk.books().holder(Cert::Private(private)) == Place::Gone {

@@ -1,8 +1,8 @@
-//! Which trains are where, what is on sale, what the phase of the game allows, and what the first train of a kind brings
-//! about.
+//! Which trains are where, what is on sale, what the phase of the game allows, and what the first train of a kind
+//! brings about; and what a corporation buys and gives up (`depot`).
 //!
-//! Stands on `rr_desk` and `rr_operations`. Its promise: `train_limit`, `is_on_sale` and `first_train`, each exactly
-//! its definition.
+//! Stands on `rr_desk` and `rr_market`. Its promise: `train_limit`, `is_on_sale` and `first_train`, each exactly its
+//! definition.
 #![tactic(auto)]
 
 pub mod depot;

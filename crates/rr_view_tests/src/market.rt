@@ -1,9 +1,9 @@
 //! Rows on the shipped chart, and on one where two cells of one column have the same price.
 use crate::opening::check;
-use rr_books::{Cell, Corp, Entry, Marker};
+use rr_books::{Cell, Corp, Entry, Marker, Refusal};
 use rr_chart::{Chart, Zone};
 use rr_market::laws::{arrivals_differ, operating_order_is_in_order, sales_fall};
-use rr_market::{Fault, Market, par_cell};
+use rr_market::{Market, par_cell};
 use std::process::Abort;
 
 const SHIPPED: &str = "60y 67 71 76 82 90 100p 112 126 142 160 180 200 225 250 275 300 325 350
@@ -47,7 +47,7 @@ enum Move {
 }
 
 /// Puts the token on the par cell of a price.
-fn put(market: &mut Market, chart: &Chart, corp: Corp, par: u16) -> Result<Cell, Fault> {
+fn put(market: &mut Market, chart: &Chart, corp: Corp, par: u16) -> Result<Cell, Refusal> {
     market.set(chart, corp, par)
 }
 
@@ -103,7 +103,7 @@ fn a_par_puts_the_token_on_the_chart(rt: HostRuntime) {
         &rt,
         "no par",
         put(&mut market, &chart, NYC, 80),
-        Err(Fault::NotAPar),
+        Err(Refusal::NotAPar),
     );
     check(&rt, "cell of none", market.cell(NYC), None);
 }
@@ -317,13 +317,6 @@ fn one_entry_is_read_at_a_time(rt: HostRuntime) {
         standing(&market, &chart),
         (Some(82), Some(82), Some(Zone::White)),
     );
-}
-
-#[test]
-fn the_fault_has_words_and_a_number(rt: HostRuntime) {
-    let words = format!(in rt.alloc(); "{}", Fault::NotAPar).expect(&rt, "memory");
-    check(&rt, "text", words.as_str(), "not a par");
-    check(&rt, "number", Fault::NotAPar.number(), 31);
 }
 
 #[test]

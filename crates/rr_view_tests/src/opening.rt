@@ -1,6 +1,6 @@
 //! Tables that have just opened.
 use rr_books::Books;
-use rr_desk::position::Position;
+use rr_desk::Position;
 use rr_roster::Roster;
 use std::fmt::Debug;
 use std::process::Abort;

@@ -1,7 +1,7 @@
 //! The views of a position, which follow its entries together.
 use crate::layout::hex;
 use crate::opening::{check, position};
-use rr_books::{Act, Cell, Corp, Entry, Fault, Kind, Marker, Place, Seat, Train};
+use rr_books::{Act, Cell, Corp, Entry, Kind, Marker, Place, Refusal, Seat, Train};
 use rr_desk::layout::MOST_LAYS;
 use rr_desk::position::laws::most_entries;
 use rr_market::operations::Stage;
@@ -66,7 +66,7 @@ fn a_full_board_takes_no_tile(rt: HostRuntime) {
         &rt,
         "one tile more",
         table.follow(&tile),
-        Err(Fault::OutOfMemory),
+        Err(Refusal::OutOfMemory),
     );
     check(&rt, "tiles", table.layout().lays().len(), 600);
 }

@@ -4,7 +4,7 @@ ghost use Rattle.rr_books.specs.Opening.{opening_entries};
 ghost use Rattle.rr_desk.specs.Position.Position.{Fits, Follows, HasRoom, IsPositionOf};
 
 use crate::layout::Layout;
-use rr_books::{Books, Entry, Fault};
+use rr_books::{Books, Entry, Refusal};
 use rr_market::Market;
 use rr_market::operations::Operations;
 use rr_roster::Roster;
@@ -113,19 +113,19 @@ impl Position {
     ///
     /// `OutOfMemory` where `MOST_ENTRIES` were followed, or the layout has no room; the position is as before then.
     #[tactic(auto, using(crate::proofs::PositionLemmas::Steps::follows_by_views))]
-    pub fn follow(&mut self, entry: &Entry) -> Result<(), Fault>
+    pub fn follow(&mut self, entry: &Entry) -> Result<(), Refusal>
         requires { Fits self.old entry.now }
-        ensures fault { IfErr result (λ fault. fault ≡ Fault.OutOfMemory) }
+        ensures fault { IfErr result (λ fault. fault ≡ Refusal.OutOfMemory) }
         ensures book { OnOk result (Follows self.old self.new (entry.now ∷ [])) }
         ensures counted { OnOk result (self.new.entries ≡ self.old.entries + 1) }
         ensures err { OnErr result (self.new ≡ self.old) }
         ensures room { OnErr result (HasRoom self.old entry.now → ⊥) }
     {
         if MOST_ENTRIES <= self.entries {
-            return Err(Fault::OutOfMemory);
+            return Err(Refusal::OutOfMemory);
         }
         if !self.layout.has_room(entry) {
-            return Err(Fault::OutOfMemory);
+            return Err(Refusal::OutOfMemory);
         }
         // The auction and the operating rounds judge the entry by the views before it.
         self.bidding.follow(entry, &self.books);

@@ -7,7 +7,7 @@ use Rattle.rr_code.specs.declared.command.Command.{Command}
 use Rattle.rr_code.specs.declared.command.Command.TheVariants.{Order}
 use Rattle.rr_orders.specs.declared.order.Order.TheVariants.{Run}
 use Rattle.rr_roster.specs.declared.company.Corp.{Corp}
-use Rattle.rr_game.specs.declared.fault.Fault as game
+use Rattle.rr_books.specs.declared.refusal.Refusal.{Refusal}
 use Rattle.rr_game.specs.Running.{run_verdict as game_run_verdict}
 use Rattle.rr_game.specs.Laws.{CommandsHaveOneVerdict}
 use Rattle.rr_game.specs.Play.{play, players_of}
@@ -65,13 +65,13 @@ run_unroomed kit table stamp c fault h full =
     no_check (stamp_verdict table stamp) (own_judgement kit table (Play (Order (Run c [])))).first h
     ∙ check-refuses (room_verdict table) (judgement_map of_game (game_judgement kit table.commands (Order (Run c [])))) fault full
 
-pub run_alone : (kit : Kit) (table : Kept Command) (stamp : ℕ) (c : Corp) (verdict : Option game.Fault) → stamp_verdict table stamp ≡ None
+pub run_alone : (kit : Kit) (table : Kept Command) (stamp : ℕ) (c : Corp) (verdict : Option Refusal) → stamp_verdict table stamp ≡ None
     → room_verdict table ≡ None → game_run_verdict kit (players_of table.commands) (play kit table.commands) c ≡ verdict
     → run_verdict kit table stamp c ≡ option_map of_game verdict
 run_alone kit table stamp c verdict h room is =
     no_check (stamp_verdict table stamp) (own_judgement kit table (Play (Order (Run c [])))).first h
     ∙ no_check (room_verdict table) (judgement_map of_game (game_judgement kit table.commands (Order (Run c [])))).first room
-    ∙ ap (λ (o : Option game.Fault). option_map of_game o) is
+    ∙ ap (λ (o : Option Refusal). option_map of_game o) is
 
 -- a request that forgets
 

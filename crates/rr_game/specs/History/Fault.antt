@@ -1,8 +1,8 @@
 -- The refusals of a table: their numbers, and those of the game as refusals of its table.
 use Rattle.std.specs.Prelude.{ℕ}
-use Rattle.rr_game.specs.declared.fault.Fault as game
-use Rattle.rr_game.specs.declared.fault.Fault.TheVariants as G
-use Rattle.rr_game.specs.Fault as numbers
+use Rattle.rr_books.specs.declared.refusal.Refusal.{Refusal}
+use Rattle.rr_books.specs.declared.refusal.Refusal.TheVariants as G
+use Rattle.rr_books.specs.Refusal as numbers
 use Rattle.rr_game.specs.declared.history.fault.Fault.{Fault}
 use Rattle.rr_game.specs.declared.history.fault.Fault.TheVariants as F
 
@@ -14,6 +14,6 @@ number_of F.TurnNotKept = 53
 number_of F.TooManyCommands = 54
 number_of F.OutOfMemory = 70
 
-abbrev pub of_game : game.Fault → Fault
+abbrev pub of_game : Refusal → Fault
 of_game G.OutOfMemory = F.OutOfMemory
 of_game fault = F.Game fault

@@ -2,6 +2,7 @@ ghost use Rattle.std.specs.Prelude.{◌≡◌};
 ghost use Rattle.rr_game.specs.History.Fault.{number_of, of_game};
 ghost use Rattle.rr_game.specs.declared.history.fault.Fault.TheVariants.{OutOfMemory};
 
+use rr_books::Refusal;
 use std::alloc::{AllocError, AllocFailed};
 use thiserror::Error;
 
@@ -10,7 +11,7 @@ use thiserror::Error;
 pub enum Fault {
     /// The rules of the game refuse the command. Want of memory isn't told by this, but by `OutOfMemory`.
     #[error("{0}")]
-    Game(crate::Fault),
+    Game(Refusal),
     /// The stamp isn't the table's, which is given.
     #[error("stale stamp {0}")]
     StaleStamp(u64),
@@ -40,12 +41,12 @@ impl Fault {
     }
 }
 
-impl From<crate::Fault> for Fault {
+impl From<Refusal> for Fault {
     ghost from_gives = { λ fault wrapped. wrapped ≡ of_game fault };
 
-    fn from(fault: crate::Fault) -> Fault {
+    fn from(fault: Refusal) -> Fault {
         match fault {
-            crate::Fault::OutOfMemory => Fault::OutOfMemory,
+            Refusal::OutOfMemory => Fault::OutOfMemory,
             _ => Fault::Game(fault),
         }
     }

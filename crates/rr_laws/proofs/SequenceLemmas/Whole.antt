@@ -15,7 +15,7 @@ use Rattle.rr_books.specs.Same.{same_seat}
 use Rattle.rr_desk.specs.Effects.{Effect, adds, in_turn}
 use Rattle.rr_desk.specs.Incomes.{pay_incomes}
 use Rattle.rr_rounds.specs.Round.{Round, ends_round, progress}
-use Rattle.rr_stock.specs.declared.fault.Fault.TheVariants as F
+use Rattle.rr_books.specs.declared.refusal.Refusal.TheVariants as F
 use Rattle.rr_stock.specs.Effects as stock
 use Rattle.rr_stock.specs.Effects.{rises, says}
 use Rattle.rr_stock.specs.Rules as rules

@@ -32,7 +32,7 @@ use Rattle.rr_desk.specs.Effects.{Effect, adds, in_turn, moves_lowest_share}
 use Rattle.rr_desk.specs.Incomes.{dollars}
 use Rattle.rr_market.specs.Moves.{mark_at, par_marks}
 use Rattle.rr_rounds.specs.Bids.Bids.{bids_on, sole_bidder}
-use Rattle.rr_auction.specs.declared.fault.Fault.TheVariants as F
+use Rattle.rr_books.specs.declared.refusal.Refusal.TheVariants as F
 use Rattle.rr_auction.specs.Effects.{brings_incomes, entries_of, gift, incomes_if, is_over, may_end, pass_of, purchase_of, said, sale, sale_at_bid, sets_par, settle, settle_each, settled, settles, stock_begins}
 use Rattle.rr_rounds.specs.Bids.Progress.{Progress, after_act, after_bid, after_last_pass, after_par, after_pass, after_turn_pass, all_pass, follow, owing_after, progress, raise_due}
 use Rattle.rr_auction.specs.Rules.{due, is_bo, par_verdict, price, verdict}

@@ -1,12 +1,11 @@
 -- Entries that pay and move among those of a table, and touch no share, leave it in good order.
 use Rattle.std.specs.Prelude.{◌≡◌, ℕ, ℤ, pos, ◌+ℤ◌, ◌-ℤ◌, true, List, [], ◌∷◌, ◌++◌, fold, refl}
 use Rattle.std.specs.List.{list_all}
-use Rattle.std.proofs.Common.{sym, ◌∙◌, ap, subst, arith}
+use Rattle.std.proofs.Common.{sym, ◌∙◌, ap, arith}
 use Rattle.std.proofs.lemmas.Int.{ints}
 use Rattle.rr_roster.specs.declared.company.Corp.{Corp}
 use Rattle.rr_books.specs.declared.parties.Party.{Party}
 use Rattle.rr_books.specs.declared.parties.Place.TheVariants as L
-use Rattle.rr_books.specs.declared.entries.Entry.{Entry}
 use Rattle.rr_books.specs.Book.{Book, balance, balance-append, balance_after, money_at_first, paid_by, paid_to}
 use Rattle.rr_books.specs.Totals.{parties, pays_among, sum_over}
 use Rattle.rr_books.proofs.TotalLemmas.{sum_of_balances}

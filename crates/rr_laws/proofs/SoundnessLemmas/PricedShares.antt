@@ -13,21 +13,18 @@ use Rattle.rr_books.specs.declared.entries.Cell.{Cell}
 use Rattle.rr_books.specs.declared.entries.Entry.{Entry}
 use Rattle.rr_books.specs.declared.entries.Entry.TheVariants as E
 use Rattle.rr_books.specs.declared.acts.Act.TheVariants as A
-use Rattle.rr_books.specs.declared.acts.ShareSource.{ShareSource}
+use Rattle.rr_roster.specs.declared.sources.ShareSource.{ShareSource}
 use Rattle.rr_books.specs.Book.{Book, holder}
 use Rattle.rr_books.specs.Same.{same_corp}
 use Rattle.rr_books.specs.Shares.{is_at}
 use Rattle.rr_market.specs.Marks.{cell_after, first_after, first_mark_of, mark_of, par_of, price_at, price_of}
 use Rattle.rr_rounds.specs.Round.{is_first}
-use Rattle.rr_shares.specs.declared.limits.fault.Fault.TheVariants as H
+use Rattle.rr_books.specs.declared.refusal.Refusal.TheVariants as H
 use Rattle.rr_shares.specs.Limits.Sales as holdings
-use Rattle.rr_shares.specs.Limits.Sales.{sell_verdict}
-use Rattle.rr_stock.specs.Fault.{of_holdings}
-use Rattle.rr_stock.specs.declared.fault.Fault.TheVariants as F
 use Rattle.rr_stock.specs.Rules as rules
-use Rattle.rr_stock.specs.Rules.{place_of_source, share_price, turn_verdict, verdict}
+use Rattle.rr_stock.specs.Rules.{turn_verdict, verdict}
 use Rattle.rr_stock.specs.Situation.{situation_of}
-use Rattle.rr_stock.proofs.SaleVerdicts.{neither, none_before, passed}
+use Rattle.rr_stock.proofs.SaleVerdicts.{neither, passed}
 use Rattle.rr_laws.specs.Soundness.Presidencies.{AwaitsPar, IsOffered}
 
 -- what the verdicts tell
@@ -47,16 +44,16 @@ pub par_offered : (rows : List Row) (book : Book) (s : Seat) (c : Corp) (m : ℕ
 unfolding rules.par_verdict
 par_offered rows book s c m lawful =
     let t = situation_of rows book in
-    let one = passed _ F.MustSellFirst _ (neither (turn_verdict t.progress s) (rules.par_verdict rows t s c m) lawful) in
-    let two = passed (not (is_at (holder book (C.President c)) L.Offer)) F.NotForSale _ one.1 in
+    let one = passed _ H.MustSellFirst _ (neither (turn_verdict t.progress s) (rules.par_verdict rows t s c m) lawful) in
+    let two = passed (not (is_at (holder book (C.President c)) L.Offer)) H.NotForSale _ one.1 in
     at_offer (holder book (C.President c)) (not_refused _ two.0)
 
 pub purchase_priced : (rows : List Row) (book : Book) (s : Seat) (c : Corp) (source : ShareSource) → verdict rows book (A.BuyShare s c source) ≡ None → is_some (par_of rows book c) ≡ true
 unfolding rules.purchase_verdict
 purchase_priced rows book s c source lawful =
     let t = situation_of rows book in
-    let one = passed _ F.MustSellFirst _ (neither (turn_verdict t.progress s) (rules.purchase_verdict t s c source) lawful) in
-    let two = passed (not (rules.has_share (holder book) c source && is_some (par_of rows book c))) F.NotForSale _ one.1 in
+    let one = passed _ H.MustSellFirst _ (neither (turn_verdict t.progress s) (rules.purchase_verdict t s c source) lawful) in
+    let two = passed (not (rules.has_share (holder book) c source && is_some (par_of rows book c))) H.NotForSale _ one.1 in
     let both = and_parts (rules.has_share (holder book) c source) (is_some (par_of rows book c)) (not_refused _ two.0) in
     both.1
 
@@ -65,7 +62,7 @@ unfolding rules.sale_verdict
 sale_priced rows book s c k lawful =
     let t = situation_of rows book in
     let h = t.holdings in
-    let judged = none_before of_holdings (sell_verdict h (is_first t.progress) s c k) (neither (turn_verdict t.progress s) _ lawful) in
+    let judged = neither (turn_verdict t.progress s) (rules.sale_verdict t s c k) lawful in
     let later = passed (is_first t.progress) H.FirstStockRound (holdings.sale_verdict h s c k) judged in
     let priced = passed (not (is_some (price_of rows book c))) H.NotForSale _ later.1 in
     not_refused _ priced.0
@@ -74,7 +71,7 @@ pub swap_owned : (rows : List Row) (book : Book) (s : Seat) (source : ShareSourc
 unfolding rules.swap_verdict
 swap_owned rows book s source lawful =
     let t = situation_of rows book in
-    let one = passed (not (is_at (holder book (C.Private Private.Mh)) (L.Seat s) && rules.has_share (holder book) Corp.Nyc source)) F.NotForSale _ (neither (turn_verdict t.progress s) (rules.swap_verdict t s source) lawful) in
+    let one = passed (not (is_at (holder book (C.Private Private.Mh)) (L.Seat s) && rules.has_share (holder book) Corp.Nyc source)) H.NotForSale _ (neither (turn_verdict t.progress s) (rules.swap_verdict t s source) lawful) in
     let both = and_parts (is_at (holder book (C.Private Private.Mh)) (L.Seat s)) (rules.has_share (holder book) Corp.Nyc source) (not_refused _ one.0) in
     both.0
 

@@ -20,7 +20,7 @@ use Rattle.rr_rounds.specs.Bids.ProgressLaws as bidding
 use Rattle.rr_auction.proofs.Entries as entries
 use Rattle.rr_rounds.specs.Counts.{players-shown}
 use Rattle.rr_rounds.specs.Round as rounds
-use Rattle.rr_rounds.specs.Round.{Round, after, after_act, after_step, begins_stock_round, ends_turn}
+use Rattle.rr_rounds.specs.Round.{Round, after, after_act, after_step, begins_stock_round}
 use Rattle.rr_rounds.specs.RoundLaws.{progress-push}
 use Rattle.rr_rounds.specs.Trades.{is_trade, step_trades, trades}
 

@@ -16,7 +16,7 @@ use Rattle.rr_books.specs.declared.entries.Entry.TheVariants as E
 use Rattle.rr_books.specs.declared.entries.Marker.TheVariants as M
 use Rattle.rr_books.specs.declared.acts.Act.{Act}
 use Rattle.rr_books.specs.declared.acts.Act.TheVariants as A
-use Rattle.rr_books.specs.declared.acts.ShareSource.{ShareSource}
+use Rattle.rr_roster.specs.declared.sources.ShareSource.{ShareSource}
 use Rattle.rr_books.specs.Book.{Book, holder, players}
 use Rattle.rr_books.specs.Same.{same_seat}
 use Rattle.rr_books.specs.Shares.{privates}
@@ -27,7 +27,7 @@ use Rattle.rr_market.specs.Marks.{mark_of}
 use Rattle.rr_market.specs.Moves.{cell_above, cell_after_sale, cell_of, par_marks, sale_marks, sold_out_marks}
 use Rattle.rr_market.specs.Order.{operating_order}
 use Rattle.rr_rounds.specs.Round.{ends_round, has_floated, progress}
-use Rattle.rr_stock.specs.declared.fault.Fault.TheVariants as F
+use Rattle.rr_books.specs.declared.refusal.Refusal.TheVariants as F
 use Rattle.rr_stock.specs.Rules as rules
 use Rattle.rr_stock.specs.Rules.{is_short, place_of_source, share_price, turn_verdict, verdict}
 use Rattle.rr_stock.specs.Effects.{buys_share, gets_share, gives_up_private, is_sold_out, pays_bank, pays_seller, proceeds, rises, rises_among, rises_if_sold_out, says, sells, sets_par, settles_corporation, settles_in, swaps, takes_presidency}

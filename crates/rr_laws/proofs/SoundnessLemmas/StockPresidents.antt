@@ -17,7 +17,7 @@ use Rattle.rr_books.specs.declared.entries.Entry.{Entry}
 use Rattle.rr_books.specs.declared.entries.Entry.TheVariants as E
 use Rattle.rr_books.specs.declared.acts.Act.{Act}
 use Rattle.rr_books.specs.declared.acts.Act.TheVariants as A
-use Rattle.rr_books.specs.declared.acts.ShareSource.{ShareSource}
+use Rattle.rr_roster.specs.declared.sources.ShareSource.{ShareSource}
 use Rattle.rr_books.specs.Book.{Book, holder, holder-push, holder_after, players}
 use Rattle.rr_books.specs.Same.{same_cert, same_corp}
 use Rattle.rr_books.specs.Shares.{is_at}

@@ -1,5 +1,5 @@
 -- Lawful commands of corporations' turns, one after another.
-use Rattle.std.specs.Prelude.{◌≡◌, ℕ, pos, ◌≤ℤ◌, int_lt, Bool, true, false, not, ◌&&◌, List, [], ◌∷◌, ◌++◌, Option, None, Some, option_map, refl, if◌then◌else◌}
+use Rattle.std.specs.Prelude.{◌≡◌, ℕ, pos, ◌≤ℤ◌, int_lt, Bool, true, false, not, ◌&&◌, List, [], ◌∷◌, ◌++◌, Option, None, Some, refl, if◌then◌else◌}
 use Rattle.std.specs.Option.{option_or}
 use Rattle.std.proofs.Common.{sym, arith, inl, inr}
 use Rattle.std.proofs.lemmas.Int.{ints}
@@ -22,23 +22,19 @@ use Rattle.rr_desk.specs.declared.layout.layout.Lay.{Lay}
 use Rattle.rr_desk.specs.declared.layout.layout.Station.{Station}
 use Rattle.rr_desk.specs.Layout.Layout.{lays, stations}
 use Rattle.rr_network.specs.Walk.{ReachesNode, node_of}
-use Rattle.rr_lay.specs.declared.fault.Fault as lay
-use Rattle.rr_lay.specs.declared.fault.Fault.TheVariants as Y
+use Rattle.rr_books.specs.declared.refusal.Refusal.{Refusal}
+use Rattle.rr_books.specs.declared.refusal.Refusal.TheVariants as Y
 use Rattle.rr_lay.specs.Costs.{cost_verdict}
 use Rattle.rr_lay.specs.Judging as judging
 use Rattle.rr_lay.specs.Laying as laying
-use Rattle.rr_lay.specs.Laying.{IsLayVerdict, cost_at, lay_cost, supply_verdict}
+use Rattle.rr_lay.specs.Laying.{cost_at, lay_cost, supply_verdict}
 use Rattle.rr_lay.specs.Placing as placing
-use Rattle.rr_lay.specs.Placing.{IsStationVerdict, placed_by, slot_verdict, token_cost}
+use Rattle.rr_lay.specs.Placing.{placed_by, slot_verdict, token_cost}
 use Rattle.rr_lay.specs.Position.{Position, position_of}
-use Rattle.rr_trains.specs.declared.depot.fault.Fault as depot
 use Rattle.rr_market.specs.Operations.Turn.{takes}
 use Rattle.rr_market.specs.Operations.Progress.{progress}
-use Rattle.rr_operate.specs.declared.fault.Fault.{Fault}
-use Rattle.rr_operate.specs.declared.fault.Fault.TheVariants as F
-use Rattle.rr_operate.specs.Fault.{of_depot}
 use Rattle.rr_operate.specs.Order.{is_played, order_verdict, revenue_verdict, step_verdict}
-use Rattle.rr_operate.specs.Rows.{After, IsOfLay, IsRowVerdict, IsVerdict, lay_of, row_first, station_of}
+use Rattle.rr_operate.specs.Rows.{After, IsRowVerdict, IsVerdict, lay_of, row_first, station_of}
 use Rattle.rr_operate.specs.Effects.{ends_turn, entries_of, revenue_after, runs_best}
 use Rattle.rr_operate.proofs.InOrder.{lawful_in_order}
 use Rattle.rr_operate.specs.Sets.Following.{goes_on_in_operating_round}
@@ -53,7 +49,7 @@ use Rattle.rr_laws.proofs.TurnsLemmas.Rounds.{round_goes_on}
 use Rattle.rr_laws.proofs.TurnsLemmas.Dividends.{paid_out_stays, withheld_stays}
 
 -- a lawful command passes the checks of its row
-after_none : (first : Option Fault) (Next : Option Fault → Type 0) → After first Next None → (first ≡ None) × Next None
+after_none : (first : Option Refusal) (Next : Option Refusal → Type 0) → After first Next None → (first ≡ None) × Next None
 after_none None Next h = (refl, h)
 after_none (Some fault) Next h = absurd (cc)
 
@@ -67,22 +63,14 @@ row_passed kit book revenue act h =
     let parts = after_none (option_or order (row_first kit book act)) (IsRowVerdict kit book act) h in
     ((neither order (row_first kit book act) parts.0).1, parts.1)
 
-not_told : (o : Option depot.Fault) → option_map of_depot o ≡ None → o ≡ None
-not_told None e = refl
-not_told (Some fault) e = absurd (cc)
-
-none_of_lay : (IsTheirs : Option lay.Fault → Type 0) → IsOfLay IsTheirs None → IsTheirs None
-none_of_lay IsTheirs (None, is, e) = is
-none_of_lay IsTheirs (Some fault, is, e) = absurd (cc)
-
-lay_after : (first : Option lay.Fault) (Next : Option lay.Fault → Type 0) → judging.After first Next None → Next None
+lay_after : (first : Option Refusal) (Next : Option Refusal → Type 0) → judging.After first Next None → Next None
 lay_after None Next h = h
 lay_after (Some fault) Next h = absurd (cc)
 
-needed : (Needed : Type 0) (fault : lay.Fault) (Next : Option lay.Fault → Type 0) → judging.Needs Needed fault Next None → Next None
+needed : (Needed : Type 0) (fault : Refusal) (Next : Option Refusal → Type 0) → judging.Needs Needed fault Next None → Next None
 needed Needed fault Next (inl h) = absurd (none_is_some fault h.1)
   where
-    none_is_some : (f : lay.Fault) → None ≡ Some f → ⊥
+    none_is_some : (f : Refusal) → None ≡ Some f → ⊥
     none_is_some f e = cc
 needed Needed fault Next (inr h) = h.1
 
@@ -91,10 +79,10 @@ tile_covered : (plan : Plan) (tiles : List Supply) (now : Position) (c : Corp) (
 tile_covered plan tiles now c l None supply h = absurd (cc)
 tile_covered plan tiles now c l (Some hex) None h = absurd (cc)
 tile_covered plan tiles now c l (Some hex) (Some supply) h =
-    let Covers : Option lay.Fault → Type 0 = λ x. x ≡ cost_verdict now.cash c (lay_cost now.lays hex) in
+    let Covers : Option Refusal → Type 0 = λ x. x ≡ cost_verdict now.cash c (lay_cost now.lays hex) in
     let Reaches = laying.ReachesNewLink (laying.net_now plan tiles now) (laying.net_with plan tiles now l) c in
     let Keeps = laying.IsUpgrade plan tiles now.lays hex supply l.turn in
-    let Reached : Option lay.Fault → Type 0 = judging.Needs Reaches Y.NotReached Covers in
+    let Reached : Option Refusal → Type 0 = judging.Needs Reaches Y.NotReached Covers in
     let upgrade = lay_after (supply_verdict plan tiles now hex supply) (judging.Needs Keeps Y.NotAnUpgrade Reached) h in
     sym (needed Reaches Y.NotReached Covers (needed Keeps Y.NotAnUpgrade Reached upgrade))
 
@@ -102,7 +90,7 @@ tile_covered plan tiles now c l (Some hex) (Some supply) h =
 token_covered : (plan : Plan) (tiles : List Supply) (tokens : ℕ) (now : Position) (s : Station) (hex : Option Hex) → placing.IsVerdictAt plan tiles tokens now s hex None → cost_verdict now.cash s.corp (Some (token_cost (placed_by now.stations s.corp))) ≡ None
 token_covered plan tiles tokens now s None h = absurd (cc)
 token_covered plan tiles tokens now s (Some hex) h =
-    let Covers : Option lay.Fault → Type 0 = λ x. x ≡ cost_verdict now.cash s.corp (Some (token_cost (placed_by now.stations s.corp))) in
+    let Covers : Option Refusal → Type 0 = λ x. x ≡ cost_verdict now.cash s.corp (Some (token_cost (placed_by now.stations s.corp))) in
     let Reaches = ReachesNode (laying.net_now plan tiles now) s.corp (node_of s) in
     let reached = lay_after (slot_verdict plan tiles tokens (record { lays = now.lays; stations = now.stations }) hex s) (judging.Needs Reaches Y.NotReached Covers) h in
     sym (needed Reaches Y.NotReached Covers reached)
@@ -129,25 +117,23 @@ goes_by_row : (n : ℕ) (kit : Kit) (revenue : Money) (book : Book) (act : Act) 
 goes_by_row n kit revenue book (A.Lay c hex tile turn) earned first other h =
     let l = lay_of hex tile turn in
     let place = hex_named kit.board.hexes hex in
-    let lawful = none_of_lay (IsLayVerdict kit.board kit.tiles (position_of book) c l) other in
-    let covered = tile_covered kit.board kit.tiles (position_of book) c l place (supply_at kit.tiles tile) lawful in
+    let covered = tile_covered kit.board kit.tiles (position_of book) c l place (supply_at kit.tiles tile) other in
     let cost = cost_at (lays book) place in
     put_paid n (A.Lay c hex tile turn) c cost (E.Lay hex tile turn) (stays_lay n hex tile turn) book (has_cost n book c cost h covered)
 goes_by_row n kit revenue book (A.Station c hex centre) earned first other h =
     let s = station_of c hex centre in
-    let lawful = none_of_lay (IsStationVerdict kit.board kit.tiles (tokens_of kit.roster c) (position_of book) s) other in
-    let covered = token_covered kit.board kit.tiles (tokens_of kit.roster c) (position_of book) s (hex_named kit.board.hexes hex) lawful in
+    let covered = token_covered kit.board kit.tiles (tokens_of kit.roster c) (position_of book) s (hex_named kit.board.hexes hex) other in
     let cost = Some (token_cost (placed_by (stations book) c)) in
     put_paid n (A.Station c hex centre) c cost (E.Station c hex centre) (stays_station n c hex centre) book (has_cost n book c cost h covered)
 goes_by_row n kit revenue book (A.Run c sheet) earned first other h = says_stays n (A.Run c sheet) no_dues book (settled n book h)
 goes_by_row n kit revenue book (A.RunBest c sheet certificate) earned first other h = best_stays n c sheet certificate book (settled n book h)
 goes_by_row n kit revenue book (A.PayOut c) earned first other h = paid_out_stays n kit.chart c revenue earned no_dues book (settled n book h)
 goes_by_row n kit revenue book (A.Hold c) earned first other h = withheld_stays n kit.chart c revenue earned no_dues book (settled n book h)
-goes_by_row n kit revenue book (A.BuyTrain c kind source) earned first other h = purchase_goes n kit.roster book (A.BuyTrain c kind source) (not_told _ first) h
-goes_by_row n kit revenue book (A.BuyTrainFrom c kind seller price s t) earned first other h = purchase_goes n kit.roster book (A.BuyTrainFrom c kind seller price s t) (not_told _ first) h
-goes_by_row n kit revenue book (A.Trade c kind) earned first other h = purchase_goes n kit.roster book (A.Trade c kind) (not_told _ first) h
-goes_by_row n kit revenue book (A.Discard c kind) earned first other h = purchase_goes n kit.roster book (A.Discard c kind) (not_told _ first) h
-goes_by_row n kit revenue book (A.TakePrivate c p price) earned first other h = purchase_goes n kit.roster book (A.TakePrivate c p price) (not_told _ first) h
+goes_by_row n kit revenue book (A.BuyTrain c kind source) earned first other h = purchase_goes n kit.roster book (A.BuyTrain c kind source) first h
+goes_by_row n kit revenue book (A.BuyTrainFrom c kind seller price s t) earned first other h = purchase_goes n kit.roster book (A.BuyTrainFrom c kind seller price s t) first h
+goes_by_row n kit revenue book (A.Trade c kind) earned first other h = purchase_goes n kit.roster book (A.Trade c kind) first h
+goes_by_row n kit revenue book (A.Discard c kind) earned first other h = purchase_goes n kit.roster book (A.Discard c kind) first h
+goes_by_row n kit revenue book (A.TakePrivate c p price) earned first other h = purchase_goes n kit.roster book (A.TakePrivate c p price) first h
 goes_by_row n kit revenue book (A.End c) earned first other h = end_stays n kit c book (settled n book h)
 goes_by_row n kit revenue book _ earned first other h = stays_none n no_dues book (settled n book h)
 
@@ -179,7 +165,7 @@ played true true e = refl
 played true false e = absurd (cc)
 played false is e = absurd (cc)
 
-refused_by : (b : Bool) (fault : Fault) (others : Option Fault) → (if b then Some fault else others) ≡ None → b ≡ false
+refused_by : (b : Bool) (fault : Refusal) (others : Option Refusal) → (if b then Some fault else others) ≡ None → b ≡ false
 refused_by true fault others e = absurd (cc)
 refused_by false fault others e = refl
 
@@ -188,4 +174,4 @@ unfolding step_verdict
 lawful_is_played kit book revenue act h =
     let lawful = lawful_in_order kit book revenue act h in
     let step = (progress book).step in
-    played (takes step act) (is_played act) (refused_by (not (takes step act && is_played act)) F.WrongStep (revenue_verdict revenue act) lawful.step)
+    played (takes step act) (is_played act) (refused_by (not (takes step act && is_played act)) Y.WrongStep (revenue_verdict revenue act) lawful.step)

@@ -22,8 +22,8 @@ use Rattle.rr_books.specs.declared.entries.Entry.TheVariants as E
 use Rattle.rr_books.specs.declared.entries.Marker.TheVariants as M
 use Rattle.rr_books.specs.declared.acts.Act.{Act}
 use Rattle.rr_books.specs.declared.acts.Act.TheVariants as A
-use Rattle.rr_books.specs.declared.acts.TrainSource.{TrainSource}
-use Rattle.rr_books.specs.declared.acts.TrainSource.TheVariants as S
+use Rattle.rr_roster.specs.declared.sources.TrainSource.{TrainSource}
+use Rattle.rr_roster.specs.declared.sources.TrainSource.TheVariants as S
 use Rattle.rr_books.specs.Book.{Book, holder, holder-push, players, train_holder}
 use Rattle.rr_books.specs.Shares.{is_at}
 use Rattle.rr_books.specs.State.{has_party}
@@ -33,7 +33,7 @@ use Rattle.rr_trains.specs.Places.{lowest_train}
 use Rattle.rr_trains.specs.Sales.{source_place}
 use Rattle.rr_trains.specs.Effects.{all_close, all_rust, closes, closes_own_private, first_if, first_of_kind, first_train, is_in_game, moves_lowest_train, moves_train_if, rusts}
 use Rattle.rr_lay.specs.Costs.{pays_cost, puts}
-use Rattle.rr_trains.specs.declared.depot.fault.Fault.TheVariants as F
+use Rattle.rr_books.specs.declared.refusal.Refusal.TheVariants as F
 use Rattle.rr_trains.specs.Depot.Effects.{buys_train, buys_train_from, discards_train, entries_of, gets_train, is_first_sold, of_bank, of_corporation, pays, pays_player, says, takes_private, trades_train}
 use Rattle.rr_trains.specs.Depot.Rules.{deal, deal_verdict, is_short, is_transferable, owner, player_at, private_verdict, trade_verdict, train_verdict, verdict}
 use Rattle.rr_trains.specs.Depot.Situation.{Situation, situation_of}

@@ -1,4 +1,4 @@
-use Rattle.rr_laws.proofs.Soundness.{played_more}
+use Rattle.rr_laws.proofs.SoundTables.{played_more}
 use Rattle.rr_laws.proofs.plays_go_on.Goals as goal
 
 pub returns : goal.returns

@@ -1,4 +1,4 @@
-use Rattle.rr_laws.proofs.Soundness.{sound_along}
+use Rattle.rr_laws.proofs.SoundTables.{sound_along}
 use Rattle.rr_laws.proofs.StockOrder.{StockLaws}
 use Rattle.rr_laws.proofs.sound.Goals as goal
 

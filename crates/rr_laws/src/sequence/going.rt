@@ -5,18 +5,18 @@ ghost use Rattle.rr_rounds.specs.Round.{progress};
 ghost use Rattle.rr_desk.specs.Desk.{Takes};
 ghost use Rattle.rr_laws.specs.Sequence.Sequence.{begins_next_round, goes_on};
 
-use rr_books::{Entry, Fault, Marker};
+use rr_books::{Entry, Marker, Refusal};
 use rr_desk::{Desk, Position, pay_incomes};
 use rr_roster::Roster;
 
-/// What follows by itself on a command: nothing while a stock round is under way. As operating rounds aren't played
-/// yet, one in which no corporation has a turn passes: the privates pay, and the next stock round begins.
+/// What follows by itself on a command of a stock round, where operating rounds have no turns of their own: nothing while
+/// a stock round is under way; else an operating round passes: the privates pay, and the next stock round begins.
 ///
 /// # Errors
 ///
 /// `OutOfMemory`; some of the privates may have paid then.
-pub fn go_on(desk: &mut Desk, roster: &Roster) -> Result<(), Fault>
-    ensures fault { IfErr result (λ fault. fault ≡ Fault.OutOfMemory) }
+pub fn go_on(desk: &mut Desk, roster: &Roster) -> Result<(), Refusal>
+    ensures fault { IfErr result (λ fault. fault ≡ Refusal.OutOfMemory) }
     ensures takes { OnOk result (Takes (goes_on roster.now) desk.old desk.new) }
 {
     if is_under_way(desk.position()) {
@@ -35,8 +35,8 @@ fn is_under_way(position: &Position) -> bool
 
 // The privates pay, and the next stock round begins.
 #[tactic(auto, unfolding(crate::specs::Sequence::Sequence::begins_next_round))]
-fn begin_next_round(desk: &mut Desk, roster: &Roster) -> Result<(), Fault>
-    ensures fault { IfErr result (λ fault. fault ≡ Fault.OutOfMemory) }
+fn begin_next_round(desk: &mut Desk, roster: &Roster) -> Result<(), Refusal>
+    ensures fault { IfErr result (λ fault. fault ≡ Refusal.OutOfMemory) }
     ensures takes { OnOk result (Takes (begins_next_round roster.now) desk.old desk.new) }
 {
     pay_incomes(desk, roster)?;

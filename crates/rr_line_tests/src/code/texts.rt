@@ -1,7 +1,7 @@
 //! Texts of commands, and how each is read and written.
 use super::{first_command, is_both, is_written, player};
-use rr_code::{Command, ShareSource};
-use rr_roster::{Corp, Private};
+use rr_code::Command;
+use rr_roster::{Corp, Private, ShareSource};
 
 #[test]
 fn writes_what_it_reads(rt: HostRuntime) {

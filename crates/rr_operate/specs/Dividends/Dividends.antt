@@ -18,11 +18,11 @@ use Rattle.rr_books.specs.Book.{holder, players}
 use Rattle.rr_books.specs.Shares.{share}
 use Rattle.rr_desk.specs.Effects.{Effect, adds, in_turn}
 use Rattle.rr_market.specs.Moves.{dividend_marks, mark_at, withholding_marks}
-use Rattle.rr_operate.specs.declared.dividends.fault.Fault.{Fault}
-use Rattle.rr_operate.specs.declared.dividends.fault.Fault.TheVariants as F
+use Rattle.rr_books.specs.declared.refusal.Refusal.{Refusal}
+use Rattle.rr_books.specs.declared.refusal.Refusal.TheVariants as F
 
 -- the verdict on paying out: a corporation without revenue has nothing to pay
-abbrev pub pay_verdict : Money → Option Fault
+abbrev pub pay_verdict : Money → Option Refusal
 pay_verdict revenue = if int_lt (pos 0) revenue.0 then None else Some F.WrongStep
 
 -- the part of an amount that falls to so many percent

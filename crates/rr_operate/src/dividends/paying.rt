@@ -6,10 +6,9 @@ ghost use Rattle.rr_desk.specs.Position.Position.{IsPositionOf};
 ghost use Rattle.rr_market.specs.Moves.{dividend_marks, mark_at, withholding_marks};
 ghost use Rattle.rr_desk.specs.Desk.{Takes};
 ghost use Rattle.rr_operate.specs.Dividends.Dividends.{marks, part, pay_verdict, pays_for, pays_out, pays_seats, withholds};
-ghost use Rattle.rr_books.specs.declared.faults.Fault.TheVariants as B;
+ghost use Rattle.rr_books.specs.declared.refusal.Refusal.TheVariants as B;
 
-use crate::dividends::fault::Fault;
-use rr_books::{Act, Cell, Corp, Entry, Marker, Money, Party, Place, Seat};
+use rr_books::{Act, Cell, Corp, Entry, Marker, Money, Party, Place, Refusal, Seat};
 use rr_chart::Chart;
 use rr_desk::{Desk, Position};
 
@@ -21,7 +20,7 @@ pub const MOST_REVENUE: i64 = 10_000_000_000;
 /// # Errors
 ///
 /// `WrongStep` where there is no revenue to pay.
-pub fn judge_pay(revenue: Money) -> Result<(), Fault>
+pub fn judge_pay(revenue: Money) -> Result<(), Refusal>
     ensures { MatchResult result
         (λ _. pay_verdict revenue ≡ None)
         (λ fault. pay_verdict revenue ≡ Some fault) }
@@ -29,7 +28,7 @@ pub fn judge_pay(revenue: Money) -> Result<(), Fault>
     if 0 < revenue.0 {
         return Ok(());
     }
-    Err(Fault::WrongStep)
+    Err(Refusal::WrongStep)
 }
 
 /// Pays a corporation's revenue out of the bank, whatever that has: to each seat the part of its shares, in seating order,
@@ -39,12 +38,7 @@ pub fn judge_pay(revenue: Money) -> Result<(), Fault>
 /// # Errors
 ///
 /// `OutOfMemory`; the desk may have some of the entries then.
-pub fn pay_out(
-    desk: &mut Desk,
-    chart: &Chart,
-    corp: Corp,
-    revenue: Money,
-) -> Result<(), rr_books::Fault>
+pub fn pay_out(desk: &mut Desk, chart: &Chart, corp: Corp, revenue: Money) -> Result<(), Refusal>
     requires least { pos 0 ≤ℤ revenue.0 }
     requires greatest { revenue.0 ≤ℤ MOST_REVENUE }
     ensures fault { IfErr result (λ fault. fault ≡ B.OutOfMemory) }
@@ -64,12 +58,7 @@ pub fn pay_out(
 ///
 /// `OutOfMemory`; the desk may have some of the entries then.
 #[tactic(auto, unfolding(crate::specs::Dividends::Dividends::withholds))]
-pub fn withhold(
-    desk: &mut Desk,
-    chart: &Chart,
-    corp: Corp,
-    revenue: Money,
-) -> Result<(), rr_books::Fault>
+pub fn withhold(desk: &mut Desk, chart: &Chart, corp: Corp, revenue: Money) -> Result<(), Refusal>
     requires least { pos 0 ≤ℤ revenue.0 }
     requires greatest { revenue.0 ≤ℤ MOST_REVENUE }
     ensures fault { IfErr result (λ fault. fault ≡ B.OutOfMemory) }
@@ -86,7 +75,7 @@ pub fn withhold(
 }
 
 // Each seat is paid for its shares.
-fn pay_seats(desk: &mut Desk, corp: Corp, revenue: Money) -> Result<(), rr_books::Fault>
+fn pay_seats(desk: &mut Desk, corp: Corp, revenue: Money) -> Result<(), Refusal>
     requires least { pos 0 ≤ℤ revenue.0 }
     requires greatest { revenue.0 ≤ℤ MOST_REVENUE }
     ensures fault { IfErr result (λ fault. fault ≡ B.OutOfMemory) }
@@ -108,7 +97,7 @@ fn pay_for(
     revenue: Money,
     place: Place,
     payee: Party,
-) -> Result<(), rr_books::Fault>
+) -> Result<(), Refusal>
     requires payee { party_index payee < 15 }
     requires least { pos 0 ≤ℤ revenue.0 }
     requires greatest { revenue.0 ≤ℤ MOST_REVENUE }
@@ -138,7 +127,7 @@ fn part(amount: Money, percent: u8) -> Money
 }
 
 // The token moves as a dividend is paid.
-fn move_right(desk: &mut Desk, chart: &Chart, corp: Corp) -> Result<(), rr_books::Fault>
+fn move_right(desk: &mut Desk, chart: &Chart, corp: Corp) -> Result<(), Refusal>
     ensures fault { IfErr result (λ fault. fault ≡ B.OutOfMemory) }
     ensures takes { OnOk result (Takes (dividend_marks chart.now corp) desk.old desk.new) }
 {
@@ -148,7 +137,7 @@ fn move_right(desk: &mut Desk, chart: &Chart, corp: Corp) -> Result<(), rr_books
 }
 
 // The token moves as a dividend is withheld.
-fn move_left(desk: &mut Desk, chart: &Chart, corp: Corp) -> Result<(), rr_books::Fault>
+fn move_left(desk: &mut Desk, chart: &Chart, corp: Corp) -> Result<(), Refusal>
     ensures fault { IfErr result (λ fault. fault ≡ B.OutOfMemory) }
     ensures takes { OnOk result (Takes (withholding_marks chart.now corp) desk.old desk.new) }
 {
@@ -170,7 +159,7 @@ fn cell_on_the_left(position: &Position, chart: &Chart, corp: Corp) -> Option<Ce
 }
 
 // Marks the token at a cell, if there is one.
-fn mark_if(desk: &mut Desk, corp: Corp, cell: Option<Cell>) -> Result<(), rr_books::Fault>
+fn mark_if(desk: &mut Desk, corp: Corp, cell: Option<Cell>) -> Result<(), Refusal>
     ensures fault { IfErr result (λ fault. fault ≡ B.OutOfMemory) }
     ensures takes { OnOk result (Takes (marks corp cell) desk.old desk.new) }
 {

@@ -8,7 +8,7 @@ ghost use Rattle.rr_operate.specs.Sets.Following.{begins_set, goes_on_in_operati
 
 use crate::sets::rounds::pass_rounds;
 use crate::sets::tokens::place_first_token;
-use rr_books::Fault;
+use rr_books::Refusal;
 use rr_desk::{Desk, Position, pay_incomes};
 use rr_kit::Kit;
 
@@ -20,8 +20,8 @@ use rr_kit::Kit;
 ///
 /// `OutOfMemory`; some of it may have come about then.
 #[tactic(auto, unfolding(crate::specs::Sets::Following::goes_on_in_stock_round))]
-pub fn go_on_in_stock_round(desk: &mut Desk, kit: &Kit) -> Result<(), Fault>
-    ensures fault { IfErr result (λ fault. fault ≡ Fault.OutOfMemory) }
+pub fn go_on_in_stock_round(desk: &mut Desk, kit: &Kit) -> Result<(), Refusal>
+    ensures fault { IfErr result (λ fault. fault ≡ Refusal.OutOfMemory) }
     ensures takes { OnOk result (Takes (goes_on_in_stock_round kit.now) desk.old desk.new) }
 {
     if is_under_way(desk.position()) {
@@ -40,8 +40,8 @@ pub fn go_on_in_stock_round(desk: &mut Desk, kit: &Kit) -> Result<(), Fault>
 ///
 /// `OutOfMemory`; some of it may have come about then.
 #[tactic(auto, unfolding(crate::specs::Sets::Following::goes_on_in_operating_round))]
-pub fn go_on_in_operating_round(desk: &mut Desk, kit: &Kit) -> Result<(), Fault>
-    ensures fault { IfErr result (λ fault. fault ≡ Fault.OutOfMemory) }
+pub fn go_on_in_operating_round(desk: &mut Desk, kit: &Kit) -> Result<(), Refusal>
+    ensures fault { IfErr result (λ fault. fault ≡ Refusal.OutOfMemory) }
     ensures takes { OnOk result (Takes (goes_on_in_operating_round kit.now) desk.old desk.new) }
 {
     pass_rounds(desk, kit)?;
@@ -50,8 +50,8 @@ pub fn go_on_in_operating_round(desk: &mut Desk, kit: &Kit) -> Result<(), Fault>
 }
 
 #[tactic(auto, unfolding(crate::specs::Sets::Following::begins_set))]
-fn begin_set(desk: &mut Desk, kit: &Kit) -> Result<(), Fault>
-    ensures fault { IfErr result (λ fault. fault ≡ Fault.OutOfMemory) }
+fn begin_set(desk: &mut Desk, kit: &Kit) -> Result<(), Refusal>
+    ensures fault { IfErr result (λ fault. fault ≡ Refusal.OutOfMemory) }
     ensures takes { OnOk result (Takes (begins_set kit.now) desk.old desk.new) }
 {
     pay_incomes(desk, kit.roster())?;

@@ -6,7 +6,7 @@ ghost use Rattle.rr_market.specs.Operations.Progress.{has_more_rounds, progress}
 ghost use Rattle.rr_desk.specs.Desk.{Takes};
 ghost use Rattle.rr_operate.specs.Sets.Rounds.{begins_round, ends_round, ends_set, passes_round, passes_rounds, round_is_over};
 
-use rr_books::{Entry, Fault, Marker};
+use rr_books::{Entry, Marker, Refusal};
 use rr_desk::{Desk, Position, pay_incomes};
 use rr_kit::Kit;
 use rr_market::operations::Stage;
@@ -14,8 +14,8 @@ use rr_roster::Roster;
 
 // Rounds without a turn pass, until a corporation is due, or the set is over.
 #[tactic(auto, unfolding(crate::specs::Sets::Rounds::passes_rounds))]
-pub(crate) fn pass_rounds(desk: &mut Desk, kit: &Kit) -> Result<(), Fault>
-    ensures fault { IfErr result (λ fault. fault ≡ Fault.OutOfMemory) }
+pub(crate) fn pass_rounds(desk: &mut Desk, kit: &Kit) -> Result<(), Refusal>
+    ensures fault { IfErr result (λ fault. fault ≡ Refusal.OutOfMemory) }
     ensures takes { OnOk result (Takes (passes_rounds kit.now.roster kit.now.chart) desk.old desk.new) }
 {
     pass_round(desk, kit)?;
@@ -26,8 +26,8 @@ pub(crate) fn pass_rounds(desk: &mut Desk, kit: &Kit) -> Result<(), Fault>
 
 // What follows on a round in which no corporation has a turn left.
 #[tactic(auto, unfolding(crate::specs::Sets::Rounds::passes_round))]
-fn pass_round(desk: &mut Desk, kit: &Kit) -> Result<(), Fault>
-    ensures fault { IfErr result (λ fault. fault ≡ Fault.OutOfMemory) }
+fn pass_round(desk: &mut Desk, kit: &Kit) -> Result<(), Refusal>
+    ensures fault { IfErr result (λ fault. fault ≡ Refusal.OutOfMemory) }
     ensures takes { OnOk result (Takes (passes_round kit.now.roster kit.now.chart) desk.old desk.new) }
 {
     if !is_over(desk.position(), kit) {
@@ -46,8 +46,8 @@ fn is_over(position: &Position, kit: &Kit) -> bool
 }
 
 // The set's next round begins, or the set is over.
-fn end_round(desk: &mut Desk, roster: &Roster) -> Result<(), Fault>
-    ensures fault { IfErr result (λ fault. fault ≡ Fault.OutOfMemory) }
+fn end_round(desk: &mut Desk, roster: &Roster) -> Result<(), Refusal>
+    ensures fault { IfErr result (λ fault. fault ≡ Refusal.OutOfMemory) }
     ensures takes { OnOk result (Takes (ends_round roster.now) desk.old desk.new) }
 {
     if has_more_rounds(desk.position()) {
@@ -66,8 +66,8 @@ fn has_more_rounds(position: &Position) -> bool
 
 // An operating round begins, and the privates pay.
 #[tactic(auto, unfolding(crate::specs::Sets::Rounds::begins_round))]
-fn begin_round(desk: &mut Desk, roster: &Roster) -> Result<(), Fault>
-    ensures fault { IfErr result (λ fault. fault ≡ Fault.OutOfMemory) }
+fn begin_round(desk: &mut Desk, roster: &Roster) -> Result<(), Refusal>
+    ensures fault { IfErr result (λ fault. fault ≡ Refusal.OutOfMemory) }
     ensures takes { OnOk result (Takes (begins_round roster.now) desk.old desk.new) }
 {
     desk.push(Entry::Step(Marker::Operating))?;
@@ -77,8 +77,8 @@ fn begin_round(desk: &mut Desk, roster: &Roster) -> Result<(), Fault>
 
 // The next stock round begins, unless the game is over.
 #[tactic(auto, unfolding(crate::specs::Sets::Rounds::ends_set))]
-fn end_set(desk: &mut Desk) -> Result<(), Fault>
-    ensures fault { IfErr result (λ fault. fault ≡ Fault.OutOfMemory) }
+fn end_set(desk: &mut Desk) -> Result<(), Refusal>
+    ensures fault { IfErr result (λ fault. fault ≡ Refusal.OutOfMemory) }
     ensures takes { OnOk result (Takes ends_set desk.old desk.new) }
 {
     if bank_owed(desk.position()) {

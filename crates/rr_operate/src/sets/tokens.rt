@@ -7,7 +7,7 @@ ghost use Rattle.rr_desk.specs.Position.Position.{IsPositionOf};
 ghost use Rattle.rr_desk.specs.Desk.{Takes};
 ghost use Rattle.rr_operate.specs.Sets.Tokens.{has_token, is_home_of, is_token_of, places_at, places_first_token, places_first_token_of};
 
-use rr_books::{Entry, Fault};
+use rr_books::{Entry, Refusal};
 use rr_desk::layout::Station;
 use rr_desk::{Desk, Position};
 use rr_kit::Kit;
@@ -16,8 +16,8 @@ use rr_roster::Corp;
 
 // The corporation that is due gets a token at its home, if it has none yet and the board has a home of it.
 #[tactic(auto, unfolding(crate::specs::Sets::Tokens::places_first_token))]
-pub(crate) fn place_first_token(desk: &mut Desk, kit: &Kit) -> Result<(), Fault>
-    ensures fault { IfErr result (λ fault. fault ≡ Fault.OutOfMemory) }
+pub(crate) fn place_first_token(desk: &mut Desk, kit: &Kit) -> Result<(), Refusal>
+    ensures fault { IfErr result (λ fault. fault ≡ Refusal.OutOfMemory) }
     ensures takes { OnOk result (Takes (places_first_token kit.now.chart kit.now.board.homes) desk.old desk.new) }
 {
     match due(desk.position(), kit) {
@@ -33,8 +33,8 @@ fn due(position: &Position, kit: &Kit) -> Option<Corp>
 }
 
 #[tactic(auto, unfolding(crate::specs::Sets::Tokens::places_first_token_of))]
-fn place_first_token_of(desk: &mut Desk, homes: &[Home], corp: Corp) -> Result<(), Fault>
-    ensures fault { IfErr result (λ fault. fault ≡ Fault.OutOfMemory) }
+fn place_first_token_of(desk: &mut Desk, homes: &[Home], corp: Corp) -> Result<(), Refusal>
+    ensures fault { IfErr result (λ fault. fault ≡ Refusal.OutOfMemory) }
     ensures takes { OnOk result (Takes (places_first_token_of homes.now corp) desk.old desk.new) }
 {
     if has_token(desk.position(), corp) {
@@ -44,8 +44,8 @@ fn place_first_token_of(desk: &mut Desk, homes: &[Home], corp: Corp) -> Result<(
     Ok(())
 }
 
-fn place_at(desk: &mut Desk, corp: Corp, home: Option<Home>) -> Result<(), Fault>
-    ensures fault { IfErr result (λ fault. fault ≡ Fault.OutOfMemory) }
+fn place_at(desk: &mut Desk, corp: Corp, home: Option<Home>) -> Result<(), Refusal>
+    ensures fault { IfErr result (λ fault. fault ≡ Refusal.OutOfMemory) }
     ensures takes { OnOk result (Takes (places_at corp home) desk.old desk.new) }
 {
     match home {

@@ -9,8 +9,8 @@ use Rattle.rr_books.specs.Book.{Book}
 use Rattle.rr_kit.specs.declared.kit.Kit.{Kit}
 use Rattle.rr_shares.specs.Limits.Holdings.{holdings_of}
 use Rattle.rr_market.specs.Operations.Due.{due}
-use Rattle.rr_rules.specs.declared.forced.fault.Fault.{Fault}
-use Rattle.rr_rules.specs.declared.forced.fault.Fault.TheVariants as F
+use Rattle.rr_books.specs.declared.refusal.Refusal.{Refusal}
+use Rattle.rr_books.specs.declared.refusal.Refusal.TheVariants as F
 use Rattle.rr_rules.specs.declared.forced.needs.Need.{Need}
 use Rattle.rr_rules.specs.Forced.Needs.{IsNeedOf}
 use Rattle.rr_rules.specs.Forced.Rules.{After, IsRowVerdict, could_owe, force_verdict, refused_unless, row_first}
@@ -22,13 +22,13 @@ unowed kit book None need e h = h
 unowed kit book (Some c) need e (inl h) = h.1
 unowed kit book (Some c) need e (inr h) = absurd (false≢true (sym e ∙ h.0.0))
 
-told : (could : Bool) (fault : Fault) (Next : Option Fault → Type 0) (verdict : Option Fault) → (could ≡ false → verdict ≡ Some fault) → Next verdict
+told : (could : Bool) (fault : Refusal) (Next : Option Refusal → Type 0) (verdict : Option Refusal) → (could ≡ false → verdict ≡ Some fault) → Next verdict
     → After (refused_unless could fault) Next verdict
 told true fault Next verdict refused h = h
 told false fault Next verdict refused h = refused refl
 
 -- the verdict of the row is that of its check that takes no memory, where that one refuses
-pub row_told : (kit : Kit) (book : Book) (act : Act) (verdict : Option Fault) → IsRowVerdict kit book act verdict → After (row_first kit book act) (IsRowVerdict kit book act) verdict
+pub row_told : (kit : Kit) (book : Book) (act : Act) (verdict : Option Refusal) → IsRowVerdict kit book act verdict → After (row_first kit book act) (IsRowVerdict kit book act) verdict
 row_told kit book (A.Force c) verdict h =
     told (could_owe book (Some c)) F.WrongStep (IsRowVerdict kit book (A.Force c)) verdict
     (λ e. h.2 ∙ ap (λ (need : Option Need). force_verdict (due kit.chart book) need) (unowed kit book (Some c) h.0 e h.1)) h

@@ -26,7 +26,7 @@ use Rattle.rr_trains.specs.declared.prices.TrainOnSale.{TrainOnSale}
 use Rattle.rr_trains.specs.Sales.{cheapest}
 use Rattle.rr_trains.specs.Depot.Effects.{says}
 use Rattle.rr_trains.specs.Depot.Situation.{situation_of}
-use Rattle.rr_rules.specs.declared.forced.fault.Fault.{Fault}
+use Rattle.rr_books.specs.declared.refusal.Refusal.{Refusal}
 use Rattle.rr_rules.specs.declared.forced.needs.Need.{Need}
 use Rattle.rr_rules.specs.Forced.Needs.{IsNeed, IsNeedOf, need_for}
 use Rattle.rr_rules.specs.Forced.Sales.{CanRaise, bankrupt_verdict, can_raise, raise_verdict}
@@ -64,7 +64,7 @@ shown_of : (kit : Kit) (book : Book) (p : OnTable) (rows : List Row) → IsPosit
 shown_of kit book p rows h same = ap (λ (r : List Row). holdings_in r p) same ∙ holdings-of_book kit.chart book p h
 
 -- the verdict on a sale, said of the book
-pub raise_told : (kit : Kit) (book : Book) (p : OnTable) (rows : List Row) (need : Option Need) (s : Seat) (c : Corp) (n : ℕ) (verdict : Option Fault) → IsPositionOf book p → rows ≡ kit.chart
+pub raise_told : (kit : Kit) (book : Book) (p : OnTable) (rows : List Row) (need : Option Need) (s : Seat) (c : Corp) (n : ℕ) (verdict : Option Refusal) → IsPositionOf book p → rows ≡ kit.chart
     → IsNeed kit book need → raise_verdict (holdings_in rows p) need s c n ≡ verdict → IsRaiseVerdict kit book s c n verdict
 raise_told kit book p rows need s c n verdict h same need_is e =
     (need, need_is, sym e ∙ ap (λ (x : Holdings). raise_verdict x need s c n) (shown_of kit book p rows h same))
@@ -80,7 +80,7 @@ decided kit book p rows need s result h few same need_is is =
     (one_share_suffices (holdings_of kit.chart book) need s (subst Few (sym seats) few) (led_of kit book (due kit.chart book) need need_is))
 
 -- the verdict on a bankruptcy, said of the book
-pub bankrupt_told : (kit : Kit) (book : Book) (p : OnTable) (rows : List Row) (need : Option Need) (s : Seat) (raised : Bool) (verdict : Option Fault) → IsPositionOf book p → p.books.players ≤ 6 → rows ≡ kit.chart
+pub bankrupt_told : (kit : Kit) (book : Book) (p : OnTable) (rows : List Row) (need : Option Need) (s : Seat) (raised : Bool) (verdict : Option Refusal) → IsPositionOf book p → p.books.players ≤ 6 → rows ≡ kit.chart
     → IsNeed kit book need → raised ≡ can_raise (holdings_in rows p) need s → bankrupt_verdict need s raised ≡ verdict → IsBankruptVerdict kit book s verdict
 bankrupt_told kit book p rows need s raised verdict h few same need_is is e =
     (need, raised, need_is, decided kit book p rows need s raised h few same need_is is, sym e)

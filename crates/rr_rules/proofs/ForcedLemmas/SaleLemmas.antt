@@ -1,5 +1,5 @@
 -- One share can be sold for a train wherever several can.
-use Rattle.std.specs.Prelude.{◌≡◌, ℕ, zero, suc, ◌+◌, ◌-◌, ◌*◌, ◌<◌, ◌≤◌, ◌==◌, Bool, true, false, not, nat_lt, cond, ◌&&◌, Option, None, Some, MatchOption, is_some, option_map, slice_index_or, length, refl, if◌then◌else◌}
+use Rattle.std.specs.Prelude.{◌≡◌, ℕ, zero, suc, ◌+◌, ◌-◌, ◌*◌, ◌<◌, ◌≤◌, ◌==◌, Bool, true, false, not, nat_lt, cond, ◌&&◌, Option, None, Some, MatchOption, is_some, slice_index_or, length, refl, if◌then◌else◌}
 use Rattle.std.specs.List.{list_any}
 use Rattle.std.specs.Option.{option_or}
 use Rattle.std.proofs.Common.{sym, ◌∙◌, ap, arith, inl, inr, get_or, eqb}
@@ -15,19 +15,16 @@ use Rattle.rr_books.specs.declared.parties.Place.TheVariants as L
 use Rattle.rr_books.specs.declared.certificates.Cert.TheVariants as C
 use Rattle.rr_books.specs.Same.{same_corp, same_seat}
 use Rattle.rr_books.specs.Shares.{Holders, is_at, president, share}
-use Rattle.rr_shares.specs.declared.limits.fault.Fault as holdings
-use Rattle.rr_shares.specs.declared.limits.fault.Fault.TheVariants as H
+use Rattle.rr_books.specs.declared.refusal.Refusal.{Refusal}
+use Rattle.rr_books.specs.declared.refusal.Refusal.TheVariants as H
 use Rattle.rr_shares.specs.Limits.Holdings.{Holdings, percent_of}
 use Rattle.rr_shares.specs.Limits.Sales.{has_successor, leaves_no_president, sale_verdict}
 use Rattle.rr_shares.specs.Holdings.{Percents, heir, percent_in, percents_after_sale, share_after_sale}
 use Rattle.rr_shares.specs.Presidents.{HasTheMost}
 use Rattle.rr_shares.specs.Succession.{at_table, handover_after_sale, handover_by, handover_from}
 use Rattle.rr_shares.proofs.Heirs.{heir_has_most}
-use Rattle.rr_stock.proofs.SaleVerdicts.{none_before, passed}
-use Rattle.rr_rules.specs.declared.forced.fault.Fault.{Fault}
-use Rattle.rr_rules.specs.declared.forced.fault.Fault.TheVariants as F
+use Rattle.rr_stock.proofs.SaleVerdicts.{passed}
 use Rattle.rr_rules.specs.declared.forced.needs.Need.{Need}
-use Rattle.rr_rules.specs.Forced.Fault.{of_holdings}
 use Rattle.rr_rules.specs.Forced.Sales.{can_raise, changes_president, is_seat, president_verdict, raise_verdict, raises_one, share_verdict}
 use Rattle.rr_rules.specs.Forced.SaleLaws.{IsLed, OneShareSuffices}
 
@@ -169,11 +166,11 @@ one_share : (h : Holdings) (due : Corp) (s : Seat) (c : Corp) (n : ℕ) (p : Sea
     → share_verdict h due s c n ≡ None → share_verdict h due s c 1 ≡ None
 unfolding share_verdict
 one_share h due s c n p few some led own lawful =
-    let both = both_none (option_map of_holdings (sale_verdict h s c n)) (president_verdict h.holders h.players due s c n) lawful in
-    let sold = one_of_many h s c n (none_before of_holdings (sale_verdict h s c n) both.0) in
-    let kept = passed (changes_president h.holders h.players due s c n) F.PresidencyWouldChange None both.1 in
-    ap (λ (o : Option holdings.Fault). option_or (option_map of_holdings o) (president_verdict h.holders h.players due s c 1)) sold
-    ∙ refuses_none (changes_president h.holders h.players due s c 1) F.PresidencyWouldChange None (keeps_president h.holders h.players due s c n p few some led own kept.0) refl
+    let both = both_none (sale_verdict h s c n) (president_verdict h.holders h.players due s c n) lawful in
+    let sold = one_of_many h s c n both.0 in
+    let kept = passed (changes_president h.holders h.players due s c n) H.PresidencyWouldChange None both.1 in
+    ap (λ (o : Option Refusal). option_or o (president_verdict h.holders h.players due s c 1)) sold
+    ∙ refuses_none (changes_president h.holders h.players due s c 1) H.PresidencyWouldChange None (keeps_president h.holders h.players due s c n p few some led own kept.0) refl
 
 was_false : (b : Bool) → not b ≡ false → b ≡ true
 was_false true e = refl
@@ -186,18 +183,18 @@ president_is (Some p) s e = (p, refl, eqb-true p.0 s.0 (was_false (same_seat p s
 one_raise : (h : Holdings) (need : Option Need) (s : Seat) (c : Corp) (n : ℕ) → h.players ≤ 6 → IsLed h need → 1 ≤ n → raise_verdict h need s c n ≡ None → raise_verdict h need s c 1 ≡ None
 one_raise h None s c n few led some lawful = absurd (cc)
 one_raise h (Some need) s c n few led some lawful =
-    let leads = passed (not (is_seat need.president s)) F.NotYourTurn _ lawful in
-    let lacks = passed (need.shortfall == 0) F.SaleNotNeeded _ leads.1 in
+    let leads = passed (not (is_seat need.president s)) H.NotYourTurn _ lawful in
+    let lacks = passed (need.shortfall == 0) H.SaleNotNeeded _ leads.1 in
     let is = president_is need.president s leads.0 in
-    refuses_none (not (is_seat need.president s)) F.NotYourTurn _ leads.0
-    (refuses_none (need.shortfall == 0) F.SaleNotNeeded _ lacks.0 (one_share h need.corp s c n is.0 few some (sym led ∙ is.1) is.2 lacks.1))
+    refuses_none (not (is_seat need.president s)) H.NotYourTurn _ leads.0
+    (refuses_none (need.shortfall == 0) H.SaleNotNeeded _ lacks.0 (one_share h need.corp s c n is.0 few some (sym led ∙ is.1) is.2 lacks.1))
 
-none_from : (verdict : Option Fault) → not (is_some verdict) ≡ true → verdict ≡ None
+none_from : (verdict : Option Refusal) → not (is_some verdict) ≡ true → verdict ≡ None
 none_from None e = refl
 none_from (Some fault) e = absurd (false≢true e)
 
-is_none_from : (verdict : Option Fault) → verdict ≡ None → not (is_some verdict) ≡ true
-is_none_from verdict e = ap (λ (o : Option Fault). not (is_some o)) e
+is_none_from : (verdict : Option Refusal) → verdict ≡ None → not (is_some verdict) ≡ true
+is_none_from verdict e = ap (λ (o : Option Refusal). not (is_some o)) e
 
 -- the corporations are all in the list
 there : (c : Corp) → (corp_index c < 8) × (slice_index_or corps (corp_index c) K.Prr ≡ c)

@@ -16,7 +16,7 @@ use Rattle.rr_desk.specs.Incomes.{dollars}
 use Rattle.rr_market.specs.Operations.Phases.{train}
 use Rattle.rr_trains.specs.WorkedTrains.{usual_terms}
 use Rattle.rr_trains.specs.Depot.Situation.{situation_of}
-use Rattle.rr_rules.specs.declared.forced.fault.Fault.TheVariants as F
+use Rattle.rr_books.specs.declared.refusal.Refusal.TheVariants as F
 use Rattle.rr_rules.specs.Forced.Needs.{cheapest_need}
 use Rattle.rr_rules.specs.Forced.Rules.{force_verdict}
 use Rattle.rr_rules.specs.Forced.Effects.{entries_of}

@@ -19,8 +19,8 @@ use Rattle.rr_desk.specs.Incomes.{dollars}
 use Rattle.rr_trains.specs.WorkedTrains.{usual_terms}
 use Rattle.rr_trains.specs.Depot.Situation.{situation_of}
 use Rattle.rr_shares.specs.Limits.Holdings.{holdings_of}
-use Rattle.rr_rules.specs.declared.forced.fault.Fault.{Fault}
-use Rattle.rr_rules.specs.declared.forced.fault.Fault.TheVariants as F
+use Rattle.rr_books.specs.declared.refusal.Refusal.{Refusal}
+use Rattle.rr_books.specs.declared.refusal.Refusal.TheVariants as F
 use Rattle.rr_rules.specs.declared.forced.needs.Need.{Need}
 use Rattle.rr_rules.specs.Forced.Needs.{cheapest_need}
 use Rattle.rr_rules.specs.Forced.Sales.{bankrupt_verdict, can_raise, raise_verdict}
@@ -54,11 +54,11 @@ abbrev pub need_in : Book → Option Need
 need_in book = cheapest_need usual_terms (situation_of book) Corp.Prr
 
 -- the first player sells so many shares of a corporation for the PRR's train
-abbrev pub raise_in : Book → Corp → ℕ → Option Fault
+abbrev pub raise_in : Book → Corp → ℕ → Option Refusal
 raise_in book c n = raise_verdict (holdings_of column book) (need_in book) (seat 0) c n
 
 -- the first player is bankrupt
-abbrev pub bankrupt_in : Book → Option Fault
+abbrev pub bankrupt_in : Book → Option Refusal
 bankrupt_in book = bankrupt_verdict (need_in book) (seat 0) (can_raise (holdings_of column book) (need_in book) (seat 0))
 
 -- the share is sold for 100, and the token falls; where the money suffices no share is sold, and nobody else sells

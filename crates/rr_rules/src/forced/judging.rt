@@ -7,13 +7,12 @@ ghost use Rattle.rr_desk.specs.Position.Position.{IsPositionOf};
 ghost use Rattle.rr_operate.specs.Order.{is_due};
 ghost use Rattle.rr_rules.specs.Forced.Rules.{IsBankruptVerdict, IsForceVerdict, IsRaiseVerdict, IsRowVerdict, IsVerdict, MayJudge, could_owe, force_verdict, is_forced, order_verdict, row_first};
 ghost use Rattle.rr_rules.specs.Forced.Small.{IsSmall};
-ghost use Rattle.rr_rules.specs.declared.forced.fault.Fault.TheVariants.{OutOfMemory};
+ghost use Rattle.rr_books.specs.declared.refusal.Refusal.TheVariants.{OutOfMemory};
 
 use crate::forced::bankruptcy::judge_bankrupt_for;
-use crate::forced::fault::Fault;
 use crate::forced::needs::{Need, due, need_of, needed_train};
 use crate::forced::raising::{Raise, can_raise, judge_raise_for};
-use rr_books::{Act, Corp, Seat};
+use rr_books::{Act, Corp, Refusal, Seat};
 use rr_desk::Position;
 use rr_kit::Kit;
 use rr_market::operations::TurnStep;
@@ -41,7 +40,7 @@ use std::alloc::Global;
 ///
 /// `OutOfMemory` only where neither of the first two comes, and the corporation that buys, or of `raise` and `bankrupt`
 /// the one due, has no train while one is on sale.
-pub fn judge(alloc: Global, kit: &Kit, position: &Position, act: &Act) -> Result<(), Fault>
+pub fn judge(alloc: Global, kit: &Kit, position: &Position, act: &Act) -> Result<(), Refusal>
     ensures verdict { (book : Book) → IsPositionOf book position.now → MatchResult result
         (λ _. IsVerdict kit.now book act.now None)
         (λ fault. MayJudge kit.now book act.now fault) }
@@ -54,22 +53,22 @@ pub fn judge(alloc: Global, kit: &Kit, position: &Position, act: &Act) -> Result
 
 // Whether the command comes in its order.
 #[tactic(auto, unfolding(crate::specs::Forced::Rules::order_verdict))]
-fn judge_order(kit: &Kit, position: &Position, act: &Act) -> Result<(), Fault>
+fn judge_order(kit: &Kit, position: &Position, act: &Act) -> Result<(), Refusal>
     ensures { (book : Book) → IsPositionOf book position.now → MatchResult result
         (λ _. order_verdict kit.now book act.now ≡ None)
         (λ fault. order_verdict kit.now book act.now ≡ Some fault) }
 {
     if is_over_limit_somewhere(position) {
-        return Err(Fault::MustDiscardFirst);
+        return Err(Refusal::MustDiscardFirst);
     }
     if !(step(position).takes(act) && is_forced(act)) {
-        return Err(Fault::WrongStep);
+        return Err(Refusal::WrongStep);
     }
     Ok(())
 }
 
 // Judges by the command's own rules.
-fn judge_row(alloc: Global, kit: &Kit, position: &Position, act: &Act) -> Result<(), Fault>
+fn judge_row(alloc: Global, kit: &Kit, position: &Position, act: &Act) -> Result<(), Refusal>
     ensures verdict { (book : Book) → IsPositionOf book position.now → MatchResult result
         (λ _. IsRowVerdict kit.now book act.now None)
         (λ fault. IsRowVerdict kit.now book act.now (Some fault) ⊎ ((row_first kit.now book act.now ≡ None) × (fault ≡ OutOfMemory))) }
@@ -86,12 +85,12 @@ fn judge_row(alloc: Global, kit: &Kit, position: &Position, act: &Act) -> Result
             judge_raise(alloc, kit, position, raise)
         }
         Act::Bankrupt { seat } => judge_bankrupt(alloc, kit, position, *seat),
-        _ => Err(Fault::WrongStep),
+        _ => Err(Refusal::WrongStep),
     }
 }
 
 // Judges a forced purchase by what the buyer needs.
-fn judge_force(alloc: Global, kit: &Kit, position: &Position, corp: Corp) -> Result<(), Fault>
+fn judge_force(alloc: Global, kit: &Kit, position: &Position, corp: Corp) -> Result<(), Refusal>
     ensures { (book : Book) → IsPositionOf book position.now → MatchResult result
         (λ _. IsForceVerdict kit.now book corp None)
         (λ fault. IsForceVerdict kit.now book corp (Some fault) ⊎ ((could_owe book (Some corp) ≡ true) × (fault ≡ OutOfMemory))) }
@@ -102,28 +101,28 @@ fn judge_force(alloc: Global, kit: &Kit, position: &Position, corp: Corp) -> Res
 }
 
 // Whether the buyer lacks money, is due, and its president has enough.
-fn judge_need(due: Option<Corp>, need: Option<Need>) -> Result<(), Fault>
+fn judge_need(due: Option<Corp>, need: Option<Need>) -> Result<(), Refusal>
     ensures { MatchResult result
         (λ _. force_verdict due need ≡ None)
         (λ fault. force_verdict due need ≡ Some fault) }
 {
     let Some(need) = need else {
-        return Err(Fault::WrongStep);
+        return Err(Refusal::WrongStep);
     };
     if need.lack == 0 {
-        return Err(Fault::WrongStep);
+        return Err(Refusal::WrongStep);
     }
     if !is_due(due, need.corp) {
-        return Err(Fault::NotYourTurn);
+        return Err(Refusal::NotYourTurn);
     }
     if need.shortfall != 0 {
-        return Err(Fault::TooLittleCash);
+        return Err(Refusal::TooLittleCash);
     }
     Ok(())
 }
 
 // Judges a sale of shares by what the corporation due needs.
-fn judge_raise(alloc: Global, kit: &Kit, position: &Position, raise: Raise) -> Result<(), Fault>
+fn judge_raise(alloc: Global, kit: &Kit, position: &Position, raise: Raise) -> Result<(), Refusal>
     ensures verdict { (book : Book) → IsPositionOf book position.now → MatchResult result
         (λ _. IsRaiseVerdict kit.now book raise.seat raise.corp raise.count None)
         (λ fault. IsRaiseVerdict kit.now book raise.seat raise.corp raise.count (Some fault) ⊎ ((could_owe book (due kit.now.chart book) ≡ true) × (fault ≡ OutOfMemory))) }
@@ -135,7 +134,7 @@ fn judge_raise(alloc: Global, kit: &Kit, position: &Position, raise: Raise) -> R
 }
 
 // Judges a bankruptcy by what the corporation due needs, and what the seat can sell.
-fn judge_bankrupt(alloc: Global, kit: &Kit, position: &Position, seat: Seat) -> Result<(), Fault>
+fn judge_bankrupt(alloc: Global, kit: &Kit, position: &Position, seat: Seat) -> Result<(), Refusal>
     ensures { (book : Book) → IsPositionOf book position.now → MatchResult result
         (λ _. IsBankruptVerdict kit.now book seat None)
         (λ fault. IsBankruptVerdict kit.now book seat (Some fault) ⊎ ((could_owe book (due kit.now.chart book) ≡ true) × (fault ≡ OutOfMemory))) }

@@ -1,8 +1,7 @@
 //! Plays the commands of a corporation that must own a train and can't pay it.
-ghost use Rattle.std.specs.Prelude.{◌≡◌, ◌≤◌, ◌<◌, ◌≤ℤ◌, pos, OnOk, IfErr, IfSome};
+ghost use Rattle.std.specs.Prelude.{◌≡◌, ◌≤◌, ◌<◌, OnOk, IfErr, IfSome};
 ghost use Rattle.rr_books.specs.State.{party_index};
 ghost use Rattle.rr_desk.specs.Desk.{Takes};
-ghost use Rattle.rr_desk.specs.Incomes.{dollars};
 ghost use Rattle.rr_stock.specs.Situation as stock;
 ghost use Rattle.rr_trains.specs.Sales.{source_place};
 ghost use Rattle.rr_trains.specs.Depot.Effects.{pays, says};
@@ -12,9 +11,9 @@ ghost use Rattle.rr_rules.specs.Forced.Needs.{cheapest_need};
 ghost use Rattle.rr_rules.specs.Forced.Small.{IsSmall};
 
 use crate::forced::needs::{Need, cheapest_need};
-use rr_books::{Act, Corp, Entry, Fault, Marker, Money, Party, Place, Seat, TrainSource};
+use rr_books::{Act, Corp, Entry, Marker, Money, Party, Place, Refusal, Seat, TrainSource};
 use rr_chart::Chart;
-use rr_desk::Desk;
+use rr_desk::{Desk, dollars};
 use rr_roster::Roster;
 use rr_shares::sell_shares;
 use rr_stock::{Sale, pay_seller, proceeds};
@@ -32,9 +31,9 @@ use rr_trains::{first_train, give_lowest_train};
 /// # Errors
 ///
 /// `OutOfMemory`; the desk may have some of the entries then.
-pub fn play(roster: &Roster, chart: &Chart, desk: &mut Desk, act: &Act) -> Result<(), Fault>
+pub fn play(roster: &Roster, chart: &Chart, desk: &mut Desk, act: &Act) -> Result<(), Refusal>
     requires { IsSmall act.now }
-    ensures fault { IfErr result (λ fault. fault ≡ Fault.OutOfMemory) }
+    ensures fault { IfErr result (λ fault. fault ≡ Refusal.OutOfMemory) }
     ensures takes { OnOk result (Takes (λ book. entries_of roster.now chart.now book act.now) desk.old desk.new) }
 {
     match act {
@@ -52,10 +51,10 @@ fn play_raise(
     seat: Seat,
     corp: Corp,
     count: u64,
-) -> Result<(), Fault>
+) -> Result<(), Refusal>
     requires seated { seat.0 < 6 }
     requires small { count ≤ 10 }
-    ensures fault { IfErr result (λ fault. fault ≡ Fault.OutOfMemory) }
+    ensures fault { IfErr result (λ fault. fault ≡ Refusal.OutOfMemory) }
     ensures takes { OnOk result (Takes (λ book. raises chart.now (stock.situation_of chart.now book) seat corp count book) desk.old desk.new) }
 {
     let shares = count as u8;
@@ -73,8 +72,8 @@ fn play_raise(
 }
 
 // The seat is bankrupt.
-fn play_bankruptcy(desk: &mut Desk, seat: Seat) -> Result<(), Fault>
-    ensures fault { IfErr result (λ fault. fault ≡ Fault.OutOfMemory) }
+fn play_bankruptcy(desk: &mut Desk, seat: Seat) -> Result<(), Refusal>
+    ensures fault { IfErr result (λ fault. fault ≡ Refusal.OutOfMemory) }
     ensures takes { OnOk result (Takes (says (Act.Bankrupt seat)) desk.old desk.new) }
 {
     desk.push(Entry::Step(Marker::Act(Act::Bankrupt { seat })))?;
@@ -82,8 +81,8 @@ fn play_bankruptcy(desk: &mut Desk, seat: Seat) -> Result<(), Fault>
 }
 
 // The corporation buys the cheapest train on sale.
-fn play_force(roster: &Roster, desk: &mut Desk, corp: Corp) -> Result<(), Fault>
-    ensures fault { IfErr result (λ fault. fault ≡ Fault.OutOfMemory) }
+fn play_force(roster: &Roster, desk: &mut Desk, corp: Corp) -> Result<(), Refusal>
+    ensures fault { IfErr result (λ fault. fault ≡ Refusal.OutOfMemory) }
     ensures takes { OnOk result (Takes (λ book. forces_if (cheapest_need roster.now (situation_of book) corp) book) desk.old desk.new) }
 {
     let need = cheapest_need(roster, desk.books(), corp);
@@ -91,11 +90,11 @@ fn play_force(roster: &Roster, desk: &mut Desk, corp: Corp) -> Result<(), Fault>
     Ok(())
 }
 
-fn force_if(desk: &mut Desk, need: Option<Need>) -> Result<(), Fault>
+fn force_if(desk: &mut Desk, need: Option<Need>) -> Result<(), Refusal>
     requires small { IfSome need (λ need. need.price ≤ 10000000000) }
     requires lack { IfSome need (λ need. need.lack ≤ 10000000000) }
     requires seated { IfSome need (λ need. IfSome need.president (λ seat. seat.0 < 6)) }
-    ensures fault { IfErr result (λ fault. fault ≡ Fault.OutOfMemory) }
+    ensures fault { IfErr result (λ fault. fault ≡ Refusal.OutOfMemory) }
     ensures takes { OnOk result (Takes (forces_if need) desk.old desk.new) }
 {
     match need {
@@ -106,11 +105,11 @@ fn force_if(desk: &mut Desk, need: Option<Need>) -> Result<(), Fault>
 
 // The president adds what the corporation lacks, and the train is bought.
 #[tactic(auto, unfolding(crate::specs::Forced::Effects::forces))]
-fn force(desk: &mut Desk, need: Need) -> Result<(), Fault>
+fn force(desk: &mut Desk, need: Need) -> Result<(), Refusal>
     requires small { need.price ≤ 10000000000 }
     requires lack { need.lack ≤ 10000000000 }
     requires seated { IfSome need.president (λ seat. seat.0 < 6) }
-    ensures fault { IfErr result (λ fault. fault ≡ Fault.OutOfMemory) }
+    ensures fault { IfErr result (λ fault. fault ≡ Refusal.OutOfMemory) }
     ensures takes { OnOk result (Takes (forces need) desk.old desk.new) }
 {
     desk.push(Entry::Step(Marker::Act(Act::Force { corp: need.corp })))?;
@@ -120,10 +119,10 @@ fn force(desk: &mut Desk, need: Need) -> Result<(), Fault>
 }
 
 // The president pays the corporation.
-fn help(desk: &mut Desk, president: Option<Seat>, corp: Corp, lack: u64) -> Result<(), Fault>
+fn help(desk: &mut Desk, president: Option<Seat>, corp: Corp, lack: u64) -> Result<(), Refusal>
     requires few { IfSome president (λ seat. seat.0 < 6) }
     requires small { lack ≤ 10000000000 }
-    ensures fault { IfErr result (λ fault. fault ≡ Fault.OutOfMemory) }
+    ensures fault { IfErr result (λ fault. fault ≡ Refusal.OutOfMemory) }
     ensures takes { OnOk result (Takes (helps president corp lack) desk.old desk.new) }
 {
     match president {
@@ -142,9 +141,9 @@ fn help(desk: &mut Desk, president: Option<Seat>, corp: Corp, lack: u64) -> Resu
 
 // The corporation gets the train, pays for it, and what the train brings about follows.
 #[tactic(auto, unfolding(crate::specs::Forced::Effects::gets_train))]
-fn get_train(desk: &mut Desk, need: Need) -> Result<(), Fault>
+fn get_train(desk: &mut Desk, need: Need) -> Result<(), Refusal>
     requires { need.price ≤ 10000000000 }
-    ensures fault { IfErr result (λ fault. fault ≡ Fault.OutOfMemory) }
+    ensures fault { IfErr result (λ fault. fault ≡ Refusal.OutOfMemory) }
     ensures takes { OnOk result (Takes (gets_train need) desk.old desk.new) }
 {
     let corp = need.corp;
@@ -161,9 +160,9 @@ fn get_train(desk: &mut Desk, need: Need) -> Result<(), Fault>
 }
 
 // The corporation pays the bank.
-fn pay_bank(desk: &mut Desk, corp: Corp, amount: u64) -> Result<(), Fault>
+fn pay_bank(desk: &mut Desk, corp: Corp, amount: u64) -> Result<(), Refusal>
     requires { amount ≤ 10000000000 }
-    ensures fault { IfErr result (λ fault. fault ≡ Fault.OutOfMemory) }
+    ensures fault { IfErr result (λ fault. fault ≡ Refusal.OutOfMemory) }
     ensures takes { OnOk result (Takes (pays corp Party.Bank amount) desk.old desk.new) }
 {
     let amount = dollars(amount);
@@ -173,16 +172,6 @@ fn pay_bank(desk: &mut Desk, corp: Corp, amount: u64) -> Result<(), Fault>
         amount,
     })?;
     Ok(())
-}
-
-// The amount as money.
-fn dollars(amount: u64) -> Money
-    requires { amount ≤ 10000000000 }
-    ensures value { result ≡ dollars amount }
-    ensures low { pos 0 ≤ℤ result.0 }
-    ensures high { result.0 ≤ℤ pos 10000000000 }
-{
-    Money(amount as i64)
 }
 
 // Where the trains of a source are.

@@ -3,12 +3,10 @@ ghost use Rattle.std.specs.Prelude.{◌≡◌, ◌≤◌, ◌<◌, None, Some, o
 ghost use Rattle.rr_books.specs.State.{holder_in};
 ghost use Rattle.rr_shares.specs.Limits.Holdings.{holdings_in};
 ghost use Rattle.rr_shares.specs.Limits.Sales.{sale_verdict};
-ghost use Rattle.rr_rules.specs.Forced.Fault.{of_holdings};
 ghost use Rattle.rr_rules.specs.Forced.Sales.{can_raise, changes_president, is_seat, president_verdict, raise_verdict, raises_one, share_verdict};
 
-use crate::forced::fault::Fault;
 use crate::forced::needs::Need;
-use rr_books::{Books, Corp, Seat};
+use rr_books::{Books, Corp, Refusal, Seat};
 use rr_chart::Chart;
 use rr_desk::Position;
 use rr_shares::handover_after_sale;
@@ -28,7 +26,7 @@ pub(crate) fn judge_raise_for(
     position: &Position,
     need: Option<Need>,
     raise: Raise,
-) -> Result<(), Fault>
+) -> Result<(), Refusal>
     requires { IfSome need (λ need. IfSome need.president (λ seat. seat.0 < 6)) }
     ensures shown { MatchResult result
         (λ _. raise_verdict (holdings_in chart.now position.now) need raise.seat raise.corp raise.count ≡ None)
@@ -37,13 +35,13 @@ pub(crate) fn judge_raise_for(
     ensures small { OnOk result (raise.count ≤ 10) }
 {
     let Some(need) = need else {
-        return Err(Fault::NotYourTurn);
+        return Err(Refusal::NotYourTurn);
     };
     if !is_seat(need.president, raise.seat) {
-        return Err(Fault::NotYourTurn);
+        return Err(Refusal::NotYourTurn);
     }
     if need.shortfall == 0 {
-        return Err(Fault::SaleNotNeeded);
+        return Err(Refusal::SaleNotNeeded);
     }
     judge_shares(chart, position, need.corp, raise)?;
     Ok(())
@@ -51,7 +49,7 @@ pub(crate) fn judge_raise_for(
 
 // Whether the seat may sell so many shares where a corporation is due, whatever money there is.
 #[tactic(auto, unfolding(crate::specs::Forced::Sales::share_verdict))]
-fn judge_shares(chart: &Chart, position: &Position, due: Corp, raise: Raise) -> Result<(), Fault>
+fn judge_shares(chart: &Chart, position: &Position, due: Corp, raise: Raise) -> Result<(), Refusal>
     ensures verdict { MatchResult result
         (λ _. share_verdict (holdings_in chart.now position.now) due raise.seat raise.corp raise.count ≡ None)
         (λ fault. share_verdict (holdings_in chart.now position.now) due raise.seat raise.corp raise.count ≡ Some fault) }
@@ -70,10 +68,10 @@ fn judge_count(
     seat: Seat,
     corp: Corp,
     count: u64,
-) -> Result<(), Fault>
+) -> Result<(), Refusal>
     ensures verdict { MatchResult result
-        (λ _. option_map of_holdings (sale_verdict (holdings_in chart.now position.now) seat corp count) ≡ None)
-        (λ fault. option_map of_holdings (sale_verdict (holdings_in chart.now position.now) seat corp count) ≡ Some fault) }
+        (λ _. (sale_verdict (holdings_in chart.now position.now) seat corp count) ≡ None)
+        (λ fault. (sale_verdict (holdings_in chart.now position.now) seat corp count) ≡ Some fault) }
     ensures small { OnOk result (count ≤ 10) }
 {
     judge_sale(position, chart, seat, corp, count)?;
@@ -81,13 +79,19 @@ fn judge_count(
 }
 
 // Whether the corporation due keeps its president.
-fn judge_president(books: &Books, due: Corp, seat: Seat, corp: Corp, count: u8) -> Result<(), Fault>
+fn judge_president(
+    books: &Books,
+    due: Corp,
+    seat: Seat,
+    corp: Corp,
+    count: u8,
+) -> Result<(), Refusal>
     ensures { MatchResult result
         (λ _. president_verdict (holder_in books.now) books.now.players due seat corp count ≡ None)
         (λ fault. president_verdict (holder_in books.now) books.now.players due seat corp count ≡ Some fault) }
 {
     if changes_president(books, due, seat, corp, count) {
-        return Err(Fault::PresidencyWouldChange);
+        return Err(Refusal::PresidencyWouldChange);
     }
     Ok(())
 }

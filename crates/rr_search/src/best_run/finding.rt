@@ -14,7 +14,7 @@ ghost use Rattle.rr_search.specs.declared.fault.Fault.TheVariants.{NoCertificate
 use crate::best_run::run::BestRun;
 use crate::best_run::wording::{certificate_text, command_text, sheet_text};
 use crate::{Fault, best};
-use rr_books::{Corp, Money};
+use rr_books::{Corp, Money, Refusal};
 use rr_checker::{CertTree, Net};
 use rr_desk::Position;
 use rr_kit::Kit;
@@ -105,7 +105,7 @@ fn revenue_of(alloc: Global, net: &Net, sheet: &Sheet) -> Result<Money, Fault>
 {
     match legal(alloc, net, sheet) {
         Ok(revenue) => Ok(Money(revenue as i64)),
-        Err(rr_referee::Fault::OutOfMemory) => Err(Fault::OutOfMemory),
-        Err(rr_referee::Fault::IllegalSheet(_)) => unreachable!(),
+        Err(Refusal::IllegalSheet(_)) => unreachable!(),
+        Err(_) => Err(Fault::OutOfMemory),
     }
 }

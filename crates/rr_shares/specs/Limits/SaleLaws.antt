@@ -12,8 +12,8 @@ use Rattle.rr_books.specs.declared.parties.Seat.{Seat}
 use Rattle.rr_books.specs.declared.parties.Place.TheVariants as L
 use Rattle.rr_books.specs.declared.certificates.Cert.TheVariants as K
 use Rattle.rr_books.specs.Shares.{is_at, share}
-use Rattle.rr_shares.specs.declared.limits.fault.Fault.{Fault}
-use Rattle.rr_shares.specs.declared.limits.fault.Fault.TheVariants as F
+use Rattle.rr_books.specs.declared.refusal.Refusal.{Refusal}
+use Rattle.rr_books.specs.declared.refusal.Refusal.TheVariants as F
 use Rattle.rr_shares.specs.Limits.Holdings.{Holdings, percent_of}
 use Rattle.rr_shares.specs.Limits.Sales.{HasLawfulSale, has_lawful_sale, has_successor, leaves_no_president, sale_verdict, sell_verdict, sells_one}
 
@@ -22,7 +22,7 @@ abbrev pub OneShareSuffices : Type 0
 OneShareSuffices = (h : Holdings) (is_first : Bool) (s : Seat) → IsTrue (has_lawful_sale h is_first s) ↔ HasLawfulSale h is_first s
 
 -- the verdict on a sale by what it looks at: a price, no share, too few, nobody to follow, too many in the pool
-abbrev verdict_by : Bool → Bool → Bool → Bool → Bool → Option Fault
+abbrev verdict_by : Bool → Bool → Bool → Bool → Bool → Option Refusal
 verdict_by priced none short abandoned full =
     if not priced then Some F.NotForSale
     else if none then Some F.NotForSale
@@ -79,11 +79,11 @@ one_of_many_in_round : (h : Holdings) (is_first : Bool) (s : Seat) (c : Corp) (n
 one_of_many_in_round h true s c n lawful = lawful
 one_of_many_in_round h false s c n lawful = one_of_many h s c n lawful
 
-none_from : (verdict : Option Fault) → not (is_some verdict) ≡ true → verdict ≡ None
+none_from : (verdict : Option Refusal) → not (is_some verdict) ≡ true → verdict ≡ None
 none_from None e = refl
 none_from (Some fault) e = cc
 
-is_none_from : (verdict : Option Fault) → verdict ≡ None → not (is_some verdict) ≡ true
+is_none_from : (verdict : Option Refusal) → verdict ≡ None → not (is_some verdict) ≡ true
 is_none_from verdict e = rw e refl
 
 -- the corporations are all in the list

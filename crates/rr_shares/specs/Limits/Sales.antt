@@ -8,8 +8,8 @@ use Rattle.rr_books.specs.declared.parties.Place.TheVariants as L
 use Rattle.rr_books.specs.declared.certificates.Cert.TheVariants as C
 use Rattle.rr_books.specs.Same.{same_seat}
 use Rattle.rr_books.specs.Shares.{Holders, is_at, share}
-use Rattle.rr_shares.specs.declared.limits.fault.Fault.{Fault}
-use Rattle.rr_shares.specs.declared.limits.fault.Fault.TheVariants as F
+use Rattle.rr_books.specs.declared.refusal.Refusal.{Refusal}
+use Rattle.rr_books.specs.declared.refusal.Refusal.TheVariants as F
 use Rattle.rr_shares.specs.Limits.Holdings.{Holdings, percent_of}
 use Rattle.rr_shares.specs.Limits.Limits.{is_over_limit}
 
@@ -28,7 +28,7 @@ leaves_no_president players holders s c left =
     is_at (holders (C.President c)) (L.Seat s) && nat_lt left 20 && not (has_successor players holders s c)
 
 -- why a sale of so many 10% shares is refused in any round, if it is
-abbrev pub sale_verdict : Holdings → Seat → Corp → ℕ → Option Fault
+abbrev pub sale_verdict : Holdings → Seat → Corp → ℕ → Option Refusal
 sale_verdict h s c n =
     if not (is_some (h.prices c)) then Some F.NotForSale
     else if n == 0 then Some F.NotForSale
@@ -38,7 +38,7 @@ sale_verdict h s c n =
     else None
 
 -- why a seat can't sell so many 10% shares in a stock round, if it can't: nothing is sold in the first one
-abbrev pub sell_verdict : Holdings → Bool → Seat → Corp → ℕ → Option Fault
+abbrev pub sell_verdict : Holdings → Bool → Seat → Corp → ℕ → Option Refusal
 sell_verdict h is_first s c n = if is_first then Some F.FirstStockRound else sale_verdict h s c n
 
 -- some sale of the seat's is lawful in a stock round, of whatever corporation and however many shares

@@ -8,7 +8,7 @@ ghost use Rattle.rr_shares.specs.Limits.Limits.{is_coloured, is_unlimited, priva
 
 use rr_books::{Books, Cert, Corp, Place, Private, Seat, certificate_limit};
 use rr_chart::{Chart, Zone};
-use rr_desk::position::Position;
+use rr_desk::Position;
 
 /// How many of the seat's certificates count against the certificate limit: its open privates, and its certificates of
 /// each corporation whose token isn't in a coloured zone.

@@ -9,11 +9,10 @@ ghost use Rattle.rr_desk.specs.Position.Position.{IsPositionOf};
 ghost use Rattle.rr_shares.specs.Limits.Holdings.{holdings_of, holdings_in};
 ghost use Rattle.rr_shares.specs.Limits.Sales.{is_successor, has_successor, leaves_no_president, sale_verdict, sell_verdict, HasLawfulSale, sells_one, has_lawful_sale, must_sell_first};
 
-use crate::limits::fault::Fault;
 use crate::limits::limits::is_over_limit;
-use rr_books::{Books, Cert, Corp, Place, Seat};
+use rr_books::{Books, Cert, Corp, Place, Refusal, Seat};
 use rr_chart::Chart;
-use rr_desk::position::Position;
+use rr_desk::Position;
 
 /// Whether the seat may sell `count` 10% shares of the corporation, in whatever round.
 ///
@@ -28,7 +27,7 @@ pub fn judge_sale(
     seat: Seat,
     corp: Corp,
     count: u64,
-) -> Result<(), Fault>
+) -> Result<(), Refusal>
     ensures shown { MatchResult result
         (λ _. sale_verdict (holdings_in chart.now position.now) seat corp count ≡ None)
         (λ fault. sale_verdict (holdings_in chart.now position.now) seat corp count ≡ Some fault) }
@@ -40,18 +39,18 @@ pub fn judge_sale(
     ensures bounds { OnOk result ((1 ≤ count) × (count ≤ 5)) }
 {
     if position.market().price(chart, corp).is_none() || count == 0 {
-        return Err(Fault::NotForSale);
+        return Err(Refusal::NotForSale);
     }
     let held = position.books().share(Place::Seat(seat), corp);
     if count > u64::from(held / 10) {
-        return Err(Fault::NotForSale);
+        return Err(Refusal::NotForSale);
     }
     let sold = 10 * count as u8;
     if leaves_no_president(position.books(), seat, corp, held - sold) {
-        return Err(Fault::NotForSale);
+        return Err(Refusal::NotForSale);
     }
     if position.books().share(Place::Pool, corp) + sold > 50 {
-        return Err(Fault::PoolOverHalf);
+        return Err(Refusal::PoolOverHalf);
     }
     Ok(())
 }
@@ -61,13 +60,13 @@ pub fn judge_sale(
 /// # Errors
 ///
 /// `FirstStockRound` in the first stock round; then those of `judge_sale`.
-pub fn judge_sell(
+pub fn judge_sale_in_round(
     position: &Position,
     chart: &Chart,
     seat: Seat,
     corp: Corp,
     count: u64,
-) -> Result<(), Fault>
+) -> Result<(), Refusal>
     ensures shown { MatchResult result
         (λ _. sell_verdict (holdings_in chart.now position.now) (is_first position.now.rounds) seat corp count ≡ None)
         (λ fault. sell_verdict (holdings_in chart.now position.now) (is_first position.now.rounds) seat corp count ≡ Some fault) }
@@ -79,7 +78,7 @@ pub fn judge_sell(
     ensures bounds { OnOk result ((1 ≤ count) × (count ≤ 5)) }
 {
     if position.rounds().is_first() {
-        return Err(Fault::FirstStockRound);
+        return Err(Refusal::FirstStockRound);
     }
     judge_sale(position, chart, seat, corp, count)?;
     Ok(())
@@ -120,7 +119,7 @@ fn sells_one_of_any(position: &Position, chart: &Chart, seat: Seat) -> bool
 fn sells_one(position: &Position, chart: &Chart, seat: Seat, corp: Corp) -> bool
     ensures { result ≡ sells_one (holdings_in chart.now position.now) (is_first position.now.rounds) seat corp }
 {
-    judge_sell(position, chart, seat, corp, 1).is_ok()
+    judge_sale_in_round(position, chart, seat, corp, 1).is_ok()
 }
 
 // Whether the seat is the corporation's president, and with so many percent it is left with less than 20% though no

@@ -1,6 +1,6 @@
 -- The refusals of a judge: their numbers, and those of a table among them.
 use Rattle.std.specs.Prelude.{ℕ}
-use Rattle.rr_game.specs.Fault as numbers
+use Rattle.rr_books.specs.Refusal as numbers
 use Rattle.rr_game.specs.declared.history.fault.Fault as table
 use Rattle.rr_game.specs.declared.history.fault.Fault.TheVariants as H
 use Rattle.rr_tables.specs.declared.records.fault.Fault.{Fault}

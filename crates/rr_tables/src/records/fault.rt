@@ -1,6 +1,7 @@
 ghost use Rattle.std.specs.Prelude.{◌≡◌};
 ghost use Rattle.rr_tables.specs.Records.Fault.{number_of, of_table};
 
+use rr_books::Refusal;
 use thiserror::Error;
 
 /// Why a request isn't lawful at its table.
@@ -8,7 +9,7 @@ use thiserror::Error;
 pub enum Fault {
     /// The rules of the game refuse it. Want of memory isn't told by this, but by `OutOfMemory`.
     #[error("{0}")]
-    Game(rr_game::Fault),
+    Game(Refusal),
     /// The stamp isn't the table's, which is given.
     #[error("stale stamp {0}")]
     StaleStamp(u64),

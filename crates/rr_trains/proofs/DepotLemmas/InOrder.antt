@@ -10,7 +10,7 @@ use Rattle.rr_roster.specs.declared.company.Corp.{Corp}
 use Rattle.rr_roster.specs.Company.{kind_index, kinds}
 use Rattle.rr_roster.specs.Terms.{face_of}
 use Rattle.rr_books.specs.declared.parties.Place.TheVariants as L
-use Rattle.rr_books.specs.declared.acts.TrainSource.TheVariants as S
+use Rattle.rr_roster.specs.declared.sources.TrainSource.TheVariants as S
 use Rattle.rr_books.specs.Book.{train_holder}
 use Rattle.rr_market.specs.Operations.Phases.{TrainHolders, is_sold}
 use Rattle.rr_trains.specs.Places.{has_train_at}

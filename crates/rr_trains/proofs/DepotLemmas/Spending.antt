@@ -23,7 +23,7 @@ use Rattle.rr_books.specs.declared.entries.Entry.TheVariants as E
 use Rattle.rr_books.specs.declared.entries.Marker.TheVariants as M
 use Rattle.rr_books.specs.declared.acts.Act.{Act}
 use Rattle.rr_books.specs.declared.acts.Act.TheVariants as A
-use Rattle.rr_books.specs.declared.acts.TrainSource.TheVariants as S
+use Rattle.rr_roster.specs.declared.sources.TrainSource.TheVariants as S
 use Rattle.rr_books.specs.Book.{Book, balance, balance-push, balance_after, train_holder}
 use Rattle.rr_books.specs.Same.{same_party}
 use Rattle.rr_desk.specs.Effects.{Effect, adds, in_turn}

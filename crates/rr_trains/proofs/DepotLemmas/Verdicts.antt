@@ -4,22 +4,22 @@ use Rattle.rr_roster.specs.declared.company.Private.{Private}
 use Rattle.rr_roster.specs.declared.company.Corp.{Corp}
 use Rattle.rr_roster.specs.declared.company.Kind.{Kind}
 use Rattle.rr_roster.specs.Terms.{Terms, face_of, price_of, trade_of}
-use Rattle.rr_books.specs.declared.acts.TrainSource.{TrainSource}
+use Rattle.rr_roster.specs.declared.sources.TrainSource.{TrainSource}
 use Rattle.rr_market.specs.Operations.Phases.{phase}
 use Rattle.rr_trains.specs.Phases.{sells_privates}
 use Rattle.rr_trains.specs.Sales.{is_on_sale}
-use Rattle.rr_trains.specs.declared.depot.fault.Fault.{Fault}
-use Rattle.rr_trains.specs.declared.depot.fault.Fault.TheVariants as F
+use Rattle.rr_books.specs.declared.refusal.Refusal.{Refusal}
+use Rattle.rr_books.specs.declared.refusal.Refusal.TheVariants as F
 use Rattle.rr_trains.specs.declared.depot.purchases.Deal.{Deal}
 use Rattle.rr_trains.specs.Depot.Rules.{deal_verdict, has_room, has_seller, is_out_of_bounds, is_president, is_short, is_transferable, may_trade, owner, private_verdict, trade_verdict, train_verdict}
 use Rattle.rr_trains.specs.Depot.Situation.{Situation}
 
 -- a test that refuses nothing fails, and so do those behind it
-passed : (b : Bool) (fault : Fault) (others : Option Fault) → (if b then Some fault else others) ≡ None → (b ≡ false) × (others ≡ None)
+passed : (b : Bool) (fault : Refusal) (others : Option Refusal) → (if b then Some fault else others) ≡ None → (b ≡ false) × (others ≡ None)
 passed true fault others e = absurd (cc)
 passed false fault others e = (refl, e)
 
-holds : (b : Bool) (fault : Fault) (others : Option Fault) → (if not b then Some fault else others) ≡ None → (b ≡ true) × (others ≡ None)
+holds : (b : Bool) (fault : Refusal) (others : Option Refusal) → (if not b then Some fault else others) ≡ None → (b ≡ true) × (others ≡ None)
 holds true fault others e = (refl, e)
 holds false fault others e = absurd (cc)
 

@@ -11,8 +11,8 @@ use Rattle.rr_books.specs.declared.parties.Party.{Party}
 use Rattle.rr_books.specs.declared.parties.Place.TheVariants as L
 use Rattle.rr_books.specs.declared.acts.Act.{Act}
 use Rattle.rr_books.specs.declared.acts.Act.TheVariants as A
-use Rattle.rr_books.specs.declared.acts.TrainSource.{TrainSource}
-use Rattle.rr_books.specs.declared.acts.TrainSource.TheVariants as S
+use Rattle.rr_roster.specs.declared.sources.TrainSource.{TrainSource}
+use Rattle.rr_roster.specs.declared.sources.TrainSource.TheVariants as S
 use Rattle.rr_books.specs.Book.{Book, balance, train_holder}
 use Rattle.rr_books.specs.State.{is_bank}
 use Rattle.rr_market.specs.Operations.Phases.{TrainHolders, is_sold, phase}

@@ -12,15 +12,15 @@ use Rattle.rr_books.specs.declared.entries.Entry.TheVariants as E
 use Rattle.rr_books.specs.declared.entries.Marker.TheVariants as M
 use Rattle.rr_books.specs.declared.acts.Act.{Act}
 use Rattle.rr_books.specs.declared.acts.Act.TheVariants as A
-use Rattle.rr_books.specs.declared.acts.TrainSource.TheVariants as S
+use Rattle.rr_roster.specs.declared.sources.TrainSource.TheVariants as S
 use Rattle.rr_books.specs.Book.{Book, balance, train_holder}
 use Rattle.rr_desk.specs.Incomes.{dollars}
 use Rattle.rr_market.specs.Operations.Phases.{phase, train}
 use Rattle.rr_trains.specs.Places.{trains_held}
 use Rattle.rr_trains.specs.Phases.{train_limit}
 use Rattle.rr_trains.specs.WorkedTrains.{after_first_six, before_first_four, trains_to, usual_terms}
-use Rattle.rr_trains.specs.declared.depot.fault.Fault.{Fault}
-use Rattle.rr_trains.specs.declared.depot.fault.Fault.TheVariants as F
+use Rattle.rr_books.specs.declared.refusal.Refusal.{Refusal}
+use Rattle.rr_books.specs.declared.refusal.Refusal.TheVariants as F
 use Rattle.rr_trains.specs.Depot.Over.{is_any_over_limit}
 use Rattle.rr_trains.specs.Depot.Rules.{verdict}
 use Rattle.rr_trains.specs.Depot.Effects.{entries_of}
@@ -31,7 +31,7 @@ seat n = record { 0 = n }
 abbrev pub grants : Party → ℕ → Book
 grants party amount = E.Pay P.Bank party (dollars amount) ∷ []
 
-abbrev pub refusal : Book → Act → Option Fault
+abbrev pub refusal : Book → Act → Option Refusal
 refusal book act = verdict usual_terms book act
 
 abbrev pub added : Book → Act → Book

@@ -4,14 +4,13 @@ ghost use Rattle.rr_desk.specs.Position.Position.{IsPositionOf};
 ghost use Rattle.rr_trains.specs.Depot.Rules.{deal_verdict, discard_verdict, private_verdict, trade_verdict, train_verdict, verdict, verdict_in};
 ghost use Rattle.rr_trains.specs.Depot.Situation.{situation_in};
 
-use crate::depot::fault::Fault;
 use crate::depot::purchases::Deal;
 use crate::depot::reading::{
     has_room, has_seller, is_for_sale, is_out_of_bounds, is_president, is_short, may_trade,
 };
 use crate::{has_train_at, is_on_sale, is_over_train_limit, phase, sells_privates};
-use rr_books::{Act, Books, Corp, Kind, Place, Private, TrainSource};
-use rr_desk::position::Position;
+use rr_books::{Act, Books, Corp, Kind, Place, Private, Refusal, TrainSource};
+use rr_desk::Position;
 use rr_roster::Roster;
 
 /// Whether the rules allow what a corporation buys or gives up now. That the step takes such a command, that it is the
@@ -32,7 +31,7 @@ use rr_roster::Roster;
 ///   B&O's; `PriceOutOfBounds` below half the face and above twice that; `TooLittleCash`.
 ///
 /// `WrongStep` for any other command.
-pub fn judge(roster: &Roster, position: &Position, act: &Act) -> Result<(), Fault>
+pub fn judge(roster: &Roster, position: &Position, act: &Act) -> Result<(), Refusal>
     ensures shown { MatchResult result
         (λ _. verdict_in roster.now (situation_in position.now.books) act.now ≡ None)
         (λ fault. verdict_in roster.now (situation_in position.now.books) act.now ≡ Some fault) }
@@ -44,7 +43,7 @@ pub fn judge(roster: &Roster, position: &Position, act: &Act) -> Result<(), Faul
 }
 
 // Whether the rules allow the command, by the tables of the books.
-fn judge_act(roster: &Roster, books: &Books, act: &Act) -> Result<(), Fault>
+fn judge_act(roster: &Roster, books: &Books, act: &Act) -> Result<(), Refusal>
     ensures { MatchResult result
         (λ _. verdict_in roster.now (situation_in books.now) act.now ≡ None)
         (λ fault. verdict_in roster.now (situation_in books.now) act.now ≡ Some fault) }
@@ -76,7 +75,7 @@ fn judge_act(roster: &Roster, books: &Books, act: &Act) -> Result<(), Fault>
             private,
             price,
         } => judge_private(roster, books, *corp, *private, *price),
-        _ => Err(Fault::WrongStep),
+        _ => Err(Refusal::WrongStep),
     }
 }
 
@@ -88,79 +87,79 @@ fn judge_train(
     corp: Corp,
     kind: Kind,
     source: TrainSource,
-) -> Result<(), Fault>
+) -> Result<(), Refusal>
     ensures { MatchResult result
         (λ _. train_verdict roster.now (situation_in books.now) corp kind source ≡ None)
         (λ fault. train_verdict roster.now (situation_in books.now) corp kind source ≡ Some fault) }
 {
     if !is_on_sale(books, kind, source) {
-        return Err(Fault::NotOnSale);
+        return Err(Refusal::NotOnSale);
     }
     if !has_room(books, corp) {
-        return Err(Fault::TrainLimit);
+        return Err(Refusal::TrainLimit);
     }
     if is_short(books, corp, u64::from(roster.price(kind))) {
-        return Err(Fault::TooLittleCash);
+        return Err(Refusal::TooLittleCash);
     }
     Ok(())
 }
 
 // Whether the corporation may buy the other one's train.
 #[tactic(auto, unfolding(crate::specs::Depot::Rules::deal_verdict))]
-fn judge_deal(books: &Books, deal: &Deal) -> Result<(), Fault>
+fn judge_deal(books: &Books, deal: &Deal) -> Result<(), Refusal>
     ensures { MatchResult result
         (λ _. deal_verdict (situation_in books.now) deal.now ≡ None)
         (λ fault. deal_verdict (situation_in books.now) deal.now ≡ Some fault) }
 {
     if !has_seller(books, deal.corp, deal.kind, deal.seller) {
-        return Err(Fault::NotOnSale);
+        return Err(Refusal::NotOnSale);
     }
     if !is_president(books, deal.corp, deal.president) {
-        return Err(Fault::NotYourTurn);
+        return Err(Refusal::NotYourTurn);
     }
     if !is_president(books, deal.seller, deal.seller_president) {
-        return Err(Fault::NotYourTurn);
+        return Err(Refusal::NotYourTurn);
     }
     if deal.price == 0 {
-        return Err(Fault::PriceOutOfBounds);
+        return Err(Refusal::PriceOutOfBounds);
     }
     if !has_room(books, deal.corp) {
-        return Err(Fault::TrainLimit);
+        return Err(Refusal::TrainLimit);
     }
     if is_short(books, deal.corp, deal.price) {
-        return Err(Fault::TooLittleCash);
+        return Err(Refusal::TooLittleCash);
     }
     Ok(())
 }
 
 // Whether the corporation may hand in a train for a D.
 #[tactic(auto, unfolding(crate::specs::Depot::Rules::trade_verdict))]
-fn judge_trade(roster: &Roster, books: &Books, corp: Corp, kind: Kind) -> Result<(), Fault>
+fn judge_trade(roster: &Roster, books: &Books, corp: Corp, kind: Kind) -> Result<(), Refusal>
     ensures { MatchResult result
         (λ _. trade_verdict roster.now (situation_in books.now) corp kind ≡ None)
         (λ fault. trade_verdict roster.now (situation_in books.now) corp kind ≡ Some fault) }
 {
     if !may_trade(books, corp, kind) {
-        return Err(Fault::NotOnSale);
+        return Err(Refusal::NotOnSale);
     }
     if is_short(books, corp, u64::from(roster.trade())) {
-        return Err(Fault::TooLittleCash);
+        return Err(Refusal::TooLittleCash);
     }
     Ok(())
 }
 
 // Whether the corporation has to give up a train, and has one of the kind.
 #[tactic(auto, unfolding(crate::specs::Depot::Rules::discard_verdict))]
-fn judge_discard(books: &Books, corp: Corp, kind: Kind) -> Result<(), Fault>
+fn judge_discard(books: &Books, corp: Corp, kind: Kind) -> Result<(), Refusal>
     ensures { MatchResult result
         (λ _. discard_verdict (situation_in books.now) corp kind ≡ None)
         (λ fault. discard_verdict (situation_in books.now) corp kind ≡ Some fault) }
 {
     if !is_over_train_limit(books, corp) {
-        return Err(Fault::WrongStep);
+        return Err(Refusal::WrongStep);
     }
     if !has_train_at(books, Place::Corp(corp), kind) {
-        return Err(Fault::NotOnSale);
+        return Err(Refusal::NotOnSale);
     }
     Ok(())
 }
@@ -173,22 +172,22 @@ fn judge_private(
     corp: Corp,
     private: Private,
     price: u64,
-) -> Result<(), Fault>
+) -> Result<(), Refusal>
     ensures { MatchResult result
         (λ _. private_verdict roster.now (situation_in books.now) corp private price ≡ None)
         (λ fault. private_verdict roster.now (situation_in books.now) corp private price ≡ Some fault) }
 {
     if !sells_privates(phase(books)) {
-        return Err(Fault::NotOnSale);
+        return Err(Refusal::NotOnSale);
     }
     if !is_for_sale(books, private) {
-        return Err(Fault::NotForSale);
+        return Err(Refusal::NotForSale);
     }
     if is_out_of_bounds(roster.face(private), price) {
-        return Err(Fault::PriceOutOfBounds);
+        return Err(Refusal::PriceOutOfBounds);
     }
     if is_short(books, corp, price) {
-        return Err(Fault::TooLittleCash);
+        return Err(Refusal::TooLittleCash);
     }
     Ok(())
 }

@@ -6,7 +6,7 @@ ghost use Rattle.rr_trains.specs.Depot.Over.{is_any_over_limit};
 
 use crate::is_over_train_limit;
 use rr_books::{Books, Corp};
-use rr_desk::position::Position;
+use rr_desk::Position;
 
 /// Whether some corporation of the table has more trains than the phase allows. It has to give some up before anything
 /// else goes on.

@@ -8,7 +8,7 @@ use crate::depot::purchases::{Deal, Purchase, price, trade_price};
 use crate::depot::reading::owner;
 use crate::depot::trading::{get_train, pay_player};
 use crate::give_lowest_train;
-use rr_books::{Act, Cert, Corp, Entry, Fault, Kind, Marker, Place, Private, TrainSource};
+use rr_books::{Act, Cert, Corp, Entry, Kind, Marker, Place, Private, Refusal, TrainSource};
 use rr_desk::Desk;
 use rr_roster::Roster;
 
@@ -18,9 +18,9 @@ use rr_roster::Roster;
 /// # Errors
 ///
 /// `OutOfMemory`; the desk may have some of the entries then.
-pub fn play(roster: &Roster, desk: &mut Desk, act: &Act) -> Result<(), Fault>
+pub fn play(roster: &Roster, desk: &mut Desk, act: &Act) -> Result<(), Refusal>
     requires { IsSmall act.now }
-    ensures fault { IfErr result (λ fault. fault ≡ Fault.OutOfMemory) }
+    ensures fault { IfErr result (λ fault. fault ≡ Refusal.OutOfMemory) }
     ensures takes { OnOk result (Takes (λ book. entries_of roster.now book act.now) desk.old desk.new) }
 {
     match act {
@@ -61,8 +61,8 @@ fn play_train(
     corp: Corp,
     kind: Kind,
     source: TrainSource,
-) -> Result<(), Fault>
-    ensures fault { IfErr result (λ fault. fault ≡ Fault.OutOfMemory) }
+) -> Result<(), Refusal>
+    ensures fault { IfErr result (λ fault. fault ≡ Refusal.OutOfMemory) }
     ensures takes { OnOk result (Takes (λ book. buys_train roster.now (situation_of book) corp kind source book) desk.old desk.new) }
 {
     let amount = price(roster, kind);
@@ -74,9 +74,9 @@ fn play_train(
 
 // The corporation buys another one's train.
 #[tactic(auto, unfolding(crate::specs::Depot::Effects::buys_train_from))]
-fn play_deal(desk: &mut Desk, deal: Deal) -> Result<(), Fault>
+fn play_deal(desk: &mut Desk, deal: Deal) -> Result<(), Refusal>
     requires { deal.price ≤ 10000000000 }
-    ensures fault { IfErr result (λ fault. fault ≡ Fault.OutOfMemory) }
+    ensures fault { IfErr result (λ fault. fault ≡ Refusal.OutOfMemory) }
     ensures takes { OnOk result (Takes (buys_train_from deal) desk.old desk.new) }
 {
     desk.push(Entry::Step(Marker::Act(Act::BuyTrainFrom {
@@ -92,8 +92,8 @@ fn play_deal(desk: &mut Desk, deal: Deal) -> Result<(), Fault>
 }
 
 // The corporation hands in a train for a D.
-fn play_trade(roster: &Roster, desk: &mut Desk, corp: Corp, kind: Kind) -> Result<(), Fault>
-    ensures fault { IfErr result (λ fault. fault ≡ Fault.OutOfMemory) }
+fn play_trade(roster: &Roster, desk: &mut Desk, corp: Corp, kind: Kind) -> Result<(), Refusal>
+    ensures fault { IfErr result (λ fault. fault ≡ Refusal.OutOfMemory) }
     ensures takes { OnOk result (Takes (λ book. trades_train roster.now (situation_of book) corp kind book) desk.old desk.new) }
 {
     let amount = trade_price(roster);
@@ -106,8 +106,8 @@ fn play_trade(roster: &Roster, desk: &mut Desk, corp: Corp, kind: Kind) -> Resul
 
 // The corporation gives up a train.
 #[tactic(auto, unfolding(crate::specs::Depot::Effects::discards_train))]
-fn play_discard(desk: &mut Desk, corp: Corp, kind: Kind) -> Result<(), Fault>
-    ensures fault { IfErr result (λ fault. fault ≡ Fault.OutOfMemory) }
+fn play_discard(desk: &mut Desk, corp: Corp, kind: Kind) -> Result<(), Refusal>
+    ensures fault { IfErr result (λ fault. fault ≡ Refusal.OutOfMemory) }
     ensures takes { OnOk result (Takes (discards_train corp kind) desk.old desk.new) }
 {
     desk.push(Entry::Step(Marker::Act(Act::Discard { corp, kind })))?;
@@ -116,9 +116,9 @@ fn play_discard(desk: &mut Desk, corp: Corp, kind: Kind) -> Result<(), Fault>
 }
 
 // The corporation buys a private of the player that has it.
-fn play_private(desk: &mut Desk, corp: Corp, private: Private, price: u64) -> Result<(), Fault>
+fn play_private(desk: &mut Desk, corp: Corp, private: Private, price: u64) -> Result<(), Refusal>
     requires { price ≤ 10000000000 }
-    ensures fault { IfErr result (λ fault. fault ≡ Fault.OutOfMemory) }
+    ensures fault { IfErr result (λ fault. fault ≡ Refusal.OutOfMemory) }
     ensures takes { OnOk result (Takes (λ book. takes_private (situation_of book) corp private price book) desk.old desk.new) }
 {
     let player = owner(desk.books(), private);

@@ -1,21 +1,20 @@
 //! What a purchase adds, once what it reads of the books is known.
-ghost use Rattle.std.specs.Prelude.{◌≡◌, ◌<◌, ◌≤◌, ◌≤ℤ◌, pos, OnOk, OnErr, IfErr, IfSome};
+ghost use Rattle.std.specs.Prelude.{◌≡◌, ◌<◌, ◌≤◌, OnOk, OnErr, IfErr, IfSome};
 ghost use Rattle.rr_books.specs.State.{party_index};
 ghost use Rattle.rr_desk.specs.Desk.{AddsSome, Takes};
-ghost use Rattle.rr_desk.specs.Incomes.{dollars};
 ghost use Rattle.rr_trains.specs.Depot.Effects.{gets_train, pays, pays_player};
 
 use crate::depot::purchases::Purchase;
 use crate::{first_train, give_lowest_train};
-use rr_books::{Corp, Entry, Fault, Money, Party, Place, Seat};
-use rr_desk::Desk;
+use rr_books::{Corp, Entry, Money, Party, Place, Refusal, Seat};
+use rr_desk::{Desk, dollars};
 
 /// The corporation gets the train, pays for it, and what the train brings about follows.
 #[tactic(auto, unfolding(crate::specs::Depot::Effects::gets_train))]
-pub(crate) fn get_train(desk: &mut Desk, purchase: Purchase) -> Result<(), Fault>
+pub(crate) fn get_train(desk: &mut Desk, purchase: Purchase) -> Result<(), Refusal>
     requires payee { party_index purchase.payee < 15 }
     requires small { purchase.amount ≤ 10000000000 }
-    ensures fault { IfErr result (λ fault. fault ≡ Fault.OutOfMemory) }
+    ensures fault { IfErr result (λ fault. fault ≡ Refusal.OutOfMemory) }
     ensures takes { OnOk result (Takes (gets_train purchase) desk.old desk.new) }
 {
     let corp = purchase.corp;
@@ -32,10 +31,10 @@ pub(crate) fn pay_player(
     corp: Corp,
     player: Option<Seat>,
     amount: u64,
-) -> Result<(), Fault>
+) -> Result<(), Refusal>
     requires few { IfSome player (λ seat. seat.0 < 6) }
     requires small { amount ≤ 10000000000 }
-    ensures fault { IfErr result (λ fault. fault ≡ Fault.OutOfMemory) }
+    ensures fault { IfErr result (λ fault. fault ≡ Refusal.OutOfMemory) }
     ensures takes { OnOk result (Takes (pays_player corp player amount) desk.old desk.new) }
     ensures needed { OnErr result (AddsSome (pays_player corp player amount) desk.old) }
 {
@@ -46,10 +45,10 @@ pub(crate) fn pay_player(
 }
 
 // The corporation pays.
-fn pay(desk: &mut Desk, corp: Corp, to: Party, amount: u64) -> Result<(), Fault>
+fn pay(desk: &mut Desk, corp: Corp, to: Party, amount: u64) -> Result<(), Refusal>
     requires payee { party_index to < 15 }
     requires small { amount ≤ 10000000000 }
-    ensures fault { IfErr result (λ fault. fault ≡ Fault.OutOfMemory) }
+    ensures fault { IfErr result (λ fault. fault ≡ Refusal.OutOfMemory) }
     ensures takes { OnOk result (Takes (pays corp to amount) desk.old desk.new) }
 {
     let amount = dollars(amount);
@@ -59,14 +58,4 @@ fn pay(desk: &mut Desk, corp: Corp, to: Party, amount: u64) -> Result<(), Fault>
         amount,
     })?;
     Ok(())
-}
-
-// The amount as money.
-fn dollars(amount: u64) -> Money
-    requires { amount ≤ 10000000000 }
-    ensures value { result ≡ dollars amount }
-    ensures low { pos 0 ≤ℤ result.0 }
-    ensures high { result.0 ≤ℤ pos 10000000000 }
-{
-    Money(amount as i64)
 }

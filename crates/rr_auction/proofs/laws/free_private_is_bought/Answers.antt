@@ -2,7 +2,7 @@ use Rattle.std.specs.Prelude.{Bool, not, Some}
 use Rattle.std.proofs.Common.{ap}
 use Rattle.std.proofs.lemmas.Bool.{cond-true}
 use Rattle.rr_books.specs.Book.{holder}
-use Rattle.rr_auction.specs.declared.fault.Fault.TheVariants as F
+use Rattle.rr_books.specs.declared.refusal.Refusal.TheVariants as F
 use Rattle.rr_rounds.specs.Bids.Progress.{progress}
 use Rattle.rr_auction.specs.Rules.{takes_bids}
 use Rattle.rr_auction.proofs.TurnCounts.{takes_none}

@@ -1,6 +1,6 @@
 use Rattle.std.proofs.Common.{◌≡◌, subst}
 use Rattle.std.specs.Prelude.{None, Some, ◌⊎◌, MatchResult}
-use Rattle.rr_lay.specs.declared.fault.Fault.TheVariants.{OutOfMemory}
+use Rattle.rr_books.specs.declared.refusal.Refusal.TheVariants.{OutOfMemory}
 use Rattle.rr_lay.specs.Laying.{IsLayVerdict, first_lay_verdict}
 use Rattle.rr_lay.specs.Position.{Position}
 use Rattle.rr_lay.proofs.Sights.{seen}

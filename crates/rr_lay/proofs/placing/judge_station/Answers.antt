@@ -1,7 +1,7 @@
 use Rattle.std.proofs.Common.{◌≡◌, subst}
 use Rattle.std.specs.Prelude.{None, Some, ◌⊎◌, MatchResult}
 use Rattle.rr_roster.specs.Terms.{tokens_of}
-use Rattle.rr_lay.specs.declared.fault.Fault.TheVariants.{OutOfMemory}
+use Rattle.rr_books.specs.declared.refusal.Refusal.TheVariants.{OutOfMemory}
 use Rattle.rr_lay.specs.Placing.{IsStationVerdict, first_station_verdict}
 use Rattle.rr_lay.specs.Position.{Position}
 use Rattle.rr_lay.proofs.Sights.{seen}

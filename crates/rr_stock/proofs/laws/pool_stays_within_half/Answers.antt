@@ -14,16 +14,15 @@ use Rattle.rr_books.specs.Book.{Book, holder}
 use Rattle.rr_books.specs.Same.{same_corp}
 use Rattle.rr_books.specs.Shares.{share}
 use Rattle.rr_shares.specs.Effects.{moves_lowest_shares, presidency_after_sale, sale_shares}
-use Rattle.rr_shares.specs.declared.limits.fault.Fault.TheVariants as H
+use Rattle.rr_books.specs.declared.refusal.Refusal.TheVariants as H
 use Rattle.rr_shares.specs.Limits.Holdings.{Holdings, percent_of}
 use Rattle.rr_shares.specs.Limits.Sales.{leaves_no_president, sale_verdict, sell_verdict}
 use Rattle.rr_rounds.specs.Round.{ends_round, is_first, progress}
 use Rattle.rr_stock.specs.Effects.{entries_of, pays_seller, proceeds, says, sells}
-use Rattle.rr_stock.specs.Fault.{of_holdings}
 use Rattle.rr_stock.specs.Rules as rules
 use Rattle.rr_stock.specs.Situation.{Situation, situation_of}
 use Rattle.rr_stock.proofs.PoolLemmas.{Raises, moves_to_pool, no_more_by, pool, raises_by_shares, raises_no_more, raises_one, raises_then}
-use Rattle.rr_stock.proofs.SaleVerdicts.{neither, none_before, passed}
+use Rattle.rr_stock.proofs.SaleVerdicts.{neither, passed}
 use Rattle.rr_stock.proofs.TurnLemmas.{IsFree, Spares, after_sale_free, ending_counted, row_counted, seller_free}
 use Rattle.rr_stock.proofs.laws.pool_stays_within_half.Goals as goal
 
@@ -92,7 +91,7 @@ pub returns : goal.returns
 unfolding pool rules.sale_verdict
 returns c rows book (A.Sell s corp n) lawful half d =
     let t = situation_of rows book in
-    let judged = none_before of_holdings (sell_verdict t.holdings (is_first t.progress) s corp n) (neither (rules.turn_verdict t.progress s) _ lawful) in
+    let judged = (neither (rules.turn_verdict t.progress s) _ lawful) in
     let fits = room t.holdings (is_first t.progress) s corp n judged in
     half_by (same_corp d corp) n (pool book d) (pool (book ++ sells rows t s corp n book) d) (sale_raises rows t s corp d n book) (half d)
     (λ same. let of : share (holder book) L.Pool d ≡ share (holder book) L.Pool corp = ap (λ (e : Corp). share (holder book) L.Pool e) (same_is d corp same) in omega arith)

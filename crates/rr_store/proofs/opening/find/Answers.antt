@@ -6,7 +6,7 @@ use Rattle.rr_tables.specs.Records.Taking.{table_files}
 use Rattle.rr_tables.specs.Records.Words.{in_words}
 use Rattle.rr_tables.proofs.RecordLemmas.TakingLemmas.{files_are_exact}
 use Rattle.rr_reading.proofs.WorldLemmas.Exact.{forms_spelled}
-use Rattle.rr_store.proofs.Openings.{calm_read, calm_recovered, refuses_read, refuses_recovered, wants_memory}
+use Rattle.rr_store.proofs.Openings.{calm_read, calm_recovered, refuses_read, refuses_recovered, synced_read, synced_recovered, synced_wanting, wants_memory}
 use Rattle.rr_store.proofs.Recovering.{no_damage}
 use Rattle.rr_store.proofs.opening.find.Goals as goal
 
@@ -51,6 +51,31 @@ returns-in_err-buffer-clause-refused g c =
     let p = err_from_is_err_and c.from_residual-in_err-buffer.result c.from_residual-in_err-buffer.ensures.1 in
     rw (p.1, p.2) (λ honest.
     wants_memory (g.D.Disk.state c.args.disk.now).content (held_by c.in_ok-opened.opened) (c.in_ok-opened.ensures.holds honest) c.in_err-buffer.field-0.0 c.in_err-buffer.ensures)
+
+pub returns-in_err-opened-clause-left : goal.returns-in_err-opened-clause-left
+returns-in_err-opened-clause-left g c =
+    let p = err_from_is_err_and c.from_residual.result c.from_residual.ensures.1 in
+    let old = c.args.disk.now in
+    let new = c.open_file.new.disk in
+    rw (p.1, p.2) (λ honest.
+    synced_read (g.D.Disk.past old) (g.D.Disk.state old) (g.D.Disk.past new) (g.D.Disk.state new) (g.D.Disk.fault_count old) (g.D.Disk.fault_count new) c.in_err-opened.field-0.0
+    c.in_err-opened.ensures.fault (c.in_err-opened.ensures.synced honest))
+
+pub returns-in_err-recovered-clause-left : goal.returns-in_err-recovered-clause-left
+returns-in_err-recovered-clause-left g c =
+    let p = err_from_is_err_and c.from_residual-in_err-recovered.result c.from_residual-in_err-recovered.ensures.1 in
+    let old = c.args.disk.now in
+    let new = c.open_file.new.disk in
+    rw (p.1, p.2) (λ honest.
+    synced_recovered (g.D.Disk.past old) (g.D.Disk.state old) (g.D.Disk.past new) (g.D.Disk.state new) c.in_err-recovered.field-0.0 (c.in_ok-opened.ensures.synced honest))
+
+pub returns-in_err-buffer-clause-left : goal.returns-in_err-buffer-clause-left
+returns-in_err-buffer-clause-left g c =
+    let p = err_from_is_err_and c.from_residual-in_err-buffer.result c.from_residual-in_err-buffer.ensures.1 in
+    let old = c.args.disk.now in
+    let new = c.open_file.new.disk in
+    rw (p.1, p.2) (λ honest.
+    synced_wanting (g.D.Disk.past old) (g.D.Disk.state old) (g.D.Disk.past new) (g.D.Disk.state new) c.in_err-buffer.field-0.0 c.in_err-buffer.ensures (c.in_ok-opened.ensures.synced honest))
 
 pub returns-clause-found : goal.returns-clause-found
 returns-clause-found g c = λ honest.

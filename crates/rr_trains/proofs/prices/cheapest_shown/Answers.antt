@@ -2,7 +2,7 @@ use Rattle.std.specs.Prelude.{slice_index_or}
 use Rattle.std.proofs.Common.{sym, ◌∙◌, ap, Option, None}
 use Rattle.std.proofs.lemmas.List.Sums.{fold_more}
 use Rattle.rr_roster.specs.declared.company.Kind.TheVariants as K
-use Rattle.rr_books.specs.declared.acts.TrainSource.TheVariants as S
+use Rattle.rr_roster.specs.declared.sources.TrainSource.TheVariants as S
 use Rattle.rr_books.specs.State.{train_place_of}
 use Rattle.rr_trains.specs.declared.prices.TrainOnSale.{TrainOnSale}
 use Rattle.rr_trains.specs.Sales.{better, every_offer}

@@ -1,5 +1,5 @@
 use Rattle.std.proofs.lemmas.Result.{err_from_is_err_and}
-use Rattle.rr_game.specs.declared.fault.Fault.TheVariants as G
+use Rattle.rr_books.specs.declared.refusal.Refusal.TheVariants as G
 use Rattle.rr_turns.proofs.JudgementLemmas.{map-finds}
 use Rattle.rr_game.specs.History.Fault.{of_game}
 use Rattle.rr_game.specs.History.Playing.{game_judgement}
