@@ -11,7 +11,7 @@ use Rattle.rr_books.specs.declared.parties.Party.{Party}
 use Rattle.rr_books.specs.declared.parties.Party.TheVariants as P
 use Rattle.rr_books.specs.declared.entries.Entry.TheVariants as E
 use Rattle.rr_books.specs.declared.entries.Marker.TheVariants as M
-use Rattle.rr_books.specs.Book.{balance, balance-append, balance-push, balance_after, holder, money_at_first, players, players-append, players-push, players_after}
+use Rattle.rr_books.specs.Book.{balance, balance-append, balance-push, balance_after, holder, players, players-append, players-push, players_after}
 use Rattle.rr_books.specs.Opening.{kinds, opening_entries, opening_moves, opening_payments, opening_trains, start_of, starting_money, trains_of}
 use Rattle.rr_books.specs.Same.{same_party}
 use Rattle.rr_books.specs.Shares.{Holders, certificates}
@@ -63,9 +63,9 @@ has_after_starts n p (k ∷ seats) x other h =
     has_after_starts n p seats (balance_after p x (start_of n k)) other
     (gets (same_party p (P.Seat (record { 0 = k }))) (same_party p P.Bank) (starting_money n) x other h)
 
-has_opened : (names : List (List ℕ)) (roster : Terms) (p : Party) → same_party p P.Bank ≡ false → money_at_first p ≡ pos 0 → pos 0 ≤ℤ balance (opened names roster) p
+has_opened : (names : List (List ℕ)) (roster : Terms) (p : Party) → same_party p P.Bank ≡ false → pos 0 ≤ℤ balance (opened names roster) p
 unfolding opening_payments opening_moves opening_trains balance
-has_opened names roster p other first =
+has_opened names roster p other =
     let n = length names in
     let before = opening_payments n ++ opening_moves roster in
     let same : balance (opened names roster) p ≡ fold (balance_after p) (pos 0) (map (start_of n) (range_with_len 0 n)) =
@@ -74,8 +74,7 @@ has_opened names roster p other first =
     ∙ balance-append before (opening_trains roster) p
     ∙ trains-balance p (flat_map (trains_of roster) kinds) _
     ∙ balance-append (opening_payments n) (opening_moves roster) p
-    ∙ moves-balance p (certificates (order_of roster)) _
-    ∙ ap (λ (x : ℤ). fold (balance_after p) x (map (start_of n) (range_with_len 0 n))) first in
+    ∙ moves-balance p (certificates (order_of roster)) _ in
     let Has : ℤ → Type 0 = λ x. pos 0 ≤ℤ x in
     subst Has (sym same) (has_after_starts n p (range_with_len 0 n) (pos 0) other (omega (arith, ints)))
 
@@ -113,8 +112,8 @@ covered_opened names roster two =
         bidders = λ p s out. no_bid p s;
         seats = λ s.
             let none = nothing_bid (holder book) s in
-            let has = has_opened names roster (P.Seat s) refl refl in
+            let has = has_opened names roster (P.Seat s) refl in
             omega (arith, ints);
-        corporations = λ c. has_opened names roster (P.Corp c) refl refl;
+        corporations = λ c. has_opened names roster (P.Corp c) refl;
       });
     }

@@ -1,12 +1,12 @@
 -- The money of a table at which lawful acts of the auction are played.
 use Rattle.std.specs.Prelude.{◌≡◌, ℕ, ◌≤◌, pos, ◌≤ℤ◌, List, [], ◌∷◌, ◌++◌, None, fold, length, ⊤}
 use Rattle.rr_roster.specs.declared.company.Corp.{Corp}
-use Rattle.rr_roster.specs.Terms.{Terms}
+use Rattle.rr_roster.specs.Terms.{Terms, bank_of}
 use Rattle.rr_chart.specs.Chart.{Row}
 use Rattle.rr_books.specs.declared.acts.Act.{Act}
 use Rattle.rr_books.specs.declared.parties.Seat.{Seat}
 use Rattle.rr_books.specs.declared.parties.Party.TheVariants as P
-use Rattle.rr_books.specs.Book.{Book, balance}
+use Rattle.rr_books.specs.Book.{Book, money}
 use Rattle.rr_books.specs.Totals.{parties, sum_over}
 use Rattle.rr_auction.specs.Effects.{entries_of}
 use Rattle.rr_auction.specs.Opening.{opened}
@@ -25,11 +25,11 @@ abbrev pub AreLawful : Terms → List Row → Book → List Act → Type 0
 AreLawful roster rows book [] = ⊤
 AreLawful roster rows book (act ∷ acts) = (verdict roster rows book act ≡ None) × AreLawful roster rows (with_act roster rows book act) acts
 
--- bank, seats and corporations have 12,000 together, and no one but the bank has less than nothing
-pub record HasSoundMoney (players : ℕ) (book : Book) : Type 0 where
-  pub together : sum_over (balance book) (parties players) ≡ pos 12000
-  pub seats : (s : Seat) → pos 0 ≤ℤ balance book (P.Seat s)
-  pub corporations : (c : Corp) → pos 0 ≤ℤ balance book (P.Corp c)
+-- bank, seats and corporations have together what the bank began with, and no one but the bank has less than nothing
+pub record HasSoundMoney (roster : Terms) (players : ℕ) (book : Book) : Type 0 where
+  pub together : sum_over (money roster book) (parties players) ≡ pos (bank_of roster)
+  pub seats : (s : Seat) → pos 0 ≤ℤ money roster book (P.Seat s)
+  pub corporations : (c : Corp) → pos 0 ≤ℤ money roster book (P.Corp c)
 
 -- a table of two players or more has sound money after whatever lawful acts, whatever its chart and the numbers of its
 -- roster
@@ -37,4 +37,4 @@ abbrev pub MoneyStays : Type 0
 MoneyStays =
     (roster : Terms) (rows : List Row) (names : List (List ℕ)) (acts : List Act) → 2 ≤ length names
     → AreLawful roster rows (opened names roster) acts
-    → HasSoundMoney (length names) (with_acts roster rows (opened names roster) acts)
+    → HasSoundMoney roster (length names) (with_acts roster rows (opened names roster) acts)

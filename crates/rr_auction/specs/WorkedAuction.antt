@@ -9,7 +9,7 @@ use Rattle.rr_books.specs.declared.acts.Act.TheVariants as A
 use Rattle.rr_books.specs.declared.parties.Seat.{Seat}
 use Rattle.rr_books.specs.declared.parties.Party.{Party}
 use Rattle.rr_books.specs.declared.parties.Party.TheVariants as P
-use Rattle.rr_books.specs.Book.{Book, balance}
+use Rattle.rr_books.specs.Book.{Book, money}
 use Rattle.rr_auction.specs.Opening.{opened}
 use Rattle.rr_auction.specs.SoundMoney.{AreLawful, with_acts}
 
@@ -49,4 +49,4 @@ worked_acts =
 -- whatever the chart, the acts are lawful, and leave the seats with 580, 515, 600 and 560 and the bank with 9,745
 pub record WorkedAuction : Type 0 where
   pub lawful : (rows : List Row) → AreLawful usual_terms rows worked_opening worked_acts
-  pub money : (rows : List Row) → map (balance (with_acts usual_terms rows worked_opening worked_acts)) worked_parties ≡ pos 580 ∷ pos 515 ∷ pos 600 ∷ pos 560 ∷ pos 9745 ∷ []
+  pub money : (rows : List Row) → map (money usual_terms (with_acts usual_terms rows worked_opening worked_acts)) worked_parties ≡ pos 580 ∷ pos 515 ∷ pos 600 ∷ pos 560 ∷ pos 9745 ∷ []

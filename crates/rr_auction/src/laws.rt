@@ -6,8 +6,8 @@ ghost use Rattle.rr_auction.specs.TurnLaws.{FreePrivateIsBought, ParIsOwedByTheB
 ghost use Rattle.rr_auction.specs.WorkedAuction.{WorkedAuction};
 ghost use Rattle.rr_auction.specs.WorkedTellings.{TellingsAreWorked};
 
-/// At a table of two players or more, whatever lawful acts the auction takes and whatever the roster's numbers, the
-/// balances of bank, seats and corporations go on summing to 12,000, and only the bank's may be negative.
+/// At a table of two players or more, whatever lawful acts the auction takes and whatever the roster's numbers, bank,
+/// seats and corporations go on having together what the bank began with, and only the bank may have less than nothing.
 pub fn money_stays()
     ensures { MoneyStays }
 {

@@ -23,8 +23,13 @@ const NO_FOUR: Train = Train {
     number: 5,
 };
 
-fn cash(books: &Books, party: Party) -> i64 {
+fn balance(books: &Books, party: Party) -> i64 {
     books.balance(party).0
+}
+
+/// What the party has, at a table of the usual numbers.
+fn cash(rt: &(impl Abort + AllocGlobal), books: &Books, party: Party) -> i64 {
+    books.money(party, &opening::roster(rt)).0
 }
 
 /// How many players there are, and how many payments there were.
@@ -64,8 +69,20 @@ fn train_holder(books: &Books, train: Train) -> Option<Place> {
 fn each_player_has_the_money_for_the_start(rt: HostRuntime) {
     for (players, money) in [(2, 1200), (3, 800), (4, 600), (5, 480), (6, 400)] {
         let books = opening::books(&rt, players);
-        check(&rt, "cash", cash(&books, A), money);
-        check(&rt, "cash of the bank", cash(&books, Party::Bank), 9600);
+        check(&rt, "cash", cash(&rt, &books, A), money);
+        check(&rt, "balance", balance(&books, A), money);
+        check(
+            &rt,
+            "cash of the bank",
+            cash(&rt, &books, Party::Bank),
+            9600,
+        );
+        check(
+            &rt,
+            "balance of the bank",
+            balance(&books, Party::Bank),
+            -2400,
+        );
         check(&rt, "counts", counts(&books), (players, u32::from(players)));
     }
 }
@@ -73,7 +90,7 @@ fn each_player_has_the_money_for_the_start(rt: HostRuntime) {
 #[test]
 fn a_seat_beyond_the_last_has_no_money(rt: HostRuntime) {
     let books = opening::books(&rt, 4);
-    check(&rt, "cash", cash(&books, Party::Seat(Seat(4))), 0);
+    check(&rt, "cash", cash(&rt, &books, Party::Seat(Seat(4))), 0);
 }
 
 #[test]
@@ -105,8 +122,8 @@ fn a_payer_has_what_it_pays(rt: HostRuntime) {
             pay(&rt, &mut books, from, to, amount),
             result,
         );
-        check(&rt, "cash of the payer", cash(&books, from), left);
-        check(&rt, "cash of the payee", cash(&books, to), got);
+        check(&rt, "cash of the payer", cash(&rt, &books, from), left);
+        check(&rt, "cash of the payee", cash(&rt, &books, to), got);
         check(&rt, "counts", counts(&books), (4, payments));
     }
     assert!(rt; Party::Bank.is_bank() && !PRR.is_bank());

@@ -1,7 +1,7 @@
 ghost use Rattle.std.specs.Prelude.{◌≡◌, ℕ, ◌+◌, ◌<◌, ◌≤◌, max, ℤ, pos, neg_ℤ, ◌≤ℤ◌, Bool, true, false, [], ◌∷◌, None, Some, OnOk, OnErr, MatchResult, ◌&&◌, is_some, nat_lt, nat_le, count_by, slice_index_or, if◌then◌else◌};
 ghost use Rattle.rr_roster.specs.Terms.{count_of as roster_count_of};
 ghost use Rattle.rr_books.specs.Same.{same_cert, same_train};
-ghost use Rattle.rr_books.specs.Book.{Book, seats_up_to, balance, payments, players, balance_after, holder, train_holder};
+ghost use Rattle.rr_books.specs.Book.{Book, seats_up_to, balance, money, money_with, payments, players, balance_after, holder, train_holder};
 ghost use Rattle.rr_books.specs.Opening.{opening_entries};
 ghost use Rattle.rr_books.specs.Shares.{share, counted, president, is_at, share_numbers};
 ghost use Rattle.rr_books.specs.State.{IsStateOf, Extends, cash_of, place_of, count_of, has_train, train_place_of, has_party, has_place, is_bank, Fits, party_index, payment_verdict, move_verdict, train_move_verdict, holder_in, MovesMoney};
@@ -53,7 +53,7 @@ impl Books {
         // Each corporation has its place in the order, so that each certificate is offered.
         let _ = roster.corporations();
         let mut books = Books {
-            cash: [12000, 0, 0, 0, 0, 0, 0, 0, 0, 0, 0, 0, 0, 0, 0],
+            cash: [0; 15],
             payments: 0,
             players,
             places: [Place::Offer; 78],
@@ -96,16 +96,29 @@ impl Books {
         self.players
     }
 
-    /// The party's money. A seat that isn't at the table has none.
+    /// What was paid to the party less what it paid, in dollars. A seat that isn't at the table has 0.
     pub fn balance(&self, party: Party) -> Money
         ensures shown { result.0 ≡ cash_of self.now party }
         ensures book { (book : Book) → IsStateOf book self.now → result.0 ≡ balance book party }
-        ensures least { neg_ℤ (pos 4000000000000012000) ≤ℤ result.0 }
-        ensures greatest { result.0 ≤ℤ pos 4000000000000012000 }
+        ensures least { neg_ℤ (pos 4000000000000000000) ≤ℤ result.0 }
+        ensures greatest { result.0 ≤ℤ pos 4000000000000000000 }
     {
         match self.cash.get(party.index()) {
             Some(amount) => Money(*amount),
             None => Money(0),
+        }
+    }
+
+    /// What the party has, in dollars: its balance, and for the bank what it began with more. It is below 0 where the
+    /// bank owes.
+    pub fn money(&self, party: Party, roster: &Roster) -> Money
+        ensures shown { result.0 ≡ money_with roster.now (cash_of self.now) party }
+        ensures book { (book : Book) → IsStateOf book self.now → result.0 ≡ money roster.now book party }
+    {
+        let balance = self.balance(party);
+        match party {
+            Party::Bank => Money(i64::from(roster.bank()) + balance.0),
+            _ => balance,
         }
     }
 
@@ -416,8 +429,8 @@ fn move_money(cash: &mut [i64; 15], payer: usize, payee: usize, amount: i64)
     requires payee_in { payee < 15 }
     requires not_negative { pos 0 ≤ℤ amount }
     requires small { amount ≤ℤ pos 10000000000 }
-    requires least { (k : ℕ) → neg_ℤ (pos 4000000000000012000) ≤ℤ slice_index_or cash.old k (pos 0) }
-    requires greatest { (k : ℕ) → slice_index_or cash.old k (pos 0) ≤ℤ pos 4000000000000012000 }
+    requires least { (k : ℕ) → neg_ℤ (pos 4000000000000000000) ≤ℤ slice_index_or cash.old k (pos 0) }
+    requires greatest { (k : ℕ) → slice_index_or cash.old k (pos 0) ≤ℤ pos 4000000000000000000 }
     ensures { MovesMoney cash.old cash.new payer payee amount }
 {
     cash[payer] -= amount;

@@ -13,16 +13,17 @@ pub enum Refusal {
     /// A player, a seat, a train, a hex or a tile that the table, its board or its manifest doesn't have.
     #[error("no such name")]
     NoSuchName,
-    /// Who pays has less than the amount.
+    /// Who pays has less than the amount; of a train that must be owned, the corporation and its president together.
     #[error("too little cash")]
     TooLittleCash,
-    /// Another seat or corporation is due, or the seats that are named aren't the presidents of the two corporations.
+    /// Another seat or corporation is due, or a seat that is named isn't the president that has to act.
     #[error("not your turn")]
     NotYourTurn,
     /// The bid is below the least lawful one, which is given.
     #[error("bid too low {0}")]
     BidTooLow(u64),
-    /// What is to be bid on, bought, sold or changed isn't there, or the corporation isn't the one that is due a par.
+    /// What is to be bid on, bought, sold or changed isn't there, or isn't the president's to sell, or the corporation
+    /// isn't the one that is due a par.
     #[error("not for sale")]
     NotForSale,
     /// The player has the money, but has bid it on other privates.
@@ -85,7 +86,8 @@ pub enum Refusal {
     /// The corporation has as many trains as it may have.
     #[error("train limit")]
     TrainLimit,
-    /// There is no such train where it is to come from, or privates aren't sold in this phase.
+    /// There is no such train where it is to come from, or none is left to trade for, or privates aren't sold in this
+    /// phase.
     #[error("not on sale")]
     NotOnSale,
     /// The price is nothing, or it isn't between half the private's face and twice that.
@@ -109,7 +111,8 @@ pub enum Refusal {
     /// The game is over.
     #[error("game is over")]
     GameOver,
-    /// A request for memory was refused.
+    /// A request for memory was refused, or the table has no room for what would follow: it has 400,000,000 entries, or
+    /// its board more than 65,536 centres.
     #[error("out of memory")]
     OutOfMemory,
 }

@@ -1,4 +1,3 @@
 pub mod Cell
 pub mod Chart
-pub mod Fault
 pub mod Reading

@@ -1,12 +1,12 @@
 -- Going along links from a node on finds the only path over all of them.
-use Rattle.std.proofs.Common.{◌≡◌, ◌≢◌, ℕ, zero, suc, ◌+◌, ◌<◌, ◌≤◌, ◌⊎◌, ◌↔◌, ◌==◌, ◌&&◌, not, Bool, true, false, Option, None, Some, List, [], ◌∷◌, ◌++◌, length, get_or, take, refl, sym, ◌∙◌, ap, subst, inl, inr, arith, append_assoc, append-nil}
+use Rattle.std.proofs.Common.{◌≡◌, ℕ, ◌+◌, ◌<◌, ◌≤◌, ◌⊎◌, ◌==◌, ◌&&◌, not, Bool, true, false, List, [], ◌∷◌, ◌++◌, length, get_or, refl, sym, ◌∙◌, ap, subst, inl, inr, arith, append_assoc, append-nil}
 use Rattle.std.specs.Bool.{Decides}
 use Rattle.std.specs.List.{Contains, list_any, slice_get}
-use Rattle.std.proofs.lemmas.Bool.{cases_eq, false≢true}
-use Rattle.std.proofs.lemmas.Bool.Decides.{Decides-like, Decides-not, Decides-and}
-use Rattle.std.proofs.lemmas.List.{length-append, length_push, get_or_default}
+use Rattle.std.proofs.lemmas.Bool.{cases_eq}
+use Rattle.std.proofs.lemmas.Bool.Decides.{Decides-not, Decides-and}
+use Rattle.std.proofs.lemmas.List.{length-append, get_or_default}
 use Rattle.rr_routes.specs.declared.net.Node.{Node}
-use Rattle.rr_routes.specs.declared.net.Node.TheVariants.{Hexside, Centre}
+use Rattle.rr_routes.specs.declared.net.Node.TheVariants.{Hexside}
 use Rattle.rr_routes.specs.declared.net.Link.{Link}
 use Rattle.rr_routes.specs.Net.{Net, AreEnds, Joins, Touches}
 use Rattle.rr_routes.specs.Routes.{Walk, one_link, goes_on, NoneTwice, Path}
@@ -15,7 +15,7 @@ use Rattle.rr_routes.proofs.Walks.{Joins-at_from, Walk-touched, only_first}
 use Rattle.rr_checker.specs.Steps.{same_node}
 use Rattle.rr_checker.specs.Own.{touches}
 use Rattle.rr_checker.specs.Trips.{far, far_end, SameElements, IsOnlyWay}
-use Rattle.rr_checker.proofs.StepLemmas.{yes, no, to_true, Decides-never, Decides-same_node, Decides-among}
+use Rattle.rr_checker.proofs.StepLemmas.{yes, no, Decides-same_node, Decides-among}
 use Rattle.rr_checker.proofs.OwnLemmas.{Decides-touches}
 
 Contains-left : (xs ys : List ℕ) (x : ℕ) → Contains xs x → Contains (xs ++ ys) x

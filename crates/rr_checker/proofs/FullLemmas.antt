@@ -1,5 +1,5 @@
 -- The run over decided links.
-use Rattle.std.proofs.Common.{◌≡◌, ◌≢◌, ℕ, ◌+◌, ◌<◌, ◌≤◌, ◌⊎◌, ◌↔◌, Bool, true, false, Option, None, Some, List, [], ◌∷◌, ◌++◌, length, leb, get_or, map, refl, sym, ◌∙◌, ap, subst, inl, inr, arith}
+use Rattle.std.proofs.Common.{◌≡◌, ◌≢◌, ℕ, ◌+◌, ◌<◌, ◌≤◌, ◌⊎◌, true, false, Option, None, Some, List, [], ◌∷◌, ◌++◌, length, leb, map, refl, sym, ◌∙◌, ap, subst, inl, inr, arith}
 use Rattle.std.specs.Bool.{Decides}
 use Rattle.std.specs.Option.{MatchOption, is_some}
 use Rattle.std.specs.List.{Contains, list_any, sum_by}
@@ -9,11 +9,9 @@ use Rattle.std.proofs.lemmas.List.{get_or_default, get_or_past, get_or_append_le
 use Rattle.std.proofs.lemmas.List.Elements.{Contains-get_or}
 use Rattle.rr_routes.specs.declared.net.Node.{Node}
 use Rattle.rr_routes.specs.declared.net.Node.TheVariants.{Hexside, Centre}
-use Rattle.rr_routes.specs.declared.net.Link.{Link}
-use Rattle.rr_routes.specs.declared.net.CentreLimit.{CentreLimit}
 use Rattle.rr_routes.specs.declared.certificate.Fate.{Fate}
 use Rattle.rr_routes.specs.declared.certificate.Fate.TheVariants.{Open, Denied, Of}
-use Rattle.rr_routes.specs.Net.{Net, LinkAt, Touches, limit_of}
+use Rattle.rr_routes.specs.Net.{Net, Touches, limit_of}
 use Rattle.rr_routes.specs.Routes.{Walk, one_link, goes_on, Trip, no_trip, trip_of, Route, Run, centres, worth, earned}
 use Rattle.rr_routes.specs.Certificates.{fate_of, Allows, Uses, Keeps, IsFull}
 use Rattle.rr_routes.proofs.Elements.{Contains-here, Contains-there, Contains-cases, Contains-nil, Contains-single, sum_by-map}
@@ -21,7 +19,7 @@ use Rattle.rr_routes.proofs.Walks.{Joins-at_from, Joins-at_to, Walk-touched}
 use Rattle.rr_routes.proofs.Fates.{Uses-Route}
 use Rattle.rr_routes.proofs.SameLinks.{full_none, full_one}
 use Rattle.rr_checker.specs.Own.{is_of, is_others, AreLinksWith, is_shared}
-use Rattle.rr_checker.specs.Trips.{IsTripOver, trip_over}
+use Rattle.rr_checker.specs.Trips.{IsTripOver}
 use Rattle.rr_checker.specs.Runs.{is_undecided, is_stray, AllDecided, NoRunKeeps, IsOwnTrip, CountsOn, AreCounted}
 use Rattle.rr_checker.proofs.StepLemmas.{yes, no, to_true, Decides-never, Decides-always, Decides-list_any}
 use Rattle.rr_checker.proofs.OwnLemmas.{Decides-is_of, Decides-is_others, Decides-is_shared, Shared, SideOf}

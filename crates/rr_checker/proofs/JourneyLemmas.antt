@@ -1,21 +1,23 @@
 -- Trips over just the links of a train.
-use Rattle.std.proofs.Common.{◌≡◌, ◌≢◌, ℕ, ◌+◌, ◌<◌, ◌≤◌, ◌⊎◌, ◌↔◌, ◌==◌, not, Bool, true, false, Option, None, Some, Result, Ok, Err, List, [], ◌∷◌, length, get_or, refl, sym, ◌∙◌, ap, subst, inl, inr, arith}
+use Rattle.std.proofs.Common.{◌≡◌, ◌≢◌, ℕ, ◌+◌, ◌<◌, ◌==◌, ◌&&◌, not, true, false, Option, None, Some, Result, Ok, Err, List, [], ◌∷◌, length, get_or, refl, sym, ◌∙◌, ap, subst, inl, inr, arith}
 use Rattle.std.specs.Bool.{Decides}
 use Rattle.std.specs.Option.{MatchOption}
 use Rattle.std.specs.Result.{IfOk}
 use Rattle.std.specs.List.{Contains, list_any, slice_get}
-use Rattle.std.proofs.lemmas.Bool.{false≢true, cases_eq}
-use Rattle.std.proofs.lemmas.Bool.Decides.{Decides-not}
+use Rattle.std.proofs.lemmas.Bool.{cases_eq}
+use Rattle.std.proofs.lemmas.Bool.Decides.{Decides-and, Decides-eqb, Decides-not}
 use Rattle.std.proofs.lemmas.List.{get_or_default}
 use Rattle.rr_routes.specs.declared.net.CentreLimit.{CentreLimit}
 use Rattle.rr_routes.specs.declared.net.Node.{Node}
 use Rattle.rr_routes.specs.declared.net.Node.TheVariants.{Hexside, Centre}
-use Rattle.rr_routes.specs.declared.net.Link.{Link}
-use Rattle.rr_routes.specs.Net.{Net, Joins, IsCentre}
-use Rattle.rr_routes.specs.Routes.{Walk, one_link, goes_on, Path, Trip, no_trip, Route, EndsAreCentres}
+use Rattle.rr_routes.specs.Net.{Net, Joins, IsCentre, Touches}
+use Rattle.rr_routes.specs.Routes.{Walk, one_link, goes_on, Path, Trip, Route, EndsAreCentres}
 use Rattle.rr_routes.proofs.Elements.{Contains-here, Contains-nil, contained}
-use Rattle.rr_checker.specs.Trips.{SameElements, IsOnlyWay, IsTripOver, NoneFrom, NoneAt, centre_of, centre_at, is_missing, trip_over}
+use Rattle.rr_routes.proofs.Walks.{only_first, two_at_most}
+use Rattle.rr_checker.specs.Own.{is_crowded, touches}
+use Rattle.rr_checker.specs.Trips.{IsOnlyWay, IsTripOver, NoneFrom, NoneAt, centre_of, centre_at, is_missing, meets_another, trip_over}
 use Rattle.rr_checker.proofs.StepLemmas.{yes, no, Decides-list_any, Decides-among}
+use Rattle.rr_checker.proofs.OwnLemmas.{Decides-is_crowded, Decides-touches, crowd_of}
 
 -- nothing is missing
 pub none_missing : (one other : List ℕ) → is_missing one other ≡ false → (x : ℕ) → Contains one x → Contains other x
@@ -39,6 +41,12 @@ end_centre net link centre to joins =
       | inl ends ↦ let e = ends.0 in cc
       | inr ends ↦ subst (λ n. centre_of n ≡ Some centre) ends.0 refl
     ])
+
+Decides-meets_another : (net : Net) (own : List ℕ) (link : ℕ) (node : Node)
+    → Decides (meets_another net own link node) ((other : ℕ) × Contains own other × ((link ≢ other) × Touches net other node))
+Decides-meets_another net own link node =
+    Decides-list_any (λ other. not (link == other) && touches net other node) (λ other. (link ≢ other) × Touches net other node) own
+    (λ other c. Decides-and (not (link == other)) (touches net other node) (Decides-not (link == other) (Decides-eqb link other)) (Decides-touches net other node))
 
 module _ (net : Net) (limit : CentreLimit) (own : List ℕ) where
   pub no_links : own ≡ [] → IsTripOver net limit own (trip_over [] [])
@@ -118,6 +126,43 @@ module _ (net : Net) (limit : CentreLimit) (own : List ℕ) where
       let first = from_first link trip over rest starts in
       let same : first.0 ≡ centre = (let e = first.3 in cc) in
       none trip over first.1 (subst (λ n. trip.nodes ≡ Centre n ∷ first.1) same first.2)
+
+  -- a route has at most two links at a node
+  pub none_crowded : is_crowded net own ≡ true → (trip : Trip) → IsTripOver net limit own trip → ⊥
+  none_crowded crowded trip over =
+      let at = crowd_of net own (yes (Decides-is_crowded net own) crowded) in
+      let one : ℕ = at.1 in
+      let two : ℕ = at.4.0 in
+      let second = at.4.2 in
+      let third = second.1.1 in
+      let three : ℕ = third.0 in
+      let in_one : Contains trip.links one = (over.same one).1 at.2 in
+      let in_two : Contains trip.links two = (over.same two).1 at.4.1 in
+      let in_three : Contains trip.links three = (over.same three).1 third.1 in
+      elim over.lawful [
+        | inl none ↦ Contains-nil one (subst (λ (t : Trip). Contains t.links one) none in_one)
+        | inr route ↦ elim (two_at_most net route.path.0 route.path.1 at.0 one two three in_one in_two in_three at.3 second.1.0 third.2.1.1) [
+          | inl same ↦ second.0 same
+          | inr others ↦ elim others [ inl same ↦ third.2.0 same | inr same ↦ third.2.1.0 same ]
+        ]
+      ]
+
+  -- of a route only the first link touches the node where it begins
+  pub none_meeting : (near : List ℕ) → ((link : ℕ) → Contains near link → Contains own link) → (link centre : ℕ) → centre_at (slice_get net.links link) ≡ Some centre
+      → meets_another net near link (Centre centre) ≡ true → NoneFrom net limit own link
+  none_meeting near mine link centre is meets trip over rest starts =
+      let first = from_first link trip over rest starts in
+      let same : first.0 ≡ centre = (let e = first.3 in cc) in
+      let nodes_are : trip.nodes ≡ Centre centre ∷ first.1 = subst (λ n. trip.nodes ≡ Centre n ∷ first.1) same first.2 in
+      let other = yes (Decides-meets_another net near link (Centre centre)) meets in
+      elim over.lawful [
+        | inl none ↦ let e : [] ≡ link ∷ rest = sym (ap (λ (t : Trip). t.links) none) ∙ starts in cc
+        | inr route ↦
+            let path : Path net (link ∷ rest) (Centre centre ∷ first.1) =
+            subst (λ (ls : List ℕ). Path net ls (Centre centre ∷ first.1)) starts (subst (λ (ns : List Node). Path net trip.links ns) nodes_are route.path) in
+            other.2.0 (only_first net link rest (Centre centre) first.1 path.0 path.1 other.0
+            (subst (λ (ls : List ℕ). Contains ls other.0) starts ((over.same other.0).1 (mine other.0 other.1))) other.2.1)
+      ]
 
   pub none_at_all : 0 < length own → ((k : ℕ) → k < length own → NoneFrom net limit own (get_or own k 0)) → (trip : Trip) → IsTripOver net limit own trip → ⊥
   none_at_all some each trip over = at_links trip.links refl

@@ -1,13 +1,14 @@
 -- The cases of a split, one after the other.
-use Rattle.std.proofs.Common.{◌≡◌, ◌≢◌, ℕ, zero, suc, ◌+◌, ◌-◌, ◌<◌, ◌≤◌, ◌==◌, if◌then◌else◌, Bool, true, false, List, [], ◌∷◌, length, get_or, map, set, replicate, Vec, Global, refl, sym, ◌∙◌, ap, subst, inl, inr, arith}
+use Rattle.std.proofs.Common.{◌≡◌, ◌≢◌, ℕ, zero, suc, ◌+◌, ◌-◌, ◌<◌, ◌≤◌, ◌==◌, Bool, true, false, List, [], ◌∷◌, length, get_or, map, set, Vec, Global, refl, sym, ◌∙◌, ap, subst, inl, inr, arith}
 use Rattle.std.specs.Bool.{Decides}
 use Rattle.std.specs.List.{AllZip, range_with_len}
-use Rattle.std.proofs.lemmas.Bool.{false≢true, cases_eq, cases_lt}
+use Rattle.std.proofs.lemmas.Bool.{cases_eq, cases_lt}
 use Rattle.std.proofs.lemmas.Bool.Decides.{nat_tests, Decides-like}
 use Rattle.std.proofs.lemmas.List.{get_or_default, get_or_past, set-get_or}
 use Rattle.rr_routes.specs.declared.certificate.Fate.{Fate}
 use Rattle.rr_routes.specs.declared.certificate.Fate.TheVariants.{Open, Denied, Of}
 use Rattle.rr_routes.specs.declared.certificate.CertTree.{CertTree, Split}
+use Rattle.rr_routes.specs.declared.certificate.TheConstants.{MOST_NODES}
 use Rattle.rr_routes.specs.Net.{Net}
 use Rattle.rr_routes.specs.Certificates.{fate_of, choices, AcceptsUnder, node_count, all_open, Accepts}
 use Rattle.rr_routes.proofs.Children.{AcceptsUnder-Split, AcceptsChild}
@@ -134,10 +135,10 @@ module _ (net : Net) (claim : ℕ) (fates : List Fate) (link : ℕ) (children : 
       (λ k d less. subst (λ (xs : List CertTree). AcceptsUnder net claim (set fates link (choice_at k)) (get_or xs k d)) all
       (each k d (omega (arith, less, most, ap (λ (xs : List CertTree). length xs) all))))
 
-pub too_large : (net : Net) (claim : ℕ) (tree : CertTree) → 1024 < node_count tree → Decides false (Accepts net claim tree)
+pub too_large : (net : Net) (claim : ℕ) (tree : CertTree) → MOST_NODES < node_count tree → Decides false (Accepts net claim tree)
 too_large net claim tree more = Decides-never (λ a. let most = a.small in omega (arith, more, most))
 
-pub judged : (net : Net) (claim : ℕ) (tree : CertTree) (fates : List Fate) (shown : Bool) → node_count tree ≤ 1024 → fates ≡ all_open net
+pub judged : (net : Net) (claim : ℕ) (tree : CertTree) (fates : List Fate) (shown : Bool) → node_count tree ≤ MOST_NODES → fates ≡ all_open net
     → Decides shown (AcceptsUnder net claim fates tree) → Decides shown (Accepts net claim tree)
 judged net claim tree fates shown small none_decided d =
     Decides-like shown (λ a. record { small = small; shown = subst (λ fs. AcceptsUnder net claim fs tree) none_decided a })

@@ -1,5 +1,7 @@
 pub mod PlaceLemmas
 pub mod StepLemmas
+pub mod IndexLemmas
+pub mod TrackLemmas
 pub mod WalkLemmas
 pub mod RankLemmas
 pub mod BoundLemmas

@@ -1,10 +1,10 @@
 -- The links that are a train's own, and why it can't run over all of them.
-use Rattle.std.proofs.Common.{◌≡◌, ◌≢◌, ℕ, ◌+◌, ◌<◌, ◌≤◌, ◌⊎◌, ◌↔◌, ◌==◌, ◌&&◌, ◌||◌, not, Bool, true, false, Option, None, Some, List, [], ◌∷◌, ◌++◌, length, ltb, get_or, take, refl, sym, ◌∙◌, ap, subst, inl, inr, arith}
+use Rattle.std.proofs.Common.{◌≡◌, ◌≢◌, ℕ, ◌+◌, ◌<◌, ◌≤◌, ◌⊎◌, ◌↔◌, ◌==◌, ◌&&◌, ◌||◌, not, Bool, true, false, Option, None, Some, List, [], ◌∷◌, ◌++◌, length, ltb, get_or, replicate, set, take, refl, sym, ◌∙◌, ap, subst, inl, inr, arith}
 use Rattle.std.specs.Bool.{Decides}
 use Rattle.std.specs.List.{Contains, list_any, slice_get}
 use Rattle.std.proofs.lemmas.Bool.{false≢true, cases_eq, cases_lt}
-use Rattle.std.proofs.lemmas.Bool.Decides.{Decides-eqb, Decides-ltb, Decides-like, Decides-not, Decides-and, Decides-or}
-use Rattle.std.proofs.lemmas.List.{take_more, take_all, get_or_past}
+use Rattle.std.proofs.lemmas.Bool.Decides.{same_from_decides, Decides-eqb, Decides-ltb, Decides-like, Decides-not, Decides-and, Decides-or}
+use Rattle.std.proofs.lemmas.List.{take_more, take_all, get_or_past, length-replicate, length-set}
 use Rattle.std.proofs.lemmas.List.Elements.{Contains-push, Contains-push_cases, Contains-append_left, Contains-get_or}
 use Rattle.std.proofs.lemmas.List.Quantifiers.{all_pairs_push}
 use Rattle.std.proofs.lemmas.Option.{same_Some}
@@ -18,12 +18,19 @@ use Rattle.rr_routes.specs.declared.certificate.Fate.TheVariants.{Open, Denied, 
 use Rattle.rr_routes.specs.Net.{Net, LinkAt, Touches, IsWithin, limit_of}
 use Rattle.rr_routes.specs.Reach.{LinkReached}
 use Rattle.rr_routes.specs.Certificates.{fate_of, MayUse, IsBad, three_links, too_many_centres, not_reached, side_shared}
-use Rattle.rr_routes.proofs.Elements.{Contains-nil, length_within}
+use Rattle.rr_routes.specs.Reachability.Reach.{IsMarked}
+use Rattle.rr_routes.proofs.Elements.{Contains-here, Contains-nil, length_within}
+use Rattle.rr_routes.proofs.Walks.{Walk-in_net}
+use Rattle.rr_routes.proofs.ReachabilityLemmas.MarkLemmas.{marked_before, marked_here, marked_still}
+use Rattle.rr_routes.proofs.ReachabilityLemmas.SearchLemmas.{none_marked}
 use Rattle.rr_checker.specs.declared.step.Step.{Step}
 use Rattle.rr_checker.specs.Steps.{same_node}
 use Rattle.rr_checker.specs.Searching.{AreEnds}
+use Rattle.rr_checker.specs.Index.{IsIndexOf, TouchesAt, noted_at}
 use Rattle.rr_checker.specs.Ranked.{AddsNode, IsRankingOf}
-use Rattle.rr_checker.specs.Own.{is_of, is_others, AreSelected, AreLinksWith, some_link, link_touches, touches, is_third, is_second, crowds, crowds_end, is_crowded_by, is_crowded, is_over, goes_over, is_unreached, is_side_of, shares_end, shares_side, is_shared, AddsTouched, IsTouched}
+use Rattle.rr_checker.specs.Own.{is_of, is_others, AreSelected, AreLinksWith, some_link, link_touches, touches, is_third, is_second, crowds, crowds_end, crowds_end_on, is_crowded_by, is_crowded, is_crowded_on, is_over, GoesOver, AreGoneOver, is_unreached, is_side_of, shares_end, shares_end_on, shares_side, is_shared, is_shared_on, AddsTouched, IsTouched}
+use Rattle.rr_checker.proofs.IndexLemmas.{noted_there, one_noted}
+use Rattle.rr_checker.proofs.PlaceLemmas.{no_step}
 use Rattle.rr_checker.proofs.StepLemmas.{yes, to_true, Decides-never, Decides-same_node, Decides-list_any}
 
 pub Decides-is_of : (train : ℕ) (fate : Fate) → Decides (is_of train fate) (fate ≡ Of train)
@@ -197,6 +204,31 @@ module _ (net : Net) (own : List ℕ) where
   pub touched_done : (i : ℕ) (touched : List ℕ) → length own ≤ i → IsRankingOf net (IsTouched net (take i own)) touched → IsRankingOf net (IsTouched net own) touched
   touched_done i touched h r = rw (take_all i own h) at r
 
+-- over an index of the links the tests are the same
+module _ (net : Net) (own : List ℕ) (index : List (List ℕ)) (ix : IsIndexOf (TouchesAt net own) index) where
+  Decides-crowds_at : (one : ℕ) (node : Node) → Decides (crowds net (noted_at index node) one node) (Crowds net own one node)
+  Decides-crowds_at one node =
+      Decides-like (crowds net (noted_at index node) one node)
+      (λ meets.
+      let third = meets.2.1.1 in
+      (meets.0, one_noted net own index ix node meets.0 meets.1, (meets.2.0, (meets.2.1.0, (third.0, one_noted net own index ix node third.0 third.1, third.2)))))
+      (λ meets.
+      let third = meets.2.1.1 in (
+        meets.0,
+        noted_there net own index ix node meets.0 meets.1 meets.2.1.0,
+        (meets.2.0, (meets.2.1.0, (third.0, noted_there net own index ix node third.0 third.1 third.2.1.1, third.2))),
+      ))
+      (Decides-crowds net (noted_at index node) one node)
+
+  pub same_crowded : is_crowded_on net index own ≡ is_crowded net own
+  same_crowded =
+      same_from_decides (is_crowded_on net index own) (is_crowded net own)
+      (Decides-list_any (λ one. some_link (slice_get net.links one) (crowds_end_on net index one)) (CrowdedBy net own) own (λ one c.
+      Decides-some_link (slice_get net.links one) (crowds_end_on net index one) (λ link. Crowds net own one (Hexside link.side) ⊎ Crowds net own one link.other)
+      (λ link. Decides-or (crowds net (noted_at index (Hexside link.side)) one (Hexside link.side)) (crowds net (noted_at index link.other) one link.other)
+      (Decides-crowds_at one (Hexside link.side)) (Decides-crowds_at one link.other))))
+      (Decides-is_crowded net own)
+
 -- the centre of a link that is there, or none where it isn't
 pub adds_touched : (net : Net) (place : ℕ) (link : Link) (old new : List ℕ) → LinkAt net place link → AddsNode net link.other old new → AddsTouched net place old new
 adds_touched net place link old new at a = record {
@@ -226,21 +258,69 @@ Decides-is_over (AtMost most) count = Decides-like (ltb most count) (λ over wit
     below m n never = elim (cases_lt m n) [ inl less ↦ less | inr more ↦ absurd (never more) ]
 Decides-is_over Unlimited count = Decides-never (λ never. never tt)
 
+-- marks of the links that the steps so far go over, with one more
+pub over_first : (count : ℕ) → AreGoneOver [] count (replicate count false)
+over_first count = record {
+  as_long = length-replicate count false;
+  exact = λ link. (λ m. absurd (none_marked count link m), λ d. absurd (Contains-nil d.1.0 d.1.1));
+}
+
+over_more : (done : List Step) (step : Step) (link : ℕ) → GoesOver done link → GoesOver (done ++ step ∷ []) link
+over_more done step link goes = (goes.0, Contains-append_left done (step ∷ []) goes.0 goes.1, goes.2)
+
+pub over_past : (ends : List Step) (i count : ℕ) (marks : List Bool) → i < length ends → AreGoneOver (take i ends) count marks
+    → length marks ≤ (get_or ends i no_step).link → AreGoneOver (take (i + 1) ends) count marks
+over_past ends i count marks h over past = rw (take_more ends i no_step h) (record {
+  as_long = over.as_long;
+  exact = λ link. (
+    λ m. let d = (over.exact link).0 m in (d.0, over_more (take i ends) (get_or ends i no_step) link d.1),
+    λ d. elim (Contains-push_cases (take i ends) (get_or ends i no_step) d.1.0 d.1.1) [
+      | inl old ↦ (over.exact link).1 (d.0, (d.1.0, old, d.1.2))
+      | inr is ↦ let same : (get_or ends i no_step).link ≡ link = ap (λ (s : Step). s.link) is ∙ d.1.2 in absurd (omega (arith, same, past, d.0, over.as_long))
+    ],
+  );
+})
+
+pub over_next : (ends : List Step) (i count : ℕ) (marks : List Bool) → i < length ends → AreGoneOver (take i ends) count marks
+    → (get_or ends i no_step).link < length marks → AreGoneOver (take (i + 1) ends) count (set marks (get_or ends i no_step).link true)
+over_next ends i count marks h over inside = rw (take_more ends i no_step h) (record {
+  as_long = length-set marks (get_or ends i no_step).link true ∙ over.as_long;
+  exact = λ link. (
+    λ m. elim (marked_before marks (get_or ends i no_step).link link m) [
+      | inl old ↦ let d = (over.exact link).0 old in (d.0, over_more (take i ends) (get_or ends i no_step) link d.1)
+      | inr is ↦ (omega (arith, is, inside, over.as_long), (get_or ends i no_step, Contains-push (take i ends) (get_or ends i no_step), sym is))
+    ],
+    λ d. elim (Contains-push_cases (take i ends) (get_or ends i no_step) d.1.0 d.1.1) [
+      | inl old ↦ marked_still marks (get_or ends i no_step).link link inside ((over.exact link).1 (d.0, (d.1.0, old, d.1.2)))
+      | inr is ↦ subst (λ (l : ℕ). IsMarked (set marks (get_or ends i no_step).link true) l) (ap (λ (s : Step). s.link) is ∙ d.1.2)
+          (marked_here marks (get_or ends i no_step).link inside)
+    ],
+  );
+})
+
+pub over_done : (ends : List Step) (i count : ℕ) (marks : List Bool) → length ends ≤ i → AreGoneOver (take i ends) count marks → AreGoneOver ends count marks
+over_done ends i count marks h over = rw (take_all i ends h) at over
+
 module _ (net : Net) (fates : List Fate) (train : ℕ) where
-  Decides-goes_over : (ends : List Step) → AreEnds net (MayUse fates train) ends → (link : ℕ) → Decides (goes_over ends link) (LinkReached net (MayUse fates train) link)
-  Decides-goes_over ends all link =
-      Decides-like (goes_over ends link)
-      (λ found. (found.0.to, (all link found.0.to).0 (found.0, found.1, found.2, refl)))
-      (λ walk. let found = (all link walk.0).1 walk.1 in (found.0, found.1, found.2))
-      (Decides-list_any (λ step. step.link == link) (λ step. step.link ≡ link) ends (λ step c. Decides-eqb step.link link))
+  Decides-reached : (ends : List Step) (reached : List Bool) → AreEnds net (MayUse fates train) ends → AreGoneOver ends (length net.links) reached → (link : ℕ)
+      → Decides (get_or reached link false) (LinkReached net (MayUse fates train) link)
+  Decides-reached ends reached all over link = (
+    λ marked.
+        let found = ((over.exact link).0 marked).1 in
+        (found.0.to, (all link found.0.to).0 (found.0, found.1, found.2, refl)),
+    λ walk.
+        let found = (all link walk.0).1 walk.1 in
+        (over.exact link).1 (Walk-in_net net walk.1.walk link (Contains-here link walk.1.links), (found.0, found.1, found.2)),
+  )
 
   abbrev Unreached : List ℕ → Type 0
   Unreached own = (link : ℕ) × Contains own link × (LinkReached net (MayUse fates train) link → ⊥)
 
-  Decides-is_unreached : (ends : List Step) (own : List ℕ) → AreEnds net (MayUse fates train) ends → Decides (is_unreached ends own) (Unreached own)
-  Decides-is_unreached ends own all =
-      Decides-list_any (λ link. not (goes_over ends link)) (λ link. LinkReached net (MayUse fates train) link → ⊥) own
-      (λ link c. Decides-not (goes_over ends link) (Decides-goes_over ends all link))
+  Decides-is_unreached : (ends : List Step) (reached : List Bool) (own : List ℕ) → AreEnds net (MayUse fates train) ends → AreGoneOver ends (length net.links) reached
+      → Decides (is_unreached reached own) (Unreached own)
+  Decides-is_unreached ends reached own all over =
+      Decides-list_any (λ link. not (get_or reached link false)) (λ link. LinkReached net (MayUse fates train) link → ⊥) own
+      (λ link c. Decides-not (get_or reached link false) (Decides-reached ends reached all over link))
 
   abbrev pub SideOf : List ℕ → Node → Type 0
   SideOf others (Centre centre) = ⊥
@@ -266,8 +346,26 @@ module _ (net : Net) (fates : List Fate) (train : ℕ) where
   pub Decides-is_shared : (own others : List ℕ) → Decides (is_shared net own others) (Shared own others)
   Decides-is_shared own others = Decides-list_any (shares_side net others) (SharesSide others) own (λ place c. Decides-shares_side others place)
 
-  module _ (own others touched : List ℕ) (ends : List Step) (mine : AreLinksWith (is_of train) fates own) (theirs : AreLinksWith (is_others train) fates others)
-      (all : AreEnds net (MayUse fates train) ends) (ranking : IsRankingOf net (IsTouched net own) touched) where
+  module _ (own others : List ℕ) (index : List (List ℕ)) (ix : IsIndexOf (TouchesAt net others) index) where
+    Decides-side_at : (node : Node) → Decides (is_side_of net (noted_at index node) node) (SideOf others node)
+    Decides-side_at (Centre centre) = Decides-never (λ n. n)
+    Decides-side_at (Hexside side) =
+        Decides-like (is_side_of net (noted_at index (Hexside side)) (Hexside side))
+        (λ found. (found.0, one_noted net others index ix (Hexside side) found.0 found.1, found.2))
+        (λ found. (found.0, noted_there net others index ix (Hexside side) found.0 found.1 found.2, found.2))
+        (Decides-is_side_of (noted_at index (Hexside side)) (Hexside side))
+
+    pub same_shared : is_shared_on net index own ≡ is_shared net own others
+    same_shared =
+        same_from_decides (is_shared_on net index own) (is_shared net own others)
+        (Decides-list_any (λ place. some_link (slice_get net.links place) (shares_end_on net index)) (SharesSide others) own (λ place c.
+        Decides-some_link (slice_get net.links place) (shares_end_on net index) (λ link. SideOf others (Hexside link.side) ⊎ SideOf others link.other)
+        (λ link. Decides-or (is_side_of net (noted_at index (Hexside link.side)) (Hexside link.side)) (is_side_of net (noted_at index link.other) link.other)
+        (Decides-side_at (Hexside link.side)) (Decides-side_at link.other))))
+        (Decides-is_shared own others)
+
+  module _ (own others touched : List ℕ) (ends : List Step) (reached : List Bool) (mine : AreLinksWith (is_of train) fates own) (theirs : AreLinksWith (is_others train) fates others)
+      (all : AreEnds net (MayUse fates train) ends) (over : AreGoneOver ends (length net.links) reached) (ranking : IsRankingOf net (IsTouched net own) touched) where
     is_mine : (link : ℕ) → Contains own link → fate_of fates link ≡ Of train
     is_mine link c = yes (Decides-is_of train (fate_of fates link)) ((mine.exact link).0 c)
 
@@ -327,9 +425,9 @@ module _ (net : Net) (fates : List Fate) (train : ℕ) where
           ),
         )))
 
-    pub Decides-bad : Decides (is_crowded net own || (is_over (limit_of net train) (length touched) || (is_unreached ends own || is_shared net own others))) (IsBad net fates train)
+    pub Decides-bad : Decides (is_crowded net own || (is_over (limit_of net train) (length touched) || (is_unreached reached own || is_shared net own others))) (IsBad net fates train)
     Decides-bad =
-        Decides-like (is_crowded net own || (is_over (limit_of net train) (length touched) || (is_unreached ends own || is_shared net own others))) bad why
-        (Decides-or (is_crowded net own) (is_over (limit_of net train) (length touched) || (is_unreached ends own || is_shared net own others)) (Decides-is_crowded net own)
-        (Decides-or (is_over (limit_of net train) (length touched)) (is_unreached ends own || is_shared net own others) (Decides-is_over (limit_of net train) (length touched))
-        (Decides-or (is_unreached ends own) (is_shared net own others) (Decides-is_unreached ends own all) (Decides-is_shared own others))))
+        Decides-like (is_crowded net own || (is_over (limit_of net train) (length touched) || (is_unreached reached own || is_shared net own others))) bad why
+        (Decides-or (is_crowded net own) (is_over (limit_of net train) (length touched) || (is_unreached reached own || is_shared net own others)) (Decides-is_crowded net own)
+        (Decides-or (is_over (limit_of net train) (length touched)) (is_unreached reached own || is_shared net own others) (Decides-is_over (limit_of net train) (length touched))
+        (Decides-or (is_unreached reached own) (is_shared net own others) (Decides-is_unreached ends reached own all over) (Decides-is_shared own others))))

@@ -1,5 +1,5 @@
 -- Steps that are read, and steps that go on.
-use Rattle.std.proofs.Common.{◌≡◌, ℕ, ◌<◌, Bool, true, false, List, length, get_or, refl}
+use Rattle.std.proofs.Common.{◌≡◌, ℕ, ◌<◌, true, false, List, length, get_or, refl}
 use Rattle.std.proofs.lemmas.List.{get_or_default}
 use Rattle.rr_routes.specs.declared.net.Node.TheVariants.{Hexside}
 use Rattle.rr_routes.specs.Net.{Net}

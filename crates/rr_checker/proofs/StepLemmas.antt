@@ -1,9 +1,9 @@
 -- The tests on steps, and the steps over links.
-use Rattle.std.proofs.Common.{◌≡◌, ℕ, ◌+◌, ◌<◌, ◌⊎◌, ◌↔◌, ◌==◌, ◌&&◌, not, Bool, true, false, List, [], ◌∷◌, ◌++◌, length, get_or, refl, sym, ◌∙◌, ap, subst, inl, inr, arith}
+use Rattle.std.proofs.Common.{◌≡◌, ℕ, ◌+◌, ◌<◌, ◌⊎◌, ◌↔◌, ◌==◌, not, Bool, true, false, List, [], ◌∷◌, ◌++◌, length, get_or, refl, sym, ◌∙◌, ap, subst, inl, inr, arith}
 use Rattle.std.specs.Bool.{Decides}
-use Rattle.std.specs.List.{Contains, list_any, slice_get}
+use Rattle.std.specs.List.{Contains, list_any}
 use Rattle.std.proofs.lemmas.Bool.{false≢true, cases_eq}
-use Rattle.std.proofs.lemmas.Bool.Decides.{Decides-eqb, Decides-like, Decides-not, Decides-and, nat_tests}
+use Rattle.std.proofs.lemmas.Bool.Decides.{Decides-eqb, Decides-like, Decides-not, Decides-and}
 use Rattle.std.proofs.lemmas.List.Elements.{Contains-push, Contains-push_cases, Contains-append_left}
 use Rattle.std.proofs.lemmas.List.Folds.{Any-from_list_any, list_any-from_Any}
 use Rattle.std.proofs.lemmas.Option.{slice_get_read, slice_get_within}
@@ -14,10 +14,10 @@ use Rattle.rr_routes.specs.declared.certificate.Fate.{Fate}
 use Rattle.rr_routes.specs.declared.certificate.Fate.TheVariants.{Open, Denied, Of}
 use Rattle.rr_routes.specs.Net.{Net, LinkAt, Joins, HasToken, IsTerminal}
 use Rattle.rr_routes.specs.Routes.{Passes}
-use Rattle.rr_routes.specs.Certificates.{fate_of, Allows, MayUse}
+use Rattle.rr_routes.specs.Certificates.{Allows}
 use Rattle.rr_routes.proofs.Walks.{LinkAt-same}
 use Rattle.rr_checker.specs.declared.step.Step.{Step}
-use Rattle.rr_checker.specs.Steps.{same_node, allows, has_token, is_terminal, forward, backward, HasStep, passes_at, may_follow, goes_on}
+use Rattle.rr_checker.specs.Steps.{same_node, allows, has_token, is_terminal, forward, backward, HasStep, passes_at}
 
 -- the link that stands for one past the end
 abbrev pub no_link : Link
@@ -78,12 +78,12 @@ pub Decides-is_terminal : (net : Net) (node : Node) → Decides (is_terminal net
 Decides-is_terminal net (Hexside side) = Decides-never (λ n. n)
 Decides-is_terminal net (Centre centre) = Decides-among net.terminals centre
 
-module _ (net : Net) (fates : List Fate) (train : ℕ) where
+module _ (net : Net) where
   -- a step's hex is its link's
-  pub HasStep-hex : (count : ℕ) (step : Step) (h : HasStep net fates train count step) → step.hex ≡ h.over.0.hex
+  pub HasStep-hex : (count : ℕ) (step : Step) (h : HasStep net count step) → step.hex ≡ h.over.0.hex
   HasStep-hex count step h = elim h.over.2 [ inl is ↦ ap (λ (s : Step). s.hex) is | inr is ↦ ap (λ (s : Step). s.hex) is ]
 
-  pub HasStep-Joins : (count : ℕ) (step : Step) → HasStep net fates train count step → Joins net step.link step.from step.to
+  pub HasStep-Joins : (count : ℕ) (step : Step) → HasStep net count step → Joins net step.link step.from step.to
   HasStep-Joins count step h = (
     h.over.0,
     h.over.1,
@@ -96,25 +96,25 @@ module _ (net : Net) (fates : List Fate) (train : ℕ) where
   -- the step over a link from one of its ends to the other
   pub record StepOver (link : ℕ) (from to : Node) : Type 0 where
     pub step : Step
-    pub has : HasStep net fates train (length net.links) step
+    pub has : HasStep net (length net.links) step
     pub link_is : step.link ≡ link
     pub from_is : step.from ≡ from
     pub to_is : step.to ≡ to
 
-  pub step_over : (link : ℕ) (from to : Node) → MayUse fates train link → Joins net link from to → StepOver link from to
-  step_over link from to free joins =
+  pub step_over : (link : ℕ) (from to : Node) → Joins net link from to → StepOver link from to
+  step_over link from to joins =
       let inside : link < length net.links = slice_get_within net.links link joins.0 joins.1 in
       elim joins.2 [
         | inl ends ↦ record {
           step = forward link joins.0;
-          has = record { inside = inside; free = free; over = (joins.0, joins.1, inl refl) };
+          has = record { inside = inside; over = (joins.0, joins.1, inl refl) };
           link_is = refl;
           from_is = sym ends.0;
           to_is = sym ends.1;
         }
         | inr ends ↦ record {
           step = backward link joins.0;
-          has = record { inside = inside; free = free; over = (joins.0, joins.1, inr refl) };
+          has = record { inside = inside; over = (joins.0, joins.1, inr refl) };
           link_is = refl;
           from_is = sym ends.0;
           to_is = sym ends.1;
@@ -122,7 +122,7 @@ module _ (net : Net) (fates : List Fate) (train : ℕ) where
       ]
 
   -- the test whether a walk passes a node tells the truth
-  pub Decides-passes : (count : ℕ) (step next : Step) → HasStep net fates train count step → HasStep net fates train count next → (node : Node)
+  pub Decides-passes : (count : ℕ) (step next : Step) → HasStep net count step → HasStep net count next → (node : Node)
       → Decides (passes_at node step next) (Passes net step.link node next.link)
   Decides-passes count step next h k (Centre centre) = Decides-not (step.link == next.link) (Decides-eqb step.link next.link)
   Decides-passes count step next h k (Hexside side) =
@@ -135,38 +135,26 @@ module _ (net : Net) (fates : List Fate) (train : ℕ) where
       (λ apart same. apart h.over.0 k.over.0 h.over.1 k.over.1 (sym (HasStep-hex count step h) ∙ same ∙ HasStep-hex count next k))
       (Decides-not (step.hex == next.hex) (Decides-eqb step.hex next.hex)))
 
-  -- all steps over the first so many links
+  -- both steps over each of the first so many links
   abbrev pub AreSteps : ℕ → List Step → Type 0
-  AreSteps count steps = (step : Step) → Contains steps step ↔ HasStep net fates train count step
+  AreSteps count steps = (step : Step) → Contains steps step ↔ HasStep net count step
 
   pub steps_first : AreSteps 0 []
   steps_first step = (λ c. absurd (omega (arith, c.1)), λ h. absurd (omega (arith, h.inside)))
 
-  more : (count : ℕ) (step : Step) → HasStep net fates train count step → HasStep net fates train (count + 1) step
-  more count step h = record { inside = omega (arith, h.inside); free = h.free; over = h.over }
+  more : (count : ℕ) (step : Step) → HasStep net count step → HasStep net (count + 1) step
+  more count step h = record { inside = omega (arith, h.inside); over = h.over }
 
-  pub steps_next_no : (count : ℕ) (steps : List Step) → AreSteps count steps → allows (fate_of fates count) train ≡ false → AreSteps (count + 1) steps
-  steps_next_no count steps all denied step = (
-    λ c. more count step ((all step).0 c),
-    λ h. elim (cases_eq step.link count) [
-      | inl same ↦ absurd (no (Decides-allows (fate_of fates count) train) denied (subst (λ l. MayUse fates train l) same h.free))
-      | inr differ ↦ (all step).1 (record { inside = omega (arith, h.inside, differ); free = h.free; over = h.over })
-    ],
-  )
-
-  pub steps_next_yes : (count : ℕ) (steps one two : List Step) (link : Link) → AreSteps count steps → allows (fate_of fates count) train ≡ true
+  pub steps_next : (count : ℕ) (steps one two : List Step) (link : Link) → AreSteps count steps
       → count < length net.links → link ≡ get_or net.links count link → one ≡ steps ++ forward count link ∷ [] → two ≡ one ++ backward count link ∷ [] → AreSteps (count + 1) two
-  steps_next_yes count steps one two link all free inside here first second = rw (second, first) both
+  steps_next count steps one two link all inside here first second = rw (second, first) both
     where
       there : LinkAt net count link
       there = slice_get_read net.links (length net.links) count link refl inside here
 
-      may : MayUse fates train count
-      may = yes (Decides-allows (fate_of fates count) train) free
-
-      new : (step : Step) → (forward count link ≡ step) ⊎ (backward count link ≡ step) → HasStep net fates train (count + 1) step
-      new step (inl is) = subst (λ s. HasStep net fates train (count + 1) s) is (record { inside = omega arith; free = may; over = (link, there, inl refl) })
-      new step (inr is) = subst (λ s. HasStep net fates train (count + 1) s) is (record { inside = omega arith; free = may; over = (link, there, inr refl) })
+      new : (step : Step) → (forward count link ≡ step) ⊎ (backward count link ≡ step) → HasStep net (count + 1) step
+      new step (inl is) = subst (λ s. HasStep net (count + 1) s) is (record { inside = omega arith; over = (link, there, inl refl) })
+      new step (inr is) = subst (λ s. HasStep net (count + 1) s) is (record { inside = omega arith; over = (link, there, inr refl) })
 
       pushed : List Step
       pushed = steps ++ forward count link ∷ []
@@ -191,7 +179,7 @@ module _ (net : Net) (fates : List Fate) (train : ℕ) where
         λ h. elim (cases_eq step.link count) [
           | inl same ↦ here_now step step.link h.over.0 same h.over.1 h.over.2
           | inr differ ↦ Contains-append_left pushed (backward count link ∷ []) step (Contains-append_left steps (forward count link ∷ []) step
-              ((all step).1 (record { inside = omega (arith, h.inside, differ); free = h.free; over = h.over })))
+              ((all step).1 (record { inside = omega (arith, h.inside, differ); over = h.over })))
         ],
       )
 

@@ -1,11 +1,11 @@
 -- Walks by the places of their links.
-use Rattle.std.proofs.Common.{◌≡◌, ◌≢◌, ℕ, zero, suc, ◌+◌, ◌-◌, ◌<◌, ◌≤◌, ◌⊎◌, ◌↔◌, ◌==◌, ◌&&◌, ◌||◌, not, Bool, true, false, Option, None, Some, List, [], ◌∷◌, ◌++◌, length, ltb, get_or, take, refl, sym, ◌∙◌, ap, subst, inl, inr, arith}
+use Rattle.std.proofs.Common.{◌≡◌, ℕ, zero, suc, ◌+◌, ◌-◌, ◌<◌, ◌≤◌, ◌==◌, ◌&&◌, not, Bool, true, false, Option, None, Some, List, [], ◌∷◌, ◌++◌, length, ltb, get_or, take, refl, sym, ◌∙◌, ap, subst, inl, inr, arith}
 use Rattle.std.specs.Bool.{Decides}
 use Rattle.std.specs.List.{AllByRecursion, Contains, list_any, slice_get}
 use Rattle.std.proofs.lemmas.List.{take_more, take_all}
 use Rattle.std.proofs.lemmas.Bool.{cases_eq, cases_lt}
 use Rattle.std.proofs.lemmas.Bool.Decides.{Decides-eqb, Decides-ltb, Decides-like, Decides-not, Decides-and, Decides-or}
-use Rattle.std.proofs.lemmas.List.Elements.{Contains-push, Contains-push_cases, Contains-get_or}
+use Rattle.std.proofs.lemmas.List.Elements.{Contains-push_cases, Contains-get_or}
 use Rattle.rr_routes.specs.declared.net.Node.{Node}
 use Rattle.rr_routes.specs.declared.net.Node.TheVariants.{Hexside, Centre}
 use Rattle.rr_routes.specs.declared.net.Link.{Link}
@@ -15,7 +15,7 @@ use Rattle.rr_routes.specs.Net.{Net, AreEnds, Joins, IsCentre, IsTerminal, IsWit
 use Rattle.rr_routes.specs.Routes.{Passes, Walk, one_link, goes_on, NoneTwice, but_last, inner, last, EndsAreCentres, NoTerminalInside, Route, centres}
 use Rattle.rr_routes.proofs.Elements.{Contains-here, Contains-there, Contains-cases, Contains-nil}
 use Rattle.rr_checker.specs.Steps.{same_node, has_token, is_terminal}
-use Rattle.rr_checker.specs.Own.{some_link, is_over}
+use Rattle.rr_checker.specs.Own.{is_over}
 use Rattle.rr_checker.specs.Trips.{node_at, GoesAt, link_joins, joins, hexes_differ, passes_on, is_centre, IsWay, trip_over}
 use Rattle.rr_checker.proofs.StepLemmas.{yes, no, Decides-never, Decides-always, Decides-same_node, Decides-list_any, Decides-has_token, Decides-is_terminal}
 use Rattle.rr_checker.proofs.OwnLemmas.{Decides-some_link, Decides-is_over}

@@ -1,4 +1,5 @@
 pub mod Steps
+pub mod Index
 pub mod Searching
 pub mod Ranked
 pub mod Own

@@ -1,5 +1,5 @@
 -- The tests on the links that are a train's own.
-use Rattle.std.specs.Prelude.{◌≡◌, ℕ, ◌<◌, ◌==◌, ◌&&◌, ◌||◌, ◌⊎◌, ◌↔◌, not, nat_lt, Bool, true, false, Option, None, Some, List, AllPairs, Contains, slice_get}
+use Rattle.std.specs.Prelude.{◌≡◌, ℕ, ◌<◌, ◌==◌, ◌&&◌, ◌||◌, ◌⊎◌, ◌↔◌, not, nat_lt, Bool, true, false, Option, None, Some, List, AllPairs, Contains, length, slice_get, slice_index_or}
 use Rattle.std.specs.List.{list_any}
 use Rattle.rr_routes.specs.declared.net.Node.{Node}
 use Rattle.rr_routes.specs.declared.net.Node.TheVariants.{Hexside, Centre}
@@ -10,8 +10,10 @@ use Rattle.rr_routes.specs.declared.certificate.Fate.{Fate}
 use Rattle.rr_routes.specs.declared.certificate.Fate.TheVariants.{Open, Denied, Of}
 use Rattle.rr_routes.specs.Net.{Net, Touches}
 use Rattle.rr_routes.specs.Certificates.{fate_of}
+use Rattle.rr_routes.specs.Reachability.Reach.{IsMarked}
 use Rattle.rr_checker.specs.declared.step.Step.{Step}
 use Rattle.rr_checker.specs.Steps.{same_node}
+use Rattle.rr_checker.specs.Index.{noted_at}
 use Rattle.rr_checker.specs.Ranked.{IsRanked}
 
 -- the fate is that train
@@ -72,11 +74,17 @@ is_over (AtMost most) count = nat_lt most count
 is_over Unlimited count = false
 
 -- a step goes over the link
-abbrev pub goes_over : List Step → ℕ → Bool
-goes_over ends link = list_any (λ step. step.link == link) ends
+abbrev pub GoesOver : List Step → ℕ → Type 0
+GoesOver ends link = (step : Step) × Contains ends step × (step.link ≡ link)
 
-abbrev pub is_unreached : List Step → List ℕ → Bool
-is_unreached ends own = list_any (λ link. not (goes_over ends link)) own
+-- of so many links those have a mark that a step goes over
+pub record AreGoneOver (ends : List Step) (count : ℕ) (marks : List Bool) : Type 0 where
+  pub as_long : length marks ≡ count
+  pub exact : (link : ℕ) → IsMarked marks link ↔ ((link < count) × GoesOver ends link)
+
+-- one of the links has no mark
+abbrev pub is_unreached : List Bool → List ℕ → Bool
+is_unreached reached own = list_any (λ link. not (slice_index_or reached link false)) own
 
 -- the node is a hexside that one of the links touches
 abbrev pub is_side_of : Net → List ℕ → Node → Bool
@@ -101,3 +109,17 @@ pub record AddsTouched (net : Net) (place : ℕ) (old new : List ℕ) : Type 0 w
 -- a link of the list touches the centre
 abbrev pub IsTouched : Net → List ℕ → ℕ → Type 0
 IsTouched net own centre = (link : ℕ) × Contains own link × Touches net link (Centre centre)
+
+-- The same tests over an index of the links: at a node only those noted there are looked at.
+abbrev pub crowds_end_on : Net → List (List ℕ) → ℕ → Link → Bool
+crowds_end_on net index one link = crowds net (noted_at index (Hexside link.side)) one (Hexside link.side) || crowds net (noted_at index link.other) one link.other
+
+abbrev pub is_crowded_on : Net → List (List ℕ) → List ℕ → Bool
+is_crowded_on net index own = list_any (λ one. some_link (slice_get net.links one) (crowds_end_on net index one)) own
+
+abbrev pub shares_end_on : Net → List (List ℕ) → Link → Bool
+shares_end_on net index link =
+    is_side_of net (noted_at index (Hexside link.side)) (Hexside link.side) || is_side_of net (noted_at index link.other) link.other
+
+abbrev pub is_shared_on : Net → List (List ℕ) → List ℕ → Bool
+is_shared_on net index own = list_any (λ place. some_link (slice_get net.links place) (shares_end_on net index)) own

@@ -1,9 +1,30 @@
--- The steps that end where walks end.
-use Rattle.std.specs.Prelude.{◌≡◌, ℕ, ◌↔◌, List, Contains}
+-- The steps over a net, the graph over them, and the steps that end where walks end.
+use Rattle.std.specs.Prelude.{◌≡◌, ℕ, ◌<◌, ◌↔◌, Bool, true, List, Contains, length, slice_index_or}
 use Rattle.rr_routes.specs.declared.net.Node.{Node}
 use Rattle.rr_routes.specs.Net.{Net}
 use Rattle.rr_routes.specs.Reach.{WalkTo}
+use Rattle.rr_routes.specs.Reachability.Places.{ArePlaces, IsGraphOf}
 use Rattle.rr_checker.specs.declared.step.Step.{Step}
+use Rattle.rr_checker.specs.declared.tracks.Tracks.{Tracks}
+use Rattle.rr_checker.specs.Steps.{HasStep, goes_on, has_token}
+
+-- Both steps over each link of the net, for each the places of those by which a walk that ends with it may go on, and the
+-- places of those by which a walk may begin.
+pub record AreTracks (net : Net) (steps : List Step) (graph : List (List ℕ)) (starts : List ℕ) : Type 0 where
+  pub all : (step : Step) → Contains steps step ↔ HasStep net (length net.links) step
+  pub rows : IsGraphOf (goes_on net) steps (length steps) graph
+  pub first : ArePlaces (λ step. has_token net step.from) steps (length steps) starts
+
+abbrev pub IsTracksOf : Net → Tracks → Type 0
+IsTracksOf net tracks = AreTracks net tracks.steps.items tracks.graph.items tracks.starts.items
+
+-- the place of one of the first n steps, at the node that the step begins at
+abbrev pub BeginsAt : List Step → ℕ → Node → ℕ → Type 0
+BeginsAt steps n node place = (place < n) × ((d : Step) → (slice_index_or steps place d).from ≡ node)
+
+-- these are those of the places that pass the test
+abbrev pub ArePassing : (ℕ → Bool) → List ℕ → List ℕ → Type 0
+ArePassing test places passing = (place : ℕ) → Contains passing place ↔ (Contains places place × (test place ≡ true))
 
 -- one of the steps goes over the link to the node
 abbrev pub EndsAt : List Step → ℕ → Node → Type 0

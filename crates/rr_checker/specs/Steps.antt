@@ -1,5 +1,5 @@
 -- Links gone over from one end to the other.
-use Rattle.std.specs.Prelude.{◌≡◌, ℕ, ◌<◌, ◌==◌, ◌&&◌, ◌⊎◌, not, Bool, true, false, List}
+use Rattle.std.specs.Prelude.{◌≡◌, ℕ, ◌<◌, ◌==◌, ◌&&◌, ◌⊎◌, not, Bool, true, false, Option, None, Some, List, slice_get}
 use Rattle.std.specs.List.{list_any}
 use Rattle.rr_routes.specs.declared.net.Node.{Node}
 use Rattle.rr_routes.specs.declared.net.Node.TheVariants.{Hexside, Centre}
@@ -7,7 +7,6 @@ use Rattle.rr_routes.specs.declared.net.Link.{Link}
 use Rattle.rr_routes.specs.declared.certificate.Fate.{Fate}
 use Rattle.rr_routes.specs.declared.certificate.Fate.TheVariants.{Open, Denied, Of}
 use Rattle.rr_routes.specs.Net.{Net, LinkAt}
-use Rattle.rr_routes.specs.Certificates.{MayUse}
 use Rattle.rr_checker.specs.declared.step.Step.{Step}
 
 abbrev pub same_node : Node → Node → Bool
@@ -38,10 +37,9 @@ forward place link = record { link = place; hex = link.hex; from = Hexside link.
 abbrev pub backward : ℕ → Link → Step
 backward place link = record { link = place; hex = link.hex; from = link.other; to = Hexside link.side }
 
--- the step goes over one of the first so many links, which the train may use
-pub record HasStep (net : Net) (fates : List Fate) (train : ℕ) (count : ℕ) (step : Step) : Type 0 where
+-- the step goes over one of the first so many links
+pub record HasStep (net : Net) (count : ℕ) (step : Step) : Type 0 where
   pub inside : step.link < count
-  pub free : MayUse fates train step.link
   pub over : (link : Link) × LinkAt net step.link link × ((step ≡ forward step.link link) ⊎ (step ≡ backward step.link link))
 
 -- a walk passes a hexside from one hex into the other, and any node to another link
@@ -56,3 +54,11 @@ may_follow step next = same_node step.to next.from && passes_at step.to step nex
 -- a walk that ends with the first step may go on by the second
 abbrev pub goes_on : Net → Step → Step → Bool
 goes_on net step next = not (is_terminal net step.to) && may_follow step next
+
+-- a walk that ends with the step may go on by the one at that place, if its node isn't terminal
+abbrev pub next_follows : Step → Option Step → Bool
+next_follows step None = false
+next_follows step (Some next) = may_follow step next
+
+abbrev pub follows : List Step → Step → ℕ → Bool
+follows steps step place = next_follows step (slice_get steps place)

@@ -1,5 +1,5 @@
 -- The tests on where a train goes.
-use Rattle.std.specs.Prelude.{◌≡◌, ℕ, suc, ◌<◌, ◌==◌, ◌&&◌, ◌||◌, ◌⊎◌, ◌↔◌, if◌then◌else◌, not, Bool, true, false, Option, None, Some, List, [], ◌∷◌, Contains, length, slice_get, slice_index, slice_index_or}
+use Rattle.std.specs.Prelude.{◌≡◌, ℕ, suc, ◌<◌, ◌==◌, ◌&&◌, ◌||◌, ◌⊎◌, ◌↔◌, if◌then◌else◌, not, Bool, true, false, Option, None, Some, List, ◌∷◌, Contains, length, slice_get, slice_index, slice_index_or}
 use Rattle.std.specs.List.{list_any}
 use Rattle.rr_routes.specs.declared.net.CentreLimit.{CentreLimit}
 use Rattle.rr_routes.specs.declared.net.Node.{Node}
@@ -8,7 +8,7 @@ use Rattle.rr_routes.specs.declared.net.Link.{Link}
 use Rattle.rr_routes.specs.Net.{Net, Joins, HasToken}
 use Rattle.rr_routes.specs.Routes.{Passes, Walk, Path, Trip, no_trip, Route, NoneTwice, EndsAreCentres, NoTerminalInside}
 use Rattle.rr_checker.specs.Steps.{same_node}
-use Rattle.rr_checker.specs.Own.{some_link}
+use Rattle.rr_checker.specs.Own.{some_link, touches}
 
 -- the node at a place of the list
 abbrev pub node_at : List Node → ℕ → Node
@@ -79,6 +79,10 @@ NoneFrom net limit own link = (trip : Trip) → IsTripOver net limit own trip �
 -- no such trip begins at the centre
 abbrev pub NoneAt : Net → CentreLimit → List ℕ → ℕ → Type 0
 NoneAt net limit own centre = (trip : Trip) → IsTripOver net limit own trip → (behind : List Node) → trip.nodes ≡ Centre centre ∷ behind → ⊥
+
+-- another of the links touches the node
+abbrev pub meets_another : Net → List ℕ → ℕ → Node → Bool
+meets_another net own link node = list_any (λ other. not (link == other) && touches net other node) own
 
 -- the centre at the other end of the link, if it is one
 abbrev pub centre_of : Node → Option ℕ

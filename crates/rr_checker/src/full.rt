@@ -7,8 +7,9 @@ ghost use Rattle.rr_routes.specs.Certificates.{IsFull};
 ghost use Rattle.rr_checker.specs.Runs.{AreCounted, CountsOn, NoRunKeeps, is_stray, is_undecided};
 
 use crate::centres::{Counted, left_of_all};
+use crate::index::index_of_links;
 use crate::journeys::journey_over;
-use crate::own::{is_shared, others_links, own_links};
+use crate::own::{is_shared_on, others_links, own_links};
 use crate::railway::Net;
 use crate::trips::centres_of;
 use rr_routes::{CentreLimit, Fate};
@@ -93,7 +94,8 @@ fn counted_by(
 {
     let own = own_links(alloc, fates, train)?;
     let others = others_links(alloc, fates, train)?;
-    if is_shared(net, &own, &others) {
+    let others_index = index_of_links(alloc, net, &others)?;
+    if is_shared_on(net, &others_index, &own) {
         return Ok(None);
     }
     match journey_over(alloc, net, limit, &own)? {

@@ -6,12 +6,14 @@
 
 mod centres;
 mod full;
+mod index;
 mod journeys;
 mod judge;
 mod own;
 mod railway;
 mod reach;
 mod step;
+mod tracks;
 mod trips;
 
 pub use centres::value;

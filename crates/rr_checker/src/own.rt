@@ -6,12 +6,17 @@ ghost use Rattle.rr_routes.specs.declared.net.Node.TheVariants.{Hexside};
 ghost use Rattle.rr_routes.specs.Net.{limit_of};
 ghost use Rattle.rr_routes.specs.Certificates.{IsBad};
 ghost use Rattle.rr_checker.specs.Ranked.{IsRankingOf};
-ghost use Rattle.rr_checker.specs.Own.{AddsTouched, AreLinksWith, IsTouched, crowds, crowds_end, goes_over, is_crowded, is_crowded_by, is_of, is_others, is_over, is_second, is_shared, is_side_of, is_third, is_unreached, link_touches, shares_end, shares_side, touches};
+ghost use Rattle.rr_checker.specs.Searching.{IsTracksOf};
+ghost use Rattle.rr_checker.specs.Own.{AddsTouched, AreGoneOver, AreLinksWith, IsTouched, crowds, crowds_end_on, is_crowded_on, is_of, is_others, is_over, is_second, is_shared, is_shared_on, is_side_of, is_third, is_unreached, link_touches, shares_end, shares_end_on, shares_side, some_link, touches};
+ghost use Rattle.rr_checker.specs.Index.{noted_at};
 
 use crate::centres::add_node;
+use crate::index::{index_of_links, noted_at};
 use crate::railway::Net;
 use crate::reach::ends_of;
 use crate::step::{Step, same_node};
+use crate::tracks::Tracks;
+use rr_routes::reachability::{Followers, is_marked};
 use rr_routes::{CentreLimit, Fate, Link, Node};
 use std::alloc::{AllocError, Global};
 
@@ -19,32 +24,37 @@ use std::alloc::{AllocError, Global};
 pub(crate) fn is_bad(
     alloc: Global,
     net: &Net,
+    tracks: &Tracks,
     fates: &[Fate],
     train: usize,
 ) -> Result<bool, AllocError>
+    requires { IsTracksOf net.now tracks.now }
     ensures { IfOk result (λ bad. Decides bad (IsBad net.now fates.now train)) }
 {
     let own = own_links(alloc, fates, train)?;
     let others = others_links(alloc, fates, train)?;
-    let ends = ends_of(alloc, net, fates, train)?;
+    let ends = ends_of(alloc, tracks, fates, train)?;
+    let reached = gone_over(alloc, net, &ends)?;
     let touched = touched_centres(alloc, net, &own)?;
-    Ok(runs_badly(net, train, &own, &others, &ends, &touched))
+    let own_index = index_of_links(alloc, net, &own)?;
+    let others_index = index_of_links(alloc, net, &others)?;
+    let crowded = is_crowded_on(net, &own_index, &own);
+    let shared = is_shared_on(net, &others_index, &own);
+    Ok(runs_badly(net, train, crowded, shared, &own, &reached, &touched))
 }
 
 fn runs_badly(
     net: &Net,
     train: usize,
+    crowded: bool,
+    shared: bool,
     own: &[usize],
-    others: &[usize],
-    ends: &[Step],
+    reached: &[bool],
     touched: &[usize],
 ) -> bool
-    ensures { result ≡ (is_crowded net.now own.now || (is_over (limit_of net.now train) (length touched.now) || (is_unreached ends.now own.now || is_shared net.now own.now others.now))) }
+    ensures { result ≡ (crowded || (is_over (limit_of net.now train) (length touched.now) || (is_unreached reached.now own.now || shared))) }
 {
-    is_crowded(net, own)
-        || counts_fewer(net, train, touched.len())
-        || is_unreached(ends, own)
-        || is_shared(net, own, others)
+    crowded || counts_fewer(net, train, touched.len()) || is_unreached(reached, own) || shared
 }
 
 /// The links that are the train's own, in order.
@@ -131,26 +141,32 @@ pub(crate) fn is_over(limit: &CentreLimit, count: usize) -> bool
     }
 }
 
-// Whether three of the links meet at a node.
-fn is_crowded(net: &Net, own: &[usize]) -> bool
-    ensures { result ≡ is_crowded net.now own.now }
+// Whether three of the links, which the index has by their nodes, meet at a node.
+pub(crate) fn is_crowded_on(net: &Net, index: &[Followers], own: &[usize]) -> bool
+    ensures { result ≡ is_crowded_on net.now index.now own.now }
 {
-    own.iter().any(|one| is_crowded_by(net, own, *one))
+    own.iter().any(|one| is_crowded_by(net, index, *one))
 }
 
-fn is_crowded_by(net: &Net, own: &[usize], one: usize) -> bool
-    ensures { result ≡ is_crowded_by net.now own.now one }
+fn is_crowded_by(net: &Net, index: &[Followers], one: usize) -> bool
+    ensures { result ≡ some_link (slice_get net.now.links one) (crowds_end_on net.now index.now one) }
 {
     match net.links().get(one) {
-        Some(link) => crowds_end(net, own, one, link),
+        Some(link) => crowds_end(net, index, one, link),
         None => false,
     }
 }
 
-fn crowds_end(net: &Net, own: &[usize], one: usize, link: &Link) -> bool
-    ensures { result ≡ crowds_end net.now own.now one link.now }
+fn crowds_end(net: &Net, index: &[Followers], one: usize, link: &Link) -> bool
+    ensures { result ≡ crowds_end_on net.now index.now one link.now }
 {
-    crowds(net, own, one, &Node::Hexside(link.side)) || crowds(net, own, one, &link.other)
+    crowds_at(net, index, one, &Node::Hexside(link.side)) || crowds_at(net, index, one, &link.other)
+}
+
+fn crowds_at(net: &Net, index: &[Followers], one: usize, node: &Node) -> bool
+    ensures { result ≡ crowds net.now (noted_at index.now node.now) one node.now }
+{
+    crowds(net, noted_at(index, node), one, node)
 }
 
 fn crowds(net: &Net, own: &[usize], one: usize, node: &Node) -> bool
@@ -193,17 +209,25 @@ fn link_touches(node: &Node, link: &Link) -> bool
     same_node(node, &Node::Hexside(link.side)) || same_node(node, &link.other)
 }
 
-// Whether no step goes over one of the links.
-fn is_unreached(ends: &[Step], own: &[usize]) -> bool
-    ensures { result ≡ is_unreached ends.now own.now }
+// For each link of the net whether one of the steps goes over it.
+fn gone_over(alloc: Global, net: &Net, ends: &[Step]) -> Result<Vec<bool>, AllocError>
+    ensures { IfOk result (λ marks. AreGoneOver ends.now (length net.now.links) marks.items) }
 {
-    own.iter().any(|link| !goes_over(ends, *link))
+    let mut marks = vec![in alloc; false; net.links().len()]?;
+    for step in ends {
+        if step.link >= marks.len() {
+            continue;
+        }
+        marks[step.link] = true;
+    }
+    Ok(marks)
 }
 
-fn goes_over(ends: &[Step], link: usize) -> bool
-    ensures { result ≡ goes_over ends.now link }
+// Whether one of the links isn't among those reached.
+fn is_unreached(reached: &[bool], own: &[usize]) -> bool
+    ensures { result ≡ is_unreached reached.now own.now }
 {
-    ends.iter().any(|step| step.link == link)
+    own.iter().any(|link| !is_marked(reached, *link))
 }
 
 /// Whether links of the two lists touch one hexside.
@@ -235,6 +259,34 @@ fn is_side_of(net: &Net, others: &[usize], node: &Node) -> bool
         Node::Hexside(side) => touches_side(net, others, *side),
         Node::Centre(_) => false,
     }
+}
+
+// Whether links of the list touch a hexside that one of the others touches, which the index has by their nodes.
+pub(crate) fn is_shared_on(net: &Net, index: &[Followers], own: &[usize]) -> bool
+    ensures { result ≡ is_shared_on net.now index.now own.now }
+{
+    own.iter().any(|place| shares_side_on(net, index, *place))
+}
+
+fn shares_side_on(net: &Net, index: &[Followers], place: usize) -> bool
+    ensures { result ≡ some_link (slice_get net.now.links place) (shares_end_on net.now index.now) }
+{
+    match net.links().get(place) {
+        Some(link) => shares_end_on(net, index, link),
+        None => false,
+    }
+}
+
+fn shares_end_on(net: &Net, index: &[Followers], link: &Link) -> bool
+    ensures { result ≡ shares_end_on net.now index.now link.now }
+{
+    is_side_on(net, index, &Node::Hexside(link.side)) || is_side_on(net, index, &link.other)
+}
+
+fn is_side_on(net: &Net, index: &[Followers], node: &Node) -> bool
+    ensures { result ≡ is_side_of net.now (noted_at index.now node.now) node.now }
+{
+    is_side_of(net, noted_at(index, node), node)
 }
 
 fn touches_side(net: &Net, others: &[usize], side: usize) -> bool

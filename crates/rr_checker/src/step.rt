@@ -18,27 +18,19 @@ pub struct Step {
     pub to: Node,
 }
 
-// Both steps over each link that the train may use.
-pub(crate) fn steps_of(
-    alloc: Global,
-    net: &Net,
-    fates: &[Fate],
-    train: usize,
-) -> Result<Vec<Step>, AllocError>
-    ensures { IfOk result (λ steps. (step : Step) → Contains steps.items step ↔ HasStep net.now fates.now train (length net.now.links) step) }
+// Both steps over each link.
+pub(crate) fn steps_of(alloc: Global, net: &Net) -> Result<Vec<Step>, AllocError>
+    ensures { IfOk result (λ steps. (step : Step) → Contains steps.items step ↔ HasStep net.now (length net.now.links) step) }
 {
     let mut steps = Vec::new(alloc);
     for (place, link) in net.links().iter().enumerate() {
-        if !may_use(fates, train, place) {
-            continue;
-        }
         steps.push(forward(place, link))?;
         steps.push(backward(place, link))?;
     }
     Ok(steps)
 }
 
-fn may_use(fates: &[Fate], train: usize, link: usize) -> bool
+pub(crate) fn may_use(fates: &[Fate], train: usize, link: usize) -> bool
     ensures { result ≡ allows (fate_of fates.now link) train }
 {
     match fates.get(link) {

@@ -6,12 +6,15 @@ ghost use Rattle.rr_routes.specs.declared.net.Node.TheVariants.{Centre};
 ghost use Rattle.rr_routes.specs.Net.{Touches};
 ghost use Rattle.rr_routes.specs.Routes.{EndsAreCentres, NoTerminalInside, NoneTwice, Route, Walk, centres};
 ghost use Rattle.rr_checker.specs.Steps.{has_token, is_terminal, same_node};
+ghost use Rattle.rr_checker.specs.Index.{IsIndexOf, TouchesAt};
 ghost use Rattle.rr_checker.specs.Own.{is_over, touches};
 ghost use Rattle.rr_checker.specs.Trips.{GoesAt, IsOnlyWay, IsWay, far, far_end, hexes_differ, is_centre, joins, link_joins, node_at, passes_on, trip_over};
 
+use crate::index::noted_at;
 use crate::own::{is_over, touches};
 use crate::railway::Net;
 use crate::step::{has_token, is_among, is_terminal, same_node};
+use rr_routes::reachability::Followers;
 use rr_routes::{CentreLimit, Link, Node};
 use std::alloc::{AllocError, Global};
 
@@ -27,8 +30,10 @@ pub(crate) fn follow(
     alloc: Global,
     net: &Net,
     own: &[usize],
+    index: &[Followers],
     start: usize,
 ) -> Result<Journey, AllocError>
+    requires { IsIndexOf (TouchesAt net.now own.now) index.now }
     ensures { IfOk result (λ journey. IsOnlyWay net.now own.now (Centre start) journey.links.items journey.nodes.items) }
 {
     let mut links = Vec::new(alloc);
@@ -36,7 +41,7 @@ pub(crate) fn follow(
     let mut at = Node::Centre(start);
     nodes.push(at)?;
     for turn in 0..own.len() {
-        match next_link(net, own, &links, &at) {
+        match next_link(net, noted_at(index, &at), &links, &at) {
             None => return Ok(Journey { links, nodes }),
             Some(link) => {
                 at = far_end(net, link, &at);

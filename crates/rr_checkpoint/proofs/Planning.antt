@@ -5,6 +5,8 @@ use Rattle.std.proofs.lemmas.List.{map-append, length-set}
 use Rattle.rr_disk.specs.Disk.{DiskState}
 use Rattle.rr_pages.specs.declared.chain.FreshPage.{FreshPage}
 use Rattle.rr_pages.specs.declared.root.Root.{Root}
+use Rattle.rr_pages.specs.declared.root.TheConstants.{NEWEST_VERSION}
+use Rattle.rr_pages.proofs.Versions.{newest_known}
 use Rattle.rr_pages.specs.declared.free_pages.FreePages.{FreePages}
 use Rattle.rr_pages.specs.FreePages.{present_of, coming_of}
 use Rattle.rr_pages.specs.Laying.{laid, FitEach}
@@ -85,7 +87,7 @@ module _ {C : Type 0} (codec : Codec) (file : OpenFile C) (state : DiskState) (w
   sound : IsSound state.settled layout.root
   sound = (carries.between.each state.settled (settled_may_stay state)).taken.sound
 
-  module _ (drafts : List Draft) (fresh more : List FreshPage) (drafted : AreDrafted layout file.free fresh drafts) (text : List ℕ) (directory_is : IsDirectory codec layout drafts text) (after : FreePages) (head : ℕ)
+  module _ (drafts : List Draft) (fresh more : List FreshPage) (drafted : AreDrafted layout file.free fresh drafts) (text : List ℕ) (directory_is : IsDirectory codec layout NEWEST_VERSION drafts text) (after : FreePages) (head : ℕ)
       (is : IsLaid (present_of file.free) (coming_of file.free) (coming_of after) text fresh more head) (root_low : file.taken.root.number + 1 < 2 ^ 63) (number_low : file.place.number < 2 ^ 63) where
     one : OneLaid (present_of file.free) drafted.marks (coming_of after) more (fresh_chains drafts) text head
     one = one_more_laid (present_of file.free) drafted.marks (coming_of file.free) (coming_of after) fresh more (fresh_chains drafts) text head drafted.laid is
@@ -98,7 +100,7 @@ module _ {C : Type 0} (codec : Codec) (file : OpenFile C) (state : DiskState) (w
           half = other_half file.taken.root.half;
           first = unwrap_or file.place.begun file.place.number;
           pages = pages_with file.taken.root.pages more;
-          version = 1;
+          version = NEWEST_VERSION;
         }
 
     free_now : AreFree (reached_of layout.holding) (laid_pages (written_chains one.chain drafts)) × Has (coming_of after) (pages_of (kept_of drafts) ++ laid_pages (written_chains one.chain drafts))
@@ -124,7 +126,7 @@ module _ {C : Type 0} (codec : Codec) (file : OpenFile C) (state : DiskState) (w
           number = root_low;
           first_low = omega (arith, first_is, sound.first_low);
           first_high = omega (arith, first_is, behind, number_low);
-          version = refl;
+          version = newest_known;
           pages = count_now;
           pages_low = omega (arith, count_now, sound.pages_low);
           pages_high = omega (arith, count_now, sound.pages_high, most);
@@ -132,8 +134,8 @@ module _ {C : Type 0} (codec : Codec) (file : OpenFile C) (state : DiskState) (w
           fit = one.laid.fit;
           free = free_now.0;
           kept = drafted.kept;
-          named = subst (λ (bytes : List ℕ). codec.Heads 1 bytes (heads_of (chains_of drafts))) (sym one.whole) directory_is.named;
-          spells = subst (λ (bytes : List ℕ). codec.Spells 1 bytes (texts_of (chains_of drafts)) layout.middle) (sym one.whole) directory_is.spells;
+          named = subst (λ (bytes : List ℕ). codec.Heads NEWEST_VERSION bytes (heads_of (chains_of drafts))) (sym one.whole) directory_is.named;
+          spells = subst (λ (bytes : List ℕ). codec.Spells NEWEST_VERSION bytes (texts_of (chains_of drafts)) layout.middle) (sym one.whole) directory_is.spells;
         }
 
     pub may_begin : (plan : Plan) → plan.root ≡ root → plan.fresh.items ≡ more
@@ -145,6 +147,7 @@ module _ {C : Type 0} (codec : Codec) (file : OpenFile C) (state : DiskState) (w
           record {
             holding = holding;
             is_plan = subst (λ (p : images.Plan). IsPlan codec layout p) (λ i. record { root = sym root_is i; holding = holding; fresh = (sym one.laid.to_write ∙ ap (λ (pages : List FreshPage). map fresh_of pages) (sym fresh_is)) i }) planned;
+            next = ap (λ (r : Root). r.number) root_is ∙ ap (λ (r : Root). r.number + 1) (sym carries.tells.root);
             coming = plan_reaches root one.chain drafts (coming_of after) free_now.1;
           },
           refl,

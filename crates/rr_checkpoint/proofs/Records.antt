@@ -124,7 +124,7 @@ module _ {C : Type 0} (codec : Codec) (file : OpenFile C) (checkpoint : Option C
 -- the first step of a checkpoint
 module _ {C : Type 0} (codec : Codec) (file : OpenFile C) (state : DiskState) (world : codec.World) (stays : IsImage state state.content) (carries : CarriesWith codec file None state world) where
   -- it was found begun
-  module _ (plan : Plan) (holding : Holding) (is_plan : IsPlan codec carries.layout (plan_of plan holding)) (coming : Has (coming_of file.free) (reached_of holding)) where
+  module _ (plan : Plan) (holding : Holding) (is_plan : IsPlan codec carries.layout (plan_of plan holding)) (coming : Has (coming_of file.free) (reached_of holding)) (next : plan.root.number ≡ file.taken.root.number + 1) where
     begun_there : is_some file.place.begun ≡ true → IsBegun carries.layout.far
     begun_there some = is_begun file.place.begun (carries.layout.root.first + length carries.layout.near) carries.layout.far some carries.tells.begun
 
@@ -138,7 +138,7 @@ module _ {C : Type 0} (codec : Codec) (file : OpenFile C) (state : DiskState) (w
           each = carries.between.each;
           come = (is_plan, begun_there some, refl, tt);
         };
-        coming = coming;
+        coming = (coming, next);
       },
       record { root = refl; present = refl; coming = refl; middle = refl; far = found_far (begun_there some) },
     )
@@ -156,7 +156,7 @@ module _ {C : Type 0} (codec : Codec) (file : OpenFile C) (state : DiskState) (w
     pub begin_stops : (image : List ℕ) → MayShut state at image → Keeps codec image world
     begin_stops image may = begin_next.leaves image (subst (λ (n : ℕ). MayShut state n image) at_gate may)
 
-    module _ (plan : Plan) (holding : Holding) (is_plan : IsPlan codec carries.layout (plan_of plan holding)) (coming : Has (coming_of file.free) (reached_of holding)) where
+    module _ (plan : Plan) (holding : Holding) (is_plan : IsPlan codec carries.layout (plan_of plan holding)) (coming : Has (coming_of file.free) (reached_of holding)) (next : plan.root.number ≡ file.taken.root.number + 1) where
       pub begin_carries : (new : DiskState) → Shuts state at new
           → (then : CarriesWith codec
           (record {
@@ -182,7 +182,7 @@ module _ {C : Type 0} (codec : Codec) (file : OpenFile C) (state : DiskState) (w
                 reached = carries.tells.reached;
               };
               between = begin_next.done (plan_of plan holding) new is_plan (subst (λ (n : ℕ). Shuts state n new) at_gate shuts);
-              coming = coming;
+              coming = (coming, next);
             },
             record { root = refl; present = refl; coming = refl; middle = refl; far = ap Begun (sym (none_far carries.layout.far none)) },
           )

@@ -6,6 +6,7 @@ use Rattle.rr_disk.specs.Disk.{DiskState, IsImage, after_write, after_sync}
 use Rattle.rr_disk.specs.Moments.{EachImage, TornFrom}
 use Rattle.rr_pages.specs.declared.chain.FreshPage.{FreshPage}
 use Rattle.rr_pages.specs.declared.free_pages.FreePages.{FreePages}
+use Rattle.rr_pages.specs.declared.root.Root.{Root}
 use Rattle.rr_pages.specs.Device.{Shuts, MayShut}
 use Rattle.rr_pages.specs.FreePages.{present_of, coming_of}
 use Rattle.rr_pages.specs.Roots.{Shut, root_gate, root_bytes}
@@ -204,13 +205,18 @@ module _ {C : Type 0} (codec : Codec) (file : OpenFile C) (checkpoint : Checkpoi
                 root = refl;
                 begun = none_behind carries.layout.near;
                 goes_on = goes_flip codec carries.layout file.place.half file.place.number carries.tells.goes_on plan.root plan.holding lines world filling.come.1.1 filling.come.0.next;
-                reached = subst (λ (marks : List Bool). Has marks (reached_of carries.holding)) (sym reclaimed) carries.coming;
+                reached = subst (λ (marks : List Bool). Has marks (reached_of carries.holding)) (sym reclaimed) carries.coming.0;
               };
               between = subst (λ (s : DiskState). IsBetween codec (flipped carries.layout plan.root plan.holding lines world) s Resting world) (sym became) open_next.done;
               coming = tt;
             },
             record {
               present = refl;
-              renewed = record { newer = filling.come.0.next.number; base = refl; near = sym filling.come.1.1; rests = none_behind carries.layout.near };
+              renewed = record {
+                next = carries.coming.1 ∙ ap (λ (root : Root). root.number + 1) (sym carries.tells.root);
+                base = refl;
+                near = sym filling.come.1.1;
+                rests = none_behind carries.layout.near;
+              };
             },
           )

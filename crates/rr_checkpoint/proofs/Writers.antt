@@ -1,5 +1,5 @@
 -- What the calls of a writer say, by those on its file.
-use Rattle.std.proofs.Common.{◌≡◌, ◌+◌, ◌<◌, ℕ, Bool, true, false, List, length, Option, None, Some, refl, sym, ◌∙◌, subst, arith}
+use Rattle.std.proofs.Common.{◌≡◌, ◌+◌, ◌<◌, ℕ, Bool, true, false, List, length, Option, None, Some, refl, sym, ◌∙◌, ap, subst, arith}
 use Rattle.std.specs.Option.{is_some}
 use Rattle.rr_disk.specs.Disk.{DiskState}
 use Rattle.rr_disk.specs.Moments.{EachImage}
@@ -15,15 +15,17 @@ use Rattle.rr_images.specs.Layout.{Layout, FarHalf, Unused, Old, Begun, far_line
 use Rattle.rr_images.specs.Progress.{IsNotBegun, IsBetween}
 use Rattle.rr_images.proofs.Commits.{settled_may_stay}
 use Rattle.rr_checkpoint.specs.declared.checkpoint.Checkpoint.{Checkpoint}
+use Rattle.rr_checkpoint.specs.declared.checkpoint.Plan.{Plan}
 use Rattle.rr_checkpoint.specs.declared.checkpoint.Stage.{Stage}
 use Rattle.rr_checkpoint.specs.declared.checkpoint.Stage.TheVariants as S
 use Rattle.rr_checkpoint.specs.declared.open_file.OpenFile.{OpenFile}
 use Rattle.rr_checkpoint.specs.declared.writer.Tick.{Tick}
 use Rattle.rr_checkpoint.specs.declared.writer.Tick.TheVariants.{Idle, More, Done}
 use Rattle.rr_checkpoint.specs.Calls.{Renews, StaysTaken}
-use Rattle.rr_checkpoint.specs.Checkpoint.{progress_of, left_at, left_of}
-use Rattle.rr_checkpoint.specs.Holds.{HoldsOn, HoldsBehind, HoldsAt, RestsBehind, RestsAt}
+use Rattle.rr_checkpoint.specs.Checkpoint.{progress_of, left_at, left_behind_first, left_of}
+use Rattle.rr_checkpoint.specs.Holds.{HoldsOn, HoldsAsBegun, HoldsBehind, HoldsRenewed, HoldsAt, RestsBehind, RestsAt}
 use Rattle.rr_checkpoint.specs.OpenFile.{IsBegunAt, HasComing, CarriesWith}
+use Rattle.rr_checkpoint.specs.Planning.{MayBegin, MayStart}
 use Rattle.rr_checkpoint.specs.Writer.{Lowers, RenewsAt, StaysTakenAt, told_at}
 
 -- the same of a checkpoint that is told otherwise
@@ -35,7 +37,7 @@ carries_same codec file state world checkpoint other is carries =
       holding = carries.holding;
       tells = carries.tells;
       between = subst (λ (c : Option Checkpoint). IsBetween codec carries.layout state (progress_of c carries.holding) world) is carries.between;
-      coming = subst (λ (c : Option Checkpoint). HasComing file.free c carries.holding) is carries.coming;
+      coming = subst (λ (c : Option Checkpoint). HasComing file.free file.taken.root.number c carries.holding) is carries.coming;
     }
 
 some_left : (stage : Stage) (pages : ℕ) → 0 < left_at stage pages
@@ -83,7 +85,7 @@ carries_freed codec file checkpoint free none present state world carries = (
       reached = subst (λ (marks : List Bool). Has marks (reached_of carries.layout.holding)) (sym present) carries.tells.reached;
     };
     between = carries.between;
-    coming = subst (λ (c : Option Checkpoint). HasComing free c carries.holding) (sym (none_left checkpoint none)) tt;
+    coming = subst (λ (c : Option Checkpoint). HasComing free file.taken.root.number c carries.holding) (sym (none_left checkpoint none)) tt;
   },
   refl,
 )
@@ -138,7 +140,7 @@ holds_told (Some checkpoint) old coming_old new coming_new holds = holds
 -- and after so many ticks of those that were left
 pub record HoldsSoFar {codec : Codec} (left rest : ℕ) (old : Layout codec) (coming_old : Holding) (new : Layout codec) (coming_new : Holding) : Type 0 where
   pub under_way : 0 < rest → HoldsOn old coming_old new coming_new
-  pub done : 0 < left → rest ≡ 0 → new.holding ≡ coming_old
+  pub done : 0 < left → rest ≡ 0 → HoldsRenewed old coming_old new
 
 pub holds_at_first : {codec : Codec} (left : ℕ) (layout : Layout codec) (coming : Holding) → HoldsSoFar left left layout coming layout coming
 holds_at_first left layout coming =
@@ -155,6 +157,48 @@ holds_twice old coming_old then coming_then new coming_new first second =
       far = second.far ∙ first.far;
     }
 
+-- the last step renews the root from before the others too
+holds_renewed : {codec : Codec} (old : Layout codec) (coming_old : Holding) (then : Layout codec) (coming_then : Holding) (new : Layout codec)
+    → HoldsOn old coming_old then coming_then → HoldsRenewed then coming_then new → HoldsRenewed old coming_old new
+holds_renewed old coming_old then coming_then new on renews =
+    record {
+      present = renews.present ∙ on.coming;
+      renewed = record {
+        next = renews.renewed.next ∙ ap (λ (root : Root). root.number + 1) on.root;
+        base = renews.renewed.base ∙ on.middle;
+        near = renews.renewed.near ∙ on.far;
+        rests = renews.renewed.rests;
+      };
+    }
+
+-- a checkpoint that was found begun holds, behind its first step, what it was to hold
+pub begun_on : {codec : Codec} (next : Option Checkpoint) (pages : ℕ) (old : Layout codec) (coming : Holding) (then : Layout codec) (coming_then : Holding) (new : Layout codec) (coming_new : Holding)
+    → pages + 3 ≡ left_of next + 1 → HoldsAsBegun old coming then coming_then → HoldsBehind next then coming_then new coming_new → HoldsAsBegun old coming new coming_new
+begun_on None pages old coming then coming_then new coming_new left begun on = absurd (omega (arith, left))
+begun_on (Some checkpoint) pages old coming then coming_then new coming_new left begun on =
+    record {
+      root = on.root ∙ begun.root;
+      present = on.present ∙ begun.present;
+      coming = on.coming ∙ begun.coming;
+      middle = on.middle ∙ begun.middle;
+      far = on.far ∙ begun.far;
+    }
+
+-- and the root that was taken is taken
+pub begun_taken : (next : Option Checkpoint) (pages : ℕ) (old new : Taken) → pages + 3 ≡ left_of next + 1 → StaysTaken next old new → new ≡ old
+begun_taken None pages old new left stays = absurd (omega (arith, left))
+begun_taken (Some checkpoint) pages old new left stays = stays
+
+-- the plan of a checkpoint that is found begun is one for the layout
+pub found_may : (codec : Codec) (layout : Layout codec) (free : FreePages) (begun : Option ℕ) (plan : Plan) → is_some begun ≡ true → MayStart codec layout free begun plan → MayBegin codec layout free plan
+found_may codec layout free None plan some may = absurd (cc)
+found_may codec layout free (Some first) plan some may = may
+
+-- how many ticks its first one leaves
+pub left_found : (begun : Option ℕ) (pages : ℕ) → is_some begun ≡ true → left_behind_first begun pages ≡ pages + 2
+left_found None pages some = absurd (cc)
+left_found (Some first) pages some = refl
+
 pub holds_more : {codec : Codec} (tick : Tick) (left rest new_rest : ℕ) (old : Layout codec) (coming_old : Holding) (then : Layout codec) (coming_then : Holding) (new : Layout codec) (coming_new : Holding)
     → 0 < rest → Lowers tick rest new_rest → HoldsSoFar left rest old coming_old then coming_then → HoldsAt tick then coming_then new coming_new
     → HoldsSoFar left new_rest old coming_old new coming_new
@@ -167,7 +211,7 @@ holds_more More left rest new_rest old coming_old then coming_then new coming_ne
 holds_more Done left rest new_rest old coming_old then coming_then new coming_new some lowers so_far holds =
     record {
       under_way = λ more. absurd (omega (arith, more, lowers.1));
-      done = λ some_left none. holds.present ∙ (so_far.under_way some).coming;
+      done = λ some_left none. holds_renewed old coming_old then coming_then new (so_far.under_way some) holds;
     }
 
 -- the last of the ticks that were left is the one that rests

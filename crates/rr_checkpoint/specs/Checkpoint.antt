@@ -1,5 +1,5 @@
 -- What a checkpoint has in memory, and how far it has come.
-use Rattle.std.specs.Prelude.{ℕ, ◌+◌, ◌-◌, length, take, drop, map, Option, None, Some}
+use Rattle.std.specs.Prelude.{ℕ, ◌+◌, ◌-◌, ◌<◌, length, take, drop, map, Option, None, Some}
 use Rattle.rr_pages.specs.Writing.{fresh_of}
 use Rattle.rr_images.specs.Holding.{Holding}
 use Rattle.rr_images.specs.Progress as images
@@ -13,7 +13,7 @@ use Rattle.rr_checkpoint.specs.declared.checkpoint.Stage.TheVariants as S
 abbrev pub plan_of : Plan → Holding → images.Plan
 plan_of plan holding = record { root = plan.root; holding = holding; fresh = map fresh_of plan.fresh.items }
 
--- a checkpoint of which nothing is written
+-- a checkpoint of which no page is written
 abbrev pub begun : Plan → Checkpoint
 begun plan = record { plan = plan; stage = S.Writing 0 }
 
@@ -35,3 +35,13 @@ left_at S.Filled pages = 1
 abbrev pub left_of : Option Checkpoint → ℕ
 left_of None = 0
 left_of (Some checkpoint) = left_at checkpoint.stage (length checkpoint.plan.fresh.items)
+
+-- How many ticks the first one leaves of a checkpoint of so many fresh pages. Where an opening found it begun, the first one
+-- writes a page, and else it shuts slot 0 of the other half.
+abbrev pub left_behind_first : Option ℕ → ℕ → ℕ
+left_behind_first None pages = pages + 3
+left_behind_first (Some first) pages = pages + 2
+
+-- a fresh page is still to be written
+abbrev pub HasPageLeft : Checkpoint → Type 0
+HasPageLeft checkpoint = 3 < left_of (Some checkpoint)

@@ -1,5 +1,5 @@
 -- What the calls on an open file leave of what its roots hold.
-use Rattle.std.specs.Prelude.{◌≡◌, ℕ, ◌<◌, List, Option, None, Some}
+use Rattle.std.specs.Prelude.{◌≡◌, ℕ, ◌+◌, List, Option, None, Some}
 use Rattle.rr_images.specs.Codec.{Codec}
 use Rattle.rr_images.specs.Holding.{Holding}
 use Rattle.rr_images.specs.Layout.{Layout, Begun, far_lines}
@@ -37,10 +37,10 @@ pub record HoldsWithRecord {codec : Codec} (old : Layout codec) (coming_old : Ho
   pub coming : coming_new ≡ coming_old
   pub middle : IsBegun old.far → new.middle ≡ old.middle
 
--- Behind the last step of a checkpoint a newer root is taken. Its chains spell the world before the first record of the other
+-- Behind the last step of a checkpoint the root of the next number is taken. Its chains spell the world before the first record of the other
 -- half, behind it stand the records of that half, and there records go on.
 pub record IsRenewed {codec : Codec} (old new : Layout codec) : Type 0 where
-  pub newer : old.root.number < new.root.number
+  pub next : new.root.number ≡ old.root.number + 1
   pub base : new.base ≡ old.middle
   pub near : Begun new.near ≡ old.far
   pub rests : IsNotBegun new.far

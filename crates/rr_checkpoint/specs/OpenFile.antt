@@ -28,10 +28,12 @@ pub record Tells {codec : Codec} (taken : Taken) (place : Place) (free : FreePag
   pub goes_on : GoesOnAt layout place.half place.number
   pub reached : Has (present_of free) (reached_of layout.holding)
 
--- the pages that were taken for a checkpoint under way are those that its root will reach
-abbrev pub HasComing : FreePages → Option Checkpoint → Holding → Type 0
-HasComing free None holding = Unit {0}
-HasComing free (Some checkpoint) holding = Has (coming_of free) (reached_of holding)
+-- of a checkpoint under way: the pages that were taken for it are those that its root will reach, and its root's number comes
+-- next after this one
+abbrev pub HasComing : FreePages → ℕ → Option Checkpoint → Holding → Type 0
+HasComing free number None holding = Unit {0}
+HasComing free number (Some checkpoint) holding =
+    Has (coming_of free) (reached_of holding) × (checkpoint.plan.root.number ≡ number + 1)
 
 -- What is known of an open file carries this world: all files that a stop may leave now have one layout and keep the
 -- world, what is in memory tells the layout, and the checkpoint has come so far.
@@ -41,4 +43,4 @@ pub record CarriesWith {C : Type 0} (codec : Codec) (file : OpenFile C) (checkpo
   pub holding : Holding  -- what the coming root will hold
   pub tells : Tells file.taken file.place file.free layout
   pub between : IsBetween codec layout state (progress_of checkpoint holding) world
-  pub coming : HasComing file.free checkpoint holding
+  pub coming : HasComing file.free file.taken.root.number checkpoint holding

@@ -27,7 +27,17 @@ pub(crate) struct Checkpoint {
 
 impl Checkpoint {
     ghost use Rattle.std.specs.Prelude.{◌≡◌, length, Some};
-    ghost use Rattle.rr_checkpoint.specs.Checkpoint.{left_of};
+    ghost use Rattle.rr_checkpoint.specs.Checkpoint.{begun, left_of};
+
+    // One of which no page is written.
+    pub(crate) fn new(plan: Plan) -> Checkpoint
+        ensures { result ≡ begun plan }
+    {
+        Checkpoint {
+            plan,
+            stage: Stage::Writing(0),
+        }
+    }
 
     // How many steps are left.
     pub(crate) fn left(&self) -> usize

@@ -9,7 +9,7 @@ ghost use Rattle.rr_pages.specs.declared.journal.fault.Fault.TheVariants as jour
 ghost use Rattle.rr_pages.specs.FreePages.{coming_of};
 ghost use Rattle.rr_pages.specs.Sets.{Has};
 ghost use Rattle.rr_checkpoint.specs.Calls.{LeavesKept, LeavesEither, Renews, StaysTaken};
-ghost use Rattle.rr_checkpoint.specs.Checkpoint.{plan_of, begun, left_of};
+ghost use Rattle.rr_checkpoint.specs.Checkpoint.{HasPageLeft, plan_of, begun, left_of};
 ghost use Rattle.rr_checkpoint.specs.Holds.{HoldsOn, HoldsAsBegun, HoldsWithRecord, HoldsRenewed, HoldsBehind, RestsBehind};
 
 use crate::Place;
@@ -77,19 +77,19 @@ impl<C: Codec> OpenFile<C> {
         Ok(())
     }
 
-    // Begins a checkpoint: slot 0 of the half that the root doesn't name is shut, and records go there. Where an opening
-    // found that done, it makes no call.
+    // Begins a checkpoint: slot 0 of the half that the root doesn't name is shut, and records go there.
     pub(crate) fn begin<D: Disk>(&mut self, disk: &mut D) -> Result<(), Fault>
+        requires { self.old.place.begun ≡ None }
         ensures carries { OnOk result (D.Honest disk.new → (world : C.codec.World)
             → (carries : CarriesWith C.codec self.old None (D.state disk.old) world)
             → (plan : _) (holding : Holding) → IsPlan C.codec carries.layout (plan_of plan holding)
             → Has (coming_of self.old.free) (reached_of holding)
+            → plan.root.number ≡ self.old.taken.root.number + 1
             → (then : CarriesWith C.codec self.new (Some (begun plan)) (D.state disk.new) world)
             × HoldsAsBegun carries.layout holding then.layout then.holding) }
         ensures number { self.new.place.number ≡ self.old.place.number }
         ensures slots { self.new.place.half.next_slot ≤ self.old.place.half.next_slot }
-        ensures fresh { OnOk result (self.old.place.begun ≡ None → self.new.place.half.next_slot ≡ 0) }
-        ensures no_call { (self.old.place.begun ≡ None → ⊥) → disk.new ≡ disk.old }
+        ensures fresh { OnOk result (self.new.place.half.next_slot ≡ 0) }
         ensures taken { self.new.taken ≡ self.old.taken }
         ensures stops { D.Honest disk.new → (world : C.codec.World)
             → CarriesWith C.codec self.old None (D.state disk.old) world
@@ -102,9 +102,6 @@ impl<C: Codec> OpenFile<C> {
         ensures syncs { D.sync_count disk.new ≤ D.sync_count disk.old + 1 }
         ensures works { D.Works disk.new → D.Works disk.old }
     {
-        if self.place.begun.is_some() {
-            return Ok(());
-        }
         let half = Half {
             index: self.taken.root.half.other(),
             next_slot: 0,
@@ -135,7 +132,10 @@ impl<C: Codec> OpenFile<C> {
             → CarriesWith C.codec self.old (Some checkpoint) (D.state disk.old) world
             → LeavesKept C.codec (D.past disk.old) (D.state disk.old) (D.past disk.new) (D.state disk.new) world }
         ensures left { IfOk result (λ next. left_of (Some checkpoint) ≡ left_of next + 1) }
+        ensures page { OnOk result (HasPageLeft checkpoint → (D.write_count disk.new ≡ counted (D.write_count disk.old))
+            × (D.sync_count disk.new ≡ D.sync_count disk.old)) }
         ensures taken { IfOk result (λ next. StaysTaken next self.old.taken self.new.taken) }
+        ensures err { OnErr result (self.new.taken ≡ self.old.taken) }
         ensures rests { IfOk result (λ next. RestsBehind next self.new.place.begun) }
         ensures number { self.new.place.number ≡ self.old.place.number }
         ensures half { self.new.place.half ≡ self.old.place.half }
@@ -179,6 +179,8 @@ impl<C: Codec> OpenFile<C> {
             → CarriesWith C.codec self.now (Some checkpoint) (D.state disk.old) world
             → LeavesKept C.codec (D.past disk.old) (D.state disk.old) (D.past disk.new) (D.state disk.new) world }
         ensures left { IfOk result (λ next. left_of (Some checkpoint) ≡ left_of (Some next) + 1) }
+        ensures page { OnOk result (HasPageLeft checkpoint → (D.write_count disk.new ≡ counted (D.write_count disk.old))
+            × (D.sync_count disk.new ≡ D.sync_count disk.old)) }
         ensures honest { D.Honest disk.new → D.Honest disk.old }
         ensures fault { device.CountsFault (D.fault_count disk.old) (D.fault_count disk.new) result }
         ensures device { OnErr result (D.Honest disk.new → (world : C.codec.World)
@@ -272,6 +274,7 @@ impl<C: Codec> OpenFile<C> {
         ensures number { self.new.place.number ≡ self.old.place.number }
         ensures half { self.new.place.half ≡ self.old.place.half }
         ensures rests { OnOk result (self.new.place.begun ≡ None) }
+        ensures err { OnErr result (self.new.taken ≡ self.old.taken) }
         ensures honest { D.Honest disk.new → D.Honest disk.old }
         ensures fault { device.CountsFault (D.fault_count disk.old) (D.fault_count disk.new) result }
         ensures device { OnErr result (D.Honest disk.new → (world : C.codec.World)

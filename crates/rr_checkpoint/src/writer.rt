@@ -1,4 +1,5 @@
-ghost use Rattle.std.specs.Prelude.{◌≡◌, ◌⊎◌, ◌↔◌, ◌+◌, ◌^◌, ◌<◌, ◌≤◌, List, length, OnOk, OnErr, IfOk, IfErr, IsErrOf, Some, None};
+ghost use Rattle.std.specs.Prelude.{◌≡◌, ◌⊎◌, ◌↔◌, ◌+◌, ◌^◌, ◌<◌, ◌≤◌, List, length, OnOk, OnErr, IfOk, IfErr, IsErrOf, IsTrue, Some, None};
+ghost use Rattle.std.specs.Option.{is_some};
 ghost use Rattle.rr_disk.specs.Disk as device;
 ghost use Rattle.rr_disk.specs.Disk.{DiskState, counted};
 ghost use Rattle.rr_disk.specs.Moments.{EachImage};
@@ -15,17 +16,18 @@ ghost use Rattle.rr_pages.specs.Sets.{IsEmpty, TooFewFree, marked};
 ghost use Rattle.rr_pages.specs.Writing.{IsLaid};
 ghost use Rattle.rr_pages.specs.declared.fault.Fault.TheVariants as pages;
 ghost use Rattle.rr_checkpoint.specs.Calls.{LeavesKept, LeavesEither};
-ghost use Rattle.rr_checkpoint.specs.Holds.{HoldsAsBegun, HoldsWithRecord, HoldsAt, RestsAt};
+ghost use Rattle.rr_checkpoint.specs.Holds.{HoldsAsBegun, HoldsWithRecord, HoldsRenewed, HoldsAt, RestsAt};
 ghost use Rattle.rr_checkpoint.specs.OpenFile.{Tells};
+ghost use Rattle.rr_checkpoint.specs.Checkpoint.{left_behind_first};
 ghost use Rattle.rr_checkpoint.specs.Pages.{pages_with};
 
-use crate::checkpoint::{Checkpoint, Stage};
+use crate::checkpoint::Checkpoint;
 use crate::open_file::OpenFile;
 use crate::{Place, Plan};
 use rr_disk::{Disk, Fault};
 use rr_images::Codec;
 use rr_pages::journal::RecordBuffer;
-use rr_pages::{FreePages, FreshPage, Root, Taken, chain_write};
+use rr_pages::{FreePages, FreshPage, NEWEST_VERSION, Root, Taken, chain_write};
 use std::alloc::Global;
 use std::marker::PhantomData;
 
@@ -60,7 +62,7 @@ fn page_count(count: u64, fresh: &[FreshPage]) -> u64
 }
 
 impl<C: Codec> Writer<C> {
-    ghost use Rattle.rr_checkpoint.specs.Planning.{AreDrafted, IsDirectory, MayBegin, CarriesOn, coming_root_of};
+    ghost use Rattle.rr_checkpoint.specs.Planning.{AreDrafted, IsDirectory, MayBegin, MayStart, CarriesOn, coming_root_of};
     ghost use Rattle.rr_checkpoint.specs.Writer.{Carries, Lowers, RenewsAt, StaysTakenAt, place_of, taken_of, free_of, ticks_left_of, told_of};
 
     /// What writes to a file of which an opening read this.
@@ -169,6 +171,8 @@ impl<C: Codec> Writer<C> {
         requires { ticks_left_of self.old ≡ 0 }
         ensures laid { IfOk result (IsLaid (present_of (free_of self.old)) (coming_of (free_of self.old))
             (coming_of (free_of self.new)) text.now fresh.old.items fresh.new.items) }
+        ensures count { IfOk result (λ _. length fresh.new.items
+            ≡ length fresh.old.items + pages_for (length text.now)) }
         ensures full { IsErrOf result pages.FileFull
             → TooFewFree (present_of (free_of self.old)) (coming_of (free_of self.old)) (pages_for (length text.now)) }
         ensures err { IfErr result (λ fault. (fault ≡ pages.FileFull) ⊎ (fault ≡ pages.OutOfMemory)) }
@@ -208,8 +212,8 @@ impl<C: Codec> Writer<C> {
         self.file.free.abandon();
     }
 
-    /// The plan of a checkpoint: behind chains that were laid or are kept comes the directory that names them, of version
-    /// 1. Its fresh pages are those from before and the directory's, and its root is the coming one.
+    /// The plan of a checkpoint: behind chains that were laid or are kept comes the directory that names them, of the
+    /// newest version. Its fresh pages are those from before and the directory's, and its root is the coming one.
     ///
     /// # Errors
     /// Those of `lay`.
@@ -225,12 +229,14 @@ impl<C: Codec> Writer<C> {
         ensures plan { IfOk result (λ plan. (state : DiskState) (world : C.codec.World)
             → (carries : Carries C.codec self.old state world) (drafts : List Draft)
             → AreDrafted carries.layout (free_of self.old) fresh.items drafts
-            → IsDirectory C.codec carries.layout drafts directory.now
+            → IsDirectory C.codec carries.layout NEWEST_VERSION drafts directory.now
             → (may : MayBegin C.codec carries.layout (free_of self.new) plan)
             × (may.holding.chains ≡ chains_of drafts)) }
         ensures root { IfOk result (λ plan. plan.root ≡ coming_root_of self.old plan.root.directory plan.fresh.items) }
         ensures laid { IfOk result (λ plan. IsLaid (present_of (free_of self.old)) (coming_of (free_of self.old))
             (coming_of (free_of self.new)) directory.now fresh.items plan.fresh.items plan.root.directory) }
+        ensures count { IfOk result (λ plan. length plan.fresh.items
+            ≡ length fresh.items + pages_for (length directory.now)) }
         ensures full { IsErrOf result pages.FileFull
             → TooFewFree (present_of (free_of self.old)) (coming_of (free_of self.old)) (pages_for (length directory.now)) }
         ensures err { IfErr result (λ fault. (fault ≡ pages.FileFull) ⊎ (fault ≡ pages.OutOfMemory)) }
@@ -257,13 +263,13 @@ impl<C: Codec> Writer<C> {
             half: old.half.other(),
             first: place.begun.unwrap_or(place.number),
             pages: page_count(old.pages, fresh),
-            version: 1,
+            version: NEWEST_VERSION,
         }
     }
 
     /// Makes the first tick of a checkpoint, after which records go to the other half. It and the ticks behind it take no
     /// memory; a checkpoint of p fresh pages has p + 4 ticks, this one included. Where an opening found the checkpoint begun,
-    /// this one makes no device call.
+    /// it has p + 3: records go to the other half already, and this one writes the first fresh page.
     ///
     /// # Errors
     /// `DeviceFailed` where a device call failed; no checkpoint is under way then.
@@ -275,29 +281,70 @@ impl<C: Codec> Writer<C> {
             → (may : MayBegin C.codec carries.layout (free_of self.old) plan)
             → (then : Carries C.codec self.new (D.state disk.new) world)
             × HoldsAsBegun carries.layout may.holding then.layout then.holding) }
-        ensures stops { D.Honest disk.new → (world : C.codec.World) → Carries C.codec self.old (D.state disk.old) world
+        // Where it writes a page, the plan has to be one for the layout.
+        ensures stops { D.Honest disk.new → (world : C.codec.World)
+            → (carries : Carries C.codec self.old (D.state disk.old) world)
+            → MayStart C.codec carries.layout (free_of self.old) (place_of self.old).begun plan
             → LeavesKept C.codec (D.past disk.old) (D.state disk.old) (D.past disk.new) (D.state disk.new) world }
-        ensures left { OnOk result (ticks_left_of self.new ≡ length plan.fresh.items + 3) }
+        ensures left { OnOk result
+            (ticks_left_of self.new ≡ left_behind_first (place_of self.old).begun (length plan.fresh.items)) }
         ensures taken { taken_of self.new ≡ taken_of self.old }
         ensures number { (place_of self.new).number ≡ (place_of self.old).number }
         ensures slots { (place_of self.new).half.next_slot ≤ (place_of self.old).half.next_slot }
         ensures fresh { OnOk result ((place_of self.old).begun ≡ None → (place_of self.new).half.next_slot ≡ 0) }
-        ensures no_call { ((place_of self.old).begun ≡ None → ⊥) → disk.new ≡ disk.old }
+        ensures half { ((place_of self.old).begun ≡ None → ⊥) → (place_of self.new).half ≡ (place_of self.old).half }
+        ensures page { OnOk result (((place_of self.old).begun ≡ None → ⊥) → 0 < length plan.fresh.items
+            → (D.write_count disk.new ≡ counted (D.write_count disk.old)) × (D.sync_count disk.new ≡ D.sync_count disk.old)) }
 
         ensures fault { device.CountsFault (D.fault_count disk.old) (D.fault_count disk.new) result }
         // A disk that works doesn't fail here, where its file is one of a store.
         ensures device { OnErr result (D.Honest disk.new → (world : C.codec.World)
-            → Carries C.codec self.old (D.state disk.old) world → D.Works disk.new → ⊥) }
+            → (carries : Carries C.codec self.old (D.state disk.old) world)
+            → MayStart C.codec carries.layout (free_of self.old) (place_of self.old).begun plan → D.Works disk.new → ⊥) }
         ensures writes { D.write_count disk.new ≤ D.write_count disk.old + 1 }
         ensures syncs { D.sync_count disk.new ≤ D.sync_count disk.old + 1 }
         ensures honest { D.Honest disk.new → D.Honest disk.old }
         ensures works { D.Works disk.new → D.Works disk.old }
     {
+        if self.file.place.begun.is_some() {
+            self.take_up(disk, plan)?;
+            return Ok(());
+        }
         self.file.begin(disk)?;
-        self.checkpoint = Some(Checkpoint {
-            plan,
-            stage: Stage::Writing(0),
-        });
+        self.checkpoint = Some(Checkpoint::new(plan));
+        Ok(())
+    }
+
+    // The same of a checkpoint that an opening found begun.
+    fn take_up<D: Disk>(&mut self, disk: &mut D, plan: Plan) -> Result<(), Fault>
+        requires resting { ticks_left_of self.old ≡ 0 }
+        requires found { IsTrue (is_some (place_of self.old).begun) }
+        ensures carries { OnOk result (D.Honest disk.new → (world : C.codec.World)
+            → (carries : Carries C.codec self.old (D.state disk.old) world)
+            → (may : MayBegin C.codec carries.layout (free_of self.old) plan)
+            → (then : Carries C.codec self.new (D.state disk.new) world)
+            × HoldsAsBegun carries.layout may.holding then.layout then.holding) }
+        ensures stops { D.Honest disk.new → (world : C.codec.World)
+            → (carries : Carries C.codec self.old (D.state disk.old) world)
+            → MayBegin C.codec carries.layout (free_of self.old) plan
+            → LeavesKept C.codec (D.past disk.old) (D.state disk.old) (D.past disk.new) (D.state disk.new) world }
+        ensures left { OnOk result (ticks_left_of self.new ≡ length plan.fresh.items + 2) }
+        ensures taken { taken_of self.new ≡ taken_of self.old }
+        ensures number { (place_of self.new).number ≡ (place_of self.old).number }
+        ensures half { (place_of self.new).half ≡ (place_of self.old).half }
+        ensures page { OnOk result (0 < length plan.fresh.items
+            → (D.write_count disk.new ≡ counted (D.write_count disk.old)) × (D.sync_count disk.new ≡ D.sync_count disk.old)) }
+        ensures fault { device.CountsFault (D.fault_count disk.old) (D.fault_count disk.new) result }
+        ensures device { OnErr result (D.Honest disk.new → (world : C.codec.World)
+            → (carries : Carries C.codec self.old (D.state disk.old) world)
+            → MayBegin C.codec carries.layout (free_of self.old) plan → D.Works disk.new → ⊥) }
+        ensures writes { D.write_count disk.new ≤ D.write_count disk.old + 1 }
+        ensures syncs { D.sync_count disk.new ≤ D.sync_count disk.old + 1 }
+        ensures honest { D.Honest disk.new → D.Honest disk.old }
+        ensures works { D.Works disk.new → D.Works disk.old }
+    {
+        let begun = Checkpoint::new(plan);
+        self.checkpoint = self.file.advance(disk, begun)?;
         Ok(())
     }
 
@@ -359,7 +406,7 @@ impl<C: Codec> Writer<C> {
         ensures carries { OnOk result (D.Honest disk.new → (world : C.codec.World)
             → (carries : Carries C.codec self.old (D.state disk.old) world)
             → (then : Carries C.codec self.new (D.state disk.new) world)
-            × (0 < ticks_left_of self.old → then.layout.holding ≡ carries.holding)) }
+            × (0 < ticks_left_of self.old → HoldsRenewed carries.layout carries.holding then.layout)) }
         ensures stops { D.Honest disk.new → (world : C.codec.World) → Carries C.codec self.old (D.state disk.old) world
             → LeavesKept C.codec (D.past disk.old) (D.state disk.old) (D.past disk.new) (D.state disk.new) world }
         ensures renews { OnOk result (D.Honest disk.new → (world : C.codec.World)

@@ -14,6 +14,7 @@ use rr_pages::journal::{Fault, Half, HalfIndex, RecordBuffer};
 use rr_pages::{FreePages, FreshPage, PageSet, Root, Roots, Taken};
 use rr_reading::laws::{damaged_files_are_refused, held_files_stand};
 use std::alloc::{AllocError, Global};
+use std::test::Fail;
 
 const PAGE: usize = 4096;
 
@@ -52,9 +53,6 @@ fn formatted(alloc: Global) -> Result<MemoryDisk, rr_disk::Fault> {
 
 // What goes on with that file.
 fn opened(alloc: Global) -> Result<Writer<Lists>, AllocError> {
-    let mut reached = PageSet::new(alloc)?;
-    reached.take(514);
-    let free = FreePages::new(alloc, reached)?;
     let half = Half {
         index: HalfIndex::First,
         next_slot: 0,
@@ -64,6 +62,27 @@ fn opened(alloc: Global) -> Result<Writer<Lists>, AllocError> {
         number: 1,
         begun: None,
     };
+    opened_at(alloc, place)
+}
+
+// The same where a record stands in the other half, of number 1: a checkpoint was begun before it.
+fn opened_as_begun(alloc: Global) -> Result<Writer<Lists>, AllocError> {
+    let half = Half {
+        index: HalfIndex::Second,
+        next_slot: 1,
+    };
+    let place = Place {
+        half,
+        number: 2,
+        begun: Some(1),
+    };
+    opened_at(alloc, place)
+}
+
+fn opened_at(alloc: Global, place: Place) -> Result<Writer<Lists>, AllocError> {
+    let mut reached = PageSet::new(alloc)?;
+    reached.take(514);
+    let free = FreePages::new(alloc, reached)?;
     let taken = Taken {
         side: false,
         root: root_of(1, 514, HalfIndex::First),
@@ -173,6 +192,35 @@ fn records_go_to_the_other_half_meanwhile(rt: HostRuntime) {
     let told = (HalfIndex::Second, 2, 3, 2, true);
     let calls = [0, 10, 11, 4096 * 517];
     assert!(rt; checkpoint(rt.alloc(), &bytes) == Ok((answers, told, 5, calls)));
+}
+
+// The page beside the directory comes first. How many ticks are left of a checkpoint that is begun by this, how many of the bytes a read gives then, and which calls were
+// made.
+fn first_tick(
+    alloc: Global,
+    mut writer: Writer<Lists>,
+    bytes: &[Bytes],
+) -> Result<(usize, usize, [u64; 4]), Fault> {
+    let mut fresh = two_pages(alloc)?;
+    fresh.reverse();
+    let mut disk = formatted(alloc)?;
+    begin(&mut disk, &mut writer, fresh)?;
+    let left = writer.ticks_left();
+    Ok((left, given(&mut disk, bytes), counts(&disk)))
+}
+
+// Of a checkpoint that an opening found begun the first tick writes the first page, and syncs nothing. Else it syncs the other
+// half's slot 0, which is shut, and six ticks are to be made in place of five.
+#[test]
+fn a_checkpoint_that_was_begun_has_a_tick_less(rt: HostRuntime) -> Result<(), Fail> {
+    let page = [(4096 * 516, [7u8; 4].as_slice())];
+    let begun = opened_as_begun(rt.alloc())?;
+    let begun = first_tick(rt.alloc(), begun, &page);
+    assert!(rt; begun == Ok((4, 1, [0, 3, 3, 4096 * 517])));
+    let resting = opened(rt.alloc())?;
+    let resting = first_tick(rt.alloc(), resting, &page);
+    assert!(rt; resting == Ok((5, 0, [0, 2, 4, 4096 * 517])));
+    Ok(())
 }
 
 fn lay(

@@ -5,6 +5,7 @@ use rr_log::formatting::laws::new_files_stand;
 use rr_log::formatting::{format, new_file, write_new_file};
 use rr_pages::Fault;
 use rr_pages::journal::RunEnd;
+use rr_reading::dir::NEWEST;
 use rr_reading::worlds::Rules;
 use rr_reading::worlds::laws::{
     checkpoints_spell_worlds, worlds_are_exact, worlds_are_read, worlds_are_read_back,
@@ -34,7 +35,7 @@ fn laid(alloc: Global, count: usize) -> Result<(usize, u64), Fault> {
     if chart.len() > 65536 {
         return Err(Fault::FileFull);
     }
-    let file = new_file::<NoRecords>(alloc, &chart, b"r", b"", b"b")?;
+    let file = new_file::<NoRecords>(alloc, NEWEST, &chart, b"r", b"", b"b")?;
     Ok((file.fresh.len(), file.root.pages))
 }
 
@@ -57,7 +58,7 @@ fn write_short(alloc: Global, disk: &mut MemoryDisk) -> Result<(), Fault> {
     if disk.len() != 0 {
         return Err(Fault::NotAStore);
     }
-    let file = new_file::<NoRecords>(alloc, b"chart", b"roster", b"tiles", b"board")?;
+    let file = new_file::<NoRecords>(alloc, NEWEST, b"chart", b"roster", b"tiles", b"board")?;
     write_new_file::<NoRecords, MemoryDisk>(alloc, disk, &file)
 }
 

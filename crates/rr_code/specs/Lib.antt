@@ -1,4 +1,3 @@
-pub mod Fault
 pub use Rattle.rr_orders.specs.Scan.Words
 pub mod Players
 pub use Rattle.rr_orders.specs.Scan.Company

@@ -31,6 +31,10 @@ impl Entries {
     }
 
     /// Adds an entry behind the others.
+    ///
+    /// # Errors
+    ///
+    /// `OutOfMemory`; the entries are as before then.
     pub fn push(&mut self, entry: Entry) -> Result<(), Refusal>
         ensures ok { OnOk result (self.new ≡ self.old ++ entry ∷ []) }
         ensures err { IfErr result (λ fault. (fault ≡ OutOfMemory) × (self.new ≡ self.old)) }

@@ -4,6 +4,7 @@ pub mod Choice
 pub mod Disk
 pub mod Events
 pub mod Faulty
+pub mod Faults
 pub mod File
 pub mod Memory
 pub mod Moments

@@ -194,11 +194,17 @@ fn an_open_gate_alone_is_written(rt: HostRuntime) {
 }
 
 #[test]
-fn laws_are_called() {
+fn laws_are_called(rt: HostRuntime) {
     laws::laid_pages_are_the_chain();
     laws::spelled_roots_read_back();
     laws::one_root_is_taken();
     laws::taken_pages_are_free();
     laws::standing_chains_are_read();
+    laws::sizes();
+    rr_pages::journal::sizes();
     rr_reading::dir::laws::one_meaning();
+    rr_reading::dir::laws::limits();
+    rr_reading::dir::laws::newest_version();
+    assert!(rt; rr_pages::NEWEST_VERSION == 1);
+    assert!(rt; rr_reading::dir::NEWEST.number() == 1);
 }

@@ -50,8 +50,8 @@ due_at G.Stock rows book = D.Stock (rounds.progress book).turn
 due_at G.Operating rows book = due_in_operating_round (operations.due rows book) (progress book).step
 
 -- what the game waits for
-abbrev pub due : List Row → Book → Due
-due rows book = if game_is_over rows book then D.Over else due_at (stage book) rows book
+abbrev pub due : Kit → Book → Due
+due kit book = if game_is_over kit book then D.Over else due_at (stage book) kit.chart book
 
 -- the auction waits for the B&O's par
 abbrev pub is_par : auction.Due → Bool
@@ -71,15 +71,6 @@ quote_at rows cell = option_map (λ price. (price, cell)) (price_at rows (Some c
 
 abbrev pub quote : List Row → Book → Corp → Option (ℕ × Cell)
 quote rows book c = option_and_then (quote_at rows) (mark_of book c)
-
--- how far an amount is below 0
-abbrev pub debt : ℤ → ℕ
-debt (pos money) = 0
-debt (negsuc n) = suc n
-
--- what the bank owes
-abbrev pub iou : Book → ℕ
-iou book = debt (balance book P.Bank)
 
 -- who has how much money and which certificates, and what a share of each corporation is worth
 pub record Assets : Type 0 where

@@ -23,7 +23,7 @@ command_judgement_in_play kit players state command = act_judgement kit state (a
 
 -- nothing is played once the game is over
 abbrev pub over_verdict : Kit → GameState → Option Refusal
-over_verdict kit state = if game_is_over kit.chart state.book then Some R.GameOver else None
+over_verdict kit state = if game_is_over kit state.book then Some R.GameOver else None
 
 -- the judgement on a command after the opening
 abbrev pub command_judgement : Kit → List (List ℕ) → GameState → Command → Judgement Refusal

@@ -30,7 +30,7 @@ pub enum Due {
 impl Game {
     /// What the game waits for.
     pub fn due(&self, kit: &Kit) -> Due
-        ensures { (book : Book) → IsPositionOf book self.now.standing.position → result ≡ due kit.now.chart book }
+        ensures { (book : Book) → IsPositionOf book self.now.standing.position → result ≡ due kit.now book }
     {
         if self.standing.is_over(kit) {
             return Due::Over;

@@ -1,4 +1,5 @@
 ghost use Rattle.std.specs.Prelude.{◌≡◌, ◌+◌, ◌<◌, ◌≤◌, ◌++◌, List, [], ◌∷◌, None, Some, IfOk, MatchResult};
+ghost use Rattle.rr_turns.specs.declared.limits.TheConstants.{MOST_COMMANDS};
 ghost use Rattle.rr_rules.specs.State.{GameState, IsStandingOf};
 ghost use Rattle.rr_game.specs.Names.{amount_in};
 ghost use Rattle.rr_game.specs.Play.{play, players_of};
@@ -53,7 +54,7 @@ impl Game {
     /// refuse, in their order. An opening is refused as `WrongStep` while the game isn't over. `OutOfMemory` where none
     /// of those comes that take no memory.
     pub fn step(&self, alloc: Global, command: &Command, kit: &Kit) -> Result<Game, Refusal>
-        requires played { self.now.played < 4096 }
+        requires played { self.now.played < MOST_COMMANDS }
         requires small { amount_in command.now ≤ 10000000000 }
         ensures verdict { (accepted : List Line) → IsGameOf kit.now accepted self.now → MatchResult result
             (λ _. IsVerdict (command_judgement kit.now (players_of accepted) (play kit.now accepted) command.now) None)
@@ -64,10 +65,10 @@ impl Game {
     {
         self.judge_end(kit)?;
         let act = self.act(alloc, kit, command)?;
-        let standing = self.standing.take(alloc, kit, &act)?;
+        let taken = self.standing.take(alloc, kit, &act)?;
         Ok(Game {
             players: self.players,
-            standing,
+            standing: taken.standing,
             played: self.played + 1,
         })
     }

@@ -1,5 +1,5 @@
 ghost use Rattle.std.specs.Prelude.{◌≡◌, ◌≤◌, ◌≤ℤ◌, pos, None, Some, List, option_map, option_and_then, MatchResult, IfOk};
-ghost use Rattle.rr_books.specs.Book.{Book, balance, holder, train_holder};
+ghost use Rattle.rr_books.specs.Book.{Book, below_zero, holder, iou, money_with, train_holder};
 ghost use Rattle.rr_books.specs.Opening.{certificate_limit};
 ghost use Rattle.rr_books.specs.Shares.{is_at};
 ghost use Rattle.rr_books.specs.State.{cash_of, holder_in};
@@ -11,7 +11,7 @@ ghost use Rattle.rr_trains.specs.Places.{trains_at};
 ghost use Rattle.rr_rules.specs.State.{GameState, IsStandingOf};
 ghost use Rattle.rr_game.specs.Names.{party_of, seat_of, trains_place};
 ghost use Rattle.rr_desk.specs.Position.Position.{IsPositionOf};
-ghost use Rattle.rr_game.specs.Queries.{debt, holding, iou, quote};
+ghost use Rattle.rr_game.specs.Queries.{holding, quote};
 
 use crate::game::Game;
 use rr_books::{Cell, Cert, Corp, Kind, Money, Party, Place, Private, Refusal};
@@ -34,20 +34,20 @@ impl Game {
     /// # Errors
     ///
     /// `NoSuchName` for a player who isn't at the table.
-    pub fn cash(&self, account: &Account) -> Result<Money, Refusal>
+    pub fn cash(&self, account: &Account, kit: &Kit) -> Result<Money, Refusal>
         ensures { MatchResult result
-            (λ money. option_map (cash_of self.now.standing.position.books) (party_of self.now.players account.now) ≡ Some money.0)
+            (λ money. option_map (money_with kit.now.roster (cash_of self.now.standing.position.books)) (party_of self.now.players account.now) ≡ Some money.0)
             (λ fault. (fault ≡ Refusal.NoSuchName) × (party_of self.now.players account.now ≡ None)) }
     {
         let party = self.party(account)?;
-        Ok(self.position().books().balance(party))
+        Ok(self.position().books().money(party, kit.roster()))
     }
 
     /// How far the bank is below 0, in dollars.
-    pub fn iou(&self) -> u64
-        ensures { (book : Book) → IsPositionOf book self.now.standing.position → result ≡ iou book }
+    pub fn iou(&self, kit: &Kit) -> u64
+        ensures { (book : Book) → IsPositionOf book self.now.standing.position → result ≡ iou kit.now.roster book }
     {
-        debt(self.position().books().balance(Party::Bank))
+        below_zero(self.position().books().money(Party::Bank, kit.roster()))
     }
 
     /// Whether the private is at the place.
@@ -138,8 +138,8 @@ fn trains_place(of: TrainHolder) -> Place
 }
 
 // How far an amount is below 0.
-fn debt(amount: Money) -> u64
-    ensures { result ≡ debt amount.0 }
+fn below_zero(amount: Money) -> u64
+    ensures { result ≡ below_zero amount.0 }
 {
     if amount.0 < 0 {
         return amount.0.unsigned_abs();

@@ -14,6 +14,7 @@ use Rattle.rr_pages.specs.Chains.{Links}
 use Rattle.rr_pages.specs.Device.{Shuts, By_write, By_sync, MayShut, MayFlip, While_shutting, While_filling, While_opening}
 use Rattle.rr_pages.specs.Roots.{Stale, Shut, Older, root_gate, root_bytes, HasFields, IsStale, FitsFields}
 use Rattle.rr_pages.proofs.RootSpelling.{length-root, root_stands}
+use Rattle.rr_pages.proofs.Versions.{known_fits}
 use Rattle.rr_images.specs.Codec.{Codec}
 use Rattle.rr_images.specs.Holding.{pages_of}
 use Rattle.rr_images.specs.Layout.{Layout, FarHalf, Unused, Old, Begun, KeepsFar, KeepsAt, far_lines}
@@ -125,7 +126,7 @@ module _ (codec : Codec) (layout : Layout codec) (state : DiskState) (world : co
             directory = omega (arith, low, sound.pages_high);
             first = omega (arith, sound.first_high);
             pages = omega (arith, sound.pages_high);
-            version = omega (arith, sound.version);
+            version = known_fits plan.root.version sound.version;
           }
 
       encoded : (file : List ℕ) → StandsAt file (root_gate (not layout.side) + 1) (root_bytes plan.root) → HasFields file (not layout.side) plan.root

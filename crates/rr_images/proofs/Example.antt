@@ -4,6 +4,7 @@ use Rattle.std.proofs.lemmas.List.{length-replicate, get_or-replicate}
 use Rattle.rr_disk.specs.Disk.{written}
 use Rattle.rr_disk.proofs.ImageLemmas.{length-written, written_before, written_behind}
 use Rattle.rr_pages.specs.declared.root.Root.{Root}
+use Rattle.rr_pages.specs.declared.root.TheConstants.{NEWEST_VERSION}
 use Rattle.rr_pages.specs.Chains.{Chain}
 use Rattle.rr_pages.specs.Laying.{page_spelling, PageStands}
 use Rattle.rr_pages.specs.Pages.{StandsAt}
@@ -11,6 +12,7 @@ use Rattle.rr_pages.specs.Roots.{Shut, IsTaken, root_bytes}
 use Rattle.rr_pages.proofs.Bytes.{at_same}
 use Rattle.rr_pages.proofs.RootSpelling.{length-root, root_stands}
 use Rattle.rr_pages.proofs.Spelling.{length-page, laid_chain}
+use Rattle.rr_pages.proofs.Versions.{newest_known, known_fits}
 use Rattle.rr_images.specs.Codec.{IsExact}
 use Rattle.rr_images.specs.Holding.{Holding}
 use Rattle.rr_images.specs.Layout.{Spelled, Keeps, formatted}
@@ -28,7 +30,7 @@ is_exact =
     }
 
 first_root : Root
-first_root = record { number = 0; directory = 514; half = First; first = 1; pages = 515; version = 1 }
+first_root = record { number = 0; directory = 514; half = First; first = 1; pages = 515; version = NEWEST_VERSION }
 
 first_page : List ℕ
 first_page = page_spelling 0 (7 ∷ [])
@@ -88,7 +90,7 @@ module _ (count : ℕ) (enough : count ≡ 4096 * 515) where
   taken_there =
       record {
         open_gate = gate_there;
-        fields = root_stands (whole count) false first_root (record { number = omega arith; directory = omega arith; first = omega arith; pages = omega arith; version = omega arith }) root_there;
+        fields = root_stands (whole count) false first_root (record { number = omega arith; directory = omega arith; first = omega arith; pages = omega arith; version = known_fits NEWEST_VERSION newest_known }) root_there;
         sound = record {
           number = omega arith;
           first_low = omega arith;
@@ -96,7 +98,7 @@ module _ (count : ℕ) (enough : count ≡ 4096 * 515) where
           pages_low = omega arith;
           pages_high = omega arith;
           within = omega (arith, length-whole);
-          version = refl;
+          version = newest_known;
         };
         other = λ open_gate. absurd (omega (arith, zero_there 4096 (omega arith) (omega arith), open_gate));
       }

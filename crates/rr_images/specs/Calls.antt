@@ -1,6 +1,8 @@
 -- What each call of a commit and of a checkpoint leaves, by what journal and pages say of their calls: whatever a stop
 -- within it leaves keeps the world, and behind it the disk is between two calls again.
 use Rattle.std.specs.Prelude.{◌≡◌, ◌⊎◌, ℕ, ◌+◌, ◌*◌, ◌<◌, not, List, [], ◌∷◌, ◌++◌, length}
+use Rattle.rr_pages.specs.declared.root.TheConstants.{ROOT_BYTES}
+use Rattle.rr_pages.specs.declared.page.TheConstants.{PAGE_BYTES, OPEN}
 use Rattle.rr_disk.specs.Disk.{DiskState, after_write, after_sync}
 use Rattle.rr_disk.specs.Moments.{EachImage, TornFrom}
 use Rattle.rr_pages.specs.declared.journal.half.Half.{Half}
@@ -47,9 +49,9 @@ module _ (codec : Codec) (layout : Layout codec) (state : DiskState) where
   -- a fresh page is written, and waits for a sync
   pub record WritesPage (plan : Plan) (written : List (ℕ × List ℕ)) (fresh : ℕ × List ℕ) (left : List (ℕ × List ℕ))
       (world : codec.World) : Type 0 where
-    pub whole : length fresh.1 ≡ 4096
-    pub leaves : (image : List ℕ) → TornFrom state (4096 * fresh.0) 4096 image → KeepsAt codec layout image world
-    pub done : IsBetween codec layout (after_write state (4096 * fresh.0) fresh.1)
+    pub whole : length fresh.1 ≡ PAGE_BYTES
+    pub leaves : (image : List ℕ) → TornFrom state (PAGE_BYTES * fresh.0) PAGE_BYTES image → KeepsAt codec layout image world
+    pub done : IsBetween codec layout (after_write state (PAGE_BYTES * fresh.0) fresh.1)
         (Writing plan (written ++ fresh ∷ []) left) world
 
   -- all fresh pages are written, and the stale root's gate is shut
@@ -60,14 +62,14 @@ module _ (codec : Codec) (layout : Layout codec) (state : DiskState) where
 
   -- the next root is put behind the shut gate
   pub record FillsRoot (plan : Plan) (world : codec.World) : Type 0 where
-    pub leaves : (image : List ℕ) → TornFrom state (stale_gate layout + 1) 35 image → KeepsAt codec layout image world
+    pub leaves : (image : List ℕ) → TornFrom state (stale_gate layout + 1) ROOT_BYTES image → KeepsAt codec layout image world
     pub done : IsBetween codec layout
         (after_sync (after_write state (stale_gate layout + 1) (root_bytes plan.root)))
         (Filling plan) world
 
   -- the gate is opened, and that root is taken
   abbrev pub opened_state : DiskState
-  opened_state = after_sync (after_write state (stale_gate layout) (0xa5 ∷ []))
+  opened_state = after_sync (after_write state (stale_gate layout) (OPEN ∷ []))
 
   pub record OpensRoot (plan : Plan) (lines : List (List ℕ)) (world : codec.World) : Type 0 where
     pub leaves : LeaveKept codec world (TornFrom state (stale_gate layout) 1)

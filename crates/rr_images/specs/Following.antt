@@ -1,6 +1,7 @@
 -- How an opening reads what a root holds: its directory, and then the chains that this names, each over pages that
 -- weren't reached before.
 use Rattle.std.specs.Prelude.{◌≡◌, ℕ, Bool, List, [], ◌∷◌, ◌++◌, length, None, Some}
+use Rattle.rr_pages.specs.declared.page.TheConstants.{MOST_PAGES}
 use Rattle.rr_pages.specs.declared.fault.Damage.{Damage}
 use Rattle.rr_pages.specs.declared.root.Root.{Root}
 use Rattle.rr_pages.specs.Reading.{IsWhole, IsBroken}
@@ -20,7 +21,7 @@ AllRead file count before (head ∷ heads) after chains =
 pub record IsRead (codec : Codec) (file : List ℕ) (root : Root) (holding : Holding) (after : List Bool) : Type 0 where
   pub none_reached : List Bool
   pub empty : IsEmpty none_reached
-  pub marks : length none_reached ≡ 65536
+  pub marks : length none_reached ≡ MOST_PAGES
   pub of_directory : List Bool
   pub directory : IsWhole file root.pages none_reached root.directory None of_directory
       holding.directory.pages holding.directory.text
@@ -30,10 +31,10 @@ pub record IsRead (codec : Codec) (file : List ℕ) (root : Root) (holding : Hol
 
 -- or a chain is told broken: the directory, or the first one of those that it names
 pub data ToldBroken (codec : Codec) (file : List ℕ) (root : Root) (damage : Damage) : Type 0 where
-  Of_directory : (none_reached after : List Bool) → IsEmpty none_reached → length none_reached ≡ 65536
+  Of_directory : (none_reached after : List Bool) → IsEmpty none_reached → length none_reached ≡ MOST_PAGES
       → IsBroken file root.pages none_reached root.directory None after damage → ToldBroken codec file root damage
   Of_chain : (none_reached of_directory between after : List Bool) (directory : HeldChain) (chains : List HeldChain)
-      → (front back : List (ℕ × ℕ)) (head : ℕ × ℕ) → IsEmpty none_reached → length none_reached ≡ 65536
+      → (front back : List (ℕ × ℕ)) (head : ℕ × ℕ) → IsEmpty none_reached → length none_reached ≡ MOST_PAGES
       → IsWhole file root.pages none_reached root.directory None of_directory directory.pages directory.text
       → codec.Heads root.version directory.text (front ++ head ∷ back)
       → AllRead file root.pages of_directory front between chains

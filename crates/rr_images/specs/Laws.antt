@@ -1,5 +1,6 @@
 -- The laws of layouts: what files stand for, and what each step of a commit and of a checkpoint leaves of them.
 use Rattle.std.specs.Prelude.{◌≡◌, ℕ, ◌+◌, ◌^◌, ◌<◌, ◌≤◌, Bool, not, List, [], ◌∷◌, ◌++◌, length}
+use Rattle.rr_pages.specs.declared.page.TheConstants.{MOST_PAGES}
 use Rattle.rr_disk.specs.Disk.{DiskState, IsImage, after_sync}
 use Rattle.rr_disk.specs.Moments.{EachImage}
 use Rattle.rr_pages.specs.declared.journal.half.Half.{Half}
@@ -65,7 +66,7 @@ module _ (codec : Codec) where
   -- what an opening read of a root is spelled there, if it spells a world, and is all that the root reaches
   abbrev pub ReadIsSpelled : Type 0
   ReadIsSpelled =
-      (file : List ℕ) (root : Root) (holding : Holding) (after : List Bool) (world : codec.World) → root.pages ≤ 65536
+      (file : List ℕ) (root : Root) (holding : Holding) (after : List Bool) (world : codec.World) → root.pages ≤ MOST_PAGES
       → IsRead codec file root holding after
       → codec.Spells root.version holding.directory.text (texts_of holding.chains) world
       → Spelled codec file root holding world × Has after (reached_of holding)
@@ -208,7 +209,7 @@ OneMoreLaid =
 abbrev pub LaidAreFree : Type 0
 LaidAreFree =
     (present coming after : List Bool) (reached kept : List ℕ) (fresh : List FreshPage) (chains : List LaidChain)
-    → length coming ≡ 65536 → Has present reached → Has coming kept → AreLaid present coming after fresh chains
+    → length coming ≡ MOST_PAGES → Has present reached → Has coming kept → AreLaid present coming after fresh chains
     → AreFree reached (laid_pages chains) × Has after (kept ++ laid_pages chains)
 
 -- what the next root of a plan reaches is what is kept and what was laid

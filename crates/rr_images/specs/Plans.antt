@@ -1,8 +1,10 @@
 -- How a plan is made of chains that were laid into free pages, and of chains that stay where they stand.
 use Rattle.std.specs.Prelude.{◌≡◌, ℕ, ◌+◌, ◌^◌, ◌<◌, ◌≤◌, max, Bool, List, [], ◌∷◌, ◌++◌, map}
+use Rattle.rr_pages.specs.declared.page.TheConstants.{LEAST_PAGES, MOST_PAGES}
 use Rattle.rr_pages.specs.declared.chain.FreshPage.{FreshPage}
 use Rattle.rr_pages.specs.declared.root.Root.{Root}
 use Rattle.rr_pages.specs.Laying.{head_of, laid, joined, FitPages}
+use Rattle.rr_pages.specs.Roots.{IsKnownVersion}
 use Rattle.rr_pages.specs.Sets.{TakesFree, AreFree}
 use Rattle.rr_pages.specs.Writing.{fresh_of}
 use Rattle.rr_images.specs.Codec.{Codec}
@@ -82,10 +84,10 @@ pub record IsMade (codec : Codec) (layout : Layout codec) (root : Root) (directo
   pub number : root.number < 2 ^ 63
   pub first_low : 0 < root.first
   pub first_high : root.first < 2 ^ 63
-  pub version : root.version ≡ 1
+  pub version : IsKnownVersion root.version
   pub pages : root.pages ≡ max layout.root.pages (pages_up_to (laid_pages (written_chains directory drafts)))
-  pub pages_low : 515 ≤ root.pages
-  pub pages_high : root.pages ≤ 65536
+  pub pages_low : LEAST_PAGES ≤ root.pages
+  pub pages_high : root.pages ≤ MOST_PAGES
   pub head : root.directory ≡ head_of directory.pages
   pub fit : AllFit (written_chains directory drafts)
   pub free : AreFree (reached_of layout.holding) (laid_pages (written_chains directory drafts))

@@ -1,5 +1,6 @@
 -- What a store's disk is between two calls, a checkpoint under way included.
 use Rattle.std.specs.Prelude.{◌≡◌, ℕ, ◌*◌, ◌≤◌, List, [], ◌∷◌, ◌++◌, length}
+use Rattle.rr_pages.specs.declared.page.TheConstants.{PAGE_BYTES, FIRST_DATA}
 use Rattle.rr_disk.specs.Disk.{DiskState}
 use Rattle.rr_disk.specs.Moments.{EachImage}
 use Rattle.rr_pages.specs.declared.root.Root.{Root}
@@ -15,7 +16,7 @@ use Rattle.rr_images.specs.Steps.{ComesNext, IsPrepared}
 abbrev pub AreSpare : List ℕ → List (ℕ × List ℕ) → Type 0
 AreSpare reached [] = Unit {0}
 AreSpare reached (fresh ∷ more) =
-    (514 ≤ fresh.0) × (length fresh.1 ≡ 4096) × (IsIn fresh.0 reached → ⊥) × AreSpare (fresh.0 ∷ reached) more
+    (FIRST_DATA ≤ fresh.0) × (length fresh.1 ≡ PAGE_BYTES) × (IsIn fresh.0 reached → ⊥) × AreSpare (fresh.0 ∷ reached) more
 
 -- what a checkpoint has in memory from its first step on: the next root, what it will hold, and the fresh pages with
 -- their bytes
@@ -28,10 +29,10 @@ pub record Plan : Type 0 where
 -- next root holds spells the world before the first far record.
 pub record IsPlan (codec : Codec) (layout : Layout codec) (plan : Plan) : Type 0 where
   pub next : ComesNext layout plan.root
-  pub sound : (file : List ℕ) → 4096 * plan.root.pages ≤ length file → IsSound file plan.root
+  pub sound : (file : List ℕ) → PAGE_BYTES * plan.root.pages ≤ length file → IsSound file plan.root
   pub spare : AreSpare (reached_of layout.holding) plan.fresh
-  pub long : (file : List ℕ) → 4096 * layout.root.pages ≤ length file → AllStand file plan.fresh
-      → 4096 * plan.root.pages ≤ length file
+  pub long : (file : List ℕ) → PAGE_BYTES * layout.root.pages ≤ length file → AllStand file plan.fresh
+      → PAGE_BYTES * plan.root.pages ≤ length file
   pub spells : (file : List ℕ) → AllHeld file layout.holding.chains → AllStand file plan.fresh
       → Spelled codec file plan.root plan.holding layout.middle
 

@@ -1,5 +1,6 @@
 -- Why an opening refuses a file.
 use Rattle.std.specs.Prelude.{◌≡◌, ℕ, ◌+◌, Bool, not, List, ◌++◌, length, None}
+use Rattle.rr_pages.specs.declared.page.TheConstants.{MOST_PAGES}
 use Rattle.rr_pages.specs.declared.journal.reading.RunEnd.{RunEnd}
 use Rattle.rr_pages.specs.declared.journal.reading.RunEnd.TheVariants.{Damaged}
 use Rattle.rr_pages.specs.Journal.Run.{Run}
@@ -18,7 +19,7 @@ use Rattle.rr_pages.specs.Journal.Layout.{other_half}
 pub record HasNoForm (codec : Codec) (file : List ℕ) (root : Root) : Type 0 where
   pub none_reached : List Bool
   pub empty : IsEmpty none_reached
-  pub marks : length none_reached ≡ 65536
+  pub marks : length none_reached ≡ MOST_PAGES
   pub of_directory : List Bool
   pub directory : HeldChain
   pub read : IsWhole file root.pages none_reached root.directory None of_directory directory.pages directory.text

@@ -1,4 +1,3 @@
-pub mod Fault
 pub mod Plan
 pub mod Sound
 pub mod Spelling

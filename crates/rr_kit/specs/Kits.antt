@@ -1,6 +1,7 @@
 -- Which texts of a kit are right, what they spell, and why others are refused.
 use Rattle.std.specs.Prelude.{◌≡◌, ◌≢◌, ℕ, ◌<◌, ◌≤◌, ◌⊎◌, List, length, Err}
 use Rattle.std.specs.Str.{IsUtf8}
+use Rattle.rr_words.specs.declared.text.TheConstants.{TEXT_BYTES}
 use Rattle.rr_chart.specs.Chart.{Row}
 use Rattle.rr_chart.specs.Reading as chart
 use Rattle.rr_chart.specs.declared.fault.Fault as chart_fault
@@ -36,7 +37,7 @@ IsChartText text = (rows : List Row) × chart.Spells text rows
 -- the text spells this roster, which keeps every rule, and is no longer than a kit's text may be
 pub record IsRosterText (text : List ℕ) (terms : Terms) : Type 0 where
   pub spelled : roster.SpellsRoster text terms
-  pub short : length text ≤ 65536
+  pub short : length text ≤ TEXT_BYTES
 
 -- the text spells a manifest
 abbrev pub IsManifestText : List ℕ → Type 0
@@ -52,13 +53,13 @@ RefusesChart text fault = (cause : chart_fault.Fault) × (fault ≡ of_chart cau
 
 -- bytes that are a text, no longer than a kit's text may be
 pub record IsShortText (text : List ℕ) : Type 0 where
-  pub short : length text ≤ 65536
+  pub short : length text ≤ TEXT_BYTES
   pub is_text : IsUtf8 text
 
 -- why a roster's text is refused: it is too long, or no text, or else of another shape, or breaks a rule, or memory is wanting
 abbrev pub RefusesRoster : List ℕ → Fault → Type 0
 RefusesRoster text fault =
-    ((65536 < length text) × (fault ≡ F.BadRoster))
+    ((TEXT_BYTES < length text) × (fault ≡ F.BadRoster))
     ⊎ ((¬ IsUtf8 text) × (fault ≡ F.BadRoster))
     ⊎ (IsShortText text × (cause : roster_fault.Fault) × (fault ≡ of_roster cause) × IsAnswer text (Err cause))
 

@@ -12,5 +12,5 @@ mod home_words;
 
 pub use board::Board;
 pub use fault::Fault;
-pub use hex::{Block, Colour, Hex, Home, Place};
+pub use hex::{Block, Colour, GREATEST_CENTRE, Hex, Home, MOST_CENTRES, Place};
 pub use home_words::slots_at;

@@ -9,10 +9,8 @@ use crate::fault::Fault;
 use rr_chart::Chart;
 use rr_roster::Roster;
 use rr_tiles::Manifest;
+use rr_words::text::TEXT_BYTES;
 use std::alloc::Global;
-
-/// The most bytes of a kit's text.
-const TEXT_LIMIT: usize = 65_536;
 
 /// What a table is played with: the stock chart, the roster, the manifest of tiles and the board.
 #[derive(Debug, Drop)]
@@ -30,7 +28,7 @@ impl Kit {
     ///
     /// The first text that is refused, in the order chart, roster, tiles, board, gives the fault: `BadChart` with the
     /// first wrong word; `BadRoster`, or `RosterRule` with the first rule broken; `BadManifest` and `BadBoard` with the
-    /// first wrong line. Any text of more than 65,536 bytes is refused. `OutOfMemory` may come at any text that is no
+    /// first wrong line. Any text of more than `TEXT_BYTES` bytes is refused. `OutOfMemory` may come at any text that is no
     /// longer, and is ASCII, or UTF-8 as a roster's.
     pub fn read(
         alloc: Global,
@@ -101,7 +99,7 @@ fn read_chart(alloc: Global, text: &[u8]) -> Result<Chart, Fault>
 fn read_roster(alloc: Global, text: &[u8]) -> Result<Roster, Fault>
     ensures { MatchResult result (λ terms. IsRosterText text.now terms) (λ fault. RefusesRoster text.now fault) }
 {
-    if text.len() > TEXT_LIMIT {
+    if text.len() > TEXT_BYTES {
         return Err(Fault::BadRoster);
     }
     match std::str::from_utf8(text) {

@@ -71,4 +71,5 @@ fn the_first_wrong_text_is_told(rt: HostRuntime) {
 fn states_laws() {
     laws::kits_are_told_apart();
     laws::memory_is_wanted_for_texts();
+    laws::most_centres();
 }

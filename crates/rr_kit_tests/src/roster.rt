@@ -148,13 +148,12 @@ fn words_of(alloc: Global, fault: Fault) -> Result<String, Fail> {
 }
 
 #[test]
-fn faults_have_words_and_numbers(rt: HostRuntime) -> Result<(), Fail> {
-    for (fault, words, number) in [
-        (Fault::Shape, "bad roster", 4),
-        (Fault::Broken(Rule::PrivateNumbers), "roster rule 4", 5),
-        (Fault::OutOfMemory, "out of memory", 70),
+fn faults_have_words_and_rules_numbers(rt: HostRuntime) -> Result<(), Fail> {
+    for (fault, words) in [
+        (Fault::Shape, "bad roster"),
+        (Fault::Broken(Rule::PrivateNumbers), "roster rule 4"),
+        (Fault::OutOfMemory, "out of memory"),
     ] {
-        assert!(rt; fault.number() == number);
         assert!(rt; words_of(rt.alloc(), fault)?.as_str() == words);
     }
     assert!(rt; Rule::TrainNumbers.number() == 6);

@@ -14,7 +14,7 @@ use Rattle.rr_kit.specs.declared.kit.Kit.{Kit}
 use Rattle.rr_desk.specs.Effects.{adds, in_turn}
 use Rattle.rr_desk.specs.Incomes.{pay_incomes}
 use Rattle.rr_desk.specs.Layout.Layout.{stations}
-use Rattle.rr_market.specs.Operations.Progress.{has_more_rounds, progress}
+use Rattle.rr_market.specs.Operations.Progress.{bank_owed, has_more_rounds, progress}
 use Rattle.rr_market.specs.Operations.Due.{due}
 use Rattle.rr_rounds.specs.Round as rounds
 use Rattle.rr_rules.specs.Playing.{stock_entries}
@@ -34,12 +34,12 @@ round_begins : (roster : Terms) → Leaves (begins_round roster)
 unfolding begins_round
 round_begins roster = two_leave (adds (E.Step M.Operating)) (pay_incomes roster) (λ book. refl) (incomes_leave roster privates)
 
-set_ends : Leaves ends_set
+set_ends : (roster : Terms) → Leaves (ends_set roster)
 unfolding ends_set
-set_ends book = either_leaves ((progress book).bank_owed) (in_turn []) (adds (E.Step M.Stock)) none_leaves (λ b. refl) book
+set_ends roster book = either_leaves (bank_owed roster (progress book)) (in_turn []) (adds (E.Step M.Stock)) none_leaves (λ b. refl) book
 
 round_ends : (roster : Terms) → Leaves (ends_round roster)
-round_ends roster book = either_leaves (has_more_rounds (progress book)) (begins_round roster) ends_set (round_begins roster) set_ends book
+round_ends roster book = either_leaves (has_more_rounds (progress book)) (begins_round roster) (ends_set roster) (round_begins roster) (set_ends roster) book
 
 round_passes : (roster : Terms) (rows : List Row) → Leaves (passes_round roster rows)
 unfolding passes_round

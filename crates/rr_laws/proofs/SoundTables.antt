@@ -10,7 +10,8 @@ use Rattle.rr_books.specs.declared.entries.Entry.TheVariants as E
 use Rattle.rr_books.specs.declared.entries.Marker.TheVariants as M
 use Rattle.rr_books.specs.declared.parties.Money.{Money}
 use Rattle.rr_books.specs.Book.{Book}
-use Rattle.rr_books.specs.Totals.{MoneyIsKept}
+use Rattle.rr_roster.specs.Terms.{Terms}
+use Rattle.rr_books.proofs.TotalLemmas.{money_kept, opening_among, sum_of_balances}
 use Rattle.rr_auction.specs.Effects.{is_over}
 use Rattle.rr_auction.specs.Effects as auction
 use Rattle.rr_auction.specs.Opening.{opened}
@@ -213,15 +214,15 @@ by_commands laws n some few kit players (c ∷ cs) state lawful h =
     by_commands laws n some few kit players cs (played_on kit players state c) lawful.1 (by_command laws n some few kit players state c lawful.0 h)
 
 -- a table that opens
-stands_opened : MoneyIsKept → (names : List (List ℕ)) (kit : Kit) → NamesCorporations kit → 2 ≤ length names → Stands (length names) (opened_state names kit.roster)
-stands_opened kept names kit order two =
+stands_opened : (names : List (List ℕ)) (kit : Kit) → NamesCorporations kit → 2 ≤ length names → Stands (length names) (opened_state names kit.roster)
+stands_opened names kit order two =
     let n = length names in
     let book = opened names kit.roster in
     let covered = covered_opened names kit.roster two in
     let ruled = governed_at_first n names kit.roster order in
     record {
       order = record {
-        together = kept n kit.roster (E.Step (M.Auction names) ∷ []) refl;
+        together = sum_of_balances n book (opening_among n kit.roster (E.Step (M.Auction names) ∷ []) refl);
         sound = record {
           solvent = solvent_by_cover n book covered;
           dealt = dealt_opened names kit.roster order;
@@ -234,14 +235,14 @@ stands_opened kept names kit order two =
       bidding = λ going. ruled;
     }
 
-sound_if : (n : ℕ) (state : GameState) → Stands n state → IsSoundTable n state.book
-sound_if n state h =
+sound_if : (roster : Terms) (n : ℕ) (state : GameState) → Stands n state → IsSoundTable roster n state.book
+sound_if roster n state h =
     let order = h.order in
     let sound = order.sound in
     let solvent = sound.solvent in
     record {
       money = record {
-        together = order.together;
+        together = money_kept n roster state.book order.together;
         seats = λ s. solvent.seats s;
         corporations = λ corp. solvent.corporations corp;
       };
@@ -250,12 +251,12 @@ sound_if n state h =
       pool = sound.pool;
     }
 
-pub sound_along : MoneyIsKept → StockLaws → (kit : Kit) (commands : List Command) → NamesCorporations kit → ArePlayed kit commands
-    → IsSoundTable (length (players_of commands)) (play kit commands).book
-sound_along kept laws kit (Open players ∷ commands) order played =
+pub sound_along : StockLaws → (kit : Kit) (commands : List Command) → NamesCorporations kit → ArePlayed kit commands
+    → IsSoundTable kit.roster (length (players_of commands)) (play kit commands).book
+sound_along laws kit (Open players ∷ commands) order played =
     let n = length players in
-    sound_if n _ (by_commands laws n (omega arith) played.1 kit players commands (opened_state players kit.roster) played.2 (stands_opened kept players kit order played.0))
-sound_along kept laws kit _ order played = absurd played
+    sound_if kit.roster n _ (by_commands laws n (omega arith) played.1 kit players commands (opened_state players kit.roster) played.2 (stands_opened players kit order played.0))
+sound_along laws kit _ order played = absurd played
 
 -- one command more that isn't refused
 

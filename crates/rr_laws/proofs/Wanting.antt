@@ -260,4 +260,4 @@ in_play_never kit players state command = named_never kit state (act_of players 
 pub none_wants : NoRuleWantsMemory
 none_wants kit players state command =
     behind_never (over_verdict kit state) (command_judgement_in_play kit players state command)
-    (if_spares (game_is_over kit.chart state.book) V.GameOver None refl none_spares) (in_play_never kit players state command)
+    (if_spares (game_is_over kit state.book) V.GameOver None refl none_spares) (in_play_never kit players state command)

@@ -1,6 +1,6 @@
 -- A table that is in order whatever commands it accepted.
 use Rattle.std.specs.Prelude.{ℕ, ◌≤◌, List, [], ◌∷◌, ◌++◌, None, length, ⊤}
-use Rattle.rr_roster.specs.Terms.{IsOrder, order_of}
+use Rattle.rr_roster.specs.Terms.{IsOrder, Terms, order_of}
 use Rattle.rr_books.specs.Book.{Book}
 use Rattle.rr_auction.specs.SoundMoney.{HasSoundMoney}
 use Rattle.rr_stock.specs.PoolLimits.{HasHalfAtMost}
@@ -15,11 +15,11 @@ use Rattle.rr_game.specs.Play.{opened_state, play, played_on, players_of}
 use Rattle.rr_game.specs.Verdict.{command_judgement}
 use Rattle.rr_turns.specs.Judgement.{IsVerdict}
 
--- the book of a table of n that is in order: bank, seats and corporations have 12,000 together, and no one but the bank
--- has less than nothing; each certificate has a place of the table; each 20% certificate is in the offering, or with a
+-- the book of a table of n that is in order: bank, seats and corporations have together what the bank began with, and no
+-- one but the bank has less than nothing; each certificate has a place of the table; each 20% certificate is in the offering, or with a
 -- player than whom no other has more of the corporation; and the pool has at most half of each
-pub record IsSoundTable (n : ℕ) (book : Book) : Type 0 where
-  pub money : HasSoundMoney n book
+pub record IsSoundTable (roster : Terms) (n : ℕ) (book : Book) : Type 0 where
+  pub money : HasSoundMoney roster n book
   pub dealt : IsDealt n book
   pub presidents : HasGreatestPresidents n book
   pub pool : HasHalfAtMost book
@@ -48,7 +48,7 @@ KitsNameCorporations = (texts : KitTexts) (kit : Kit) → SpellsKit texts kit �
 abbrev pub TablesStaySound : Type 0
 TablesStaySound =
     (kit : Kit) (commands : List Command) → NamesCorporations kit → ArePlayed kit commands
-    → IsSoundTable (length (players_of commands)) (play kit commands).book
+    → IsSoundTable kit.roster (length (players_of commands)) (play kit commands).book
 
 -- a play goes on with each command that isn't refused in its state
 abbrev pub PlaysGoOn : Type 0

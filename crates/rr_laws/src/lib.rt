@@ -18,13 +18,12 @@ ghost use Rattle.rr_laws.specs.Sound.{KitsNameCorporations, PlaysGoOn, TablesSta
 ghost use Rattle.rr_laws.specs.Verdicts.{EachCommandHasAVerdict, NoRuleWantsMemory};
 
 /// Whatever two to six players open a table, with a kit whose roster names each corporation, and whatever commands it
-/// accepts then, the balances of bank, seats and corporations sum to 12,000 and only the bank's may be negative, each
-/// certificate has a place of the table, each 20% certificate is in the offering or with a player than whom no other
-/// has more of the corporation, and the pool has at most half of each.
+/// accepts then, bank, seats and corporations have together what the bank began with and only the bank may have less
+/// than nothing, each certificate has a place of the table, each 20% certificate is in the offering or with a player than
+/// whom no other has more of the corporation, and the pool has at most half of each.
 pub fn sound()
     ensures { TablesStaySound }
 {
-    rr_books::laws::money_is_kept();
     crate::sequence::laws::pool_stays_within_half();
     crate::sequence::laws::lawful_sales_move_shares();
     rr_shares::laws::sales_move_shares();

@@ -83,7 +83,7 @@ fn is_kept(stations: &[Station], hex: &HexName, centre: u64, home: &Home) -> boo
 fn is_home_at(hex: &HexName, centre: u64, home: &Home) -> bool
     ensures { result ≡ is_home_at hex.now centre home.now }
 {
-    home.hex == *hex && u64::from(home.centre) == centre
+    home.hex == *hex && home.centre == centre
 }
 
 // Whether one of the corporation's tokens is in the city.

@@ -1,5 +1,6 @@
 -- What each call on the file leaves of what a log knows.
-use Rattle.std.proofs.Common.{◌≡◌, ◌⊎◌, inl, inr, ℕ, ◌+◌, ◌<◌, ◌≤◌, true, false, List, [], ◌∷◌, ◌++◌, length, Option, None, Some, Result, Ok, Err, OnOk, refl, sym, ◌∙◌, ap, subst, arith}
+use Rattle.std.proofs.Common.{◌≡◌, ◌⊎◌, inl, inr, ℕ, zero, suc, ◌+◌, ◌<◌, ◌≤◌, Bool, true, false, List, [], ◌∷◌, ◌++◌, length, get_or, replicate, Option, None, Some, Result, Ok, Err, OnOk, refl, sym, ◌∙◌, ap, subst, arith}
+use Rattle.std.proofs.lemmas.List.{length-replicate}
 use Rattle.rr_disk.specs.Disk.{DiskState}
 use Rattle.rr_disk.specs.Moments.{EachImage}
 use Rattle.rr_images.specs.Calls.{TakesNewer}
@@ -9,8 +10,13 @@ use Rattle.rr_images.specs.Layout.{Keeps, Layout, FarHalf, Unused, Old, Begun, f
 use Rattle.rr_images.specs.Progress.{IsNotBegun}
 use Rattle.rr_images.specs.Steps.{with_line, with_line_at}
 use Rattle.rr_images.proofs.OneWorld.{kept_stands}
+use Rattle.rr_pages.specs.declared.choosing.Taken.{Taken}
+use Rattle.rr_pages.specs.declared.journal.half.Half.{Half}
 use Rattle.rr_pages.specs.declared.root.Root.{Root}
+use Rattle.rr_pages.specs.FreePages.{present_of}
+use Rattle.rr_pages.specs.Sets.{TooFewFree, all_marked}
 use Rattle.rr_reading.specs.Held.{TextChains}
+use Rattle.rr_reading.specs.Reading.{NoneReached}
 use Rattle.rr_checkpoint.specs.declared.checkpoint.Plan.{Plan}
 use Rattle.rr_checkpoint.specs.declared.place.Place.{Place}
 use Rattle.rr_checkpoint.specs.declared.writer.Tick.{Tick}
@@ -18,19 +24,22 @@ use Rattle.rr_checkpoint.specs.declared.writer.Tick.TheVariants.{Idle, More, Don
 use Rattle.rr_checkpoint.specs.declared.writer.Writer.{Writer}
 use Rattle.rr_checkpoint.specs.Holds.{HoldsOn, HoldsAsBegun, HoldsWithRecord, HoldsAt, IsRenewed, RestsAt}
 use Rattle.rr_checkpoint.specs.OpenFile.{IsBegunAt}
-use Rattle.rr_checkpoint.specs.Planning.{MayBegin}
+use Rattle.rr_checkpoint.specs.Checkpoint.{left_behind_first}
+use Rattle.rr_checkpoint.specs.Planning.{MayBegin, MayStart}
 use Rattle.rr_checkpoint.specs.Writer as file
-use Rattle.rr_checkpoint.specs.Writer.{Lowers}
+use Rattle.rr_checkpoint.specs.Writer.{Lowers, StaysTakenAt}
 use Rattle.rr_checkpoint.proofs.Writers.{base_is_carried, carried_kept}
 use Rattle.rr_pages.specs.Journal.Layout.{HasRoom}
 use Rattle.rr_log.specs.declared.fault.Fault.{Fault}
 use Rattle.rr_log.specs.declared.fault.Fault.TheVariants as F
 use Rattle.rr_log.specs.Fault.{IsWant, OnDeviceFault, breaks}
 use Rattle.rr_log.specs.declared.log.Log.{Log}
-use Rattle.rr_log.specs.Calls.{IsBegunOn, IsFileFull, MeetsFullFile, TakesRootOf, as_begun, layout_behind, world_behind}
+use Rattle.rr_log.specs.Calls.{IsBegunOn, IsFileFull, MeetsFullFile, NumbersRoot, TakesRootOf, as_begun, layout_behind, tables_due, world_behind}
 use Rattle.rr_log.specs.Carrying.{HasTexts, HaveSameTexts, IsBase, Carries, IsPlanned}
-use Rattle.rr_log.specs.Log.{HasNoRoom, HasNoneBegun, disk_of, place_of, root_number, ticks_left}
+use Rattle.rr_log.specs.Log.{HasNoRoom, HasNoneBegun, IsPastLast, disk_of, next_number, place_of, root_number, ticks_left}
 use Rattle.rr_checkpoint.specs.declared.plan.transcript.Transcript.{Transcript}
+use Rattle.rr_checkpoint.specs.Plan.Kit.{text_pages}
+use Rattle.rr_checkpoint.specs.Plan.Laying.{needed_pages}
 use Rattle.rr_checkpoint.specs.Plan.Planning.{IsOfLayout, HoldsTexts, world_of}
 use Rattle.rr_checkpoint.specs.Plan.Transcript.{tables_of}
 use Rattle.rr_checkpoint.specs.Plan.Writing.{OnlyTakes}
@@ -95,29 +104,29 @@ nothing_there (Begun lines) none = absurd none
 
 -- with a record more the renewed layout is that of the records since the checkpoint began, this one included
 line_renews : (codec : Codec) (before now : Layout codec) (line : List ℕ) (world : codec.World) (far_before far_now : FarHalf) → far_before ≡ Begun now.near → now.far ≡ far_now → IsNotBegun far_now
-    → before.root.number < now.root.number → now.base ≡ before.middle → IsRenewed (with_line_at before far_before line world) (with_line_at now far_now line world)
-line_renews codec before now line world Unused far_now is there none newer base = absurd (cc is)
-line_renews codec before now line world Old far_now is there none newer base = absurd (cc is)
-line_renews codec before now line world (Begun lines) Unused is there none newer base =
+    → now.root.number ≡ before.root.number + 1 → now.base ≡ before.middle → IsRenewed (with_line_at before far_before line world) (with_line_at now far_now line world)
+line_renews codec before now line world Unused far_now is there none next base = absurd (cc is)
+line_renews codec before now line world Old far_now is there none next base = absurd (cc is)
+line_renews codec before now line world (Begun lines) Unused is there none next base =
     record {
-      newer = newer;
+      next = next;
       base = base;
       near = ap (λ (half : FarHalf). Begun (far_lines half ++ line ∷ [])) (sym is);
       rests = subst (λ (half : FarHalf). IsNotBegun half) (sym there) tt;
     }
-line_renews codec before now line world (Begun lines) Old is there none newer base =
+line_renews codec before now line world (Begun lines) Old is there none next base =
     record {
-      newer = newer;
+      next = next;
       base = base;
       near = ap (λ (half : FarHalf). Begun (far_lines half ++ line ∷ [])) (sym is);
       rests = subst (λ (half : FarHalf). IsNotBegun half) (sym there) tt;
     }
-line_renews codec before now line world (Begun lines) (Begun others) is there none newer base = absurd none
+line_renews codec before now line world (Begun lines) (Begun others) is there none next base = absurd none
 
 pub renewed_line : (codec : Codec) (before now then : Layout codec) (line : List ℕ) (world : codec.World) → then ≡ with_line now line world → IsRenewed before now → IsRenewed (with_line before line world) then
 renewed_line codec before now then line world is renewed =
     subst (λ (layout : Layout codec). IsRenewed (with_line before line world) layout) (sym is)
-    (line_renews codec before now line world before.far now.far (sym renewed.near) refl renewed.rests renewed.newer renewed.base)
+    (line_renews codec before now line world before.far now.far (sym renewed.near) refl renewed.rests renewed.next renewed.base)
 
 -- a record that was refused leaves the layout
 pub renews_refused : {T : Type 0} (takes : List ℕ → World → World → Type 0) (result : Result T Fault) (fault : Fault) → result ≡ Err fault → (layout : Layout (worlds takes)) (line : List ℕ) (old new : World) (state : DiskState)
@@ -126,7 +135,7 @@ renews_refused {T} takes result fault is layout line old new state renews =
     subst (λ (r : Result T Fault). EachImage state (TakesNewer (worlds takes) (layout_behind r layout line new) (world_behind r old new))) (sym is) renews
 
 -- a checkpoint that was under way, or that was begun
-pub newer_under_way : (codec : Codec) (layout : Layout codec) (world : codec.World) (file : List ℕ) → TakesNewer codec layout world file → TakesNewer codec (as_begun layout) world file
+abbrev pub newer_under_way : (codec : Codec) (layout : Layout codec) (world : codec.World) (file : List ℕ) → TakesNewer codec layout world file → TakesNewer codec (as_begun layout) world file
 newer_under_way codec layout world file takes =
     record {
       stands = takes.stands;
@@ -136,7 +145,7 @@ newer_under_way codec layout world file takes =
       nothing_far = takes.nothing_far;
     }
 
-pub newer_begun : (codec : Codec) (layout then : Layout codec) (world : codec.World) (file : List ℕ) → IsBegunOn layout then → TakesNewer codec then world file → TakesNewer codec (as_begun layout) world file
+abbrev pub newer_begun : (codec : Codec) (layout then : Layout codec) (world : codec.World) (file : List ℕ) → IsBegunOn layout then → TakesNewer codec then world file → TakesNewer codec (as_begun layout) world file
 newer_begun codec layout then world file begun takes =
     record {
       stands = takes.stands;
@@ -145,6 +154,17 @@ newer_begun codec layout then world file begun takes =
       near = takes.near ∙ begun.far;
       nothing_far = takes.nothing_far;
     }
+
+-- the same of a root whose number comes next
+abbrev pub TakesNext : (codec : Codec) → Layout codec → codec.World → List ℕ → Type 0
+TakesNext codec layout world file = (newer : TakesNewer codec layout world file) × (newer.stands.root.number ≡ layout.root.number + 1)
+
+pub next_under_way : (codec : Codec) (layout : Layout codec) (world : codec.World) (file : List ℕ) → TakesNext codec layout world file → TakesNext codec (as_begun layout) world file
+next_under_way codec layout world file takes = (newer_under_way codec layout world file takes.0, takes.1)
+
+pub next_begun : (codec : Codec) (layout then : Layout codec) (world : codec.World) (file : List ℕ) → IsBegunOn layout then → TakesNext codec then world file → TakesNext codec (as_begun layout) world file
+next_begun codec layout then world file begun takes =
+    (newer_begun codec layout then world file begun takes.0, takes.1 ∙ ap (λ (root : Root). root.number + 1) begun.root)
 
 -- a fault that doesn't break the log is one that was put off
 pub only_breaks : {fault : Fault} → fault ≡ F.DeviceFailed → breaks fault ≡ false → ⊥
@@ -182,25 +202,31 @@ module _ {D R : Type 0} (takes : List ℕ → World → World → Type 0) (log :
   pub kept_now : EachImage state (λ image. Keeps codec image world)
   kept_now = carried_kept codec log.writer.file log.writer.checkpoint state world carries.carried
 
-  -- behind the last step of a checkpoint each takes a newer root
-  pub renews_now : (before : Layout codec) → IsRenewed before layout → EachImage state (TakesNewer codec before world)
+  -- behind the last step of a checkpoint each takes a newer root, of the next number
+  pub renews_next : (before : Layout codec) → IsRenewed before layout → EachImage state (TakesNext codec before world)
   unfolding kept_stands
-  renews_now before renewed = λ image is.
-      record {
-        stands = kept_stands codec layout image world (carries.carried.between.each image is);
-        newer = renewed.newer;
-        base = renewed.base;
-        near = renewed.near;
-        nothing_far = nothing_there layout.far renewed.rests;
-      }
+  renews_next before renewed = λ image is. (
+    record {
+      stands = kept_stands codec layout image world (carries.carried.between.each image is);
+      newer = omega (arith, renewed.next);
+      base = renewed.base;
+      near = renewed.near;
+      nothing_far = nothing_there layout.far renewed.rests;
+    },
+    renewed.next,
+  )
+
+  pub renews_now : (before : Layout codec) → IsRenewed before layout → EachImage state (TakesNewer codec before world)
+  renews_now before renewed = λ image is. (renews_next before renewed image is).0
 
   -- where none was begun before, that is the root of the world itself
-  pub takes_root : HasNoneBegun (place_of log) → (file : List ℕ) → TakesNewer codec (as_begun layout) world file → TakesRootOf codec (root_number log) world file
-  takes_root none file newer =
+  pub takes_root : HasNoneBegun (place_of log) → (file : List ℕ) → TakesNext codec (as_begun layout) world file → TakesRootOf codec (root_number log) world file
+  takes_root none file next =
+      let newer = next.0 in
       let rests = subst (λ (begun : Option ℕ). IsBegunAt begun (layout.root.first + length layout.near) layout.far) none carries.carried.tells.begun in
       record {
         stands = newer.stands;
-        newer = subst (λ (root : Root). root.number < newer.stands.root.number) carries.carried.tells.root newer.newer;
+        next = next.1 ∙ ap (λ (root : Root). root.number + 1) carries.carried.tells.root;
         base = newer.base ∙ base_is_carried codec log.writer.file log.writer.checkpoint state world carries.carried none;
         nothing_near = ap (λ (half : FarHalf). far_lines half) newer.near ∙ nothing_there layout.far rests;
         nothing_far = newer.nothing_far;
@@ -322,6 +348,15 @@ module _ {D R : Type 0} (takes : List ℕ → World → World → Type 0) (log :
     ticked_carries More some lowers rests then = more_carries some lowers.1 then
     ticked_carries Done some lowers rests then = done_carries some lowers.1 rests (then.0, then.1.present)
 
+    -- the root's number is one more behind the last one, and else the same
+    pub ticked_root : (tick : Tick) → StaysTakenAt tick (file.taken_of log.writer) (file.taken_of new)
+        → (then : file.Carries codec new after world) × HoldsAt tick layout carries.carried.holding then.layout then.holding
+        → NumbersRoot tick (root_number log) (file.taken_of new).root.number
+    ticked_root Idle stays then = ap (λ (taken : Taken). taken.root.number) stays
+    ticked_root More stays then = ap (λ (taken : Taken). taken.root.number) stays
+    ticked_root Done stays then =
+        ap (λ (root : Root). root.number) (sym then.0.tells.root) ∙ (then.1.renewed.next ∙ ap (λ (root : Root). root.number + 1) carries.carried.tells.root)
+
     pub last_carries : (tick : Tick) → ticks_left log ≡ 1 → Lowers tick (ticks_left log) (file.ticks_left_of new) → RestsAt tick (file.place_of new).begun
         → (then : file.Carries codec new after world) × HoldsAt tick layout carries.carried.holding then.layout then.holding
         → (then : Carries takes (record { alloc = log.alloc; disk = disk; writer = new; kit = log.kit; base = log.base; broken = log.broken }) after world) × IsRenewed layout then.carried.layout
@@ -362,6 +397,49 @@ module _ {D R : Type 0} (takes : List ℕ → World → World → Type 0) (log :
                 subst (λ (b : Option ℕ). IsBase b log.base then.0.layout.middle.tables) (sym begun) (base_behind (place_of log).begun refl (carries.base (omega (arith, resting, left))));
             no_base = λ some. carries.no_base (omega (arith, some, left));
           }
+
+-- the number of a root that renews another comes next
+pub root_next : {D R : Type 0} (takes : List ℕ → World → World → Type 0) (old new : Log D R) (before after : DiskState) (world : World) (carries : Carries takes old before world) (then : Carries takes new after world)
+    → IsRenewed carries.carried.layout then.carried.layout → root_number new ≡ root_number old + 1
+root_next takes old new before after world carries then renewed =
+    ap (λ (root : Root). root.number) (sym then.carried.tells.root) ∙ (renewed.next ∙ ap (λ (root : Root). root.number + 1) carries.carried.tells.root)
+
+-- what the first tick of a checkpoint leaves
+pub some_behind : (begun : Option ℕ) (pages left : ℕ) → 0 < pages → left ≡ left_behind_first begun pages → 3 ≤ left
+some_behind None pages left some is = omega (arith, some, is)
+some_behind (Some first) pages left some is = omega (arith, some, is)
+
+pub half_behind : (begun : Option ℕ) (pages left : ℕ) (old new : Half) → 0 < pages → left ≡ left_behind_first begun pages → ((begun ≡ None → ⊥) → new ≡ old) → (new ≡ old) ⊎ (4 ≤ left)
+half_behind None pages left old new some is same = inr (omega (arith, some, is))
+half_behind (Some first) pages left old new some is same = inl (same (λ none. cc none))
+
+-- it writes no page, or one of a plan for the layout
+pub starts_with : {C : Type 0} (codec : Codec) (writer : Writer C) (state : DiskState) (world : codec.World) (plan : Plan) (begun : Option ℕ) → file.Carries codec writer state world
+    → ((begun ≡ None → ⊥) → (carries : file.Carries codec writer state world) × MayBegin codec carries.layout (file.free_of writer) plan)
+    → (carries : file.Carries codec writer state world) × MayStart codec carries.layout (file.free_of writer) begun plan
+starts_with codec writer state world plan None carries found = (carries, tt)
+starts_with codec writer state world plan (Some first) carries found = found (λ none. cc none)
+
+-- a file isn't full where the pages fit and no number is the last
+all_false : (count page : ℕ) → get_or (replicate count false) page false ≡ false
+all_false zero page = refl
+all_false (suc count) zero = refl
+all_false (suc count) (suc page) = all_false count page
+
+unfoldable no_pages : List Bool
+no_pages = replicate 65536 false
+
+none_reached : NoneReached no_pages
+unfolding no_pages
+none_reached = record { empty = all_false 65536; whole = length-replicate {A = Bool} 65536 false }
+
+pub never_full : {D R : Type 0} (log : Log D R) (tables due : List Table) → tables_due log.base tables ≡ due → (IsPastLast (next_number log) ⊎ IsPastLast (root_number log + 1) → ⊥)
+    → ((none : List Bool) → NoneReached none → TooFewFree (present_of (file.free_of log.writer)) (all_marked none (text_pages log.kit)) (needed_pages due) → ⊥) → IsFileFull log tables → ⊥
+never_full log tables due is low fits (inl past) = low (inl past)
+never_full log tables due is low fits (inr (inl past)) = low (inr past)
+never_full log tables due is low fits (inr (inr few)) =
+    fits no_pages none_reached
+    (subst (λ (ts : List Table). TooFewFree (present_of (file.free_of log.writer)) (all_marked no_pages (text_pages log.kit)) (needed_pages ts)) is (few no_pages none_reached))
 
 -- where the device failed more is so
 pub device_more : {T P Q : Type 0} (result : Result T Fault) → (P → Q) → OnDeviceFault result P → OnDeviceFault result Q

@@ -16,7 +16,8 @@ use Rattle.rr_pages.specs.Sets.{TooFewFree, all_marked}
 use Rattle.rr_reading.specs.Reading.{NoneReached}
 use Rattle.rr_checkpoint.specs.declared.plan.transcript.Transcript.{Transcript}
 use Rattle.rr_checkpoint.specs.Plan.Kit.{text_pages}
-use Rattle.rr_checkpoint.specs.Plan.Laying.{most_laid_pages, needed_pages}
+use Rattle.rr_checkpoint.specs.Checkpoint.{left_behind_first}
+use Rattle.rr_checkpoint.specs.Plan.Laying.{needed_pages}
 use Rattle.rr_checkpoint.specs.Plan.Transcript.{tables_of}
 use Rattle.rr_reading.specs.Worlds.World.{Table, World}
 
@@ -49,10 +50,10 @@ pub record IsBegunOn {codec : Codec} (old new : Layout codec) : Type 0 where
   pub middle : new.middle ≡ old.middle
   pub far : new.far ≡ (as_begun old).far
 
--- A file takes a root of a greater number than this, whose chains spell the world, and no record stands behind it.
+-- A file takes the root of the number next to this one, whose chains spell the world, and no record stands behind it.
 pub record TakesRootOf (codec : Codec) (number : ℕ) (world : codec.World) (file : List ℕ) : Type 0 where
   pub stands : Stands codec file world
-  pub newer : number < stands.root.number
+  pub next : stands.root.number ≡ number + 1
   pub base : stands.base ≡ world
   pub nothing_near : stands.near ≡ []
   pub nothing_far : stands.far ≡ []
@@ -68,27 +69,33 @@ pub record IsUnchanged {D R : Type 0} (old new : Log D R) : Type 0 where
   pub kit : new.kit ≡ old.kit
   pub base : new.base ≡ old.base
 
--- A tick lowers what is left by one, and `Done` comes exactly with the last one. The first of a checkpoint leaves those of
--- its pages, at least one, and three more.
-abbrev pub LowersFrom : Tick → ℕ → ℕ → Type 0
-LowersFrom Idle old new = (old ≡ 0) × (new ≡ 0)
-LowersFrom More old new = (0 < new) × (0 < old → old ≡ new + 1) × (old ≡ 0 → 4 ≤ new)
-LowersFrom Done old new = (old ≡ 1) × (new ≡ 0)
+-- A tick lowers what is left by one, and `Done` comes exactly with the last one. The first of a checkpoint leaves so many.
+abbrev pub LowersFrom : ℕ → Tick → ℕ → ℕ → Type 0
+LowersFrom first Idle old new = (old ≡ 0) × (new ≡ 0)
+LowersFrom first More old new = (0 < new) × (0 < old → old ≡ new + 1) × (old ≡ 0 → new ≡ first)
+LowersFrom first Done old new = (old ≡ 1) × (new ≡ 0)
+
+-- the number of the root that is taken: one more behind the last tick of a checkpoint, and else the same
+abbrev pub NumbersRoot : Tick → ℕ → ℕ → Type 0
+NumbersRoot Idle old new = new ≡ old
+NumbersRoot More old new = new ≡ old
+NumbersRoot Done old new = new ≡ old + 1
 
 -- the tables that a checkpoint begun now writes: those from before the first record of the other half, or those that are lent
 abbrev pub tables_due : Option Transcript → List Table → List Table
 tables_due None tables = tables
 tables_due (Some base) tables = tables_of base
 
--- how many ticks a checkpoint of these tables has at most: one for each page that it lays, and four more
-abbrev pub most_ticks : List Table → ℕ
-most_ticks tables = most_laid_pages tables + 4
+-- how many ticks the first one leaves of a checkpoint that is begun now: one for each page that it lays, and three more, or one
+-- fewer where an opening found it begun
+abbrev pub first_left : {D R : Type 0} → Log D R → List Table → ℕ
+first_left log tables = left_behind_first (place_of log).begun (needed_pages (tables_due log.base tables))
 
--- how many ticks a checkpoint that is begun now has at most, its first one included
+-- how many ticks it has, its first one included
 abbrev pub ticks_due : {D R : Type 0} → Log D R → List Table → ℕ
-ticks_due log tables = most_ticks (tables_due log.base tables)
+ticks_due log tables = first_left log tables + 1
 
--- beside those of the texts fewer pages are free than the chains and the directory of these tables take at most
+-- beside those of the texts fewer pages are free than the chains and the directory of these tables take
 abbrev pub HasTooFewFree : {D R : Type 0} → Log D R → List Table → Type 0
 HasTooFewFree log tables =
     (none : List Bool) → NoneReached none

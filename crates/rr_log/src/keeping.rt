@@ -16,7 +16,7 @@ use rr_pages::journal;
 use rr_reading::worlds::Rules;
 
 impl<D: Disk + Drop, R: Rules> Log<D, R> {
-    ghost use Rattle.rr_log.specs.Calls.{IsFileFull, MayRefuse, MeetsFullFile, NumberBehind, layout_behind, ticks_due, world_behind};
+    ghost use Rattle.rr_log.specs.Calls.{IsFileFull, MayRefuse, MeetsFullFile, NumberBehind, first_left, layout_behind, ticks_due, world_behind};
     ghost use Rattle.rr_log.specs.Carrying.{Carries, HaveSameTexts};
     ghost use Rattle.rr_log.specs.Log.{disk_of, is_broken, next_number, place_of, ticks_left, HasNoRoom, IsDue, IsTooLong};
 
@@ -59,7 +59,7 @@ impl<D: Disk + Drop, R: Rules> Log<D, R> {
             → ticks_left self.old ≡ ticks_left self.new + 1 }
         ensures rests { ticks_left self.old ≡ 0 → (IsDue (place_of self.old) → ⊥) → ticks_left self.new ≡ 0 }
         ensures begins { is_broken self.new ≡ false → ticks_left self.old ≡ 0
-            → (ticks_left self.new ≡ 0) ⊎ (4 ≤ ticks_left self.new) }
+            → (ticks_left self.new ≡ 0) ⊎ (ticks_left self.new ≡ first_left self.old (T.tables tables.now)) }
         ensures resting { IsErrOf result Fault.HalfFull → ticks_left self.new ≡ 0 → (place_of self.new).begun ≡ None }
         ensures nothing { IfErr result (λ fault. is_broken self.new ≡ false → ticks_left self.old ≡ 0
             → ticks_left self.new ≡ 0 → disk_of self.new ≡ disk_of self.old) }
@@ -128,7 +128,7 @@ impl<D: Disk + Drop, R: Rules> Log<D, R> {
             → ticks_left self.old ≡ ticks_left self.new + 1 }
         ensures idle { ticks_left self.old ≡ 0 → (IsDue (place_of self.old) → ⊥) → self.new ≡ self.old }
         ensures begins { is_broken self.new ≡ false → ticks_left self.old ≡ 0
-            → (ticks_left self.new ≡ 0) ⊎ (4 ≤ ticks_left self.new) }
+            → (ticks_left self.new ≡ 0) ⊎ (ticks_left self.new ≡ first_left self.old (T.tables tables.now)) }
         ensures nothing { is_broken self.new ≡ false → ticks_left self.old ≡ 0 → ticks_left self.new ≡ 0
             → disk_of self.new ≡ disk_of self.old }
         ensures most { is_broken self.new ≡ false → ticks_left self.old ≡ 0

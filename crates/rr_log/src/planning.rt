@@ -1,5 +1,5 @@
 // The plan of a checkpoint.
-ghost use Rattle.std.specs.Prelude.{◌≡◌, ◌⊎◌, ◌^◌, ◌+◌, ◌<◌, ◌≤◌, Bool, List, length, IfOk, IfErr, IsErrOf, IsTrue, ◌↔◌};
+ghost use Rattle.std.specs.Prelude.{◌≡◌, ◌⊎◌, ◌^◌, ◌+◌, ◌<◌, ◌≤◌, Bool, List, length, IfOk, IfErr, IsErrOf, IsTrue, None, ◌↔◌};
 ghost use Rattle.rr_checkpoint.specs.Planning.{MayBegin};
 ghost use Rattle.rr_checkpoint.specs.Writer as file;
 ghost use Rattle.rr_disk.specs.Disk.{DiskState};
@@ -9,7 +9,7 @@ ghost use Rattle.rr_pages.specs.FreePages.{present_of};
 ghost use Rattle.rr_pages.specs.Sets.{TooFewFree, all_marked};
 ghost use Rattle.rr_reading.specs.Reading.{NoneReached};
 ghost use Rattle.rr_checkpoint.specs.Plan.Kit.{text_pages};
-ghost use Rattle.rr_checkpoint.specs.Plan.Laying.{most_laid_pages, needed_pages};
+ghost use Rattle.rr_checkpoint.specs.Plan.Laying.{needed_pages};
 ghost use Rattle.rr_checkpoint.specs.Plan.Planning.{IsOfLayout, HoldsTexts};
 ghost use Rattle.rr_checkpoint.specs.Plan.Transcript.{tables_of};
 ghost use Rattle.rr_checkpoint.specs.Plan.Writing.{OnlyTakes};
@@ -49,7 +49,10 @@ fn plan_of<R: Rules>(
         → (may : MayBegin (worlds R.takes) carries.layout (file.free_of writer.new) plan)
         × HoldsTexts of.texts may.holding) }
     ensures some { IfOk result (λ plan. 0 < length plan.fresh.items) }
-    ensures few { IfOk result (λ plan. length plan.fresh.items ≤ most_laid_pages (tables_of transcript.now)) }
+    ensures count { IfOk result (λ plan. length plan.fresh.items ≡ needed_pages (tables_of transcript.now)) }
+    ensures fits { IfOk result (λ plan. (none : List Bool) → NoneReached none
+        → TooFewFree (present_of (file.free_of writer.old)) (all_marked none (text_pages kit.now))
+        (needed_pages (tables_of transcript.now)) → ⊥) }
     ensures full { IsErrOf result Fault.FileFull → (none : List Bool) → NoneReached none
         → TooFewFree (present_of (file.free_of writer.old)) (all_marked none (text_pages kit.now))
         (needed_pages (tables_of transcript.now)) }
@@ -66,7 +69,7 @@ fn plan_of<R: Rules>(
 impl<D: Disk + Drop, R: Rules> Log<D, R> {
     ghost use Rattle.rr_log.specs.Calls.{IsFileFull, IsUnchanged, tables_due};
     ghost use Rattle.rr_log.specs.Carrying.{Carries, IsPlanned};
-    ghost use Rattle.rr_log.specs.Log.{next_number, root_number, ticks_left};
+    ghost use Rattle.rr_log.specs.Log.{next_number, place_of, root_number, ticks_left};
 
     // Makes the plan of the checkpoint that is to begin. Where an opening found one begun, it writes the tables from before
     // the first record of the other half, and else those that are lent.
@@ -76,8 +79,13 @@ impl<D: Disk + Drop, R: Rules> Log<D, R> {
             → (carries : Carries R.takes self.old state world)
             → IsPlanned R.takes self.new plan state world carries.carried.layout) }
         ensures some { IfOk result (λ plan. 0 < length plan.fresh.items) }
-        ensures few { IfOk result (λ plan. length plan.fresh.items
-            ≤ most_laid_pages (tables_due self.old.base (T.tables tables.now))) }
+        // Where an opening found the checkpoint begun, what is lent doesn't matter.
+        ensures found { IfOk result (λ plan. (state : DiskState) (world : World) → ((place_of self.old).begun ≡ None → ⊥)
+            → (carries : Carries R.takes self.old state world)
+            → IsPlanned R.takes self.new plan state world carries.carried.layout) }
+        ensures count { IfOk result (λ plan. length plan.fresh.items
+            ≡ needed_pages (tables_due self.old.base (T.tables tables.now))) }
+        ensures fits { IfOk result (λ plan. IsFileFull self.old (T.tables tables.now) → ⊥) }
         ensures carries { (state : DiskState) (world : World) → Carries R.takes self.old state world
             → Carries R.takes self.new state world }
         ensures full { IsErrOf result Fault.FileFull → IsFileFull self.old (T.tables tables.now) }

@@ -18,13 +18,14 @@ use rr_reading::worlds::Rules;
 const MANY_SLOTS: u8 = 128;
 
 impl<D: Disk + Drop, R: Rules> Log<D, R> {
-    ghost use Rattle.rr_log.specs.Calls.{IsBegunOn, IsFileFull, IsUnchanged, LowersFrom, TakesRootOf, as_begun, ticks_due};
+    ghost use Rattle.rr_log.specs.Calls.{IsBegunOn, IsFileFull, IsUnchanged, LowersFrom, NumbersRoot, TakesRootOf, as_begun, first_left, ticks_due};
     ghost use Rattle.rr_log.specs.Carrying.{Carries};
     ghost use Rattle.rr_log.specs.Log.{disk_of, is_broken, next_number, place_of, root_number, ticks_left, HasNoneBegun, IsDue};
 
     /// Makes one step of a checkpoint: it goes on with the one under way, or begins one where an opening found it begun or
     /// at least 128 slots of the half in use are used. The tables are those of the world that the log carries: a first tick
-    /// takes them, and all memory that the later ones need.
+    /// takes them, and all memory that the later ones need. A checkpoint of p pages has p + 4 ticks, and p + 3 where an
+    /// opening found it begun, since its first tick writes the first page then.
     ///
     /// # Errors
     /// `OpenAgain`; `DeviceFailed`, after which the log is broken; in a first tick also `FileFull` and `OutOfMemory`, before
@@ -43,13 +44,19 @@ impl<D: Disk + Drop, R: Rules> Log<D, R> {
             → RenewsAt (worlds R.takes) tick carries.carried.layout (D.state (disk_of self.new)) world) }
 
         // How far it comes.
-        ensures left { IfOk result (λ tick. LowersFrom tick (ticks_left self.old) (ticks_left self.new)) }
+        ensures left { IfOk result (λ tick.
+            LowersFrom (first_left self.old (T.tables tables.now)) tick (ticks_left self.old) (ticks_left self.new)) }
         ensures most { IfOk result (λ tick. ticks_left self.old ≡ 0
             → ticks_left self.new < ticks_due self.old (T.tables tables.now)) }
         ensures idle { (result ≡ Ok Tick.Idle) ↔ ((is_broken self.old ≡ false) × (ticks_left self.old ≡ 0)
             × (IsDue (place_of self.old) → ⊥)) }
         ensures rests { result ≡ Ok Tick.Idle → self.new ≡ self.old }
         ensures number { next_number self.new ≡ next_number self.old }
+        ensures root { IfOk result (λ tick. D.Honest (disk_of self.new) → (world : World)
+            → Carries R.takes self.old (D.state (disk_of self.old)) world
+            → NumbersRoot tick (root_number self.old) (root_number self.new)) }
+        ensures fits { IfOk result (λ tick. ticks_left self.old ≡ 0 → IsDue (place_of self.old)
+            → IsFileFull self.old (T.tables tables.now) → ⊥) }
 
         // When each refusal comes, and what it leaves.
         ensures again { IsErrOf result Fault.OpenAgain ↔ IsTrue (is_broken self.old) }
@@ -93,7 +100,8 @@ impl<D: Disk + Drop, R: Rules> Log<D, R> {
             → (world : World) → (carries : Carries R.takes self.old (D.state (disk_of self.old)) world)
             → (then : Carries R.takes self.new (D.state (disk_of self.new)) world)
             × IsRenewed carries.carried.layout then.carried.layout }
-        ensures left { IfOk result (λ tick. LowersFrom tick (ticks_left self.old) (ticks_left self.new)) }
+        ensures left { IfOk result (λ tick.
+            LowersFrom (first_left self.old (T.tables tables.now)) tick (ticks_left self.old) (ticks_left self.new)) }
         ensures most { IfOk result (λ tick. ticks_left self.old ≡ 0
             → ticks_left self.new < ticks_due self.old (T.tables tables.now)) }
         ensures nothing { is_broken self.new ≡ false → ticks_left self.old ≡ 0 → ticks_left self.new ≡ 0
@@ -101,6 +109,11 @@ impl<D: Disk + Drop, R: Rules> Log<D, R> {
         ensures idle { (result ≡ Ok Tick.Idle) ↔ ((ticks_left self.old ≡ 0) × (IsDue (place_of self.old) → ⊥)) }
         ensures rests { result ≡ Ok Tick.Idle → self.new ≡ self.old }
         ensures number { next_number self.new ≡ next_number self.old }
+        ensures root { IfOk result (λ tick. D.Honest (disk_of self.new) → (world : World)
+            → Carries R.takes self.old (D.state (disk_of self.old)) world
+            → NumbersRoot tick (root_number self.old) (root_number self.new)) }
+        ensures fits { IfOk result (λ tick. ticks_left self.old ≡ 0 → IsDue (place_of self.old)
+            → IsFileFull self.old (T.tables tables.now) → ⊥) }
         ensures slots { (place_of self.new).half.next_slot ≤ (place_of self.old).half.next_slot }
         ensures few { IfOk result (λ tick. ticks_left self.old ≡ 0 → (place_of self.old).begun ≡ None
             → (place_of self.new).half.next_slot < 128) }
@@ -162,6 +175,9 @@ impl<D: Disk + Drop, R: Rules> Log<D, R> {
             → (then : Carries R.takes self.new (D.state (disk_of self.new)) world)
             × IsRenewed carries.carried.layout then.carried.layout }
         ensures left { IfOk result (λ tick. Lowers tick (ticks_left self.old) (ticks_left self.new)) }
+        ensures root { IfOk result (λ tick. D.Honest (disk_of self.new) → (world : World)
+            → Carries R.takes self.old (D.state (disk_of self.old)) world
+            → NumbersRoot tick (root_number self.old) (root_number self.new)) }
         ensures resting { IfOk result (λ tick. ticks_left self.new ≡ 0 → (place_of self.new).begun ≡ None) }
         ensures number { next_number self.new ≡ next_number self.old }
         ensures half { (place_of self.new).half ≡ (place_of self.old).half }
@@ -184,7 +200,7 @@ impl<D: Disk + Drop, R: Rules> Log<D, R> {
         }
     }
 
-    // The first step of a checkpoint: its plan, and then one device call.
+    // The first step of a checkpoint: its plan, and then what its first tick writes or syncs.
     fn begin<T: TablesInWords>(&mut self, tables: &T) -> Result<(), Fault>
         requires whole { is_broken self.old ≡ false }
         requires resting { ticks_left self.old ≡ 0 }
@@ -199,11 +215,14 @@ impl<D: Disk + Drop, R: Rules> Log<D, R> {
             → (carries : Carries R.takes self.old (D.state (disk_of self.old)) world)
             → (then : Carries R.takes self.new (D.state (disk_of self.new)) world)
             × IsBegunOn carries.carried.layout then.carried.layout) }
-        ensures left { OnOk result (4 ≤ ticks_left self.new) }
+        ensures left { OnOk result (ticks_left self.new ≡ first_left self.old (T.tables tables.now)) }
+        ensures some { OnOk result (3 ≤ ticks_left self.new) }
         ensures most { OnOk result (ticks_left self.new < ticks_due self.old (T.tables tables.now)) }
         ensures number { next_number self.new ≡ next_number self.old }
         ensures slots { (place_of self.new).half.next_slot ≤ (place_of self.old).half.next_slot }
         ensures fresh { OnOk result ((place_of self.old).begun ≡ None → (place_of self.new).half.next_slot ≡ 0) }
+        ensures half { OnOk result (((place_of self.new).half ≡ (place_of self.old).half) ⊎ (4 ≤ ticks_left self.new)) }
+        ensures fits { OnOk result (IsFileFull self.old (T.tables tables.now) → ⊥) }
         ensures root { root_number self.new ≡ root_number self.old }
         ensures broken { is_broken self.new ≡ ends_broken result }
         ensures err { IfErr result (λ fault. IsWant fault ⊎ (fault ≡ Fault.DeviceFailed)) }
@@ -255,10 +274,14 @@ impl<D: Disk + Drop, R: Rules> Log<D, R> {
         ensures whole { OnOk result (HasNoneBegun (place_of self.old) → D.Honest (disk_of self.new) → (world : World)
             → world.tables ≡ T.tables tables.now → Carries R.takes self.old (D.state (disk_of self.old)) world
             → EachImage (D.state (disk_of self.new)) (TakesRootOf (worlds R.takes) (root_number self.old) world)) }
+        ensures root { OnOk result (D.Honest (disk_of self.new) → (world : World) → world.tables ≡ T.tables tables.now
+            → Carries R.takes self.old (D.state (disk_of self.old)) world
+            → root_number self.new ≡ root_number self.old + 1) }
         ensures left { OnOk result (ticks_left self.new ≡ 0) }
         ensures rests { OnOk result ((place_of self.new).begun ≡ None) }
         ensures half { 0 < ticks_left self.old → (place_of self.new).half ≡ (place_of self.old).half }
         ensures number { next_number self.new ≡ next_number self.old }
+        ensures fits { OnOk result (ticks_left self.old ≡ 0 → IsFileFull self.old (T.tables tables.now) → ⊥) }
 
         // When each refusal comes, and what it leaves.
         ensures again { IsErrOf result Fault.OpenAgain ↔ IsTrue (is_broken self.old) }
@@ -310,6 +333,10 @@ impl<D: Disk + Drop, R: Rules> Log<D, R> {
         ensures renews { OnOk result (D.Honest (disk_of self.new) → (world : World)
             → (carries : Carries R.takes self.old (D.state (disk_of self.old)) world)
             → EachImage (D.state (disk_of self.new)) (TakesNewer (worlds R.takes) carries.carried.layout world)) }
+        ensures renewed { OnOk result (D.Honest (disk_of self.new) → (world : World)
+            → (carries : Carries R.takes self.old (D.state (disk_of self.old)) world)
+            → (then : Carries R.takes self.new (D.state (disk_of self.new)) world)
+            × IsRenewed carries.carried.layout then.carried.layout) }
         ensures left { OnOk result (ticks_left self.new ≡ 0) }
         ensures rests { OnOk result ((place_of self.new).begun ≡ None) }
         ensures number { next_number self.new ≡ next_number self.old }

@@ -79,13 +79,17 @@ pub(crate) fn parts(opened: Opened<Worlds<AnyLine>>) -> (Writer<Worlds<AnyLine>>
     (writer, kit_pages(&dir.kit, texts))
 }
 
-// What goes on with the same file, of whose pages none is free.
-pub(crate) fn without_pages(
+// What goes on with the same file, of whose pages only so many are free, the first ones behind the directory.
+pub(crate) fn with_free_pages(
     alloc: Global,
     writer: &Writer<Worlds<AnyLine>>,
+    count: u8,
 ) -> Result<Writer<Worlds<AnyLine>>, AllocError> {
     let mut reached = PageSet::new(alloc)?;
-    for page in 514..65536 {
+    for page in 514..519 {
+        reached.take(page);
+    }
+    for page in 519 + u32::from(count)..65536 {
         reached.take(page);
     }
     let free = FreePages::new(alloc, reached)?;

@@ -1,5 +1,5 @@
 use crate::files::{
-    FAR, FIRST, Found, failing_after, found, new_file, open, parts, without_pages, write,
+    FAR, FIRST, Found, failing_after, found, new_file, open, parts, with_free_pages, write,
 };
 use crate::tables::{AnyLine, OneTable, one_table, transcript_of};
 use rr_checkpoint::Tick;
@@ -192,12 +192,13 @@ fn tick_and_finish(
     Ok((answer, begun, state(log)))
 }
 
-// It is made of the tables from before the record, and those that are lent aren't asked.
+// It is made of the tables from before the record, and those that are lent aren't asked. Of its five ticks the first one writes
+// the table's page.
 #[test]
 fn a_checkpoint_that_was_begun_is_made_anew(rt: HostRuntime) -> Result<(), Fail> {
     let mut log = begun_log(rt.alloc())?;
     let told = tick_and_finish(&mut log, &one_table(true)?)?;
-    assert!(rt; told == (Tick::More, (1, 5, false), (1, 0, false)));
+    assert!(rt; told == (Tick::More, (1, 4, false), (1, 0, false)));
     assert!(rt; reopened(rt.alloc(), log)? == ((2, 2, 1, 0, None), true));
     Ok(())
 }
@@ -242,20 +243,33 @@ fn the_want_of_a_tick_is_put_off(rt: HostRuntime) -> Result<(), Fail> {
     Ok(())
 }
 
-// A log on a new file of whose pages none is free.
-fn full_log(alloc: Global) -> Result<Log<MemoryDisk, AnyLine>, Fail> {
+// A log on a new file of whose pages only so many are free.
+fn full_log(alloc: Global, count: u8) -> Result<Log<MemoryDisk, AnyLine>, Fail> {
     let mut disk = new_file(alloc)?;
     let (writer, kit) = parts(open(alloc, &mut disk)?);
-    let full = without_pages(alloc, &writer)?;
+    let full = with_free_pages(alloc, &writer, count)?;
     Ok(Log::new(alloc, disk, full, kit, None))
 }
 
 #[test]
 fn a_file_without_free_pages_is_told_to_be_full(rt: HostRuntime) -> Result<(), Fail> {
     let full = Some(Fault::FileFull);
-    let mut log = full_log(rt.alloc())?;
+    let mut log = full_log(rt.alloc(), 0)?;
     let told = behind_a_full_half(&mut log, &one_table(false)?)?;
     assert!(rt; told == (full, full, (255, 0, false)));
+    Ok(())
+}
+
+// Why a whole checkpoint isn't made where so many pages are free. The table and the directory take a page each.
+#[test]
+fn a_checkpoint_takes_just_its_pages(rt: HostRuntime) -> Result<(), Fail> {
+    for (count, fault) in [(1, Some(Fault::FileFull)), (2, None)] {
+        let mut log = full_log(rt.alloc(), count)?;
+        assert!(rt;
+            checkpoint(&mut log, &one_table(false)?).err() == fault,
+            "{count}"
+        );
+    }
     Ok(())
 }
 

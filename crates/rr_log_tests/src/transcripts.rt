@@ -1,10 +1,11 @@
-use crate::files::{new_file, open, parts};
+use crate::files::{new_file, open, parts, with_free_pages};
 use crate::tables::{AnyLine, one_table, transcript_of};
-use rr_checkpoint::plan::{KitPages, Transcript, plan_checkpoint};
+use rr_checkpoint::plan::{KitPages, TableTranscript, Transcript, plan_checkpoint};
 use rr_checkpoint::{Plan, Writer};
 use rr_pages::journal::HalfIndex;
 use rr_pages::{Fault, FreshPage};
 use rr_reading::worlds::Worlds;
+use rr_words::Name;
 use std::alloc::Global;
 use std::test::Fail;
 
@@ -75,5 +76,51 @@ fn a_plan_lays_the_table_and_then_the_directory(rt: HostRuntime) -> Result<(), F
     let plan = first_plan(rt.alloc())?;
     assert!(rt; root_of(&plan) == (2, 520, HalfIndex::Second, 1, 521, 1));
     assert!(rt; has_two_pages(&plan));
+    Ok(())
+}
+
+// One table that keeps this command.
+fn keeping(alloc: Global, name: &Name, words: &[u8]) -> Result<Transcript, Fault> {
+    if words.len() >= 65536 {
+        return Err(Fault::OutOfMemory);
+    }
+    let mut table = TableTranscript::new(alloc, name, 2, 0);
+    table.add(words)?;
+    let mut transcript = Transcript::new(alloc);
+    transcript.push(table)?;
+    Ok(transcript)
+}
+
+// One table that keeps one command of so many bytes, of which its chain has two more.
+fn of_length(alloc: Global, count: u16) -> Result<Transcript, Fail> {
+    let name = Name::table(b"g1").ok_or("no name")?;
+    let words = vec![in alloc; b'a'; usize::from(count)]?;
+    Ok(keeping(alloc, &name, &words)?)
+}
+
+// How many pages such a checkpoint takes where so many are free, or why it is none.
+fn taken(alloc: Global, count: u16, free: u8) -> Result<Result<usize, Fault>, Fail> {
+    let mut disk = new_file(alloc)?;
+    let transcript = of_length(alloc, count)?;
+    let (writer, kit) = parts(open(alloc, &mut disk)?);
+    let mut writer = with_free_pages(alloc, &writer, free)?;
+    Ok(plan(alloc, &mut writer, &kit, &transcript).map(|plan| plan.fresh.len()))
+}
+
+// A page has 4,086 bytes of a chain. The directory takes one page more.
+#[test]
+fn a_full_page_takes_no_other(rt: HostRuntime) -> Result<(), Fail> {
+    let full = Err(Fault::FileFull);
+    let rows = [
+        (4084, 2, Ok(2)),
+        (4084, 1, full),
+        (4085, 3, Ok(3)),
+        (4085, 2, full),
+        (8170, 3, Ok(3)),
+        (8171, 3, full),
+    ];
+    for (count, free, pages) in rows {
+        assert!(rt; taken(rt.alloc(), count, free)? == pages, "{count} {free}");
+    }
     Ok(())
 }

@@ -34,6 +34,7 @@ use Rattle.rr_turns.proofs.JudgementLemmas.{is-settled, lawful-map, settled-is}
 use Rattle.rr_moderator.proofs.ServingLemmas.{one_line}
 use Rattle.rr_moderator.proofs.Verdicts.{refused_by_rules, world_one}
 use Rattle.rr_moderator.specs.Alone.{Alone, Exchange, Found, IsCalm, IsDisturbed, Names, Picks, Runs, found_best, found_for, found_in, line_table, query_table, sent}
+use Rattle.rr_words.specs.declared.line.TheConstants.{LONGEST_LINE}
 
 -- a table in the world after another entry
 
@@ -153,8 +154,8 @@ one_outcome one kit name t (L.Best stamp table corp) found x y a b = one_best on
 
 abbrev ReplyAlone : Kit → List ℕ → Option TableState → List ℕ → Line → Found → List ℕ → Option TableState → Type 0
 ReplyAlone kit name t line l found reply after =
-    ((8000 < length line) × (reply ≡ refusal_of F.LineTooLong) × (after ≡ t))
-    ⊎ ((length line ≤ 8000) × LineAlone kit name t l found (reply, after))
+    ((LONGEST_LINE < length line) × (reply ≡ refusal_of F.LineTooLong) × (after ≡ t))
+    ⊎ ((length line ≤ LONGEST_LINE) × LineAlone kit name t l found (reply, after))
 
 one_reply : RequestsHaveOneVerdict → (kit : Kit) (name : List ℕ) (t : Option TableState) (line : List ℕ) (l : Line) (found : Found) (reply other : List ℕ) (after behind : Option TableState)
     → ReplyAlone kit name t line l found reply after → ReplyAlone kit name t line l found other behind → (reply ≡ other) × (after ≡ behind)

@@ -41,6 +41,7 @@ use Rattle.rr_moderator.specs.BestLaws.{BestRunsEarnAlike}
 use Rattle.rr_moderator.specs.Answer.{earned_words}
 use Rattle.rr_moderator.specs.Best.{IsBestRun, LacksRun, HasNone, LacksMemory, best_run, book_of, room_behind, run_verdict}
 use Rattle.rr_moderator.specs.Fault.{of_search}
+use Rattle.rr_words.specs.declared.line.TheConstants.{LONGEST_LINE}
 
 -- the words of a sheet, behind a space where there are any
 
@@ -98,7 +99,7 @@ line_length stamp name c sheet certificate = joined (decimal stamp) name (text (
 
 -- so a sheet is no longer than a line
 pub sheet_short : {kit : Kit} {t : Option TableState} {stamp : ℕ} {name : List ℕ} {c : Corp} {sheet certificate : List ℕ} → IsBestRun kit t stamp name c sheet certificate
-    → length sheet ≤ 8000
+    → length sheet ≤ LONGEST_LINE
 sheet_short {stamp} {name} {c} {sheet} {certificate} is =
     let within = sheet_within c sheet certificate in
     let line = line_length stamp name c sheet certificate in
@@ -109,7 +110,7 @@ sheet_short {stamp} {name} {c} {sheet} {certificate} is =
 
 pub found_run : (own kit : Kit) (t : Option TableState) (table : TableState) (stamp : ℕ) (name : List ℕ) (c : Corp) (run : WordedRun) (most : ℕ) → own ≡ kit → t ≡ Some table
     → run_verdict kit t stamp c ≡ None → SpellsOrder run.words (O.RunBest c run.sheet run.certificate) → length run.words ≤ most
-    → most + (length (decimal stamp) + length name + 2) ≡ 8000 → IsBestRunVerdict own (book_of kit table) c run.sheet run.certificate None
+    → most + (length (decimal stamp) + length name + 2) ≡ LONGEST_LINE → IsBestRunVerdict own (book_of kit table) c run.sheet run.certificate None
     → IsBestRun kit t stamp name c run.sheet run.certificate
 found_run own kit t table stamp name c run most lent there free spelled few whole best =
     let same = ap (λ (l : List ℕ). length l) spelled.spelled in

@@ -40,6 +40,7 @@ use Rattle.rr_moderator.specs.Fault.{of_store, refusal_of}
 use Rattle.rr_moderator.specs.Serving.{AsksFor, AsBest, Gives, reply_to, text_of}
 use Rattle.rr_moderator.proofs.Telling.{SaysNeither, accepted_calm, accepted_reaches, accepted_told, counts_told, failure_calm, failure_reaches, failure_told, full_calm, full_reaches, lacks_calm, memory_calm, memory_reaches, refusal_calm, verdict_calm}
 use Rattle.rr_moderator.proofs.Verdicts.{refused_by_rules}
+use Rattle.rr_words.specs.declared.line.TheConstants.{LONGEST_LINE}
 
 -- a reply can't say a thing and not say it
 pub both_ways : {A : Type 0} (b : Bool) → b ≡ true → b ≡ false → A
@@ -144,7 +145,7 @@ module _ {D : Type 0} (Honest Works : D → Type 0) (state : D → DiskState) (p
       lasts_unchanged (record { same_file = ap (λ (x : Store D). file_of x) same; same_held = ap (λ (x : Store D). held_of x) same })
       (λ h whole texts s. subst (λ (x : Store D). Carries state x texts) (sym same) s) calm (Makes_none same calm.2)
 
-  module _ (stamp : ℕ) (name : List ℕ) (c : Request Command) (sheet : List ℕ) (short : length line ≤ 8000) (asks : AsksFor (held_of old) line stamp (for_table name c) sheet) (whole : (held_of old).broken ≡ false) where
+  module _ (stamp : ℕ) (name : List ℕ) (c : Request Command) (sheet : List ℕ) (short : length line ≤ LONGEST_LINE) (asks : AsksFor (held_of old) line stamp (for_table name c) sheet) (whole : (held_of old).broken ≡ false) where
     abbrev asked : TableRequest
     asked = for_table name c
 
@@ -329,7 +330,7 @@ module _ {D : Type 0} (Honest Works : D → Type 0) (state : D → DiskState) (p
     pub request_lasts : (taking : Result ℕ store.Fault) → reply ≡ reply_to (text_of (held_of old) name c sheet taking) → Committed taking → Lasting
     request_lasts taking told k = lasts_by taking told k.takes k
 
-  module _ (stamp : ℕ) (name : List ℕ) (corp : Corp) (short : length line ≤ 8000) (spells : SpellsLine line (L.Best stamp name corp)) (whole : (held_of old).broken ≡ false) where
+  module _ (stamp : ℕ) (name : List ℕ) (corp : Corp) (short : length line ≤ LONGEST_LINE) (spells : SpellsLine line (L.Best stamp name corp)) (whole : (held_of old).broken ≡ false) where
     abbrev CommittedBest : Result (List ℕ) Fault → Type 0
     CommittedBest outcome = CommitsBest Honest Works state past faults writes syncs old name stamp corp new outcome
 

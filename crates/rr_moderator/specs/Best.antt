@@ -19,6 +19,7 @@ use Rattle.rr_turns.specs.declared.request.Request.TheVariants.{Play}
 use Rattle.rr_moderator.specs.declared.fault.Fault.{Fault}
 use Rattle.rr_moderator.specs.declared.fault.Fault.TheVariants as F
 use Rattle.rr_moderator.specs.Fault.{of_rules}
+use Rattle.rr_words.specs.declared.line.TheConstants.{LONGEST_LINE}
 
 -- the request that runs a corporation's trains by a sheet, with a certificate that no run earns more
 abbrev pub best_run : Corp → List ℕ → List ℕ → Request Command
@@ -34,7 +35,7 @@ book_of kit t = (play kit t.commands).book
 
 -- how many bytes of a line are left to a run's words, behind the stamp and the table's name
 abbrev pub room_behind : ℕ → List ℕ → ℕ
-room_behind stamp name = 8000 - (length (decimal stamp) + length name + 2)
+room_behind stamp name = LONGEST_LINE - (length (decimal stamp) + length name + 2)
 
 -- The corporation may run now, these words are a sheet and a certificate with which its run is accepted, so that no run earns
 -- more, and they fit into a line.
@@ -44,7 +45,7 @@ pub record IsBestRun (kit : Kit) (t : Option TableState) (stamp : ℕ) (name : L
   pub may_run : run_verdict kit t stamp c ≡ None
   pub of_form : IsRequest (best_run c sheet certificate)
   pub is_best : IsBestRunVerdict kit (book_of kit table) c sheet certificate None
-  pub fits : length (line_text (L.Request stamp name (best_run c sheet certificate))) ≤ 8000
+  pub fits : length (line_text (L.Request stamp name (best_run c sheet certificate))) ≤ LONGEST_LINE
 
 -- why no best run is found
 pub data LacksRun (kit : Kit) (t : Option TableState) (stamp : ℕ) (name : List ℕ) (c : Corp) : Fault → Type 0 where

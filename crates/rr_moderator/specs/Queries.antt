@@ -9,7 +9,7 @@ use Rattle.rr_market.specs.Order.{operating_order}
 use Rattle.rr_kit.specs.declared.kit.Kit.{Kit}
 use Rattle.rr_books.specs.declared.parties.Party.{Party}
 use Rattle.rr_books.specs.declared.parties.Place.{Place}
-use Rattle.rr_books.specs.Book.{Book, balance, holder, players, train_holder}
+use Rattle.rr_books.specs.Book.{Book, holder, iou, money, players, train_holder}
 use Rattle.rr_books.specs.Opening.{certificate_limit}
 use Rattle.rr_books.specs.declared.parties.Seat.{Seat}
 use Rattle.rr_market.specs.declared.operations.turn.TurnStep.{TurnStep}
@@ -31,7 +31,7 @@ use Rattle.rr_moderator.specs.Fault.{refusal_of}
 use Rattle.rr_books.specs.declared.refusal.Refusal.TheVariants as G
 use Rattle.rr_game.specs.Names.{owner_place, party_of, player_word, seat_of, trains_place}
 use Rattle.rr_game.specs.Play.{play, players_of}
-use Rattle.rr_game.specs.Queries.{due, holding, iou, quote, worth}
+use Rattle.rr_game.specs.Queries.{due, holding, quote, worth}
 use Rattle.rr_turns.specs.Turns.{ended_turns}
 use Rattle.rr_game.specs.History.Playing.{ends_turn}
 use Rattle.rr_store.specs.World.{TableState, World, names, table_named}
@@ -59,11 +59,11 @@ abbrev pub stamp_answer : TableState → Answer
 stamp_answer t = Ok (decimal t.stamp ∷ [])
 
 -- the money of a party
-abbrev pub cash_words : Book → Party → List (List ℕ)
-cash_words book party = signed_decimal (balance book party) ∷ []
+abbrev pub cash_words : Kit → Book → Party → List (List ℕ)
+cash_words kit book party = signed_decimal (money kit.roster book party) ∷ []
 
 abbrev pub cash_answer : Kit → Account → TableState → Answer
-cash_answer kit of t = answer_of_named (option_map (cash_words (book_of kit t)) (party_of (players_of t.commands) of))
+cash_answer kit of t = answer_of_named (option_map (cash_words kit (book_of kit t)) (party_of (players_of t.commands) of))
 
 -- how many certificates a player may hold
 abbrev pub limit_answer : Kit → TableState → Answer
@@ -91,7 +91,7 @@ due_words players (D.Operating corp step) = corp_name corp ∷ step_word step �
 due_words players D.Over = codes "over" ∷ []
 
 abbrev pub due_answer : Kit → TableState → Answer
-due_answer kit t = Ok (due_words (players_of t.commands) (due kit.chart (book_of kit t)))
+due_answer kit t = Ok (due_words (players_of t.commands) (due kit (book_of kit t)))
 
 -- the turns that have ended, and the least one to which the table can be taken back
 abbrev pub turns_answer : Kit → TableState → Answer
@@ -135,7 +135,7 @@ trains_answer kit of t = Ok (trains_words (train_holder (book_of kit t)) (trains
 
 -- what the bank owes
 abbrev pub iou_answer : Kit → TableState → Answer
-iou_answer kit t = Ok (decimal (iou (book_of kit t)) ∷ [])
+iou_answer kit t = Ok (decimal (iou kit.roster (book_of kit t)) ∷ [])
 
 -- what a player's cash, shares and privates are worth
 abbrev pub worth_words : Kit → Book → Seat → List (List ℕ)

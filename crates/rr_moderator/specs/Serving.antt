@@ -17,6 +17,7 @@ use Rattle.rr_moderator.specs.Answer.{accepted_text}
 use Rattle.rr_moderator.specs.Best.{IsBestRun, LacksRun, best_run}
 use Rattle.rr_roster.specs.declared.company.Corp.{Corp}
 use Rattle.rr_moderator.specs.Queries.{query_text}
+use Rattle.rr_words.specs.declared.line.TheConstants.{LONGEST_LINE}
 
 -- the text of the reply to a request, by what was held before it: that the table took it, with the words of a sheet behind, or
 -- why it is refused
@@ -49,13 +50,13 @@ Meets old (L.Best stamp name corp) new outcome = MeetsBest old stamp name corp n
 
 -- what comes of a line
 pub data Responds (old : Held) (line : List ℕ) (new : Held) : Result (List ℕ) Fault → Type 0 where
-  TooLong : 8000 < length line → new ≡ old → Responds old line new (Err F.LineTooLong)
-  Malformed : length line ≤ 8000 → ((l : Line) → ¬ SpellsLine line l)
+  TooLong : LONGEST_LINE < length line → new ≡ old → Responds old line new (Err F.LineTooLong)
+  Malformed : length line ≤ LONGEST_LINE → ((l : Line) → ¬ SpellsLine line l)
       → new ≡ old → Responds old line new (Err F.MalformedLine)
   -- once the device has failed, each line of a right form is refused
-  Broken : (l : Line) → length line ≤ 8000 → SpellsLine line l → old.broken ≡ true
+  Broken : (l : Line) → length line ≤ LONGEST_LINE → SpellsLine line l → old.broken ≡ true
       → new ≡ old → Responds old line new (Err F.OpenAgain)
-  Read : (l : Line) (outcome : Result (List ℕ) Fault) → length line ≤ 8000 → SpellsLine line l → old.broken ≡ false
+  Read : (l : Line) (outcome : Result (List ℕ) Fault) → length line ≤ LONGEST_LINE → SpellsLine line l → old.broken ≡ false
       → Meets old l new outcome → Responds old line new outcome
 
 -- how a line asks for a request, and which sheet is told of it
@@ -71,7 +72,7 @@ pub data AsksFor (held : Held) (line : List ℕ) (stamp : ℕ) (r : TableRequest
 pub record Gives (held : Held) (line : List ℕ) (r : TableRequest) : Type 0 where
   pub stamp : ℕ
   pub sheet : List ℕ
-  pub short : length line ≤ 8000
+  pub short : length line ≤ LONGEST_LINE
   pub asks : AsksFor held line stamp r sheet
   pub whole : held.broken ≡ false
   pub lawful : IsVerdict (judgement_in held.kit held.tables stamp r.name r.request) None

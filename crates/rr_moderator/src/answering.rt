@@ -1,4 +1,5 @@
 // The answers to queries, and the reply to an accepted request.
+ghost use Rattle.rr_moderator.specs.declared.reply.TheConstants.{REPLY_ROOM};
 ghost use Rattle.std.specs.Prelude.{◌≡◌, ◌≢◌, false, ◌+◌, ◌*◌, ◌≤◌, ◌++◌, List, ℕ, [], ◌∷◌, MatchResult, codes, decimal, filter, length, map, replicate, slice_get, take};
 ghost use Rattle.std.specs.Option.{option_copied};
 ghost use Rattle.rr_books.specs.Shares.{is_at};
@@ -42,7 +43,7 @@ impl Reply {
 
     /// The words of a sheet, behind a space; nothing for a sheet without words.
     pub(crate) fn sheet(&mut self, words: &[u8])
-        requires { length self.old + length words.now + 1 ≤ 8192 }
+        requires { length self.old + length words.now + 1 ≤ REPLY_ROOM }
         ensures text { self.new ≡ self.old ++ added words.now }
         ensures bounded { length self.new ≤ length self.old + length words.now + 1 }
     {
@@ -130,7 +131,7 @@ fn write_answer<D: Disk + Drop>(
             write_table_due(store.table(table)?, store.kit(), reply);
             Ok(())
         }
-        Query::Cash { table, of } => write_cash(store.table(table)?, of, reply),
+        Query::Cash { table, of } => write_cash(store.table(table)?, of, store.kit(), reply),
         Query::Limit { table } => {
             write_limit(store.table(table)?, reply);
             Ok(())
@@ -162,7 +163,7 @@ fn write_answer<D: Disk + Drop>(
             Ok(())
         }
         Query::Iou { table } => {
-            write_iou(store.table(table)?, reply);
+            write_iou(store.table(table)?, store.kit(), reply);
             Ok(())
         }
         Query::Worth { table, player } => {
@@ -256,13 +257,13 @@ fn write_table_due(table: &Table, kit: &Kit, reply: &mut Reply)
 }
 
 /// Writes what an account has.
-fn write_cash(table: &Table, of: &Account, reply: &mut Reply) -> Result<(), Fault>
+fn write_cash(table: &Table, of: &Account, kit: &Kit, reply: &mut Reply) -> Result<(), Fault>
     requires { reply.old ≡ [] }
-    ensures answer { (kit : Kit) → IsPlayed kit table.now →
-        Writes (cash_answer kit of.now (kept_in table.now)) result reply.new }
+    ensures answer { IsPlayed kit.now table.now →
+        Writes (cash_answer kit.now of.now (kept_in table.now)) result reply.new }
     ensures bounded { length reply.new ≤ 40 }
 {
-    let money = table.game().cash(of)?;
+    let money = table.game().cash(of, kit)?;
     reply.text(b"= ");
     reply.signed(money.0);
     Ok(())
@@ -474,14 +475,14 @@ fn write_kinds(kind: Kind, count: u8, reply: &mut Reply)
 }
 
 /// Writes what the bank owes.
-fn write_iou(table: &Table, reply: &mut Reply)
+fn write_iou(table: &Table, kit: &Kit, reply: &mut Reply)
     requires { reply.old ≡ [] }
-    ensures text { (kit : Kit) → IsPlayed kit table.now →
-        reply_of (iou_answer kit (kept_in table.now)) ≡ reply.new ++ codes "\n" }
+    ensures text { IsPlayed kit.now table.now →
+        reply_of (iou_answer kit.now (kept_in table.now)) ≡ reply.new ++ codes "\n" }
     ensures bounded { length reply.new ≤ 40 }
 {
     reply.text(b"= ");
-    reply.number(table.game().iou());
+    reply.number(table.game().iou(kit));
 }
 
 /// Writes what a player's cash, shares and privates are worth.

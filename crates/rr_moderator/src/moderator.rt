@@ -1,3 +1,4 @@
+ghost use Rattle.rr_words.specs.declared.line.TheConstants.{LONGEST_LINE};
 ghost use Rattle.std.specs.Prelude.{◌≡◌, ◌+◌, ◌++◌, ◌≤◌, ℕ, List, Result, Ok, Err, Some, true, false, MatchResult, OnOk, OnErr, IfOk, IfErr, codes, length};
 ghost use Rattle.std.specs.Borrow.{sem};
 ghost use Rattle.std.specs.Io.BufRead.{Rests};
@@ -45,9 +46,9 @@ use rr_code::{Command, Line, Request};
 use rr_disk::Disk;
 use rr_orders::Order;
 use rr_roster::Corp;
-use rr_serve::{Input, LONGEST_LINE, LineBuffer, Machine, Output};
+use rr_serve::{Input, LineBuffer, Machine, Output};
 use rr_store::{Refused, Store};
-use rr_words::Name;
+use rr_words::{LONGEST_LINE, Name};
 use std::alloc::Global;
 
 /// What answers lines: the store of the tables, the reply to the line taken last, and where memory for searches is taken.
@@ -328,7 +329,7 @@ impl<D: Disk + Drop> State<D> {
     ) -> Result<(), Fault>
         requires name { IsTableName table.now }
         requires request { IsRequest request.now }
-        requires short { length sheet.now ≤ 8000 }
+        requires short { length sheet.now ≤ LONGEST_LINE }
         ensures { (taking : Result ℕ stored.Fault)
             × Commits D.Honest D.Works D.state D.past D.fault_count D.write_count D.sync_count self.old.store table.now stamp request.now self.new.store taking
             × (outcome_of result self.new.reply ≡ text_of (held_in.held_of self.old.store) table.now request.now sheet.now taking) }

@@ -1,13 +1,17 @@
+ghost use Rattle.rr_moderator.specs.declared.reply.TheConstants.{REPLY_ROOM};
 ghost use Rattle.std.specs.Prelude.{◌≡◌, ◌+◌, ◌≤◌, [], ◌++◌, codes, length, decimal, IfOk};
 ghost use Rattle.std.specs.Fmt.{signed_decimal};
 
 use arrayvec::ArrayVec;
 use itoa::Buffer;
+use rr_words::LONGEST_LINE;
 use std::alloc::{AllocError, Global};
 use std::marker::Model;
 
-/// The bytes of one reply. Its room is taken when it is made, so that writing a reply asks for no memory: the longest tells
-/// the sheet of a run that a line has room for.
+/// The most bytes of a reply: the longest tells the sheet of a run that a line has room for.
+pub const REPLY_ROOM: usize = LONGEST_LINE + 192;
+
+/// The bytes of one reply. Its room is taken when it is made, so that writing a reply asks for no memory.
 #[derive(Drop)]
 pub struct Reply {
     bytes: Vec<u8>,
@@ -15,21 +19,22 @@ pub struct Reply {
 
 impl Model for Reply {
     ghost use Rattle.std.specs.Prelude.{List, ℕ, vec_capacity, ◌≤◌};
+    ghost use Rattle.rr_moderator.specs.declared.reply.TheConstants.{REPLY_ROOM};
 
     ghost Value = { List ℕ };
 
     ghost view = { λ reply. reply.bytes.items };
 
-    ghost invariant = { λ reply. 8192 ≤ vec_capacity reply.bytes };
+    ghost invariant = { λ reply. REPLY_ROOM ≤ vec_capacity reply.bytes };
 }
 
 impl Reply {
-    /// An empty reply with room for 8,192 bytes.
+    /// An empty reply with room for `REPLY_ROOM` bytes.
     pub fn new(alloc: Global) -> Result<Reply, AllocError>
         ensures { IfOk result (λ reply. reply ≡ []) }
     {
         Ok(Reply {
-            bytes: Vec::with_capacity(alloc, 8192)?,
+            bytes: Vec::with_capacity(alloc, REPLY_ROOM)?,
         })
     }
 
@@ -49,7 +54,7 @@ impl Reply {
 
     /// Writes bytes behind the others.
     pub(crate) fn text(&mut self, text: &[u8])
-        requires { length self.old + length text.now ≤ 8192 }
+        requires { length self.old + length text.now ≤ REPLY_ROOM }
         ensures text { self.new ≡ self.old ++ text.now }
         ensures len { length self.new ≡ length self.old + length text.now }
     {
@@ -58,7 +63,7 @@ impl Reply {
 
     /// A word behind a space.
     pub(crate) fn word(&mut self, word: &[u8])
-        requires { length self.old + length word.now + 1 ≤ 8192 }
+        requires { length self.old + length word.now + 1 ≤ REPLY_ROOM }
         ensures text { self.new ≡ self.old ++ (codes " " ++ word.now) }
         ensures len { length self.new ≡ length self.old + length word.now + 1 }
     {
@@ -68,7 +73,7 @@ impl Reply {
 
     /// Writes a number, in decimal digits.
     pub(crate) fn number(&mut self, number: u64)
-        requires { length self.old + 20 ≤ 8192 }
+        requires { length self.old + 20 ≤ REPLY_ROOM }
         ensures digits { self.new ≡ self.old ++ decimal number }
         ensures bounded { length self.new ≤ length self.old + 20 }
     {
@@ -78,7 +83,7 @@ impl Reply {
 
     /// Writes a number in decimal digits, behind a minus sign if it is less than 0.
     pub(crate) fn signed(&mut self, number: i64)
-        requires { length self.old + 20 ≤ 8192 }
+        requires { length self.old + 20 ≤ REPLY_ROOM }
         ensures digits { self.new ≡ self.old ++ signed_decimal number }
         ensures bounded { length self.new ≤ length self.old + 20 }
     {

@@ -1,4 +1,5 @@
 //! The search for the best run of a corporation at a table.
+ghost use Rattle.rr_words.specs.declared.line.TheConstants.{LONGEST_LINE};
 ghost use Rattle.std.specs.Prelude.{◌≡◌, ◌+◌, false, None, Some, MatchResult, decimal, length};
 ghost use Rattle.rr_game.specs.History.Tables.{IsPlayed, kept_in};
 ghost use Rattle.rr_orders.specs.Order.{SpellsOrder};
@@ -12,10 +13,9 @@ use itoa::Buffer;
 use rr_disk::Disk;
 use rr_roster::Corp;
 use rr_search::best_run::{BestRun, best_run};
-use rr_serve::LONGEST_LINE;
 use rr_store::{Store, Table};
 use rr_tables::records;
-use rr_words::Name;
+use rr_words::{LONGEST_LINE, Name};
 use std::alloc::Global;
 
 /// Finds a best run of the corporation, by a request with this stamp, whose line is no longer than a line may be.
@@ -70,7 +70,7 @@ fn runs_at<'a, D: Disk + Drop>(
 /// How many bytes a line leaves to a run's words, behind the stamp and the table's name.
 fn room_behind(stamp: u64, name: &Name) -> usize
     ensures value { result ≡ room_behind stamp name.now }
-    ensures whole { result + (length (decimal stamp) + length name.now + 2) ≡ 8000 }
+    ensures whole { result + (length (decimal stamp) + length name.now + 2) ≡ LONGEST_LINE }
 {
     let mut buffer = Buffer::new();
     let digits = buffer.format(stamp).len();

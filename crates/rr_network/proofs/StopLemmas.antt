@@ -7,6 +7,7 @@ use Rattle.std.proofs.lemmas.List.{reverse-append}
 use Rattle.std.proofs.lemmas.List.Elements.{All-append, All-cons, All-contains, All-contains_itself, All-head, All-nil, All-tail, length_all_zip}
 use Rattle.std.proofs.lemmas.List.Sums.{sum_by-cons}
 use Rattle.std.proofs.lemmas.Slice.Eq.{bytes_eq-Decides}
+use Rattle.rr_kit.specs.declared.board.hex.TheConstants.{MOST_CENTRES}
 use Rattle.rr_kit.specs.declared.board.hex.Hex.{Hex}
 use Rattle.rr_kit.specs.Board.Plan.{Plan}
 use Rattle.rr_kit.specs.Board.Sound.{IsHex, IsWholeBoard, centres_on}
@@ -72,7 +73,7 @@ length-stops tiles all (hex ∷ hexes) same =
     let rest = length-stops tiles all hexes (All-tail (λ h. centre_count (face_on tiles all h) ≡ centre_count h.tile) hex hexes same) in
     omega (arith, length-append (hex_stops tiles all hex) (flat_map (hex_stops tiles all) hexes), length-stops_in hex.name 0 (face_on tiles all hex).parts, here, rest, sum_by-cons (λ (h : Hex). length (centres_of h.tile.parts)) hex hexes)
 
-pub few_stops : (plan : Plan) (tiles : List Supply) (placed : Placed) → IsWholeBoard plan → HexesKeepTheirCentres plan tiles placed.lays → length (net_of plan tiles placed).stops ≤ 65536
+pub few_stops : (plan : Plan) (tiles : List Supply) (placed : Placed) → IsWholeBoard plan → HexesKeepTheirCentres plan tiles placed.lays → length (net_of plan tiles placed).stops ≤ MOST_CENTRES
 few_stops plan tiles placed board same = omega (arith, length-stops tiles placed.lays plan.hexes same, board.few_centres)
 
 -- laying tiles

@@ -1,5 +1,6 @@
 //! The network that lies on a board: its links, its centres and the tokens there.
 ghost use Rattle.std.specs.Prelude.{◌≡◌, ◌≤◌, All, length, IfOk};
+ghost use Rattle.rr_kit.specs.declared.board.hex.TheConstants.{MOST_CENTRES};
 ghost use Rattle.std.specs.Option.{option_copied};
 ghost use Rattle.rr_desk.specs.Layout.Layout.{last_lay};
 ghost use Rattle.rr_network.specs.Network.{net_of};
@@ -62,7 +63,7 @@ impl Network {
     ) -> Result<Network, AllocError>
         ensures value { IfOk result (λ net. net ≡ net_of board.now tiles.now layout.now) }
         ensures book { IfOk result (λ net. (book : Book) → IsLayoutOf book layout.now → net ≡ network board.now tiles.now book) }
-        ensures few { IfOk result (λ net. HexesKeepTheirCentres board.now tiles.now layout.now.lays → length net.stops ≤ 65536) }
+        ensures few { IfOk result (λ net. HexesKeepTheirCentres board.now tiles.now layout.now.lays → length net.stops ≤ MOST_CENTRES) }
     {
         let survey = survey_of(alloc, board, tiles, layout)?;
         board.keeps_rules();

@@ -13,10 +13,10 @@ ghost use Rattle.rr_running.specs.Running.{net_now};
 ghost use Rattle.rr_operate.specs.Rows.{IsVerdictOfRow, MayJudgeRow, OwesTrain, could_buy_first, is_kind_on_sale};
 
 use rr_books::{Books, Corp, Kind, Place, Refusal, TrainSource};
-use rr_checker::CentreLimit;
 use rr_desk::Position;
 use rr_kit::Kit;
 use rr_referee::trips::has_route;
+use rr_routes::CentreLimit;
 use rr_running::net_now;
 use rr_trains::{is_on_sale, trains_held};
 use std::alloc::{AllocError, Global};

@@ -3,7 +3,7 @@ use crate::fixtures::{at_home, small_kit, with_train};
 use rr_books::{Corp, Kind};
 use rr_desk::Position;
 use rr_orders::Order;
-use rr_search::best_run::laws::trains_may_stay;
+use rr_search::best_run::laws::{few_links_fit, trains_may_stay};
 use rr_search::best_run::{BestRun, best_run};
 use std::alloc::Global;
 use std::process::Abort;
@@ -58,6 +58,7 @@ fn a_corporation_without_trains_earns_nothing(rt: HostRuntime) {
     let alloc = rt.alloc();
     assert!(rt; finds(&rt, alloc, &at_home(&rt, alloc), 8000, 0, b""));
     trains_may_stay();
+    few_links_fit();
 }
 
 #[test]

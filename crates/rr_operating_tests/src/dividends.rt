@@ -1,5 +1,5 @@
 //! Dividends of PRR, of which the first seat holds 60%, the pool 20% and the offering 20%.
-use crate::fixtures::{A, B, chart, fund, give, mark, position};
+use crate::fixtures::{A, B, ROSTER, chart, fund, give, mark, position, roster};
 use rr_books::{Act, Cell, Cert, Corp, Entry, Marker, Money, Party, Place, ShareNumber};
 use rr_chart::Chart;
 use rr_desk::{Desk, Position};
@@ -8,6 +8,7 @@ use rr_operate::dividends::laws::{
     withholding_pays_the_corporation, worked_dividends, worked_moves,
 };
 use rr_operate::dividends::{judge_pay, pay_out, withhold};
+use rr_roster::Roster;
 use std::alloc::Global;
 use std::process::Abort;
 
@@ -36,18 +37,18 @@ fn table(rt: &impl Abort, alloc: Global, spent: u16, row: u8, column: u8) -> Pos
     table
 }
 
-fn cash(position: &Position, party: Party) -> i64 {
-    position.books().balance(party).0
+fn cash(position: &Position, party: Party, roster: &Roster) -> i64 {
+    position.books().money(party, roster).0
 }
 
 /// What the bank, the two seats and PRR have, where its token is, and how many entries there are.
-fn taken(desk: Desk) -> ([i64; 4], Option<Cell>, usize) {
+fn taken(desk: Desk, roster: &Roster) -> ([i64; 4], Option<Cell>, usize) {
     let (position, entries) = desk.into_parts();
     let money = [
-        cash(&position, Party::Bank),
-        cash(&position, Party::Seat(A)),
-        cash(&position, Party::Seat(B)),
-        cash(&position, Party::Corp(Corp::Prr)),
+        cash(&position, Party::Bank, roster),
+        cash(&position, Party::Seat(A), roster),
+        cash(&position, Party::Seat(B), roster),
+        cash(&position, Party::Corp(Corp::Prr), roster),
     ];
     let cell = position.market().cell(Corp::Prr);
     (money, cell, entries.as_slice().len())
@@ -72,7 +73,7 @@ fn a_dividend_is_paid(rt: HostRuntime) {
     let chart = chart(&rt, alloc, CHART);
     let mut desk = Desk::new(alloc, table(&rt, alloc, 0, 1, 0));
     paid(&rt, &chart, &mut desk);
-    let (money, cell, entries) = taken(desk);
+    let (money, cell, entries) = taken(desk, &roster(&rt, alloc, ROSTER));
     assert!(rt; money == [9520, 1260, 1200, 20]);
     assert!(rt; cell == at(1, 1) && entries == 5);
 }
@@ -83,7 +84,7 @@ fn a_bank_with_50_owes_30(rt: HostRuntime) {
     let chart = chart(&rt, alloc, CHART);
     let mut desk = Desk::new(alloc, table(&rt, alloc, 9550, 1, 1));
     paid(&rt, &chart, &mut desk);
-    let (money, cell, entries) = taken(desk);
+    let (money, cell, entries) = taken(desk, &roster(&rt, alloc, ROSTER));
     assert!(rt; money == [-30, 1260, 1200, 20]);
     assert!(rt; cell == at(0, 1) && entries == 5);
 }
@@ -94,7 +95,7 @@ fn a_token_stays_at_the_corner(rt: HostRuntime) {
     let chart = chart(&rt, alloc, CHART);
     let mut desk = Desk::new(alloc, table(&rt, alloc, 0, 0, 1));
     paid(&rt, &chart, &mut desk);
-    let (_, cell, entries) = taken(desk);
+    let (_, cell, entries) = taken(desk, &roster(&rt, alloc, ROSTER));
     assert!(rt; cell == at(0, 1) && entries == 4);
 }
 
@@ -110,7 +111,7 @@ fn what_is_withheld_goes_to_the_corporation(rt: HostRuntime) {
     for (row, column, revenue, cell, entries) in rows {
         let mut desk = Desk::new(alloc, table(&rt, alloc, 0, row, column));
         kept(&rt, &chart, &mut desk, revenue);
-        let (money, token, added) = taken(desk);
+        let (money, token, added) = taken(desk, &roster(&rt, alloc, ROSTER));
         assert!(rt; money[1] == 1200 && money[3] == revenue);
         assert!(rt; token == cell && added == entries);
     }

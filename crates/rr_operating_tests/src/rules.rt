@@ -5,7 +5,9 @@ ghost use Rattle.rr_stock.specs.Small.{HasSeat};
 ghost use Rattle.rr_trains.specs.Depot.Small as depot;
 
 use crate::fixtures::{A, B, kit, name};
-use rr_books::{Act, Corp, Kind, Party, Seat, ShareSource, TrainSource, Words};
+use rr_books::{
+    Act, Corp, Entry, Kind, Marker, Money, Party, Seat, ShareSource, TrainSource, Words,
+};
 use rr_kit::Kit;
 use rr_rules::Standing;
 use rr_rules::laws::{acts_have_one_verdict, bankruptcy_ends_the_game};
@@ -35,7 +37,10 @@ fn taken(rt: &impl Abort, alloc: Global, kit: &Kit, table: &Standing, act: &Act)
     requires small_bid { auction.IsSmall act.now }
     requires small_price { depot.IsSmall act.now }
 {
-    table.take(alloc, kit, act).expect(rt, "a lawful command")
+    table
+        .take(alloc, kit, act)
+        .expect(rt, "a lawful command")
+        .standing
 }
 
 /// The number of the fault of the command, or 0.
@@ -137,6 +142,29 @@ fn equipped(rt: &impl Abort, alloc: Global, kit: &Kit, table: &Standing, corp: C
 
 fn cash(table: &Standing, party: Party) -> i64 {
     table.position().books().balance(party).0
+}
+
+#[test]
+fn a_command_hands_up_what_it_adds(rt: HostRuntime) {
+    let alloc = rt.alloc();
+    let kit = table_kit(&rt, alloc);
+    let table = Standing::open(2, kit.roster());
+    let buy = Act::BuyPrivate { seat: A };
+    let taken = table.take(alloc, &kit, &buy).expect(&rt, "lawful");
+    assert!(rt;
+        matches!(
+            taken.entries.as_slice(),
+            [
+                Entry::Step(Marker::Act(Act::BuyPrivate { .. })),
+                Entry::Move { .. },
+                Entry::Pay {
+                    amount: Money(20),
+                    ..
+                },
+            ]
+        )
+    );
+    assert!(rt; cash(&taken.standing, Party::Seat(A)) == 1180);
 }
 
 #[test]

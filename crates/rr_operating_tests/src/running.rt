@@ -2,7 +2,7 @@
 use crate::fixtures::{small_kit, with_train};
 use rr_books::{Clause, Corp, Kind, Refusal};
 use rr_routes::sheets::{is_certificate, is_sheet};
-use rr_running::laws::{best_earns_most, most_centres, one_verdict_on_a_run};
+use rr_running::laws::{best_earns_most, one_verdict_on_a_run};
 use rr_running::{BestRun, judge_best_run, judge_run, kinds_held, net_now};
 use std::alloc::Global;
 use std::process::Abort;
@@ -89,5 +89,4 @@ fn a_net_has_the_trains_of_the_corporation(rt: HostRuntime) {
 fn laws_are_called(_rt: HostRuntime) {
     one_verdict_on_a_run();
     best_earns_most();
-    most_centres();
 }

@@ -1,15 +1,16 @@
 -- Which root is taken, by the fields that were read.
-use Rattle.std.proofs.Common.{◌≡◌, ◌≢◌, ◌⊎◌, inl, inr, ℕ, zero, suc, ◌+◌, ◌*◌, ◌<◌, ◌≤◌, Bool, true, false, not, List, length, slice_index, Some, None, Err, refl, sym, ◌∙◌, arith}
+use Rattle.std.proofs.Common.{◌≡◌, ◌⊎◌, inl, inr, ℕ, zero, suc, ◌+◌, ◌*◌, ◌<◌, ◌≤◌, Bool, true, false, not, List, length, slice_index, Some, None, Err, refl, sym, ◌∙◌, arith}
 use Rattle.rr_disk.specs.Disk.{IsAt}
 use Rattle.rr_pages.specs.declared.fault.Fault.{Fault}
 use Rattle.rr_pages.specs.declared.fault.Fault.TheVariants.{FileFull, Damaged, NotAStore, Disk, OutOfMemory}
 use Rattle.rr_pages.specs.declared.root.Root.{Root}
 use Rattle.rr_pages.specs.declared.choosing.Fields.{Fields}
-use Rattle.rr_pages.specs.Roots.{half_number, root_gate, IsRootOpen, field, HasFields, IsSound, Stale, Shut, Older, IsStale, IsTaken}
+use Rattle.rr_pages.specs.Roots.{half_number, root_gate, IsRootOpen, IsKnownVersion, field, HasFields, IsSound, Stale, Shut, Older, IsStale, IsTaken}
 use Rattle.rr_pages.specs.Choosing.{IsNoStore, Too_short, Both_shut, Another_version, AreInBounds, HasBadField, Out_of_bounds, Same_number, AreFields, StandsBehind, AreFieldsIn, IsInBounds, IsRootOf, Chooses, OnlyDevice, IsJudged}
 use Rattle.rr_pages.specs.Faults.{CountsFault}
 use Rattle.rr_pages.specs.Pages.{number_in}
 use Rattle.rr_pages.proofs.Bytes.{at_index, number_read}
+use Rattle.rr_pages.proofs.Versions.{known_same}
 use Rattle.rr_pages.specs.declared.journal.layout.HalfIndex.TheVariants.{First, Second}
 use Rattle.rr_pages.specs.declared.journal.layout.HalfIndex.{HalfIndex}
 
@@ -89,7 +90,7 @@ taken_store file false root stale taken (Both_shut first second) = first taken.o
 taken_store file true root stale taken (Both_shut first second) = second taken.open_gate
 taken_store file side root stale taken (Another_version s open_gate other) =
     let is = each_sound file side root stale taken s open_gate in
-    other (is.1.0.version ∙ is.1.1.version)
+    other (known_same is.0.version (field file s 34 2) (sym is.1.0.version) is.1.1.version)
 
 lower_apart : (a b : ℕ) → a < b → a ≡ b → ⊥
 lower_apart a b lower same = absurd (omega arith)
@@ -130,7 +131,7 @@ module _ (file : List ℕ) (len : ℕ) (same : length file ≡ len) (side : Bool
         version = are.version ∙ sym is.version;
       }
 
-  pub root_sound : (root : Root) → IsRootOf fields root → IsInBounds len fields → fields.version ≡ 1 → IsSound file root
+  pub root_sound : (root : Root) → IsRootOf fields root → IsInBounds len fields → IsKnownVersion fields.version → IsSound file root
   root_sound root is within version =
       record {
         number = omega (arith, is.number, within.number);
@@ -139,7 +140,7 @@ module _ (file : List ℕ) (len : ℕ) (same : length file ≡ len) (side : Bool
         pages_low = omega (arith, is.pages, within.pages_low);
         pages_high = omega (arith, is.pages, within.pages_high);
         within = omega (arith, is.pages, within.within, same);
-        version = is.version ∙ version;
+        version = known_same fields.version root.version (sym is.version) version;
       }
 
 -- the root with fields in bounds
@@ -157,8 +158,8 @@ root_with fields = record { number = fields.number; directory = fields.directory
 pub root_with_is : (fields : Fields) → IsRootOf fields (root_with fields)
 root_with_is fields = record { number = refl; directory = refl; half = λ low. half_of_low fields.half low; first = refl; pages = refl; version = refl }
 
--- a file that is long enough, with an open root, and none of another version, is one of ours
-pub is_store : (file : List ℕ) (side : Bool) → 4096 * 515 ≤ length file → IsRootOpen file side → ((s : Bool) → IsRootOpen file s → field file s 34 2 ≡ 1) → IsNoStore file → ⊥
+-- a file that is long enough, with an open root, and none of a version that isn't known, is one of ours
+pub is_store : (file : List ℕ) (side : Bool) → 4096 * 515 ≤ length file → IsRootOpen file side → ((s : Bool) → IsRootOpen file s → IsKnownVersion (field file s 34 2)) → IsNoStore file → ⊥
 is_store file side long open_gate versions (Too_short short) = absurd (omega arith)
 is_store file false long open_gate versions (Both_shut first second) = first open_gate
 is_store file true long open_gate versions (Both_shut first second) = second open_gate
@@ -166,16 +167,16 @@ is_store file side long open_gate versions (Another_version s is other) = other 
 
 -- the open root alone
 module _ (file : List ℕ) (len : ℕ) (same : length file ≡ len) (long : 4096 * 515 ≤ len) (side : Bool) (fields : Fields) (stands : StandsBehind file side (Some fields)) (shut : StandsBehind file (not side) None) where
-  pub alone_version : fields.version ≢ 1 → IsNoStore file
-  alone_version other = Another_version side stands.0 (λ is. other (sym stands.1.version ∙ is))
+  pub alone_version : (IsKnownVersion fields.version → ⊥) → IsNoStore file
+  alone_version other = Another_version side stands.0 (λ known. other (known_same (field file side 34 2) fields.version stands.1.version known))
 
-  pub alone_bad : fields.version ≡ 1 → (IsInBounds len fields → ⊥) → (IsNoStore file → ⊥) × HasBadField file
+  pub alone_bad : IsKnownVersion fields.version → (IsInBounds len fields → ⊥) → (IsNoStore file → ⊥) × HasBadField file
   alone_bad version out = (
-    is_store file side (omega arith) stands.0 (by_side (λ (s : Bool). IsRootOpen file s → field file s 34 2 ≡ 1) side (λ open_gate. stands.1.version ∙ version) (λ open_gate. absurd (shut open_gate))),
+    is_store file side (omega arith) stands.0 (by_side (λ (s : Bool). IsRootOpen file s → IsKnownVersion (field file s 34 2)) side (λ open_gate. known_same fields.version (field file side 34 2) (sym stands.1.version) version) (λ open_gate. absurd (shut open_gate))),
     Out_of_bounds side stands.0 (λ within. out (bounds_read file len same side fields stands.1 within)),
   )
 
-  pub alone_taken : (root : Root) → IsRootOf fields root → fields.version ≡ 1 → IsInBounds len fields → (stale : Stale) × IsTaken file side root stale
+  pub alone_taken : (root : Root) → IsRootOf fields root → IsKnownVersion fields.version → IsInBounds len fields → (stale : Stale) × IsTaken file side root stale
   alone_taken root is version within = (
     Shut,
     record { open_gate = stands.0; fields = root_fields file len same side fields stands.1 root is within; sound = root_sound file len same side fields stands.1 root is within version; other = shut },
@@ -183,22 +184,24 @@ module _ (file : List ℕ) (len : ℕ) (same : length file ≡ len) (long : 4096
 
 -- both open
 module _ (file : List ℕ) (len : ℕ) (same : length file ≡ len) (long : 4096 * 515 ≤ len) (first second : Fields) (stands : StandsBehind file false (Some first)) (stands_too : StandsBehind file true (Some second)) where
-  pub both_version : (first.version ≢ 1) ⊎ (second.version ≢ 1) → IsNoStore file
-  both_version (inl other) = Another_version false stands.0 (λ is. other (sym stands.1.version ∙ is))
-  both_version (inr other) = Another_version true stands_too.0 (λ is. other (sym stands_too.1.version ∙ is))
+  pub both_version : (IsKnownVersion first.version → ⊥) ⊎ (IsKnownVersion second.version → ⊥) → IsNoStore file
+  both_version (inl other) = Another_version false stands.0 (λ known. other (known_same (field file false 34 2) first.version stands.1.version known))
+  both_version (inr other) = Another_version true stands_too.0 (λ known. other (known_same (field file true 34 2) second.version stands_too.1.version known))
 
-  both_store : first.version ≡ 1 → second.version ≡ 1 → IsNoStore file → ⊥
+  both_store : IsKnownVersion first.version → IsKnownVersion second.version → IsNoStore file → ⊥
   both_store version version_too =
-      is_store file false (omega arith) stands.0 (by_side (λ (s : Bool). IsRootOpen file s → field file s 34 2 ≡ 1) false (λ open_gate. stands.1.version ∙ version) (λ open_gate. stands_too.1.version ∙ version_too))
+      is_store file false (omega arith) stands.0 (by_side (λ (s : Bool). IsRootOpen file s → IsKnownVersion (field file s 34 2)) false
+      (λ open_gate. known_same first.version (field file false 34 2) (sym stands.1.version) version)
+      (λ open_gate. known_same second.version (field file true 34 2) (sym stands_too.1.version) version_too))
 
-  pub both_bad : first.version ≡ 1 → second.version ≡ 1 → (IsInBounds len first → ⊥) ⊎ (IsInBounds len second → ⊥) → (IsNoStore file → ⊥) × HasBadField file
+  pub both_bad : IsKnownVersion first.version → IsKnownVersion second.version → (IsInBounds len first → ⊥) ⊎ (IsInBounds len second → ⊥) → (IsNoStore file → ⊥) × HasBadField file
   both_bad version version_too (inl out) = (both_store version version_too, Out_of_bounds false stands.0 (λ within. out (bounds_read file len same false first stands.1 within)))
   both_bad version version_too (inr out) = (both_store version version_too, Out_of_bounds true stands_too.0 (λ within. out (bounds_read file len same true second stands_too.1 within)))
 
-  pub both_same : first.version ≡ 1 → second.version ≡ 1 → first.number ≡ second.number → (IsNoStore file → ⊥) × HasBadField file
+  pub both_same : IsKnownVersion first.version → IsKnownVersion second.version → first.number ≡ second.number → (IsNoStore file → ⊥) × HasBadField file
   both_same version version_too number = (both_store version version_too, Same_number stands.0 stands_too.0 (stands.1.number ∙ (number ∙ sym stands_too.1.number)))
 
-  pub first_taken : (root : Root) → IsRootOf first root → first.version ≡ 1 → second.version ≡ 1 → IsInBounds len first → IsInBounds len second → second.number < first.number → (stale : Stale) × IsTaken file false root stale
+  pub first_taken : (root : Root) → IsRootOf first root → IsKnownVersion first.version → IsKnownVersion second.version → IsInBounds len first → IsInBounds len second → second.number < first.number → (stale : Stale) × IsTaken file false root stale
   first_taken root is version version_too within within_too greater = (
     Older (root_with second),
     record {
@@ -214,7 +217,7 @@ module _ (file : List ℕ) (len : ℕ) (same : length file ≡ len) (long : 4096
     },
   )
 
-  pub second_taken : (root : Root) → IsRootOf second root → first.version ≡ 1 → second.version ≡ 1 → IsInBounds len first → IsInBounds len second → first.number < second.number → (stale : Stale) × IsTaken file true root stale
+  pub second_taken : (root : Root) → IsRootOf second root → IsKnownVersion first.version → IsKnownVersion second.version → IsInBounds len first → IsInBounds len second → first.number < second.number → (stale : Stale) × IsTaken file true root stale
   second_taken root is version version_too within within_too greater = (
     Older (root_with first),
     record {

@@ -1,3 +1,4 @@
+pub mod Versions
 pub mod Bytes
 pub mod Moments
 pub mod Spelling

@@ -1,5 +1,5 @@
 -- Laying bytes into pages, piece by piece.
-use Rattle.std.proofs.Common.{◌≡◌, ℕ, suc, ◌-◌, ◌*◌, ◌<◌, ◌≤◌, Bool, List, [], ◌∷◌, ◌++◌, length, map, take, drop, refl, sym, ◌∙◌, ap, arith, length-append, length-drop}
+use Rattle.std.proofs.Common.{◌≡◌, ℕ, suc, ◌+◌, ◌-◌, ◌*◌, ◌<◌, ◌≤◌, Bool, List, [], ◌∷◌, ◌++◌, length, map, take, drop, refl, sym, ◌∙◌, ap, arith, length-append, length-drop}
 use Rattle.std.proofs.lemmas.List.{append_assoc, append-nil, map-append, take-append-drop, take_all, length-take}
 use Rattle.rr_pages.specs.declared.chain.FreshPage.{FreshPage}
 use Rattle.rr_pages.specs.Laying.{page_spelling, head_of, laid, joined, FitEach, FillPages, pages_for}
@@ -155,3 +155,13 @@ pub cut_front : (rest : List ℕ) → 4086 < length rest → (rest ≡ take 4086
 cut_front rest long =
     let all : take (length rest - 4086) (drop 4086 rest) ≡ drop 4086 rest = take_all (length rest - 4086) (drop 4086 rest) (omega (arith, length-drop 4086 rest)) in
     (sym (take-append-drop 4086 rest) ∙ ap (λ (xs : List ℕ). take 4086 rest ++ xs) (sym all), omega (arith, length-take 4086 rest))
+
+-- a full page more leaves a page less to be laid, and the last one none
+pub count_on : (old new : List FreshPage) (page : FreshPage) (rest : List ℕ) (all : ℕ) → new ≡ old ++ page ∷ [] → 4086 < length rest → length old + pages_for (length rest) ≡ all
+    → length new + pages_for (length (take (length rest - 4086) (drop 4086 rest))) ≡ all
+count_on old new page rest all is long so_far =
+    omega (arith, ap (λ (xs : List FreshPage). length xs) is, length-append old (page ∷ []), length-take (length rest - 4086) (drop 4086 rest), length-drop 4086 rest, long, so_far)
+
+pub count_last : (old new : List FreshPage) (page : FreshPage) (rest : List ℕ) (all : ℕ) → new ≡ old ++ page ∷ [] → length rest ≤ 4086 → length old + pages_for (length rest) ≡ all → length new ≡ all
+count_last old new page rest all is short so_far =
+    omega (arith, ap (λ (xs : List FreshPage). length xs) is, length-append old (page ∷ []), short, so_far)

@@ -1,5 +1,6 @@
 -- Chains of data pages.
 use Rattle.std.specs.Prelude.{◌≡◌, ◌≢◌, ℕ, ◌+◌, ◌*◌, ◌≤◌, List, [], ◌∷◌, ◌++◌, length}
+use Rattle.rr_pages.specs.declared.page.TheConstants.{PAGE_BYTES, LINK_BYTES, MOST_USED}
 use Rattle.rr_pages.specs.Pages.{StandsAt, number_in}
 
 -- the page that follows in the chain, 0 behind its last page
@@ -14,8 +15,8 @@ used_of file page = number_in file page 8 2
 pub record IsPage (file : List ℕ) (page next : ℕ) (bytes : List ℕ) : Type 0 where
   pub next_page : next_of file page ≡ next
   pub used : used_of file page ≡ length bytes
-  pub fits : length bytes ≤ 4086
-  pub standing : StandsAt file (4096 * page + 10) bytes
+  pub fits : length bytes ≤ MOST_USED
+  pub standing : StandsAt file (PAGE_BYTES * page + LINK_BYTES) bytes
 
 -- pages that follow one another up to the end of a chain, and their bytes
 abbrev pub Links : List ℕ → ℕ → List ℕ → List ℕ → Type 0

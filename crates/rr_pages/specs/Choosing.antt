@@ -1,19 +1,20 @@
 -- Which root an opening takes, and when it takes none.
-use Rattle.std.specs.Prelude.{◌≡◌, ◌≢◌, ℕ, ◌*◌, ◌^◌, ◌<◌, ◌≤◌, Bool, true, false, List, length, drop, slice_index, Option, None, Some, Result, Ok, Err}
+use Rattle.std.specs.Prelude.{◌≡◌, ℕ, ◌*◌, ◌^◌, ◌<◌, ◌≤◌, Bool, true, false, List, length, drop, slice_index, Option, None, Some, Result, Ok, Err}
 use Rattle.rr_pages.specs.declared.fault.Fault.{Fault}
 use Rattle.rr_pages.specs.declared.fault.Damage.TheVariants.{RootField}
 use Rattle.rr_pages.specs.declared.fault.Fault.TheVariants.{FileFull, Damaged, NotAStore, Disk, OutOfMemory}
 use Rattle.rr_pages.specs.declared.choosing.Fields.{Fields}
 use Rattle.rr_pages.specs.declared.choosing.Taken.{Taken}
 use Rattle.byteorder.specs.Endian.{big_number}
+use Rattle.rr_pages.specs.declared.page.TheConstants.{PAGE_BYTES, LEAST_PAGES, MOST_PAGES}
 use Rattle.rr_pages.specs.declared.root.Root.{Root}
-use Rattle.rr_pages.specs.Roots.{half_number, Stale, IsRootOpen, field, IsTaken}
+use Rattle.rr_pages.specs.Roots.{half_number, Stale, IsRootOpen, IsKnownVersion, field, IsTaken}
 
--- The file is none of ours: it has fewer than 515 pages, no open root, or an open root of another version.
+-- The file is none of ours: it has too few pages, no open root, or an open root of a version that isn't known.
 pub data IsNoStore (file : List ℕ) : Type 0 where
-  Too_short : length file < 4096 * 515 → IsNoStore file
+  Too_short : length file < PAGE_BYTES * LEAST_PAGES → IsNoStore file
   Both_shut : (IsRootOpen file false → ⊥) → (IsRootOpen file true → ⊥) → IsNoStore file
-  Another_version : (side : Bool) → IsRootOpen file side → field file side 34 2 ≢ 1 → IsNoStore file
+  Another_version : (side : Bool) → IsRootOpen file side → (IsKnownVersion (field file side 34 2) → ⊥) → IsNoStore file
 
 -- the fields on one side are such as a root may have
 pub record AreInBounds (file : List ℕ) (side : Bool) : Type 0 where
@@ -21,9 +22,9 @@ pub record AreInBounds (file : List ℕ) (side : Bool) : Type 0 where
   pub half : field file side 17 1 ≤ 1
   pub first_low : 0 < field file side 18 8
   pub first_high : field file side 18 8 < 2 ^ 63
-  pub pages_low : 515 ≤ field file side 26 8
-  pub pages_high : field file side 26 8 ≤ 65536
-  pub within : 4096 * field file side 26 8 ≤ length file
+  pub pages_low : LEAST_PAGES ≤ field file side 26 8
+  pub pages_high : field file side 26 8 ≤ MOST_PAGES
+  pub within : PAGE_BYTES * field file side 26 8 ≤ length file
 
 -- a field of an open root is out of bounds, or two open roots have the same number
 pub data HasBadField (file : List ℕ) : Type 0 where
@@ -68,9 +69,9 @@ pub record IsInBounds (len : ℕ) (fields : Fields) : Type 0 where
   pub half : fields.half ≤ 1
   pub first_low : 0 < fields.first
   pub first_high : fields.first < 2 ^ 63
-  pub pages_low : 515 ≤ fields.pages
-  pub pages_high : fields.pages ≤ 65536
-  pub within : 4096 * fields.pages ≤ len
+  pub pages_low : LEAST_PAGES ≤ fields.pages
+  pub pages_high : fields.pages ≤ MOST_PAGES
+  pub within : PAGE_BYTES * fields.pages ≤ len
 
 -- the root with these fields
 pub record IsRootOf (fields : Fields) (root : Root) : Type 0 where

@@ -1,8 +1,8 @@
 -- What the faults of pages mean.
-use Rattle.std.specs.Prelude.{◌≡◌, ℕ, Result, Ok, Err}
+use Rattle.std.specs.Prelude.{ℕ, Result, Option, None, Some}
 use Rattle.rr_disk.specs.Disk as disk
-use Rattle.rr_disk.specs.Disk.{counted}
-use Rattle.rr_disk.specs.declared.fault.Fault.TheVariants.{DeviceFailed}
+use Rattle.rr_disk.specs.Faults.{CountsFaultBy, OnFaultBy}
+use Rattle.rr_disk.specs.declared.fault.Fault.{Fault as OfDisk}
 use Rattle.rr_pages.specs.declared.fault.Damage.{Damage}
 use Rattle.rr_pages.specs.declared.fault.Damage.TheVariants.{RootField, PageOutside, PageTwice, UsedBytes, Form, Kit, Kept, Records}
 use Rattle.rr_pages.specs.declared.fault.Fault.{Fault}
@@ -27,20 +27,18 @@ clause_of Kit = 6
 clause_of Kept = 7
 clause_of Records = 8
 
+-- the fault of the disk that a fault tells, if it tells one
+abbrev pub of_disk : Fault → Option OfDisk
+of_disk FileFull = None
+of_disk (Damaged damage) = None
+of_disk NotAStore = None
+of_disk (Disk fault) = Some fault
+of_disk OutOfMemory = None
+
 -- a fault of the disk is told exactly where the disk counted one more
 abbrev pub CountsFault : {T : Type 0} → ℕ → ℕ → Result T Fault → Type 0
-CountsFault old new (Ok value) = new ≡ old
-CountsFault old new (Err FileFull) = new ≡ old
-CountsFault old new (Err (Damaged damage)) = new ≡ old
-CountsFault old new (Err NotAStore) = new ≡ old
-CountsFault old new (Err (Disk fault)) = (fault ≡ DeviceFailed) × (new ≡ counted old)
-CountsFault old new (Err OutOfMemory) = new ≡ old
+CountsFault old new result = CountsFaultBy of_disk old new result
 
 -- where a call failed by the disk, so
 abbrev pub OnDeviceFault : {T : Type 0} → Result T Fault → Type 0 → Type 0
-OnDeviceFault (Ok value) P = Unit {0}
-OnDeviceFault (Err FileFull) P = Unit {0}
-OnDeviceFault (Err (Damaged damage)) P = Unit {0}
-OnDeviceFault (Err NotAStore) P = Unit {0}
-OnDeviceFault (Err (Disk fault)) P = P
-OnDeviceFault (Err OutOfMemory) P = Unit {0}
+OnDeviceFault result P = OnFaultBy of_disk result P

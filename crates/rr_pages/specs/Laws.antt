@@ -1,5 +1,6 @@
 -- The laws of chains, roots and free pages.
 use Rattle.std.specs.Prelude.{◌≡◌, ℕ, ◌+◌, ◌≤◌, Bool, List, ◌++◌, length, None, Some}
+use Rattle.rr_pages.specs.declared.page.TheConstants.{MOST_PAGES}
 use Rattle.rr_pages.specs.declared.root.Root.{Root}
 use Rattle.rr_pages.specs.declared.fault.Damage.{Damage}
 use Rattle.rr_pages.specs.Pages.{StandsAt, IsIn, AllApart, AreData}
@@ -32,13 +33,13 @@ NoBadTaken = (file : List ℕ) (side : Bool) (root : Root) (stale : Stale) → I
 -- beside pages that the coming root keeps
 abbrev pub TakenAreFree : Type 0
 TakenAreFree =
-    (present coming after : List Bool) (reached kept pages : List ℕ) → length coming ≡ 65536 → Has present reached → Has coming kept → TakesFree present coming pages after
+    (present coming after : List Bool) (reached kept pages : List ℕ) → length coming ≡ MOST_PAGES → Has present reached → Has coming kept → TakesFree present coming pages after
     → AreFree reached pages × Has after (kept ++ pages)
 
 -- a chain on data pages that weren't reached before and are all apart
 pub record IsFresh (file : List ℕ) (count : ℕ) (reached : List Bool) (head : ℕ) (pages bytes : List ℕ) : Type 0 where
-  pub low : count ≤ 65536
-  pub marks : length reached ≡ 65536
+  pub low : count ≤ MOST_PAGES
+  pub marks : length reached ≡ MOST_PAGES
   pub before : List ℕ
   pub has : Has reached before
   pub data_pages : AreData count pages

@@ -1,6 +1,7 @@
 -- What following a chain gathers.
 use Rattle.std.specs.Prelude.{◌≡◌, ◌⊎◌, ℕ, ◌+◌, ◌*◌, ◌<◌, nat_lt, if◌then◌else◌, List, [], ◌∷◌, ◌++◌, length, map, sum_by, Option, None, Some, Result, Ok, Err}
 use Rattle.std.specs.List.{list_any}
+use Rattle.rr_pages.specs.declared.page.TheConstants.{PAGE_BYTES, LINK_BYTES, MOST_USED}
 use Rattle.rr_pages.specs.declared.fault.Damage.{Damage}
 use Rattle.rr_pages.specs.declared.fault.Damage.TheVariants.{UsedBytes}
 use Rattle.rr_pages.specs.declared.fault.Fault.{Fault}
@@ -26,21 +27,21 @@ AreBelow count (link ∷ links) = (link.page < count) × AreBelow count links
 -- the used bytes of one of them end past this many bytes
 abbrev pub EndsPast : ℕ → List Link → Type 0
 EndsPast len [] = ⊥
-EndsPast len (link ∷ links) = (len < 4096 * link.page + 10 + link.used) ⊎ EndsPast len links
+EndsPast len (link ∷ links) = (len < PAGE_BYTES * link.page + LINK_BYTES + link.used) ⊎ EndsPast len links
 
 -- the bytes of these pages, one after another
 abbrev pub Gathers : List ℕ → List Link → List ℕ → Type 0
 Gathers file [] bytes = bytes ≡ []
 Gathers file (link ∷ links) bytes =
-    (own : List ℕ) × (rest : List ℕ) × (bytes ≡ own ++ rest) × (length own ≡ link.used) × StandsAt file (4096 * link.page + 10) own × Gathers file links rest
+    (own : List ℕ) × (rest : List ℕ) × (bytes ≡ own ++ rest) × (length own ≡ link.used) × StandsAt file (PAGE_BYTES * link.page + LINK_BYTES) own × Gathers file links rest
 
 -- a page's used bytes come behind others
 abbrev pub AddsPiece : List ℕ → ℕ → ℕ → List ℕ → List ℕ → Type 0
-AddsPiece file page used old new = (own : List ℕ) × (new ≡ old ++ own) × (length own ≡ used) × StandsAt file (4096 * page + 10) own
+AddsPiece file page used old new = (own : List ℕ) × (new ≡ old ++ own) × (length own ≡ used) × StandsAt file (PAGE_BYTES * page + LINK_BYTES) own
 
 abbrev pub links_damage : List Link → Option ℕ → Option Damage
 links_damage links stated =
-    if list_any (λ link. nat_lt 4086 link.used) links then Some UsedBytes else length_damage (sum_by (λ link. link.used) links) stated
+    if list_any (λ link. nat_lt MOST_USED link.used) links then Some UsedBytes else length_damage (sum_by (λ link. link.used) links) stated
 
 -- the same of a chain that was followed to this end
 abbrev pub judged : List Link → Option Damage → Option ℕ → Option Damage

@@ -1,7 +1,9 @@
 -- The two roots.
 use Rattle.std.specs.Prelude.{◌≡◌, ℕ, ◌*◌, ◌^◌, ◌<◌, ◌≤◌, Bool, true, false, not, List, ◌∷◌, ◌++◌, length, slice_index}
 use Rattle.byteorder.specs.Endian.{big_bytes}
+use Rattle.rr_pages.specs.declared.page.TheConstants.{PAGE_BYTES, LEAST_PAGES, MOST_PAGES, OPEN}
 use Rattle.rr_pages.specs.declared.root.Root.{Root}
+use Rattle.rr_pages.specs.declared.root.TheConstants.{NEWEST_VERSION}
 use Rattle.rr_pages.specs.Pages.{number_in}
 use Rattle.rr_pages.specs.declared.journal.layout.HalfIndex.TheVariants.{First, Second}
 use Rattle.rr_pages.specs.declared.journal.layout.HalfIndex.{HalfIndex}
@@ -17,10 +19,10 @@ half_number Second = 1
 
 -- the byte of a root's gate
 abbrev pub root_gate : Bool → ℕ
-root_gate side = 4096 * root_page side
+root_gate side = PAGE_BYTES * root_page side
 
 abbrev pub IsRootOpen : List ℕ → Bool → Type 0
-IsRootOpen file side = slice_index file (root_gate side) ≡ 0xa5
+IsRootOpen file side = slice_index file (root_gate side) ≡ OPEN
 
 -- a number in so many bytes of a root's page, all of them behind its gate
 abbrev pub field : List ℕ → Bool → ℕ → ℕ → ℕ
@@ -35,21 +37,25 @@ pub record HasFields (file : List ℕ) (side : Bool) (root : Root) : Type 0 wher
   pub pages : field file side 26 8 ≡ root.pages
   pub version : field file side 34 2 ≡ root.version
 
+-- a version of files that are read: the newest one alone
+unfoldable pub IsKnownVersion : ℕ → Type 0
+IsKnownVersion version = version ≡ NEWEST_VERSION
+
 -- fields that a root may have
 pub record IsSound (file : List ℕ) (root : Root) : Type 0 where
   pub number : root.number < 2 ^ 63
   pub first_low : 0 < root.first
   pub first_high : root.first < 2 ^ 63
-  pub pages_low : 515 ≤ root.pages
-  pub pages_high : root.pages ≤ 65536
-  pub within : 4096 * root.pages ≤ length file
-  pub version : root.version ≡ 1
+  pub pages_low : LEAST_PAGES ≤ root.pages
+  pub pages_high : root.pages ≤ MOST_PAGES
+  pub within : PAGE_BYTES * root.pages ≤ length file
+  pub version : IsKnownVersion root.version
 
 -- the pages of a root lie in a file of this length
 pub record LiesWithin (len : ℕ) (root : Root) : Type 0 where
-  pub pages_low : 515 ≤ root.pages
-  pub pages_high : root.pages ≤ 65536
-  pub within : 4096 * root.pages ≤ len
+  pub pages_low : LEAST_PAGES ≤ root.pages
+  pub pages_high : root.pages ≤ MOST_PAGES
+  pub within : PAGE_BYTES * root.pages ≤ len
 
 -- the root that isn't taken: its gate is shut, or it is an older one
 pub data Stale : Type 0 where

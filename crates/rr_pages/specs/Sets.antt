@@ -1,5 +1,6 @@
 -- Which pages are taken: sets of pages as lists of marks, one for each page number from 0 on.
 use Rattle.std.specs.Prelude.{◌≡◌, ◌↔◌, ℕ, ◌<◌, ◌≤◌, Bool, true, false, List, [], ◌∷◌, get_or, set, length}
+use Rattle.rr_pages.specs.declared.page.TheConstants.{FIRST_DATA, MOST_PAGES}
 use Rattle.rr_pages.specs.Pages.{IsIn, AllApart}
 
 -- the set has this page
@@ -23,8 +24,8 @@ Has marks pages = (page : ℕ) → IsMarked marks page ↔ IsIn page pages
 
 -- a data page that neither the present root reaches nor the coming one will reach
 pub record IsFree (present coming : List Bool) (page : ℕ) : Type 0 where
-  pub data_page : 514 ≤ page
-  pub under : page < 65536
+  pub data_page : FIRST_DATA ≤ page
+  pub under : page < MOST_PAGES
   pub not_present : get_or present page false ≡ false
   pub not_coming : get_or coming page false ≡ false
 
@@ -51,6 +52,6 @@ pub record TooFewFree (present coming : List Bool) (needed : ℕ) : Type 0 where
 
 -- pages that were taken for a checkpoint: data pages that the present root doesn't reach, and no two the same
 pub record AreFree (reached pages : List ℕ) : Type 0 where
-  pub data_pages : (page : ℕ) → IsIn page pages → (514 ≤ page) × (page < 65536)
+  pub data_pages : (page : ℕ) → IsIn page pages → (FIRST_DATA ≤ page) × (page < MOST_PAGES)
   pub unreached : (page : ℕ) → IsIn page pages → IsIn page reached → ⊥
   pub apart : AllApart pages

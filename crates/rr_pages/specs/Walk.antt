@@ -1,6 +1,7 @@
 -- How a chain is followed from its first page on, whatever bytes a file holds, and which clause it breaks first.
 use Rattle.std.specs.Prelude.{◌≡◌, ◌≢◌, ◌⊎◌, ℕ, ◌==◌, nat_lt, if◌then◌else◌, Bool, List, [], ◌∷◌, Option, None, Some, sum_by}
 use Rattle.std.specs.List.{list_any}
+use Rattle.rr_pages.specs.declared.page.TheConstants.{MOST_USED}
 use Rattle.rr_pages.specs.declared.fault.Damage.{Damage}
 use Rattle.rr_pages.specs.declared.fault.Damage.TheVariants.{PageOutside, PageTwice, UsedBytes, Form}
 use Rattle.rr_pages.specs.Pages.{IsData}
@@ -26,4 +27,4 @@ length_damage total (Some stated) = if total == stated then None else Some Form
 abbrev pub damage_of : List ℕ → List ℕ → Option Damage → Option ℕ → Option Damage
 damage_of file pages (Some damage) stated = Some damage
 damage_of file pages None stated =
-    if list_any (λ page. nat_lt 4086 (used_of file page)) pages then Some UsedBytes else length_damage (sum_by (used_of file) pages) stated
+    if list_any (λ page. nat_lt MOST_USED (used_of file page)) pages then Some UsedBytes else length_damage (sum_by (used_of file) pages) stated

@@ -1,5 +1,6 @@
 -- What laying a chain into free pages gives.
 use Rattle.std.specs.Prelude.{◌≡◌, ℕ, Bool, List, ◌++◌, length, map}
+use Rattle.rr_pages.specs.declared.page.TheConstants.{MOST_PAGES}
 use Rattle.rr_pages.specs.declared.chain.FreshPage.{FreshPage}
 use Rattle.rr_pages.specs.Laying.{head_of, laid, joined, FitPages, FillPages}
 use Rattle.rr_pages.specs.Sets.{TakesFree}
@@ -18,4 +19,4 @@ pub record IsLaid (present coming after : List Bool) (bytes : List ℕ) (old new
   pub first : head ≡ head_of pages
   pub fresh : map fresh_of new ≡ map fresh_of old ++ laid pages pieces
   pub taken : TakesFree present coming pages after
-  pub marks : length coming ≡ 65536
+  pub marks : length coming ≡ MOST_PAGES

@@ -1,4 +1,4 @@
-ghost use Rattle.std.specs.Prelude.{◌≡◌, ◌⊎◌, length, IfOk, IfErr, IsErrOf};
+ghost use Rattle.std.specs.Prelude.{◌≡◌, ◌⊎◌, ◌+◌, length, IfOk, IfErr, IsErrOf};
 ghost use Rattle.rr_pages.specs.FreePages.{present_of, coming_of};
 ghost use Rattle.rr_pages.specs.Laying.{pages_for};
 ghost use Rattle.rr_pages.specs.Sets.{NoneFree, TooFewFree};
@@ -28,6 +28,8 @@ pub fn chain_write(
 ) -> Result<u32, Fault>
     ensures laid { IfOk result (IsLaid (present_of free.old) (coming_of free.old) (coming_of free.new) bytes.now
         fresh.old.items fresh.new.items) }
+    ensures count { IfOk result (λ _. length fresh.new.items
+        ≡ length fresh.old.items + pages_for (length bytes.now)) }
     ensures full { IsErrOf result Fault.FileFull
         → TooFewFree (present_of free.old) (coming_of free.old) (pages_for (length bytes.now)) }
     ensures err { IfErr result (λ fault. (fault ≡ Fault.FileFull) ⊎ (fault ≡ Fault.OutOfMemory)) }

@@ -1,12 +1,12 @@
-ghost use Rattle.std.specs.Prelude.{◌≡◌, ◌*◌, ◌<◌, ◌≤◌, ◌↔◌, true, false, not, ℕ, List, length, IfOk, IsTrue};
+ghost use Rattle.std.specs.Prelude.{◌≡◌, ◌+◌, ◌*◌, ◌<◌, ◌≤◌, ◌↔◌, true, false, not, ℕ, List, length, IfOk, IsTrue};
 ghost use Rattle.rr_pages.specs.Choosing.{Chooses, StandsBehind, AreFieldsIn, IsInBounds, IsRootOf};
 ghost use Rattle.rr_pages.specs.Choosing.{OnlyDevice, IsJudged};
 ghost use Rattle.rr_pages.specs.Faults.{CountsFault, OnDeviceFault};
-ghost use Rattle.rr_pages.specs.Roots.{LiesWithin, half_number};
+ghost use Rattle.rr_pages.specs.Roots.{IsKnownVersion, LiesWithin, half_number};
 
-use crate::journal::HalfIndex;
-use crate::page::{MOST_PAGES, OPEN, PAGE_BYTES};
-use crate::root::gate_of;
+use crate::journal::{FIRST_SLOT_PAGE, HalfIndex};
+use crate::page::{LEAST_PAGES, MOST_PAGES, OPEN, PAGE_BYTES};
+use crate::root::{NEWEST_VERSION, ROOT_BYTES, gate_of};
 use crate::{Damage, Fault, Root};
 use byteorder::{BigEndian, ByteOrder};
 use rr_disk::Disk;
@@ -33,7 +33,7 @@ struct Fields {
 /// Takes the open root of greater number. It writes nothing.
 ///
 /// # Errors
-/// `NotAStore` where the file has fewer than 515 pages, no open root, or an open root of another version than 1; else
+/// `NotAStore` where the file has fewer than 515 pages, no open root, or an open root of a version that isn't known; else
 /// `Damaged` where a field of an open root is out of bounds, or both are open with one number. `Disk` where a read
 /// fails, which none of a disk that works does.
 pub fn take_root<D: Disk>(disk: &mut D) -> Result<Taken, Fault>
@@ -50,7 +50,7 @@ pub fn take_root<D: Disk>(disk: &mut D) -> Result<Taken, Fault>
     ensures same_len { D.file_len disk.new ≡ D.file_len disk.old }
 {
     let len = disk.len();
-    if len < PAGE_BYTES * 515 {
+    if len < PAGE_BYTES * LEAST_PAGES {
         return Err(Fault::NotAStore);
     }
     let first = read_fields(disk, false)?;
@@ -69,11 +69,11 @@ fn read_fields<D: Disk>(disk: &mut D, side: bool) -> Result<Option<Fields>, Faul
     ensures same_past { D.Honest disk.new → D.past disk.new ≡ D.past disk.old }
     ensures writes { D.write_count disk.new ≡ D.write_count disk.old }
     ensures syncs { D.sync_count disk.new ≡ D.sync_count disk.old }
-    ensures device { OnDeviceFault result (D.Works disk.new → D.file_len disk.old < 4096 * 2) }
+    ensures device { OnDeviceFault result (D.Works disk.new → D.file_len disk.old < PAGE_BYTES * FIRST_SLOT_PAGE) }
     ensures works { D.Works disk.new → D.Works disk.old }
     ensures same_len { D.file_len disk.new ≡ D.file_len disk.old }
 {
-    let mut bytes = [0u8; 36];
+    let mut bytes = [0u8; 1 + ROOT_BYTES];
     disk.read_at(gate_of(side), &mut bytes)?;
     if bytes[0] != OPEN {
         return Ok(None);
@@ -82,7 +82,7 @@ fn read_fields<D: Disk>(disk: &mut D, side: bool) -> Result<Option<Fields>, Faul
 }
 
 fn fields_in(bytes: &[u8]) -> Fields
-    requires { length bytes.now ≡ 36 }
+    requires { length bytes.now ≡ 1 + ROOT_BYTES }
     ensures { AreFieldsIn bytes.now result }
 {
     Fields {
@@ -97,7 +97,7 @@ fn fields_in(bytes: &[u8]) -> Fields
 
 // Chooses between two roots, of which each is there where its gate is open.
 fn choose(len: u64, first: Option<Fields>, second: Option<Fields>) -> Result<Taken, Fault>
-    requires { 4096 * 515 ≤ len }
+    requires { PAGE_BYTES * LEAST_PAGES ≤ len }
     ensures judged { IsJudged result }
     ensures within { IfOk result (λ taken. LiesWithin len taken.root) }
     ensures chosen { (file : List ℕ) → length file ≡ len
@@ -117,13 +117,13 @@ fn choose(len: u64, first: Option<Fields>, second: Option<Fields>) -> Result<Tak
 
 // Takes the only open root.
 fn choose_alone(len: u64, side: bool, fields: Fields) -> Result<Taken, Fault>
-    requires { 4096 * 515 ≤ len }
+    requires { PAGE_BYTES * LEAST_PAGES ≤ len }
     ensures judged { IsJudged result }
     ensures within { IfOk result (λ taken. LiesWithin len taken.root) }
     ensures chosen { (file : List ℕ) → length file ≡ len
         → StandsBehind file side (Some fields) → StandsBehind file (not side) None → Chooses file result }
 {
-    if fields.version != 1 {
+    if !is_known(fields.version) {
         return Err(Fault::NotAStore);
     }
     if !are_in_bounds(len, &fields) {
@@ -137,16 +137,16 @@ fn choose_alone(len: u64, side: bool, fields: Fields) -> Result<Taken, Fault>
 
 // Takes the one of greater number.
 fn choose_greater(len: u64, first: Fields, second: Fields) -> Result<Taken, Fault>
-    requires { 4096 * 515 ≤ len }
+    requires { PAGE_BYTES * LEAST_PAGES ≤ len }
     ensures judged { IsJudged result }
     ensures within { IfOk result (λ taken. LiesWithin len taken.root) }
     ensures chosen { (file : List ℕ) → length file ≡ len
         → StandsBehind file false (Some first) → StandsBehind file true (Some second) → Chooses file result }
 {
-    if first.version != 1 {
+    if !is_known(first.version) {
         return Err(Fault::NotAStore);
     }
-    if second.version != 1 {
+    if !is_known(second.version) {
         return Err(Fault::NotAStore);
     }
     if !are_in_bounds(len, &first) {
@@ -170,6 +170,14 @@ fn choose_greater(len: u64, first: Fields, second: Fields) -> Result<Taken, Faul
     })
 }
 
+// Whether files of this version are read.
+#[tactic(auto, unfolding(crate::specs::Roots::IsKnownVersion))]
+fn is_known(version: u16) -> bool
+    ensures { IsTrue result ↔ IsKnownVersion version }
+{
+    version == NEWEST_VERSION
+}
+
 // Whether a root of a file of this length may have these fields.
 fn are_in_bounds(len: u64, fields: &Fields) -> bool
     ensures { IsTrue result ↔ IsInBounds len fields.now }
@@ -178,7 +186,7 @@ fn are_in_bounds(len: u64, fields: &Fields) -> bool
         && fields.half <= 1
         && fields.first > 0
         && fields.first < 1 << 63
-        && fields.pages >= 515
+        && fields.pages >= LEAST_PAGES
         && fields.pages <= u64::from(MOST_PAGES)
         && PAGE_BYTES * fields.pages <= len
 }

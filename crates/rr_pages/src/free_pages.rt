@@ -50,7 +50,7 @@ impl FreePages {
         ensures err { IsOkUnless result Fault.FileFull }
         ensures same { OnErr result (coming_of self.new ≡ coming_of self.old) }
         ensures present { present_of self.new ≡ present_of self.old }
-        ensures whole { length (coming_of self.old) ≡ 65536 }
+        ensures whole { length (coming_of self.old) ≡ MOST_PAGES }
     {
         match self.first_free() {
             None => Err(Fault::FileFull),
@@ -63,10 +63,10 @@ impl FreePages {
 
     /// The coming root will reach this page, which the present one reaches.
     pub fn keep(&mut self, page: u32)
-        requires { page < 65536 }
+        requires { page < MOST_PAGES }
         ensures coming { coming_of self.new ≡ marked (coming_of self.old) page }
         ensures present { present_of self.new ≡ present_of self.old }
-        ensures whole { length (coming_of self.old) ≡ 65536 }
+        ensures whole { length (coming_of self.old) ≡ MOST_PAGES }
     {
         self.coming.take(page);
     }
@@ -90,8 +90,8 @@ impl FreePages {
 
     // Whether a data page is free.
     fn is_free(&self, page: u32) -> bool
-        requires low { 514 ≤ page }
-        requires high { page < 65536 }
+        requires low { FIRST_DATA ≤ page }
+        requires high { page < MOST_PAGES }
         ensures { IsTrue result ↔ IsFree (present_of self.now) (coming_of self.now) page }
     {
         !self.present.has(page) && !self.coming.has(page)

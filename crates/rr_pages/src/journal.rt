@@ -14,6 +14,8 @@ mod reading;
 pub use buffer::RecordBuffer;
 pub use fault::Fault;
 pub use half::Half;
-pub use law::halves_have_one_run;
-pub use layout::HalfIndex;
+pub use law::{halves_have_one_run, sizes};
+pub use layout::{
+    FIRST_SLOT_PAGE, HALF_PAGES, HEADER_BYTES, HalfIndex, LAST_SLOT, MOST_SLOTS, SLOT_BYTES,
+};
 pub use reading::{RunEnd, Scanned, scan};

@@ -1,7 +1,10 @@
 //! What the definitions of chains, roots and free pages say.
-ghost use Rattle.std.specs.Prelude.{ℕ, Bool, List};
+ghost use Rattle.std.specs.Prelude.{◌≡◌, ℕ, Bool, List};
 ghost use Rattle.rr_pages.specs.declared.root.Root.{Root};
 ghost use Rattle.rr_pages.specs.Laws as laws;
+
+use crate::page::{FIRST_DATA, LEAST_PAGES, LINK_BYTES, MOST_PAGES, MOST_USED, OPEN, PAGE_BYTES};
+use crate::root::ROOT_BYTES;
 
 /// Wherever pages stand as a chain was laid into them, they are that chain.
 pub fn laid_pages_are_the_chain()
@@ -30,4 +33,17 @@ pub fn taken_pages_are_free()
 pub fn standing_chains_are_read()
     ensures whole { laws.StandingRead }
     ensures broken { laws.BrokenNone }
+{}
+
+/// The numbers of a file: a page has 4,096 bytes, and one of data 4,086 of its chain behind 10 that lead on; data begins on
+/// page 514, and a file has 515 to 65,536 pages; a root has 35 bytes behind its gate, and the byte A5 hex opens one.
+pub fn sizes()
+    ensures page { PAGE_BYTES ≡ 4096 }
+    ensures link { LINK_BYTES ≡ 10 }
+    ensures used { MOST_USED ≡ 4086 }
+    ensures data { FIRST_DATA ≡ 514 }
+    ensures least { LEAST_PAGES ≡ 515 }
+    ensures most { MOST_PAGES ≡ 65536 }
+    ensures root { ROOT_BYTES ≡ 35 }
+    ensures open { OPEN ≡ 0xa5 }
 {}

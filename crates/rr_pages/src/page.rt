@@ -10,17 +10,23 @@ use std::alloc::{AllocError, Global};
 /// The bytes of a page.
 pub const PAGE_BYTES: u64 = 4096;
 
-/// The bytes of a data page that belong to its chain, behind its next page and its count of used bytes.
-pub(crate) const MOST_USED: usize = 4086;
+/// The bytes in front of a data page's own: the next page, and how many of its own are used.
+pub const LINK_BYTES: usize = 10;
+
+/// The bytes of a data page that belong to its chain.
+pub const MOST_USED: usize = PAGE_BYTES as usize - LINK_BYTES;
 
 /// The first page of data. Before it lie the roots and the journal.
 pub const FIRST_DATA: u32 = 514;
+
+/// A file has at least so many pages: its directory takes one.
+pub const LEAST_PAGES: u64 = FIRST_DATA as u64 + 1;
 
 /// A file has at most so many pages.
 pub const MOST_PAGES: u32 = 65536;
 
 /// The gate byte that is open. Every other byte is a closed gate.
-pub(crate) const OPEN: u8 = 0xa5;
+pub const OPEN: u8 = 0xa5;
 
 // Whether this is the number of a data page, where the file has so many pages.
 pub(crate) fn is_data(count: u32, page: u64) -> bool
@@ -31,7 +37,7 @@ pub(crate) fn is_data(count: u32, page: u64) -> bool
 
 // A whole page of a chain, that leads to this next page.
 pub(crate) fn lay_page(alloc: Global, next: u32, piece: &[u8]) -> Result<Vec<u8>, AllocError>
-    requires { length piece.now ≤ 4086 }
+    requires { length piece.now ≤ MOST_USED }
     ensures { IfOk result (λ page. page.items ≡ page_spelling next piece.now) }
 {
     let mut page = Vec::with_capacity(alloc, PAGE_BYTES as usize)?;

@@ -1,5 +1,6 @@
 ghost use Rattle.std.specs.Prelude.{◌≡◌, ◌<◌, false, get_or, length, IfOk};
 ghost use Rattle.rr_pages.specs.Sets.{IsEmpty, marked};
+ghost use Rattle.rr_pages.specs.declared.page.TheConstants.{MOST_PAGES};
 
 use crate::page::MOST_PAGES;
 use std::alloc::{AllocError, Global};
@@ -8,7 +9,7 @@ use std::alloc::{AllocError, Global};
 #[derive(Drop)]
 pub struct PageSet {
     marks: Vec<bool>,
-    ghost whole: { length marks.items ≡ 65536 },
+    ghost whole: { length marks.items ≡ MOST_PAGES },
 }
 
 impl PageSet {
@@ -17,7 +18,7 @@ impl PageSet {
     /// An empty set, with room for each of the 65,536 pages that a file may have.
     pub fn new(alloc: Global) -> Result<PageSet, AllocError>
         ensures empty { IfOk result (λ set. IsEmpty (marks_of set)) }
-        ensures whole { IfOk result (λ set. length (marks_of set) ≡ 65536) }
+        ensures whole { IfOk result (λ set. length (marks_of set) ≡ MOST_PAGES) }
     {
         Ok(PageSet {
             marks: no_marks(alloc, MOST_PAGES as usize)?,
@@ -33,9 +34,9 @@ impl PageSet {
 
     /// Puts a page into the set.
     pub fn take(&mut self, page: u32)
-        requires { page < 65536 }
+        requires { page < MOST_PAGES }
         ensures marks { marks_of self.new ≡ marked (marks_of self.old) page }
-        ensures whole { length (marks_of self.old) ≡ 65536 }
+        ensures whole { length (marks_of self.old) ≡ MOST_PAGES }
     {
         self.marks[page as usize] = true;
     }
@@ -43,7 +44,7 @@ impl PageSet {
     /// Empties the set.
     pub fn clear(&mut self)
         ensures empty { IsEmpty (marks_of self.new) }
-        ensures whole { length (marks_of self.new) ≡ 65536 }
+        ensures whole { length (marks_of self.new) ≡ MOST_PAGES }
     {
         self.marks.fill(false);
     }

@@ -10,7 +10,7 @@ ghost use Rattle.rr_pages.specs.Walk as walk;
 ghost use Rattle.std.specs.List.{list_any};
 ghost use Rattle.rr_disk.specs.Disk.{IsAt};
 
-use crate::page::{MOST_USED, PAGE_BYTES, is_data};
+use crate::page::{LINK_BYTES, MOST_PAGES, MOST_USED, PAGE_BYTES, is_data};
 use crate::{Damage, Fault, PageSet};
 use byteorder::{BigEndian, ByteOrder};
 use rr_disk::Disk;
@@ -52,7 +52,7 @@ pub fn chain_read<D: Disk>(
     head: u64,
     stated: Option<u32>,
 ) -> Result<ReadChain, Fault>
-    requires { count ≤ 65536 }
+    requires { count ≤ MOST_PAGES }
     ensures read { D.Honest disk.new
         → Reads (D.state disk.old).content count (marks_of reached.old) head stated (marks_of reached.new) result }
     ensures fault { CountsFault (D.fault_count disk.old) (D.fault_count disk.new) result }
@@ -61,7 +61,7 @@ pub fn chain_read<D: Disk>(
     ensures same_past { D.Honest disk.new → D.past disk.new ≡ D.past disk.old }
     ensures writes { D.write_count disk.new ≡ D.write_count disk.old }
     ensures syncs { D.sync_count disk.new ≡ D.sync_count disk.old }
-    ensures device { OnDeviceFault result (D.Works disk.new → D.file_len disk.old < 4096 * count) }
+    ensures device { OnDeviceFault result (D.Works disk.new → D.file_len disk.old < PAGE_BYTES * count) }
     ensures works { D.Works disk.new → D.Works disk.old }
     ensures same_len { D.file_len disk.new ≡ D.file_len disk.old }
 {
@@ -83,14 +83,14 @@ fn walk<D: Disk>(
     reached: &mut PageSet,
     head: u64,
 ) -> Result<Walked, Fault>
-    requires { count ≤ 65536 }
+    requires { count ≤ MOST_PAGES }
     ensures walk { IfOk result (λ walked. D.Honest disk.new
         → Walk (D.state disk.old).content count (marks_of reached.old) head (pages_of walked.links.items) walked.end) }
     ensures links { IfOk result (λ walked. D.Honest disk.new → AreLinks (D.state disk.old).content walked.links.items) }
     ensures below { IfOk result (λ walked. AreBelow count walked.links.items) }
     ensures marks { IfOk result (λ walked. marks_of reached.new
         ≡ all_marked (marks_of reached.old) (pages_of walked.links.items)) }
-    ensures few { IfOk result (λ walked. length walked.links.items ≤ 65536) }
+    ensures few { IfOk result (λ walked. length walked.links.items ≤ MOST_PAGES) }
     ensures only { NoVerdict result }
     ensures memory { IsErrOf result Fault.OutOfMemory → BeginsAnew count (marks_of reached.old) head }
     ensures fault { CountsFault (D.fault_count disk.old) (D.fault_count disk.new) result }
@@ -99,7 +99,7 @@ fn walk<D: Disk>(
     ensures same_past { D.Honest disk.new → D.past disk.new ≡ D.past disk.old }
     ensures writes { D.write_count disk.new ≡ D.write_count disk.old }
     ensures syncs { D.sync_count disk.new ≡ D.sync_count disk.old }
-    ensures device { OnDeviceFault result (D.Works disk.new → D.file_len disk.old < 4096 * count) }
+    ensures device { OnDeviceFault result (D.Works disk.new → D.file_len disk.old < PAGE_BYTES * count) }
     ensures works { D.Works disk.new → D.Works disk.old }
     ensures same_len { D.file_len disk.new ≡ D.file_len disk.old }
 {
@@ -142,11 +142,11 @@ fn read_link<D: Disk>(disk: &mut D, page: u32) -> Result<Link, Fault>
     ensures same_past { D.Honest disk.new → D.past disk.new ≡ D.past disk.old }
     ensures writes { D.write_count disk.new ≡ D.write_count disk.old }
     ensures syncs { D.sync_count disk.new ≡ D.sync_count disk.old }
-    ensures device { OnDeviceFault result (D.Works disk.new → D.file_len disk.old < 4096 * page + 10) }
+    ensures device { OnDeviceFault result (D.Works disk.new → D.file_len disk.old < PAGE_BYTES * page + LINK_BYTES) }
     ensures works { D.Works disk.new → D.Works disk.old }
     ensures same_len { D.file_len disk.new ≡ D.file_len disk.old }
 {
-    let mut front = [0u8; 10];
+    let mut front = [0u8; LINK_BYTES];
     disk.read_at(PAGE_BYTES * page as u64, &mut front)?;
     Ok(Link {
         page,
@@ -157,7 +157,7 @@ fn read_link<D: Disk>(disk: &mut D, page: u32) -> Result<Link, Fault>
 
 // The first clause that a chain breaks which was followed over these pages to this end.
 fn judge(links: &[Link], end: Option<Damage>, stated: Option<u32>) -> Option<Damage>
-    requires { length links.now ≤ 65536 }
+    requires { length links.now ≤ MOST_PAGES }
     ensures { result ≡ judged links.now end stated }
 {
     match end {
@@ -168,7 +168,7 @@ fn judge(links: &[Link], end: Option<Damage>, stated: Option<u32>) -> Option<Dam
 
 // The first clause that a chain of these pages breaks.
 fn damage_of(links: &[Link], stated: Option<u32>) -> Option<Damage>
-    requires { length links.now ≤ 65536 }
+    requires { length links.now ≤ MOST_PAGES }
     ensures { result ≡ links_damage links.now stated }
 {
     if overfull(links) {
@@ -179,7 +179,7 @@ fn damage_of(links: &[Link], stated: Option<u32>) -> Option<Damage>
 
 // Whether a page has more used bytes than it holds.
 fn overfull(links: &[Link]) -> bool
-    ensures { result ≡ list_any (λ link. nat_lt 4086 link.used) links.now }
+    ensures { result ≡ list_any (λ link. nat_lt MOST_USED link.used) links.now }
 {
     links.iter().any(|link| link.used as usize > MOST_USED)
 }
@@ -201,7 +201,7 @@ fn length_damage(total: u64, stated: Option<u32>) -> Option<Damage>
 
 // How many bytes these pages have together.
 fn used_in(links: &[Link]) -> u64
-    requires { length links.now ≤ 65536 }
+    requires { length links.now ≤ MOST_PAGES }
     ensures { result ≡ sum_by (λ link. link.used) links.now }
 {
     let mut total = 0u64;
@@ -253,11 +253,16 @@ fn read_piece<D: Disk>(
     ensures same_past { D.Honest disk.new → D.past disk.new ≡ D.past disk.old }
     ensures writes { D.write_count disk.new ≡ D.write_count disk.old }
     ensures syncs { D.sync_count disk.new ≡ D.sync_count disk.old }
-    ensures device { OnDeviceFault result (D.Works disk.new → D.file_len disk.old < 4096 * page + 10 + used) }
+    ensures device { OnDeviceFault result (D.Works disk.new → D.file_len disk.old < PAGE_BYTES * page + LINK_BYTES + used) }
     ensures works { D.Works disk.new → D.Works disk.old }
     ensures same_len { D.file_len disk.new ≡ D.file_len disk.old }
 {
-    let piece = read_bytes(alloc, disk, PAGE_BYTES * page as u64 + 10, used as usize)?;
+    let piece = read_bytes(
+        alloc,
+        disk,
+        PAGE_BYTES * page as u64 + LINK_BYTES as u64,
+        used as usize,
+    )?;
     bytes.extend_from_slice(&piece)?;
     Ok(())
 }

@@ -12,8 +12,11 @@ use crate::page::{OPEN, PAGE_BYTES};
 use byteorder::{BigEndian, ByteOrder};
 use rr_disk::{Disk, Fault, put};
 
-// How many bytes of a root stand behind its gate.
-const ROOT_BYTES: usize = 35;
+/// The version of the files that are written.
+pub const NEWEST_VERSION: u16 = 1;
+
+/// How many bytes of a root stand behind its gate.
+pub const ROOT_BYTES: usize = 35;
 
 /// The fields of a root.
 #[derive(Clone, Copy, Debug)]
@@ -71,7 +74,7 @@ impl Roots {
             ≡ after_sync (after_write (D.state disk.old) (root_gate (not self.now.taken) + 1) (root_bytes root.now))) }
         ensures any_moment { D.Honest disk.new
             → LeavesOnly (D.past disk.old) (D.state disk.old) (D.past disk.new) (D.state disk.new)
-            (TornFrom (D.state disk.old) (root_gate (not self.now.taken) + 1) 35) }
+            (TornFrom (D.state disk.old) (root_gate (not self.now.taken) + 1) ROOT_BYTES) }
         ensures honest { D.Honest disk.new → D.Honest disk.old }
         ensures fault { CountsFault (D.fault_count disk.old) (D.fault_count disk.new) result }
         ensures writes { D.write_count disk.new ≡ counted (D.write_count disk.old) }
@@ -92,7 +95,7 @@ impl Roots {
     pub fn open<D: Disk>(&mut self, disk: &mut D) -> Result<(), Fault>
         ensures done { OnOk result (D.Honest disk.new
             → D.state disk.new
-            ≡ after_sync (after_write (D.state disk.old) (root_gate (not self.old.taken)) (0xa5 ∷ []))) }
+            ≡ after_sync (after_write (D.state disk.old) (root_gate (not self.old.taken)) (OPEN ∷ []))) }
         ensures any_moment { D.Honest disk.new
             → LeavesOnly (D.past disk.old) (D.state disk.old) (D.past disk.new) (D.state disk.new)
             (TornFrom (D.state disk.old) (root_gate (not self.old.taken)) 1) }
@@ -151,7 +154,7 @@ pub(crate) fn gate_of(side: bool) -> u64
 }
 
 // A root as it stands behind its gate.
-fn spelled(root: &Root) -> [u8; 35]
+fn spelled(root: &Root) -> [u8; ROOT_BYTES]
     ensures { result ≡ root_bytes root.now }
 {
     let mut bytes = [0u8; ROOT_BYTES];
@@ -160,7 +163,7 @@ fn spelled(root: &Root) -> [u8; 35]
 }
 
 fn spell_number(room: &mut [u8], root: &Root)
-    requires { length room.old ≡ 35 }
+    requires { length room.old ≡ ROOT_BYTES }
     ensures { room.new ≡ root_bytes root.now }
 {
     BigEndian::write_u64(room, root.number);

@@ -12,3 +12,5 @@ mod kits;
 mod opening;
 #[cfg(test)]
 mod serving;
+#[cfg(test)]
+mod steps;

@@ -1,4 +1,5 @@
 pub mod NumberLemmas
 pub mod PieceLemmas
+pub mod VersionLemmas
 pub mod TableLemmas
 pub mod KeptLemmas

@@ -24,7 +24,7 @@ use Rattle.rr_reading.specs.Chains.{FoundChain, AllFollowed}
 use Rattle.rr_reading.specs.Held.{TextChains, chains_of, Held}
 use Rattle.rr_reading.specs.Reading.{TakesRoot, NoneReached, ReadsDirectory, FollowsDirectory, directory_chain, IsDirectory, HasDirectory, HoldsChains, Holds, HasBadTable, AreFound, Directory_alone, With_named}
 use Rattle.rr_reading.proofs.ChainLemmas.{one_followed}
-use Rattle.rr_reading.proofs.Versions.{one_version}
+use Rattle.rr_reading.proofs.DirLemmas.VersionLemmas.{one_version}
 
 pub one_empty : (a b : List Bool) → NoneReached a → NoneReached b → a ≡ b
 one_empty a b of_a of_b = ext_get_or false a b (of_a.whole ∙ sym of_b.whole) (λ i h. of_a.empty i ∙ sym (of_b.empty i))
@@ -71,7 +71,7 @@ module _ (file : List ℕ) (count : ℕ) where
 module _ (file : List ℕ) where
   one_meaning : (number : ℕ) (bytes : List ℕ) (first second : Directory) → IsDirectory number bytes first → IsDirectory number bytes second → first ≡ second
   one_meaning number bytes first second a b =
-      one_directory a.version bytes first second a.spelled (subst (λ (v : Version). Spells v bytes second) (one_version b.version a.version) b.spelled)
+      one_directory a.version bytes first second a.spelled (subst (λ (v : Version). Spells v bytes second) (one_version b.version a.version (b.numbered ∙ sym a.numbered)) b.spelled)
 
   pub one_read : (root : Root) (reached others : List Bool) (chain more : HeldChain) → ReadsDirectory file root reached chain → ReadsDirectory file root others more → (reached ≡ others) × (chain ≡ more)
   one_read root reached others chain more a b =

@@ -4,6 +4,7 @@ use Rattle.rr_reading.specs.Dir.Directory.{Directory, Spells}
 use Rattle.rr_reading.specs.Dir.Heads.{heads_of}
 use Rattle.rr_reading.specs.declared.dir.fault.Fault.{Fault as FormFault}
 use Rattle.rr_reading.specs.declared.dir.fault.Fault.TheVariants as form
+use Rattle.rr_reading.specs.Dir.Version.{version_number}
 use Rattle.rr_reading.specs.declared.dir.version.Version.{Version}
 use Rattle.rr_images.specs.Following.{AllRead}
 use Rattle.rr_images.specs.Holding.{HeldChain}
@@ -26,7 +27,7 @@ use Rattle.rr_reading.specs.Told.{IsToldBroken}
 use Rattle.rr_reading.proofs.ChainLemmas.{all_right, read_followed}
 use Rattle.rr_reading.proofs.Least.{IsAtMost, least_is, least_low, least_none, BreaksBy, breaks_of, AllRight, walk_right, outside_low, twice_low, overfull_low, length_low, one_more, none_of}
 use Rattle.rr_reading.proofs.OneAnswer.{one_empty, whole_broken, one_read, one_found, same_chains, same_root, has_there}
-use Rattle.rr_reading.proofs.Versions.{one_version}
+use Rattle.rr_reading.proofs.DirLemmas.VersionLemmas.{one_version}
 
 clause_some : (damage : Damage) → 1 ≤ clause_of damage
 clause_some RootField = omega arith
@@ -195,11 +196,11 @@ module _ (file : List ℕ) where
         none directory (subst (λ (c : HeldChain). IsDirectory root.version c.text directory) (sym one.1) has.form)))
         read.whole.unbroken (Of_directory side root reached chain taken read none)
 
-    pub form_told : (version : Version) (reached : List Bool) (chain : HeldChain) (fault : FormFault) → ReadsDirectory file root reached chain
+    pub form_told : (version : Version) (reached : List Bool) (chain : HeldChain) (fault : FormFault) → version_number version ≡ root.version → ReadsDirectory file root reached chain
         → (fault ≡ form.Damaged → (directory : Directory) → Spells version chain.text directory → ⊥) → Refuses file (of_directory fault)
-    form_told version reached chain form.Damaged read none =
-        formless_directory reached chain read (λ directory is. none refl directory (subst (λ (v : Version). Spells v chain.text directory) (one_version is.version version) is.spelled))
-    form_told version reached chain form.OutOfMemory read none = (side, root, taken)
+    form_told version reached chain form.Damaged numbered read none =
+        formless_directory reached chain read (λ directory is. none refl directory (subst (λ (v : Version). Spells v chain.text directory) (one_version is.version version (is.numbered ∙ sym numbered)) is.spelled))
+    form_told version reached chain form.OutOfMemory numbered read none = (side, root, taken)
 
   -- the chains that a directory names
   module _ (side : Bool) (root : Root) (reached : List Bool) (chain : HeldChain) (directory : Directory) (has : HasDirectory file side root reached chain directory) (count : ℕ) (few : root.pages ≤ 65536 → count ≡ root.pages) where

@@ -1,5 +1,6 @@
 -- How the chains that a directory names are followed, one after another, and what of them is read.
 use Rattle.std.specs.Prelude.{◌≡◌, ◌≢◌, ◌⊎◌, ℕ, ◌<◌, nat_lt, if◌then◌else◌, Bool, List, [], ◌∷◌, length, map, fold, sum_by, Option, None, Some}
+use Rattle.rr_pages.specs.declared.page.TheConstants.{MOST_USED}
 use Rattle.rr_reading.specs.declared.dir.directory.TableEntry.{TableEntry}
 use Rattle.rr_reading.specs.Dir.Kept.{SpellsKept}
 use Rattle.rr_images.specs.Following.{AllRead}
@@ -43,7 +44,7 @@ abbrev pub HasOne : {T : Type 0} → (T → Type 0) → List T → Type 0
 HasOne P [] = ⊥
 HasOne P (x ∷ xs) = P x ⊎ HasOne P xs
 
--- it comes to a page number below 514, or not under the page count
+-- it comes to a page number before those of data, or not under the page count
 abbrev pub LeadsOutside : FoundChain → Type 0
 LeadsOutside chain = chain.end ≡ Some PageOutside
 
@@ -53,7 +54,7 @@ ReachesTwice chain = chain.end ≡ Some PageTwice
 
 -- a page of it has more used bytes than it holds
 abbrev pub IsOverfull : List ℕ → FoundChain → Type 0
-IsOverfull file chain = HasOne (λ page. 4086 < used_of file page) chain.pages
+IsOverfull file chain = HasOne (λ page. MOST_USED < used_of file page) chain.pages
 
 -- it doesn't break off, and its pages have another number of bytes than is stated
 pub record HasOtherLength (file : List ℕ) (chain : FoundChain) : Type 0 where

@@ -3,6 +3,7 @@
 -- directory and of the tables' chains. Records are read last, and tell no damage here: a kit that is refused and commands
 -- that aren't lawful come before them.
 use Rattle.std.specs.Prelude.{◌≡◌, ℕ, ◌+◌, ◌≤◌, Bool, not, List, [], ◌∷◌, length, None, Result, Ok, Err}
+use Rattle.rr_pages.specs.declared.page.TheConstants.{MOST_PAGES}
 use Rattle.rr_reading.specs.Dir.Directory.{Directory, Spells}
 use Rattle.rr_reading.specs.Dir.Heads.{heads_of}
 use Rattle.rr_reading.specs.Dir.Version.{version_number}
@@ -37,7 +38,7 @@ HasRoot file = (side : Bool) × (root : Root) × TakesRoot file side root
 -- no page is reached
 pub record NoneReached (marks : List Bool) : Type 0 where
   pub empty : IsEmpty marks
-  pub whole : length marks ≡ 65536
+  pub whole : length marks ≡ MOST_PAGES
 
 -- the chain of a root's directory is whole, and reaches these pages
 pub record ReadsDirectory (file : List ℕ) (root : Root) (reached : List Bool) (chain : HeldChain) : Type 0 where

@@ -6,6 +6,7 @@ ghost use Rattle.rr_pages.specs.PageSet.{marks_of};
 ghost use Rattle.rr_reading.specs.Chains.{all_held, lower, lower_of, IsFollowed, damage_told, read_of};
 ghost use Rattle.rr_reading.specs.Faults.{CountsFault, IsNoVerdict, OnDeviceFault};
 ghost use Rattle.rr_reading.specs.Told.{IsToldBroken, told_broken, told_least};
+ghost use Rattle.rr_pages.specs.declared.page.TheConstants.{MOST_PAGES, PAGE_BYTES};
 
 use crate::Fault;
 use crate::dir::ChainRef;
@@ -39,7 +40,7 @@ pub(crate) fn read_chains<D: Disk>(
     reached: &mut PageSet,
     chains: &[ChainRef],
 ) -> Result<Vec<ReadChain>, Fault>
-    requires { count ≤ 65536 }
+    requires { count ≤ MOST_PAGES }
     ensures whole { IfOk result (λ read. D.Honest disk.new
         → AllRead (D.state disk.old).content count (marks_of reached.old) (map head_of chains.now) (marks_of reached.new)
         (all_held read.items)) }
@@ -52,7 +53,7 @@ pub(crate) fn read_chains<D: Disk>(
     ensures same_past { D.Honest disk.new → D.past disk.new ≡ D.past disk.old }
     ensures writes { D.write_count disk.new ≡ D.write_count disk.old }
     ensures syncs { D.sync_count disk.new ≡ D.sync_count disk.old }
-    ensures device { OnDeviceFault result (D.Works disk.new → D.file_len disk.old < 4096 * count) }
+    ensures device { OnDeviceFault result (D.Works disk.new → D.file_len disk.old < PAGE_BYTES * count) }
     ensures works { D.Works disk.new → D.Works disk.old }
     ensures same_len { D.file_len disk.new ≡ D.file_len disk.old }
 {
@@ -122,7 +123,7 @@ fn follow<D: Disk>(
     reached: &mut PageSet,
     chain: ChainRef,
 ) -> Result<Followed, Fault>
-    requires { count ≤ 65536 }
+    requires { count ≤ MOST_PAGES }
     ensures followed { IfOk result (λ followed. D.Honest disk.new
         → IsFollowed (D.state disk.old).content count (marks_of reached.old) (head_of chain) (marks_of reached.new) followed) }
     ensures only { IfErr result (λ fault. D.Honest disk.new → IsNoVerdict fault) }
@@ -132,7 +133,7 @@ fn follow<D: Disk>(
     ensures same_past { D.Honest disk.new → D.past disk.new ≡ D.past disk.old }
     ensures writes { D.write_count disk.new ≡ D.write_count disk.old }
     ensures syncs { D.sync_count disk.new ≡ D.sync_count disk.old }
-    ensures device { OnDeviceFault result (D.Works disk.new → D.file_len disk.old < 4096 * count) }
+    ensures device { OnDeviceFault result (D.Works disk.new → D.file_len disk.old < PAGE_BYTES * count) }
     ensures works { D.Works disk.new → D.Works disk.old }
     ensures same_len { D.file_len disk.new ≡ D.file_len disk.old }
 {

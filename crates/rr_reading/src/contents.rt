@@ -6,6 +6,7 @@ ghost use Rattle.rr_reading.specs.Chains.{held, all_held};
 ghost use Rattle.rr_reading.specs.Faults.{CountsFault, OnDeviceFault};
 ghost use Rattle.rr_reading.specs.Held.{GoesOn, chains_held};
 ghost use Rattle.rr_reading.specs.Reading.{TakesRoot, HoldsChains, Reads, Refuses};
+ghost use Rattle.rr_pages.specs.declared.page.TheConstants.{PAGE_BYTES};
 
 use crate::Fault;
 use crate::chains::read_chains;
@@ -60,7 +61,7 @@ struct FoundChains {
 /// Reads a store's file, as far as no rule of the game is needed. It writes nothing, and neither syncs.
 ///
 /// # Errors
-/// `NotAStore` where the file has fewer than 515 pages, no open root, or an open root of another version than 1; else
+/// `NotAStore` where the file has fewer than 515 pages, no open root, or an open root of a version that isn't known; else
 /// `Damaged` with the least clause that it breaks: of each open root, and then over all chains that can be found, those of
 /// the directory and, where that can be read, of the texts and tables that it names. A chain that breaks off is judged as
 /// far as it goes. Else `Disk` or `OutOfMemory` alone: `Disk` never where the disk works, and `OutOfMemory` only where a
@@ -116,7 +117,7 @@ fn read_found<D: Disk>(alloc: Global, disk: &mut D, root: &Root) -> Result<Found
     ensures same_past { D.Honest disk.new → D.past disk.new ≡ D.past disk.old }
     ensures writes { D.write_count disk.new ≡ D.write_count disk.old }
     ensures syncs { D.sync_count disk.new ≡ D.sync_count disk.old }
-    ensures device { OnDeviceFault result (D.Works disk.new → D.file_len disk.old < 4096 * root.now.pages) }
+    ensures device { OnDeviceFault result (D.Works disk.new → D.file_len disk.old < PAGE_BYTES * root.now.pages) }
     ensures works { D.Works disk.new → D.Works disk.old }
     ensures same_len { D.file_len disk.new ≡ D.file_len disk.old }
 {

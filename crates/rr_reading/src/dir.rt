@@ -15,4 +15,4 @@ mod writing;
 pub use directory::{ChainRef, Dir, KitChains, TableEntry};
 pub use fault::Fault;
 pub use kept::{KeptCommands, write_kept};
-pub use version::Version;
+pub use version::{NEWEST, Version};

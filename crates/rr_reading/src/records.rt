@@ -5,6 +5,8 @@ ghost use Rattle.rr_pages.specs.Journal.Reading.{lines};
 ghost use Rattle.rr_pages.specs.Journal.Run.{Run};
 ghost use Rattle.rr_reading.specs.Faults.{CountsFault, IsNoVerdict, OnDeviceFault};
 ghost use Rattle.rr_reading.specs.Held.{GoesOn};
+ghost use Rattle.rr_pages.specs.declared.page.TheConstants.{FIRST_DATA, PAGE_BYTES};
+ghost use Rattle.rr_pages.specs.declared.journal.layout.TheConstants.{LAST_SLOT};
 
 use crate::Fault;
 use crate::root::first_number;
@@ -41,7 +43,7 @@ pub(crate) fn read_records<D: Disk>(
     ensures same_past { D.Honest disk.new → D.past disk.new ≡ D.past disk.old }
     ensures writes { D.write_count disk.new ≡ D.write_count disk.old }
     ensures syncs { D.sync_count disk.new ≡ D.sync_count disk.old }
-    ensures device { OnDeviceFault result (D.Works disk.new → D.file_len disk.old < 4096 * 514) }
+    ensures device { OnDeviceFault result (D.Works disk.new → D.file_len disk.old < PAGE_BYTES * FIRST_DATA) }
     ensures works { D.Works disk.new → D.Works disk.old }
     ensures same_len { D.file_len disk.new ≡ D.file_len disk.old }
 {
@@ -58,11 +60,11 @@ fn read_half<D: Disk>(
     half: HalfIndex,
     first: u64,
 ) -> Result<Scanned, Fault>
-    requires { first + 255 < 2 ^ 64 }
+    requires { first + LAST_SLOT < 2 ^ 64 }
     ensures run { IfOk result (λ scanned. D.Honest disk.new
         → Run (D.state disk.old).content half 0 first (lines scanned.records.items) scanned.end) }
     ensures half { IfOk result (λ scanned. GoesOn half scanned) }
-    ensures few { IfOk result (λ scanned. length scanned.records.items ≤ 255) }
+    ensures few { IfOk result (λ scanned. length scanned.records.items ≤ LAST_SLOT) }
     ensures only { IfErr result IsNoVerdict }
     ensures fault { CountsFault (D.fault_count disk.old) (D.fault_count disk.new) result }
     ensures honest { D.Honest disk.new → D.Honest disk.old }
@@ -70,7 +72,7 @@ fn read_half<D: Disk>(
     ensures same_past { D.Honest disk.new → D.past disk.new ≡ D.past disk.old }
     ensures writes { D.write_count disk.new ≡ D.write_count disk.old }
     ensures syncs { D.sync_count disk.new ≡ D.sync_count disk.old }
-    ensures device { OnDeviceFault result (D.Works disk.new → D.file_len disk.old < 4096 * 514) }
+    ensures device { OnDeviceFault result (D.Works disk.new → D.file_len disk.old < PAGE_BYTES * FIRST_DATA) }
     ensures works { D.Works disk.new → D.Works disk.old }
     ensures same_len { D.file_len disk.new ≡ D.file_len disk.old }
 {

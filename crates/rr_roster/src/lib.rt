@@ -1,6 +1,6 @@
 //! The roster of a kit: the privates, the corporations and the trains of a game, read from a TOML text.
 //!
-//! Stands on `rr_words` and `toml`. Its promise: `Roster::read` is `IsAnswer`, the roster that the text spells or the
+//! Stands on `toml`. Its promise: `Roster::read` is `IsAnswer`, the roster that the text spells or the
 //! first rule that it breaks.
 #![tactic(auto)]
 

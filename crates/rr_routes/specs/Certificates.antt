@@ -6,6 +6,7 @@ use Rattle.rr_routes.specs.declared.net.Node.TheVariants.{Hexside, Centre}
 use Rattle.rr_routes.specs.declared.certificate.Fate.{Fate}
 use Rattle.rr_routes.specs.declared.certificate.Fate.TheVariants.{Open, Denied, Of}
 use Rattle.rr_routes.specs.declared.certificate.CertTree.{CertTree, Bound, Bad, Full, Split', Row_of-CertTree, end_of-CertTree, more_of-CertTree}
+use Rattle.rr_routes.specs.declared.certificate.TheConstants.{MOST_NODES}
 use Rattle.rr_routes.specs.Net.{Net, Touches, limit_of, IsWithin}
 use Rattle.rr_routes.specs.Routes.{NoneTwice, Trip, trip_of, Run, worth, earned}
 use Rattle.rr_routes.specs.Reach.{NodeReached, LinkReached}
@@ -105,7 +106,7 @@ abbrev mutual
 abbrev pub all_open : Net → List Fate
 all_open net = replicate (length net.links) Open
 
--- the tree is accepted for the claim: it has at most 1,024 nodes and shows that no run earns more
+-- the tree is accepted for the claim: it has at most `MOST_NODES` nodes and shows that no run earns more
 pub record Accepts (net : Net) (claim : ℕ) (tree : CertTree) : Type 0 where
-  pub small : node_count tree ≤ 1024
+  pub small : node_count tree ≤ MOST_NODES
   pub shown : AcceptsUnder net claim (all_open net) tree

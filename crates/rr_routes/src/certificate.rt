@@ -1,3 +1,6 @@
+/// The most nodes that a certificate may have.
+pub const MOST_NODES: usize = 1024;
+
 /// Who may run over a link, as far as a certificate has decided it.
 #[derive(Clone, Copy, Debug, PartialEq, Eq)]
 pub enum Fate {

@@ -14,6 +14,13 @@ ghost use Rattle.rr_routes.specs.declared.certificate.Fate.{Fate};
 ghost use Rattle.rr_routes.specs.declared.certificate.Fate.TheVariants.{Open};
 ghost use Rattle.rr_routes.specs.declared.certificate.CertTree.{CertTree, Bound, Split};
 
+use crate::certificate::MOST_NODES;
+
+/// A certificate has at most 1,024 nodes.
+pub fn most_nodes()
+    ensures { MOST_NODES ≡ 1024 }
+{}
+
 /// Where a certificate is accepted for a claim, no run of the net earns more than the claim, and a run that earns
 /// the claim is optimal, whoever made it.
 pub fn optimal()

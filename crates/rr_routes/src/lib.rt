@@ -11,5 +11,5 @@ mod net;
 pub mod reachability;
 pub mod sheets;
 
-pub use certificate::{CertTree, Fate};
+pub use certificate::{CertTree, Fate, MOST_NODES};
 pub use net::{CentreLimit, Link, Node};

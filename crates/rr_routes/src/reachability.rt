@@ -1,11 +1,11 @@
 //! What is reached from some states of a graph by going on to the states that may follow.
 //!
-//! Stands on std alone. Its promise: what is marked is exactly what `IsReached`.
+//! Stands on std alone. Its promise: what is marked is exactly what `IsReached`, or `IsReachedWithin`.
 
 mod graph;
 mod marking;
 mod search;
 
 pub use graph::Followers;
-pub use marking::marked_items;
-pub use search::reached;
+pub use marking::{is_marked, marked_items};
+pub use search::{reached, reached_within};

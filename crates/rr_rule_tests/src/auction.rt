@@ -71,8 +71,8 @@ impl Table {
         turns(self.desk.position())
     }
 
-    fn cash(&self, party: Party) -> i64 {
-        self.desk.books().balance(party).0
+    fn cash(&self, party: Party, roster: &Roster) -> i64 {
+        self.desk.books().money(party, roster).0
     }
 
     fn entries(&self) -> &[Entry] {
@@ -143,8 +143,8 @@ fn a_purchase_and_a_bid_that_is_too_low(rt: HostRuntime) {
     assert!(rt; table.due() == Due::Turn(B));
     assert!(rt; table.asked(&roster) == Some((Private::Csl, Money(40))));
     assert!(rt; table.turns() == 1);
-    assert!(rt; table.cash(Party::Seat(A)) == 580);
-    assert!(rt; table.cash(Party::Bank) == 9620);
+    assert!(rt; table.cash(Party::Seat(A), &roster) == 580);
+    assert!(rt; table.cash(Party::Bank, &roster) == 9620);
     assert!(rt; are_of_the_first_purchase(table.entries()));
     let low = Act::Bid {
         seat: B,

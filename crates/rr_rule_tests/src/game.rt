@@ -84,8 +84,8 @@ fn played(rt: &impl Abort, alloc: Global, kit: &Kit, lines: &[&[u8]]) -> Game {
     game
 }
 
-fn cash(rt: &impl Abort, game: &Game, player: Name) -> Money {
-    game.cash(&Account::Player(player))
+fn cash(rt: &impl Abort, game: &Game, player: Name, kit: &Kit) -> Money {
+    game.cash(&Account::Player(player), kit)
         .expect(rt, "a player of the table")
 }
 
@@ -130,7 +130,7 @@ fn an_auction_and_the_stock_round_behind_it(rt: HostRuntime) {
     assert!(rt; game.asked(&kit).is_none());
     let a = player(&rt, b"a");
     assert!(rt; game.player(A) == b"a".as_slice());
-    assert!(rt; cash(&rt, &game, a) == Money(750));
+    assert!(rt; cash(&rt, &game, a, &kit) == Money(750));
     assert!(rt; holds(&rt, &game, &a, Corp::Prr) == 30);
     assert!(rt; place(&rt, &game, a) == Place::Seat(A));
     assert!(rt; game.owns(Place::Seat(A), Private::Sv));
@@ -180,9 +180,9 @@ fn a_corporation_is_due_in_an_operating_round(rt: HostRuntime) {
     ];
     let game = played(&rt, alloc, &kit, &lines);
     assert!(rt; game.due(&kit) == Due::Operating(Corp::Prr, TurnStep::Lay));
-    assert!(rt; game.cash(&Account::Corp(Corp::Prr)) == Ok(Money(1000)));
+    assert!(rt; game.cash(&Account::Corp(Corp::Prr), &kit) == Ok(Money(1000)));
     assert!(rt; game.phase() == Kind::Two);
-    assert!(rt; game.iou() == 0);
+    assert!(rt; game.iou(&kit) == 0);
     assert!(rt; game.trains(TrainHolder::Corp(Corp::Prr), Kind::Two) == 0);
     assert!(rt; game.trains(TrainHolder::Pool, Kind::Two) == 0);
     assert!(rt; game.revenue() == Money(0));

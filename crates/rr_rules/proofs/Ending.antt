@@ -1,10 +1,9 @@
 -- The end of the game.
-use Rattle.std.specs.Prelude.{◌≡◌, Bool, true, ◌||◌, List, ◌∷◌, ◌++◌}
+use Rattle.std.specs.Prelude.{◌≡◌, Bool, true, ◌||◌, ◌∷◌, ◌++◌}
 use Rattle.std.specs.List.{list_any}
 use Rattle.std.proofs.Common.{◌∙◌, ap}
 use Rattle.std.proofs.Math.Bool.{or-true}
 use Rattle.std.proofs.lemmas.List.Folds.{list_any-append}
-use Rattle.rr_chart.specs.Chart.{Row}
 use Rattle.rr_books.specs.declared.acts.Act.TheVariants as A
 use Rattle.rr_books.specs.declared.entries.Entry.TheVariants as E
 use Rattle.rr_books.specs.declared.entries.Marker.TheVariants as M
@@ -15,8 +14,8 @@ use Rattle.rr_rules.specs.Judging.{bank_is_broken}
 use Rattle.rr_rules.specs.RuleLaws.{BankruptcyEndsTheGame}
 
 pub ends : BankruptciesAreRemembered → BankruptcyEndsTheGame
-ends law rows book more s =
+ends law kit book more s =
     let e = E.Step (M.Act (A.Bankrupt s)) in
     let whole = book ++ e ∷ more in
-    ap (λ (b : Bool). b || bank_is_broken rows whole)
+    ap (λ (b : Bool). b || bank_is_broken kit whole)
     (law whole ∙ list_any-append is_bankruptcy book (e ∷ more) ∙ or-true (list_any is_bankruptcy book))

@@ -1,6 +1,5 @@
 -- The judgement on a command, by the rules that are in force.
-use Rattle.std.specs.Prelude.{Bool, true, false, not, ◌&&◌, ◌||◌, is_some, List, Option, None, Some, if◌then◌else◌}
-use Rattle.rr_chart.specs.Chart.{Row}
+use Rattle.std.specs.Prelude.{Bool, true, false, not, ◌&&◌, ◌||◌, is_some, Option, None, Some, if◌then◌else◌}
 use Rattle.rr_kit.specs.Board.Plan.{hex_named}
 use Rattle.rr_tiles.specs.Supply.{supply_at}
 use Rattle.rr_kit.specs.declared.kit.Kit.{Kit}
@@ -13,7 +12,7 @@ use Rattle.rr_rounds.specs.Round as rounds
 use Rattle.rr_stock.specs.Rules as stock
 use Rattle.rr_market.specs.declared.operations.turn.Stage.{Stage}
 use Rattle.rr_market.specs.declared.operations.turn.Stage.TheVariants as G
-use Rattle.rr_market.specs.Operations.Progress.{has_more_rounds, progress}
+use Rattle.rr_market.specs.Operations.Progress.{bank_owed, has_more_rounds, progress}
 use Rattle.rr_operate.specs.Sets.Rounds.{round_is_over}
 use Rattle.rr_books.specs.declared.refusal.Refusal.{Refusal}
 use Rattle.rr_operate.specs.Rows.{IsRowVerdict, first_verdict}
@@ -33,12 +32,12 @@ unfoldable pub stage : Book → Stage
 stage book = stage_once (is_over (auction.due book)) (rounds.progress book).under_way
 
 -- a set of operating rounds has ended behind an entry after which the bank owed money
-abbrev pub bank_is_broken : List Row → Book → Bool
-bank_is_broken rows book = round_is_over rows book && (progress book).bank_owed && not (has_more_rounds (progress book))
+abbrev pub bank_is_broken : Kit → Book → Bool
+bank_is_broken kit book = round_is_over kit.chart book && bank_owed kit.roster (progress book) && not (has_more_rounds (progress book))
 
 -- the game is over: a seat is bankrupt, or the bank is broken
-abbrev pub game_is_over : List Row → Book → Bool
-game_is_over rows book = (progress book).bankrupt || bank_is_broken rows book
+abbrev pub game_is_over : Kit → Book → Bool
+game_is_over kit book = (progress book).bankrupt || bank_is_broken kit book
 
 -- a hex that the board lacks, or a tile that the manifest lacks
 abbrev pub refused_unless : Bool → Option Refusal

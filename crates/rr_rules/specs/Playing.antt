@@ -25,14 +25,24 @@ abbrev pub operating_entries : Bool → Kit → GameState → Act → Book
 operating_entries true kit state act = forced.entries_of kit.roster kit.chart state.book act
 operating_entries false kit state act = operate.entries_of kit state.revenue state.book act
 
+-- what a command adds to the book, by the rules of a stage
+abbrev pub entries_in : Stage → Kit → GameState → Act → Book
+entries_in G.Auction kit state act = auction.entries_of kit.roster kit.chart state.book act
+entries_in G.Stock kit state act = stock_entries kit state.book act
+entries_in G.Operating kit state act = operating_entries (is_forced act) kit state act
+
+-- what the trains of the corporation that is due have earned behind a command, by the rules of a stage
+abbrev pub revenue_in : Stage → Kit → GameState → Act → Money
+revenue_in G.Operating kit state act = operate.revenue_after kit state.book state.revenue act
+revenue_in _ kit state act = state.revenue
+
 -- the state behind a command, by the rules of a stage
 abbrev pub state_in : Stage → Kit → GameState → Act → GameState
-state_in G.Auction kit state act = record { book = state.book ++ auction.entries_of kit.roster kit.chart state.book act; revenue = state.revenue }
-state_in G.Stock kit state act = record { book = state.book ++ stock_entries kit state.book act; revenue = state.revenue }
-state_in G.Operating kit state act = record {
-  book = state.book ++ operating_entries (is_forced act) kit state act;
-  revenue = operate.revenue_after kit state.book state.revenue act;
-}
+state_in stage kit state act = record { book = state.book ++ entries_in stage kit state act; revenue = revenue_in stage kit state act }
+
+-- what a command adds to the book, by the rules in force
+abbrev pub entries_after : Kit → GameState → Act → Book
+entries_after kit state act = entries_in (stage state.book) kit state act
 
 -- the state behind a command, by the rules in force
 abbrev pub state_after : Kit → GameState → Act → GameState

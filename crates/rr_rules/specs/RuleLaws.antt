@@ -1,6 +1,5 @@
 -- What always holds of the rules of a table.
-use Rattle.std.specs.Prelude.{◌≡◌, true, List, ◌∷◌, ◌++◌}
-use Rattle.rr_chart.specs.Chart.{Row}
+use Rattle.std.specs.Prelude.{◌≡◌, true, ◌∷◌, ◌++◌}
 use Rattle.rr_books.specs.declared.acts.Act.{Act}
 use Rattle.rr_books.specs.declared.acts.Act.TheVariants as A
 use Rattle.rr_books.specs.declared.entries.Entry.TheVariants as E
@@ -18,4 +17,4 @@ ActsHaveOneVerdict = (kit : Kit) (state : GameState) (act : Act) → HasOneVerdi
 
 -- the game is over once a seat has said that it is bankrupt, whatever follows
 abbrev pub BankruptcyEndsTheGame : Type 0
-BankruptcyEndsTheGame = (rows : List Row) (book more : Book) (s : Seat) → game_is_over rows (book ++ E.Step (M.Act (A.Bankrupt s)) ∷ more) ≡ true
+BankruptcyEndsTheGame = (kit : Kit) (book more : Book) (s : Seat) → game_is_over kit (book ++ E.Step (M.Act (A.Bankrupt s)) ∷ more) ≡ true

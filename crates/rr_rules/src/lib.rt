@@ -12,4 +12,4 @@ mod rounds;
 mod runs;
 mod standing;
 
-pub use standing::Standing;
+pub use standing::{Standing, Taken};

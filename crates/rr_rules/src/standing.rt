@@ -7,12 +7,12 @@ ghost use Rattle.rr_books.specs.Book.{Book};
 ghost use Rattle.rr_desk.specs.Position.Position.{IsPositionOf};
 ghost use Rattle.rr_turns.specs.Judgement.{IsVerdict, MayFind};
 ghost use Rattle.rr_rules.specs.Judging.{bank_is_broken, game_is_over, judgement, judgement_in, stage};
-ghost use Rattle.rr_rules.specs.Playing.{state_after, state_in};
+ghost use Rattle.rr_rules.specs.Playing.{entries_after, entries_in, state_after, state_in};
 ghost use Rattle.rr_rules.specs.State.{GameState, IsStandingOf};
 
 use crate::names::judge_names;
 use rr_books::{Act, Money, Refusal};
-use rr_desk::Position;
+use rr_desk::{Entries, Position};
 use rr_kit::Kit;
 use rr_market::operations::Stage;
 use rr_roster::Roster;
@@ -39,6 +39,15 @@ impl Model for Standing {
     ghost invariant = { λ s. (pos 0 ≤ℤ s.revenue.0) × (s.revenue.0 ≤ℤ pos 10000000000) };
 
     ghost inverse = { λ s. record { position = s.position; revenue = s.revenue } };
+}
+
+/// What a command comes to.
+#[derive(Debug, Drop)]
+pub struct Taken {
+    /// How the table stands behind it.
+    pub standing: Standing,
+    /// What it adds to the table's book, oldest first.
+    pub entries: Entries,
 }
 
 impl Standing {
@@ -73,58 +82,54 @@ impl Standing {
 
     /// Whether the game is over: a seat is bankrupt, or a set of operating rounds has ended and the bank owed money before.
     pub fn is_over(&self, kit: &Kit) -> bool
-        ensures { (book : Book) → IsPositionOf book self.now.position → result ≡ game_is_over kit.now.chart book }
+        ensures { (book : Book) → IsPositionOf book self.now.position → result ≡ game_is_over kit.now book }
     {
         self.position.operations().is_bankrupt() || self.bank_is_broken(kit)
     }
 
     // Whether a set of operating rounds has ended, and the bank owed money before.
     fn bank_is_broken(&self, kit: &Kit) -> bool
-        ensures { (book : Book) → IsPositionOf book self.now.position → result ≡ bank_is_broken kit.now.chart book }
+        ensures { (book : Book) → IsPositionOf book self.now.position → result ≡ bank_is_broken kit.now book }
     {
         let operations = self.position.operations();
         operations.stage() == Stage::Operating
             && operations.due(kit.chart()).is_none()
-            && operations.bank_owed()
+            && operations.bank_owed(kit.roster())
             && !operations.has_more_rounds()
     }
 
-    /// How the table stands behind a command. A refusal leaves it as it is.
+    /// How the table stands behind a command, and what the command adds to its book. A refusal leaves it as it is.
     ///
     /// # Errors
     ///
     /// `NoSuchName` for a hex that the board lacks or a tile that the manifest lacks; then what the rules in force
     /// refuse: those of the auction until it is over, and then those of the stock round or operating round under way.
     /// `OutOfMemory` where none of those comes that take no memory.
-    pub fn take(&self, alloc: Global, kit: &Kit, act: &Act) -> Result<Standing, Refusal>
+    pub fn take(&self, alloc: Global, kit: &Kit, act: &Act) -> Result<Taken, Refusal>
         requires seated { HasSeat act.now }
         requires small_bid { auction.IsSmall act.now }
         requires small_price { depot.IsSmall act.now }
         ensures verdict { (state : GameState) → IsStandingOf state self.now → MatchResult result
             (λ _. IsVerdict (judgement kit.now state act.now) None)
             (λ fault. MayFind (judgement kit.now state act.now) Refusal.OutOfMemory fault) }
-        ensures standing { IfOk result (λ next. (state : GameState) → IsStandingOf state self.now → IsStandingOf (state_after kit.now state act.now) next) }
+        ensures standing { IfOk result (λ taken. (state : GameState) → IsStandingOf state self.now → IsStandingOf (state_after kit.now state act.now) taken.standing) }
+        ensures entries { IfOk result (λ taken. (state : GameState) → IsStandingOf state self.now → taken.entries ≡ entries_after kit.now state act.now) }
     {
         judge_names(kit, act)?;
-        let next = self.take_in(self.stage(), alloc, kit, act)?;
-        Ok(next)
+        let taken = self.take_in(self.stage(), alloc, kit, act)?;
+        Ok(taken)
     }
 
     // Takes it by the rules of a stage.
-    fn take_in(
-        &self,
-        stage: Stage,
-        alloc: Global,
-        kit: &Kit,
-        act: &Act,
-    ) -> Result<Standing, Refusal>
+    fn take_in(&self, stage: Stage, alloc: Global, kit: &Kit, act: &Act) -> Result<Taken, Refusal>
         requires seated { HasSeat act.now }
         requires small_bid { auction.IsSmall act.now }
         requires small_price { depot.IsSmall act.now }
         ensures verdict { (state : GameState) → IsStandingOf state self.now → MatchResult result
             (λ _. IsVerdict (judgement_in stage kit.now state act.now) None)
             (λ fault. MayFind (judgement_in stage kit.now state act.now) Refusal.OutOfMemory fault) }
-        ensures standing { IfOk result (λ next. (state : GameState) → IsStandingOf state self.now → IsStandingOf (state_in stage kit.now state act.now) next) }
+        ensures standing { IfOk result (λ taken. (state : GameState) → IsStandingOf state self.now → IsStandingOf (state_in stage kit.now state act.now) taken.standing) }
+        ensures entries { IfOk result (λ taken. (state : GameState) → IsStandingOf state self.now → taken.entries ≡ entries_in stage kit.now state act.now) }
     {
         match stage {
             Stage::Auction => self.take_in_auction(alloc, kit, act),

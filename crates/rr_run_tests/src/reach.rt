@@ -1,5 +1,5 @@
 //! A graph small enough to be followed by hand.
-use rr_routes::reachability::{Followers, marked_items, reached};
+use rr_routes::reachability::{Followers, is_marked, marked_items, reached, reached_within};
 use std::alloc::Global;
 use std::process::Abort;
 
@@ -50,6 +50,39 @@ fn goes_round_and_ends(rt: HostRuntime) {
         let marks = reached(rt.alloc(), &graph, starts).expect(&rt, "memory");
         assert!(rt; marks.as_slice() == wanted.as_slice());
     }
+}
+
+#[test]
+fn goes_over_allowed_states_alone(rt: HostRuntime) {
+    let graph = graph(&rt, rt.alloc());
+    for (starts, allowed, wanted) in [
+        (
+            [0].as_slice(),
+            [true, true, false, true, true, true, true].as_slice(),
+            [true, true, false, false, true, false, false],
+        ),
+        (
+            [0, 6].as_slice(),
+            [false, true, true, true, true, true, true].as_slice(),
+            [false, false, false, false, false, true, true],
+        ),
+        // a state without a mark isn't allowed
+        (
+            [0].as_slice(),
+            [true, true].as_slice(),
+            [true, true, false, false, false, false, false],
+        ),
+    ] {
+        let marks = reached_within(rt.alloc(), &graph, starts, allowed).expect(&rt, "memory");
+        assert!(rt; marks.as_slice() == wanted.as_slice());
+    }
+}
+
+#[test]
+fn reads_marks(rt: HostRuntime) {
+    assert!(rt; is_marked(&[true, false], 0));
+    assert!(rt; !is_marked(&[true, false], 1));
+    assert!(rt; !is_marked(&[true, false], 2));
 }
 
 #[test]

@@ -9,6 +9,7 @@ fn laws_are_called() {
     laws::same_links();
     laws::full_leaves();
     laws::splits();
+    laws::most_nodes();
     laws::worked_rows();
     laws::refused_rows();
 }

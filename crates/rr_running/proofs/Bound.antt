@@ -5,6 +5,7 @@ use Rattle.std.proofs.lemmas.Bool.{cases_lt}
 use Rattle.std.proofs.lemmas.List.{get_or_default, get_or_past}
 use Rattle.std.proofs.lemmas.List.FromFn.{length-range_with_len, get_or-range_with_len}
 use Rattle.std.proofs.lemmas.List.Sums.{sum_by-le}
+use Rattle.rr_kit.specs.declared.board.hex.TheConstants.{MOST_CENTRES}
 use Rattle.rr_routes.specs.declared.net.Node.{Node}
 use Rattle.rr_routes.specs.Net.{Net, value, limit_of}
 use Rattle.rr_routes.specs.Routes.{NoneTwice, Trip, no_trip, trip_of, Route, centres, worth, earned}
@@ -13,7 +14,7 @@ use Rattle.rr_routes.specs.declared.sheets.sheet.TrainWord.{TrainWord}
 use Rattle.rr_referee.specs.Sheets.{IsLegal}
 use Rattle.rr_routes.proofs.Walks.{NoneTwice-centres}
 
-module _ (net : Net) (values : (centre : ℕ) → value net centre ≤ 990) (few : length net.values ≤ 65536) where
+module _ (net : Net) (values : (centre : ℕ) → value net centre ≤ 990) (few : length net.values ≤ MOST_CENTRES) where
   -- the centres that have a value
   valued : List ℕ
   valued = range_with_len 0 (length net.values)
@@ -56,7 +57,7 @@ module _ (net : Net) (values : (centre : ℕ) → value net centre ≤ 990) (few
       omega (arith, most, trains)
 
 -- a legal sheet earns no more
-pub legal_most : (net : Net) (sheet : List TrainWord) (revenue : ℕ) → ((centre : ℕ) → value net centre ≤ 990) → length net.values ≤ 65536 → length net.trains ≤ 120 → IsLegal net sheet revenue → revenue ≤ 7785676800
+pub legal_most : (net : Net) (sheet : List TrainWord) (revenue : ℕ) → ((centre : ℕ) → value net centre ≤ 990) → length net.values ≤ MOST_CENTRES → length net.trains ≤ 120 → IsLegal net sheet revenue → revenue ≤ 7785676800
 legal_most net sheet revenue values few trains legal =
     let complete = legal.is_run.complete in
     let most = earned_most net values few legal.run (omega arith) (λ train less. legal.is_run.lawful train) in

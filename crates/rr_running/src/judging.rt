@@ -1,5 +1,6 @@
 //! Judges the run that a corporation proposes.
 ghost use Rattle.std.specs.Prelude.{◌≡◌, ℕ, ◌≤◌, ◌≤ℤ◌, ◌⊎◌, None, Some, pos, length, IfOk, MatchResult};
+ghost use Rattle.rr_kit.specs.declared.board.hex.TheConstants.{MOST_CENTRES};
 ghost use Rattle.rr_books.specs.Book.{Book};
 ghost use Rattle.rr_desk.specs.Incomes.{dollars};
 ghost use Rattle.rr_desk.specs.Position.Position.{IsPositionOf};
@@ -79,7 +80,7 @@ pub fn judge_best_run(
 // What the run of these words earns on the net.
 fn earned_by(alloc: Global, net: &Net, words: &[u8]) -> Result<usize, Refusal>
     requires values { (centre : ℕ) → value net.now centre ≤ 990 }
-    requires centres { length net.now.values ≤ 65536 }
+    requires centres { length net.now.values ≤ MOST_CENTRES }
     requires trains { length net.now.trains ≤ 120 }
     ensures judged { MatchResult result
         (λ earned. IsVerdictOn net.now words.now None × (earned ≡ earned_on net.now words.now))

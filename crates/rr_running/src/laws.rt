@@ -1,13 +1,10 @@
-//! What always holds of verdicts on runs, and how large a net they are given over. The functions do nothing: a caller's
-//! proof cites what they ensure.
+//! What always holds of verdicts on runs. The functions do nothing: a caller's proof cites what they ensure.
 ghost use Rattle.std.specs.Prelude.{◌≡◌, ℕ, ◌≤◌, List, Option, None};
 ghost use Rattle.rr_roster.specs.declared.company.Corp.{Corp};
 ghost use Rattle.rr_books.specs.Book.{Book};
 ghost use Rattle.rr_kit.specs.declared.kit.Kit.{Kit};
 ghost use Rattle.rr_running.specs.Running.{IsBestRunVerdict, IsRunVerdict, earned_on, net_now};
 ghost use Rattle.rr_books.specs.declared.refusal.Refusal.{Refusal};
-
-use crate::nets::MOST_CENTRES;
 
 /// No words have two verdicts as a run, with a certificate or without.
 pub fn one_verdict_on_a_run()
@@ -24,9 +21,4 @@ pub fn best_earns_most()
     ensures most { (kit : Kit) (book : Book) (c : Corp) (words certificate others : List ℕ) →
         IsBestRunVerdict kit book c words certificate None → IsRunVerdict kit book c others None →
         earned_on (net_now kit.board kit.tiles book c) others ≤ earned_on (net_now kit.board kit.tiles book c) words }
-{}
-
-/// A run is judged over a net of 65,536 centres, and over none of more.
-pub fn most_centres()
-    ensures { MOST_CENTRES ≡ 65536 }
 {}

@@ -11,11 +11,9 @@ use rr_books::{Books, Corp, Kind, Place};
 use rr_checker::Net;
 use rr_desk::Position;
 use rr_kit::Kit;
+use rr_kit::board::MOST_CENTRES;
 use rr_trains::{phase, trains_at};
 use std::alloc::{AllocError, Global};
-
-/// The most centres over which a run is judged: more than boards have.
-pub(crate) const MOST_CENTRES: usize = 65_536;
 
 /// The kinds of the corporation's trains, each as often as it has one, the smallest first.
 ///

@@ -1,3 +1,4 @@
+pub mod Lengths
 pub mod Short
 pub mod Staying
 pub mod Told

@@ -16,6 +16,7 @@ use Rattle.rr_routes.specs.declared.certificate.Fate.TheVariants.{Open, Denied, 
 use Rattle.rr_routes.specs.Net.{Net, limit_of}
 use Rattle.rr_routes.specs.Routes.{Trip, no_trip, trip_of, Run, earned}
 use Rattle.rr_routes.specs.declared.certificate.CertTree.{CertTree}
+use Rattle.rr_routes.specs.declared.certificate.TheConstants.{MOST_NODES}
 use Rattle.rr_routes.specs.Certificates.{fate_of, Allows, Uses, Keeps, all_open, Accepts, node_count}
 use Rattle.rr_routes.proofs.Fates.{Keeps-all_open}
 use Rattle.rr_routes.proofs.Elements.{Contains-nil}
@@ -236,7 +237,7 @@ found_some net fates opened best =
 
 -- the whole tree shows that none earns more than the best over its leaves
 pub certified_by : (net : Net) (limit : ℕ) (fates : List Fate) → fates ≡ all_open net → (found : Found) (tree : CertTree) → IsBestUnder net fates None (Some found)
-    → ShowsFrom net 0 tree → node_count tree ≡ whole_size (length net.trains) (length net.links - 0) → whole_size (length net.trains) (length net.links) ≤ limit → limit ≤ 1024
+    → ShowsFrom net 0 tree → node_count tree ≡ whole_size (length net.trains) (length net.links - 0) → whole_size (length net.trains) (length net.links) ≤ limit → limit ≤ MOST_NODES
     → IsCertified net limit found.sheet tree
 certified_by net limit fates opened found tree best shows counted fits small =
     let all : length net.links - 0 ≡ length net.links = omega arith in

@@ -1,1 +1,2 @@
 pub mod Worded
+pub mod Lengths

@@ -11,6 +11,7 @@ use crate::whole::{explore, whole_fits, whole_tree};
 use rr_checker::{CertTree, Fate, Net};
 use rr_guesses::guess;
 use rr_roster::Kind;
+use rr_routes::MOST_NODES;
 use rr_routes::sheets::Sheet;
 use std::alloc::Global;
 
@@ -23,7 +24,7 @@ use std::alloc::Global;
 /// `NoCertificate` comes only where the whole tree, which splits every link of the net in turn, has more nodes than the
 /// limit, or where no sheet is legal, since a train of the net is of no kind; else `OutOfMemory`.
 pub fn best(alloc: Global, net: &Net, limit: usize) -> Result<(Sheet, CertTree), Fault>
-    requires small { limit ≤ 1024 }
+    requires small { limit ≤ MOST_NODES }
     requires values { (centre : ℕ) → value net.now centre ≤ 65535 }
     requires centres { length net.now.values ≤ 65536 }
     requires trains { length net.now.trains ≤ 1000 }
@@ -42,7 +43,7 @@ fn certified(
     kinds: &[Kind],
     limit: usize,
 ) -> Result<(Sheet, CertTree), Fault>
-    requires small { limit ≤ 1024 }
+    requires small { limit ≤ MOST_NODES }
     requires modest { IsModest net.now }
     requires kinds { AreKinds net.now kinds.now }
     ensures { MatchResult result (λ found. IsCertified net.now limit found.0 found.1) (λ fault. (fault ≡ OutOfMemory)
@@ -65,7 +66,7 @@ fn by_whole_tree(
     kinds: &[Kind],
     limit: usize,
 ) -> Result<(Sheet, CertTree), Fault>
-    requires small { limit ≤ 1024 }
+    requires small { limit ≤ MOST_NODES }
     requires fits { whole_size (length net.now.trains) (length net.now.links) ≤ limit }
     requires modest { IsModest net.now }
     requires kinds { AreKinds net.now kinds.now }

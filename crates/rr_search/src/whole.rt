@@ -12,12 +12,13 @@ use crate::found::Found;
 use crate::full::best_over;
 use rr_checker::{CertTree, Fate, Net};
 use rr_roster::Kind;
+use rr_routes::MOST_NODES;
 use std::alloc::{AllocError, Global};
 
 // Whether the whole tree of so many trains and links has at most so many nodes.
 pub(crate) fn whole_fits(trains: usize, links: usize, limit: usize) -> bool
     requires few { trains ≤ 1000 }
-    requires small { limit ≤ 1024 }
+    requires small { limit ≤ MOST_NODES }
     ensures { Decides result (whole_size trains links ≤ limit) }
 {
     let mut size = 1;
@@ -33,7 +34,7 @@ pub(crate) fn whole_fits(trains: usize, links: usize, limit: usize) -> bool
 // How many nodes a split has over children of this size.
 fn size_above(size: usize, trains: usize) -> usize
     requires few { trains ≤ 1000 }
-    requires small { size ≤ 1024 }
+    requires small { size ≤ MOST_NODES }
     ensures { result ≡ size * (trains + 1) + 1 }
 {
     size * (trains + 1) + 1

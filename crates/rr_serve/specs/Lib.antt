@@ -1,7 +1,6 @@
 pub mod Answering
 pub mod Counting
 pub mod Lines
-pub mod Numbers
 pub mod Reading
 pub mod Serving
 pub mod Streams

@@ -1,7 +1,7 @@
 -- How the bytes of an input split into lines.
 use Rattle.std.specs.Prelude.{◌≡◌, ◌≢◌, ℕ, ◌+◌, List, [], ◌∷◌, ◌++◌, take}
 use Rattle.std.specs.List.{AllByRecursion, flat_map}
-use Rattle.rr_serve.specs.declared.line_buffer.TheConstants.{LONGEST_LINE}
+use Rattle.rr_words.specs.declared.line.TheConstants.{LONGEST_LINE}
 
 -- the byte that ends a line
 abbrev pub line_feed : ℕ

@@ -3,8 +3,8 @@ ghost use Rattle.rr_serve.specs.Lines.{taken};
 ghost use Rattle.rr_serve.specs.Streams.{IsSent, IsCutShort};
 
 use crate::faults::Fault;
-use crate::line_buffer::LONGEST_LINE;
 use crate::output::{Output, send};
+use rr_words::LONGEST_LINE;
 
 /// What answers lines: it takes one, and then has the reply to it.
 pub trait Machine {

@@ -4,7 +4,7 @@ ghost use Rattle.std.specs.List.{concat};
 ghost use Rattle.rr_serve.specs.Lines.{Splits, taken};
 ghost use Rattle.rr_serve.specs.Streams.{OutputState, AreSent};
 
-use crate::line_buffer::LONGEST_LINE;
+use rr_words::LONGEST_LINE;
 
 /// An input splits into lines and a rest in exactly one way, and as more of it comes, the lines so far stay.
 pub fn splitting()

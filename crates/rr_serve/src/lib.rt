@@ -19,6 +19,6 @@ mod serving;
 pub use answering::{Machine, line};
 pub use faults::Fault;
 pub use input::{CountingReader, Input};
-pub use line_buffer::{LONGEST_LINE, LineBuffer};
+pub use line_buffer::LineBuffer;
 pub use output::{CountingWriter, Output, send};
 pub use serving::serve;

@@ -1,11 +1,9 @@
 ghost use Rattle.std.specs.Prelude.{◌≡◌, [], ◌∷◌, ◌++◌, IfOk};
 ghost use Rattle.rr_serve.specs.Lines.{taken};
 
+use rr_words::LONGEST_LINE;
 use std::alloc::{AllocError, Global};
 use std::marker::Model;
-
-/// The most bytes of a line, its line feed not counted.
-pub const LONGEST_LINE: usize = 8_000;
 
 /// Room for a line. It keeps one byte more than the longest line has, which tells that a line is too long.
 #[derive(Drop)]
@@ -16,7 +14,7 @@ pub struct LineBuffer {
 impl Model for LineBuffer {
     ghost use Rattle.std.specs.Prelude.{ℕ, ◌<◌, ◌≤◌, ◌+◌, List};
     ghost use Rattle.std.specs.Vec.{vec_capacity, vec_len};
-    ghost use Rattle.rr_serve.specs.declared.line_buffer.TheConstants.{LONGEST_LINE};
+    ghost use Rattle.rr_words.specs.declared.line.TheConstants.{LONGEST_LINE};
 
     ghost Value = { List ℕ };
 

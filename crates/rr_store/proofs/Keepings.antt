@@ -1,5 +1,5 @@
 -- What keeping a record does, from what the open file does.
-use Rattle.std.proofs.Common.{◌≡◌, ◌⊎◌, ◌↔◌, ℕ, ◌+◌, ◌^◌, ◌<◌, ◌≤◌, true, false, List, length, None, Result, Ok, Err, IfErr, IsErrOf, IsTrue, OnOk, inl, inr, refl, sym, ap, subst, ◌∙◌, arith}
+use Rattle.std.proofs.Common.{◌≡◌, ◌⊎◌, ◌↔◌, ℕ, ◌+◌, ◌^◌, ◌<◌, ◌≤◌, true, false, List, length, Option, None, Some, Result, Ok, Err, IfErr, IsErrOf, IsTrue, OnOk, inl, inr, refl, sym, ap, subst, ◌∙◌, arith}
 use Rattle.rr_checkpoint.specs.Calls.{LeavesEither, LeavesKept}
 use Rattle.rr_checkpoint.proofs.Writers.{carried_kept}
 use Rattle.rr_disk.specs.Disk.{DiskState}
@@ -12,7 +12,9 @@ use Rattle.rr_pages.specs.Journal.Layout.{HasRoom}
 use Rattle.rr_log.specs.declared.fault.Fault.{Fault}
 use Rattle.rr_log.specs.declared.fault.Fault.TheVariants as F
 use Rattle.rr_log.specs.declared.log.Log.{Log}
-use Rattle.rr_log.specs.Calls.{MayRefuse, MeetsFullFile, NumberBehind, layout_behind, ticks_due, world_behind}
+use Rattle.rr_checkpoint.specs.Checkpoint.{left_behind_first}
+use Rattle.rr_checkpoint.specs.Plan.Laying.{needed_pages}
+use Rattle.rr_log.specs.Calls.{MayRefuse, MeetsFullFile, NumberBehind, first_left, layout_behind, tables_due, ticks_due, world_behind}
 use Rattle.rr_log.specs.Carrying.{Carries, HaveSameTexts}
 use Rattle.rr_log.specs.Fault.{CountsFault, IsWant, OnDeviceFault, ends_broken}
 use Rattle.rr_log.specs.Log.{HasNoRoom, IsDue, IsPastLast, IsTooLong, disk_of, is_broken, next_number, place_of, ticks_left}
@@ -53,6 +55,12 @@ device_told F.FileFull so given = tt
 device_told F.OpenAgain so given = tt
 device_told F.OutOfMemory so given = tt
 
+-- a checkpoint that begins has a page at least
+first_some : (begun : Option ℕ) (left : ℕ) (tables : List Table) → (left ≡ 0) ⊎ (left ≡ left_behind_first begun (needed_pages tables)) → (left ≡ 0) ⊎ (left_behind_first begun 1 ≤ left)
+first_some begun left tables (inl none) = inl none
+first_some None left tables (inr is) = inr (omega (arith, is))
+first_some (Some first) left tables (inr is) = inr (omega (arith, is))
+
 module _ {D : Type 0} (Honest Works : D → Type 0) (state : D → DiskState) (past : D → List DiskState) (faults writes syncs : D → ℕ)
     (tables : List Table) (bytes : List ℕ) where
   abbrev Logs : Type 0
@@ -83,7 +91,7 @@ module _ {D : Type 0} (Honest Works : D → Type 0) (state : D → DiskState) (p
     pub comes : IsErrOf result F.HalfFull → 0 < ticks_left old → ticks_left old ≡ ticks_left new + 1
     pub most : is_broken new ≡ false → ticks_left old ≡ 0 → ticks_left new < ticks_due old tables
     pub rests : ticks_left old ≡ 0 → (IsDue (place_of old) → ⊥) → ticks_left new ≡ 0
-    pub begins : is_broken new ≡ false → ticks_left old ≡ 0 → (ticks_left new ≡ 0) ⊎ (4 ≤ ticks_left new)
+    pub begins : is_broken new ≡ false → ticks_left old ≡ 0 → (ticks_left new ≡ 0) ⊎ (ticks_left new ≡ first_left old tables)
     pub device : OnDeviceFault result (Honest (disk_of new) → (world : words.World) → Carries Takes old (state (disk_of old)) world → Works (disk_of new) → ⊥)
     pub fault : CountsFault (faults (disk_of old)) (faults (disk_of new)) result
     pub few_writes : writes (disk_of new) ≤ writes (disk_of old) + 3
@@ -218,7 +226,7 @@ module _ {D : Type 0} (Honest Works : D → Type 0) (state : D → DiskState) (p
       let numbered : next_number old + 1 < 2 ^ 63 = let below : IsPastLast (next_number old) → ⊥ = λ past. room (inr past) in omega (arith, below) in
       record {
         left = t.left t.broken numbered;
-        begins = t.begins t.broken;
+        begins = λ none. first_some (place_of old).begun (ticks_left new) (tables_due old.base tables) (t.begins t.broken none);
         rests = λ rests. t.rests rests.none_left rests.none_due;
       }
 

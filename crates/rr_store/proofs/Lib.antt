@@ -8,6 +8,7 @@ pub mod Commits
 pub mod Steps
 pub mod Recovering
 pub mod Openings
+pub mod Numbers
 pub mod Events
 pub mod Sessions
 pub mod RecoveryLemmas

@@ -9,7 +9,7 @@ use Rattle.rr_tables.specs.Records.Headline.{KeepsTables}
 use Rattle.rr_turns.specs.Judgement.{IsVerdict}
 use Rattle.rr_store.specs.declared.fault.Fault.{Fault}
 use Rattle.rr_store.specs.declared.fault.Fault.TheVariants as F
-use Rattle.rr_store.specs.Files.{StandsFor}
+use Rattle.rr_store.specs.Files.{IsNewStore, StandsFor}
 use Rattle.rr_store.specs.World.{IsOfForm, TableRequest, World, judgement_in, with_pending, world_after}
 
 -- a stop in this state leaves only files that stand for this world
@@ -63,10 +63,10 @@ pub record TickAllows (texts : KitTexts) (tables : World) (old : DiskState) (mom
   pub each : EachImageOf moments (λ image. StandsFor image texts tables)
   pub ends : Keeps new texts tables
 
--- What a formatting may do: where it is done, the texts are a right kit, and whatever a stop leaves from then on keeps them, and
--- no table. A device fault may leave anything; any other refusal leaves the disk alone.
+-- What a formatting may do: where it is done, the texts are a right kit, and whatever a stop leaves from then on is a new store
+-- that keeps them, and no table. A device fault may leave anything; any other refusal leaves the disk alone.
 abbrev pub FormatAllows : KitTexts → DiskState → DiskState → Result (Unit {0}) Fault → Type 0
 FormatAllows texts old new (Ok _) =
-    IsRightKit texts × EachImage new (KeepsTables texts []) × Keeps new texts []
+    IsRightKit texts × EachImage new (IsNewStore texts) × EachImage new (KeepsTables texts []) × Keeps new texts []
 FormatAllows texts old new (Err F.DeviceFailed) = Unit {0}
 FormatAllows texts old new (Err fault) = new ≡ old

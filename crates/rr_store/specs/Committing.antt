@@ -53,8 +53,8 @@ Spares old (Err fault) new = IsUnchanged old new
 -- behind the call its number would be past the last, or the half in use has no room for it and a checkpoint finds too few free
 -- pages or no number for its root. Where the half had room for the record, and there was a number for it, three writes and three
 -- syncs are made at most, and two of each where no checkpoint was under way or to begin; and if the request was taken, a
--- checkpoint that was under way came on by a step, and else none is begun, or one that has four steps left at least, but none
--- where none was to begin. Where the half had no room, and the request was taken, its record stands behind the first step of a
+-- checkpoint that was under way came on by a step, and else none is begun, or one that has four steps left at least, or three where
+-- the opening found it begun, but none where none was to begin. Where the half had no room, and the request was taken, its record stands behind the first step of a
 -- checkpoint, which has four left at least. Whatever is to be done, three of each are made at most, and one for each step left of
 -- the checkpoint under way, or of one begun then. Where the last step of a checkpoint was made, and no other is begun, each file
 -- that a stop may leave takes a newer root, whose chains spell the world as the checkpoint began; only the records since then stand

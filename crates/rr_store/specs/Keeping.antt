@@ -1,6 +1,7 @@
 -- What keeping the record of a request does to the open file.
 use Rattle.std.specs.Prelude.{◌≡◌, ◌⊎◌, ◌↔◌, ℕ, ◌+◌, ◌<◌, ◌≤◌, false, List, length, Result, IsErrOf, IsTrue, OnOk}
 use Rattle.rr_checkpoint.specs.Calls.{LeavesEither}
+use Rattle.rr_checkpoint.specs.Checkpoint.{left_behind_first}
 use Rattle.rr_disk.specs.Disk.{DiskState}
 use Rattle.rr_disk.specs.Moments.{EachImage}
 use Rattle.rr_images.specs.Calls.{TakesNewer}
@@ -33,11 +34,11 @@ pub record Rests {D R : Type 0} (log : Log D R) : Type 0 where
   pub none_left : ticks_left log ≡ 0
   pub none_due : IsDue (place_of log) → ⊥
 
--- How far a checkpoint comes: one that was under way by a step. Else none is begun, or one that has four steps left at least;
--- and where none was to begin, none is.
+-- How far a checkpoint comes: one that was under way by a step. Else none is begun, or one that has four steps left at least, or
+-- three where the opening found it begun; and where none was to begin, none is.
 pub record ComesOn {D R : Type 0} (old new : Log D R) : Type 0 where
   pub left : 0 < ticks_left old → ticks_left old ≡ ticks_left new + 1
-  pub begins : ticks_left old ≡ 0 → (ticks_left new ≡ 0) ⊎ (4 ≤ ticks_left new)
+  pub begins : ticks_left old ≡ 0 → (ticks_left new ≡ 0) ⊎ (left_behind_first (place_of old).begun 1 ≤ ticks_left new)
   pub rests : Rests old → ticks_left new ≡ 0
 
 -- How many such calls a record takes at most, whatever is to be done to make room for it: one for each step that is left of the

@@ -1,10 +1,31 @@
 -- What the definitions of files and worlds say.
-use Rattle.std.specs.Prelude.{◌≡◌, ℕ, List}
+use Rattle.std.specs.Prelude.{◌≡◌, ℕ, ◌+◌, List, length}
+use Rattle.rr_disk.specs.Disk.{DiskState}
+use Rattle.rr_disk.specs.Moments.{EachImage}
+use Rattle.rr_images.specs.Layout.{Stands}
 use Rattle.rr_kit.specs.Kits.{KitTexts}
+use Rattle.rr_reading.specs.Worlds.World as words
+use Rattle.rr_tables.specs.Records.Taking.{table_files}
+use Rattle.rr_tables.specs.Records.Words.{in_words}
+use Rattle.rr_store.specs.declared.store.Store.{Store}
 use Rattle.rr_store.specs.Files.{StandsFor}
+use Rattle.rr_store.specs.Holding.{Carries, disk_of, held_of, last_of, root_of}
 use Rattle.rr_store.specs.World.{World}
 
 -- a file stands for one kit and one world
 abbrev pub OneWorld : Type 0
 OneWorld = (file : List ℕ) (texts others : KitTexts) (a b : World) → StandsFor file texts a → StandsFor file others b
     → (others ≡ texts) × (b ≡ a)
+
+-- The file stands for the world, and its numbers are those of the store: that of the root that is taken, and that of the last
+-- record, by the root's first record and the records that stand behind it.
+pub record HasNumbersOf {D : Type 0} (store : Store D) (world : words.World) (file : List ℕ) : Type 0 where
+  pub stands : Stands table_files file world
+  pub root : root_of store ≡ stands.root.number
+  pub last : last_of store + 1 ≡ stands.root.first + length stands.near + length stands.far
+
+-- so it is of each file that a stop may leave of a disk that carries what the store holds
+abbrev pub NumbersAreInTheFile : {D : Type 0} → (D → DiskState) → Type 0
+NumbersAreInTheFile {D} state =
+    (texts : KitTexts) (store : Store D) → Carries state store texts
+    → EachImage (state (disk_of store)) (HasNumbersOf store (in_words texts (held_of store).tables))

@@ -7,6 +7,7 @@ ghost use Rattle.rr_pages.specs.Choosing.{IsNoStore};
 ghost use Rattle.rr_tables.specs.Records.Headline.{KeepsTables};
 ghost use Rattle.rr_store.specs.Allowing.{FormatAllows};
 ghost use Rattle.rr_store.specs.Fault.{CountsFailure, OnDeviceFault};
+ghost use Rattle.rr_store.specs.Files.{IsNewStore};
 ghost use Rattle.rr_store.specs.Formatting.{RefusesFormat, RefusesTexts};
 ghost use Rattle.rr_store.specs.Lent.{lent_texts};
 
@@ -17,8 +18,8 @@ use rr_kit::Kit;
 use rr_tables::records::TableRules;
 use std::alloc::Global;
 
-/// Makes a store of an empty file, from the texts of a kit. Wherever the device stops, the file is no store yet, or keeps
-/// these texts and no table.
+/// Makes a store of an empty file, from the texts of a kit. Its root is number 1, and its first record will be number 1.
+/// Wherever the device stops, the file is no store yet, or this one, which keeps these texts and no table.
 ///
 /// # Errors
 /// `NotEmpty` first; then the first text that is refused, in the order chart, roster, tiles, board: a chart at its
@@ -32,6 +33,9 @@ pub fn format<D: Disk>(alloc: Global, disk: &mut D, texts: Texts<'_>) -> Result<
     ensures stops { D.Honest disk.new → IsUnused (D.state disk.old)
         → LeavesOnly (D.past disk.old) (D.state disk.old) (D.past disk.new) (D.state disk.new)
         (λ image. IsNoStore image ⊎ KeepsTables (lent_texts texts.entry) [] image) }
+    ensures first { D.Honest disk.new → IsUnused (D.state disk.old)
+        → LeavesOnly (D.past disk.old) (D.state disk.old) (D.past disk.new) (D.state disk.new)
+        (λ image. IsNoStore image ⊎ IsNewStore (lent_texts texts.entry) image) }
     ensures right { OnOk result (IsRightKit (lent_texts texts.entry)) }
 
     // When each refusal comes.
@@ -79,6 +83,9 @@ fn put_texts<D: Disk>(alloc: Global, disk: &mut D, texts: Texts<'_>) -> Result<(
     ensures stops { D.Honest disk.new → IsUnused (D.state disk.old)
         → LeavesOnly (D.past disk.old) (D.state disk.old) (D.past disk.new) (D.state disk.new)
         (λ image. IsNoStore image ⊎ KeepsTables (lent_texts texts.entry) [] image) }
+    ensures first { D.Honest disk.new → IsUnused (D.state disk.old)
+        → LeavesOnly (D.past disk.old) (D.state disk.old) (D.past disk.new) (D.state disk.new)
+        (λ image. IsNoStore image ⊎ IsNewStore (lent_texts texts.entry) image) }
     ensures err { IfErr result (λ fault. (fault ≡ Fault.DeviceFailed) ⊎ ((fault ≡ Fault.OutOfMemory) × (disk.new ≡ disk.old))) }
     ensures honest { D.Honest disk.new → D.Honest disk.old }
     ensures fault { IfErr result (CountsFailure (D.fault_count disk.old) (D.fault_count disk.new)) }

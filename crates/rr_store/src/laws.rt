@@ -1,7 +1,7 @@
 //! What the definitions of files and worlds say, and the law over sessions. The functions do nothing: their contracts hold of
 //! all files, worlds and disks.
 ghost use Rattle.rr_store.specs.Events.{CommitsAreEvents, OpensAreEvents, StepsAreEvents};
-ghost use Rattle.rr_store.specs.Laws.{OneWorld};
+ghost use Rattle.rr_store.specs.Laws.{NumbersAreInTheFile, OneWorld};
 ghost use Rattle.rr_store.specs.Sessions.{OpeningsAndRequestsAreSessions, PartsOfWritesAreLeft, SessionsAreSafe};
 
 use rr_checkpoint::Tick;
@@ -10,6 +10,12 @@ use rr_disk::Disk;
 /// A file stands for one kit and one world.
 pub fn one_world()
     ensures { OneWorld }
+{}
+
+/// What a store tells by numbers is in its file, whatever a stop leaves of it: the number of the last record, as `last` gives it,
+/// and that of the root that is taken.
+pub fn numbers_are_in_the_file<D: Disk>()
+    ensures { NumbersAreInTheFile D.state }
 {}
 
 /// What the contracts of the calls on a store say is what the law over schedules allows of events, however they end and

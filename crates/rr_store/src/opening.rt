@@ -32,10 +32,8 @@ use rr_log::Log;
 use rr_log::opening::{Opened, open_file};
 use rr_reading::worlds::Worlds;
 use rr_tables::records::TableRules;
+use rr_words::LONGEST_LINE;
 use std::alloc::Global;
-
-/// Room for a record: no line is longer.
-const RECORD_ROOM: usize = 8_000;
 
 /// Why a file couldn't be opened, and the disk, whose bytes are as they were.
 #[derive(Drop)]
@@ -134,7 +132,7 @@ fn find<D: Disk>(alloc: Global, disk: &mut D) -> Result<Found, Fault>
 fn make_buffer(alloc: Global) -> Result<Vec<u8>, Fault>
     ensures { IfErr result (λ fault. fault ≡ Fault.OutOfMemory) }
 {
-    let buffer = Vec::with_capacity(alloc, RECORD_ROOM)?;
+    let buffer = Vec::with_capacity(alloc, LONGEST_LINE)?;
     Ok(buffer)
 }
 

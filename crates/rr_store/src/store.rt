@@ -6,7 +6,7 @@ ghost use Rattle.rr_disk.specs.Moments.{EachImage};
 ghost use Rattle.rr_game.specs.History.Tables.{IsPlayed, kept_in};
 ghost use Rattle.rr_images.specs.Calls.{TakesNewer};
 ghost use Rattle.rr_kit.specs.Kits.{KitTexts};
-ghost use Rattle.rr_log.specs.Calls.{LowersFrom, TakesRootOf, as_begun, ticks_due};
+ghost use Rattle.rr_log.specs.Calls.{IsFileFull, LowersFrom, NumbersRoot, TakesRootOf, as_begun, first_left, ticks_due};
 ghost use Rattle.rr_tables.specs.Records.Taking.{table_files};
 ghost use Rattle.rr_tables.specs.Records.Words.{in_words, table_in_words};
 ghost use Rattle.rr_store.specs.Held.{LacksTable};
@@ -160,18 +160,27 @@ impl<D: Disk + Drop> Store<D> {
     }
 
     /// Makes one step of a checkpoint: it goes on with the one under way, or begins one where an opening found it begun or at
-    /// least 128 slots of the half in use are used. The first step takes all memory and pages that the later ones need.
+    /// least 128 slots of the half in use are used. The first step takes all memory and pages that the later ones need. A
+    /// checkpoint of p pages has p + 4 steps, and p + 3 where an opening found it begun: its first step writes a page then.
     ///
     /// # Errors
     /// `OpenAgain`; `DeviceFailed`, after which the store is broken; in a first step also `FileFull` and `OutOfMemory`, before
     /// any device call: then the store goes on, and the next tick begins anew.
     pub fn tick(&mut self) -> Result<Tick, Fault>
         ensures steps { Steps D.Honest D.Works D.state D.past D.fault_count self.old result self.new }
-        ensures left { IfOk result (λ tick. LowersFrom tick (ticks_left self.old) (ticks_left self.new)) }
+        ensures left { IfOk result (λ tick. LowersFrom (first_left (file_of self.old) (map table_in_words (held_of self.old).tables)) tick
+            (ticks_left self.old) (ticks_left self.new)) }
         ensures most { IfOk result (λ tick. ticks_left self.old ≡ 0
             → ticks_left self.new < ticks_due (file_of self.old) (map table_in_words (held_of self.old).tables)) }
         ensures idle { (result ≡ Ok Tick.Idle) ↔ (((held_of self.old).broken ≡ false) × Rests self.old) }
         ensures rests { result ≡ Ok Tick.Idle → IsUnchanged self.old self.new }
+
+        // A first step is made only where its checkpoint's pages fit, and its numbers: else the file is full.
+        ensures fits { IfOk result (λ tick. ticks_left self.old ≡ 0 → (Rests self.old → ⊥)
+            → IsFileFull (file_of self.old) (map table_in_words (held_of self.old).tables) → ⊥) }
+        // The number of the root that is taken: one more behind the last step, and else the same.
+        ensures root { IfOk result (λ tick. D.Honest (disk_of self.new) → (texts : KitTexts) → Carries D.state self.old texts
+            → NumbersRoot tick (root_of self.old) (root_of self.new)) }
 
         // Behind the last step each file that a stop may leave takes a newer root. Its chains spell the world as the checkpoint
         // began, and only the records since then stand behind it.
@@ -198,6 +207,10 @@ impl<D: Disk + Drop> Store<D> {
             → EachImage (D.state (disk_of self.new)) (TakesNewer table_files (as_begun carries.file.carried.layout) (in_words texts (held_of self.old).tables))) }
         ensures whole { OnOk result (HasNoneBegun self.old → D.Honest (disk_of self.new) → (texts : KitTexts) → Carries D.state self.old texts
             → EachImage (D.state (disk_of self.new)) (TakesRootOf table_files (root_of self.old) (in_words texts (held_of self.old).tables))) }
+        ensures root { OnOk result (D.Honest (disk_of self.new) → (texts : KitTexts) → Carries D.state self.old texts
+            → root_of self.new ≡ root_of self.old + 1) }
+        ensures fits { OnOk result (ticks_left self.old ≡ 0
+            → IsFileFull (file_of self.old) (map table_in_words (held_of self.old).tables) → ⊥) }
         ensures writes { MakesFew D.write_count self.old self.new }
         ensures syncs { MakesFew D.sync_count self.old self.new }
     {

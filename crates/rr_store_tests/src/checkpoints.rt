@@ -18,9 +18,9 @@ pub(crate) fn begun_file(alloc: Global) -> Result<MemoryDisk, Fail> {
     Ok(begun)
 }
 
-// How seven ticks end, and how many are left behind each.
-fn seven_ticks(store: &mut Store<MemoryDisk>) -> Result<[(Tick, usize); 7], Fault> {
-    let mut ends = [(Tick::Idle, 9); 7];
+// How six ticks end, and how many are left behind each.
+fn six_ticks(store: &mut Store<MemoryDisk>) -> Result<[(Tick, usize); 6], Fault> {
+    let mut ends = [(Tick::Idle, 9); 6];
     for end in &mut ends {
         *end = (tick(store)?, ticks_left(store));
     }
@@ -33,11 +33,11 @@ fn told(store: &Store<MemoryDisk>) -> Told {
     Ok((state(store)?, standing(store, b"t1")?))
 }
 
-// What is told of a file in which a checkpoint was begun, and how seven ticks end.
-type Made = (Told, Result<[(Tick, usize); 7], Fault>);
+// What is told of a file in which a checkpoint was begun, and how six ticks end.
+type Made = (Told, Result<[(Tick, usize); 6], Fault>);
 
 fn made(store: &mut Store<MemoryDisk>) -> Made {
-    (told(store), seven_ticks(store))
+    (told(store), six_ticks(store))
 }
 
 // The same, and what is told once the file is opened again.
@@ -48,12 +48,11 @@ fn made_and_opened(alloc: Global) -> Result<(Made, Told), Fail> {
     Ok((made, told(&again)))
 }
 
-// The six ticks are: slot 0 of the other half, a page for the table, one for the directory, the gate of the other root,
-// that root, and its gate.
+// The five ticks are: a page for the table, one for the directory, the gate of the other root, that root, and its gate. Slot 0
+// of the other half has the record that told of the checkpoint.
 #[test]
 fn a_checkpoint_that_was_begun_is_made(rt: HostRuntime) -> Result<(), Fail> {
     let ends = [
-        (Tick::More, 5),
         (Tick::More, 4),
         (Tick::More, 3),
         (Tick::More, 2),

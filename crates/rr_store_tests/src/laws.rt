@@ -2,7 +2,7 @@
 use crate::files::{new_store, table_count};
 use rr_disk::Disk;
 use rr_store::Store;
-use rr_store::laws::{calls_are_events, one_world, sessions_are_safe};
+use rr_store::laws::{calls_are_events, numbers_are_in_the_file, one_world, sessions_are_safe};
 use std::test::Fail;
 
 // The calls below have no contracts, so that what the test does costs its proof little.
@@ -20,6 +20,7 @@ fn call_laws_of_worlds() {
 fn call_laws_of_sessions<D: Disk, E: Disk>() {
     calls_are_events::<D>();
     sessions_are_safe::<D>();
+    numbers_are_in_the_file::<D>();
     rr_world_laws::sessions_are_sound::<D>();
     rr_world_laws::sessions_go_on::<D, E>();
     rr_world_laws::sessions_that_go_on_are_sound::<D, E>();

@@ -16,4 +16,4 @@ mod taking;
 
 pub use fault::Fault;
 pub use journal::{Journal, Standing};
-pub use tables::Tables;
+pub use tables::{MOST_TABLES, Tables};

@@ -14,7 +14,7 @@ use rr_words::Name;
 use std::alloc::Global;
 
 /// The most tables of a store.
-pub(crate) const MOST_TABLES: usize = 64;
+pub const MOST_TABLES: usize = 64;
 
 /// The tables of a store, in the order of their opening: at most 64, each played by the rules of one kit.
 #[derive(Drop)]

@@ -1,6 +1,5 @@
 pub mod Each
 pub mod Edge
-pub mod Fault
 pub mod Keeping
 pub mod Manifest
 pub mod Reading

@@ -1,4 +1,6 @@
 //! Operating rounds of two corporations, by entries made by hand.
+ghost use Rattle.rr_books.specs.State.{Fits, State};
+
 use crate::opening::{self, check};
 use rr_books::{Act, Books, Cell, Corp, Entry, Kind, Marker, Money, Party, Place, Train, Words};
 use rr_chart::Chart;
@@ -21,7 +23,8 @@ const NYC: Corp = Corp::Nyc;
 enum Event {
     Stock,
     Operating,
-    Pay(i64),
+    /// The bank pays the PRR so much.
+    Pay(u16),
     /// The corporation's token goes to a column.
     Mark(Corp, u8),
     Lay,
@@ -43,14 +46,16 @@ fn hex(rt: &impl Abort) -> HexName {
     HexName::read(b"A").expect(rt, "a hex")
 }
 
-fn entry(rt: &(impl Abort + AllocGlobal), event: Event) -> Entry {
+fn entry(rt: &(impl Abort + AllocGlobal), event: Event) -> Entry
+    ensures { (books : State) → Fits books result }
+{
     match event {
         Stock => Entry::Step(Marker::Stock),
         Operating => Entry::Step(Marker::Operating),
         Pay(amount) => Entry::Pay {
             from: Party::Bank,
             to: Party::Corp(PRR),
-            amount: Money(amount),
+            amount: Money(i64::from(amount)),
         },
         Mark(corp, column) => Entry::Mark {
             corp,
@@ -104,7 +109,7 @@ fn opened(rt: &(impl Abort + AllocGlobal)) -> Table {
         books: opening::books(rt, 2),
         market: Market::new(),
         rounds: floated(),
-        operations: Operations::new(),
+        operations: Operations::open(2),
     }
 }
 
@@ -142,7 +147,9 @@ fn market_after(market: Market, entry: &Entry) -> Market {
     next
 }
 
-fn follow(rt: &impl Abort, table: &Table, entry: &Entry) -> Operations {
+fn follow(rt: &impl Abort, table: &Table, entry: &Entry) -> Operations
+    requires { Fits table.books.now entry.now }
+{
     let mut next = table.operations;
     assert!(rt; next.set() < 1000);
     assert!(rt; next.round() < 1000);
@@ -286,10 +293,11 @@ fn a_set_has_the_rounds_of_the_phase_in_which_it_begins(rt: HostRuntime) {
 #[test]
 fn the_bank_has_owed_once_its_balance_was_negative(rt: HostRuntime) {
     // The bank of a table of two has 9,600.
+    let roster = opening::roster(&rt);
     let table = after(&rt, opened(&rt), &[Pay(9600)]);
-    check(&rt, "spent", table.operations.bank_owed(), false);
+    check(&rt, "spent", table.operations.bank_owed(&roster), false);
     let table = after(&rt, table, &[Pay(9601), Pay(0), Stock]);
-    check(&rt, "owed", table.operations.bank_owed(), true);
+    check(&rt, "owed", table.operations.bank_owed(&roster), true);
 }
 
 fn takes(rt: &(impl Abort + AllocGlobal), step: TurnStep, event: Event) -> bool {

@@ -10,7 +10,7 @@ pub mod name;
 pub mod numeral;
 pub mod text;
 
-pub use line::{split_word, words};
+pub use line::{LONGEST_LINE, split_word, words};
 pub use name::{HexName, Name};
 pub use numeral::{number, small_number};
 pub use text::{Row, rows};

@@ -8,6 +8,7 @@ use Rattle.std.proofs.Props.{props}
 use mathlib.Core.HLevel.{⊥_prop}
 use Rattle.indexmap.specs.IndexMap.{insert_entry}
 use Rattle.rr_roster.specs.declared.company.Corp.{Corp}
+use Rattle.rr_roster.specs.Terms.{Terms}
 use Rattle.rr_books.specs.declared.certificates.Cert.TheVariants as C
 use Rattle.rr_books.specs.declared.parties.Place.{Place}
 use Rattle.rr_books.specs.declared.parties.Place.TheVariants as L
@@ -165,8 +166,8 @@ module _ (n : ℕ) (book : Book) where
       elsewhere (inl offered) = cc (sym offered ∙ is)
       elsewhere (inr led) = cc (sym led.presides ∙ is)
 
-  settled : ∥ IsSoundTable n book ∥₁ → IsSoundTable n book
-  settled some =
+  settled : (roster : Terms) → ∥ IsSoundTable roster n book ∥₁ → IsSoundTable roster n book
+  settled roster some =
       record {
         money = record {
           together = ∥∥₁_elim some (hlevel props) (λ sound. sound.money.together);
@@ -212,7 +213,7 @@ module _ (sound : TablesStaySound) (best : BestRunsWereBest) where
   kept_in_order : (kit : Kit) (tables : World) → NamesCorporations kit → KeepCommands tables → ArePlayedTables kit tables → AreInOrder kit tables
   kept_in_order kit [] order spelled all = tt
   kept_in_order kit (t ∷ ts) order spelled all = (
-    settled (length (players_of t.1.commands)) (play kit t.1.commands).book (∥∥₁_map all.0.lawful (λ played. sound kit t.1.commands order (played_of kit t.1.commands spelled.0 played))),
+    settled (length (players_of t.1.commands)) (play kit t.1.commands).book kit.roster (∥∥₁_map all.0.lawful (λ played. sound kit t.1.commands order (played_of kit t.1.commands spelled.0 played))),
     kept_in_order kit ts order spelled.1 all.1,
   )
 

@@ -20,7 +20,7 @@ use Rattle.rr_store.specs.Opening.{IsNoVerdict, Refuses}
 
 -- each table's book is in order
 abbrev pub AreInOrder : Kit → World → Type 0
-AreInOrder kit tables = AllByRecursion (λ t. IsSoundTable (length (players_of t.1.commands)) (play kit t.1.commands).book) tables
+AreInOrder kit tables = AllByRecursion (λ t. IsSoundTable kit.roster (length (players_of t.1.commands)) (play kit t.1.commands).book) tables
 
 -- each run that a table's book has as best was best in the book before it
 abbrev pub HaveBestRuns : Kit → World → Type 0

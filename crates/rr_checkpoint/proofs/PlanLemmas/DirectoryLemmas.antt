@@ -7,7 +7,7 @@ use Rattle.std.proofs.lemmas.List.Kept.{AllPairs-cons}
 use Rattle.std.proofs.lemmas.List.Sums.{sum_by-cons}
 use Rattle.rr_reading.specs.declared.dir.directory.KitChains.{KitChains}
 use Rattle.rr_reading.specs.declared.dir.directory.TableEntry.{TableEntry}
-use Rattle.rr_reading.specs.declared.dir.version.Version.TheVariants.{One}
+use Rattle.rr_reading.specs.declared.dir.version.TheConstants.{NEWEST}
 use Rattle.rr_reading.specs.Dir.Directory.{IsTable, AreTables, HaveOwnNames, spelling, spelled_kit, spelled_table, spelled_name, spelled_state}
 use Rattle.rr_reading.specs.Dir.Number.{spelled_number}
 use Rattle.rr_reading.proofs.DirLemmas.NumberLemmas.{length-spelled_number}
@@ -23,11 +23,11 @@ use Rattle.rr_pages.specs.Laying.{head_of, joined, pages_for, FitEach}
 use Rattle.rr_pages.specs.Sets.{TakesFree, TooFewFree}
 use Rattle.rr_pages.specs.Writing.{fresh_of, IsLaid}
 use Rattle.rr_checkpoint.specs.declared.plan.table.TableTranscript.{TableTranscript}
-use Rattle.rr_checkpoint.specs.Plan.Laying.{directory_length, most_laid_pages, most_pages_for, needed_pages, AreTablesLaid}
+use Rattle.rr_checkpoint.specs.Plan.Laying.{directory_length, needed_pages, AreTablesLaid}
 use Rattle.rr_checkpoint.specs.Plan.Transcript.{commands_of, table_of}
 use Rattle.rr_reading.specs.Worlds.Spelling.{entry_for, entries_for}
 use Rattle.rr_reading.specs.Worlds.World.{Table, text_for, AreShort}
-use Rattle.rr_checkpoint.proofs.PlanLemmas.LaidTables.{fresh_count, laid_few, laid_length, too_few_behind}
+use Rattle.rr_checkpoint.proofs.PlanLemmas.LaidTables.{fresh_count, too_few_behind}
 use Rattle.rr_checkpoint.proofs.PlanLemmas.TableLemmas.{spelled_few}
 
 -- each entry is as long as its name asks
@@ -48,10 +48,10 @@ tables_length (chain ∷ chains) (table ∷ tables) same =
     )
 
 pub directory_counted : (kit : KitChains) (chains : List HeldChain) (tables : List Table) (entries : List TableEntry) (bytes : List ℕ) → texts_of chains ≡ map text_for tables → entries ≡ entries_for chains tables
-    → bytes ≡ spelling One (record { kit = kit; tables = entries }) → length bytes ≡ directory_length tables
+    → bytes ≡ spelling NEWEST (record { kit = kit; tables = entries }) → length bytes ≡ directory_length tables
 directory_counted kit chains tables entries bytes same named is =
     let there = entries_for chains tables in
-    let all : bytes ≡ spelled_kit kit ++ (spelled_number 2 (length there) ++ flat_map spelled_table there) = is ∙ ap (λ (es : List TableEntry). spelling One (record { kit = kit; tables = es })) named in
+    let all : bytes ≡ spelled_kit kit ++ (spelled_number 2 (length there) ++ flat_map spelled_table there) = is ∙ ap (λ (es : List TableEntry). spelling NEWEST (record { kit = kit; tables = es })) named in
     omega (
       arith,
       ap (λ (xs : List ℕ). length xs) all,
@@ -138,25 +138,18 @@ entries_within present coming after fresh parts entries laid few =
     omega (arith, few, ap (λ (es : List TableEntry). length es) laid.named, entries_few (map laid_as laid.laid) (map table_of parts), length-map parts table_of)
 
 pub too_few_all : (present coming between : List Bool) (fresh : List FreshPage) (tables : List Table) (entries : List TableEntry) (kit : KitChains) (bytes : List ℕ) → AreTablesLaid present coming between fresh tables entries
-    → bytes ≡ spelling One (record { kit = kit; tables = entries }) → TooFewFree present between (pages_for (length bytes)) → TooFewFree present coming (needed_pages tables)
+    → bytes ≡ spelling NEWEST (record { kit = kit; tables = entries }) → TooFewFree present between (pages_for (length bytes)) → TooFewFree present coming (needed_pages tables)
 too_few_all present coming between fresh tables entries kit bytes laid is few =
     let counted = directory_counted kit (map laid_as laid.laid) tables entries bytes laid.texts laid.named is in
     too_few_behind present coming between (laid_pages laid.laid) (pages_for (length bytes)) (needed_pages tables) laid.in_turn.taken few
-    (omega (arith, laid.few, ap pages_for counted))
+    (omega (arith, laid.counted, ap pages_for counted))
 
--- a plan of these tables and their directory has no more fresh pages than they take at most
-pub few_fresh : (present coming between after : List Bool) (fresh more : List FreshPage) (tables : List Table) (entries : List TableEntry) (kit : KitChains) (bytes : List ℕ) (head : ℕ) → AreTablesLaid present coming between fresh tables entries
-    → bytes ≡ spelling One (record { kit = kit; tables = entries }) → IsLaid present between after bytes fresh more head → length more ≤ most_laid_pages tables
-few_fresh present coming between after fresh more tables entries kit bytes head laid is directory =
+-- a plan of these tables and their directory has just the fresh pages that they take
+pub fresh_counted : (present coming between : List Bool) (fresh more : List FreshPage) (tables : List Table) (entries : List TableEntry) (kit : KitChains) (bytes : List ℕ) → AreTablesLaid present coming between fresh tables entries
+    → bytes ≡ spelling NEWEST (record { kit = kit; tables = entries }) → length more ≡ length fresh + pages_for (length bytes) → length more ≡ needed_pages tables
+fresh_counted present coming between fresh more tables entries kit bytes laid is count =
     let counted = directory_counted kit (map laid_as laid.laid) tables entries bytes laid.texts laid.named is in
-    omega (
-      arith,
-      laid.few,
-      fresh_count present coming between fresh laid.laid laid.in_turn,
-      laid_length present between after bytes fresh more head directory,
-      laid_few present between after bytes fresh more head directory,
-      ap most_pages_for counted,
-    )
+    omega (arith, laid.counted, fresh_count present coming between fresh laid.laid laid.in_turn, count, ap pages_for counted)
 
 -- The pages of the tables and then those of their directory are taken one after another, and they are all that is written.
 pages_laid : (fresh : List FreshPage) → map (λ (page : FreshPage). page.page) fresh ≡ map (λ (one : ℕ × List ℕ). one.0) (map fresh_of fresh)

@@ -8,6 +8,7 @@ use Rattle.rr_checkpoint.specs.Planning.{coming_root_of}
 use Rattle.rr_checkpoint.specs.Writer.{ticks_left_of}
 use Rattle.rr_images.specs.Codec.{Codec}
 use Rattle.rr_pages.specs.declared.chain.FreshPage.{FreshPage}
+use Rattle.rr_pages.specs.declared.root.TheConstants.{NEWEST_VERSION}
 use Rattle.rr_pages.specs.Sets.{Has, marked, all_marked}
 use Rattle.rr_pages.proofs.SetLemmas.{marked_last}
 use Rattle.rr_checkpoint.specs.Plan.Writing.{OnlyTakes}
@@ -39,7 +40,7 @@ same_root codec old new head fresh only = λ i.
       half = other_half (only.taken i).root.half;
       first = unwrap_or (only.place i).begun (only.place i).number;
       pages = pages_with (only.taken i).root.pages fresh;
-      version = 1;
+      version = NEWEST_VERSION;
     }
 
 -- pages that are put into a set behind others

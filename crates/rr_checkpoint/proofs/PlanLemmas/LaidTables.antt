@@ -1,18 +1,19 @@
 -- Chains of tables that are laid one after another.
-use Rattle.std.proofs.Common.{◌≡◌, ℕ, suc, ◌+◌, ◌*◌, ◌<◌, ◌≤◌, Bool, List, [], ◌∷◌, ◌++◌, length, map, take, get_or, refl, sym, ◌∙◌, ap, subst, arith, length-append}
+use Rattle.std.proofs.Common.{◌≡◌, inl, inr, ℕ, suc, ◌+◌, ◌*◌, ◌<◌, ◌≤◌, Bool, List, [], ◌∷◌, ◌++◌, length, map, take, get_or, refl, sym, ◌∙◌, ap, subst, arith, length-append}
 use Rattle.std.proofs.lemmas.List.{length-map, map_more, map-append, take-map}
 use Rattle.std.proofs.lemmas.List.Sums.{sum_by_push, sum_by-take-le}
+use Rattle.std.proofs.lemmas.Bool.{cases_lt}
 use Rattle.rr_reading.specs.declared.dir.directory.TableEntry.{TableEntry}
 use Rattle.rr_images.specs.Holding.{texts_of}
 use Rattle.rr_images.specs.Laws.{OneLaid}
 use Rattle.rr_images.specs.Plans.{LaidChain, laid_as, all_laid, laid_pages, AllFit, AreLaid}
 use Rattle.rr_images.proofs.Laid.{nothing_laid, one_more_laid}
 use Rattle.rr_pages.specs.declared.chain.FreshPage.{FreshPage}
-use Rattle.rr_pages.specs.Laying.{head_of, laid, joined, FitEach, FillPages, pages_for}
-use Rattle.rr_pages.specs.Sets.{marked, TakesFree, TooFewFree}
+use Rattle.rr_pages.specs.Laying.{head_of, laid, joined, FitEach, pages_for}
+use Rattle.rr_pages.specs.Sets.{marked, IsFirstFree, IsFree, NoneFree, TakesFree, TooFewFree}
 use Rattle.rr_pages.specs.Writing.{fresh_of, IsLaid}
 use Rattle.rr_checkpoint.specs.declared.plan.table.TableTranscript.{TableTranscript}
-use Rattle.rr_checkpoint.specs.Plan.Laying.{entry_at, most_pages_for, table_pages, AreTablesLaid}
+use Rattle.rr_checkpoint.specs.Plan.Laying.{entry_at, table_pages, AreTablesLaid}
 use Rattle.rr_checkpoint.specs.Plan.Transcript.{table_of}
 use Rattle.rr_reading.specs.Worlds.Spelling.{entry_for, entries_for}
 use Rattle.rr_reading.specs.Worlds.World.{Table, text_for}
@@ -23,20 +24,6 @@ laid_count [] pieces fit = refl
 laid_count (page ∷ pages) [] fit = absurd fit
 laid_count (page ∷ pages) (piece ∷ pieces) fit = ap suc (laid_count pages pieces fit.3)
 
-filled : (pages : List ℕ) (pieces : List (List ℕ)) → FitEach pages pieces → FillPages pieces → 4086 * length pages ≤ length (joined pieces) + 4086
-filled [] pieces fit fill = omega arith
-filled (page ∷ pages) [] fit fill = absurd fit
-filled (page ∷ []) (piece ∷ pieces) fit fill = omega arith
-filled (page ∷ next ∷ pages) (piece ∷ []) fit fill = absurd fit.3
-filled (page ∷ next ∷ pages) (piece ∷ other ∷ pieces) fit fill =
-    omega (arith, fill.0, filled (next ∷ pages) (other ∷ pieces) fit.3 fill.1, length-append piece (joined (other ∷ pieces)))
-
-within_most : (pages count : ℕ) → 4086 * pages ≤ count + 4086 → pages ≤ most_pages_for count
-within_most pages count few = omega arith
-
-pub for_within_most : (count : ℕ) → pages_for count ≤ most_pages_for count
-for_within_most count = omega arith
-
 pub laid_length : (present coming after : List Bool) (bytes : List ℕ) (old new : List FreshPage) (head : ℕ) → (is : IsLaid present coming after bytes old new head) → length new ≡ length old + length is.pages
 laid_length present coming after bytes old new head is =
     sym (length-map new fresh_of) ∙ (ap (λ (xs : List (ℕ × List ℕ)). length xs) is.fresh ∙ (length-append (map fresh_of old) (laid is.pages is.pieces)
@@ -44,10 +31,6 @@ laid_length present coming after bytes old new head is =
 
 pub some_laid : (present coming after : List Bool) (bytes : List ℕ) (old new : List FreshPage) (head : ℕ) → IsLaid present coming after bytes old new head → 0 < length new
 some_laid present coming after bytes old new head is = omega (arith, laid_length present coming after bytes old new head is, is.fit.some)
-
-pub laid_few : (present coming after : List Bool) (bytes : List ℕ) (old new : List FreshPage) (head : ℕ) → (is : IsLaid present coming after bytes old new head) → length is.pages ≤ most_pages_for (length bytes)
-laid_few present coming after bytes old new head is =
-    within_most (length is.pages) (length bytes) (omega (arith, filled is.pages is.pieces is.fit.each is.fill, ap (λ (xs : List ℕ). length xs) is.whole))
 
 -- how many all chains take
 all_count : (chains : List LaidChain) → AllFit chains → length (all_laid chains) ≡ length (laid_pages chains)
@@ -84,14 +67,14 @@ none_laid present coming fresh entries nothing none =
       in_turn = subst (λ (pages : List FreshPage). AreLaid present coming coming pages []) (sym nothing) (nothing_laid present coming);
       texts = refl;
       named = none;
-      few = omega arith;
+      counted = omega arith;
     }
 
 -- one table more
 pub one_more : (present coming between after : List Bool) (fresh more : List FreshPage) (tables : List Table) (table : Table) (entries : List TableEntry) (entry : TableEntry)
     → AreTablesLaid present coming between fresh tables entries → IsLaid present between after (text_for table) fresh more entry.chain.head → entry ≡ entry_at entry.chain.head table
-    → AreTablesLaid present coming after more (tables ++ table ∷ []) (entries ++ entry ∷ [])
-one_more present coming between after fresh more tables table entries entry so_far is named =
+    → length more ≡ length fresh + pages_for (length (text_for table)) → AreTablesLaid present coming after more (tables ++ table ∷ []) (entries ++ entry ∷ [])
+one_more present coming between after fresh more tables table entries entry so_far is named count =
     let chains = so_far.laid in
     let one : OneLaid present coming after more chains (text_for table) entry.chain.head = one_more_laid present coming between after fresh more chains (text_for table) entry.chain.head so_far.in_turn is in
     record {
@@ -99,14 +82,13 @@ one_more present coming between after fresh more tables table entries entry so_f
       in_turn = one.laid;
       texts = texts_last chains one.chain ∙ ((λ i. so_far.texts i ++ one.whole i ∷ []) ∙ sym (map-append text_for tables (table ∷ [])));
       named = (λ i. so_far.named i ++ entry_is one.chain table entry one.whole one.first named i ∷ []) ∙ sym (entries_last chains one.chain tables table so_far.texts);
-      few = omega (
+      counted = omega (
         arith,
-        so_far.few,
-        sum_by_push (λ (t : Table). most_pages_for (length (text_for t))) tables table,
+        so_far.counted,
+        sum_by_push (λ (t : Table). pages_for (length (text_for t))) tables table,
         fresh_count present coming between fresh chains so_far.in_turn,
         fresh_count present coming after more (chains ++ one.chain ∷ []) one.laid,
-        laid_length present between after (text_for table) fresh more entry.chain.head is,
-        laid_few present between after (text_for table) fresh more entry.chain.head is,
+        count,
       );
     }
 
@@ -117,7 +99,7 @@ tables_more parts n part within item =
 
 map_take : (parts : List TableTranscript) (n : ℕ) → table_pages (map table_of (take n parts)) ≤ table_pages (map table_of parts)
 map_take parts n =
-    subst (λ (ts : List Table). table_pages ts ≤ table_pages (map table_of parts)) (take-map table_of n parts) (sum_by-take-le (λ (t : Table). most_pages_for (length (text_for t))) (map table_of parts) n)
+    subst (λ (ts : List Table). table_pages ts ≤ table_pages (map table_of parts)) (take-map table_of n parts) (sum_by-take-le (λ (t : Table). pages_for (length (text_for t))) (map table_of parts) n)
 
 -- pages that are taken behind others
 pub takes_on : (present coming between after : List Bool) (xs ys : List ℕ) → TakesFree present coming xs between → TakesFree present between ys after → TakesFree present coming (xs ++ ys) after
@@ -142,12 +124,33 @@ too_few_tables present coming between fresh parts n part entries within item so_
     too_few_behind present coming between (laid_pages so_far.laid) (pages_for count) (table_pages (map table_of parts)) so_far.in_turn.taken few
     (omega (
       arith,
-      so_far.few,
-      for_within_most count,
+      so_far.counted,
       map_take parts (n + 1),
       ap (λ (ts : List Table). table_pages ts) (tables_more parts n part within item),
-      sum_by_push (λ (t : Table). most_pages_for (length (text_for t))) (map table_of (take n parts)) (table_of part),
+      sum_by_push (λ (t : Table). pages_for (length (text_for t))) (map table_of (take n parts)) (table_of part),
     ))
+
+-- and where some were taken, they weren't
+one_first : (present coming : List Bool) (x y : ℕ) → IsFirstFree present coming x → IsFirstFree present coming y → x ≡ y
+one_first present coming x y first other = elim (cases_lt x y) [
+  | inl below ↦ absurd (other.first x below first.free)
+  | inr behind ↦ elim (cases_lt y x) [
+    | inl above ↦ absurd (first.first y above other.free)
+    | inr same ↦ omega (arith, behind, same)
+  ]
+]
+
+all_fit : (present coming after end : List Bool) (xs ys : List ℕ) → TakesFree present coming xs after → TakesFree present coming ys end → NoneFree present end → length xs ≤ length ys
+all_fit present coming after end [] ys takes all none = omega arith
+all_fit present coming after end (x ∷ xs) [] takes all none = absurd (none x (subst (λ (marks : List Bool). IsFree present marks x) (sym all) takes.0.free))
+all_fit present coming after end (x ∷ xs) (y ∷ ys) takes all none =
+    let same : y ≡ x = one_first present coming y x all.0 takes.0 in
+    let rest = all_fit present (marked coming x) after end xs ys takes.1 (subst (λ (page : ℕ). TakesFree present (marked coming page) ys end) same all.1) none in
+    omega (arith, rest)
+
+pub never_too_few : (present coming after : List Bool) (pages : List ℕ) (needed : ℕ) → TakesFree present coming pages after → length pages ≡ needed → TooFewFree present coming needed → ⊥
+never_too_few present coming after pages needed takes counted few =
+    omega (arith, few.fewer, counted, all_fit present coming after few.after pages few.all takes few.taken few.none_left)
 
 -- the same, told otherwise
 pub laid_same : (present other coming start after : List Bool) (fresh : List FreshPage) (tables same : List Table) (entries : List TableEntry) → present ≡ other → coming ≡ start → tables ≡ same
@@ -163,10 +166,10 @@ too_few_same present other coming start needed p q few =
 -- the next table of a transcript
 pub next_laid : (present other coming between after : List Bool) (fresh more : List FreshPage) (parts : List TableTranscript) (n : ℕ) (part : TableTranscript) (entries new : List TableEntry) (entry : TableEntry) → n < length parts → part ≡ get_or parts n part
     → other ≡ present → AreTablesLaid present coming between fresh (map table_of (take n parts)) entries → IsLaid other between after (text_for (table_of part)) fresh more entry.chain.head → entry ≡ entry_at entry.chain.head (table_of part)
-    → new ≡ entries ++ entry ∷ [] → AreTablesLaid present coming after more (map table_of (take (n + 1) parts)) new
-next_laid present other coming between after fresh more parts n part entries new entry within item p so_far is named grown =
+    → length more ≡ length fresh + pages_for (length (text_for (table_of part))) → new ≡ entries ++ entry ∷ [] → AreTablesLaid present coming after more (map table_of (take (n + 1) parts)) new
+next_laid present other coming between after fresh more parts n part entries new entry within item p so_far is named count grown =
     let here : IsLaid present between after (text_for (table_of part)) fresh more entry.chain.head =
     subst (λ (ms : List Bool). IsLaid ms between after (text_for (table_of part)) fresh more entry.chain.head) p is in
     subst (λ (es : List TableEntry). AreTablesLaid present coming after more (map table_of (take (n + 1) parts)) es) (sym grown)
     (subst (λ (ts : List Table). AreTablesLaid present coming after more ts (entries ++ entry ∷ [])) (sym (tables_more parts n part within item))
-    (one_more present coming between after fresh more (map table_of (take n parts)) (table_of part) entries entry so_far here named))
+    (one_more present coming between after fresh more (map table_of (take n parts)) (table_of part) entries entry so_far here named count))

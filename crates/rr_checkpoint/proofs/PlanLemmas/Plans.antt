@@ -6,7 +6,7 @@ use Rattle.rr_checkpoint.specs.Planning as planning
 use Rattle.rr_checkpoint.specs.declared.checkpoint.Plan.{Plan}
 use Rattle.rr_reading.specs.declared.dir.directory.ChainRef.{ChainRef}
 use Rattle.rr_reading.specs.declared.dir.directory.TableEntry.{TableEntry}
-use Rattle.rr_reading.specs.declared.dir.version.Version.TheVariants.{One}
+use Rattle.rr_reading.specs.declared.dir.version.TheConstants.{NEWEST}
 use Rattle.rr_reading.specs.Dir.Directory.{IsDirectory, IsKit, IsText, spelling}
 use Rattle.rr_reading.specs.Dir.Heads.{Heads, head_of}
 use Rattle.rr_reading.specs.Dir.Heads as named
@@ -15,6 +15,7 @@ use Rattle.rr_images.specs.Layout.{Layout, KeepsAt}
 use Rattle.rr_images.specs.Plans.{LaidChain, Draft, Fresh, laid_as, kept_of, chains_of, AreLaid}
 use Rattle.rr_pages.specs.declared.chain.FreshPage.{FreshPage}
 use Rattle.rr_pages.specs.declared.free_pages.FreePages.{FreePages}
+use Rattle.rr_pages.specs.declared.root.TheConstants.{NEWEST_VERSION}
 use Rattle.rr_pages.specs.FreePages.{present_of, coming_of}
 use Rattle.rr_pages.specs.Laying as laying
 use Rattle.rr_pages.specs.Pages.{IsIn, AreData}
@@ -109,7 +110,7 @@ module _ (takes : List ℕ → World → World → Type 0) (layout : Layout (wor
       omega (arith, under, keeps.taken.sound.pages_high)
 
   module _ (coming : List Bool) (free : FreePages) (fresh : List FreshPage) (entries : List TableEntry) (bytes : List ℕ) (none : IsEmpty coming) (full : length coming ≡ 65536)
-      (laid : AreTablesLaid (present_of free) (all_marked coming (text_pages kit)) (coming_of free) fresh (tables_of transcript) entries) (is : bytes ≡ spelling One (record { kit = kit_chains kit; tables = entries })) where
+      (laid : AreTablesLaid (present_of free) (all_marked coming (text_pages kit)) (coming_of free) fresh (tables_of transcript) entries) (is : bytes ≡ spelling NEWEST (record { kit = kit_chains kit; tables = entries })) where
     abbrev chains : List HeldChain
     chains = map laid_as laid.laid
 
@@ -123,13 +124,13 @@ module _ (takes : List ℕ → World → World → Type 0) (layout : Layout (wor
           are_tables = are_tables laid.laid transcript.tables.items laid.texts laid.in_turn.fit transcript.some_kept transcript.own_names transcript.few;
         }
 
-    checkpoint : IsCheckpointOf texts laid.laid whole (bytes_for texts chains whole)
+    checkpoint : IsCheckpointOf NEWEST texts laid.laid whole (bytes_for NEWEST texts chains whole)
     checkpoint =
-        checkpoints_spell texts laid.laid whole (record { of_chart = refl; of_roster = refl; of_tiles = refl; of_board = refl; of_tables = laid.texts }) (all_short transcript.tables.items) is_directory
+        checkpoints_spell NEWEST texts laid.laid whole (record { of_chart = refl; of_roster = refl; of_tiles = refl; of_board = refl; of_tables = laid.texts }) (all_short transcript.tables.items) is_directory
 
-    bytes_are : bytes ≡ bytes_for texts chains whole
+    bytes_are : bytes ≡ bytes_for NEWEST texts chains whole
     bytes_are =
-        is ∙ (λ i. spelling One
+        is ∙ (λ i. spelling NEWEST
         (record {
           kit = record { chart = of.on_pages.of_chart.named i; roster = of.on_pages.of_roster.named i; tiles = of.on_pages.of_tiles.named i; board = of.on_pages.of_board.named i };
           tables = laid.named i;
@@ -145,7 +146,7 @@ module _ (takes : List ℕ → World → World → Type 0) (layout : Layout (wor
           laid = subst (λ (written : List LaidChain). AreLaid (present_of free) (all_marked coming (text_pages kit)) (coming_of free) fresh written) (sym checkpoint.fresh) laid.in_turn;
         }
 
-    directory_is : planning.IsDirectory (worlds takes) layout drafts bytes
+    directory_is : planning.IsDirectory (worlds takes) layout NEWEST_VERSION drafts bytes
     directory_is =
         record {
           named = subst (λ (text : List ℕ). Heads 1 text (heads_of (chains_of drafts))) (sym bytes_are) checkpoint.named;
@@ -154,12 +155,12 @@ module _ (takes : List ℕ → World → World → Type 0) (layout : Layout (wor
 
     -- what the writer plans of them
     pub planned : (same : Layout (worlds takes)) (after : FreePages) (plan : Plan) → same ≡ layout
-        → ((others : List Draft) → AreDrafted same free fresh others → planning.IsDirectory (worlds takes) same others bytes
+        → ((others : List Draft) → AreDrafted same free fresh others → planning.IsDirectory (worlds takes) same NEWEST_VERSION others bytes
         → (may : MayBegin (worlds takes) same after plan) × (may.holding.chains ≡ chains_of others))
         → (may : MayBegin (worlds takes) layout after plan) × HoldsTexts texts may.holding
     planned same after plan is plans =
         let made =
         plans drafts (subst (λ (l : Layout (worlds takes)). AreDrafted l free fresh drafts) (sym is) drafted)
-        (subst (λ (l : Layout (worlds takes)). planning.IsDirectory (worlds takes) l drafts bytes) (sym is) directory_is) in
+        (subst (λ (l : Layout (worlds takes)). planning.IsDirectory (worlds takes) l NEWEST_VERSION drafts bytes) (sym is) directory_is) in
         let holds : HoldsTexts texts made.0.holding = record { others = chains_of (map (λ (chain : LaidChain). Fresh chain) laid.laid); held = made.1 } in
         subst (λ (l : Layout (worlds takes)). (may : MayBegin (worlds takes) l after plan) × HoldsTexts texts may.holding) is (made.0, holds)

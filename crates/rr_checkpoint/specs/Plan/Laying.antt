@@ -1,5 +1,5 @@
 -- The chains of tables as they are laid.
-use Rattle.std.specs.Prelude.{◌≡◌, ℕ, ◌+◌, ◌/◌, ◌≤◌, Bool, List, length, map, sum_by}
+use Rattle.std.specs.Prelude.{◌≡◌, ℕ, ◌+◌, Bool, List, length, map, sum_by}
 use Rattle.rr_checkpoint.specs.declared.checkpoint.Plan.{Plan}
 use Rattle.rr_reading.specs.declared.dir.directory.TableEntry.{TableEntry}
 use Rattle.rr_images.specs.Holding.{texts_of}
@@ -20,25 +20,17 @@ entry_at head table =
       chain = record { head = head; length = length (text_for table) };
     }
 
--- so many bytes take this many pages at most
-abbrev pub most_pages_for : ℕ → ℕ
-most_pages_for count = count / 4086 + 1
-
--- how many pages the chains of these tables take at most
+-- how many pages the chains of these tables take
 abbrev pub table_pages : List Table → ℕ
-table_pages tables = sum_by (λ table. most_pages_for (length (text_for table))) tables
+table_pages tables = sum_by (λ table. pages_for (length (text_for table))) tables
 
 -- how many bytes their directory has
 abbrev pub directory_length : List Table → ℕ
 directory_length tables = 50 + sum_by (λ table. 29 + length table.name) tables
 
--- how many pages all of these take at most
+-- how many pages all of these take: so many a checkpoint of the tables lays
 abbrev pub needed_pages : List Table → ℕ
 needed_pages tables = table_pages tables + pages_for (directory_length tables)
-
--- how many pages a checkpoint of these tables lays at most
-abbrev pub most_laid_pages : List Table → ℕ
-most_laid_pages tables = table_pages tables + most_pages_for (directory_length tables)
 
 -- the pages of a plan that don't stand in the file yet
 abbrev pub fresh_pages : Plan → List ℕ
@@ -52,4 +44,4 @@ pub record AreTablesLaid (present coming after : List Bool) (fresh : List FreshP
   pub in_turn : AreLaid present coming after fresh laid
   pub texts : texts_of (map laid_as laid) ≡ map text_for tables
   pub named : entries ≡ entries_for (map laid_as laid) tables
-  pub few : length (laid_pages laid) ≤ table_pages tables
+  pub counted : length (laid_pages laid) ≡ table_pages tables

@@ -1,5 +1,5 @@
 // The chains of the tables, laid into free pages one after another.
-ghost use Rattle.std.specs.Prelude.{◌≡◌, ◌⊎◌, [], length, map, IfOk, IfErr, IsErrOf};
+ghost use Rattle.std.specs.Prelude.{◌≡◌, ◌⊎◌, ◌+◌, [], length, map, IfOk, IfErr, IsErrOf};
 ghost use Rattle.rr_checkpoint.specs.Writer.{free_of, ticks_left_of};
 ghost use Rattle.rr_pages.specs.FreePages.{present_of, coming_of};
 ghost use Rattle.rr_pages.specs.Laying.{pages_for};
@@ -51,6 +51,8 @@ fn lay_table<R: Rules>(
     requires { ticks_left_of writer.old ≡ 0 }
     ensures laid { IfOk result (λ entry. IsLaid (present_of (free_of writer.old)) (coming_of (free_of writer.old))
         (coming_of (free_of writer.new)) (text_for (table_of table.now)) fresh.old.items fresh.new.items entry.chain.head) }
+    ensures count { IfOk result (λ _. length fresh.new.items
+        ≡ length fresh.old.items + pages_for (length (text_for (table_of table.now)))) }
     ensures entry { IfOk result (λ entry. entry ≡ entry_at entry.chain.head (table_of table.now)) }
     ensures full { IsErrOf result Fault.FileFull → TooFewFree (present_of (free_of writer.old))
         (coming_of (free_of writer.old)) (pages_for (length (text_for (table_of table.now)))) }

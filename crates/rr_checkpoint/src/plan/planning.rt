@@ -2,13 +2,12 @@ ghost use Rattle.std.specs.Prelude.{◌≡◌, ◌⊎◌, ℕ, ◌+◌, ◌^◌,
 ghost use Rattle.rr_checkpoint.specs.Planning.{MayBegin, coming_root_of};
 ghost use Rattle.rr_checkpoint.specs.Writer.{Carries, free_of, place_of, taken_of, ticks_left_of};
 ghost use Rattle.rr_reading.specs.Dir.Directory.{spelling};
-ghost use Rattle.rr_reading.specs.declared.dir.version.Version.TheVariants.{One};
 ghost use Rattle.rr_disk.specs.Disk.{DiskState};
 ghost use Rattle.rr_pages.specs.FreePages.{present_of, coming_of};
 ghost use Rattle.rr_pages.specs.Sets.{IsEmpty, TakesFree, TooFewFree, all_marked};
 ghost use Rattle.rr_reading.specs.Reading.{NoneReached};
 ghost use Rattle.rr_checkpoint.specs.Plan.Kit.{text_pages};
-ghost use Rattle.rr_checkpoint.specs.Plan.Laying.{fresh_pages, most_laid_pages, needed_pages};
+ghost use Rattle.rr_checkpoint.specs.Plan.Laying.{fresh_pages, needed_pages};
 ghost use Rattle.rr_checkpoint.specs.Plan.Planning.{IsOfLayout, HoldsTexts};
 ghost use Rattle.rr_checkpoint.specs.Plan.Transcript.{tables_of};
 ghost use Rattle.rr_checkpoint.specs.Plan.Writing.{OnlyTakes};
@@ -20,7 +19,7 @@ use crate::plan::laying::lay_tables;
 use crate::plan::{KitPages, Transcript};
 use crate::{Plan, Writer};
 use rr_pages::Fault;
-use rr_reading::dir::{Dir, KitChains, TableEntry, Version};
+use rr_reading::dir::{Dir, KitChains, NEWEST, TableEntry, Version};
 use rr_reading::worlds::{Rules, Worlds};
 use std::alloc::Global;
 
@@ -29,7 +28,8 @@ use std::alloc::Global;
 /// and pages that were taken for one are given back first.
 ///
 /// # Errors
-/// `FileFull` where fewer pages are free, beside those of the texts, than the tables and the directory take; else
+/// `FileFull` where fewer pages are free, beside those of the texts, than the tables and the directory take, and no plan is
+/// made then; else
 /// `OutOfMemory` alone. Then the pages that were taken are given back.
 pub fn plan_checkpoint<R: Rules>(
     alloc: Global,
@@ -47,10 +47,13 @@ pub fn plan_checkpoint<R: Rules>(
         → (may : MayBegin (worlds R.takes) carries.layout (free_of writer.new) plan) × HoldsTexts of.texts may.holding) }
     ensures root { IfOk result (λ plan. plan.root ≡ coming_root_of writer.old plan.root.directory plan.fresh.items) }
     ensures some { IfOk result (λ plan. 0 < length plan.fresh.items) }
-    ensures few { IfOk result (λ plan. length plan.fresh.items ≤ most_laid_pages (tables_of transcript.now)) }
+    ensures count { IfOk result (λ plan. length plan.fresh.items ≡ needed_pages (tables_of transcript.now)) }
     ensures laid { IfOk result (λ plan. (none : List Bool) → NoneReached none
         → TakesFree (present_of (free_of writer.old)) (all_marked none (text_pages kit.now)) (fresh_pages plan)
         (coming_of (free_of writer.new))) }
+    ensures fits { IfOk result (λ plan. (none : List Bool) → NoneReached none
+        → TooFewFree (present_of (free_of writer.old)) (all_marked none (text_pages kit.now))
+        (needed_pages (tables_of transcript.now)) → ⊥) }
     ensures full { IsErrOf result Fault.FileFull → (none : List Bool) → NoneReached none
         → TooFewFree (present_of (free_of writer.old)) (all_marked none (text_pages kit.now))
         (needed_pages (tables_of transcript.now)) }
@@ -85,7 +88,7 @@ fn make_plan<R: Rules>(
         → (may : MayBegin (worlds R.takes) carries.layout (free_of writer.new) plan) × HoldsTexts of.texts may.holding) }
     ensures root { IfOk result (λ plan. plan.root ≡ coming_root_of writer.old plan.root.directory plan.fresh.items) }
     ensures some { IfOk result (λ plan. 0 < length plan.fresh.items) }
-    ensures few { IfOk result (λ plan. length plan.fresh.items ≤ most_laid_pages (tables_of transcript.now)) }
+    ensures count { IfOk result (λ plan. length plan.fresh.items ≡ needed_pages (tables_of transcript.now)) }
     ensures laid { IfOk result (λ plan. TakesFree (present_of (free_of writer.old))
         (all_marked (coming_of (free_of writer.old)) (text_pages kit.now)) (fresh_pages plan)
         (coming_of (free_of writer.new))) }
@@ -97,20 +100,25 @@ fn make_plan<R: Rules>(
     keep_texts(writer, kit);
     let mut fresh = Vec::new(alloc);
     let entries = lay_tables(alloc, writer, &mut fresh, &transcript.tables)?;
-    let directory = directory_bytes(alloc, kit.chains(), entries)?;
+    let directory = directory_bytes(alloc, NEWEST, kit.chains(), entries)?;
     let plan = writer.plan(alloc, fresh, &directory)?;
     Ok(plan)
 }
 
-// The bytes of a directory.
-fn directory_bytes(alloc: Global, kit: KitChains, tables: Vec<TableEntry>) -> Result<Vec<u8>, Fault>
+// The bytes of a directory of this version.
+fn directory_bytes(
+    alloc: Global,
+    version: Version,
+    kit: KitChains,
+    tables: Vec<TableEntry>,
+) -> Result<Vec<u8>, Fault>
     requires { length tables.items ≤ 64 }
-    ensures bytes { IfOk result (λ bytes. bytes.items ≡ spelling One (record { kit = kit; tables = tables.items })) }
+    ensures bytes { IfOk result (λ bytes. bytes.items ≡ spelling version (record { kit = kit; tables = tables.items })) }
     ensures memory { IfErr result (λ fault. fault ≡ Fault.OutOfMemory) }
 {
     let dir = Dir { kit, tables };
     let mut bytes = Vec::new(alloc);
-    if dir.write(Version::One, &mut bytes).is_err() {
+    if dir.write(version, &mut bytes).is_err() {
         return Err(Fault::OutOfMemory);
     }
     Ok(bytes)

@@ -58,7 +58,7 @@ impl Position {
             bidding: Bidding::open(),
             market: Market::new(),
             rounds: Rounds::open(players),
-            operations: Operations::new(),
+            operations: Operations::open(players),
             layout: Layout::new(),
             entries: u32::from(players),
         }

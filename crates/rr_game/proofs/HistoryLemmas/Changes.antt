@@ -1,5 +1,6 @@
 -- What each request makes of a table.
 use Rattle.std.proofs.Common.{◌≡◌, ℕ, ◌+◌, ◌<◌, List, [], ◌∷◌, ◌++◌, length, take, Bool, if◌then◌else◌, Some, refl, sym, ap, subst, ◌∙◌, arith, length-append}
+use Rattle.rr_turns.specs.declared.limits.TheConstants.{LAST_STAMP, MOST_COMMANDS}
 use Rattle.rr_kit.specs.declared.kit.Kit.{Kit}
 use Rattle.rr_code.specs.declared.command.Command.{Command}
 use Rattle.rr_game.specs.declared.game.Game.{Game}
@@ -21,7 +22,7 @@ take_all (x ∷ xs) = ap (λ l. x ∷ l) (take_all xs)
 all_of : {X : Type 0} (n : ℕ) (xs : List X) → n ≡ length xs → take n xs ≡ xs
 all_of n xs e = ap (λ m. take m xs) e ∙ take_all xs
 
-pub played_by : (kit : Kit) (old : Kept Command) (c : Command) (game : Game) (turns n : ℕ) → n ≡ length old.commands → n < 4096 → old.stamp < 4000000000
+pub played_by : (kit : Kit) (old : Kept Command) (c : Command) (game : Game) (turns n : ℕ) → n ≡ length old.commands → n < MOST_COMMANDS → old.stamp < LAST_STAMP
     → IsPlayOf kit (old.commands ++ c ∷ []) game turns
     → IsChangeBy kit old (Play c) (record { stay = n; added = Some c; game = game; turns = turns; floor = old.floor })
 played_by kit old c game turns n all room stamp play =
@@ -38,7 +39,7 @@ played_by kit old c game turns n all room stamp play =
 
 -- a command that was judged, spelled and played
 pub command_change : (kit : Kit) (old : Kept Command) (c added : Command) (before after : Game) (turns later n : ℕ) (ended : Bool)
-    → IsPlayOf kit old.commands before turns → added ≡ c → n ≡ length old.commands → n < 4096 → old.stamp < 4000000000
+    → IsPlayOf kit old.commands before turns → added ≡ c → n ≡ length old.commands → n < MOST_COMMANDS → old.stamp < LAST_STAMP
     → IsLawfulAfter kit old.commands c → IsGameOf kit (old.commands ++ c ∷ []) after → ended ≡ ends_turn kit old.commands c
     → later ≡ turns + (if ended then 1 else 0)
     → IsChangeBy kit old (Play c) (record { stay = n; added = Some added; game = after; turns = later; floor = old.floor })

@@ -2,6 +2,7 @@
 use Rattle.std.proofs.Common.{◌≡◌, ℕ, ◌<◌, Bool, true, false, length, nat_le, Option, None, Some, [], ap, option_map, if◌then◌else◌, refl, sym, ◌∙◌, arith}
 use Rattle.std.specs.Option.{option_or}
 use Rattle.std.proofs.lemmas.Bool.Decides.{nat_tests}
+use Rattle.rr_turns.specs.declared.limits.TheConstants.{MOST_COMMANDS}
 use Rattle.rr_kit.specs.declared.kit.Kit.{Kit}
 use Rattle.rr_code.specs.declared.command.Command.{Command}
 use Rattle.rr_code.specs.declared.command.Command.TheVariants.{Order}
@@ -40,12 +41,12 @@ lawful_behind_stamp kit table stamp request h is = behind-is (stamp_verdict tabl
 
 -- a command
 
-by_room : (b : Bool) (n : ℕ) → nat_le 4096 n ≡ b → n < 4096 → ◌≡◌ {A = Option Fault} (if b then Some F.TooManyCommands else None) None
+by_room : (b : Bool) (n : ℕ) → nat_le MOST_COMMANDS n ≡ b → n < MOST_COMMANDS → ◌≡◌ {A = Option Fault} (if b then Some F.TooManyCommands else None) None
 by_room true n e less = absurd (grind (arith, nat_tests))
 by_room false n e less = refl
 
-pub has_room : (table : Kept Command) (n : ℕ) → n ≡ length table.commands → n < 4096 → room_verdict table ≡ None
-has_room table n all less = by_room (nat_le 4096 (length table.commands)) (length table.commands) refl (omega (arith, all, less))
+pub has_room : (table : Kept Command) (n : ℕ) → n ≡ length table.commands → n < MOST_COMMANDS → room_verdict table ≡ None
+has_room table n all less = by_room (nat_le MOST_COMMANDS (length table.commands)) (length table.commands) refl (omega (arith, all, less))
 
 pub lawful_with_room : (kit : Kit) (table : Kept Command) (c : Command) → room_verdict table ≡ None → IsLawfulAfter kit table.commands c
     → IsVerdict (own_judgement kit table (Play c)) None

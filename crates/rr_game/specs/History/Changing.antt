@@ -1,5 +1,6 @@
 -- What a request that isn't refused makes of a table.
 use Rattle.std.specs.Prelude.{◌≡◌, ◌+◌, ◌≤◌, ◌<◌, ◌++◌, length, take, option_to_list}
+use Rattle.rr_turns.specs.declared.limits.TheConstants.{LAST_STAMP, MOST_COMMANDS}
 use Rattle.rr_kit.specs.declared.kit.Kit.{Kit}
 use Rattle.rr_code.specs.declared.command.Command.{Command}
 use Rattle.rr_turns.specs.declared.request.Request.{Request}
@@ -17,8 +18,8 @@ kept_with old change = record {
 
 -- a change that can be made: there is room for the commands, and a stamp after this one
 pub record Fits (old : Kept Command) (change : Change) : Type 0 where
-  pub room : length (take change.stay old.commands ++ option_to_list change.added) ≤ 4096
-  pub stamp : old.stamp < 4000000000
+  pub room : length (take change.stay old.commands ++ option_to_list change.added) ≤ MOST_COMMANDS
+  pub stamp : old.stamp < LAST_STAMP
 
 -- the change is what this request makes of the table
 pub record IsChangeBy (kit : Kit) (old : Kept Command) (request : Request Command) (change : Change) : Type 0 where

@@ -1,5 +1,6 @@
 -- The judgement of a table on a request, from what it keeps alone.
 use Rattle.std.specs.Prelude.{◌≡◌, ℕ, ◌==◌, Bool, not, ◌&&◌, nat_le, length, Option, None, Some, if◌then◌else◌}
+use Rattle.rr_turns.specs.declared.limits.TheConstants.{LAST_STAMP, MOST_COMMANDS}
 use Rattle.rr_kit.specs.declared.kit.Kit.{Kit}
 use Rattle.rr_code.specs.declared.command.Command.{Command}
 use Rattle.rr_code.specs.Command.{IsCommand}
@@ -23,13 +24,13 @@ turn_verdict kit table k = if is_kept_turn kit table k then None else Some F.Tur
 
 -- a table keeps 4,096 commands at most
 abbrev pub room_verdict : Kept Command → Option Fault
-room_verdict table = if nat_le 4096 (length table.commands) then Some F.TooManyCommands else None
+room_verdict table = if nat_le MOST_COMMANDS (length table.commands) then Some F.TooManyCommands else None
 
 -- the stamp comes first; and a table with the last stamp takes nothing
 abbrev pub stamp_verdict : Kept Command → ℕ → Option Fault
 stamp_verdict table stamp =
     if not (table.stamp == stamp) then Some (F.StaleStamp table.stamp)
-    else if nat_le 4000000000 table.stamp then Some F.TooManyCommands
+    else if nat_le LAST_STAMP table.stamp then Some F.TooManyCommands
     else None
 
 -- the judgement of a table on a request with its stamp: that of the game on a command comes behind the table's own check;

@@ -1,5 +1,5 @@
 ghost use Rattle.std.specs.Prelude.{◌≡◌};
-ghost use Rattle.rr_game.specs.History.Fault.{number_of, of_game};
+ghost use Rattle.rr_game.specs.History.Fault.{of_game};
 ghost use Rattle.rr_game.specs.declared.history.fault.Fault.TheVariants.{OutOfMemory};
 
 use rr_books::Refusal;
@@ -24,21 +24,6 @@ pub enum Fault {
     /// A request for memory was refused.
     #[error("out of memory")]
     OutOfMemory,
-}
-
-impl Fault {
-    /// The number that a reply gives.
-    pub fn number(&self) -> u8
-        ensures { result ≡ number_of self.now }
-    {
-        match self {
-            Fault::Game(fault) => fault.number(),
-            Fault::StaleStamp(_) => 52,
-            Fault::TurnNotKept => 53,
-            Fault::TooManyCommands => 54,
-            Fault::OutOfMemory => 70,
-        }
-    }
 }
 
 impl From<Refusal> for Fault {

@@ -1,5 +1,6 @@
 //! One command more, with the turn that it may end.
 ghost use Rattle.std.specs.Prelude.{◌≡◌, ◌+◌, ◌<◌, ◌++◌, List, [], ◌∷◌, IfOk, MatchResult, if◌then◌else◌};
+ghost use Rattle.rr_turns.specs.declared.limits.TheConstants.{MOST_COMMANDS};
 ghost use Rattle.rr_code.specs.Command.{IsCommand};
 ghost use Rattle.rr_code.specs.declared.command.Command.{Command as Line};
 ghost use Rattle.rr_game.specs.Keeping.{IsGameOf};
@@ -30,7 +31,7 @@ impl Next {
         command: &Command,
         kit: &Kit,
     ) -> Result<Next, Fault>
-        requires played { game.now.played < 4096 }
+        requires played { game.now.played < MOST_COMMANDS }
         requires command { IsCommand command.now }
         ensures verdict { (before : List Line) → IsGameOf kit.now before game.now → MatchResult result
             (λ _. IsLawfulAfter kit.now before command.now)
@@ -84,7 +85,7 @@ fn order_ends_turn(order: &Order) -> bool
 
 /// The turns that have ended after one command more.
 pub(crate) fn turns_after(turns: u64, ended: bool) -> u64
-    requires { turns < 4096 }
+    requires { turns < MOST_COMMANDS }
     ensures { result ≡ turns + (if ended then 1 else 0) }
 {
     if ended {

@@ -1,5 +1,6 @@
 //! The play of a table's first turns, from its kept commands.
 ghost use Rattle.std.specs.Prelude.{◌≡◌, ◌+◌, ◌<◌, ◌≤◌, [], ◌∷◌, true, length, take, IfOk, IsOkUnless};
+ghost use Rattle.rr_turns.specs.declared.limits.TheConstants.{MOST_COMMANDS};
 ghost use Rattle.rr_game.specs.Keeping.{IsGameOf};
 ghost use Rattle.rr_game.specs.Play.{begins_with_opening};
 ghost use Rattle.rr_turns.specs.Turns.{ended_turns, first_turns};
@@ -29,7 +30,7 @@ pub(crate) fn replay(
     kit: &Kit,
 ) -> Result<Replayed, Fault>
     requires lawful { ∥ ArePlayed kit.now commands.now ∥₁ }
-    requires few { length commands.now ≤ 4096 }
+    requires few { length commands.now ≤ MOST_COMMANDS }
     requires ended { turn ≤ ended_turns (ends_turn kit.now) commands.now }
     ensures front { IfOk result (λ replayed.
         take replayed.commands commands.now ≡ first_turns (ends_turn kit.now) turn commands.now) }
@@ -51,7 +52,7 @@ fn replay_behind(
     kit: &Kit,
 ) -> Result<Replayed, Fault>
     requires lawful { ∥ ArePlayed kit.now (opening.now ∷ others.now) ∥₁ }
-    requires few { length others.now < 4096 }
+    requires few { length others.now < MOST_COMMANDS }
     requires ended { turn ≤ ended_turns (ends_turn kit.now) (opening.now ∷ others.now) }
     ensures front { IfOk result (λ replayed.
         take replayed.commands (opening.now ∷ others.now)

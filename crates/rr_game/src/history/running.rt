@@ -5,9 +5,10 @@ ghost use Rattle.rr_game.specs.History.Tables.{IsPlayed, kept_in};
 ghost use Rattle.rr_game.specs.History.Verdict.{room_verdict};
 
 use crate::history::fault::Fault;
-use crate::history::table::{MOST_COMMANDS, Table};
+use crate::history::table::Table;
 use rr_kit::Kit;
 use rr_roster::Corp;
+use rr_turns::MOST_COMMANDS;
 use std::alloc::Global;
 
 impl Table {
@@ -17,7 +18,7 @@ impl Table {
     /// # Errors
     ///
     /// `StaleStamp` where the stamp isn't the table's; `TooManyCommands` where the table has its last stamp or keeps
-    /// 4,096 commands; then what the game refuses whatever the sheet.
+    /// `MOST_COMMANDS` commands; then what the game refuses whatever the sheet.
     pub fn judge_run(&self, alloc: Global, stamp: u64, corp: Corp, kit: &Kit) -> Result<(), Fault>
         requires { IsPlayed kit.now self.now }
         ensures { MatchResult result

@@ -1,5 +1,6 @@
 //! How a table stands.
 ghost use Rattle.std.specs.Prelude.{◌≡◌, ◌≤◌};
+ghost use Rattle.rr_turns.specs.declared.limits.TheConstants.{LAST_STAMP};
 ghost use Rattle.rr_game.specs.Keeping.{IsGameOf};
 ghost use Rattle.rr_game.specs.History.Playing.{ends_turn};
 ghost use Rattle.rr_game.specs.History.Tables.{IsPlayed, kept_in};
@@ -30,7 +31,7 @@ impl Table {
     /// The stamp that the next request has to have.
     pub fn stamp(&self) -> u64
         ensures value { result ≡ (kept_in self.now).stamp }
-        ensures last { result ≤ 4000000000 }
+        ensures last { result ≤ LAST_STAMP }
     {
         self.stamp
     }
@@ -52,7 +53,7 @@ impl Table {
 
     /// Goes on with a floor and a stamp that a file tells of the table. The stamp is at most 4,000,000,000.
     pub fn resume(&mut self, floor: u64, stamp: u64)
-        requires { stamp ≤ 4000000000 }
+        requires { stamp ≤ LAST_STAMP }
         ensures commands { (kept_in self.new).commands ≡ (kept_in self.old).commands }
         ensures floor { (kept_in self.new).floor ≡ floor }
         ensures stamp { (kept_in self.new).stamp ≡ stamp }

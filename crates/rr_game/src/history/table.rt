@@ -1,4 +1,5 @@
 ghost use Rattle.std.specs.Prelude.{◌≡◌, ◌+◌, ◌<◌, ◌≤◌, ◌++◌, [], ◌∷◌, None, Some, ◌&&◌, true, nat_le, length, take, vec_capacity, vec_len, option_to_list, IfOk, IfErr, OnOk, OnErr, IsOkUnless, MatchResult};
+ghost use Rattle.rr_turns.specs.declared.limits.TheConstants.{LAST_STAMP, MOST_COMMANDS};
 ghost use Rattle.rr_code.specs.Command.{IsCommand};
 ghost use Rattle.rr_game.specs.History.Changing.{Fits, IsChangeBy, kept_with};
 ghost use Rattle.rr_game.specs.History.Playing.{ends_turn};
@@ -14,14 +15,8 @@ use crate::history::replaying::replay;
 use crate::history::spelled::Spelled;
 use rr_code::{Command, Players};
 use rr_kit::Kit;
-use rr_turns::Request;
+use rr_turns::{LAST_STAMP, MOST_COMMANDS, Request};
 use std::alloc::Global;
-
-/// The most commands that a table keeps, the opening among them.
-pub(crate) const MOST_COMMANDS: usize = 4096;
-
-/// The last stamp of a table.
-const LAST_STAMP: u64 = 4_000_000_000;
 
 /// A table: the commands that it keeps, the least turn to which it can be taken back, its stamp, and the game that its
 /// commands make. The kit is lent to each call: the one with which the table opened, always.
@@ -32,9 +27,9 @@ pub struct Table {
     pub(crate) turns: u64,
     pub(crate) floor: u64,
     pub(crate) stamp: u64,
-    ghost room: { 4096 ≤ vec_capacity commands },
-    ghost few: { vec_len commands ≤ 4096 },
-    ghost last: { stamp ≤ 4000000000 },
+    ghost room: { MOST_COMMANDS ≤ vec_capacity commands },
+    ghost few: { vec_len commands ≤ MOST_COMMANDS },
+    ghost last: { stamp ≤ LAST_STAMP },
 }
 
 impl Table {
@@ -71,7 +66,7 @@ impl Table {
     /// # Errors
     ///
     /// `StaleStamp` where the stamp isn't the table's; `TooManyCommands` where the table has its last stamp or keeps
-    /// 4,096 commands; then what the game refuses; then `OutOfMemory`.
+    /// `MOST_COMMANDS` commands; then what the game refuses; then `OutOfMemory`.
     pub fn step(
         &mut self,
         alloc: Global,
@@ -199,7 +194,7 @@ impl Table {
         ensures verdict { MatchResult result
             (λ _. stamp_verdict (kept_in self.now) stamp ≡ None)
             (λ fault. stamp_verdict (kept_in self.now) stamp ≡ Some fault) }
-        ensures room { OnOk result (self.now.stamp < 4000000000) }
+        ensures room { OnOk result (self.now.stamp < LAST_STAMP) }
     {
         if self.stamp != stamp {
             return Err(Fault::StaleStamp(self.stamp));
@@ -213,7 +208,7 @@ impl Table {
     fn judge_command(&self, alloc: Global, command: &Command, kit: &Kit) -> Result<Change, Fault>
         requires played { IsPlayed kit.now self.now }
         requires command { IsCommand command.now }
-        requires stamp { self.now.stamp < 4000000000 }
+        requires stamp { self.now.stamp < LAST_STAMP }
         ensures verdict { MatchResult result
             (λ _. IsVerdict (own_judgement kit.now (kept_in self.now) (Request.Play command.now)) None)
             (λ fault. MayFind (own_judgement kit.now (kept_in self.now) (Request.Play command.now)) Fault.OutOfMemory fault) }
@@ -237,7 +232,7 @@ impl Table {
 
     fn judge_back(&self, alloc: Global, turn: u64, kit: &Kit) -> Result<Change, Fault>
         requires played { IsPlayed kit.now self.now }
-        requires stamp { self.now.stamp < 4000000000 }
+        requires stamp { self.now.stamp < LAST_STAMP }
         ensures verdict { MatchResult result
             (λ _. IsVerdict (own_judgement kit.now (kept_in self.now) (Request.Back turn)) None)
             (λ fault. MayFind (own_judgement kit.now (kept_in self.now) (Request.Back turn)) Fault.OutOfMemory fault) }
@@ -257,7 +252,7 @@ impl Table {
     }
 
     fn judge_forget(&self, turn: u64) -> Result<Change, Fault>
-        requires { self.now.stamp < 4000000000 }
+        requires { self.now.stamp < LAST_STAMP }
         ensures verdict { (kit : AnyKit) → IsPlayed kit self.now → MatchResult result
             (λ _. turn_verdict kit (kept_in self.now) turn ≡ None)
             (λ fault. turn_verdict kit (kept_in self.now) turn ≡ Some fault) }
@@ -300,10 +295,10 @@ fn opening_of(players: &Players) -> Command<'static>
 
 /// Keeps the first so many commands, and one that is added.
 fn replace_end(commands: &mut Vec<Spelled>, stay: usize, added: Option<Spelled>)
-    requires room { 4096 ≤ vec_capacity commands.old }
-    requires few { length (take stay commands.old.items ++ option_to_list added) ≤ 4096 }
+    requires room { MOST_COMMANDS ≤ vec_capacity commands.old }
+    requires few { length (take stay commands.old.items ++ option_to_list added) ≤ MOST_COMMANDS }
     ensures items { commands.new.items ≡ take stay commands.old.items ++ option_to_list added }
-    ensures room { 4096 ≤ vec_capacity commands.new }
+    ensures room { MOST_COMMANDS ≤ vec_capacity commands.new }
 {
     commands.truncate(stay);
     if let Some(command) = added {

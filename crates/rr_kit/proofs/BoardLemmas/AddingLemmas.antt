@@ -15,6 +15,7 @@ use Rattle.rr_roster.specs.Company.{corp_name, private_name}
 use Rattle.rr_tiles.proofs.CentreLemmas.{small_number-found}
 use Rattle.rr_tiles.proofs.EdgeLemmas.{All-tail_of}
 use Rattle.rr_tiles.proofs.OptionLemmas.{and_then-some, if-some, map-some}
+use Rattle.rr_kit.specs.declared.board.hex.TheConstants.{GREATEST_CENTRE}
 use Rattle.rr_kit.specs.declared.board.hex.Hex.{Hex}
 use Rattle.rr_kit.specs.declared.board.hex.Home.{Home}
 use Rattle.rr_kit.specs.declared.board.hex.Block.{Block}
@@ -129,13 +130,13 @@ add_home-found plan [] next is = absurd (none-some next is)
 add_home-found plan (corp ∷ []) next is = absurd (none-some next is)
 add_home-found plan (corp ∷ hex ∷ []) next is = absurd (none-some next is)
 add_home-found plan (corp ∷ hex ∷ centre ∷ []) next is =
-    let c = and_then-some (λ x. option_and_then (λ n. option_and_then (home_at plan x n) (hex_named plan.hexes hex)) (small_number_of centre 1 65535)) (corp_of corp) next is in
-    let n = and_then-some (λ x. option_and_then (home_at plan c.0 x) (hex_named plan.hexes hex)) (small_number_of centre 1 65535) next c.2 in
+    let c = and_then-some (λ x. option_and_then (λ n. option_and_then (home_at plan x n) (hex_named plan.hexes hex)) (small_number_of centre 1 GREATEST_CENTRE)) (corp_of corp) next is in
+    let n = and_then-some (λ x. option_and_then (home_at plan c.0 x) (hex_named plan.hexes hex)) (small_number_of centre 1 GREATEST_CENTRE) next c.2 in
     let h = and_then-some (home_at plan c.0 n.0) (hex_named plan.hexes hex) next n.2 in
     let home : Home = record { corp = c.0; hex = h.0.name; centre = n.0 } in
     let slots = and_then-some (with_home plan home) (slots_at h.0.tile.parts n.0) next h.2 in
     let kept = if-some (may_take_home plan.homes home slots.0) (Some (and_home plan home)) next slots.2 in
-    let number = small_number-found centre 1 65535 n.0 n.1 in
+    let number = small_number-found centre 1 GREATEST_CENTRE n.0 n.1 in
     let named = hex_named-found plan.hexes hex h.0 h.1 in
     let its : IsNamed plan.hexes home.hex h.0 = record { among = named.among; named = refl } in
     record {
@@ -228,10 +229,10 @@ add_home-spelled plan whole home words hexes homes part board behind spelled =
     let same : fair.hex ≡ found.0 = hex_of_name whole.hexes fair.hex found.0 board.names_once fair.on_board on_board (fair.named ∙ sym named.named) in
     let city : slots_at found.0.tile.parts home.centre ≡ Some fair.slots = subst (λ h. slots_at h.tile.parts home.centre ≡ Some fair.slots) same fair.city in
     let may : may_take_home plan.homes home fair.slots ≡ true = may_take_home-next plan.homes home homes fair.slots (subst (AllPairs AreOfDifferentCorps) part.homes_are board.one_home_each) (subst (λ hs. count_by (is_home_at home.hex home.centre) hs ≤ fair.slots) part.homes_are fair.room) in
-    let number : small_number_of (decimal home.centre) 1 65535 ≡ Some home.centre = small_number_of-decimal home.centre 1 65535 (omega (arith, fair.to_65535)) fair.from_1 fair.to_65535 in
+    let number : small_number_of (decimal home.centre) 1 GREATEST_CENTRE ≡ Some home.centre = small_number_of-decimal home.centre 1 GREATEST_CENTRE (omega (arith, fair.to_greatest)) fair.from_1 fair.to_greatest in
     let of : List ℕ → Home = λ name. record { corp = home.corp; hex = name; centre = home.centre } in
     ap (add_line plan) spelled
-    ∙ ap (option_and_then (λ c. option_and_then (λ n. option_and_then (home_at plan c n) (hex_named plan.hexes home.hex)) (small_number_of (decimal home.centre) 1 65535))) (sym (corp_named home.corp))
+    ∙ ap (option_and_then (λ c. option_and_then (λ n. option_and_then (home_at plan c n) (hex_named plan.hexes home.hex)) (small_number_of (decimal home.centre) 1 GREATEST_CENTRE))) (sym (corp_named home.corp))
     ∙ ap (option_and_then (λ n. option_and_then (home_at plan home.corp n) (hex_named plan.hexes home.hex))) number
     ∙ ap (option_and_then (home_at plan home.corp home.centre)) found.1
     ∙ ap (option_and_then (with_home plan (of found.0.name))) city

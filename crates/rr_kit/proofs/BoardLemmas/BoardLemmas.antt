@@ -14,6 +14,7 @@ use Rattle.std.proofs.lemmas.Slice.Eq.{bytes_eq-Decides}
 use Rattle.rr_roster.specs.Company.{corp_index}
 use Rattle.rr_roster.proofs.Orders.{corp_index-injective}
 use Rattle.rr_tiles.proofs.EdgeLemmas.{AllPairs-none, All-tail_of}
+use Rattle.rr_kit.specs.declared.board.hex.TheConstants.{GREATEST_CENTRE}
 use Rattle.rr_kit.specs.declared.board.hex.Hex.{Hex}
 use Rattle.rr_kit.specs.declared.board.hex.Home.{Home}
 use Rattle.rr_kit.specs.declared.board.hex.Block.{Block}
@@ -113,7 +114,7 @@ IsFairHome-hex plan hex home fair = record {
   on_board = Contains-append_left plan.hexes (hex ∷ []) fair.hex fair.on_board;
   named = fair.named;
   from_1 = fair.from_1;
-  to_65535 = fair.to_65535;
+  to_greatest = fair.to_greatest;
   city = fair.city;
   room = fair.room;
 }
@@ -195,7 +196,7 @@ record IsCityFor (plan : Plan) (home : Home) (hex : Hex) (slots : ℕ) : Type 0 
   on_board : Contains plan.hexes hex
   named : hex.name ≡ home.hex
   from_1 : 1 ≤ home.centre
-  to_65535 : home.centre ≤ 65535
+  to_greatest : home.centre ≤ GREATEST_CENTRE
   city : slots_at hex.tile.parts home.centre ≡ Some slots
   room : count_by (is_home_at home.hex home.centre) plan.homes < slots
 
@@ -212,7 +213,7 @@ IsFairHome-there plan home other hex slots city same_hex same_centre =
       on_board = city.on_board;
       named = city.named ∙ same_hex;
       from_1 = subst (λ n. 1 ≤ n) same_centre city.from_1;
-      to_65535 = subst (λ n. n ≤ 65535) same_centre city.to_65535;
+      to_greatest = subst (λ n. n ≤ GREATEST_CENTRE) same_centre city.to_greatest;
       city = subst (λ n. slots_at hex.tile.parts n ≡ Some slots) same_centre city.city;
       room = subst (λ n. count_by (is_home_at other.hex n) (plan.homes ++ home ∷ []) ≤ slots) same_centre (subst (λ h. count_by (is_home_at h home.centre) (plan.homes ++ home ∷ []) ≤ slots) same_hex room);
     }
@@ -229,16 +230,16 @@ IsFairHome-home plan home hex slots city other fair =
         on_board = fair.on_board;
         named = fair.named;
         from_1 = fair.from_1;
-        to_65535 = fair.to_65535;
+        to_greatest = fair.to_greatest;
         city = fair.city;
         room = rw (count_more (is_home_at other.hex other.centre) plan.homes home, elsewhere) (omega (arith, fair.room));
       }
     ]
 
-pub IsBoard-home : (plan : Plan) (home : Home) (hex : Hex) (slots : ℕ) → IsBoard plan → IsNamed plan.hexes home.hex hex → 1 ≤ home.centre → home.centre ≤ 65535 → slots_at hex.tile.parts home.centre ≡ Some slots → may_take_home plan.homes home slots ≡ true → IsBoard (and_home plan home)
-IsBoard-home plan home hex slots board named from_1 to_65535 city may =
+pub IsBoard-home : (plan : Plan) (home : Home) (hex : Hex) (slots : ℕ) → IsBoard plan → IsNamed plan.hexes home.hex hex → 1 ≤ home.centre → home.centre ≤ GREATEST_CENTRE → slots_at hex.tile.parts home.centre ≡ Some slots → may_take_home plan.homes home slots ≡ true → IsBoard (and_home plan home)
+IsBoard-home plan home hex slots board named from_1 to_greatest city may =
     let new = IsNewHome-tested plan.homes home slots may in
-    let its : IsCityFor plan home hex slots = record { on_board = named.among; named = named.named; from_1 = from_1; to_65535 = to_65535; city = city; room = new.room } in
+    let its : IsCityFor plan home hex slots = record { on_board = named.among; named = named.named; from_1 = from_1; to_greatest = to_greatest; city = city; room = new.room } in
     record {
       to_200 = board.to_200;
       sound_hexes = board.sound_hexes;
@@ -262,7 +263,7 @@ IsBoard-block plan block board = record {
     on_board = fair.on_board;
     named = fair.named;
     from_1 = fair.from_1;
-    to_65535 = fair.to_65535;
+    to_greatest = fair.to_greatest;
     city = fair.city;
     room = fair.room;
   }) plan.homes board.fair_homes;

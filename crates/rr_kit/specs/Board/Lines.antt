@@ -6,6 +6,7 @@ use Rattle.rr_roster.specs.declared.company.Corp.{Corp}
 use Rattle.rr_roster.specs.declared.company.Private.{Private}
 use Rattle.rr_tiles.specs.Each.{added}
 use Rattle.rr_tiles.specs.Reading.{tile_of}
+use Rattle.rr_kit.specs.declared.board.hex.TheConstants.{GREATEST_CENTRE}
 use Rattle.rr_kit.specs.declared.board.hex.Place.{Place}
 use Rattle.rr_kit.specs.declared.board.hex.Colour.{Colour}
 use Rattle.rr_kit.specs.declared.board.hex.Hex.{Hex}
@@ -46,7 +47,7 @@ home_in plan corp centre hex =
 -- the board with the home that these words spell more
 abbrev pub home_of : Plan → List ℕ → List ℕ → List ℕ → Option Plan
 home_of plan corp hex centre =
-    option_and_then (λ c. option_and_then (λ n. option_and_then (home_in plan c n) (hex_named plan.hexes hex)) (small_number_of centre 1 65535)) (corp_of corp)
+    option_and_then (λ c. option_and_then (λ n. option_and_then (home_in plan c n) (hex_named plan.hexes hex)) (small_number_of centre 1 GREATEST_CENTRE)) (corp_of corp)
 
 -- the board with the home of a line `home <corporation> <hex> <centre>` more
 abbrev pub add_home : Plan → List (List ℕ) → Option Plan

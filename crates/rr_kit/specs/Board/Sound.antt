@@ -4,6 +4,7 @@ use Rattle.std.specs.List.{list_any}
 use Rattle.rr_words.specs.Name.{IsHexName}
 use Rattle.rr_tiles.specs.Sound.{IsTile}
 use Rattle.rr_tiles.specs.Tile.{centres_of}
+use Rattle.rr_kit.specs.declared.board.hex.TheConstants.{GREATEST_CENTRE, MOST_CENTRES}
 use Rattle.rr_kit.specs.declared.board.hex.Colour.TheVariants.{Red}
 use Rattle.rr_kit.specs.declared.board.hex.Hex.{Hex}
 use Rattle.rr_kit.specs.declared.board.hex.Home.{Home}
@@ -37,15 +38,15 @@ AreOfDifferentCorps home other = home.corp ≢ other.corp
 abbrev pub HasHex : List Hex → List ℕ → Type 0
 HasHex hexes name = Any (λ hex. hex.name ≡ name) hexes
 
--- The home is a city of the board, and home to no more corporations than it has slots. Its number, from 1, has at
--- most 16 bits.
+-- The home is a city of the board, and home to no more corporations than it has slots. Its number is from 1 to
+-- `GREATEST_CENTRE`.
 pub record IsFairHome (plan : Plan) (home : Home) : Type 0 where
   pub hex : Hex
   pub slots : ℕ
   pub on_board : Contains plan.hexes hex
   pub named : hex.name ≡ home.hex
   pub from_1 : 1 ≤ home.centre
-  pub to_65535 : home.centre ≤ 65535
+  pub to_greatest : home.centre ≤ GREATEST_CENTRE
   pub city : slots_at hex.tile.parts home.centre ≡ Some slots
   pub room : count_by (is_home_at home.hex home.centre) plan.homes ≤ slots
 
@@ -66,4 +67,4 @@ centres_on hexes = sum_by (λ hex. length (centres_of hex.tile.parts)) hexes
 pub record IsWholeBoard (plan : Plan) : Type 0 where
   pub is_board : IsBoard plan
   pub some_hex : 1 ≤ length plan.hexes
-  pub few_centres : centres_on plan.hexes ≤ 65536
+  pub few_centres : centres_on plan.hexes ≤ MOST_CENTRES

@@ -6,10 +6,10 @@ ghost use Rattle.rr_kit.specs.Board.Plan.{has_same_name_or_place, is_coloured_ri
 use crate::board::fault::Fault;
 use crate::board::hex::{Block, Colour, Hex, Home, Place, hex_named};
 use crate::board::hex_words::read_hex;
-use crate::board::home_words::{corp_of, private_of, slots_at};
+use crate::board::home_words::{centre_of, corp_of, private_of, slots_at};
 use rr_roster::Corp;
 use rr_tiles::{Kind, Part};
-use rr_words::{HexName, Row, small_number};
+use rr_words::{HexName, Row};
 use std::alloc::{AllocError, Global};
 use std::marker::Model;
 
@@ -121,13 +121,13 @@ impl Draft {
         let Some(corp) = corp_of(corp) else {
             return Ok(false);
         };
-        let Some(centre) = small_number(centre, 1, 65535) else {
+        let Some(centre) = centre_of(centre) else {
             return Ok(false);
         };
         let Some(hex) = hex_named(&self.hexes, hex) else {
             return Ok(false);
         };
-        let Some(slots) = slots_at(hex.tile.parts(), u64::from(centre)) else {
+        let Some(slots) = slots_at(hex.tile.parts(), centre) else {
             return Ok(false);
         };
         let hex = hex.name;
@@ -233,7 +233,7 @@ fn has_home(homes: &[Home], corp: Corp) -> bool
     homes.iter().any(|home| home.corp == corp)
 }
 
-fn count_at(homes: &[Home], hex: &HexName, centre: u16) -> usize
+fn count_at(homes: &[Home], hex: &HexName, centre: u64) -> usize
     ensures { result ≡ count_by (is_home_at hex.now centre) homes.now }
 {
     homes

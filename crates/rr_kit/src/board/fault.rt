@@ -1,5 +1,4 @@
 ghost use Rattle.std.specs.Prelude.{◌≡◌};
-ghost use Rattle.rr_kit.specs.Board.Fault.{fault_number};
 ghost use Rattle.rr_kit.specs.declared.board.fault.Fault.TheVariants.{OutOfMemory};
 
 use std::alloc::{AllocError, AllocFailed};
@@ -14,18 +13,6 @@ pub enum Fault {
     /// There is no memory to read the text.
     #[error("out of memory")]
     OutOfMemory,
-}
-
-impl Fault {
-    /// The fault's number: 7 or 70.
-    pub fn number(self) -> u8
-        ensures { result ≡ fault_number self }
-    {
-        match self {
-            Fault::BadBoard { .. } => 7,
-            Fault::OutOfMemory => 70,
-        }
-    }
 }
 
 impl From<AllocError> for Fault {

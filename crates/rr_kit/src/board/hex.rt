@@ -6,6 +6,12 @@ use rr_roster::{Corp, Private};
 use rr_tiles::Tile;
 use rr_words::HexName;
 
+/// How many centres a board has at most: each takes a byte of its text at least.
+pub const MOST_CENTRES: usize = 65_536;
+
+/// The greatest number by which a home names its city: the greatest of 16 bits.
+pub const GREATEST_CENTRE: u16 = 65_535;
+
 /// Where a hex is, by axial coordinates from -50 to 50. Across its edges 0 to 5 lie the places that
 /// are (0,1), (-1,1), (-1,0), (0,-1), (1,-1) and (1,0) from it.
 #[derive(Clone, Copy, Debug, PartialEq, Eq)]
@@ -44,8 +50,8 @@ pub struct Hex {
 pub struct Home {
     pub corp: Corp,
     pub hex: HexName,
-    /// The number of the city among the hex's centres, from 1.
-    pub centre: u16,
+    /// The number of the city among the hex's centres, from 1 to `GREATEST_CENTRE`.
+    pub centre: u64,
 }
 
 /// A hex that a private blocks.

@@ -6,7 +6,7 @@ use Rattle.std.proofs.lemmas.Int.{ints}
 use Rattle.rr_roster.specs.declared.company.Corp.{Corp}
 use Rattle.rr_books.specs.declared.parties.Party.{Party}
 use Rattle.rr_books.specs.declared.parties.Place.TheVariants as L
-use Rattle.rr_books.specs.Book.{Book, balance, balance-append, balance_after, money_at_first, paid_by, paid_to}
+use Rattle.rr_books.specs.Book.{Book, balance, balance-append, balance_after, paid_by, paid_to}
 use Rattle.rr_books.specs.Totals.{parties, pays_among, sum_over}
 use Rattle.rr_books.proofs.TotalLemmas.{sum_of_balances}
 use Rattle.rr_auction.specs.Dealt.{moves_within}
@@ -36,7 +36,7 @@ together_each f g h k (p ∷ ps) same = four (f p) (g p) (h p) (k p) (sum_over f
 
 one_party : (book more : Book) (p : Party) → balance (book ++ more) p +ℤ balance [] p ≡ balance more p +ℤ balance book p
 unfolding balance
-one_party book more p = ap (λ (x : ℤ). x +ℤ money_at_first p) (balance-append book more p) ∙ as_much p (balance book p) (money_at_first p) more
+one_party book more p = ap (λ (x : ℤ). x +ℤ pos 0) (balance-append book more p) ∙ as_much p (balance book p) (pos 0) more
 
 same_sum : (a b m : ℤ) → a +ℤ m ≡ m +ℤ b → a ≡ b
 same_sum a b m e = omega (arith, ints)
@@ -46,9 +46,9 @@ pub sum_kept : (n : ℕ) (book more : Book) → list_all (pays_among n) more ≡
 sum_kept n book more among =
     let sum : Book → ℤ = λ b. sum_over (balance b) (parties n) in
     let all = together_each (balance (book ++ more)) (balance []) (balance more) (balance book) (parties n) (λ p. one_party book more p) in
-    let first : sum [] ≡ pos 12000 = sum_of_balances n [] refl in
-    let others : sum more ≡ pos 12000 = sum_of_balances n more among in
-    same_sum (sum (book ++ more)) (sum book) (pos 12000)
+    let first : sum [] ≡ pos 0 = sum_of_balances n [] refl in
+    let others : sum more ≡ pos 0 = sum_of_balances n more among in
+    same_sum (sum (book ++ more)) (sum book) (pos 0)
     (ap (λ (x : ℤ). sum (book ++ more) +ℤ x) (sym first) ∙ all ∙ ap (λ (x : ℤ). x +ℤ sum book) others)
 
 half_kept : (book more : Book) → ((c : Corp) → IsUntouched c book (book ++ more)) → HasHalfAtMost book → HasHalfAtMost (book ++ more)

@@ -19,7 +19,7 @@ use Rattle.rr_kit.specs.declared.board.hex.Home.{Home}
 use Rattle.rr_desk.specs.Effects.{adds, in_turn}
 use Rattle.rr_desk.specs.Incomes.{dollars, owner, pay_incomes, pay_incomes_of, pays_if, pays_income}
 use Rattle.rr_desk.specs.Layout.Layout.{stations}
-use Rattle.rr_market.specs.Operations.Progress.{has_more_rounds, progress}
+use Rattle.rr_market.specs.Operations.Progress.{bank_owed, has_more_rounds, progress}
 use Rattle.rr_market.specs.Operations.Due.{due}
 use Rattle.rr_operate.specs.Sets.Following.{goes_on_in_operating_round}
 use Rattle.rr_operate.specs.Sets.Rounds.{begins_round, ends_round, ends_set, passes_round, passes_rounds, round_is_over}
@@ -53,12 +53,12 @@ round_begins : (n : ℕ) (roster : Terms) → Stays n (begins_round roster)
 unfolding begins_round
 round_begins n roster = stays_two n (adds (E.Step M.Operating)) (pay_incomes roster) (stays_step n M.Operating) (incomes_stay n roster privates)
 
-set_ends : (n : ℕ) → Stays n ends_set
+set_ends : (n : ℕ) (roster : Terms) → Stays n (ends_set roster)
 unfolding ends_set
-set_ends n o book h = stays_either n ((progress book).bank_owed) (in_turn []) (adds (E.Step M.Stock)) (stays_none n) (stays_step n M.Stock) o book h
+set_ends n roster o book h = stays_either n (bank_owed roster (progress book)) (in_turn []) (adds (E.Step M.Stock)) (stays_none n) (stays_step n M.Stock) o book h
 
 round_ends : (n : ℕ) (roster : Terms) → Stays n (ends_round roster)
-round_ends n roster o book h = stays_either n (has_more_rounds (progress book)) (begins_round roster) ends_set (round_begins n roster) (set_ends n) o book h
+round_ends n roster o book h = stays_either n (has_more_rounds (progress book)) (begins_round roster) (ends_set roster) (round_begins n roster) (set_ends n roster) o book h
 
 round_passes : (n : ℕ) (roster : Terms) (rows : List Row) → Stays n (passes_round roster rows)
 unfolding passes_round

@@ -14,12 +14,12 @@ abbrev pub auctioned : Terms → List Row → List (List ℕ) → List Act → B
 auctioned roster rows names bids = auctions.with_acts roster rows (opened names roster) bids
 
 -- whatever lawful acts the auction takes, and whatever lawful commands of stock rounds follow, bank, seats and
--- corporations have 12,000 together, and no one but the bank has less than nothing
+-- corporations have together what the bank began with, and no one but the bank has less than nothing
 abbrev pub MoneyStaysAlongPlays : Type 0
 MoneyStaysAlongPlays =
     (roster : Terms) (rows : List Row) (names : List (List ℕ)) (bids trades : List Act) → 2 ≤ length names
     → auctions.AreLawful roster rows (opened names roster) bids → AreLawful roster rows (auctioned roster rows names bids) trades
-    → auctions.HasSoundMoney (length names) (with_acts roster rows (auctioned roster rows names bids) trades)
+    → auctions.HasSoundMoney roster (length names) (with_acts roster rows (auctioned roster rows names bids) trades)
 
 -- where the pool has at most half of each corporation, it has at most half of each after whatever the auction takes down
 abbrev pub AuctionStaysWithinHalf : Type 0

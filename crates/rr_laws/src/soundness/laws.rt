@@ -35,8 +35,8 @@ pub fn auction_stays_within_half()
 {}
 
 /// At a table of two players or more, whatever lawful acts the auction takes and whatever lawful commands of stock
-/// rounds follow, the balances of bank, seats and corporations go on summing to 12,000, and only the bank's may be
-/// negative.
+/// rounds follow, bank, seats and corporations go on having together what the bank began with, and only the bank may
+/// have less than nothing.
 pub fn money_stays_along_plays()
     ensures { MoneyStaysAlongPlays }
 {

@@ -270,9 +270,9 @@ t1 buy a
 
 #[test]
 fn shows_faults(rt: HostRuntime) {
-    for (fault, text, number) in [
-        (Fault::Malformed, "malformed line", 55),
-        (Fault::OutOfMemory, "out of memory", 70),
+    for (fault, text) in [
+        (Fault::Malformed, "malformed line"),
+        (Fault::OutOfMemory, "out of memory"),
     ] {
         assert!(rt;
             format!(in rt.alloc(); "{fault}")
@@ -280,7 +280,6 @@ fn shows_faults(rt: HostRuntime) {
                 .as_str()
                 == text
         );
-        assert!(rt; fault.number() == number);
     }
     laws::one_meaning();
     laws::one_spelling();

@@ -5,6 +5,7 @@ use Rattle.rr_disk.specs.Disk.{Torn}
 use Rattle.rr_images.proofs.Framing.{field_same}
 use Rattle.rr_images.proofs.Places.{root_low}
 use Rattle.rr_pages.specs.Choosing.{IsNoStore, Too_short, Both_shut, Another_version}
+use Rattle.rr_pages.proofs.Versions.{known_same}
 use Rattle.rr_pages.specs.Roots.{root_gate, root_page}
 
 pub record AreGatesShut (file : List ℕ) : Type 0 where
@@ -45,7 +46,7 @@ none_torn at n old new ends behind none torn = elim (cases_lt (length new) (4096
         let low : root_page side ≤ 1 = root_low side in
         Another_version side
         (torn.same (root_gate side) (omega (arith, long, torn.no_longer, ends, low)) (inl (omega (arith, behind, low))) ∙ open_gate)
-        (λ is. other (sym (field_same old new side 34 2 (omega arith) (omega arith)
-        (λ i above below. torn.same i (omega (arith, long, torn.no_longer, ends, low, below)) (inl (omega (arith, behind, low, below))))) ∙ is))
+        (λ is. other (known_same _ _ (field_same old new side 34 2 (omega arith) (omega arith)
+        (λ i above below. torn.same i (omega (arith, long, torn.no_longer, ends, low, below)) (inl (omega (arith, behind, low, below))))) is))
   ]
 ]

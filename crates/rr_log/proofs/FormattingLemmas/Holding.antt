@@ -7,6 +7,9 @@ use Rattle.rr_reading.specs.Dir.Number.{spelled_number}
 use Rattle.rr_reading.proofs.DirLemmas.NumberLemmas.{length-spelled_number}
 use Rattle.rr_reading.specs.declared.dir.directory.ChainRef.{ChainRef}
 use Rattle.rr_reading.specs.declared.dir.directory.KitChains.{KitChains}
+use Rattle.rr_pages.specs.Roots.{IsKnownVersion}
+use Rattle.rr_reading.specs.Dir.Version.{version_number}
+use Rattle.rr_reading.specs.declared.dir.version.Version.{Version}
 use Rattle.rr_reading.specs.declared.dir.version.Version.TheVariants.{One}
 use Rattle.rr_reading.specs.Dir.Heads.{Heads}
 use Rattle.rr_images.specs.Holding.{heads_of, texts_of}
@@ -110,14 +113,19 @@ before takes world =
     formatted false (record { number = 0; directory = 0; half = Second; first = 1; pages = 0; version = 1 })
     (record { directory = record { pages = []; text = [] }; chains = [] }) world
 
-abbrev pub first_root : ℕ → ℕ → Root
-first_root directory count = record { number = 1; directory = directory; half = First; first = 1; pages = 514 + count; version = 1 }
+abbrev pub first_root : Version → ℕ → ℕ → Root
+first_root version directory count = record { number = 1; directory = directory; half = First; first = 1; pages = 514 + count; version = version_number version }
 
-module _ (takes : List ℕ → World → World → Type 0) (present coming between after : List Bool) (fresh more : List FreshPage)
+-- files of each version are read
+version_known : (version : Version) → IsKnownVersion (version_number version)
+unfolding IsKnownVersion
+version_known One = refl
+
+module _ (takes : List ℕ → World → World → Type 0) (version : Version) (present coming between after : List Bool) (fresh more : List FreshPage)
     (chart roster tiles board bytes : List ℕ) (kit : KitChains) (head : ℕ)
     (is_kit : IsKitLaid present coming between fresh (empty_world chart roster tiles board) kit)
     (is : IsLaid present between after bytes fresh more head)
-    (spelled : bytes ≡ spelling One (record { kit = kit; tables = [] })) (turn : AreInTurn present coming 0)
+    (spelled : bytes ≡ spelling version (record { kit = kit; tables = [] })) (turn : AreInTurn present coming 0)
     (chart_short : length chart ≤ 65536) (roster_short : length roster ≤ 65536) (tiles_short : length tiles ≤ 65536)
     (board_short : length board ≤ 65536) (few : length more ≤ 1000) where
   abbrev world : World
@@ -135,8 +143,8 @@ module _ (takes : List ℕ → World → World → Type 0) (present coming betwe
   same_kit : kit ≡ (directory_for texts [] world).kit
   same_kit = λ i. record { chart = is_kit.to_chart.named i; roster = is_kit.to_roster.named i; tiles = is_kit.to_tiles.named i; board = is_kit.to_board.named i }
 
-  same_bytes : joined last.chain.pieces ≡ bytes_for texts [] world
-  same_bytes = last.whole ∙ (spelled ∙ ap (λ (k : KitChains). spelling One (record { kit = k; tables = [] })) same_kit)
+  same_bytes : joined last.chain.pieces ≡ bytes_for version texts [] world
+  same_bytes = last.whole ∙ (spelled ∙ ap (λ (k : KitChains). spelling version (record { kit = k; tables = [] })) same_kit)
 
   is_directory : IsDirectory (directory_for texts [] world)
   is_directory =
@@ -168,17 +176,17 @@ module _ (takes : List ℕ → World → World → Type 0) (present coming betwe
   some_pages : 1 ≤ length more
   some_pages = omega (arith, laid_length present between after bytes fresh more head is, is.fit.some)
 
-  is_made : IsMade (worlds takes) (before takes world) (first_root head (length more)) last.chain
+  is_made : IsMade (worlds takes) (before takes world) (first_root version head (length more)) last.chain
       (Fresh is_kit.chart ∷ Fresh is_kit.roster ∷ Fresh is_kit.tiles ∷ Fresh is_kit.board ∷ [])
   is_made =
-      let read = read_back texts [] world holds_texts tt is_directory in
+      let read = read_back version texts [] world holds_texts tt is_directory in
       let up : pages_up_to (laid_pages chains) ≡ 514 + length more = ap (λ (pages : List ℕ). pages_up_to pages) laid_turn ∙ counted_up 514 (length more) some_pages in
       record {
         next = record { number = omega arith; half = refl; first = refl };
         number = omega arith;
         first_low = omega arith;
         first_high = omega arith;
-        version = refl;
+        version = version_known version;
         pages = omega (arith, up);
         pages_low = omega (arith, some_pages);
         pages_high = omega (arith, few);
@@ -186,17 +194,17 @@ module _ (takes : List ℕ → World → World → Type 0) (present coming betwe
         fit = last.laid.fit;
         free = (laid_are_free present coming after [] [] more chains turn.marks (empty_has present turn.no_root) turn.taken last.laid).0;
         kept = tt;
-        named = subst (λ (b : List ℕ). Heads 1 b (heads_of (laid_as is_kit.chart ∷ laid_as is_kit.roster ∷ laid_as is_kit.tiles ∷ laid_as is_kit.board ∷ []))) (sym same_bytes) read.named;
-        spells = subst (λ (b : List ℕ). Spells 1 b (texts_of (laid_as is_kit.chart ∷ laid_as is_kit.roster ∷ laid_as is_kit.tiles ∷ laid_as is_kit.board ∷ [])) world) (sym same_bytes) read.spells;
+        named = subst (λ (b : List ℕ). Heads (version_number version) b (heads_of (laid_as is_kit.chart ∷ laid_as is_kit.roster ∷ laid_as is_kit.tiles ∷ laid_as is_kit.board ∷ []))) (sym same_bytes) read.named;
+        spells = subst (λ (b : List ℕ). Spells (version_number version) b (texts_of (laid_as is_kit.chart ∷ laid_as is_kit.roster ∷ laid_as is_kit.tiles ∷ laid_as is_kit.board ∷ [])) world) (sym same_bytes) read.spells;
       }
 
-  pub is_new_file : IsNewFile takes (first_root head (length more)) more world
+  pub is_new_file : IsNewFile takes (first_root version head (length more)) more world
   is_new_file =
       let drafts = Fresh is_kit.chart ∷ Fresh is_kit.roster ∷ Fresh is_kit.tiles ∷ Fresh is_kit.board ∷ [] in
-      let plan = made_is_plan (worlds takes) (before takes world) (first_root head (length more)) last.chain drafts is_made tt tt in
+      let plan = made_is_plan (worlds takes) (before takes world) (first_root version head (length more)) last.chain drafts is_made tt tt in
       record {
-        holding = (plan_made (first_root head (length more)) last.chain drafts).holding;
-        first_root = record { number = refl; half = refl; first = refl; version = refl };
+        holding = (plan_made (first_root version head (length more)) last.chain drafts).holding;
+        first_root = record { number = refl; half = refl; first = refl; version = version_known version };
         in_turn = pages_written present coming after more chains last.laid ∙ laid_turn;
         count = refl;
         spare = subst (λ (xs : List (ℕ × List ℕ)). AreSpare [] xs) (sym last.laid.to_write) plan.spare;
@@ -208,8 +216,8 @@ module _ (takes : List ℕ → World → World → Type 0) (present coming betwe
 chain_bytes : (chain : ChainRef) → length (spelled_chain chain) ≡ 12
 chain_bytes chain = omega (arith, length-append (spelled_number 8 chain.head) (spelled_number 4 chain.length), length-spelled_number 8 chain.head, length-spelled_number 4 chain.length)
 
-pub directory_few : (kit : KitChains) (bytes : List ℕ) → bytes ≡ spelling One (record { kit = kit; tables = [] }) → length bytes ≤ 65536
-directory_few kit bytes is =
+pub directory_few : (version : Version) (kit : KitChains) (bytes : List ℕ) → bytes ≡ spelling version (record { kit = kit; tables = [] }) → length bytes ≤ 65536
+directory_few One kit bytes is =
     let a = spelled_chain kit.chart in
     let b = spelled_chain kit.roster in
     let c = spelled_chain kit.tiles in

@@ -10,6 +10,7 @@ use Rattle.rr_pages.specs.Chains.{Chain}
 use Rattle.rr_pages.specs.Pages.{AreData}
 use Rattle.rr_pages.specs.Roots.{Shut, IsSound, IsTaken, FitsFields}
 use Rattle.rr_pages.proofs.RootSpelling.{root_stands}
+use Rattle.rr_pages.proofs.Versions.{known_fits}
 use Rattle.rr_reading.specs.Worlds.Spelling.{worlds}
 use Rattle.rr_reading.specs.Worlds.World.{World}
 use Rattle.rr_log.specs.Formatting.Formatted.{HasNewBytes, IsFormatted}
@@ -40,7 +41,7 @@ module _ (root : Root) (fresh : List FreshPage) (file : List ℕ) (has : HasNewB
         directory = omega (arith, directory, sound.pages_high);
         first = omega (arith, is.first_root.first);
         pages = omega (arith, sound.pages_high);
-        version = omega (arith, is.first_root.version);
+        version = known_fits root.version is.first_root.version;
       } in
       let taken : IsTaken file false root Shut =
       record {

@@ -6,6 +6,7 @@ use Rattle.rr_disk.specs.Disk.{DiskState, furthest_end, IsImage, Torn, written, 
 use Rattle.rr_disk.specs.Moments.{EachImage, LeavesOnly, TornFrom}
 use Rattle.rr_disk.proofs.ImageLemmas.{each_synced, synced_may_stay, torn_image, torn_whole}
 use Rattle.rr_disk.proofs.MomentLemmas.{weaker}
+use Rattle.rr_images.specs.Codec.{Codec}
 use Rattle.rr_images.specs.Layout.{Keeps, formatted}
 use Rattle.rr_images.proofs.Ticks.{only_content_of, stands_written}
 use Rattle.rr_pages.proofs.JournalLemmas.Appends.{content_written}
@@ -16,7 +17,7 @@ use Rattle.rr_pages.specs.declared.root.Root.{Root}
 use Rattle.rr_pages.proofs.RootSpelling.{length-root}
 use Rattle.rr_reading.specs.Worlds.Spelling.{worlds}
 use Rattle.rr_reading.specs.Worlds.World.{World}
-use Rattle.rr_log.specs.Formatting.Formatted.{all_bytes, closed_state, header_state, header_zeros, IsFormatted, IsNoneOrFormatted, KeepsNoneOr, IsUnused, NewFilesStand}
+use Rattle.rr_log.specs.Formatting.Formatted.{all_bytes, closed_state, header_state, header_zeros, IsFormatted, IsNoneOrFormatted, KeepsNew, KeepsNoneOr, IsUnused, NewFilesStand}
 use Rattle.rr_log.specs.Formatting.NewFile.{IsNewFile}
 use Rattle.rr_log.proofs.FormattingLemmas.Blank.{AreGatesShut, shut_is_none, shut_torn, none_torn}
 use Rattle.rr_log.proofs.FormattingLemmas.NewBytes.{HasHeader, HasPages, HasRoot, length-all, length-zeros, header_written, header_shut, zeros_written, pages_written, root_written, gate_opened}
@@ -84,6 +85,10 @@ closed_there root bytes old empty some =
     subst (λ (file : List ℕ). HasRoot root bytes file) (sym (content_written (with_pages bytes old) 1 (root_bytes root) (omega (arith, length-root root))))
     (root_written (with_pages bytes old).content bytes root paged)
 
+-- a new file keeps its world
+pub new_keeps : (codec : Codec) (version : ℕ) (world : codec.World) (file : List ℕ) → KeepsNew codec version world file → Keeps codec file world
+new_keeps codec version world file new = record { layout = formatted false new.root new.holding world; kept = new.kept }
+
 module _ (takes : List ℕ → World → World → Type 0) (root : Root) (fresh : List FreshPage) (world : World) (is : IsNewFile takes root fresh world) where
   sound_there : IsSound (replicate (4096 * root.pages) 0) root
   sound_there = is.sound (replicate (4096 * root.pages) 0) (omega (arith, length-replicate {A = ℕ} (4096 * root.pages) 0))
@@ -96,12 +101,12 @@ module _ (takes : List ℕ → World → World → Type 0) (root : Root) (fresh 
   few_bytes = omega (arith, sound_there.pages_high, is.count, length-all [] fresh is.spare)
 
   -- whichever the new file is, what stands whole keeps its world
-  pub formatted_keeps : (image : List ℕ) → IsFormatted takes root fresh is.holding world image → Keeps (worlds takes) image world
-  formatted_keeps image whole = record { layout = formatted false root is.holding world; kept = whole.kept }
+  pub formatted_keeps : (version : ℕ) → root.version ≡ version → (image : List ℕ) → IsFormatted takes root fresh is.holding world image → KeepsNew (worlds takes) version world image
+  formatted_keeps version is_version image whole = record { root = root; first = is.first_root; version_is = is_version; holding = is.holding; kept = whole.kept; ends = whole.bytes.ends }
 
-  pub none_or_keeps : (image : List ℕ) → IsNoneOrFormatted takes root fresh is.holding world image → KeepsNoneOr (worlds takes) world image
-  none_or_keeps image (inl none) = inl none
-  none_or_keeps image (inr whole) = inr (formatted_keeps image whole)
+  pub none_or_keeps : (version : ℕ) → root.version ≡ version → (image : List ℕ) → IsNoneOrFormatted takes root fresh is.holding world image → KeepsNoneOr (worlds takes) version world image
+  none_or_keeps version is_version image (inl none) = inl none
+  none_or_keeps version is_version image (inr whole) = inr (formatted_keeps version is_version image whole)
 
   -- before the last gate a stop leaves no store
   pub none_left : {past past_new : List DiskState} {old new : DiskState} → LeavesOnly past old past_new new IsNoStore → LeavesOnly past old past_new new (IsNoneOrFormatted takes root fresh is.holding world)

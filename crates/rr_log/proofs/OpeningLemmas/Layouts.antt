@@ -129,7 +129,7 @@ carries_read codec opened old new holds goes resting is exact names world keeps 
         holding = layout.holding;
         tells = tells_opened codec exact names opened old.content holds keeps.layout world keeps.kept goes;
         between = subst (λ (checkpoint : Option Checkpoint). IsBetween codec layout (after_sync old) (progress_of checkpoint layout.holding) world) (sym none) (opened_between codec keeps.layout old world keeps.kept);
-        coming = subst (λ (checkpoint : Option Checkpoint). HasComing (free_of opened.writer) checkpoint layout.holding) (sym none) tt;
+        coming = subst (λ (checkpoint : Option Checkpoint). HasComing (free_of opened.writer) (taken_of opened.writer).root.number checkpoint layout.holding) (sym none) tt;
       };
       is_read = is_read_as codec exact names old.content (held_by opened) holds layout world kept;
     })

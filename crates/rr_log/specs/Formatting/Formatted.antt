@@ -5,7 +5,7 @@ use Rattle.rr_disk.specs.Disk.{DiskState, after_write, after_sync}
 use Rattle.rr_disk.specs.Moments.{EachImage}
 use Rattle.rr_images.specs.Codec.{Codec}
 use Rattle.rr_images.specs.Holding.{Holding}
-use Rattle.rr_images.specs.Layout.{KeepsAt, Keeps, formatted}
+use Rattle.rr_images.specs.Layout.{KeepsAt, formatted}
 use Rattle.rr_pages.specs.Choosing.{IsNoStore}
 use Rattle.rr_pages.specs.Laying.{AllStand}
 use Rattle.rr_pages.specs.Pages.{StandsAt}
@@ -15,7 +15,7 @@ use Rattle.rr_pages.specs.declared.chain.FreshPage.{FreshPage}
 use Rattle.rr_pages.specs.declared.root.Root.{Root}
 use Rattle.rr_reading.specs.Worlds.Spelling.{worlds}
 use Rattle.rr_reading.specs.Worlds.World.{World}
-use Rattle.rr_log.specs.Formatting.NewFile.{IsNewFile}
+use Rattle.rr_log.specs.Formatting.NewFile.{IsFirstRoot, IsNewFile}
 
 -- the bytes of fresh pages, one page after another
 abbrev pub bytes_of : FreshPage → List ℕ
@@ -44,7 +44,7 @@ pub record HasNewBytes (root : Root) (fresh : List FreshPage) (file : List ℕ) 
   pub root_there : StandsAt file 1 (root_bytes root)
   pub zeros : (i : ℕ) → 36 ≤ i → i < 4096 * 514 → slice_index file i ≡ 0
   pub pages : AllStand file (map fresh_of fresh)
-  pub ends : length file ≡ 4096 * root.pages
+  pub ends : length file ≡ 4096 * root.pages  -- to the last page
 
 -- The new file stands whole, and keeps its world, without a record and with no checkpoint begun.
 pub record IsFormatted (takes : List ℕ → World → World → Type 0) (root : Root) (fresh : List FreshPage)
@@ -58,9 +58,20 @@ abbrev pub IsNoneOrFormatted : (List ℕ → World → World → Type 0) → Roo
 IsNoneOrFormatted takes root fresh holding world file =
     IsNoStore file ⊎ IsFormatted takes root fresh holding world file
 
--- the same by its world alone: no store yet, or one that keeps it
-abbrev pub KeepsNoneOr : (codec : Codec) → codec.World → List ℕ → Type 0
-KeepsNoneOr codec world file = IsNoStore file ⊎ Keeps codec file world
+-- The file is a new one of this version that keeps this world: on page 0 it has the first root, whose number is 1, and the first
+-- record will have number 1 and go into the first half. No record stands there yet, no checkpoint is begun, and the file ends with the last
+-- page that the root counts.
+pub record KeepsNew (codec : Codec) (version : ℕ) (world : codec.World) (file : List ℕ) : Type 0 where
+  pub root : Root
+  pub first : IsFirstRoot root
+  pub version_is : root.version ≡ version
+  pub holding : Holding
+  pub kept : KeepsAt codec (formatted false root holding world) file world
+  pub ends : length file ≡ 4096 * root.pages
+
+-- the same by its world alone: no store yet, or the new one that keeps it
+abbrev pub KeepsNoneOr : (codec : Codec) → ℕ → codec.World → List ℕ → Type 0
+KeepsNoneOr codec version world file = IsNoStore file ⊎ KeepsNew codec version world file
 
 -- nothing is read of the disk, and whatever a stop leaves of it is no store
 pub record IsUnused (state : DiskState) : Type 0 where

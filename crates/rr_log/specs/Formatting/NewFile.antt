@@ -4,7 +4,7 @@ use Rattle.rr_images.specs.Holding.{Holding}
 use Rattle.rr_images.specs.Layout.{Spelled}
 use Rattle.rr_images.specs.Progress.{AreSpare}
 use Rattle.rr_pages.specs.Laying.{AllStand}
-use Rattle.rr_pages.specs.Roots.{IsSound}
+use Rattle.rr_pages.specs.Roots.{IsKnownVersion, IsSound}
 use Rattle.rr_pages.specs.Writing.{fresh_of}
 use Rattle.rr_pages.specs.declared.chain.FreshPage.{FreshPage}
 use Rattle.rr_pages.specs.declared.root.Root.{Root}
@@ -21,12 +21,12 @@ empty_world chart roster tiles board =
 abbrev pub page_of : FreshPage → ℕ
 page_of fresh = fresh.page
 
--- the first root of a file: the first record goes into the first half
+-- the first root of a file: number 1, and the first record, of number 1, goes into the first half
 pub record IsFirstRoot (root : Root) : Type 0 where
   pub number : root.number ≡ 1
   pub half : root.half ≡ First
   pub first : root.first ≡ 1
-  pub version : root.version ≡ 1
+  pub version : IsKnownVersion root.version
 
 -- The pages, of 4,096 bytes each, follow one another from the first data page to the last page of the root, and wherever
 -- they stand, they spell the world.

@@ -1,21 +1,22 @@
 ghost use Rattle.std.specs.Prelude.{◌≡◌, ◌+◌, ◌≤◌, length, OnOk, IsErrOf, IsOkUnless};
 ghost use Rattle.rr_disk.specs.Disk.{counted};
 ghost use Rattle.rr_disk.specs.Moments.{EachImage, LeavesOnly};
-ghost use Rattle.rr_log.specs.Formatting.Formatted.{IsUnused, KeepsNoneOr};
+ghost use Rattle.rr_log.specs.Formatting.Formatted.{IsUnused, KeepsNew, KeepsNoneOr};
 ghost use Rattle.rr_log.specs.Formatting.NewFile.{empty_world};
-ghost use Rattle.rr_images.specs.Layout.{Keeps};
 ghost use Rattle.rr_pages.specs.Faults.{CountsFault};
 ghost use Rattle.rr_pages.specs.Links.{NoVerdict};
 ghost use Rattle.rr_reading.specs.Worlds.Spelling.{worlds};
 
 use crate::formatting::{new_file, write_new_file};
 use rr_disk::Disk;
-use rr_pages::Fault;
+use rr_pages::{Fault, NEWEST_VERSION};
+use rr_reading::dir::NEWEST;
 use rr_reading::worlds::Rules;
 use std::alloc::Global;
 
-/// Makes a store of an empty disk, with the four texts of a kit, each of 65,536 bytes at most, and without a table.
-/// Wherever the device stops, the file on it is no store yet, or keeps these texts.
+/// Makes a store of an empty disk, with the four texts of a kit, each of 65,536 bytes at most, and without a table. Its
+/// root is number 1, of the newest version, and its first record will be number 1, in the first half. Wherever the device
+/// stops, the file on it is no store yet, or this one.
 ///
 /// # Errors
 /// `OutOfMemory` before the first device call, and `Disk` where a call failed: then what the disk holds is no store, or
@@ -37,10 +38,10 @@ pub fn format<R: Rules, D: Disk>(
     // Whatever a stop leaves from now on, and whatever it left since the call began.
     ensures each { OnOk result (D.Honest disk.new → length (D.state disk.old).content ≡ 0
         → EachImage (D.state disk.new)
-        (λ image. Keeps (worlds R.takes) image (empty_world chart.now roster.now tiles.now board.now))) }
+        (KeepsNew (worlds R.takes) NEWEST_VERSION (empty_world chart.now roster.now tiles.now board.now))) }
     ensures any_moment { D.Honest disk.new → IsUnused (D.state disk.old)
         → LeavesOnly (D.past disk.old) (D.state disk.old) (D.past disk.new) (D.state disk.new)
-        (KeepsNoneOr (worlds R.takes) (empty_world chart.now roster.now tiles.now board.now)) }
+        (KeepsNoneOr (worlds R.takes) NEWEST_VERSION (empty_world chart.now roster.now tiles.now board.now)) }
 
     ensures only { NoVerdict result }
     ensures unchanged { IsErrOf result Fault.OutOfMemory → disk.new ≡ disk.old }
@@ -55,7 +56,7 @@ pub fn format<R: Rules, D: Disk>(
     ensures device { D.Works disk.new → IsOkUnless result Fault.OutOfMemory }
     ensures works { D.Works disk.new → D.Works disk.old }
 {
-    let file = new_file::<R>(alloc, chart, roster, tiles, board)?;
+    let file = new_file::<R>(alloc, NEWEST, chart, roster, tiles, board)?;
     write_new_file::<R, D>(alloc, disk, &file)?;
     Ok(())
 }

@@ -1,6 +1,6 @@
 ghost use Rattle.std.specs.Prelude.{◌≡◌, ◌+◌, ◌≤◌, false, [], length, IfOk, IfErr};
 ghost use Rattle.rr_reading.specs.Dir.Directory.{spelling};
-ghost use Rattle.rr_reading.specs.declared.dir.version.Version.TheVariants.{One};
+ghost use Rattle.rr_reading.specs.Dir.Version.{version_number};
 ghost use Rattle.rr_log.specs.Formatting.NewFile.{IsNewFile, empty_world};
 ghost use Rattle.rr_pages.specs.declared.journal.layout.HalfIndex.TheVariants.{First};
 
@@ -19,13 +19,14 @@ pub struct NewFile {
     pub fresh: Vec<FreshPage>,
 }
 
-/// Lays the four texts of a kit, each of 65,536 bytes at most, and a directory that names them and no table. The file has
-/// no record, and the first one will have number 1, in the first half. Which lines records may have, `R` says.
+/// Lays the four texts of a kit, each of 65,536 bytes at most, and a directory that names them and no table, in the form of
+/// this version. The file has no record, and the first one will have number 1, in the first half. Which lines records may have, `R` says.
 ///
 /// # Errors
 /// `OutOfMemory` alone.
 pub fn new_file<R: Rules>(
     alloc: Global,
+    version: Version,
     chart: &[u8],
     roster: &[u8],
     tiles: &[u8],
@@ -37,22 +38,23 @@ pub fn new_file<R: Rules>(
     requires short_board { length board.now ≤ 65536 }
     ensures holds { IfOk result (λ file. IsNewFile R.takes file.root file.fresh.items
         (empty_world chart.now roster.now tiles.now board.now)) }
+    ensures version { IfOk result (λ file. file.root.version ≡ version_number version) }
     ensures memory { IfErr result (λ fault. fault ≡ Fault.OutOfMemory) }
 {
     let mut free = FreePages::new(alloc, PageSet::new(alloc)?)?;
     let mut fresh = Vec::new(alloc);
     let kit = lay_kit(alloc, &mut free, &mut fresh, chart, roster, tiles, board)?;
-    let directory = directory_bytes(alloc, kit)?;
+    let directory = directory_bytes(alloc, version, kit)?;
     let chain = lay_text(alloc, &mut free, &mut fresh, &directory)?;
     Ok(NewFile {
-        root: first_root(chain.head, fresh.len() as u64),
+        root: first_root(version, chain.head, fresh.len() as u64),
         fresh,
     })
 }
 
-// The bytes of a directory without tables.
-fn directory_bytes(alloc: Global, kit: KitChains) -> Result<Vec<u8>, Fault>
-    ensures bytes { IfOk result (λ bytes. bytes.items ≡ spelling One (record { kit = kit; tables = [] })) }
+// The bytes of a directory of this version without tables.
+fn directory_bytes(alloc: Global, version: Version, kit: KitChains) -> Result<Vec<u8>, Fault>
+    ensures bytes { IfOk result (λ bytes. bytes.items ≡ spelling version (record { kit = kit; tables = [] })) }
     ensures memory { IfErr result (λ fault. fault ≡ Fault.OutOfMemory) }
 {
     let dir = Dir {
@@ -60,16 +62,16 @@ fn directory_bytes(alloc: Global, kit: KitChains) -> Result<Vec<u8>, Fault>
         tables: Vec::new(alloc),
     };
     let mut bytes = Vec::new(alloc);
-    if dir.write(Version::One, &mut bytes).is_err() {
+    if dir.write(version, &mut bytes).is_err() {
         return Err(Fault::OutOfMemory);
     }
     Ok(bytes)
 }
 
-// The root of a file with so many data pages whose directory begins on this page.
-fn first_root(directory: u64, count: u64) -> Root
+// The root of a file of this version with so many data pages whose directory begins on this page.
+fn first_root(version: Version, directory: u64, count: u64) -> Root
     requires { count ≤ 1000 }
-    ensures { result ≡ record { number = 1; directory = directory; half = First; first = 1; pages = 514 + count; version = 1 } }
+    ensures { result ≡ record { number = 1; directory = directory; half = First; first = 1; pages = 514 + count; version = version_number version } }
 {
     Root {
         number: 1,
@@ -77,6 +79,6 @@ fn first_root(directory: u64, count: u64) -> Root
         half: HalfIndex::First,
         first: 1,
         pages: u64::from(FIRST_DATA) + count,
-        version: 1,
+        version: version.number(),
     }
 }

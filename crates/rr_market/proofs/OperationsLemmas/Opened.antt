@@ -14,9 +14,9 @@ use Rattle.rr_books.specs.Shares.{certificates}
 use Rattle.rr_market.specs.State.{IsMarketOf}
 use Rattle.rr_rounds.specs.Round.{IsRoundOf, Round}
 use Rattle.rr_rounds.specs.Round as stock
-use Rattle.rr_market.specs.Operations.Progress.{Progress, after, beginning, follow, progress}
+use Rattle.rr_market.specs.Operations.Progress.{Progress, after, beginning, follow, opened, progress}
 use Rattle.rr_market.specs.Operations.Due.{IsOperationsOf, OnRounds, begins_turn}
-use Rattle.rr_market.proofs.OperationsLemmas.ProgressLemmas.{follow-append, progress-none, progress-push}
+use Rattle.rr_market.proofs.OperationsLemmas.ProgressLemmas.{follow-append, progress-push}
 use Rattle.rr_market.proofs.OperationsLemmas.DueLemmas.{none_began}
 
 -- entries that each leave the rounds where they are leave them so together
@@ -24,8 +24,8 @@ follow_still : {X : Type 0} (g : X → Entry) → ((book : Book) (p : Progress) 
 follow_still g h book p [] = refl
 follow_still g h book p (x ∷ xs) = ap (λ (q : Progress). follow (book ++ g x ∷ []) q (map g xs)) (h book p x) ∙ follow_still g h (book ++ g x ∷ []) p xs
 
--- the bank owes nothing as it pays the seats of a table their money for the start
-paid : (n : ℕ) → n ≤ 6 → follow [] beginning (opening_payments n) ≡ beginning
+-- the bank has never had less than once it has paid the seats of a table their money for the start
+paid : (n : ℕ) → n ≤ 6 → follow [] beginning (opening_payments n) ≡ opened n
 unfolding opening_payments balance
 paid zero h = refl
 paid (suc zero) h = refl
@@ -36,7 +36,7 @@ paid (suc (suc (suc (suc (suc zero))))) h = refl
 paid (suc (suc (suc (suc (suc (suc zero)))))) h = refl
 paid (suc (suc (suc (suc (suc (suc (suc k))))))) h = absurd (omega arith)
 
-opening_still : (n : ℕ) (roster : Terms) → n ≤ 6 → progress (opening_entries n roster) ≡ beginning
+opening_still : (n : ℕ) (roster : Terms) → n ≤ 6 → progress (opening_entries n roster) ≡ opened n
 unfolding progress opening_moves opening_trains
 opening_still n roster few =
     let payments = opening_payments n in
@@ -46,8 +46,8 @@ opening_still n roster few =
     ∙ ap (λ (p : Progress). follow (payments ++ moved) p trains)
     (follow-append [] payments moved beginning
     ∙ ap (λ (p : Progress). follow payments p moved) (paid n few)
-    ∙ follow_still (λ c. E.Move c L.Offer) (λ book p c. refl) payments beginning (certificates (order_of roster)))
-    ∙ follow_still (λ t. E.Train t L.Offer) (λ book p t. refl) (payments ++ moved) beginning (flat_map (trains_of roster) kinds)
+    ∙ follow_still (λ c. E.Move c L.Offer) (λ book p c. refl) payments (opened n) (certificates (order_of roster)))
+    ∙ follow_still (λ t. E.Train t L.Offer) (λ book p t. refl) (payments ++ moved) (opened n) (flat_map (trains_of roster) kinds)
 
 none_mapped : {X : Type 0} (g : X → Entry) → ((x : X) → begins_turn (g x) ≡ false) → (xs : List X) → list_any begins_turn (map g xs) ≡ false
 none_mapped g h [] = refl
@@ -63,23 +63,20 @@ opening_begins_none n roster =
     (none_of_both (opening_payments n) (opening_moves roster) (none_mapped (start_of n) (λ k. refl) (range_with_len 0 n)) (none_mapped (λ c. E.Move c L.Offer) (λ c. refl) (certificates (order_of roster))))
     (none_mapped (λ t. E.Train t L.Offer) (λ t. refl) (flat_map (trains_of roster) kinds))
 
-stands_where_none_began : (book : Book) (o : OnRounds) → progress book ≡ beginning → list_any begins_turn book ≡ false → o.progress ≡ beginning → IsMarketOf [] o.market → IsRoundOf [] o.stock → IsOperationsOf book o
-stands_where_none_began book o h none is k r = record {
+stands_where_none_began : (book : Book) (o : OnRounds) (p : Progress) → progress book ≡ p → list_any begins_turn book ≡ false → o.progress ≡ p → IsMarketOf [] o.market → IsRoundOf [] o.stock → IsOperationsOf book o
+stands_where_none_began book o p h none is k r = record {
   progress = h ∙ sym is;
   market = subst (λ (b : Book). IsMarketOf b o.market) (sym (none_began book none)) k;
   floated = ap (λ (b : Book). (stock.progress b).floated) (none_began book none) ∙ ap (λ (x : Round). x.floated) r;
 }
 
--- nothing has happened before the first entry, when the table has opened, and once its auction has begun
-pub stands_at_first : (o : OnRounds) → o.progress ≡ beginning → IsMarketOf [] o.market → IsRoundOf [] o.stock → IsOperationsOf [] o
-stands_at_first o is k r = stands_where_none_began [] o progress-none refl is k r
+-- nothing but payments has happened when the table has opened, and once its auction has begun
+pub stands_opened : (n : ℕ) (roster : Terms) (o : OnRounds) → n ≤ 6 → o.progress ≡ opened n → IsMarketOf [] o.market → IsRoundOf [] o.stock → IsOperationsOf (opening_entries n roster) o
+stands_opened n roster o few is k r = stands_where_none_began (opening_entries n roster) o (opened n) (opening_still n roster few) (opening_begins_none n roster) is k r
 
-pub stands_opened : (n : ℕ) (roster : Terms) (o : OnRounds) → n ≤ 6 → o.progress ≡ beginning → IsMarketOf [] o.market → IsRoundOf [] o.stock → IsOperationsOf (opening_entries n roster) o
-stands_opened n roster o few is k r = stands_where_none_began (opening_entries n roster) o (opening_still n roster few) (opening_begins_none n roster) is k r
-
-pub stands_auction : (n : ℕ) (roster : Terms) (names : List (List ℕ)) (o : OnRounds) → n ≤ 6 → o.progress ≡ beginning → IsMarketOf [] o.market → IsRoundOf [] o.stock → IsOperationsOf (opening_entries n roster ++ E.Step (M.Auction names) ∷ []) o
+pub stands_auction : (n : ℕ) (roster : Terms) (names : List (List ℕ)) (o : OnRounds) → n ≤ 6 → o.progress ≡ opened n → IsMarketOf [] o.market → IsRoundOf [] o.stock → IsOperationsOf (opening_entries n roster ++ E.Step (M.Auction names) ∷ []) o
 stands_auction n roster names o few is k r =
     let book = opening_entries n roster in
-    stands_where_none_began (book ++ E.Step (M.Auction names) ∷ []) o
+    stands_where_none_began (book ++ E.Step (M.Auction names) ∷ []) o (opened n)
     (progress-push book (E.Step (M.Auction names)) ∙ ap (λ (p : Progress). after book p (E.Step (M.Auction names))) (opening_still n roster few))
     (none_of_both book (E.Step (M.Auction names) ∷ []) (opening_begins_none n roster) refl) is k r

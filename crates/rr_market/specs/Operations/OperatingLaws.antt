@@ -2,18 +2,19 @@
 use Rattle.std.specs.Prelude.{◌≡◌, ◌≢◌, ◌+◌, ◌≤◌, int_lt, pos, Bool, true, false, ◌&&◌, List, [], ◌∷◌, ◌++◌, Some, count_by}
 use Rattle.std.specs.List.{list_any}
 use Rattle.rr_roster.specs.declared.company.Corp.{Corp}
+use Rattle.rr_roster.specs.Terms.{Terms}
 use Rattle.rr_chart.specs.Chart.{Row}
 use Rattle.rr_books.specs.declared.parties.Party.TheVariants as P
 use Rattle.rr_books.specs.declared.entries.Entry.{Entry}
 use Rattle.rr_books.specs.declared.entries.Entry.TheVariants as E
 use Rattle.rr_books.specs.declared.entries.Marker.TheVariants as M
 use Rattle.rr_books.specs.declared.acts.Act.TheVariants as A
-use Rattle.rr_books.specs.Book.{Book, balance, train_holder}
+use Rattle.rr_books.specs.Book.{Book, money, train_holder}
 use Rattle.rr_books.specs.Same.{same_corp}
 use Rattle.rr_market.specs.declared.operations.turn.TurnStep.{TurnStep}
 use Rattle.rr_market.specs.Operations.Phases.{phase, rounds_in_set}
 use Rattle.rr_market.specs.Operations.Turn.{rank, takes}
-use Rattle.rr_market.specs.Operations.Progress.{had_turn, is_operating, progress}
+use Rattle.rr_market.specs.Operations.Progress.{bank_owed, had_turn, is_operating, progress}
 use Rattle.rr_market.specs.Operations.Due.{begins_turn, due}
 
 -- the entry begins an operating round
@@ -77,11 +78,12 @@ pub record SetsKeepTheirLength : Type 0 where
   pub count : (book since : Book) → is_operating (progress book).stage ≡ false → list_any ends_set since ≡ false
       → (progress (book ++ E.Step M.Operating ∷ since)).round ≡ 1 + count_by begins_operating since
 
--- the bank is told to have owed exactly where its balance was negative after some front of the book
+-- whatever the bank began with, it is told to have owed exactly where it had less than nothing after some front of the book
 pub record DebtsAreRemembered : Type 0 where
-  pub told : (front rest : Book) → int_lt (balance front P.Bank) (pos 0) ≡ true → (progress (front ++ rest)).bank_owed ≡ true
-  pub only : (book : Book) → (progress book).bank_owed ≡ true
-      → (front : Book) × (rest : Book) × (front ++ rest ≡ book) × (int_lt (balance front P.Bank) (pos 0) ≡ true)
+  pub told : (roster : Terms) (front rest : Book) → int_lt (money roster front P.Bank) (pos 0) ≡ true
+      → bank_owed roster (progress (front ++ rest)) ≡ true
+  pub only : (roster : Terms) (book : Book) → bank_owed roster (progress book) ≡ true
+      → (front : Book) × (rest : Book) × (front ++ rest ≡ book) × (int_lt (money roster front P.Bank) (pos 0) ≡ true)
 
 -- the entry says that a seat is bankrupt
 abbrev pub is_bankruptcy : Entry → Bool

@@ -1,7 +1,9 @@
 -- How far the operating rounds have come, from a table's book alone.
-use Rattle.std.specs.Prelude.{ℕ, ◌+◌, ℤ, pos, int_lt, nat_lt, Bool, true, false, ◌||◌, List, [], ◌∷◌, ◌++◌, Option, None, Some, fold, if◌then◌else◌}
+use Rattle.std.specs.Prelude.{ℕ, ◌+◌, ◌*◌, ℤ, pos, neg_ℤ, ◌+ℤ◌, int_lt, nat_lt, Bool, true, false, List, [], ◌∷◌, ◌++◌, Option, None, Some, fold, if◌then◌else◌}
+use Rattle.std.specs.Int.{int_min}
 use Rattle.rr_roster.specs.declared.company.Corp.{Corp}
 use Rattle.rr_roster.specs.declared.company.Kind.{Kind}
+use Rattle.rr_roster.specs.Terms.{Terms, bank_of}
 use Rattle.rr_books.specs.declared.parties.Money.{Money}
 use Rattle.rr_books.specs.declared.parties.Party.{Party}
 use Rattle.rr_books.specs.declared.parties.Party.TheVariants as P
@@ -12,6 +14,7 @@ use Rattle.rr_books.specs.declared.entries.Marker.TheVariants as M
 use Rattle.rr_books.specs.declared.acts.Act.{Act}
 use Rattle.rr_books.specs.declared.acts.Act.TheVariants as A
 use Rattle.rr_books.specs.Book.{Book, balance, balance_after, train_holder}
+use Rattle.rr_books.specs.Opening.{starting_money}
 use Rattle.rr_rounds.specs.Round.{Marks, is_marked, no_marks, with_mark}
 use Rattle.rr_market.specs.declared.operations.turn.Stage.{Stage}
 use Rattle.rr_market.specs.declared.operations.turn.Stage.TheVariants as G
@@ -21,7 +24,8 @@ use Rattle.rr_market.specs.Operations.Phases.{phase, rounds_in_set}
 
 -- what is under way; the sets of operating rounds that have begun, the rounds of the last set that have begun, and how
 -- many it has; which corporations had their turn in the last round; the step of the turn, and whether the trains ran in
--- it; whether the bank's balance was negative after some entry; and whether a seat said that it is bankrupt
+-- it; the least that the bank's balance was after any entry, and 0 before the first; and whether a seat said that it is
+-- bankrupt
 pub record Progress : Type 0 where
   pub stage : Stage
   pub sets : ℕ
@@ -30,7 +34,7 @@ pub record Progress : Type 0 where
   pub turns : Marks
   pub step : TurnStep
   pub has_run : Bool
-  pub bank_owed : Bool
+  pub lowest : ℤ
   pub bankrupt : Bool
 
 -- before the first entry
@@ -43,9 +47,13 @@ beginning = record {
   turns = no_marks;
   step = T.Lay;
   has_run = false;
-  bank_owed = false;
+  lowest = pos 0;
   bankrupt = false;
 }
+
+-- once a table of so many players has opened: the bank has paid each of them the money for the start
+abbrev pub opened : ℕ → Progress
+opened players = record beginning { lowest = neg_ℤ (pos (players * starting_money players)) }
 
 abbrev pub is_operating : Stage → Bool
 is_operating G.Operating = true
@@ -111,12 +119,9 @@ after_step now (M.Float c) p = p
 after_step now M.Stock p = record p { stage = G.Stock }
 after_step now M.Operating p = after_operating now p
 
--- the bank, which had so much, owes money after a payment
-abbrev pub owes_after : ℤ → Party → Party → Money → Bool
-owes_after bank from to amount = int_lt (balance_after P.Bank bank (E.Pay from to amount)) (pos 0)
-
+-- after a payment, at a balance of the bank before it
 abbrev pub after_payment : ℤ → Party → Party → Money → Progress → Progress
-after_payment bank from to amount p = record p { bank_owed = p.bank_owed || owes_after bank from to amount }
+after_payment bank from to amount p = record p { lowest = int_min p.lowest (balance_after P.Bank bank (E.Pay from to amount)) }
 
 -- after one entry more, in a phase and at a balance of the bank
 abbrev pub after_entry : Kind → ℤ → Progress → Entry → Progress
@@ -127,6 +132,10 @@ after_entry now bank p _ = p
 -- after one entry more, judged by the book before it
 abbrev pub after : Book → Progress → Entry → Progress
 after book p e = after_entry (phase (train_holder book)) (balance book P.Bank) p e
+
+-- the bank, which began with the roster's, had less than nothing after some entry
+abbrev pub bank_owed : Terms → Progress → Bool
+bank_owed roster p = int_lt (pos (bank_of roster) +ℤ p.lowest) (pos 0)
 
 -- after the entries that follow on a book, each judged by the book before it
 abbrev pub follow : Book → Progress → Book → Progress

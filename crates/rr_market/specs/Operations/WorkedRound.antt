@@ -1,5 +1,5 @@
 -- Two operating rounds of two corporations, worked.
-use Rattle.std.specs.Prelude.{◌≡◌, ℕ, pos, true, false, List, [], ◌∷◌, ◌++◌, Option, None, Some}
+use Rattle.std.specs.Prelude.{◌≡◌, ℕ, pos, negsuc, true, false, List, [], ◌∷◌, ◌++◌, Option, None, Some}
 use Rattle.rr_roster.specs.declared.company.Corp.{Corp}
 use Rattle.rr_roster.specs.declared.company.Kind.TheVariants as K
 use Rattle.rr_chart.specs.Chart.{Row}
@@ -44,7 +44,7 @@ set_begun =
     ∷ E.Step M.Operating
     ∷ []
 
--- the PRR runs, and pays out all that the bank has, and more; it has stood at 80 and falls to 60 all the same
+-- the PRR runs, and pays out 12,001; it has stood at 80 and falls to 60 all the same
 abbrev pub paid_out : Book
 paid_out =
     set_begun
@@ -60,11 +60,11 @@ pub record WorkedRound : Type 0 where
   pub first : due one_row set_begun ≡ Some Corp.Prr
   pub laying : (progress set_begun).step ≡ T.Lay
   pub length : (progress set_begun).set_length ≡ 2
-  pub solvent : (progress set_begun).bank_owed ≡ false
+  pub solvent : (progress set_begun).lowest ≡ pos 0
   pub still_first : due one_row paid_out ≡ Some Corp.Prr
   pub buying : (progress paid_out).step ≡ T.Train
   pub sheet : sheet_run paid_out ≡ Some (50 ∷ [])
-  pub owing : (progress paid_out).bank_owed ≡ true
+  pub owing : (progress paid_out).lowest ≡ negsuc 12000
   pub second : due one_row (paid_out ++ end Corp.Prr ∷ []) ≡ Some Corp.Nyc
   pub had : had_turn (progress (paid_out ++ end Corp.Prr ∷ [])) Corp.Prr ≡ true
   pub no_sheet : sheet_run (paid_out ++ end Corp.Prr ∷ []) ≡ None

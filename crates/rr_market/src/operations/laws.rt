@@ -27,7 +27,8 @@ pub fn sets_keep_their_length()
     ensures { SetsKeepTheirLength }
 {}
 
-/// The bank is told to have owed exactly where its balance was negative after some front of the book.
+/// Whatever the bank began with, it is told to have owed exactly where it had less than nothing after some front of the
+/// book.
 pub fn debts_are_remembered()
     ensures { DebtsAreRemembered }
 {}

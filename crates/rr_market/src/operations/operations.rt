@@ -1,21 +1,22 @@
-ghost use Rattle.std.specs.Prelude.{◌≡◌, ◌≤◌, ◌<◌, ◌+◌, ◌^◌, ℕ, List, [], ◌∷◌, ◌++◌, pos, neg_ℤ, ◌≤ℤ◌, is_some, if◌then◌else◌};
+ghost use Rattle.std.specs.Prelude.{◌≡◌, ◌≤◌, ◌<◌, ◌+◌, ◌*◌, ◌^◌, ℕ, List, [], ◌∷◌, ◌++◌, pos, neg_ℤ, ◌≤ℤ◌, is_some, if◌then◌else◌};
 ghost use Rattle.rr_roster.specs.Terms.{Terms};
 ghost use Rattle.rr_books.specs.declared.entries.Marker.TheVariants as M;
 ghost use Rattle.rr_books.specs.declared.parties.Party.TheVariants as P;
-ghost use Rattle.rr_books.specs.Book.{Book};
-ghost use Rattle.rr_books.specs.Opening.{opening_entries};
-ghost use Rattle.rr_books.specs.State.{IsStateOf, cash_of, train_place_of};
+ghost use Rattle.rr_books.specs.Book.{Book, balance_after};
+ghost use Rattle.rr_books.specs.Opening.{opening_entries, starting_money};
+ghost use Rattle.rr_books.specs.State.{Fits, IsStateOf, cash_of, train_place_of};
 ghost use Rattle.rr_market.specs.State.{IsMarketOf};
 ghost use Rattle.rr_rounds.specs.Round.{IsRoundOf};
 ghost use Rattle.rr_market.specs.Operations.Phases.{phase};
-ghost use Rattle.rr_market.specs.Operations.Progress.{after_act, after_bankruptcy, after_end, after_entry, after_operating, after_payment, after_run, after_step, beginning, had_turn, has_more_rounds, owes_after, progress, sheet_run};
+ghost use Rattle.rr_market.specs.Operations.Progress.{after_act, after_bankruptcy, after_end, after_entry, after_operating, after_payment, after_run, after_step, bank_owed, had_turn, has_more_rounds, opened, progress, sheet_run};
 ghost use Rattle.rr_market.specs.Operations.Due.{IsOperationsOf, begins_turn, due, due_in, first_waiting, is_waiting};
 
 use crate::Market;
 use crate::operations::phases::{phase, rounds_in_set};
 use crate::operations::turn::{Stage, TurnStep};
-use rr_books::{Act, Books, Corp, Entry, Kind, Marker, Party};
+use rr_books::{Act, Books, Corp, Entry, Kind, Marker, Party, starting_money};
 use rr_chart::Chart;
+use rr_roster::Roster;
 use rr_rounds::Rounds;
 use std::marker::Model;
 
@@ -34,7 +35,8 @@ pub struct Operations {
     turns: [bool; 8],
     step: TurnStep,
     has_run: bool,
-    bank_owed: bool,
+    /// The least that the bank's balance was after any entry, in dollars, and 0 before the first.
+    lowest: i64,
     /// Whether a seat said that it is bankrupt.
     bankrupt: bool,
     /// The tokens on the chart as the turn began.
@@ -48,18 +50,28 @@ impl Model for Operations {
 
     ghost Value = { OnRounds };
 
-    ghost view = { λ o. record { progress = record { stage = o.stage; sets = o.sets; round = o.round; set_length = o.set_length; turns = o.turns; step = o.step; has_run = o.has_run; bank_owed = o.bank_owed; bankrupt = o.bankrupt }; market = o.market; stock = o.stock } };
+    ghost view = { λ o. record { progress = record { stage = o.stage; sets = o.sets; round = o.round; set_length = o.set_length; turns = o.turns; step = o.step; has_run = o.has_run; lowest = o.lowest; bankrupt = o.bankrupt }; market = o.market; stock = o.stock } };
 
-    ghost inverse = { λ v. record { stage = v.progress.stage; sets = v.progress.sets; round = v.progress.round; set_length = v.progress.set_length; turns = v.progress.turns; step = v.progress.step; has_run = v.progress.has_run; bank_owed = v.progress.bank_owed; bankrupt = v.progress.bankrupt; market = v.market; stock = v.stock } };
+    ghost inverse = { λ v. record { stage = v.progress.stage; sets = v.progress.sets; round = v.progress.round; set_length = v.progress.set_length; turns = v.progress.turns; step = v.progress.step; has_run = v.progress.has_run; lowest = v.progress.lowest; bankrupt = v.progress.bankrupt; market = v.market; stock = v.stock } };
 }
 
 impl Operations {
-    /// Before the first entry of a book, and once a table has opened and its auction has begun.
-    pub fn new() -> Operations
-        ensures value { result.progress ≡ beginning }
-        ensures book { IsOperationsOf [] result }
-        ensures opening { (roster : Terms) (players : ℕ) → players ≤ 6 → IsOperationsOf (opening_entries players roster) result }
-        ensures auction { (roster : Terms) (players : ℕ) (names : List (List ℕ)) → players ≤ 6 → IsOperationsOf (opening_entries players roster ++ Entry.Step (M.Auction names) ∷ []) result }
+    /// The operating rounds of a table that has opened with so many players, also once its auction has begun.
+    pub fn open(players: u8) -> Operations
+        requires { players ≤ 6 }
+        ensures value { result.progress ≡ opened players }
+        ensures opening { (roster : Terms) → IsOperationsOf (opening_entries players roster) result }
+        ensures auction { (roster : Terms) (names : List (List ℕ)) → IsOperationsOf (opening_entries players roster ++ Entry.Step (M.Auction names) ∷ []) result }
+    {
+        Operations::before_the_first_round(players)
+    }
+
+    // Of a table with so many players.
+    fn before_the_first_round(players: u8) -> Operations
+        requires { players ≤ 6 }
+        ensures progress { result.progress ≡ opened players }
+        ensures market { IsMarketOf [] result.market }
+        ensures stock { IsRoundOf [] result.stock }
     {
         Operations {
             stage: Stage::Auction,
@@ -69,7 +81,7 @@ impl Operations {
             turns: [false; 8],
             step: TurnStep::Lay,
             has_run: false,
-            bank_owed: false,
+            lowest: balance_at_first(players),
             bankrupt: false,
             market: Market::new(),
             stock: Rounds::new(),
@@ -78,6 +90,7 @@ impl Operations {
 
     /// Follows the next entry of the book, by the books, the market and the stock rounds before it.
     pub fn follow(&mut self, entry: &Entry, books: &Books, market: &Market, stock: &Rounds)
+        requires fits { Fits books.now entry.now }
         requires sets { self.old.progress.sets + 1 < 2 ^ 64 }
         requires round { self.old.progress.round + 1 < 2 ^ 64 }
         ensures book { (book : Book) → IsStateOf book books.now → IsMarketOf book market.now → IsRoundOf book stock.now → IsOperationsOf book self.old → IsOperationsOf (book ++ entry.now ∷ []) self.new }
@@ -155,13 +168,13 @@ impl Operations {
         self.has_run
     }
 
-    /// Whether the bank's balance was negative after some entry. The first set of operating rounds that ends then ends
-    /// the game.
-    pub fn bank_owed(&self) -> bool
-        ensures shown { result ≡ self.now.progress.bank_owed }
-        ensures book { (book : Book) → IsOperationsOf book self.now → result ≡ (progress book).bank_owed }
+    /// Whether the bank, which began with the roster's, had less than nothing after some entry. The first set of operating
+    /// rounds that ends then ends the game.
+    pub fn bank_owed(&self, roster: &Roster) -> bool
+        ensures shown { result ≡ bank_owed roster.now self.now.progress }
+        ensures book { (book : Book) → IsOperationsOf book self.now → result ≡ bank_owed roster.now (progress book) }
     {
-        self.bank_owed
+        self.lowest < -i64::from(roster.bank())
     }
 
     /// Whether a seat said that it is bankrupt, which ends the game at once.
@@ -228,6 +241,7 @@ impl Operations {
 
     // After one entry more, apart from what the turn began with.
     fn after(&self, entry: &Entry, books: &Books) -> Operations
+        requires fits { Fits books.now entry.now }
         requires sets { self.now.progress.sets + 1 < 2 ^ 64 }
         requires round { self.now.progress.round + 1 < 2 ^ 64 }
         ensures { result ≡ record self.now { progress = after_entry (phase (train_place_of books.now)) (cash_of books.now P.Bank) self.now.progress entry.now } }
@@ -243,11 +257,14 @@ impl Operations {
 
     // Once an amount was paid, the bank having so much before.
     fn after_payment(&self, bank: i64, from: Party, to: Party, amount: i64) -> Operations
-        requires least { neg_ℤ (pos 4000000000000012000) ≤ℤ bank }
+        requires least { neg_ℤ (pos 4000000000000000000) ≤ℤ bank }
+        requires greatest { bank ≤ℤ pos 4000000000000000000 }
+        requires not_negative { pos 0 ≤ℤ amount }
+        requires small { amount ≤ℤ pos 10000000000 }
         ensures { result ≡ record self.now { progress = after_payment bank from to (record { 0 = amount }) self.now.progress } }
     {
         let mut next = *self;
-        next.bank_owed = self.bank_owed || owes_after(bank, from, to, amount);
+        next.lowest = self.lowest.min(bank_after(bank, from, to, amount));
         next
     }
 
@@ -363,15 +380,26 @@ fn begins_turn(entry: &Entry) -> bool
     )
 }
 
-// Whether the bank, which had so much, owes money once the amount was paid.
-fn owes_after(bank: i64, from: Party, to: Party, amount: i64) -> bool
-    requires least { neg_ℤ (pos 4000000000000012000) ≤ℤ bank }
-    ensures { result ≡ owes_after bank from to (record { 0 = amount }) }
+// The bank's balance once it has paid each of so many players the money for the start.
+fn balance_at_first(players: u8) -> i64
+    requires { players ≤ 6 }
+    ensures { result ≡ neg_ℤ (pos (players * starting_money players)) }
+{
+    -(i64::from(players) * starting_money(players).0)
+}
+
+// The bank's balance, which was so much, once the amount was paid.
+fn bank_after(bank: i64, from: Party, to: Party, amount: i64) -> i64
+    requires least { neg_ℤ (pos 4000000000000000000) ≤ℤ bank }
+    requires greatest { bank ≤ℤ pos 4000000000000000000 }
+    requires not_negative { pos 0 ≤ℤ amount }
+    requires small { amount ≤ℤ pos 10000000000 }
+    ensures { result ≡ balance_after P.Bank bank (Entry.Pay from to (record { 0 = amount })) }
 {
     match (from, to) {
-        (Party::Bank, Party::Bank) => bank < 0,
-        (Party::Bank, _) => bank < amount,
-        (_, Party::Bank) => amount < -bank,
-        _ => bank < 0,
+        (Party::Bank, Party::Bank) => bank,
+        (Party::Bank, _) => bank - amount,
+        (_, Party::Bank) => bank + amount,
+        _ => bank,
     }
 }

@@ -14,7 +14,7 @@ use Rattle.rr_books.specs.Shares.{privates}
 use Rattle.rr_desk.specs.Effects.{adds, in_turn}
 use Rattle.rr_desk.specs.Incomes.{owner, pay_incomes_of, pays_if, pays_income}
 use Rattle.rr_market.specs.Operations.Phases.{phase}
-use Rattle.rr_market.specs.Operations.Progress.{Progress, after_first_round, after_next_round, follow, has_more_rounds, is_operating, progress}
+use Rattle.rr_market.specs.Operations.Progress.{Progress, after_first_round, after_next_round, bank_owed, follow, has_more_rounds, is_operating, progress}
 use Rattle.rr_market.specs.Operations.Due.{due}
 use Rattle.rr_market.proofs.OperationsLemmas.ProgressLemmas.{follow-append, progress-append, progress-push}
 use Rattle.rr_operate.specs.Sets.Rounds.{begins_round, ends_round, ends_set, passes_round, passes_rounds, round_is_over}
@@ -85,8 +85,8 @@ Left zero p = ⊥
 Left (suc n) p = p.set_length ≤ p.round + n
 
 -- where the round is over, so many rounds less one are left at most, or the game is over
-abbrev Passes : List Row → ℕ → Book → Type 0
-Passes rows n book = round_is_over rows book ≡ true → Left n (progress book) ⊎ GameIsOver book
+abbrev Passes : Terms → List Row → ℕ → Book → Type 0
+Passes roster rows n book = round_is_over rows book ≡ true → Left n (progress book) ⊎ GameIsOver roster book
 
 one_less : (n : ℕ) (old new : Progress) → IsNextRound old new → old.round < old.set_length → Left (suc n) old → Left n new
 one_less zero old new h more left = absurd (omega arith)
@@ -99,32 +99,32 @@ stock_begins : (rows : List Row) (book : Book) → round_is_over rows (book ++ E
 stock_begins rows book =
     ap (λ (p : Progress). is_operating p.stage && not (is_some (due rows (book ++ E.Step M.Stock ∷ [])))) (progress-push book (E.Step M.Stock))
 
-set_ends : (rows : List Row) (n : ℕ) (book : Book) (owed : Bool) → (progress book).bank_owed ≡ owed → has_more_rounds (progress book) ≡ false
-    → Passes rows n (book ++ (if owed then in_turn [] else adds (E.Step M.Stock)) book)
-set_ends rows n book true h m over = subst (λ (x : Book). Left n (progress x) ⊎ GameIsOver x) (sym (append-nil book)) (inr (record { owed = h; last = m }))
-set_ends rows n book false h m over = absurd (false≢true (sym (stock_begins rows book) ∙ over))
+set_ends : (roster : Terms) (rows : List Row) (n : ℕ) (book : Book) (owed : Bool) → bank_owed roster (progress book) ≡ owed → has_more_rounds (progress book) ≡ false
+    → Passes roster rows n (book ++ (if owed then in_turn [] else adds (E.Step M.Stock)) book)
+set_ends roster rows n book true h m over = subst (λ (x : Book). Left n (progress x) ⊎ GameIsOver roster x) (sym (append-nil book)) (inr (record { owed = h; last = m }))
+set_ends roster rows n book false h m over = absurd (false≢true (sym (stock_begins rows book) ∙ over))
 
 round_ends : (roster : Terms) (rows : List Row) (n : ℕ) (book : Book) (more : Bool) → has_more_rounds (progress book) ≡ more → is_operating (progress book).stage ≡ true
-    → Left (suc n) (progress book) ⊎ GameIsOver book
-    → Passes rows n (book ++ (if more then begins_round roster else ends_set) book)
+    → Left (suc n) (progress book) ⊎ GameIsOver roster book
+    → Passes roster rows n (book ++ (if more then begins_round roster else ends_set roster) book)
 unfolding ends_set
 round_ends roster rows n book true m h (inl left) over = inl (one_less n (progress book) (progress (book ++ begins_round roster book)) (next_round roster book h) (ltb-true (progress book).round (progress book).set_length m) left)
 round_ends roster rows n book true m h (inr ended) over = absurd (false≢true (sym ended.last ∙ m))
-round_ends roster rows n book false m h left over = set_ends rows n book (progress book).bank_owed refl m over
+round_ends roster rows n book false m h left over = set_ends roster rows n book (bank_owed roster (progress book)) refl m over
 
-passes_by : (roster : Terms) (rows : List Row) (n : ℕ) (book : Book) (is_over : Bool) → round_is_over rows book ≡ is_over → Passes rows (suc n) book
-    → Passes rows n (book ++ (if is_over then ends_round roster else in_turn []) book)
+passes_by : (roster : Terms) (rows : List Row) (n : ℕ) (book : Book) (is_over : Bool) → round_is_over rows book ≡ is_over → Passes roster rows (suc n) book
+    → Passes roster rows n (book ++ (if is_over then ends_round roster else in_turn []) book)
 passes_by roster rows n book true h left over =
     round_ends roster rows n book (has_more_rounds (progress book)) refl (and_parts (is_operating (progress book).stage) (not (is_some (due rows book))) h).0 (left h) over
 passes_by roster rows n book false h left over = absurd (false≢true (sym h ∙ subst (λ (x : Book). round_is_over rows x ≡ true) (append-nil book) over))
 
-passes_once : (roster : Terms) (rows : List Row) (n : ℕ) (book : Book) → Passes rows (suc n) book → Passes rows n (book ++ passes_round roster rows book)
+passes_once : (roster : Terms) (rows : List Row) (n : ℕ) (book : Book) → Passes roster rows (suc n) book → Passes roster rows n (book ++ passes_round roster rows book)
 unfolding passes_round
 passes_once roster rows n book left = passes_by roster rows n book (round_is_over rows book) refl left
 
-over_at_last : (book : Book) → Left 0 (progress book) ⊎ GameIsOver book → GameIsOver book
-over_at_last book (inl none) = absurd none
-over_at_last book (inr over) = over
+over_at_last : (roster : Terms) (book : Book) → Left 0 (progress book) ⊎ GameIsOver roster book → GameIsOver roster book
+over_at_last roster book (inl none) = absurd none
+over_at_last roster book (inr over) = over
 
 pub rounds_pass : RoundsPass
 unfolding passes_rounds
@@ -137,5 +137,5 @@ rounds_pass roster rows book two over =
     ap (λ (x : Book). book ++ (f book ++ (f first ++ x))) (append-nil (f second))
     ∙ sym (append_assoc book (f book) (f first ++ f second))
     ∙ sym (append_assoc (book ++ f book) (f first) (f second)) in
-    let passed : Passes rows 0 third = passes_once roster rows 0 second (passes_once roster rows 1 first (passes_once roster rows 2 book (λ _. inl two))) in
-    subst (λ (x : Book). GameIsOver x) (sym joined) (over_at_last third (passed (subst (λ (x : Book). round_is_over rows x ≡ true) joined over)))
+    let passed : Passes roster rows 0 third = passes_once roster rows 0 second (passes_once roster rows 1 first (passes_once roster rows 2 book (λ _. inl two))) in
+    subst (λ (x : Book). GameIsOver roster x) (sym joined) (over_at_last roster third (passed (subst (λ (x : Book). round_is_over rows x ≡ true) joined over)))

@@ -15,10 +15,11 @@ use Rattle.rr_books.specs.declared.acts.Act.TheVariants as A
 use Rattle.rr_books.specs.declared.entries.Cell.{Cell}
 use Rattle.rr_books.specs.declared.entries.Entry.TheVariants as E
 use Rattle.rr_books.specs.declared.entries.Marker.TheVariants as M
-use Rattle.rr_books.specs.Book.{Book, balance, iou}
+use Rattle.rr_books.specs.Book.{Book, balance, iou, money}
 use Rattle.rr_books.specs.Shares.{certificates_of}
 use Rattle.rr_desk.specs.Incomes.{dollars}
 use Rattle.rr_operate.specs.Dividends.Dividends.{pays_out, withholds}
+use Rattle.rr_operate.specs.Sets.WorkedSets.{usual_terms}
 
 abbrev pub cell : ℕ → Option chart.Cell
 cell price = Some (record { price = price; zone = Z.White; is_par = false })
@@ -63,16 +64,16 @@ pub record WorkedDividend : Type 0 where
       ∷ E.Pay P.Bank (P.Corp Corp.Prr) (dollars 20)
       ∷ E.Mark Corp.Prr (at 1 1)
       ∷ []
-  pub bank_before : balance (table 0 (at 1 0)) P.Bank ≡ pos 9600
-  pub bank : balance (table 0 (at 1 0) ++ pays_out rows Corp.Prr (dollars 100) (table 0 (at 1 0))) P.Bank ≡ pos 9520
+  pub bank_before : money usual_terms (table 0 (at 1 0)) P.Bank ≡ pos 9600
+  pub bank : money usual_terms (table 0 (at 1 0) ++ pays_out rows Corp.Prr (dollars 100) (table 0 (at 1 0))) P.Bank ≡ pos 9520
   pub seat : balance (table 0 (at 1 0) ++ pays_out rows Corp.Prr (dollars 100) (table 0 (at 1 0))) (P.Seat a) ≡ pos 1260
   pub corporation : balance (table 0 (at 1 0) ++ pays_out rows Corp.Prr (dollars 100) (table 0 (at 1 0))) (P.Corp Corp.Prr) ≡ pos 20
 
 -- A bank with 50 pays as well, and owes 30 then.
 pub record WorkedDebt : Type 0 where
-  pub before : balance (table 9550 (at 1 0)) P.Bank ≡ pos 50
-  pub bank : balance (table 9550 (at 1 0) ++ pays_out rows Corp.Prr (dollars 100) (table 9550 (at 1 0))) P.Bank ≡ negsuc 29
-  pub owed : iou (table 9550 (at 1 0) ++ pays_out rows Corp.Prr (dollars 100) (table 9550 (at 1 0))) ≡ 30
+  pub before : money usual_terms (table 9550 (at 1 0)) P.Bank ≡ pos 50
+  pub bank : money usual_terms (table 9550 (at 1 0) ++ pays_out rows Corp.Prr (dollars 100) (table 9550 (at 1 0))) P.Bank ≡ negsuc 29
+  pub owed : iou usual_terms (table 9550 (at 1 0) ++ pays_out rows Corp.Prr (dollars 100) (table 9550 (at 1 0))) ≡ 30
   pub seat : balance (table 9550 (at 1 0) ++ pays_out rows Corp.Prr (dollars 100) (table 9550 (at 1 0))) (P.Seat a) ≡ pos 1260
 
 -- At the right edge a token goes up; without a cell above it stays, and there is no mark.

@@ -7,7 +7,7 @@ use Rattle.rr_books.specs.declared.entries.Marker.TheVariants as M
 use Rattle.rr_books.specs.Book.{Book}
 use Rattle.rr_desk.specs.Effects.{Effect, adds, in_turn}
 use Rattle.rr_desk.specs.Incomes.{pay_incomes}
-use Rattle.rr_market.specs.Operations.Progress.{has_more_rounds, is_operating, progress}
+use Rattle.rr_market.specs.Operations.Progress.{bank_owed, has_more_rounds, is_operating, progress}
 use Rattle.rr_market.specs.Operations.Due.{due}
 
 -- an operating round is under way in which no corporation has a turn left
@@ -19,12 +19,12 @@ unfoldable pub begins_round : Terms → Effect
 begins_round roster = in_turn (adds (E.Step M.Operating) ∷ pay_incomes roster ∷ [])
 
 -- the set is over: the next stock round begins, unless the bank has owed money, and then the game is over
-unfoldable pub ends_set : Effect
-ends_set book = (if (progress book).bank_owed then in_turn [] else adds (E.Step M.Stock)) book
+unfoldable pub ends_set : Terms → Effect
+ends_set roster book = (if bank_owed roster (progress book) then in_turn [] else adds (E.Step M.Stock)) book
 
 -- behind the last turn of a round: the set's next round, or its end
 abbrev pub ends_round : Terms → Effect
-ends_round roster book = (if has_more_rounds (progress book) then begins_round roster else ends_set) book
+ends_round roster book = (if has_more_rounds (progress book) then begins_round roster else ends_set roster) book
 
 -- a round in which no corporation has a turn left gives way to what follows on it
 unfoldable pub passes_round : Terms → List Row → Effect

@@ -2,7 +2,7 @@
 ghost use Rattle.std.specs.Prelude.{◌≡◌, OnOk, IfErr};
 ghost use Rattle.rr_books.specs.Book.{Book};
 ghost use Rattle.rr_desk.specs.Position.Position.{IsPositionOf};
-ghost use Rattle.rr_market.specs.Operations.Progress.{has_more_rounds, progress};
+ghost use Rattle.rr_market.specs.Operations.Progress.{bank_owed, has_more_rounds, progress};
 ghost use Rattle.rr_desk.specs.Desk.{Takes};
 ghost use Rattle.rr_operate.specs.Sets.Rounds.{begins_round, ends_round, ends_set, passes_round, passes_rounds, round_is_over};
 
@@ -54,7 +54,7 @@ fn end_round(desk: &mut Desk, roster: &Roster) -> Result<(), Refusal>
         begin_round(desk, roster)?;
         return Ok(());
     }
-    end_set(desk)?;
+    end_set(desk, roster)?;
     Ok(())
 }
 
@@ -77,19 +77,19 @@ fn begin_round(desk: &mut Desk, roster: &Roster) -> Result<(), Refusal>
 
 // The next stock round begins, unless the game is over.
 #[tactic(auto, unfolding(crate::specs::Sets::Rounds::ends_set))]
-fn end_set(desk: &mut Desk) -> Result<(), Refusal>
+fn end_set(desk: &mut Desk, roster: &Roster) -> Result<(), Refusal>
     ensures fault { IfErr result (λ fault. fault ≡ Refusal.OutOfMemory) }
-    ensures takes { OnOk result (Takes ends_set desk.old desk.new) }
+    ensures takes { OnOk result (Takes (ends_set roster.now) desk.old desk.new) }
 {
-    if bank_owed(desk.position()) {
+    if bank_owed(desk.position(), roster) {
         return Ok(());
     }
     desk.push(Entry::Step(Marker::Stock))?;
     Ok(())
 }
 
-fn bank_owed(position: &Position) -> bool
-    ensures { (book : Book) → IsPositionOf book position.now → result ≡ (progress book).bank_owed }
+fn bank_owed(position: &Position, roster: &Roster) -> bool
+    ensures { (book : Book) → IsPositionOf book position.now → result ≡ bank_owed roster.now (progress book) }
 {
-    position.operations().bank_owed()
+    position.operations().bank_owed(roster)
 }

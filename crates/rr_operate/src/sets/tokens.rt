@@ -52,7 +52,7 @@ fn place_at(desk: &mut Desk, corp: Corp, home: Option<Home>) -> Result<(), Refus
         Some(home) => desk.push(Entry::Station {
             corp,
             hex: home.hex,
-            centre: u64::from(home.centre),
+            centre: home.centre,
         }),
         None => Ok(()),
     }

@@ -2,6 +2,7 @@
 use Rattle.std.specs.Prelude.{◌≡◌, ◌≢◌, ℕ, List, length, drop, map, slice_index, Vec, Result, Ok, Err}
 use Rattle.std.specs.declared.alloc.Global.{Global}
 use Rattle.byteorder.specs.Endian.{big_number}
+use Rattle.rr_pages.specs.declared.page.TheConstants.{OPEN}
 use Rattle.rr_pages.specs.declared.journal.half.Half.{Half}
 use Rattle.rr_pages.specs.declared.journal.reading.RunEnd.{RunEnd}
 use Rattle.rr_pages.specs.declared.journal.reading.RunEnd.TheVariants.{Closed, OtherNumber, Damaged}
@@ -17,11 +18,11 @@ lines records = map (λ bytes. bytes.items) records
 -- What the first 13 bytes of a slot say: how many bytes its record has, or why no record of this number begins there.
 abbrev pub Tells : List ℕ → ℕ → ℕ → Result ℕ RunEnd → Type 0
 Tells header slot number (Ok count) =
-    (slice_index header 0 ≡ 0xa5) × (big_number 8 (drop 1 header) ≡ number) × (big_number 4 (drop 9 header) ≡ count) × HasRoom slot count
-Tells header slot number (Err Closed) = slice_index header 0 ≢ 0xa5
-Tells header slot number (Err OtherNumber) = (slice_index header 0 ≡ 0xa5) × (big_number 8 (drop 1 header) ≢ number)
+    (slice_index header 0 ≡ OPEN) × (big_number 8 (drop 1 header) ≡ number) × (big_number 4 (drop 9 header) ≡ count) × HasRoom slot count
+Tells header slot number (Err Closed) = slice_index header 0 ≢ OPEN
+Tells header slot number (Err OtherNumber) = (slice_index header 0 ≡ OPEN) × (big_number 8 (drop 1 header) ≢ number)
 Tells header slot number (Err Damaged) =
-    (slice_index header 0 ≡ 0xa5) × (big_number 8 (drop 1 header) ≡ number) × (HasRoom slot (big_number 4 (drop 9 header)) → ⊥)
+    (slice_index header 0 ≡ OPEN) × (big_number 8 (drop 1 header) ≡ number) × (HasRoom slot (big_number 4 (drop 9 header)) → ⊥)
 
 -- what begins in the half's next slot
 abbrev pub Begins : List ℕ → Half → ℕ → Found → Type 0

@@ -2,8 +2,9 @@
 ghost use Rattle.std.specs.Prelude.{◌≡◌, ◌+◌, ◌-◌, ◌*◌, ◌^◌, ◌<◌, ◌≤◌, ◌∷◌, ◌++◌, length, replicate, take, drop, vec_len, IfOk};
 ghost use Rattle.byteorder.specs.Endian.{big_bytes};
 ghost use Rattle.rr_pages.specs.Journal.Layout.{spelling};
+ghost use Rattle.rr_pages.specs.declared.journal.layout.TheConstants.{MOST_SLOTS, SLOT_BYTES};
 
-use crate::journal::layout::{SLOT_BYTES, slots_for};
+use crate::journal::layout::{HEADER_BYTES, MOST_BYTES, MOST_SLOTS, SLOT_BYTES, slots_for};
 use crate::page::OPEN;
 use byteorder::{BigEndian, ByteOrder};
 use std::alloc::{AllocError, Global};
@@ -12,7 +13,7 @@ use std::alloc::{AllocError, Global};
 #[derive(Drop)]
 pub struct RecordBuffer {
     bytes: Vec<u8>,
-    ghost two_slots: { vec_len bytes ≡ 8193 },
+    ghost most_slots: { vec_len bytes ≡ 1 + MOST_SLOTS * SLOT_BYTES },
 }
 
 impl RecordBuffer {
@@ -20,16 +21,16 @@ impl RecordBuffer {
 
     /// Takes all the memory that appends will need.
     pub fn new(alloc: Global) -> Result<RecordBuffer, AllocError>
-        ensures { IfOk result (λ buffer. room buffer ≡ 8193) }
+        ensures { IfOk result (λ buffer. room buffer ≡ 1 + MOST_SLOTS * SLOT_BYTES) }
     {
         Ok(RecordBuffer {
-            bytes: vec![in alloc; 0; 1 + 2 * SLOT_BYTES]?,
+            bytes: vec![in alloc; 0; 1 + MOST_SLOTS * SLOT_BYTES]?,
         })
     }
 
     // A record as it stands in the file, from its open gate to the closed gate of the slot behind it.
     pub(crate) fn spelled(&mut self, number: u64, bytes: &[u8]) -> &[u8]
-        requires { length bytes.now ≤ 8179 }
+        requires { length bytes.now ≤ MOST_BYTES }
         ensures { result.now ≡ spelling number bytes.now }
     {
         let end = 1 + SLOT_BYTES * usize::from(slots_for(bytes.len()));
@@ -41,10 +42,10 @@ impl RecordBuffer {
 // Spells a record in the front of the buffer.
 fn spell_in(buffer: &mut Vec<u8>, end: usize, number: u64, bytes: &[u8])
     requires within { end ≤ vec_len buffer.old }
-    requires fits { 13 + length bytes.now ≤ end }
+    requires fits { HEADER_BYTES + length bytes.now ≤ end }
     requires short { length bytes.now < 2 ^ 32 }
     ensures spelled { take end buffer.new.items
-        ≡ 165 ∷ (big_bytes 8 number ++ (big_bytes 4 (length bytes.now) ++ (bytes.now ++ replicate (end - 13 - length bytes.now) 0))) }
+        ≡ OPEN ∷ (big_bytes 8 number ++ (big_bytes 4 (length bytes.now) ++ (bytes.now ++ replicate (end - HEADER_BYTES - length bytes.now) 0))) }
     ensures len { vec_len buffer.new ≡ vec_len buffer.old }
 {
     spell_front(buffer.as_mut_slice(), end, number, bytes);
@@ -52,20 +53,20 @@ fn spell_in(buffer: &mut Vec<u8>, end: usize, number: u64, bytes: &[u8])
 
 fn spell_front(room: &mut [u8], end: usize, number: u64, bytes: &[u8])
     requires within { end ≤ length room.old }
-    requires fits { 13 + length bytes.now ≤ end }
+    requires fits { HEADER_BYTES + length bytes.now ≤ end }
     requires short { length bytes.now < 2 ^ 32 }
     ensures { take end room.new
-        ≡ 165 ∷ (big_bytes 8 number ++ (big_bytes 4 (length bytes.now) ++ (bytes.now ++ replicate (end - 13 - length bytes.now) 0))) }
+        ≡ OPEN ∷ (big_bytes 8 number ++ (big_bytes 4 (length bytes.now) ++ (bytes.now ++ replicate (end - HEADER_BYTES - length bytes.now) 0))) }
 {
     spell(&mut room[..end], number, bytes);
 }
 
 // Writes the open gate, number, length and bytes, and zeros behind them.
 fn spell(room: &mut [u8], number: u64, bytes: &[u8])
-    requires fits { 13 + length bytes.now ≤ length room.old }
+    requires fits { HEADER_BYTES + length bytes.now ≤ length room.old }
     requires short { length bytes.now < 2 ^ 32 }
     ensures { room.new
-        ≡ 165 ∷ (big_bytes 8 number ++ (big_bytes 4 (length bytes.now) ++ (bytes.now ++ replicate (length room.old - 13 - length bytes.now) 0))) }
+        ≡ OPEN ∷ (big_bytes 8 number ++ (big_bytes 4 (length bytes.now) ++ (bytes.now ++ replicate (length room.old - HEADER_BYTES - length bytes.now) 0))) }
 {
     room[0] = OPEN;
     spell_numbered(&mut room[1..], number, bytes);

@@ -6,6 +6,7 @@ ghost use Rattle.rr_pages.specs.Journal.Layout.{HasRoom, slots_for, spelling};
 
 use crate::journal::layout::{HalfIndex, fits_slots, gate_place, slots_for};
 use crate::journal::{Fault, RecordBuffer};
+use crate::page::{FIRST_DATA, PAGE_BYTES};
 use rr_disk::Disk;
 
 /// A half of the journal, and where its next record goes.
@@ -104,7 +105,7 @@ impl Half {
     /// The byte of the file at which the next slot begins: its gate.
     pub fn next_gate(&self) -> u64
         ensures place { result ≡ next_gate self.now }
-        ensures small { result < 4096 * 514 }
+        ensures small { result < PAGE_BYTES * FIRST_DATA }
     {
         gate_place(self.index, self.next_slot)
     }

@@ -1,20 +1,29 @@
 // Where a half's slots lie, and how many of them a record takes.
-ghost use Rattle.std.specs.Prelude.{◌≡◌, ◌↔◌, ◌*◌, ◌≤◌, IsTrue};
+ghost use Rattle.std.specs.Prelude.{◌≡◌, ◌↔◌, ◌-◌, ◌*◌, ◌≤◌, IsTrue};
 ghost use Rattle.rr_pages.specs.Journal.Layout as layout;
 
-use crate::page::PAGE_BYTES;
+use crate::page::{FIRST_DATA, PAGE_BYTES};
 
 /// The bytes of a slot, which is a page of the file.
-pub(crate) const SLOT_BYTES: usize = PAGE_BYTES as usize;
+pub const SLOT_BYTES: usize = PAGE_BYTES as usize;
 
 /// The bytes of a record's gate, number and length, which stand before its own.
-pub(crate) const HEADER_BYTES: usize = 13;
+pub const HEADER_BYTES: usize = 13;
 
 /// No record begins in this slot, and none lies in it.
-pub(crate) const LAST_SLOT: u8 = 255;
+pub const LAST_SLOT: u8 = 255;
 
-/// The most bytes that a record may have: it then takes two slots.
-pub(crate) const MOST_BYTES: usize = 2 * SLOT_BYTES - HEADER_BYTES;
+/// The most slots that a record takes.
+pub const MOST_SLOTS: usize = 2;
+
+/// The most bytes that a record may have: it then takes the most slots.
+pub const MOST_BYTES: usize = MOST_SLOTS * SLOT_BYTES - HEADER_BYTES;
+
+/// The page of the first half's slot 0: before it lie the roots.
+pub const FIRST_SLOT_PAGE: u64 = 2;
+
+/// The pages of a half, one for each slot.
+pub const HALF_PAGES: u64 = LAST_SLOT as u64 + 1;
 
 /// Which of the journal's two halves.
 #[derive(Clone, Copy, Debug, PartialEq, Eq)]
@@ -26,7 +35,7 @@ pub enum HalfIndex {
 }
 
 impl HalfIndex {
-    ghost use Rattle.std.specs.Prelude.{◌≡◌, ◌*◌, ◌<◌};
+    ghost use Rattle.std.specs.Prelude.{◌≡◌, ◌+◌, ◌*◌, ◌<◌};
     ghost use Rattle.rr_pages.specs.Journal.Layout as layout;
 
     /// The one that isn't this half.
@@ -42,7 +51,7 @@ impl HalfIndex {
     /// The byte of the file at which the half's slot 0 begins: its gate. While that is shut the half has no records.
     pub fn first_gate(self) -> u64
         ensures place { result ≡ layout.gate_place self 0 }
-        ensures small { result < 4096 * 259 }
+        ensures small { result < PAGE_BYTES * (FIRST_SLOT_PAGE + HALF_PAGES + 1) }
     {
         gate_place(self, 0)
     }
@@ -53,22 +62,22 @@ fn start_page(index: HalfIndex) -> u64
     ensures { result ≡ layout.start_page index }
 {
     match index {
-        HalfIndex::First => 2,
-        HalfIndex::Second => 258,
+        HalfIndex::First => FIRST_SLOT_PAGE,
+        HalfIndex::Second => FIRST_SLOT_PAGE + HALF_PAGES,
     }
 }
 
 // The byte at which a slot begins.
 pub(crate) fn gate_place(index: HalfIndex, slot: u8) -> u64
     ensures place { result ≡ layout.gate_place index slot }
-    ensures small { result ≤ 4096 * 513 }
+    ensures small { result ≤ PAGE_BYTES * (FIRST_DATA - 1) }
 {
     PAGE_BYTES * (start_page(index) + u64::from(slot))
 }
 
 // How many slots a record of so many bytes takes.
 pub(crate) fn slots_for(count: usize) -> u8
-    requires { count ≤ 8179 }
+    requires { count ≤ MOST_BYTES }
     ensures { result ≡ layout.slots_for count }
 {
     (count + HEADER_BYTES).div_ceil(SLOT_BYTES) as u8

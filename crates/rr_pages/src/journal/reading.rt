@@ -56,7 +56,7 @@ pub fn scan<D: Disk>(
     index: HalfIndex,
     first_number: u64,
 ) -> Result<Scanned, Fault>
-    requires { first_number + 255 < 2 ^ 64 }
+    requires { first_number + LAST_SLOT < 2 ^ 64 }
 
     ensures found { IfOk result (λ scanned. D.Honest disk.new
         → Run (D.state disk.old).content index 0 first_number (lines scanned.records.items) scanned.end) }
@@ -66,7 +66,7 @@ pub fn scan<D: Disk>(
         → (others ≡ lines scanned.records.items) × (end ≡ scanned.end)) }
     ensures index { IfOk result (λ scanned. scanned.half.index ≡ index) }
     ensures next { IfOk result (λ scanned. scanned.half.next_slot ≡ slots_of (lines scanned.records.items)) }
-    ensures few { IfOk result (λ scanned. length scanned.records.items ≤ 255) }
+    ensures few { IfOk result (λ scanned. length scanned.records.items ≤ LAST_SLOT) }
 
     // On a disk at rest the half then keeps these records, and is ready for the next.
     ensures keeps { IfOk result (λ scanned. D.Honest disk.new → IsAtRest (D.state disk.new)
@@ -85,7 +85,7 @@ pub fn scan<D: Disk>(
     ensures syncs { D.sync_count disk.new ≡ D.sync_count disk.old }
 
     // A disk that works fails only where the file ends before slot 255.
-    ensures device { OnDeviceFault result (D.Works disk.new → D.file_len disk.old < gate_place index 255) }
+    ensures device { OnDeviceFault result (D.Works disk.new → D.file_len disk.old < gate_place index LAST_SLOT) }
     ensures works { D.Works disk.new → D.Works disk.old }
     ensures same_len { D.file_len disk.new ≡ D.file_len disk.old }
 {
@@ -119,7 +119,7 @@ fn read_record<D: Disk>(
     half: Half,
     number: u64,
 ) -> Result<Found, Fault>
-    requires { half.next_slot < 255 }
+    requires { half.next_slot < LAST_SLOT }
 
     ensures found { IfOk result (λ found. D.Honest disk.new
         → Begins (D.state disk.old).content half number found) }
@@ -135,7 +135,7 @@ fn read_record<D: Disk>(
     ensures same_past { D.Honest disk.new → D.past disk.new ≡ D.past disk.old }
     ensures writes { D.write_count disk.new ≡ D.write_count disk.old }
     ensures syncs { D.sync_count disk.new ≡ D.sync_count disk.old }
-    ensures device { OnDeviceFault result (D.Works disk.new → D.file_len disk.old < gate_place half.index 255) }
+    ensures device { OnDeviceFault result (D.Works disk.new → D.file_len disk.old < gate_place half.index LAST_SLOT) }
     ensures works { D.Works disk.new → D.Works disk.old }
     ensures same_len { D.file_len disk.new ≡ D.file_len disk.old }
 {
@@ -175,7 +175,7 @@ fn read_bytes<D: Disk>(alloc: Global, disk: &mut D, at: u64, count: usize) -> Re
 
 // How many bytes the record has whose gate, number and length these are, if it is the one expected.
 fn count_in(header: &[u8], slot: u8, number: u64) -> Result<usize, RunEnd>
-    requires { length header.now ≡ 13 }
+    requires { length header.now ≡ HEADER_BYTES }
     ensures { Tells header.now slot number result }
 {
     if header[0] != OPEN {

@@ -14,6 +14,7 @@ use Rattle.rr_reading.specs.Dir.Directory.{Directory, Spells, spelled_chain, spe
 use Rattle.rr_reading.specs.Dir.Heads.{Heads, heads_of}
 use Rattle.rr_reading.proofs.DirLemmas.NumberLemmas.{length-spelled_number, cut_number}
 use Rattle.rr_reading.proofs.DirLemmas.PieceLemmas.{cut_same, front_of, same_front, one_list}
+use Rattle.rr_reading.proofs.DirLemmas.VersionLemmas.{one_version}
 
 pub length-spelled_chain : (c : ChainRef) → length (spelled_chain c) ≡ 12
 length-spelled_chain c = omega (arith, length-append (spelled_number 8 c.head) (spelled_number 4 c.length), length-spelled_number 8 c.head, length-spelled_number 4 c.length)
@@ -127,13 +128,10 @@ one_directory One bytes d e first second =
     let tables = one_tables d.tables e.tables first.is_directory.are_tables second.is_directory.are_tables kit.1 in
     λ i. record { kit = kit.0 i; tables = tables i }
 
-one_version : (a b : Version) → a ≡ b
-one_version One One = refl
-
 pub one_heads : (number : ℕ) (bytes : List ℕ) (a b : List (ℕ × ℕ)) → Heads number bytes a → Heads number bytes b → a ≡ b
 one_heads number bytes a b first second =
     let same : first.directory ≡ second.directory =
-    one_directory first.version bytes first.directory second.directory first.spelled (subst (λ (v : Version). Spells v bytes second.directory) (one_version second.version first.version) second.spelled) in
+    one_directory first.version bytes first.directory second.directory first.spelled (subst (λ (v : Version). Spells v bytes second.directory) (one_version second.version first.version (second.numbered ∙ sym first.numbered)) second.spelled) in
     first.named ∙ ap heads_of same ∙ sym second.named
 
 -- so many tables were read from the front of these bytes, and this is left

@@ -2,6 +2,8 @@
 use Rattle.std.proofs.Common.{◌≡◌, inl, List, [], ◌∷◌, map, refl, sym, subst, ap}
 use Rattle.rr_reading.specs.Dir.Directory.{IsDirectory}
 use Rattle.rr_reading.specs.Dir.Heads.{Heads}
+use Rattle.rr_reading.specs.Dir.Version.{version_number}
+use Rattle.rr_reading.specs.declared.dir.version.Version.{Version}
 use Rattle.rr_images.specs.Holding.{HeldChain, heads_of, texts_of, AreSome}
 use Rattle.rr_images.specs.Plans.{LaidChain, Fresh, laid_as, kept_of, fresh_chains}
 use Rattle.rr_images.specs.Plans.{chains_of as drafted}
@@ -26,15 +28,15 @@ none_kept (chain ∷ laid) = none_kept laid
 drafted_all : (texts : TextChains) (laid : List LaidChain) → drafted (drafts_for texts laid) ≡ chains_of texts (map laid_as laid)
 drafted_all texts laid = ap (λ (chains : List HeldChain). chains_of texts chains) (drafted_fresh laid)
 
-pub checkpoints_spell : (texts : TextChains) (laid : List LaidChain) (world : World) → HoldTexts texts (map laid_as laid) world → AreShort world.tables → IsDirectory (directory_for texts (map laid_as laid) world)
-    → IsCheckpointOf texts laid world (bytes_for texts (map laid_as laid) world)
-checkpoints_spell texts laid world holds short is =
-    let read = read_back texts (map laid_as laid) world holds short is in
+pub checkpoints_spell : (version : Version) (texts : TextChains) (laid : List LaidChain) (world : World) → HoldTexts texts (map laid_as laid) world → AreShort world.tables → IsDirectory (directory_for texts (map laid_as laid) world)
+    → IsCheckpointOf version texts laid world (bytes_for version texts (map laid_as laid) world)
+checkpoints_spell version texts laid world holds short is =
+    let read = read_back version texts (map laid_as laid) world holds short is in
     let all = sym (drafted_all texts laid) in
-    let bytes = bytes_for texts (map laid_as laid) world in
+    let bytes = bytes_for version texts (map laid_as laid) world in
     record {
-      named = subst (λ (chains : List HeldChain). Heads 1 bytes (heads_of chains)) all read.named;
-      spells = subst (λ (chains : List HeldChain). Spells 1 bytes (texts_of chains) world) all read.spells;
+      named = subst (λ (chains : List HeldChain). Heads (version_number version) bytes (heads_of chains)) all read.named;
+      spells = subst (λ (chains : List HeldChain). Spells (version_number version) bytes (texts_of chains) world) all read.spells;
       fresh = all_fresh laid;
       kept = λ olds.
           subst (λ (chains : List HeldChain). AreSome (texts.chart ∷ texts.roster ∷ texts.tiles ∷ texts.board ∷ chains) (chains_of texts olds)) (sym (none_kept laid))

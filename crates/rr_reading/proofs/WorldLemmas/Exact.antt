@@ -1,12 +1,12 @@
 -- A directory and its chains spell one world.
-use Rattle.std.proofs.Common.{◌≡◌, ℕ, List, [], ◌∷◌, refl, sym, ◌∙◌, subst}
+use Rattle.std.proofs.Common.{◌≡◌, ℕ, List, [], ◌∷◌, sym, ◌∙◌, subst}
 use Rattle.rr_reading.specs.declared.dir.directory.TableEntry.{TableEntry}
 use Rattle.rr_reading.specs.declared.dir.version.Version.{Version}
-use Rattle.rr_reading.specs.declared.dir.version.Version.TheVariants.{One}
 use Rattle.rr_reading.specs.Dir.Directory.{Directory}
 use Rattle.rr_reading.specs.Dir.Directory as dir
 use Rattle.rr_reading.proofs.DirLemmas.KeptLemmas.{one_kept}
 use Rattle.rr_reading.proofs.DirLemmas.TableLemmas.{one_directory, one_heads}
+use Rattle.rr_reading.proofs.DirLemmas.VersionLemmas.{one_version}
 use Rattle.rr_images.specs.Codec.{IsExact}
 use Rattle.rr_images.specs.Holding.{HeldChain, texts_of}
 use Rattle.rr_reading.specs.Chains.{AreOfForm}
@@ -14,9 +14,6 @@ use Rattle.rr_reading.specs.Held.{TextChains, chains_of}
 use Rattle.rr_reading.specs.Reading.{IsDirectory}
 use Rattle.rr_reading.specs.Worlds.World.{Table, World}
 use Rattle.rr_reading.specs.Worlds.Spelling.{SpellsTable, SpellsTables, Spells, worlds}
-
-pub one_version : (version other : Version) → version ≡ other
-one_version One One = refl
 
 one_table : (entry : TableEntry) (text : List ℕ) (first second : Table) → SpellsTable entry text first → SpellsTable entry text second → first ≡ second
 one_table entry text first second a b =
@@ -38,7 +35,7 @@ one_tables (entry ∷ entries) texts first second a b =
 
 pub one_world : (number : ℕ) (bytes : List ℕ) (texts : List (List ℕ)) (first second : World) → Spells number bytes texts first → Spells number bytes texts second → first ≡ second
 one_world number bytes texts first second a b =
-    let there : dir.Spells a.version bytes b.directory = subst (λ (v : Version). dir.Spells v bytes b.directory) (one_version b.version a.version) b.spelled in
+    let there : dir.Spells a.version bytes b.directory = subst (λ (v : Version). dir.Spells v bytes b.directory) (one_version b.version a.version (b.numbered ∙ sym a.numbered)) b.spelled in
     let directory = one_directory a.version bytes a.directory b.directory a.spelled there in
     let same : (first.chart ∷ first.roster ∷ first.tiles ∷ first.board ∷ a.of_tables) ≡ (second.chart ∷ second.roster ∷ second.tiles ∷ second.board ∷ b.of_tables) = sym a.of_chains ∙ b.of_chains in
     let chart : first.chart ≡ second.chart = cc in
@@ -68,7 +65,7 @@ forms_hold (entry ∷ entries) (chain ∷ chains) tables spells =
 
 pub forms_spelled : (number : ℕ) (bytes : List ℕ) (directory : Directory) (texts : TextChains) (chains : List HeldChain) (world : World) → IsDirectory number bytes directory → Spells number bytes (texts_of (chains_of texts chains)) world → AreOfForm directory.tables chains
 forms_spelled number bytes directory texts chains world is spells =
-    let there : dir.Spells is.version bytes spells.directory = subst (λ (v : Version). dir.Spells v bytes spells.directory) (one_version spells.version is.version) spells.spelled in
+    let there : dir.Spells is.version bytes spells.directory = subst (λ (v : Version). dir.Spells v bytes spells.directory) (one_version spells.version is.version (spells.numbered ∙ sym is.numbered)) spells.spelled in
     let same = one_directory is.version bytes directory spells.directory is.spelled there in
     let of_tables : spells.of_tables ≡ texts_of chains = cc (spells.of_chains) in
     forms_hold directory.tables chains world.tables

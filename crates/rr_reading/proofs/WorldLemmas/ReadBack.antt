@@ -3,7 +3,6 @@ use Rattle.std.proofs.Common.{◌≡◌, ℕ, List, [], ◌∷◌, length, map, 
 use Rattle.rr_reading.specs.declared.dir.directory.ChainRef.{ChainRef}
 use Rattle.rr_reading.specs.declared.dir.directory.TableEntry.{TableEntry}
 use Rattle.rr_reading.specs.declared.dir.version.Version.{Version}
-use Rattle.rr_reading.specs.declared.dir.version.Version.TheVariants.{One}
 use Rattle.rr_reading.specs.Dir.Directory.{Directory, IsDirectory, spelling}
 use Rattle.rr_reading.specs.Dir.Directory as dir
 use Rattle.rr_reading.specs.Dir.Heads.{Heads, head_of}
@@ -15,7 +14,7 @@ use Rattle.rr_reading.specs.Held.{TextChains, chains_of}
 use Rattle.rr_reading.specs.Worlds.World.{Table, World, text_for, AreShort}
 use Rattle.rr_reading.specs.Worlds.Spelling.{SpellsTable, SpellsTables, Spells, ref_of, entry_for, entries_for, directory_for, HoldTexts}
 use Rattle.rr_reading.specs.Worlds.Laws.{IsReadBack, IsWritten}
-use Rattle.rr_reading.proofs.WorldLemmas.Exact.{one_version}
+use Rattle.rr_reading.proofs.DirLemmas.VersionLemmas.{one_version}
 
 -- the heads of tables' chains
 entry_heads : (chains : List HeldChain) (tables : List Table) → texts_of chains ≡ map text_for tables → heads_of chains ≡ map (λ (entry : TableEntry). head_of entry.chain) (entries_for chains tables)
@@ -42,18 +41,18 @@ tables_spelled (chain ∷ chains) (table ∷ tables) same short =
       tables_spelled chains tables rest short.1,
     )
 
-pub read_back : (texts : TextChains) (chains : List HeldChain) (world : World) → HoldTexts texts chains world → AreShort world.tables → IsDirectory (directory_for texts chains world) → IsReadBack texts chains world
-read_back texts chains world holds short is =
+pub read_back : (version : Version) (texts : TextChains) (chains : List HeldChain) (world : World) → HoldTexts texts chains world → AreShort world.tables → IsDirectory (directory_for texts chains world) → IsReadBack version texts chains world
+read_back version texts chains world holds short is =
     record {
       named = record {
-        version = One;
+        version = version;
         numbered = refl;
         directory = directory_for texts chains world;
         spelled = record { is_directory = is; spelled = refl };
         named = ap (λ (heads : List (ℕ × ℕ)). head_of (ref_of texts.chart) ∷ head_of (ref_of texts.roster) ∷ head_of (ref_of texts.tiles) ∷ head_of (ref_of texts.board) ∷ heads) (entry_heads chains world.tables holds.of_tables);
       };
       spells = record {
-        version = One;
+        version = version;
         numbered = refl;
         directory = directory_for texts chains world;
         spelled = record { is_directory = is; spelled = refl };
@@ -97,11 +96,11 @@ tables_written (entry ∷ entries) (chain ∷ chains) tables heads spells =
       entries_are = λ i. is i ∷ rest.entries_are i;
     })
 
-pub written : (number : ℕ) (bytes : List ℕ) (texts : TextChains) (chains : List HeldChain) (world : World) → Heads number bytes (heads_of (chains_of texts chains)) → Spells number bytes (texts_of (chains_of texts chains)) world → IsWritten bytes texts chains world
+pub written : (number : ℕ) (bytes : List ℕ) (texts : TextChains) (chains : List HeldChain) (world : World) → Heads number bytes (heads_of (chains_of texts chains)) → Spells number bytes (texts_of (chains_of texts chains)) world → IsWritten number bytes texts chains world
 written number bytes texts chains world heads spells =
-    let at_one : dir.Spells One bytes spells.directory = subst (λ (v : Version). dir.Spells v bytes spells.directory) (one_version spells.version One) spells.spelled in
-    let heads_one : dir.Spells One bytes heads.directory = subst (λ (v : Version). dir.Spells v bytes heads.directory) (one_version heads.version One) heads.spelled in
-    let same = one_directory One bytes heads.directory spells.directory heads_one at_one in
+    let there : dir.Spells spells.version bytes heads.directory =
+    subst (λ (v : Version). dir.Spells v bytes heads.directory) (one_version heads.version spells.version (heads.numbered ∙ sym spells.numbered)) heads.spelled in
+    let same = one_directory spells.version bytes heads.directory spells.directory there spells.spelled in
     let all : heads_of (chains_of texts chains) ≡ named.heads_of spells.directory = heads.named ∙ ap (λ (d : Directory). named.heads_of d) same in
     let chart : head_of (ref_of texts.chart) ≡ head_of spells.directory.kit.chart = cc in
     let roster : head_of (ref_of texts.roster) ≡ head_of spells.directory.kit.roster = cc in
@@ -118,7 +117,9 @@ written number bytes texts chains world heads spells =
     let directory : spells.directory ≡ directory_for texts chains world =
     λ i. record { kit = record { chart = of_chart i; roster = of_roster i; tiles = of_tiles i; board = of_board i }; tables = rest.entries_are i } in
     record {
+      version = spells.version;
+      numbered = spells.numbered;
       held = record { of_chart = cc; of_roster = cc; of_tiles = cc; of_board = cc; of_tables = rest.texts };
       short = rest.short;
-      written = at_one.spelled ∙ ap (λ (d : Directory). spelling One d) directory;
+      written = spells.spelled.spelled ∙ ap (λ (d : Directory). spelling spells.version d) directory;
     }

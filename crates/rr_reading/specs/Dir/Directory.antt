@@ -1,6 +1,8 @@
 -- What a directory says, and its bytes. Numbers are big-endian.
 use Rattle.std.specs.Prelude.{◌≡◌, ◌≢◌, ℕ, ◌^◌, ◌<◌, ◌≤◌, List, ◌∷◌, ◌++◌, length, All, AllPairs}
 use Rattle.std.specs.List.{flat_map}
+use Rattle.rr_turns.specs.declared.limits.TheConstants.{LAST_STAMP}
+use Rattle.rr_reading.specs.declared.dir.directory.TheConstants.{MOST_KEPT, MOST_TABLES, MOST_TEXT}
 use Rattle.rr_words.specs.Name.{IsTableName}
 use Rattle.rr_reading.specs.declared.dir.directory.ChainRef.{ChainRef}
 use Rattle.rr_reading.specs.declared.dir.directory.KitChains.{KitChains}
@@ -51,10 +53,10 @@ pub record IsChain (chain : ChainRef) : Type 0 where
   pub page : chain.head < 2 ^ 64
   pub long : chain.length < 2 ^ 32
 
--- a text of the kit has at most 65,536 bytes
+-- a text of the kit has no more bytes than it may
 pub record IsText (chain : ChainRef) : Type 0 where
   pub page : chain.head < 2 ^ 64
-  pub short : chain.length ≤ 65536
+  pub short : chain.length ≤ MOST_TEXT
 
 pub record IsKit (kit : KitChains) : Type 0 where
   pub is_chart : IsText kit.chart
@@ -78,10 +80,10 @@ pub record FitsBytes (table : TableEntry) : Type 0 where
 -- a table has a table's name, keeps at least one command, and none of its numbers is past its limit
 pub record IsTable (table : TableEntry) : Type 0 where
   pub named : IsTableName table.name
-  pub stamped : table.stamp ≤ 4000000000
+  pub stamped : table.stamp ≤ LAST_STAMP
   pub floored : table.floor < 2 ^ 32
   pub some_kept : 1 ≤ table.kept
-  pub few_kept : table.kept ≤ 4096
+  pub few_kept : table.kept ≤ MOST_KEPT
   pub is_chain : IsChain table.chain
 
 -- no two tables have one name
@@ -91,17 +93,17 @@ HaveOwnNames tables = AllPairs (λ table other. table.name ≢ other.name) table
 pub record AreTables (tables : List TableEntry) : Type 0 where
   pub each : All IsTable tables
   pub own_names : HaveOwnNames tables
-  pub few : length tables ≤ 64
+  pub few : length tables ≤ MOST_TABLES
 
 pub record IsDirectory (directory : Directory) : Type 0 where
   pub is_kit : IsKit directory.kit
   pub are_tables : AreTables directory.tables
 
--- the bytes begin with how many tables there are, from 1 to 64, and the first of them
+-- the bytes begin with how many tables there are, at least one and no more than a store holds, and the first of them
 pub record BeginsTables (bytes : List ℕ) : Type 0 where
   pub count : ℕ
   pub some : 1 ≤ count
-  pub few : count ≤ 64
+  pub few : count ≤ MOST_TABLES
   pub table : TableEntry
   pub is_table : IsTable table
   pub rest : List ℕ

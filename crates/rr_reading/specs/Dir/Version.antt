@@ -1,3 +1,4 @@
+-- The versions of a file.
 use Rattle.std.specs.Prelude.{ℕ}
 use Rattle.rr_reading.specs.declared.dir.version.Version.{Version}
 use Rattle.rr_reading.specs.declared.dir.version.Version.TheVariants.{One}

@@ -3,7 +3,6 @@ use Rattle.std.specs.Prelude.{◌≡◌, ℕ, List, [], ◌∷◌, length, map}
 use Rattle.rr_reading.specs.declared.dir.directory.ChainRef.{ChainRef}
 use Rattle.rr_reading.specs.declared.dir.directory.TableEntry.{TableEntry}
 use Rattle.rr_reading.specs.declared.dir.version.Version.{Version}
-use Rattle.rr_reading.specs.declared.dir.version.Version.TheVariants.{One}
 use Rattle.rr_reading.specs.Dir.Directory.{Directory, spelling}
 use Rattle.rr_reading.specs.Dir.Directory as dir
 use Rattle.rr_reading.specs.Dir.Heads.{Heads}
@@ -79,9 +78,9 @@ pub record HoldTexts (texts : TextChains) (chains : List HeldChain) (world : Wor
   pub of_board : texts.board.text ≡ world.board
   pub of_tables : texts_of chains ≡ map text_for world.tables
 
--- the bytes of that directory
-abbrev pub bytes_for : TextChains → List HeldChain → World → List ℕ
-bytes_for texts chains world = spelling One (directory_for texts chains world)
+-- the bytes of that directory in the form of a version
+abbrev pub bytes_for : Version → TextChains → List HeldChain → World → List ℕ
+bytes_for version texts chains world = spelling version (directory_for texts chains world)
 
 -- the chains of a checkpoint: those of the texts stay where they stand, and each table's is written
 abbrev pub drafts_for : TextChains → List LaidChain → List Draft

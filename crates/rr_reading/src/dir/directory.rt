@@ -5,20 +5,19 @@ use crate::dir::cursor::Cursor;
 use crate::dir::fault::Fault;
 use crate::dir::version::Version;
 use crate::dir::{reading, writing};
+use rr_turns::MOST_COMMANDS;
 use rr_words::Name;
+use rr_words::text::TEXT_BYTES;
 use std::alloc::Global;
 
 /// The most tables that a store holds.
-pub(crate) const MOST_TABLES: u16 = 64;
+pub const MOST_TABLES: u16 = 64;
 
 /// The most commands that a table keeps.
-pub(crate) const MOST_KEPT: u32 = 4_096;
-
-/// The last stamp that a table may have.
-pub(crate) const LAST_STAMP: u64 = 4_000_000_000;
+pub const MOST_KEPT: u32 = MOST_COMMANDS as u32;
 
 /// The most bytes that a text of the kit may have.
-pub(crate) const TEXT_BYTES: u32 = 65_536;
+pub const MOST_TEXT: u32 = TEXT_BYTES as u32;
 
 /// Where a chain of pages stands in a file.
 #[derive(Clone, Copy, Debug, PartialEq, Eq)]

@@ -9,9 +9,10 @@ ghost use Rattle.rr_reading.specs.declared.dir.version.Version.TheVariants.{One}
 
 use crate::dir::cursor::Cursor;
 use crate::dir::directory::{
-    ChainRef, Dir, KitChains, LAST_STAMP, MOST_KEPT, MOST_TABLES, TEXT_BYTES, TableEntry,
+    ChainRef, Dir, KitChains, MOST_KEPT, MOST_TABLES, MOST_TEXT, TableEntry,
 };
 use crate::dir::fault::Fault;
+use rr_turns::LAST_STAMP;
 use rr_words::Name;
 use std::alloc::Global;
 
@@ -41,12 +42,12 @@ fn next_kit(cursor: &mut Cursor) -> Option<KitChains>
 }
 
 fn are_texts(kit: &KitChains) -> bool
-    ensures { IsTrue result ↔ ((kit.now.chart.length ≤ 65536) × (kit.now.roster.length ≤ 65536) × (kit.now.tiles.length ≤ 65536) × (kit.now.board.length ≤ 65536)) }
+    ensures { IsTrue result ↔ ((kit.now.chart.length ≤ MOST_TEXT) × (kit.now.roster.length ≤ MOST_TEXT) × (kit.now.tiles.length ≤ MOST_TEXT) × (kit.now.board.length ≤ MOST_TEXT)) }
 {
-    kit.chart.length <= TEXT_BYTES
-        && kit.roster.length <= TEXT_BYTES
-        && kit.tiles.length <= TEXT_BYTES
-        && kit.board.length <= TEXT_BYTES
+    kit.chart.length <= MOST_TEXT
+        && kit.roster.length <= MOST_TEXT
+        && kit.tiles.length <= MOST_TEXT
+        && kit.board.length <= MOST_TEXT
 }
 
 fn next_kit_chains(cursor: &mut Cursor) -> Option<KitChains>
@@ -96,8 +97,8 @@ fn next_tables(alloc: Global, cursor: &mut Cursor) -> Result<Vec<TableEntry>, Fa
 
 fn next_count(cursor: &mut Cursor) -> Option<u16>
     ensures { MatchOption result
-        ((count : ℕ) (rest : List ℕ) → count ≤ 64 → cursor.old ≢ spelled_number 2 count ++ rest)
-        (λ count. (count ≤ 64) × (cursor.old ≡ spelled_number 2 count ++ cursor.new)) }
+        ((count : ℕ) (rest : List ℕ) → count ≤ MOST_TABLES → cursor.old ≢ spelled_number 2 count ++ rest)
+        (λ count. (count ≤ MOST_TABLES) × (cursor.old ≡ spelled_number 2 count ++ cursor.new)) }
 {
     let count = cursor.u16()?;
     if count <= MOST_TABLES {
@@ -128,7 +129,7 @@ fn next_table(cursor: &mut Cursor) -> Option<TableEntry>
 }
 
 fn is_within_limits(table: &TableEntry) -> bool
-    ensures { IsTrue result ↔ ((table.now.stamp ≤ 4000000000) × (1 ≤ table.now.kept) × (table.now.kept ≤ 4096)) }
+    ensures { IsTrue result ↔ ((table.now.stamp ≤ LAST_STAMP) × (1 ≤ table.now.kept) × (table.now.kept ≤ MOST_KEPT)) }
 {
     table.stamp <= LAST_STAMP && 1 <= table.kept && table.kept <= MOST_KEPT
 }

@@ -9,6 +9,9 @@ pub enum Version {
     One,
 }
 
+/// The version of the files that are written.
+pub const NEWEST: Version = Version::One;
+
 impl Version {
     /// The version of this number, if there is one.
     pub fn of(number: u16) -> Option<Version>

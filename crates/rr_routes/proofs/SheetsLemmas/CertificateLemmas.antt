@@ -12,6 +12,7 @@ use Rattle.rr_words.specs.Line.{words_of as cut, line_of}
 use Rattle.rr_words.specs.Numeral.{number_of}
 use Rattle.rr_words.proofs.NumeralLemmas.{SpellsNumber-from_value, number_of-decimal}
 use Rattle.rr_routes.specs.declared.certificate.CertTree.{CertTree, Bound, Bad, Full, Split, Split'}
+use Rattle.rr_routes.specs.declared.certificate.TheConstants.{MOST_NODES}
 use Rattle.rr_routes.specs.Sheets.Each.{each}
 use Rattle.rr_routes.specs.Sheets.Reading.{leaf_of, cert_word_of, cert_words_of}
 use Rattle.rr_routes.specs.Sheets.Certificate.{word_text, HasShortNumber, SpellsWords, HasForm, words_of, IsRegular, Spells, IsRefusal}
@@ -138,7 +139,7 @@ one_tree trains words tree grown = record {
   regular = All-cons (IsRegular trains) tree [] grown.regular (All-nil (IsRegular trains));
 }
 
-pub too_long : (trains : ℕ) (words : List CertWord) (tree : CertTree) → 1024 < length words → IsTreeOf trains words tree → ⊥
+pub too_long : (trains : ℕ) (words : List CertWord) (tree : CertTree) → MOST_NODES < length words → IsTreeOf trains words tree → ⊥
 too_long trains words tree long grown =
     let as_long : length words ≡ length (words_of tree) = ap (λ (ws : List CertWord). length ws) grown.words_are in
     omega (arith, long, as_long, length-words_of tree, grown.small)
@@ -152,7 +153,7 @@ no_tree trains words before behind word tree split none grown =
 pub not_one : (trains : ℕ) (words : List CertWord) (forest : List CertTree) (tree : CertTree) → IsForest trains words forest → (length forest ≡ 1 → ⊥) → IsTreeOf trains words tree → ⊥
 not_one trains words forest tree spelled many grown = many (same_count trains words forest (tree ∷ []) spelled (one_tree trains words tree grown))
 
-pub grown_tree : (trains : ℕ) (words : List CertWord) (forest : List CertTree) (tree : CertTree) → length words ≤ 1024 → IsForest trains words forest → forest ≡ tree ∷ [] → IsTreeOf trains words tree
+pub grown_tree : (trains : ℕ) (words : List CertWord) (forest : List CertTree) (tree : CertTree) → length words ≤ MOST_NODES → IsForest trains words forest → forest ≡ tree ∷ [] → IsTreeOf trains words tree
 grown_tree trains words forest tree small spelled one =
     let whole : IsForest trains words (tree ∷ []) = subst (λ (trees : List CertTree). IsForest trains words trees) one spelled in
     let words_are : words ≡ words_of tree = whole.words_are ∙ append-nil (words_of tree) in

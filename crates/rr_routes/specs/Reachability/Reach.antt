@@ -14,14 +14,21 @@ pub data IsReached (graph : List (List ℕ)) (starts : List ℕ) : ℕ → Type 
 abbrev pub IsMarked : List Bool → ℕ → Type 0
 IsMarked marks state = slice_index_or marks state false ≡ true
 
--- each of these states that has a mark is marked
-abbrev pub AllMarked : List Bool → List ℕ → Type 0
-AllMarked marks states = (state : ℕ) → Contains states state → state < length marks → IsMarked marks state
+-- a state is reached over allowed states alone: an allowed start, or an allowed one that follows such a state
+pub data IsReachedWithin (graph : List (List ℕ)) (allowed : List Bool) (starts : List ℕ) : ℕ → Type 0 where
+  start_within : (state : ℕ) → Contains starts state → IsMarked allowed state → IsReachedWithin graph allowed starts state
+  follower_within : (state next : ℕ) → IsReachedWithin graph allowed starts state → Contains (followers graph state) next → IsMarked allowed next
+      → IsReachedWithin graph allowed starts next
 
--- these states are marked and the newly marked ones pending, and nothing else has changed
-pub record AreMarked (states : List ℕ) (old_marks : List Bool) (old_pending : List ℕ) (marks : List Bool) (pending : List ℕ) : Type 0 where
+-- each of these states that is allowed and has a mark is marked
+abbrev pub AllMarked : List Bool → List Bool → List ℕ → Type 0
+AllMarked allowed marks states = (state : ℕ) → Contains states state → state < length marks → IsMarked allowed state → IsMarked marks state
+
+-- the allowed ones of these states are marked and the newly marked ones pending, and nothing else has changed
+pub record AreMarked (states : List ℕ) (allowed old_marks : List Bool) (old_pending : List ℕ) (marks : List Bool) (pending : List ℕ) : Type 0 where
   pub same_length : length marks ≡ length old_marks
-  pub marked : AllMarked marks states
+  pub marked : AllMarked allowed marks states
+  pub within : (state : ℕ) → IsMarked marks state → IsMarked old_marks state ⊎ IsMarked allowed state
   pub kept : (state : ℕ) → IsMarked old_marks state → IsMarked marks state
   pub only : (state : ℕ) → IsMarked marks state → IsMarked old_marks state ⊎ (Contains states state × Contains pending state)
   pub still_pending : (state : ℕ) → Contains old_pending state → Contains pending state

@@ -3,6 +3,7 @@ use Rattle.std.specs.Prelude.{◌≡◌, ℕ, ◌+◌, ◌^◌, ◌<◌, ◌≤�
 use Rattle.rr_words.specs.Line.{line_of}
 use Rattle.rr_routes.specs.Certificates.{node_count}
 use Rattle.rr_routes.specs.declared.certificate.CertTree.{CertTree, Bound, Bad, Full, Split', Row_of-CertTree, end_of-CertTree, more_of-CertTree}
+use Rattle.rr_routes.specs.declared.certificate.TheConstants.{MOST_NODES}
 use Rattle.rr_routes.specs.declared.sheets.word.CertWord.{CertWord}
 use Rattle.rr_routes.specs.declared.sheets.word.CertWord.TheVariants as W
 use Rattle.rr_routes.specs.declared.sheets.fault.Fault.{Fault}
@@ -64,11 +65,11 @@ abbrev mutual
 unfoldable pub certificate_text : CertTree → List ℕ
 certificate_text tree = line_of (map word_text (words_of tree))
 
--- the text is that of a regular tree of at most 1,024 nodes
+-- the text is that of a regular tree of at most `MOST_NODES` nodes
 pub record Spells (text : List ℕ) (trains : ℕ) (tree : CertTree) : Type 0 where
   pub words : SpellsWords text (words_of tree)
   pub regular : IsRegular trains tree
-  pub small : node_count tree ≤ 1024
+  pub small : node_count tree ≤ MOST_NODES
 
 abbrev mutual
   -- the trees have the same nodes in the same places

@@ -23,7 +23,8 @@ pub fn marked_items<T: Copy>(
     Ok(marked)
 }
 
-fn is_marked(marks: &[bool], place: usize) -> bool
+/// Whether the place has a mark. A place past the end of the marks has none.
+pub fn is_marked(marks: &[bool], place: usize) -> bool
     ensures { result ≡ slice_index_or marks.now place false }
 {
     match marks.get(place) {

@@ -5,15 +5,12 @@ ghost use Rattle.rr_routes.specs.Sheets.Certificate.{IsRefusal, Spells, certific
 ghost use Rattle.rr_words.specs.Line.{line_of};
 ghost use Rattle.rr_routes.specs.Sheets.Growing.{IsStop, IsTreeOf};
 
-use crate::CertTree;
 use crate::sheets::fault::Fault;
 use crate::sheets::forest::Forest;
 use crate::sheets::word::{CertWord, cert_words};
 use crate::sheets::writing::write_place;
+use crate::{CertTree, MOST_NODES};
 use std::alloc::{AllocError, Global};
-
-/// The most nodes that a certificate may have.
-const NODES: usize = 1024;
 
 /// Reads the words of a certificate, with one space between each two: a tree in preorder, in which links and trains are
 /// numbered from 1. `s` and a link's number is a split, whose children follow, one more than the trains; `b`, `x` and a
@@ -21,7 +18,7 @@ const NODES: usize = 1024;
 ///
 /// # Errors
 /// `Malformed` where a word has none of these forms; else `CertificateRefused` where a number is 0, or the words aren't
-/// those of just one tree, or the tree has more than 1,024 nodes; `OutOfMemory` where it can't be held.
+/// those of just one tree, or the tree has more than `MOST_NODES` nodes; `OutOfMemory` where it can't be held.
 pub fn read_certificate(alloc: Global, trains: usize, text: &[u8]) -> Result<CertTree, Fault>
     ensures { MatchResult result (λ tree. Spells text.now trains tree) (λ fault. IsRefusal text.now trains fault) }
 {
@@ -36,7 +33,7 @@ fn grow(alloc: Global, trains: usize, words: &[CertWord]) -> Result<CertTree, Fa
     ensures tree { IfOk result (λ tree. IsTreeOf trains words.now tree) }
     ensures stopped { IfErr result (λ fault. IsStop fault ((tree : CertTree) → ¬ IsTreeOf trains words.now tree)) }
 {
-    if words.len() > NODES {
+    if words.len() > MOST_NODES {
         return Err(Fault::CertificateRefused);
     }
     let mut forest = Forest::new(alloc);

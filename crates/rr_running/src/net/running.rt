@@ -1,5 +1,6 @@
 //! The net over which a corporation runs.
 ghost use Rattle.std.specs.Prelude.{◌≡◌, ℕ, ◌≤◌, length, IfOk};
+ghost use Rattle.rr_kit.specs.declared.board.hex.TheConstants.{MOST_CENTRES};
 ghost use Rattle.rr_books.specs.Book.{Book};
 ghost use Rattle.rr_desk.specs.Layout.Layout.{IsLayoutOf};
 ghost use Rattle.rr_network.specs.Network.{net_of as network_of, network as network_of_book};
@@ -61,7 +62,7 @@ pub fn net_on_board(
     ensures value { IfOk result (λ net. net ≡ net_of board.now.hexes (network_of board.now tiles.now layout.now) corp trains.now phase) }
     ensures book { IfOk result (λ net. (book : Book) → IsLayoutOf book layout.now → net ≡ net_of board.now.hexes (network_of_book board.now tiles.now book) corp trains.now phase) }
     ensures modest { IfOk result (λ net. (centre : ℕ) → worth net centre ≤ 990) }
-    ensures few { IfOk result (λ net. HexesKeepTheirCentres board.now tiles.now layout.now.lays → length net.values ≤ 65536) }
+    ensures few { IfOk result (λ net. HexesKeepTheirCentres board.now tiles.now layout.now.lays → length net.values ≤ MOST_CENTRES) }
 {
     let network = Network::of(alloc, board, tiles, layout)?;
     let net = net_of(alloc, board, &network, corp, trains, phase)?;

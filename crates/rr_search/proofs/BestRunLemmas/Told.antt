@@ -9,6 +9,7 @@ use Rattle.rr_orders.specs.declared.order.Order.TheVariants.{RunBest}
 use Rattle.rr_roster.specs.declared.company.Corp.{Corp}
 use Rattle.rr_routes.specs.Net.{Net}
 use Rattle.rr_routes.specs.declared.certificate.CertTree.{CertTree}
+use Rattle.rr_routes.specs.declared.certificate.TheConstants.{MOST_NODES}
 use Rattle.rr_referee.specs.Revenue.{revenue_of}
 use Rattle.rr_running.specs.Running.{is_best, net_now}
 use Rattle.rr_search.specs.Found.{IsCertified}
@@ -36,7 +37,7 @@ large_tree net many = let nodes = more_nodes (length net.trains) (length net.lin
 
 -- what was found, in words, is a best run
 pub best_in_words : (net : Net) (c : Corp) (sheet : List TrainWord) (tree : CertTree) (run : WordedRun) → length net.links ≤ 9999999999 → length net.trains ≤ 120
-    → IsCertified net 1024 sheet tree → IsInWords net c sheet tree run → IsBestOn net c run
+    → IsCertified net MOST_NODES sheet tree → IsInWords net c sheet tree run → IsBestOn net c run
 best_in_words net c sheet tree run few trains found worded =
     let spells : SpellsSheet run.sheet sheet = record { short = sheet_short net few sheet found.revenue found.legal; spelled = worded.of_sheet } in
     let written : Spells run.certificate (length net.trains) tree =

@@ -7,6 +7,7 @@ use Rattle.rr_orders.specs.declared.order.Order.TheVariants.{RunBest}
 use Rattle.rr_roster.specs.declared.company.Corp.{Corp}
 use Rattle.rr_routes.specs.Net.{Net}
 use Rattle.rr_routes.specs.declared.certificate.CertTree.{CertTree}
+use Rattle.rr_routes.specs.declared.certificate.TheConstants.{MOST_NODES}
 use Rattle.rr_referee.specs.Revenue.{revenue_of}
 use Rattle.rr_referee.specs.Sheets.{IsLegal}
 use Rattle.rr_running.specs.Running.{IsBestVerdictOn, earned_on}
@@ -48,13 +49,13 @@ pub record IsBestOn (net : Net) (c : Corp) (run : WordedRun) : Type 0 where
 
 -- the tree that splits every link of the net in turn has more nodes than a certificate may have
 abbrev pub HasLargeTree : Net → Type 0
-HasLargeTree net = 1024 < whole_size (length net.trains) (length net.links)
+HasLargeTree net = MOST_NODES < whole_size (length net.trains) (length net.links)
 
 -- a legal sheet and a certificate that none earns more make a command of more than so many bytes
 pub record HasLongRun (net : Net) (c : Corp) (most : ℕ) : Type 0 where
   pub sheet : List TrainWord
   pub tree : CertTree
-  pub certified : IsCertified net 1024 sheet tree
+  pub certified : IsCertified net MOST_NODES sheet tree
   pub long : most < length (command_text c sheet tree)
 
 -- where no run need be given

@@ -19,12 +19,10 @@ use rr_checker::{CertTree, Net};
 use rr_desk::Position;
 use rr_kit::Kit;
 use rr_referee::legal;
+use rr_routes::MOST_NODES;
 use rr_routes::sheets::Sheet;
 use rr_running::net_now;
 use std::alloc::Global;
-
-/// The most nodes that a certificate may have.
-const NODES: usize = 1024;
 
 /// The most links that numbers of ten digits name.
 const MOST_LINKS: usize = 9_999_999_999;
@@ -35,8 +33,8 @@ const MOST_LINKS: usize = 9_999_999_999;
 ///
 /// # Errors
 ///
-/// `NoCertificate` comes only where the tree that splits every link of the board in turn has more than 1,024 nodes, or
-/// where the words of a best run with its certificate are longer than `most`; else `OutOfMemory`.
+/// `NoCertificate` comes only where the tree that splits every link of the board in turn has more than `MOST_NODES`
+/// nodes, or where the words of a best run with its certificate are longer than `most`; else `OutOfMemory`.
 pub fn best_run(
     alloc: Global,
     kit: &Kit,
@@ -66,7 +64,7 @@ fn best_over(alloc: Global, net: &Net, corp: Corp, most: usize) -> Result<BestRu
     if net.links().len() > MOST_LINKS {
         return Err(Fault::NoCertificate);
     }
-    let (sheet, tree) = best(alloc, net, NODES)?;
+    let (sheet, tree) = best(alloc, net, MOST_NODES)?;
     let run = worded(alloc, net, corp, &sheet, &tree)?;
     if run.as_bytes().len() > most {
         return Err(Fault::NoCertificate);

@@ -20,7 +20,7 @@ use Rattle.rr_tables.specs.Records.World.{TableState, World}
 use Rattle.rr_reading.specs.Worlds.Spelling.{Spells, SpellsTable, SpellsTables, ref_of, worlds}
 use Rattle.rr_reading.specs.Worlds.World.{Table}
 use Rattle.rr_reading.specs.Worlds.World as words
-use Rattle.rr_reading.proofs.WorldLemmas.Exact.{one_version}
+use Rattle.rr_reading.proofs.DirLemmas.VersionLemmas.{one_version}
 use Rattle.rr_store.specs.Recovery.Telling.{IsBase, IsWritten}
 use Rattle.rr_store.specs.Recovery.Texts.{NameTexts, texts_in}
 use Rattle.rr_store.specs.Recovery.Told.{EachHas, KeepSpelled, TellTables, TellsTable, TellsWords}
@@ -185,7 +185,7 @@ module _ (file : List ℕ) (has : Held) (holds : Holds file has) where
   tables_spelled : (world : words.World) → SpelledBy world → SpellsTables has.directory.tables (texts_of has.tables) world.tables
   tables_spelled world spells =
       let there : dir.Spells form.version has.chain.text spells.directory =
-      subst (λ (v : Version). dir.Spells v has.chain.text spells.directory) (one_version spells.version form.version) spells.spelled in
+      subst (λ (v : Version). dir.Spells v has.chain.text spells.directory) (one_version spells.version form.version (spells.numbered ∙ sym form.numbered)) spells.spelled in
       let same = one_directory form.version has.chain.text has.directory spells.directory form.spelled there in
       let of_tables : spells.of_tables ≡ texts_of has.tables = cc (spells.of_chains) in
       let here = subst (λ (d : Directory). SpellsTables d.tables spells.of_tables world.tables) (sym same) spells.tables in

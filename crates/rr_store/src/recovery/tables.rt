@@ -16,14 +16,9 @@ use rr_game::history::Table;
 use rr_kit::Kit;
 use rr_pages::{Damage, ReadChain};
 use rr_reading::dir::TableEntry;
-use rr_tables::Tables;
+use rr_tables::{MOST_TABLES, Tables};
+use rr_turns::LAST_STAMP;
 use std::alloc::Global;
-
-/// The most tables of a store.
-const MOST_TABLES: usize = 64;
-
-/// The last stamp of a table.
-const LAST_STAMP: u64 = 4_000_000_000;
 
 /// The tables of these entries, each played from its chain.
 pub(crate) fn restore_tables(

@@ -1,5 +1,4 @@
-use Rattle.std.proofs.Common.{◌≡◌, true, false, sym, ◌∙◌}
-use Rattle.rr_checker.specs.Trips.{is_missing}
+use Rattle.std.proofs.Common.{sym, ◌∙◌}
 use Rattle.rr_checker.proofs.JourneyLemmas.{missing_own, missing_links, no_route, found_trip}
 use Rattle.rr_checker.proofs.StepLemmas.{yes, no}
 use Rattle.rr_checker.proofs.journeys.from_centre.Goals as goal

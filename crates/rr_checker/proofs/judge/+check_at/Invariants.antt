@@ -1,4 +1,4 @@
-use Rattle.std.proofs.Common.{◌≡◌, ℕ, ◌<◌, List, get_or, set, length}
+use Rattle.std.proofs.Common.{◌≡◌, ℕ, ◌<◌, get_or, set, length}
 use Rattle.rr_routes.specs.declared.certificate.Fate.{Fate}
 use Rattle.rr_routes.specs.declared.certificate.CertTree.{CertTree}
 use Rattle.rr_routes.specs.Certificates.{AcceptsUnder}

@@ -1,5 +1,4 @@
-use Rattle.std.proofs.Common.{◌≡◌, length, refl, subst}
-use Rattle.std.specs.List.{slice_get}
+use Rattle.std.proofs.Common.{length, refl}
 use Rattle.std.proofs.lemmas.Option.{slice_get_read, slice_get_past}
 use Rattle.rr_routes.specs.Net.{LinkAt}
 use Rattle.rr_checker.proofs.RankLemmas.{on_ok}

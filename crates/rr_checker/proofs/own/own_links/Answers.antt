@@ -1,6 +1,5 @@
 use Rattle.std.proofs.Common.{◌≡◌, ◌≤◌, true, false, length, refl, sym, ◌∙◌, ap, arith}
 use Rattle.std.proofs.lemmas.List.{get_or_default}
-use Rattle.rr_routes.specs.declared.certificate.Fate.{Fate}
 use Rattle.rr_routes.specs.declared.certificate.Fate.TheVariants.{Open, Denied}
 use Rattle.rr_routes.specs.Certificates.{fate_of}
 use Rattle.rr_checker.specs.Own.{is_of}

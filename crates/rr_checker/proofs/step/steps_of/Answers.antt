@@ -1,8 +1,8 @@
-use Rattle.std.proofs.Common.{◌≡◌, ◌<◌, ◌∷◌, ◌++◌, [], List, length, get_or, sym, subst, ◌∙◌, ap, arith}
+use Rattle.std.proofs.Common.{◌≡◌, ◌<◌, ◌∷◌, ◌++◌, [], List, length, get_or, subst, ◌∙◌, ap, arith}
 use Rattle.std.proofs.lemmas.List.{get_or_default}
 use Rattle.rr_routes.specs.declared.net.Link.{Link}
 use Rattle.rr_checker.specs.declared.step.Step.{Step}
-use Rattle.rr_checker.proofs.StepLemmas.{no_link, steps_next_yes, steps_next_no, steps_done}
+use Rattle.rr_checker.proofs.StepLemmas.{no_link, steps_next, steps_done}
 use Rattle.rr_checker.proofs.step.steps_of.Goals as goal
 
 pub loop-place-preserved : goal.loop-place-preserved
@@ -13,16 +13,11 @@ loop-place-preserved c =
     let inside : c.loop-place.place < length c.args.net.now.links = subst (λ ls. c.loop-place.place < length ls) same c.loop-place-test.true in
     let here : link ≡ get_or c.args.net.now.links c.loop-place.place link =
     subst (λ ls. link ≡ get_or ls c.loop-place.place link) same (get_or_default links c.loop-place.place no_link link c.loop-place-test.true) in
-    steps_next_yes c.args.net.now c.args.fates.now c.args.train c.loop-place.place c.loop-place.steps.items c.push.new.self.items c.push-in-loop-place.new.self.items link c.loop-place.invariant
-    (sym c.may_use.ensures ∙ c.if-not-may_use.false) inside here
+    steps_next c.args.net.now c.loop-place.place c.loop-place.steps.items c.push.new.self.items c.push-in-loop-place.new.self.items link c.loop-place.invariant inside here
     (c.in_ok-push.ensures.items ∙ ap (λ (s : Step). c.loop-place.steps.items ++ s ∷ []) c.forward.ensures)
     (c.in_ok-push-2.ensures.items ∙ ap (λ (s : Step). c.push.new.self.items ++ s ∷ []) c.backward.ensures)
-
-pub loop-place-preserved-then-not-may_use : goal.loop-place-preserved-then-not-may_use
-loop-place-preserved-then-not-may_use c =
-    steps_next_no c.args.net.now c.args.fates.now c.args.train c.loop-place.place c.loop-place.steps.items c.loop-place.invariant (sym c.may_use.ensures ∙ c.if-not-may_use.true)
 
 pub returns : goal.returns
 returns c =
     let all : c.loop-place.place ≡ length c.args.net.now.links = omega (arith, ap (λ (ls : List Link). length ls) c.links-link-items.ensures) in
-    steps_done c.args.net.now c.args.fates.now c.args.train c.loop-place.place c.loop-place.steps.items c.loop-place.invariant all
+    steps_done c.args.net.now c.loop-place.place c.loop-place.steps.items c.loop-place.invariant all

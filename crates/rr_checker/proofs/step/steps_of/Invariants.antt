@@ -2,4 +2,4 @@ use Rattle.rr_checker.proofs.StepLemmas.{AreSteps}
 use Rattle.rr_checker.proofs.step.steps_of.Given as goal
 
 abbrev pub invariant-loop-place : goal.invariant-loop-place
-invariant-loop-place l = AreSteps l.net l.fates l.train l.place l.steps.items
+invariant-loop-place l = AreSteps l.net l.place l.steps.items

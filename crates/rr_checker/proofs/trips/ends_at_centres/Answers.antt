@@ -1,4 +1,4 @@
-use Rattle.std.proofs.Common.{◌<◌, length, sym, ◌∙◌, arith}
+use Rattle.std.proofs.Common.{◌<◌, length, sym, ◌∙◌}
 use Rattle.rr_checker.proofs.TripLemmas.{nonempty, Decides-ends}
 use Rattle.rr_checker.proofs.trips.ends_at_centres.Goals as goal
 

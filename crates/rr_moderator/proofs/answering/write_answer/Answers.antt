@@ -28,7 +28,7 @@ returns-in_err-table-in-Cash-clause-answer g c =
 
 pub returns-in_ok-table-in-Cash-clause-answer : goal.returns-in_ok-table-in-Cash-clause-answer
 returns-in_ok-table-in-Cash-clause-answer g c =
-    rw c.in-Cash.is (writes_at (held_of c.args.store.now).tables c.in-Cash.table (cash_answer (held_of c.args.store.now).kit c.in-Cash.of) (kept_in c.in_ok-table-in-Cash.field-0.now) c.write_cash.result c.write_cash.new.reply c.in_ok-table-in-Cash.ensures.found.1 (c.write_cash.ensures.answer _ c.in_ok-table-in-Cash.ensures.played))
+    rw (c.in-Cash.is, ← c.kit-in-Cash.ensures) (writes_at (held_of c.args.store.now).tables c.in-Cash.table (cash_answer c.kit-in-Cash.result.now c.in-Cash.of) (kept_in c.in_ok-table-in-Cash.field-0.now) c.write_cash.result c.write_cash.new.reply c.in_ok-table-in-Cash.ensures.found.1 (c.write_cash.ensures.answer (rw c.kit-in-Cash.ensures c.in_ok-table-in-Cash.ensures.played)))
 
 pub returns-in_err-table-in-Limit-clause-answer : goal.returns-in_err-table-in-Limit-clause-answer
 returns-in_err-table-in-Limit-clause-answer g c =

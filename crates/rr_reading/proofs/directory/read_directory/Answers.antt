@@ -22,7 +22,7 @@ returns-in_err-dir-clause-refused g c =
     let p = err_from_is_err_and c.from_residual-in_err-dir.result c.from_residual-in_err-dir.ensures.1 in
     let chain = c.in_ok-chain.field-0.chain in
     rw (p.1, p.2) (λ honest side taken.
-    form_told (g.D.Disk.state c.args.disk.now).content side c.args.root.now taken c.in-Some.version (marks_of c.in_ok-chain.field-0.reached) (held chain) _ (c.in_ok-chain.ensures.found honest side taken)
+    form_told (g.D.Disk.state c.args.disk.now).content side c.args.root.now taken c.in-Some.version (marks_of c.in_ok-chain.field-0.reached) (held chain) _ c.in-Some.ensures (c.in_ok-chain.ensures.found honest side taken)
     (λ is directory spells. c.in_err-dir.ensures.damaged (ap (λ (fault : FormFault). Err fault) is) directory (subst (λ (bytes : List ℕ). Spells c.in-Some.version bytes directory) (sym c.deref.ensures.value) spells)))
 
 pub returns-clause-found : goal.returns-clause-found

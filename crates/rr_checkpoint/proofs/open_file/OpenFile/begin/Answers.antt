@@ -1,27 +1,16 @@
-use Rattle.std.proofs.Common.{◌∙◌, ◌+◌, length, None, sym}
-use Rattle.rr_disk.proofs.MomentLemmas.{started, weaker}
+use Rattle.std.proofs.Common.{◌≡◌, ◌+◌, length, None, Option, ℕ, sym, subst}
+use Rattle.rr_disk.proofs.MomentLemmas.{weaker}
 use Rattle.rr_images.specs.Layout.{Keeps}
-use Rattle.rr_checkpoint.proofs.Records.{isnt_begun, none_there, found_carries, begin_stops, begin_carries}
+use Rattle.rr_checkpoint.specs.OpenFile.{IsBegunAt}
+use Rattle.rr_checkpoint.proofs.Records.{begin_stops, begin_carries}
 use Rattle.rr_checkpoint.proofs.Working.{on_err, is_long, no_short_half}
 use Rattle.rr_checkpoint.proofs.open_file.OpenFile.begin.Goals as goal
-
-pub returns-then-is_some-clause-stops : goal.returns-then-is_some-clause-stops
-returns-then-is_some-clause-stops g c = λ honest world carries.
-    let disk = c.args.disk.now in
-    started (g.D.Disk.past disk) (g.D.Disk.state disk) (λ image. Keeps g.C.Codec.codec image world)
-    (λ image is. record { layout = carries.layout; kept = carries.between.each image is })
-
-pub returns-then-is_some-clause-carries : goal.returns-then-is_some-clause-carries
-returns-then-is_some-clause-carries g c = λ honest world carries plan holding is_plan coming.
-    let state = g.D.Disk.state c.args.disk.now in
-    found_carries g.C.Codec.codec c.args.self.now state world (g.met.D.Disk.content_may_stay c.args.disk.now honest) carries plan holding is_plan coming
-    (sym c.is_some.ensures ∙ c.if-is_some.true)
 
 pub returns-in_err-shut-clause-stops : goal.returns-in_err-shut-clause-stops
 returns-in_err-shut-clause-stops g c = λ honest world carries.
     let file = c.args.self.now in
     let stays = g.met.D.Disk.content_may_stay c.args.disk.now (c.in_err-shut.ensures.honest honest) in
-    let none = isnt_begun file.place.begun (carries.layout.root.first + length carries.layout.near) carries.layout.far (sym c.is_some.ensures ∙ c.if-is_some.false) carries.tells.begun in
+    let none = subst (λ (begun : Option ℕ). IsBegunAt begun (carries.layout.root.first + length carries.layout.near) carries.layout.far) c.requires carries.tells.begun in
     weaker (c.in_err-shut.ensures.any_moment honest) (λ image. Keeps g.C.Codec.codec image world)
     (begin_stops g.C.Codec.codec file (g.D.Disk.state c.args.disk.now) world stays carries none c.other.result c.other.ensures c.next_gate.result c.next_gate.ensures.place)
 
@@ -29,17 +18,17 @@ pub returns-clause-stops : goal.returns-clause-stops
 returns-clause-stops g c = λ honest world carries.
     let file = c.args.self.now in
     let stays = g.met.D.Disk.content_may_stay c.args.disk.now (c.in_ok-shut.ensures.honest honest) in
-    let none = isnt_begun file.place.begun (carries.layout.root.first + length carries.layout.near) carries.layout.far (sym c.is_some.ensures ∙ c.if-is_some.false) carries.tells.begun in
+    let none = subst (λ (begun : Option ℕ). IsBegunAt begun (carries.layout.root.first + length carries.layout.near) carries.layout.far) c.requires carries.tells.begun in
     weaker (c.in_ok-shut.ensures.any_moment honest) (λ image. Keeps g.C.Codec.codec image world)
     (begin_stops g.C.Codec.codec file (g.D.Disk.state c.args.disk.now) world stays carries none c.other.result c.other.ensures c.next_gate.result c.next_gate.ensures.place)
 
 pub returns-clause-carries : goal.returns-clause-carries
-returns-clause-carries g c = λ honest world carries plan holding is_plan coming.
+returns-clause-carries g c = λ honest world carries plan holding is_plan coming next.
     let file = c.args.self.now in
     let stays = g.met.D.Disk.content_may_stay c.args.disk.now (c.in_ok-shut.ensures.honest honest) in
-    let none = isnt_begun file.place.begun (carries.layout.root.first + length carries.layout.near) carries.layout.far (sym c.is_some.ensures ∙ c.if-is_some.false) carries.tells.begun in
+    let none = subst (λ (begun : Option ℕ). IsBegunAt begun (carries.layout.root.first + length carries.layout.near) carries.layout.far) c.requires carries.tells.begun in
     begin_carries g.C.Codec.codec file (g.D.Disk.state c.args.disk.now) world stays carries none c.other.result c.other.ensures c.next_gate.result c.next_gate.ensures.place
-    plan holding is_plan coming (g.D.Disk.state c.shut.new.disk) (c.in_ok-shut.ensures.done honest)
+    plan holding is_plan coming next (g.D.Disk.state c.shut.new.disk) (c.in_ok-shut.ensures.done honest)
 
 pub returns-in_err-shut-clause-device : goal.returns-in_err-shut-clause-device
 returns-in_err-shut-clause-device g c =
@@ -49,9 +38,3 @@ returns-in_err-shut-clause-device g c =
     let before = c.in_err-shut.ensures.honest honest in
     let enough = is_long g.C.Codec.codec c.args.self.now None (g.D.Disk.state disk) world (g.met.D.Disk.content_may_stay disk before) carries (g.D.Disk.file_len disk) (g.met.D.Disk.length_is_told disk before) in
     no_short_half (g.D.Disk.file_len disk) c.next_gate.result enough c.next_gate.ensures.small (c.in_err-shut.ensures.refused works))
-
-pub returns-in_err-shut-clause-no_call : goal.returns-in_err-shut-clause-no_call
-returns-in_err-shut-clause-no_call g c = λ some. absurd (some (none_there c.args.self.now.place.begun (sym c.is_some.ensures ∙ c.if-is_some.false)))
-
-pub returns-clause-no_call : goal.returns-clause-no_call
-returns-clause-no_call g c = λ some. absurd (some (none_there c.args.self.now.place.begun (sym c.is_some.ensures ∙ c.if-is_some.false)))

@@ -48,6 +48,6 @@ loop-table-preserved g c =
     let next = c.lay_table.new.writer in
     record {
       laid = next_laid (present_of (free_of writer)) (present_of (free_of now)) (coming_of (free_of writer)) (coming_of (free_of now)) (coming_of (free_of next)) c.loop-table.fresh.items c.lay_table.new.fresh.items c.args.tables.now c.loop-table.table-index c.table-item.result c.loop-table.entries.items c.push.new.self.items c.in_ok-entry.entry
-          (omega (arith, c.loop-table-test.true)) c.table-item.is c.loop-table.invariant.only.present c.loop-table.invariant.laid c.in_ok-entry.ensures.laid c.in_ok-entry.ensures.entry c.in_ok-push.ensures.items;
+          (omega (arith, c.loop-table-test.true)) c.table-item.is c.loop-table.invariant.only.present c.loop-table.invariant.laid c.in_ok-entry.ensures.laid c.in_ok-entry.ensures.entry c.in_ok-entry.ensures.count c.in_ok-push.ensures.items;
       only = onward (worlds g.R.Rules.takes) writer now next c.loop-table.invariant.only c.lay_table.ensures.only;
     }

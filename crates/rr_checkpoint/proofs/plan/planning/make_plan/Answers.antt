@@ -4,7 +4,7 @@ use Rattle.rr_checkpoint.specs.Writer.{free_of}
 use Rattle.rr_checkpoint.specs.declared.checkpoint.Plan.{Plan}
 use Rattle.rr_reading.specs.Dir.Directory.{spelling}
 use Rattle.rr_reading.specs.declared.dir.directory.KitChains.{KitChains}
-use Rattle.rr_reading.specs.declared.dir.version.Version.TheVariants.{One}
+use Rattle.rr_reading.specs.declared.dir.version.TheConstants.{NEWEST}
 use Rattle.rr_images.proofs.Commits.{settled_may_stay}
 use Rattle.rr_pages.specs.declared.fault.Fault.{Fault}
 use Rattle.rr_pages.specs.declared.fault.Fault.TheVariants.{FileFull}
@@ -15,7 +15,7 @@ use Rattle.rr_checkpoint.specs.declared.plan.table.TableTranscript.{TableTranscr
 use Rattle.rr_checkpoint.specs.Plan.Kit.{kit_chains, text_pages}
 use Rattle.rr_checkpoint.specs.Plan.Laying.{fresh_pages}
 use Rattle.rr_checkpoint.specs.Plan.Transcript.{table_of, tables_of}
-use Rattle.rr_checkpoint.proofs.PlanLemmas.DirectoryLemmas.{entries_within, few_fresh, takes_fresh, too_few_all}
+use Rattle.rr_checkpoint.proofs.PlanLemmas.DirectoryLemmas.{entries_within, fresh_counted, takes_fresh, too_few_all}
 use Rattle.rr_checkpoint.proofs.PlanLemmas.Frames.{onward, same_root}
 use Rattle.rr_checkpoint.proofs.PlanLemmas.LaidTables.{laid_same, some_laid, too_few_same}
 use Rattle.rr_checkpoint.proofs.PlanLemmas.Plans.{planned}
@@ -70,8 +70,8 @@ returns-in_err-plan-clause-full g c = λ full.
     let kit = c.args.kit.now in
     let entries = c.in_ok-entries.entries.items in
     let start = all_marked (coming_of (free_of writer)) (text_pages kit) in
-    let bytes : c.deref-2.result.now ≡ spelling One (record { kit = kit_chains kit; tables = entries }) =
-    c.deref-2.ensures.value ∙ (c.in_ok-directory.ensures.bytes ∙ ap (λ (chains : KitChains). spelling One (record { kit = chains; tables = entries })) c.chains.ensures) in
+    let bytes : c.deref-2.result.now ≡ spelling NEWEST (record { kit = kit_chains kit; tables = entries }) =
+    c.deref-2.ensures.value ∙ (c.in_ok-directory.ensures.bytes ∙ ap (λ (chains : KitChains). spelling NEWEST (record { kit = chains; tables = entries })) c.chains.ensures) in
     too_few_all (present_of (free_of writer)) start (coming_of (free_of laid)) c.lay_tables.new.fresh.items (tables_of c.args.transcript.now) entries (kit_chains kit) c.deref-2.result.now
     (laid_same (present_of (free_of kept)) (present_of (free_of writer)) (coming_of (free_of kept)) start (coming_of (free_of laid)) c.lay_tables.new.fresh.items (map table_of c.deref.result.now) (tables_of c.args.transcript.now) entries
     c.keep_texts.ensures.only.present c.keep_texts.ensures.coming (ap (λ (parts : List TableTranscript). map table_of parts) c.deref.ensures.value) c.in_ok-entries.ensures.laid)
@@ -89,8 +89,8 @@ returns-clause-plan g c = λ state world carries of.
     let transcript = c.args.transcript.now in
     let entries = c.in_ok-entries.entries.items in
     let start = all_marked (coming_of (free_of writer)) (text_pages kit) in
-    let bytes : c.deref-2.result.now ≡ spelling One (record { kit = kit_chains kit; tables = entries }) =
-    c.deref-2.ensures.value ∙ (c.in_ok-directory.ensures.bytes ∙ ap (λ (chains : KitChains). spelling One (record { kit = chains; tables = entries })) c.chains.ensures) in
+    let bytes : c.deref-2.result.now ≡ spelling NEWEST (record { kit = kit_chains kit; tables = entries }) =
+    c.deref-2.ensures.value ∙ (c.in_ok-directory.ensures.bytes ∙ ap (λ (chains : KitChains). spelling NEWEST (record { kit = chains; tables = entries })) c.chains.ensures) in
     let only = onward codec writer kept laid c.keep_texts.ensures.only c.lay_tables.ensures.only in
     let then = only.carries state world carries in
     let keeps = carries.between.each state.settled (settled_may_stay state) in
@@ -113,20 +113,20 @@ returns-clause-some g c =
     let laid = c.lay_tables.new.writer in
     some_laid (present_of (free_of laid)) (coming_of (free_of laid)) (coming_of (free_of c.plan.new.self)) c.deref-2.result.now c.lay_tables.new.fresh.items c.in_ok-plan.plan.fresh.items c.in_ok-plan.plan.root.directory c.in_ok-plan.ensures.laid
 
-pub returns-clause-few : goal.returns-clause-few
-returns-clause-few g c =
+pub returns-clause-count : goal.returns-clause-count
+returns-clause-count g c =
     let kept = c.keep_texts.new.writer in
     let laid = c.lay_tables.new.writer in
     let kit = c.args.kit.now in
     let transcript = c.args.transcript.now in
     let entries = c.in_ok-entries.entries.items in
     let plan = c.in_ok-plan.plan in
-    let bytes : c.deref-2.result.now ≡ spelling One (record { kit = kit_chains kit; tables = entries }) =
-    c.deref-2.ensures.value ∙ (c.in_ok-directory.ensures.bytes ∙ ap (λ (chains : KitChains). spelling One (record { kit = chains; tables = entries })) c.chains.ensures) in
-    few_fresh (present_of (free_of laid)) (coming_of (free_of kept)) (coming_of (free_of laid)) (coming_of (free_of c.plan.new.self)) c.lay_tables.new.fresh.items plan.fresh.items (tables_of transcript) entries (kit_chains kit) c.deref-2.result.now plan.root.directory
+    let bytes : c.deref-2.result.now ≡ spelling NEWEST (record { kit = kit_chains kit; tables = entries }) =
+    c.deref-2.ensures.value ∙ (c.in_ok-directory.ensures.bytes ∙ ap (λ (chains : KitChains). spelling NEWEST (record { kit = chains; tables = entries })) c.chains.ensures) in
+    fresh_counted (present_of (free_of laid)) (coming_of (free_of kept)) (coming_of (free_of laid)) c.lay_tables.new.fresh.items plan.fresh.items (tables_of transcript) entries (kit_chains kit) c.deref-2.result.now
     (laid_same (present_of (free_of kept)) (present_of (free_of laid)) (coming_of (free_of kept)) (coming_of (free_of kept)) (coming_of (free_of laid)) c.lay_tables.new.fresh.items (map table_of c.deref.result.now) (tables_of transcript) entries
     (sym c.lay_tables.ensures.only.present) refl (ap (λ (parts : List TableTranscript). map table_of parts) c.deref.ensures.value) c.in_ok-entries.ensures.laid)
-    bytes c.in_ok-plan.ensures.laid
+    bytes c.in_ok-plan.ensures.count
 
 pub returns-clause-laid : goal.returns-clause-laid
 returns-clause-laid g c =

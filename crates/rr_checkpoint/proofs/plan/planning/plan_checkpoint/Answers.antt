@@ -1,4 +1,6 @@
 use Rattle.std.proofs.Common.{◌∙◌, Bool, List, ap, subst}
+use Rattle.std.proofs.lemmas.List.{length-map}
+use Rattle.rr_pages.specs.declared.chain.FreshPage.{FreshPage}
 use Rattle.rr_checkpoint.specs.Planning.{MayBegin}
 use Rattle.rr_checkpoint.specs.Writer.{free_of}
 use Rattle.rr_images.specs.Layout.{Layout}
@@ -9,7 +11,7 @@ use Rattle.rr_checkpoint.specs.Plan.Laying.{fresh_pages, needed_pages}
 use Rattle.rr_checkpoint.specs.Plan.Planning.{IsOfLayout, HoldsTexts}
 use Rattle.rr_checkpoint.specs.Plan.Transcript.{tables_of}
 use Rattle.rr_checkpoint.proofs.PlanLemmas.Frames.{onward, same_root}
-use Rattle.rr_checkpoint.proofs.PlanLemmas.LaidTables.{too_few_same}
+use Rattle.rr_checkpoint.proofs.PlanLemmas.LaidTables.{never_too_few, too_few_same}
 use Rattle.rr_checkpoint.proofs.PlanLemmas.Plans.{one_start}
 use Rattle.rr_reading.specs.Worlds.Spelling.{worlds}
 use Rattle.rr_checkpoint.proofs.plan.planning.plan_checkpoint.Goals as goal
@@ -70,3 +72,9 @@ returns-in-Ok-clause-laid g c = λ none reached.
     let after = coming_of (free_of c.make_plan.new.writer) in
     subst (λ (start : List Bool). TakesFree (present_of (free_of writer)) start (fresh_pages plan) after) (one_start (coming_of (free_of begun)) none pages c.abandon.ensures.coming begun.file.free.coming.whole reached)
     (subst (λ (present : List Bool). TakesFree present (all_marked (coming_of (free_of begun)) pages) (fresh_pages plan) after) c.abandon.ensures.present c.in-Ok.ensures.laid)
+
+pub returns-in-Ok-clause-fits : goal.returns-in-Ok-clause-fits
+returns-in-Ok-clause-fits g c = λ none reached few.
+    let plan = c.in-Ok.plan in
+    never_too_few (present_of (free_of c.args.writer.now)) (all_marked none (text_pages c.args.kit.now)) (coming_of (free_of c.make_plan.new.writer)) (fresh_pages plan) (needed_pages (tables_of c.args.transcript.now))
+    (returns-in-Ok-clause-laid g c none reached) (length-map plan.fresh.items (λ (fresh : FreshPage). fresh.page) ∙ c.in-Ok.ensures.count) few

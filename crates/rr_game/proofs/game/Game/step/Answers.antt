@@ -18,21 +18,21 @@ returns-in_err-act-clause-verdict c accepted h =
     (unnamed c.args.kit.now c.args.self.now.players (players_of accepted) state c.args.command.now _ h.players
     (c.in_ok-judge_end.ensures state h.standing) (c.in_err-act.ensures state h.standing))
 
-pub returns-in_err-standing-clause-verdict : goal.returns-in_err-standing-clause-verdict
-returns-in_err-standing-clause-verdict c accepted h =
-    let p = err_from_is_err_and c.from_residual-in_err-standing.result c.from_residual-in_err-standing.ensures.1 in
+pub returns-in_err-taken-clause-verdict : goal.returns-in_err-taken-clause-verdict
+returns-in_err-taken-clause-verdict c accepted h =
+    let p = err_from_is_err_and c.from_residual-in_err-taken.result c.from_residual-in_err-taken.ensures.1 in
     let state = play c.args.kit.now accepted in
     rw (p.1, p.2)
     (command_refused c.args.kit.now c.args.self.now.players (players_of accepted) state c.args.command.now c.in_ok-act.act _ h.players
-    c.in_ok-act.ensures.0 (c.in_ok-judge_end.ensures state h.standing) (c.in_err-standing.ensures.verdict state h.standing))
+    c.in_ok-act.ensures.0 (c.in_ok-judge_end.ensures state h.standing) (c.in_err-taken.ensures.verdict state h.standing))
 
 pub returns-clause-verdict : goal.returns-clause-verdict
 returns-clause-verdict c accepted h =
     let state = play c.args.kit.now accepted in
     command_lawful c.args.kit.now c.args.self.now.players (players_of accepted) state c.args.command.now c.in_ok-act.act h.players
-    c.in_ok-act.ensures.0 (c.in_ok-judge_end.ensures state h.standing) (c.in_ok-standing.ensures.verdict state h.standing)
+    c.in_ok-act.ensures.0 (c.in_ok-judge_end.ensures state h.standing) (c.in_ok-taken.ensures.verdict state h.standing)
 
 pub returns-clause-game : goal.returns-clause-game
 returns-clause-game c accepted h =
     stepped c.args.kit.now accepted c.args.command.now c.in_ok-act.act c.args.self.now _ h c.in_ok-act.ensures.0 refl refl
-    (c.in_ok-standing.ensures.standing _ h.standing)
+    (c.in_ok-taken.ensures.standing _ h.standing)

@@ -1,5 +1,6 @@
 use Rattle.std.proofs.Common.{inl}
 use Rattle.rr_disk.proofs.MomentLemmas.{started, weaker}
+use Rattle.rr_pages.specs.declared.root.TheConstants.{NEWEST_VERSION}
 use Rattle.rr_reading.specs.Worlds.Spelling.{worlds}
 use Rattle.rr_log.specs.Formatting.Formatted.{KeepsNoneOr}
 use Rattle.rr_log.specs.Formatting.NewFile.{empty_world}
@@ -10,7 +11,7 @@ pub returns-in_err-file-clause-any_moment : goal.returns-in_err-file-clause-any_
 returns-in_err-file-clause-any_moment g c = λ honest unused.
     let disk = c.args.disk.now in
     started (g.D.Disk.past disk) (g.D.Disk.state disk)
-    (KeepsNoneOr (worlds g.R.Rules.takes) (empty_world c.args.chart.now c.args.roster.now c.args.tiles.now c.args.board.now)) (λ image was. inl (unused.none image was))
+    (KeepsNoneOr (worlds g.R.Rules.takes) NEWEST_VERSION (empty_world c.args.chart.now c.args.roster.now c.args.tiles.now c.args.board.now)) (λ image was. inl (unused.none image was))
 
 pub returns-in_err-write_new_file-clause-any_moment : goal.returns-in_err-write_new_file-clause-any_moment
 returns-in_err-write_new_file-clause-any_moment g c = λ honest unused.
@@ -18,14 +19,14 @@ returns-in_err-write_new_file-clause-any_moment g c = λ honest unused.
     let world = empty_world c.args.chart.now c.args.roster.now c.args.tiles.now c.args.board.now in
     let file = c.in_ok-file.file in
     let is = c.in_ok-file.ensures.holds in
-    weaker (c.in_err-write_new_file.ensures.any_moment honest unused world is) (KeepsNoneOr (worlds takes) world) (none_or_keeps takes file.root file.fresh.items world is)
+    weaker (c.in_err-write_new_file.ensures.any_moment honest unused world is) (KeepsNoneOr (worlds takes) NEWEST_VERSION world) (none_or_keeps takes file.root file.fresh.items world is NEWEST_VERSION c.in_ok-file.ensures.version)
 
 pub returns-clause-each : goal.returns-clause-each
 returns-clause-each g c = λ honest empty image was.
     let world = empty_world c.args.chart.now c.args.roster.now c.args.tiles.now c.args.board.now in
     let file = c.in_ok-file.file in
     let is = c.in_ok-file.ensures.holds in
-    formatted_keeps g.R.Rules.takes file.root file.fresh.items world is image (c.in_ok-write_new_file.ensures.each honest empty world is image was)
+    formatted_keeps g.R.Rules.takes file.root file.fresh.items world is NEWEST_VERSION c.in_ok-file.ensures.version image (c.in_ok-write_new_file.ensures.each honest empty world is image was)
 
 pub returns-clause-any_moment : goal.returns-clause-any_moment
 returns-clause-any_moment g c = λ honest unused.
@@ -33,4 +34,4 @@ returns-clause-any_moment g c = λ honest unused.
     let world = empty_world c.args.chart.now c.args.roster.now c.args.tiles.now c.args.board.now in
     let file = c.in_ok-file.file in
     let is = c.in_ok-file.ensures.holds in
-    weaker (c.in_ok-write_new_file.ensures.any_moment honest unused world is) (KeepsNoneOr (worlds takes) world) (none_or_keeps takes file.root file.fresh.items world is)
+    weaker (c.in_ok-write_new_file.ensures.any_moment honest unused world is) (KeepsNoneOr (worlds takes) NEWEST_VERSION world) (none_or_keeps takes file.root file.fresh.items world is NEWEST_VERSION c.in_ok-file.ensures.version)

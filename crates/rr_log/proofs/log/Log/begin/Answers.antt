@@ -1,9 +1,14 @@
-use Rattle.std.proofs.Common.{◌∙◌, sym, ap, subst, arith}
+use Rattle.std.proofs.Common.{◌≡◌, ◌⊎◌, ◌≤◌, ◌∙◌, length, sym, ap, subst, arith}
+use Rattle.rr_checkpoint.specs.declared.place.Place.{Place}
+use Rattle.rr_checkpoint.specs.Checkpoint.{left_behind_first}
+use Rattle.rr_checkpoint.specs.Writer as file
+use Rattle.rr_pages.specs.declared.journal.half.Half.{Half}
+use Rattle.rr_log.specs.Log.{place_of}
 use Rattle.rr_checkpoint.specs.Calls.{LeavesKept}
 use Rattle.rr_disk.proofs.MomentLemmas.{started, stays}
 use Rattle.rr_images.specs.Layout.{Keeps, Layout, Begun, far_lines}
 use Rattle.rr_log.specs.Carrying.{Carries, IsPlanned}
-use Rattle.rr_log.proofs.Carried.{kept_now, begun_carries}
+use Rattle.rr_log.proofs.Carried.{kept_now, begun_carries, half_behind, some_behind, starts_with}
 use Rattle.rr_reading.specs.Worlds.Spelling.{worlds}
 use Rattle.rr_log.proofs.log.Log.begin.Goals as goal
 
@@ -23,27 +28,43 @@ returns-in_err-plan-clause-carries g c = λ honest whole world lent carries.
 pub returns-in-Ok-clause-stops : goal.returns-in-Ok-clause-stops
 returns-in-Ok-clause-stops g c = λ honest world carries.
     let log = c.args.self.now in
+    let codec = worlds g.R.Rules.takes in
+    let planned = c.plan.new.self in
     let new = c.begin.new.disk in
-    let there = subst (λ (disk : g.row.D.Denot). Carries g.R.Rules.takes c.plan.new.self (g.D.Disk.state disk) world) (sym c.plan.ensures.unchanged.disk)
+    let there = subst (λ (disk : g.row.D.Denot). Carries g.R.Rules.takes planned (g.D.Disk.state disk) world) (sym c.plan.ensures.unchanged.disk)
     (c.plan.ensures.carries (g.D.Disk.state log.disk) world carries) in
-    subst (λ (disk : g.row.D.Denot). LeavesKept (worlds g.R.Rules.takes) (g.D.Disk.past disk) (g.D.Disk.state disk) (g.D.Disk.past new) (g.D.Disk.state new) world) c.plan.ensures.unchanged.disk
-    (c.in-Ok.ensures.stops honest world there.carried)
+    let starts =
+    starts_with codec planned.writer (g.D.Disk.state planned.disk) world c.in_ok-plan.plan (place_of planned).begun there.carried
+    (λ found.
+    let plan = subst (λ (disk : g.row.D.Denot). IsPlanned g.R.Rules.takes planned c.in_ok-plan.plan (g.D.Disk.state disk) world carries.carried.layout) (sym c.plan.ensures.unchanged.disk)
+    (c.in_ok-plan.ensures.found (g.D.Disk.state log.disk) world (λ none. found (ap (λ (place : Place). place.begun) c.plan.ensures.unchanged.place ∙ none)) carries) in
+    (plan.carries.carried, plan.may)) in
+    subst (λ (disk : g.row.D.Denot). LeavesKept codec (g.D.Disk.past disk) (g.D.Disk.state disk) (g.D.Disk.past new) (g.D.Disk.state new) world) c.plan.ensures.unchanged.disk
+    (c.in-Ok.ensures.stops honest world starts.0 starts.1)
 
 pub returns-in-Err-clause-stops : goal.returns-in-Err-clause-stops
 returns-in-Err-clause-stops g c = λ honest world carries.
     let log = c.args.self.now in
+    let codec = worlds g.R.Rules.takes in
+    let planned = c.plan.new.self in
     let new = c.begin.new.disk in
-    let there = subst (λ (disk : g.row.D.Denot). Carries g.R.Rules.takes c.plan.new.self (g.D.Disk.state disk) world) (sym c.plan.ensures.unchanged.disk)
+    let there = subst (λ (disk : g.row.D.Denot). Carries g.R.Rules.takes planned (g.D.Disk.state disk) world) (sym c.plan.ensures.unchanged.disk)
     (c.plan.ensures.carries (g.D.Disk.state log.disk) world carries) in
-    subst (λ (disk : g.row.D.Denot). LeavesKept (worlds g.R.Rules.takes) (g.D.Disk.past disk) (g.D.Disk.state disk) (g.D.Disk.past new) (g.D.Disk.state new) world) c.plan.ensures.unchanged.disk
-    (c.in-Err.ensures.stops honest world there.carried)
+    let starts =
+    starts_with codec planned.writer (g.D.Disk.state planned.disk) world c.in_ok-plan.plan (place_of planned).begun there.carried
+    (λ found.
+    let plan = subst (λ (disk : g.row.D.Denot). IsPlanned g.R.Rules.takes planned c.in_ok-plan.plan (g.D.Disk.state disk) world carries.carried.layout) (sym c.plan.ensures.unchanged.disk)
+    (c.in_ok-plan.ensures.found (g.D.Disk.state log.disk) world (λ none. found (ap (λ (place : Place). place.begun) c.plan.ensures.unchanged.place ∙ none)) carries) in
+    (plan.carries.carried, plan.may)) in
+    subst (λ (disk : g.row.D.Denot). LeavesKept codec (g.D.Disk.past disk) (g.D.Disk.state disk) (g.D.Disk.past new) (g.D.Disk.state new) world) c.plan.ensures.unchanged.disk
+    (c.in-Err.ensures.stops honest world starts.0 starts.1)
 
 pub returns-in-Ok-clause-carries : goal.returns-in-Ok-clause-carries
 returns-in-Ok-clause-carries g c = λ honest whole world lent carries.
     let log = c.args.self.now in
     let planned = subst (λ (disk : g.row.D.Denot). IsPlanned g.R.Rules.takes c.plan.new.self c.in_ok-plan.plan (g.D.Disk.state disk) world carries.carried.layout) (sym c.plan.ensures.unchanged.disk)
     (c.in_ok-plan.ensures.plan (g.D.Disk.state log.disk) world lent carries) in
-    let left = c.in-Ok.ensures.left in
+    let left = some_behind (place_of c.plan.new.self).begun (length c.in_ok-plan.plan.fresh.items) (file.ticks_left_of c.begin.new.self) c.in_ok-plan.ensures.some c.in-Ok.ensures.left in
     begun_carries g.R.Rules.takes c.plan.new.self (g.D.Disk.state c.plan.new.self.disk) world planned.carries c.begin.new.disk c.begin.new.self (g.D.Disk.state c.begin.new.disk)
     planned.may.holding planned.texts (omega (arith, left)) (c.in-Ok.ensures.carries honest world planned.carries.carried planned.may)
 
@@ -53,7 +74,7 @@ returns-in-Ok-clause-starts g c = λ honest world lent carries.
     let codec = worlds g.R.Rules.takes in
     let planned = subst (λ (disk : g.row.D.Denot). IsPlanned g.R.Rules.takes c.plan.new.self c.in_ok-plan.plan (g.D.Disk.state disk) world carries.carried.layout) (sym c.plan.ensures.unchanged.disk)
     (c.in_ok-plan.ensures.plan (g.D.Disk.state log.disk) world lent carries) in
-    let left = c.in-Ok.ensures.left in
+    let left = some_behind (place_of c.plan.new.self).begun (length c.in_ok-plan.plan.fresh.items) (file.ticks_left_of c.begin.new.self) c.in_ok-plan.ensures.some c.in-Ok.ensures.left in
     let begun = c.in-Ok.ensures.carries honest world planned.carries.carried planned.may in (
       begun_carries g.R.Rules.takes c.plan.new.self (g.D.Disk.state c.plan.new.self.disk) world planned.carries c.begin.new.disk c.begin.new.self (g.D.Disk.state c.begin.new.disk)
           planned.may.holding planned.texts (omega (arith, left)) begun,
@@ -67,6 +88,35 @@ returns-in-Ok-clause-starts g c = λ honest world lent carries.
 pub returns-in-Err-clause-device : goal.returns-in-Err-clause-device
 returns-in-Err-clause-device g c = λ honest world carries.
     let log = c.args.self.now in
-    let there = subst (λ (disk : g.row.D.Denot). Carries g.R.Rules.takes c.plan.new.self (g.D.Disk.state disk) world) (sym c.plan.ensures.unchanged.disk)
+    let codec = worlds g.R.Rules.takes in
+    let planned = c.plan.new.self in
+    let there = subst (λ (disk : g.row.D.Denot). Carries g.R.Rules.takes planned (g.D.Disk.state disk) world) (sym c.plan.ensures.unchanged.disk)
     (c.plan.ensures.carries (g.D.Disk.state log.disk) world carries) in
-    c.in-Err.ensures.device honest world there.carried
+    let starts =
+    starts_with codec planned.writer (g.D.Disk.state planned.disk) world c.in_ok-plan.plan (place_of planned).begun there.carried
+    (λ found.
+    let plan = subst (λ (disk : g.row.D.Denot). IsPlanned g.R.Rules.takes planned c.in_ok-plan.plan (g.D.Disk.state disk) world carries.carried.layout) (sym c.plan.ensures.unchanged.disk)
+    (c.in_ok-plan.ensures.found (g.D.Disk.state log.disk) world (λ none. found (ap (λ (place : Place). place.begun) c.plan.ensures.unchanged.place ∙ none)) carries) in
+    (plan.carries.carried, plan.may)) in
+    c.in-Err.ensures.device honest world starts.0 starts.1
+
+pub returns-in-Ok-clause-left : goal.returns-in-Ok-clause-left
+returns-in-Ok-clause-left g c = c.in-Ok.ensures.left ∙ (λ i. left_behind_first (c.plan.ensures.unchanged.place i).begun (c.in_ok-plan.ensures.count i))
+
+pub returns-in-Ok-clause-some : goal.returns-in-Ok-clause-some
+returns-in-Ok-clause-some g c =
+    let pages = length c.in_ok-plan.plan.fresh.items in
+    some_behind (place_of c.plan.new.self).begun pages (file.ticks_left_of c.begin.new.self) c.in_ok-plan.ensures.some c.in-Ok.ensures.left
+
+pub returns-in-Ok-clause-most : goal.returns-in-Ok-clause-most
+returns-in-Ok-clause-most g c =
+    let left = c.in-Ok.ensures.left ∙ (λ i. left_behind_first (c.plan.ensures.unchanged.place i).begun (c.in_ok-plan.ensures.count i)) in
+    omega (arith, left)
+
+pub returns-in-Ok-clause-half : goal.returns-in-Ok-clause-half
+returns-in-Ok-clause-half g c =
+    let pages = length c.in_ok-plan.plan.fresh.items in
+    let old = (place_of c.plan.new.self).half in
+    let new = (file.place_of c.begin.new.self).half in
+    subst (λ (half : Half). (new ≡ half) ⊎ (4 ≤ file.ticks_left_of c.begin.new.self)) (ap (λ (place : Place). place.half) c.plan.ensures.unchanged.place)
+    (half_behind (place_of c.plan.new.self).begun pages (file.ticks_left_of c.begin.new.self) old new c.in_ok-plan.ensures.some c.in-Ok.ensures.left c.in-Ok.ensures.half)

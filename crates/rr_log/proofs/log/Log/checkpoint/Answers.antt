@@ -1,7 +1,10 @@
-use Rattle.std.proofs.Common.{◌∙◌, Err, ap}
+use Rattle.std.proofs.Common.{◌≡◌, ◌∙◌, ◌+◌, ℕ, Err, inl, inr, ap, sym}
 use Rattle.rr_disk.proofs.MomentLemmas.{started, joins}
 use Rattle.rr_images.specs.Layout.{Keeps}
-use Rattle.rr_log.proofs.Carried.{device_more, device_so, kept_now, newer_begun, newer_under_way, ok_so, takes_root}
+use Rattle.rr_log.specs.declared.fault.Fault.{Fault}
+use Rattle.rr_log.specs.declared.fault.Fault.TheVariants as F
+use Rattle.rr_log.specs.Fault.{IsWant}
+use Rattle.rr_log.proofs.Carried.{device_more, device_so, kept_now, newer_begun, newer_under_way, next_begun, next_under_way, ok_so, renews_next, root_next, takes_root}
 use Rattle.rr_reading.specs.Worlds.Spelling.{worlds}
 use Rattle.std.proofs.lemmas.Result.{err_from_is_err_and}
 use Rattle.rr_log.proofs.log.Log.checkpoint.Goals as goal
@@ -20,11 +23,22 @@ returns-then-ticks_left-gt0-clause-renews g c = ok_so c.finish.result _ _ (λ re
     c.finish.ensures.renews
 
 pub returns-then-ticks_left-gt0-clause-whole : goal.returns-then-ticks_left-gt0-clause-whole
-returns-then-ticks_left-gt0-clause-whole g c = ok_so c.finish.result _ _ (λ renews none honest world lent carries. λ image is.
+returns-then-ticks_left-gt0-clause-whole g c = ok_so c.finish.result _ _ (λ renewed none honest world lent carries. λ image is.
+    let takes = g.R.Rules.takes in
     let log = c.args.self.now in
-    takes_root g.R.Rules.takes log (g.D.Disk.state log.disk) world carries none image
-    (newer_under_way (worlds g.R.Rules.takes) carries.carried.layout world image (renews honest world carries image is)))
-    c.finish.ensures.renews
+    let ended = c.finish.new.self in
+    let then = renewed honest world carries in
+    takes_root takes log (g.D.Disk.state log.disk) world carries none image
+    (next_under_way (worlds takes) carries.carried.layout world image (renews_next takes ended (g.D.Disk.state ended.disk) world then.0 carries.carried.layout then.1 image is)))
+    c.finish.ensures.renewed
+
+pub returns-then-ticks_left-gt0-clause-root : goal.returns-then-ticks_left-gt0-clause-root
+returns-then-ticks_left-gt0-clause-root g c = ok_so c.finish.result _ _ (λ renewed honest world lent carries.
+    let log = c.args.self.now in
+    let ended = c.finish.new.self in
+    let then = renewed honest world carries in
+    root_next g.R.Rules.takes log ended (g.D.Disk.state log.disk) (g.D.Disk.state ended.disk) world carries then.0 then.1)
+    c.finish.ensures.renewed
 
 pub returns-in_err-finish-clause-stops : goal.returns-in_err-finish-clause-stops
 returns-in_err-finish-clause-stops g c = λ honest world lent carries.
@@ -48,10 +62,22 @@ returns-clause-renews g c = λ honest world lent carries. λ image is.
 
 pub returns-clause-whole : goal.returns-clause-whole
 returns-clause-whole g c = λ none honest world lent carries. λ image is.
+    let takes = g.R.Rules.takes in
     let log = c.args.self.now in
+    let ended = c.finish-2.new.self in
     let begun = c.in_ok-begin.ensures.starts (c.in_ok-finish.ensures.honest honest) world lent carries in
-    takes_root g.R.Rules.takes log (g.D.Disk.state log.disk) world carries none image
-    (newer_begun (worlds g.R.Rules.takes) carries.carried.layout begun.0.carried.layout world image begun.1 (c.in_ok-finish.ensures.renews honest world begun.0 image is))
+    let then = c.in_ok-finish.ensures.renewed honest world begun.0 in
+    takes_root takes log (g.D.Disk.state log.disk) world carries none image
+    (next_begun (worlds takes) carries.carried.layout begun.0.carried.layout world image begun.1 (renews_next takes ended (g.D.Disk.state ended.disk) world then.0 begun.0.carried.layout then.1 image is))
+
+pub returns-clause-root : goal.returns-clause-root
+returns-clause-root g c = λ honest world lent carries.
+    let started = c.begin.new.self in
+    let ended = c.finish-2.new.self in
+    let begun = c.in_ok-begin.ensures.starts (c.in_ok-finish.ensures.honest honest) world lent carries in
+    let then = c.in_ok-finish.ensures.renewed honest world begun.0 in
+    root_next g.R.Rules.takes started ended (g.D.Disk.state started.disk) (g.D.Disk.state ended.disk) world begun.0 then.0 then.1
+    ∙ ap (λ (number : ℕ). number + 1) c.begin.ensures.root
 
 pub returns-then-ticks_left-gt0-clause-device : goal.returns-then-ticks_left-gt0-clause-device
 returns-then-ticks_left-gt0-clause-device g c =
@@ -70,3 +96,12 @@ returns-in_err-finish-clause-device g c =
     (λ device honest world lent carries.
     device honest world (c.in_ok-begin.ensures.carries (c.in_err-finish.ensures.honest honest) c.in_ok-begin.ensures.broken world lent carries))
     c.in_err-finish.ensures.device
+
+never_wanted : (fault : Fault) → fault ≡ F.DeviceFailed → IsWant fault → ⊥
+never_wanted fault failed (inl full) = let both : F.FileFull ≡ F.DeviceFailed = sym full ∙ failed in cc both
+never_wanted fault failed (inr memory) = let both : F.OutOfMemory ≡ F.DeviceFailed = sym memory ∙ failed in cc both
+
+pub returns-in_err-finish-clause-unchanged : goal.returns-in_err-finish-clause-unchanged
+returns-in_err-finish-clause-unchanged g c =
+    let told = err_from_is_err_and c.from_residual-in_err-finish.result c.from_residual-in_err-finish.ensures.1 in
+    rw (told.1, told.2) (λ want. absurd (never_wanted c.in_err-finish.field-0.0 c.in_err-finish.ensures.err want))

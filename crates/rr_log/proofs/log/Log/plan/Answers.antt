@@ -1,4 +1,9 @@
-use Rattle.rr_log.proofs.Carried.{of_layout, lent_are, base_are, taken_carries, planned}
+use Rattle.std.proofs.Common.{Option, ◌∙◌, ap, sym}
+use Rattle.rr_checkpoint.specs.declared.plan.transcript.Transcript.{Transcript}
+use Rattle.rr_checkpoint.specs.Plan.Transcript.{tables_of}
+use Rattle.rr_log.specs.Calls.{tables_due}
+use Rattle.rr_log.specs.Log.{place_of}
+use Rattle.rr_log.proofs.Carried.{of_layout, lent_are, base_are, never_full, no_base, taken_carries, planned}
 use Rattle.rr_log.proofs.log.Log.plan.Goals as goal
 
 pub returns-in_err-plan-in-Some-clause-carries : goal.returns-in_err-plan-in-Some-clause-carries
@@ -30,3 +35,28 @@ returns-in_ok-plan-in-None-clause-plan g c = λ state world lent carries.
     (c.in_ok-plan-in-None.ensures.plan state world carries.carried
     (of_layout takes log state world carries transcript
     (lent_are takes log state world carries c.requires c.in-None.is (g.T.TablesInWords.tables c.args.tables.now) lent transcript c.in_ok-transcript-in-None.ensures.tables)))
+
+pub returns-in_ok-plan-in-Some-clause-found : goal.returns-in_ok-plan-in-Some-clause-found
+returns-in_ok-plan-in-Some-clause-found g c = λ state world found carries.
+    let takes = g.R.Rules.takes in
+    let log = c.args.self.now in
+    let base = c.in-Some.base in
+    planned takes log state world carries c.requires c.plan_of.new.writer c.plan_of.ensures.only c.in_ok-plan-in-Some.plan
+    (c.in_ok-plan-in-Some.ensures.plan state world carries.carried (of_layout takes log state world carries base (base_are takes log state world carries c.requires base c.in-Some.is)))
+
+pub returns-in_ok-plan-in-None-clause-found : goal.returns-in_ok-plan-in-None-clause-found
+returns-in_ok-plan-in-None-clause-found g c = λ state world found carries.
+    let log = c.args.self.now in
+    absurd (found (no_base (place_of log).begun log.base carries.carried.layout.middle.tables (carries.base c.requires) c.in-None.is))
+
+pub returns-in_ok-plan-in-Some-clause-fits : goal.returns-in_ok-plan-in-Some-clause-fits
+returns-in_ok-plan-in-Some-clause-fits g c =
+    let tables = g.T.TablesInWords.tables c.args.tables.now in
+    never_full c.args.self.now tables (tables_of c.in-Some.base) (ap (λ (base : Option Transcript). tables_due base tables) c.in-Some.is)
+    (λ past. let last = c.has_last_number.ensures.1 past in let other = c.if-has_last_number.false in absurd (cc)) c.in_ok-plan-in-Some.ensures.fits
+
+pub returns-in_ok-plan-in-None-clause-fits : goal.returns-in_ok-plan-in-None-clause-fits
+returns-in_ok-plan-in-None-clause-fits g c =
+    let tables = g.T.TablesInWords.tables c.args.tables.now in
+    never_full c.args.self.now tables (tables_of c.in_ok-transcript-in-None.transcript) (ap (λ (base : Option Transcript). tables_due base tables) c.in-None.is ∙ sym c.in_ok-transcript-in-None.ensures.tables)
+    (λ past. let last = c.has_last_number.ensures.1 past in let other = c.if-has_last_number.false in absurd (cc)) c.in_ok-plan-in-None.ensures.fits

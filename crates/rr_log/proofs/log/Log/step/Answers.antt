@@ -29,4 +29,4 @@ pub returns-in_err-begin-clause-nothing : goal.returns-in_err-begin-clause-nothi
 returns-in_err-begin-clause-nothing g c = λ whole none left. (c.in_err-begin.ensures.unchanged (is_want c.in_err-begin.ensures.err (sym c.in_err-begin.ensures.broken ∙ whole))).disk
 
 pub returns-clause-nothing : goal.returns-clause-nothing
-returns-clause-nothing g c = λ whole none left. let some = c.in_ok-begin.ensures.left in absurd (omega (arith, some, left))
+returns-clause-nothing g c = λ whole none left. let some = c.in_ok-begin.ensures.some in absurd (omega (arith, some, left))

@@ -3,8 +3,8 @@ use Rattle.std.proofs.lemmas.Result.{err_from_is_err_and}
 use Rattle.rr_routes.proofs.SheetsLemmas.CertificateLemmas.{too_long, no_tree, not_one, grown_tree, stop_weaker, forest-next, forest_of_all}
 use Rattle.rr_routes.proofs.sheets.certificate.grow.Goals as goal
 
-pub returns-then-words-gt-NODES-clause-stopped : goal.returns-then-words-gt-NODES-clause-stopped
-returns-then-words-gt-NODES-clause-stopped c tree grown = too_long c.args.trains c.args.words.now tree c.if-words-gt-NODES.true grown
+pub returns-then-words-gt-MOST_NODES-clause-stopped : goal.returns-then-words-gt-MOST_NODES-clause-stopped
+returns-then-words-gt-MOST_NODES-clause-stopped c tree grown = too_long c.args.trains c.args.words.now tree c.if-words-gt-MOST_NODES.true grown
 
 pub returns-in_err-grow-clause-stopped : goal.returns-in_err-grow-clause-stopped
 returns-in_err-grow-clause-stopped c =
@@ -24,7 +24,7 @@ loop-word-preserved c =
 
 pub returns-in-Some-single-clause-tree : goal.returns-in-Some-single-clause-tree
 returns-in-Some-single-clause-tree c =
-    grown_tree c.args.trains c.args.words.now c.loop-word.forest c.in-Some-single.tree c.if-words-gt-NODES.false
+    grown_tree c.args.trains c.args.words.now c.loop-word.forest c.in-Some-single.tree c.if-words-gt-MOST_NODES.false
     (forest_of_all c.args.trains c.args.words.now c.loop-word.left.now c.loop-word.forest c.in_default.ensures.cases c.loop-word.invariant)
     c.in-Some-single.ensures
 

@@ -23,3 +23,7 @@ returns-clause-renews g c = λ honest texts carries.
 pub returns-clause-whole : goal.returns-clause-whole
 returns-clause-whole g c = λ none honest texts carries.
     c.in_ok-checkpoint.ensures.whole none honest (in_words texts (held_of c.args.self.now).tables) refl carries.file
+
+pub returns-clause-root : goal.returns-clause-root
+returns-clause-root g c = λ honest texts carries.
+    c.in_ok-checkpoint.ensures.root honest (in_words texts (held_of c.args.self.now).tables) refl carries.file

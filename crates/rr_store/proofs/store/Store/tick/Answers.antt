@@ -2,6 +2,8 @@ use Rattle.std.proofs.Common.{Err, refl}
 use Rattle.std.proofs.lemmas.Result.{err_from_is_err_and}
 use Rattle.rr_checkpoint.specs.declared.writer.Tick.{Tick}
 use Rattle.rr_log.proofs.Carried.{device_more}
+use Rattle.rr_tables.specs.Records.Words.{in_words}
+use Rattle.rr_store.specs.Holding.{held_of}
 use Rattle.rr_store.proofs.Steps.{steps_done, steps_refused}
 use Rattle.rr_store.proofs.store.Store.tick.Goals as goal
 
@@ -15,3 +17,9 @@ pub returns-clause-steps : goal.returns-clause-steps
 returns-clause-steps g c =
     steps_done g.D.Disk.Honest g.D.Disk.Works g.D.Disk.state g.D.Disk.past g.D.Disk.fault_count c.args.self.now _ refl c.in_ok-tick.tick
     (record { stops = λ h world lent carries. c.in_ok-tick.ensures.stops h world carries; carries = c.in_ok-tick.ensures.carries; number = c.in_ok-tick.ensures.number; again = c.in_ok-tick.ensures.again; untouched = c.in_ok-tick.ensures.untouched; broken = c.in_ok-tick.ensures.broken; full = c.in_ok-tick.ensures.full; first = c.in_ok-tick.ensures.first; unchanged = c.in_ok-tick.ensures.unchanged; room = c.in_ok-tick.ensures.room; fault = c.in_ok-tick.ensures.fault; honest = c.in_ok-tick.ensures.honest; works = c.in_ok-tick.ensures.works; device = tt })
+
+pub returns-clause-fits : goal.returns-clause-fits
+returns-clause-fits g c = λ none due full. due (record { none_left = none; none_due = λ is. c.in_ok-tick.ensures.fits none is full })
+
+pub returns-clause-root : goal.returns-clause-root
+returns-clause-root g c = λ honest texts carries. c.in_ok-tick.ensures.root honest (in_words texts (held_of c.args.self.now).tables) carries.file

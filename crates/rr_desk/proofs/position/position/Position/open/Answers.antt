@@ -6,11 +6,11 @@ returns-clause-opening c =
     let n = c.args.players in
     let roster = c.args.roster.now in
     stands_opened n roster _ c.open.ensures.book (c.open-2.ensures.book roster n) c.new.ensures.book (c.open-3.ensures.book roster)
-    (c.new-2.ensures.opening roster n c.requires.greatest) c.new-3.ensures.book
+    (c.open-4.ensures.opening roster) c.new-2.ensures.book
 
 pub returns-clause-auction : goal.returns-clause-auction
 returns-clause-auction c names =
     let n = c.args.players in
     let roster = c.args.roster.now in
     stands_begun n roster names _ (returns-clause-opening c) (c.open-2.ensures.auction roster n names) (c.open-3.ensures.auction roster names)
-    (c.new-2.ensures.auction roster n names c.requires.greatest)
+    (c.open-4.ensures.auction roster names)
