@@ -1,5 +1,5 @@
 //! Operating rounds of two corporations, by entries made by hand.
-ghost use Rattle.rr_books.specs.State.{Fits, State};
+ghost use Rattle.rr_books.specs.State.{Fits};
 
 use crate::opening::{self, check};
 use rr_books::{Act, Books, Cell, Corp, Entry, Kind, Marker, Money, Party, Place, Train, Words};
@@ -46,8 +46,9 @@ fn hex(rt: &impl Abort) -> HexName {
     HexName::read(b"A").expect(rt, "a hex")
 }
 
-fn entry(rt: &(impl Abort + AllocGlobal), event: Event) -> Entry
-    ensures { (books : State) → Fits books result }
+/// The event's entry, which the books can take.
+fn entry(rt: &(impl Abort + AllocGlobal), _books: &Books, event: Event) -> Entry
+    ensures { Fits _books.now result }
 {
     match event {
         Stock => Entry::Step(Marker::Stock),
@@ -132,7 +133,7 @@ fn after(rt: &(impl Abort + AllocGlobal), table: Table, events: &[Event]) -> Tab
 }
 
 fn after_one(rt: &(impl Abort + AllocGlobal), table: Table, event: Event) -> Table {
-    let entry = entry(rt, event);
+    let entry = entry(rt, &table.books, event);
     Table {
         books: table.books,
         market: market_after(table.market, &entry),
@@ -148,7 +149,7 @@ fn market_after(market: Market, entry: &Entry) -> Market {
 }
 
 fn follow(rt: &impl Abort, table: &Table, entry: &Entry) -> Operations
-    requires { Fits table.books.now entry.now }
+    requires { Fits table.now.books entry.now }
 {
     let mut next = table.operations;
     assert!(rt; next.set() < 1000);
