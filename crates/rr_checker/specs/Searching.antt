@@ -1,12 +1,14 @@
 -- The steps over a net, the graph over them, and the steps that end where walks end.
-use Rattle.std.specs.Prelude.{◌≡◌, ℕ, ◌<◌, ◌↔◌, Bool, true, List, Contains, length, slice_index_or}
+use Rattle.std.specs.Prelude.{◌≡◌, ℕ, ◌↔◌, List, Contains, length}
 use Rattle.rr_routes.specs.declared.net.Node.{Node}
 use Rattle.rr_routes.specs.Net.{Net}
 use Rattle.rr_routes.specs.Reach.{WalkTo}
+use Rattle.rr_routes.specs.Reachability.Index.{StandsAt}
 use Rattle.rr_routes.specs.Reachability.Places.{ArePlaces, IsGraphOf}
 use Rattle.rr_checker.specs.declared.step.Step.{Step}
 use Rattle.rr_checker.specs.declared.tracks.Tracks.{Tracks}
 use Rattle.rr_checker.specs.Steps.{HasStep, goes_on, has_token}
+use Rattle.rr_checker.specs.Index.{node_key}
 
 -- Both steps over each link of the net, for each the places of those by which a walk that ends with it may go on, and the
 -- places of those by which a walk may begin.
@@ -18,13 +20,12 @@ pub record AreTracks (net : Net) (steps : List Step) (graph : List (List ℕ)) (
 abbrev pub IsTracksOf : Net → Tracks → Type 0
 IsTracksOf net tracks = AreTracks net tracks.steps.items tracks.graph.items tracks.starts.items
 
--- the place of one of the first n steps, at the node that the step begins at
-abbrev pub BeginsAt : List Step → ℕ → Node → ℕ → Type 0
-BeginsAt steps n node place = (place < n) × ((d : Step) → (slice_index_or steps place d).from ≡ node)
+-- the key of the node that a step begins at, and the place of one of the first n steps at it
+abbrev pub begins_at : Step → ℕ
+begins_at step = node_key step.from
 
--- these are those of the places that pass the test
-abbrev pub ArePassing : (ℕ → Bool) → List ℕ → List ℕ → Type 0
-ArePassing test places passing = (place : ℕ) → Contains passing place ↔ (Contains places place × (test place ≡ true))
+abbrev pub BeginsAt : List Step → ℕ → ℕ → ℕ → Type 0
+BeginsAt steps n = StandsAt begins_at steps n
 
 -- one of the steps goes over the link to the node
 abbrev pub EndsAt : List Step → ℕ → Node → Type 0

@@ -1,62 +1,43 @@
-//! Places by the nodes at which they are noted: those of one node stand in one row, and few others with them.
-ghost use Rattle.std.specs.Prelude.{◌≡◌, ◌<◌, Some, IfOk, OnOk, length, slice_get};
-ghost use Rattle.rr_checker.specs.Index.{IsEmptyIndex, IsIndexOf, TouchesAt, noted, noted_at, noted_at_ends, row_of};
+//! Links by the nodes that they touch.
+ghost use Rattle.std.specs.Prelude.{◌≡◌, Some, IfOk, OnOk, slice_get};
+ghost use Rattle.rr_routes.specs.Reachability.Index.{IsIndexOf};
+ghost use Rattle.rr_checker.specs.Index.{TouchesAt, node_key, noted_at, noted_at_ends};
 
 use crate::railway::Net;
-use rr_routes::reachability::Followers;
+use rr_routes::reachability::Index;
 use rr_routes::{Link, Node};
 use std::alloc::{AllocError, Global};
 
-// So many rows, in which no place is noted.
-pub(crate) fn empty_index(alloc: Global, count: usize) -> Result<Vec<Followers>, AllocError>
-    ensures { IfOk result (λ index. IsEmptyIndex count index.items) }
+// Hexsides and centres are numbered from 0 by the board, so that few share a row; where they do, nothing is lost.
+pub(crate) fn node_key(node: &Node) -> usize
+    ensures { result ≡ node_key node.now }
 {
-    let mut index = Vec::new(alloc);
-    for row in 0..count {
-        index.push(Followers::new(alloc))?;
+    match node {
+        Node::Hexside(side) => *side,
+        Node::Centre(centre) => *centre,
     }
-    Ok(index)
-}
-
-pub(crate) fn note(index: &mut Vec<Followers>, node: &Node, place: usize) -> Result<(), AllocError>
-    requires { 0 < length index.old.items }
-    ensures noted { OnOk result (index.new.items ≡ noted index.old.items node.now place) }
-    ensures as_long { OnOk result (length index.new.items ≡ length index.old.items) }
-{
-    let row = row_of(index.len(), node);
-    index[row].push(place)?;
-    Ok(())
 }
 
 // The places noted at the node, among others.
-pub(crate) fn noted_at<'a>(index: &'a [Followers], node: &Node) -> &'a [usize]
+pub(crate) fn noted_at<'a>(index: &'a Index, node: &Node) -> &'a [usize]
     ensures { result.now ≡ noted_at index.now node.now }
 {
-    if index.is_empty() {
-        return &[];
-    }
-    let row = row_of(index.len(), node);
-    index[row].as_slice()
+    index.noted_at(node_key(node))
 }
 
 // The links, by the nodes that they touch.
-pub(crate) fn index_of_links(
-    alloc: Global,
-    net: &Net,
-    links: &[usize],
-) -> Result<Vec<Followers>, AllocError>
-    ensures { IfOk result (λ index. IsIndexOf (TouchesAt net.now links.now) index.items) }
+pub(crate) fn index_of_links(alloc: Global, net: &Net, links: &[usize]) -> Result<Index, AllocError>
+    ensures { IfOk result (λ index. IsIndexOf (TouchesAt net.now links.now) index) }
 {
-    let mut index = empty_index(alloc, links.len() + 1)?;
+    let mut index = Index::with_rows(alloc, links.len())?;
     for link in links {
         note_link(net, &mut index, *link)?;
     }
     Ok(index)
 }
 
-fn note_link(net: &Net, index: &mut Vec<Followers>, place: usize) -> Result<(), AllocError>
-    requires { 0 < length index.old.items }
-    ensures { OnOk result (index.new.items ≡ noted_at_ends index.old.items place (slice_get net.now.links place)) }
+fn note_link(net: &Net, index: &mut Index, place: usize) -> Result<(), AllocError>
+    ensures { OnOk result (index.new ≡ noted_at_ends index.old place (slice_get net.now.links place)) }
 {
     match net.links().get(place) {
         Some(link) => note_ends(index, link, place),
@@ -64,23 +45,10 @@ fn note_link(net: &Net, index: &mut Vec<Followers>, place: usize) -> Result<(), 
     }
 }
 
-fn note_ends(index: &mut Vec<Followers>, link: &Link, place: usize) -> Result<(), AllocError>
-    requires { 0 < length index.old.items }
-    ensures { OnOk result (index.new.items ≡ noted_at_ends index.old.items place (Some link.now)) }
+fn note_ends(index: &mut Index, link: &Link, place: usize) -> Result<(), AllocError>
+    ensures { OnOk result (index.new ≡ noted_at_ends index.old place (Some link.now)) }
 {
-    note(index, &Node::Hexside(link.side), place)?;
-    note(index, &link.other, place)?;
+    index.note(link.side, place)?;
+    index.note(node_key(&link.other), place)?;
     Ok(())
-}
-
-// Hexsides and centres are numbered from 0 by the board, so that few share a row; where they do, nothing is lost.
-fn row_of(count: usize, node: &Node) -> usize
-    requires { 0 < count }
-    ensures row { result ≡ row_of count node.now }
-    ensures within { result < count }
-{
-    match node {
-        Node::Hexside(side) => *side % count,
-        Node::Centre(centre) => *centre % count,
-    }
 }

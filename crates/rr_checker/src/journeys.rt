@@ -12,7 +12,7 @@ use crate::own::{is_crowded_on, touches};
 use crate::railway::Net;
 use crate::step::is_among;
 use crate::trips::{Journey, follow, is_route};
-use rr_routes::reachability::Followers;
+use rr_routes::reachability::Index;
 use rr_routes::{CentreLimit, Node};
 use std::alloc::{AllocError, Global};
 
@@ -50,7 +50,7 @@ fn from_link(
     net: &Net,
     limit: &CentreLimit,
     own: &[usize],
-    index: &[Followers],
+    index: &Index,
     link: usize,
 ) -> Result<Option<Journey>, AllocError>
     requires { IsIndexOf (TouchesAt net.now own.now) index.now }
@@ -68,7 +68,7 @@ fn from_link(
     }
 }
 
-fn meets_another_on(net: &Net, index: &[Followers], link: usize, node: &Node) -> bool
+fn meets_another_on(net: &Net, index: &Index, link: usize, node: &Node) -> bool
     ensures { result ≡ meets_another net.now (noted_at index.now node.now) link node.now }
 {
     meets_another(net, noted_at(index, node), link, node)
@@ -93,7 +93,7 @@ fn from_centre(
     net: &Net,
     limit: &CentreLimit,
     own: &[usize],
-    index: &[Followers],
+    index: &Index,
     centre: usize,
 ) -> Result<Option<Journey>, AllocError>
     requires { IsIndexOf (TouchesAt net.now own.now) index.now }

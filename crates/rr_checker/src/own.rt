@@ -16,7 +16,7 @@ use crate::railway::Net;
 use crate::reach::ends_of;
 use crate::step::{Step, same_node};
 use crate::tracks::Tracks;
-use rr_routes::reachability::{Followers, is_marked};
+use rr_routes::reachability::{Index, is_marked};
 use rr_routes::{CentreLimit, Fate, Link, Node};
 use std::alloc::{AllocError, Global};
 
@@ -142,13 +142,13 @@ pub(crate) fn is_over(limit: &CentreLimit, count: usize) -> bool
 }
 
 // Whether three of the links, which the index has by their nodes, meet at a node.
-pub(crate) fn is_crowded_on(net: &Net, index: &[Followers], own: &[usize]) -> bool
+pub(crate) fn is_crowded_on(net: &Net, index: &Index, own: &[usize]) -> bool
     ensures { result ≡ is_crowded_on net.now index.now own.now }
 {
     own.iter().any(|one| is_crowded_by(net, index, *one))
 }
 
-fn is_crowded_by(net: &Net, index: &[Followers], one: usize) -> bool
+fn is_crowded_by(net: &Net, index: &Index, one: usize) -> bool
     ensures { result ≡ some_link (slice_get net.now.links one) (crowds_end_on net.now index.now one) }
 {
     match net.links().get(one) {
@@ -157,13 +157,13 @@ fn is_crowded_by(net: &Net, index: &[Followers], one: usize) -> bool
     }
 }
 
-fn crowds_end(net: &Net, index: &[Followers], one: usize, link: &Link) -> bool
+fn crowds_end(net: &Net, index: &Index, one: usize, link: &Link) -> bool
     ensures { result ≡ crowds_end_on net.now index.now one link.now }
 {
     crowds_at(net, index, one, &Node::Hexside(link.side)) || crowds_at(net, index, one, &link.other)
 }
 
-fn crowds_at(net: &Net, index: &[Followers], one: usize, node: &Node) -> bool
+fn crowds_at(net: &Net, index: &Index, one: usize, node: &Node) -> bool
     ensures { result ≡ crowds net.now (noted_at index.now node.now) one node.now }
 {
     crowds(net, noted_at(index, node), one, node)
@@ -262,13 +262,13 @@ fn is_side_of(net: &Net, others: &[usize], node: &Node) -> bool
 }
 
 // Whether links of the list touch a hexside that one of the others touches, which the index has by their nodes.
-pub(crate) fn is_shared_on(net: &Net, index: &[Followers], own: &[usize]) -> bool
+pub(crate) fn is_shared_on(net: &Net, index: &Index, own: &[usize]) -> bool
     ensures { result ≡ is_shared_on net.now index.now own.now }
 {
     own.iter().any(|place| shares_side_on(net, index, *place))
 }
 
-fn shares_side_on(net: &Net, index: &[Followers], place: usize) -> bool
+fn shares_side_on(net: &Net, index: &Index, place: usize) -> bool
     ensures { result ≡ some_link (slice_get net.now.links place) (shares_end_on net.now index.now) }
 {
     match net.links().get(place) {
@@ -277,13 +277,13 @@ fn shares_side_on(net: &Net, index: &[Followers], place: usize) -> bool
     }
 }
 
-fn shares_end_on(net: &Net, index: &[Followers], link: &Link) -> bool
+fn shares_end_on(net: &Net, index: &Index, link: &Link) -> bool
     ensures { result ≡ shares_end_on net.now index.now link.now }
 {
     is_side_on(net, index, &Node::Hexside(link.side)) || is_side_on(net, index, &link.other)
 }
 
-fn is_side_on(net: &Net, index: &[Followers], node: &Node) -> bool
+fn is_side_on(net: &Net, index: &Index, node: &Node) -> bool
     ensures { result ≡ is_side_of net.now (noted_at index.now node.now) node.now }
 {
     is_side_of(net, noted_at(index, node), node)

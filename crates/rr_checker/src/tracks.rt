@@ -1,14 +1,14 @@
 //! The steps over the links of a net, and which may follow which: made once for all that is searched over the net.
 ghost use Rattle.std.specs.Prelude.{◌≡◌, IfOk, length};
-ghost use Rattle.rr_routes.specs.Reachability.Places.{ArePlaces, IsGraphOf};
+ghost use Rattle.rr_routes.specs.Reachability.Index.{IsIndexOf};
+ghost use Rattle.rr_routes.specs.Reachability.Places.{ArePassing, ArePlaces, IsGraphOf};
 ghost use Rattle.rr_checker.specs.Steps.{follows, goes_on, has_token};
-ghost use Rattle.rr_checker.specs.Index.{IsIndexOf};
-ghost use Rattle.rr_checker.specs.Searching.{ArePassing, BeginsAt, IsTracksOf};
+ghost use Rattle.rr_checker.specs.Searching.{BeginsAt, IsTracksOf};
 
-use crate::index::{empty_index, note, noted_at};
+use crate::index::{node_key, noted_at};
 use crate::railway::Net;
 use crate::step::{Step, has_token, is_terminal, may_follow, steps_of};
-use rr_routes::reachability::Followers;
+use rr_routes::reachability::{Followers, Index};
 use std::alloc::{AllocError, Global};
 
 // How walks go over a net.
@@ -67,7 +67,7 @@ fn followers_of(
     alloc: Global,
     net: &Net,
     steps: &[Step],
-    index: &[Followers],
+    index: &Index,
     step: &Step,
 ) -> Result<Followers, AllocError>
     requires { IsIndexOf (BeginsAt steps.now (length steps.now)) index.now }
@@ -109,12 +109,12 @@ fn follows(steps: &[Step], step: &Step, place: usize) -> bool
 }
 
 // The places of the steps, by the node that each begins at.
-fn index_of(alloc: Global, steps: &[Step]) -> Result<Vec<Followers>, AllocError>
-    ensures { IfOk result (λ index. IsIndexOf (BeginsAt steps.now (length steps.now)) index.items) }
+fn index_of(alloc: Global, steps: &[Step]) -> Result<Index, AllocError>
+    ensures { IfOk result (λ index. IsIndexOf (BeginsAt steps.now (length steps.now)) index) }
 {
-    let mut index = empty_index(alloc, steps.len() + 1)?;
+    let mut index = Index::with_rows(alloc, steps.len())?;
     for (place, step) in steps.iter().enumerate() {
-        note(&mut index, &step.from, place)?;
+        index.note(node_key(&step.from), place)?;
     }
     Ok(index)
 }

@@ -14,7 +14,7 @@ use crate::index::noted_at;
 use crate::own::{is_over, touches};
 use crate::railway::Net;
 use crate::step::{has_token, is_among, is_terminal, same_node};
-use rr_routes::reachability::Followers;
+use rr_routes::reachability::Index;
 use rr_routes::{CentreLimit, Link, Node};
 use std::alloc::{AllocError, Global};
 
@@ -30,7 +30,7 @@ pub(crate) fn follow(
     alloc: Global,
     net: &Net,
     own: &[usize],
-    index: &[Followers],
+    index: &Index,
     start: usize,
 ) -> Result<Journey, AllocError>
     requires { IsIndexOf (TouchesAt net.now own.now) index.now }

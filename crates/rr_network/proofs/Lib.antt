@@ -4,3 +4,6 @@ pub mod StopLemmas
 pub mod PlaceLemmas
 pub mod WalkLemmas
 pub mod FacingLemmas
+pub mod KeyLemmas
+pub mod FollowLemmas
+pub mod OverLemmas

@@ -1,7 +1,6 @@
 -- The centres of a network are sound, and there are as many as the tiles on its hexes have.
-use Rattle.std.proofs.Common.{◌≡◌, ℕ, ◌+◌, ◌≤◌, refl, sym, ap, ◌∙◌, subst, Bool, true, false, List, [], ◌∷◌, ◌++◌, length, reverse, length-append, Option, None, Some, inl, inr, arith}
-use Rattle.std.specs.Prelude.{All, Contains, slice_index_or, bytes_eq, find, flat_map, option_and_then, option_map, sum_by, unwrap_or}
-use Rattle.std.specs.List.{AllZip}
+use Rattle.std.proofs.Common.{◌≡◌, ℕ, ◌+◌, ◌≤◌, refl, sym, ap, ◌∙◌, List, [], ◌∷◌, ◌++◌, length, reverse, length-append, Option, None, Some, inl, inr, arith}
+use Rattle.std.specs.Prelude.{All, Contains, slice_index_or, bytes_eq, find, flat_map, option_and_then, option_map, unwrap_or}
 use Rattle.std.proofs.lemmas.Bool.{cases_Bool}
 use Rattle.std.proofs.lemmas.List.{reverse-append}
 use Rattle.std.proofs.lemmas.List.Elements.{All-append, All-cons, All-contains, All-contains_itself, All-head, All-nil, All-tail, length_all_zip}
@@ -22,7 +21,6 @@ use Rattle.rr_tiles.specs.declared.part.Part.TheVariants.{Track as OfTrack, Cent
 use Rattle.rr_tiles.specs.declared.supply.Supply.{Supply}
 use Rattle.rr_tiles.proofs.TileLemmas.{IsTile-turned}
 use Rattle.rr_desk.specs.declared.layout.layout.Lay.{Lay}
-use Rattle.rr_network.specs.declared.network.Stop.{Stop}
 use Rattle.rr_desk.specs.Layout.Layout.{Placed, last_lay}
 use Rattle.rr_network.specs.Network.{face_on, hex_stops, laid, net_of, seen_after, stops_in, stops_of}
 use Rattle.rr_network.specs.Stops.{HexesKeepTheirCentres, IsStop, KeepsWhatLies, NothingLaidKeepsCentres, UpgradesKeepCentres, centre_count}

@@ -4,6 +4,8 @@
 //! and what a walk of a corporation ends at.
 #![tactic(auto)]
 
+mod key;
+mod laid;
 pub mod laws;
 mod network;
 mod node;

@@ -1,11 +1,15 @@
 //! The steps of a walk: a link gone over from one end to the other.
-ghost use Rattle.std.specs.Prelude.{◌≡◌, IfOk};
+ghost use Rattle.std.specs.Prelude.{◌≡◌, None, IfOk};
+ghost use Rattle.std.specs.List.{fold};
+ghost use Rattle.rr_network.specs.Indexes.{FindsKinds, first_kind};
 ghost use Rattle.rr_network.specs.Walk.{backward, forward, has_token, is_filled, is_other_at, is_terminal, kind_at, kind_stops, may_follow, node_of, passes, steps_of, token_at};
 
+use crate::key::centre_key;
 use crate::network::Stop;
 use crate::node::{CentreAt, Link, Node, same_centre, same_node};
 use rr_desk::layout::Station;
 use rr_roster::Corp;
+use rr_routes::reachability::Index;
 use rr_tiles::Kind;
 use rr_words::HexName;
 use std::alloc::{AllocError, Global};
@@ -92,24 +96,65 @@ pub fn node_of(station: &Station) -> Node
     })
 }
 
+// The places of the stops, by their centres.
+pub(crate) fn index_of_stops(alloc: Global, stops: &[Stop]) -> Result<Index, AllocError>
+    ensures { IfOk result (λ index. FindsKinds stops.now index) }
+{
+    let mut index = Index::with_rows(alloc, stops.len())?;
+    for (place, stop) in stops.iter().enumerate() {
+        index.note(centre_key(&stop.at), place)?;
+    }
+    Ok(index)
+}
+
 // Whether no walk of a corporation goes on from a node.
-pub(crate) fn is_terminal(stops: &[Stop], stations: &[Station], corp: Corp, node: &Node) -> bool
+pub(crate) fn is_terminal(
+    stops: &[Stop],
+    index: &Index,
+    stations: &[Station],
+    corp: Corp,
+    node: &Node,
+) -> bool
+    requires { FindsKinds stops.now index.now }
     ensures { result ≡ is_terminal stops.now stations.now corp node.now }
 {
     match node {
         Node::Hexside(_) => false,
-        Node::Centre(at) => match kind_at(stops, at) {
+        Node::Centre(at) => match kind_at(stops, index, at) {
             Some(kind) => kind_stops(stations, corp, node, kind),
             None => false,
         },
     }
 }
 
-fn kind_at(stops: &[Stop], at: &CentreAt) -> Option<Kind>
+fn kind_at(stops: &[Stop], index: &Index, at: &CentreAt) -> Option<Kind>
+    requires { FindsKinds stops.now index.now }
     ensures { result ≡ kind_at stops.now at.now }
 {
-    let stop = stops.iter().find(|stop| same_centre(&stop.at, at))?;
-    Some(stop.kind)
+    kind_among(stops, index.noted_at(centre_key(at)), at)
+}
+
+fn kind_among(stops: &[Stop], places: &[usize], at: &CentreAt) -> Option<Kind>
+    ensures { result ≡ fold (first_kind stops.now at.now) None places.now }
+{
+    let mut found = None;
+    for place in places {
+        found = first_kind(stops, at, found, *place);
+    }
+    found
+}
+
+fn first_kind(stops: &[Stop], at: &CentreAt, found: Option<Kind>, place: usize) -> Option<Kind>
+    ensures { result ≡ first_kind stops.now at.now found place }
+{
+    if found.is_some() {
+        return found;
+    }
+    let stop = stops.get(place)?;
+    if same_centre(&stop.at, at) {
+        return Some(stop.kind);
+    }
+    None
 }
 
 fn kind_stops(stations: &[Station], corp: Corp, node: &Node, kind: Kind) -> bool

@@ -2,10 +2,12 @@
 ghost use Rattle.std.specs.Prelude.{◌≡◌, ◌+◌, ◌<◌, ◌^◌, [], ◌∷◌, flat_map, map, IfOk, OnOk};
 ghost use Rattle.rr_network.specs.declared.node.Node.TheVariants as N;
 
-use crate::network::{Stop, last_lay};
+use crate::laid::{index_of_lays, lay_on};
+use crate::network::Stop;
 use crate::node::{CentreAt, Link, Node, add_edges, hexside_at};
 use rr_desk::layout::{Lay, Station};
 use rr_kit::board::Hex;
+use rr_routes::reachability::Index;
 use rr_tiles::{Centre, Manifest, Part, Track};
 use std::alloc::{AllocError, Global};
 use std::marker::Model;
@@ -27,6 +29,7 @@ impl Model for Survey {
 }
 
 impl Survey {
+    ghost use Rattle.rr_network.specs.Indexes.{FindsLays};
     ghost use Rattle.rr_network.specs.Network.{AddsHex, edge_link, hex_links, hex_stops, links_in, links_of, seen_after, stops_in, stops_of, track_link};
 
     pub(crate) fn add_hexes(
@@ -38,8 +41,9 @@ impl Survey {
     ) -> Result<(), AllocError>
         ensures { OnOk result (AddsHex self.old self.new (flat_map (hex_links tiles.now lays.now) hexes.now) (flat_map (hex_stops tiles.now lays.now) hexes.now)) }
     {
+        let index = index_of_lays(alloc, lays)?;
         for hex in hexes {
-            self.add_hex(alloc, hex, tiles, lays)?;
+            self.add_hex(alloc, hex, tiles, lays, &index)?;
         }
         Ok(())
     }
@@ -50,10 +54,12 @@ impl Survey {
         hex: &Hex,
         tiles: &Manifest,
         lays: &[Lay],
+        index: &Index,
     ) -> Result<(), AllocError>
+        requires { FindsLays lays.now index.now }
         ensures { OnOk result (AddsHex self.old self.new (hex_links tiles.now lays.now hex.now) (hex_stops tiles.now lays.now hex.now)) }
     {
-        let Some(lay) = last_lay(lays, &hex.name) else {
+        let Some(lay) = lay_on(lays, index, &hex.name) else {
             self.add_parts(hex, hex.tile.parts())?;
             return Ok(());
         };

@@ -1,3 +1,4 @@
 pub mod MarkLemmas
 pub mod SearchLemmas
 pub mod PlaceLemmas
+pub mod IndexLemmas

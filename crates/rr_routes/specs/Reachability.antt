@@ -1,2 +1,3 @@
 pub mod Reach
 pub mod Places
+pub mod Index

@@ -1,11 +1,11 @@
 -- The places of the items that pass a test, and of those with a mark.
 use Rattle.std.proofs.Common.{◌≡◌, ℕ, zero, suc, ◌+◌, ◌<◌, Bool, true, false, List, [], ◌∷◌, ◌++◌, length, get_or, take, refl, sym, ◌∙◌, ap, subst, inl, inr, arith}
 use Rattle.std.specs.List.{Contains}
-use Rattle.std.proofs.lemmas.List.{get_or_default, get_or_append_left, get_or_past, get_or_push, length_push}
+use Rattle.std.proofs.lemmas.List.{get_or_default, get_or_append_left, get_or_past, get_or_push, length_push, take_more}
 use Rattle.std.proofs.lemmas.List.Elements.{Contains-push, Contains-push_cases, Contains-append_left}
 use Rattle.std.proofs.lemmas.Bool.{cases_eq, false≢true}
 use Rattle.rr_routes.specs.Reachability.Reach.{followers, IsMarked}
-use Rattle.rr_routes.specs.Reachability.Places.{ArePlaces, AreMarkedItems, HasMark, IsGraphOf, marked_of}
+use Rattle.rr_routes.specs.Reachability.Places.{ArePassing, ArePlaces, AreMarkedItems, HasMark, IsGraphOf, marked_of}
 
 pub none_here : {X : Type 0} (x : X) → Contains [] x → ⊥
 none_here x c = omega (arith, c.1)
@@ -53,6 +53,42 @@ places_next_no test items n places item w h e fails = record {
         | inr other ↦ w.complete k d (omega arith) t
       ];
 }
+
+-- those of the places so far that pass, with one more
+pub passing_first : (test : ℕ → Bool) → ArePassing test [] []
+passing_first test place = (λ c. absurd (none_here place c), λ d. absurd (none_here place d.0))
+
+pub passing_yes : (test : ℕ → Bool) (places : List ℕ) (i : ℕ) (passing new : List ℕ) → i < length places → ArePassing test (take i places) passing
+    → test (get_or places i 0) ≡ true → new ≡ passing ++ get_or places i 0 ∷ [] → ArePassing test (take (i + 1) places) new
+passing_yes test places i passing new inside so_far passes pushed = rw (take_more places i 0 inside, pushed) both
+  where
+    both : ArePassing test (take i places ++ get_or places i 0 ∷ []) (passing ++ get_or places i 0 ∷ [])
+    both place = (
+      λ c. elim (Contains-push_cases passing (get_or places i 0) place c) [
+        | inl old ↦ let d = (so_far place).0 old in (Contains-append_left (take i places) (get_or places i 0 ∷ []) place d.0, d.1)
+        | inr is ↦ (
+          subst (λ (p : ℕ). Contains (take i places ++ get_or places i 0 ∷ []) p) is (Contains-push (take i places) (get_or places i 0)),
+          subst (λ (p : ℕ). test p ≡ true) is passes,
+        )
+      ],
+      λ d. elim (Contains-push_cases (take i places) (get_or places i 0) place d.0) [
+        | inl old ↦ Contains-append_left passing (get_or places i 0 ∷ []) place ((so_far place).1 (old, d.1))
+        | inr is ↦ subst (λ (p : ℕ). Contains (passing ++ get_or places i 0 ∷ []) p) is (Contains-push passing (get_or places i 0))
+      ],
+    )
+
+pub passing_no : (test : ℕ → Bool) (places : List ℕ) (i : ℕ) (passing : List ℕ) → i < length places → ArePassing test (take i places) passing
+    → test (get_or places i 0) ≡ false → ArePassing test (take (i + 1) places) passing
+passing_no test places i passing inside so_far fails = rw (take_more places i 0 inside) both
+  where
+    both : ArePassing test (take i places ++ get_or places i 0 ∷ []) passing
+    both place = (
+      λ c. let d = (so_far place).0 c in (Contains-append_left (take i places) (get_or places i 0 ∷ []) place d.0, d.1),
+      λ d. elim (Contains-push_cases (take i places) (get_or places i 0) place d.0) [
+        | inl old ↦ (so_far place).1 (old, d.1)
+        | inr is ↦ absurd (false≢true (sym fails ∙ subst (λ (p : ℕ). test p ≡ true) (sym is) d.1))
+      ],
+    )
 
 pub graph_first : {X : Type 0} (goes_on : X → X → Bool) (items : List X) → IsGraphOf goes_on items 0 []
 graph_first goes_on items = record { states = refl; places = λ k d h. absurd (omega arith) }

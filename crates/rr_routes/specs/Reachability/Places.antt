@@ -7,6 +7,10 @@ pub record ArePlaces {X : Type 0} (test : X → Bool) (items : List X) (n : ℕ)
   pub sound : (k : ℕ) (d : X) → Contains places k → (k < n) × (test (slice_index_or items k d) ≡ true)
   pub complete : (k : ℕ) (d : X) → k < n → test (slice_index_or items k d) ≡ true → Contains places k
 
+-- these are those of the places that pass the test
+abbrev pub ArePassing : (ℕ → Bool) → List ℕ → List ℕ → Type 0
+ArePassing test places passing = (place : ℕ) → Contains passing place ↔ (Contains places place × (test place ≡ true))
+
 -- the followers of each of the first n items are the places of those by which one may go on from it
 pub record IsGraphOf {X : Type 0} (goes_on : X → X → Bool) (items : List X) (n : ℕ) (graph : List (List ℕ)) : Type 0 where
   pub states : length graph ≡ n

@@ -6,12 +6,12 @@ use Rattle.rr_checker.proofs.journeys.journey_over.Goals as goal
 
 pub returns-then-is_crowded_on : goal.returns-then-is_crowded_on
 returns-then-is_crowded_on c =
-    let index = c.in_ok-index.index.items in
+    let index = c.in_ok-index.index in
     none_crowded c.args.net.now c.args.limit.now c.args.own.now
-    (sym (same_crowded c.args.net.now c.args.own.now index (c.in_ok-index.ensures {u = tt})) ∙ (rw c.deref.ensures.value at (sym c.is_crowded_on.ensures ∙ c.if-is_crowded_on.true)))
+    (sym (same_crowded c.args.net.now c.args.own.now index (c.in_ok-index.ensures {u = tt})) ∙ sym c.is_crowded_on.ensures ∙ c.if-is_crowded_on.true)
 
 pub from_link-requires : goal.from_link-requires
-from_link-requires c = rw c.deref-in-loop-link.ensures.value (c.in_ok-index.ensures {u = tt})
+from_link-requires c = c.in_ok-index.ensures {u = tt}
 
 pub loop-link-preserved : goal.loop-link-preserved
 loop-link-preserved c =

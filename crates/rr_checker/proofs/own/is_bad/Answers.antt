@@ -10,11 +10,11 @@ returns c =
     let own = c.in_ok-own.own.items in
     let others = c.in_ok-others.others.items in
     let crowded : c.is_crowded_on-crowded.result ≡ is_crowded net own =
-    (rw (c.deref-5.ensures.value, c.deref-6.ensures.value) at c.is_crowded_on-crowded.ensures) ∙ same_crowded net own c.in_ok-own_index.own_index.items (rw c.deref-3.ensures.value at (c.in_ok-own_index.ensures {u = tt})) in
+    (rw c.deref-5.ensures.value at c.is_crowded_on-crowded.ensures) ∙ same_crowded net own c.in_ok-own_index.own_index (rw c.deref-3.ensures.value at (c.in_ok-own_index.ensures {u = tt})) in
     let shared : c.is_shared_on-shared.result ≡ is_shared net own others =
-    (rw (c.deref-7.ensures.value, c.deref-8.ensures.value) at c.is_shared_on-shared.ensures)
-    ∙ same_shared net fates c.args.train own others c.in_ok-others_index.others_index.items (rw c.deref-4.ensures.value at (c.in_ok-others_index.ensures {u = tt})) in
-    rw (c.runs_badly.ensures, crowded, shared, c.deref-9.ensures.value, c.deref-10.ensures.value, c.deref-11.ensures.value)
+    (rw c.deref-6.ensures.value at c.is_shared_on-shared.ensures)
+    ∙ same_shared net fates c.args.train own others c.in_ok-others_index.others_index (rw c.deref-4.ensures.value at (c.in_ok-others_index.ensures {u = tt})) in
+    rw (c.runs_badly.ensures, crowded, shared, c.deref-7.ensures.value, c.deref-8.ensures.value, c.deref-9.ensures.value)
     (Decides-bad net fates c.args.train own others c.in_ok-touched.touched.items c.in_ok-ends.ends.items c.in_ok-reached.reached.items
     (c.in_ok-own.ensures {u = tt}) (c.in_ok-others.ensures {u = tt}) ((c.in_ok-ends.ensures {u = tt}) net c.requires) (rw c.deref.ensures.value at (c.in_ok-reached.ensures {u = tt}))
     (rw c.deref-2.ensures.value at (c.in_ok-touched.ensures {u = tt})))

@@ -1,7 +1,7 @@
 use Rattle.std.proofs.Common.{◌≡◌, false, sym, ◌∙◌}
 use Rattle.rr_checker.specs.Steps.{follows, is_terminal}
 use Rattle.rr_checker.specs.Index.{noted_at}
-use Rattle.rr_checker.specs.Searching.{ArePassing}
+use Rattle.rr_routes.specs.Reachability.Places.{ArePassing}
 use Rattle.rr_checker.proofs.TrackLemmas.{followers_found}
 use Rattle.rr_checker.proofs.tracks.followers_of.Goals as goal
 

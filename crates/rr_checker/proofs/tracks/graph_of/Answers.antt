@@ -5,7 +5,7 @@ use Rattle.rr_checker.proofs.PlaceLemmas.{no_step, step_read}
 use Rattle.rr_checker.proofs.tracks.graph_of.Goals as goal
 
 pub followers_of-requires : goal.followers_of-requires
-followers_of-requires c = rw c.deref.ensures.value (c.in_ok-index.ensures {u = tt})
+followers_of-requires c = c.in_ok-index.ensures {u = tt}
 
 pub loop-step-preserved : goal.loop-step-preserved
 loop-step-preserved c =

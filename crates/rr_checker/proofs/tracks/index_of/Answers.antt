@@ -1,15 +1,20 @@
-use Rattle.std.proofs.Common.{◌≡◌, length, arith}
-use Rattle.rr_checker.proofs.TrackLemmas.{index_first, index_next, index_done}
+use Rattle.std.proofs.Common.{◌≡◌, ℕ, length, get_or, ◌∙◌, ap, arith}
+use Rattle.rr_routes.specs.Reachability.Index.{noted}
+use Rattle.rr_routes.proofs.ReachabilityLemmas.IndexLemmas.{items_first, items_next, items_done}
+use Rattle.rr_checker.specs.Searching.{begins_at}
+use Rattle.rr_checker.proofs.PlaceLemmas.{no_step, step_read}
 use Rattle.rr_checker.proofs.tracks.index_of.Goals as goal
 
 pub loop-place-init : goal.loop-place-init
-loop-place-init c = index_first c.args.steps.now c.in_ok-index.index.items (c.in_ok-index.ensures {u = tt})
+loop-place-init c = items_first begins_at c.args.steps.now (length c.args.steps.now) c.in_ok-index.index (c.in_ok-index.ensures {u = tt})
 
 pub loop-place-preserved : goal.loop-place-preserved
 loop-place-preserved c =
-    index_next c.args.steps.now c.loop-place.place c.loop-place.index.items c.note.new.index.items c.loop-place-test.true c.loop-place.invariant (c.in_ok-note.ensures {u = tt}).noted
+    items_next begins_at c.args.steps.now c.loop-place.place c.loop-place.index c.note.new.self (get_or c.args.steps.now c.loop-place.place no_step) c.loop-place-test.true
+    (step_read c.args.steps.now c.loop-place.place c.loop-place-test.true) c.loop-place.invariant
+    (c.in_ok-note.ensures.ok ∙ ap (λ (key : ℕ). noted c.loop-place.index key c.loop-place.place) c.node_key.ensures)
 
 pub returns : goal.returns
 returns c =
     let all : c.loop-place.place ≡ length c.args.steps.now = omega arith in
-    index_done c.args.steps.now c.loop-place.place c.loop-place.index.items all c.loop-place.invariant
+    items_done begins_at c.args.steps.now c.loop-place.place c.loop-place.index all c.loop-place.invariant

@@ -1,6 +1,6 @@
-use Rattle.rr_checker.specs.Index.{IsIndexOf}
+use Rattle.rr_routes.specs.Reachability.Index.{IsIndexOf}
 use Rattle.rr_checker.specs.Searching.{BeginsAt}
 use Rattle.rr_checker.proofs.tracks.index_of.Given as goal
 
 abbrev pub invariant-loop-place : goal.invariant-loop-place
-invariant-loop-place l = IsIndexOf (BeginsAt l.steps l.place) l.index.items
+invariant-loop-place l = IsIndexOf (BeginsAt l.steps l.place) l.index

@@ -1,7 +1,7 @@
 use Rattle.std.proofs.Common.{◌≤◌, length, sym, ◌∙◌, arith}
 use Rattle.std.proofs.lemmas.List.{take_all}
 use Rattle.rr_checker.specs.Steps.{follows}
-use Rattle.rr_checker.proofs.TrackLemmas.{passing_first, passing_yes, passing_no}
+use Rattle.rr_routes.proofs.ReachabilityLemmas.PlaceLemmas.{passing_first, passing_yes, passing_no}
 use Rattle.rr_checker.proofs.tracks.next_among.Goals as goal
 
 pub loop-place-init : goal.loop-place-init

@@ -1,6 +1,6 @@
 use Rattle.std.proofs.Common.{take}
 use Rattle.rr_checker.specs.Steps.{follows}
-use Rattle.rr_checker.specs.Searching.{ArePassing}
+use Rattle.rr_routes.specs.Reachability.Places.{ArePassing}
 use Rattle.rr_checker.proofs.tracks.next_among.Given as goal
 
 abbrev pub invariant-loop-place : goal.invariant-loop-place

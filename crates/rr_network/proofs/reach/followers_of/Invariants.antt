@@ -1,6 +1,0 @@
-use Rattle.rr_routes.specs.Reachability.Places.{ArePlaces}
-use Rattle.rr_network.specs.Walk.{goes_on}
-use Rattle.rr_network.proofs.reach.followers_of.Given as goal
-
-abbrev pub invariant-loop-place : goal.invariant-loop-place
-invariant-loop-place l = ArePlaces (goes_on l.network l.fn.corp l.step) l.steps l.place l.followers
