@@ -1,5 +1,6 @@
 pub mod PlaceLemmas
 pub mod TellingLemmas
+pub mod IndexLemmas
 pub mod GoingLemmas
 pub mod CentreLemmas
 pub mod ReachLemmas

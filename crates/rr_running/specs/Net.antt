@@ -1,4 +1,5 @@
 pub mod Joining
+pub mod Indexing
 pub mod Centres
 pub mod Running
 pub mod Telling

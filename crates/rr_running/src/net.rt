@@ -3,6 +3,7 @@
 //! Stands on `rr_network` and `rr_checker`. Its promise: `net_of`, the net of the corporation for every book.
 
 mod centres;
+mod indexing;
 mod joining;
 pub mod laws;
 mod running;

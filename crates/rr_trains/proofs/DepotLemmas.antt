@@ -7,3 +7,4 @@ pub mod WithinLimit
 pub mod InOrder
 pub mod Spending
 pub mod AnyOver
+pub mod CorpCounts

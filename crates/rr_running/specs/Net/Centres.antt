@@ -11,15 +11,15 @@ use Rattle.rr_network.specs.declared.node.CentreAt.{CentreAt}
 use Rattle.rr_network.specs.declared.node.Node.TheVariants.{Centre}
 use Rattle.rr_network.specs.Walk.{has_token, kind_stops}
 
--- the places of the centres that pass, where the first has this place
-unfoldable pub places_from : ℕ → (Stop → Bool) → List Stop → List ℕ
+-- the places of those that pass, where the first has this place
+unfoldable pub places_from : {X : Type 0} → ℕ → (X → Bool) → List X → List ℕ
 places_from place test [] = []
-places_from place test (stop ∷ stops) =
-    if test stop then place ∷ places_from (place + 1) test stops else places_from (place + 1) test stops
+places_from place test (x ∷ xs) =
+    if test x then place ∷ places_from (place + 1) test xs else places_from (place + 1) test xs
 
--- the places of the centres that pass, in order
-abbrev pub places : (Stop → Bool) → List Stop → List ℕ
-places test stops = places_from 0 test stops
+-- the places of those that pass, in order
+abbrev pub places : {X : Type 0} → (X → Bool) → List X → List ℕ
+places test xs = places_from 0 test xs
 
 -- the token stands there
 abbrev pub stands_at : Station → CentreAt → Bool

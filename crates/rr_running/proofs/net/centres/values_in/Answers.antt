@@ -1,4 +1,4 @@
-use Rattle.std.proofs.Common.{map, ap, ◌∙◌, arith}
+use Rattle.std.proofs.Common.{map, ap, ◌∙◌}
 use Rattle.std.proofs.lemmas.List.{take_all}
 use Rattle.rr_running.specs.Net.Centres.{value_in}
 use Rattle.rr_running.proofs.NetLemmas.ValueLemmas.{values-modest}

@@ -1,0 +1,112 @@
+//! Where hexes, hexsides and centres stand in their lists, by keys made of their names: so each is found among few.
+ghost use Rattle.std.specs.Prelude.{◌≡◌, ◌<◌, ◌≤◌, map, IfOk};
+ghost use Rattle.rr_running.specs.Net.Indexing.{AreIndicesOf, IsIndexOf, centre_key, folded, hex_key, name_key, side_key, stop_key};
+
+use rr_kit::board::Hex;
+use rr_network::{CentreAt, Hexside, Stop};
+use rr_routes::reachability::Index;
+use rr_words::HexName;
+use std::alloc::{AllocError, Global};
+
+// Keys of names are below this prime.
+const NAME_KEYS: usize = 1_000_003;
+
+// The places of hexes, hexsides and centres by their keys.
+#[derive(Drop)]
+pub(crate) struct Indices {
+    pub(crate) hexes: Index,
+    pub(crate) sides: Index,
+    pub(crate) stops: Index,
+}
+
+pub(crate) fn indices_of(
+    alloc: Global,
+    hexes: &[Hex],
+    sides: &[Hexside],
+    stops: &[Stop],
+) -> Result<Indices, AllocError>
+    ensures { IfOk result (λ indices. AreIndicesOf hexes.now sides.now stops.now indices) }
+{
+    let hexes = index_of_hexes(alloc, hexes)?;
+    let sides = index_of_sides(alloc, sides)?;
+    let stops = index_of_stops(alloc, stops)?;
+    Ok(Indices {
+        hexes,
+        sides,
+        stops,
+    })
+}
+
+fn index_of_hexes(alloc: Global, hexes: &[Hex]) -> Result<Index, AllocError>
+    ensures { IfOk result (λ index. IsIndexOf (map hex_key hexes.now) index) }
+{
+    let keys: Vec<usize> = hexes.iter().map(|hex| name_key(&hex.name)).collect(alloc)?;
+    let index = index_of(alloc, keys.as_slice())?;
+    Ok(index)
+}
+
+fn index_of_sides(alloc: Global, sides: &[Hexside]) -> Result<Index, AllocError>
+    ensures { IfOk result (λ index. IsIndexOf (map side_key sides.now) index) }
+{
+    let keys: Vec<usize> = sides.iter().map(|side| side_key(side)).collect(alloc)?;
+    let index = index_of(alloc, keys.as_slice())?;
+    Ok(index)
+}
+
+fn index_of_stops(alloc: Global, stops: &[Stop]) -> Result<Index, AllocError>
+    ensures { IfOk result (λ index. IsIndexOf (map stop_key stops.now) index) }
+{
+    let keys: Vec<usize> = stops
+        .iter()
+        .map(|stop| centre_key(&stop.at))
+        .collect(alloc)?;
+    let index = index_of(alloc, keys.as_slice())?;
+    Ok(index)
+}
+
+// Each key's place, noted in order.
+fn index_of(alloc: Global, keys: &[usize]) -> Result<Index, AllocError>
+    ensures { IfOk result (λ index. IsIndexOf keys.now index) }
+{
+    let mut index = Index::with_rows(alloc, keys.len())?;
+    for (place, key) in keys.iter().enumerate() {
+        index.note(*key, place)?;
+    }
+    Ok(index)
+}
+
+pub(crate) fn name_key(name: &HexName) -> usize
+    ensures value { result ≡ name_key name.now }
+    ensures bound { result < NAME_KEYS }
+{
+    let mut key = 0;
+    for character in name.as_bytes() {
+        key = (31 * key + usize::from(*character)) % NAME_KEYS;
+    }
+    key
+}
+
+pub(crate) fn centre_key(at: &CentreAt) -> usize
+    ensures { result ≡ centre_key at.now }
+{
+    name_key(&at.hex) + at.number % 8
+}
+
+pub(crate) fn side_key(side: &Hexside) -> usize
+    ensures { result ≡ side_key side.now }
+{
+    let q = folded(side.at.q);
+    let r = folded(side.at.r);
+    3 * (1009 * q + r) + usize::from(side.edge % 3)
+}
+
+// The coordinate as a number: those from 0 are the even ones.
+fn folded(coordinate: i16) -> usize
+    ensures value { result ≡ folded coordinate }
+    ensures bound { result ≤ 65536 }
+{
+    if coordinate < 0 {
+        return 2 * usize::from(coordinate.unsigned_abs()) - 1;
+    }
+    2 * usize::from(coordinate.unsigned_abs())
+}
