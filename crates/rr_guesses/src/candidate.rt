@@ -3,24 +3,20 @@ ghost use Rattle.std.specs.Prelude.{◌≡◌, IfOk, IfSome, true};
 ghost use Rattle.rr_guesses.specs.Certified.{IsCertified, IsModest};
 
 use crate::certificate::tree_for;
-use crate::runs::good_sheet;
-use crate::tracks::reached_tracks;
 use rr_books::Refusal;
 use rr_checker::{CertTree, Net, check};
 use rr_referee::legal;
 use rr_roster::Kind;
 use rr_routes::sheets::Sheet;
+use rr_tracks::{good_sheet, reached_tracks};
 use std::alloc::{AllocError, Global};
-
-// How the searches for a tree, one after the other, guess at the size of trees: what doubles it, and what a track
-// beside decided ones weighs in hundredths.
-const WEIGHTS: [(u64, u64); 2] = [(10, 90), (5, 60)];
 
 /// A legal sheet of the net's trains, whose kinds these are in order, and a certificate of at most `limit` nodes that
 /// no legal sheet earns more, if a guess finds both. That none is found says nothing of the net.
 ///
-/// A guess tries at most 200,000 routes, and each of its two searches for a tree splits no track more once it has
-/// looked 8,000 times at what the trains reach, to choose one. Only memory can fail.
+/// A guess tries at most 200,000 routes. A tree is grown at once, and if that fails over a plan of its splits: growing
+/// and planning end once they have looked 8,000 and 60,000 times at what the trains reach, on a large board earlier.
+/// Only memory can fail.
 pub fn guess(
     alloc: Global,
     net: &Net,
@@ -32,8 +28,8 @@ pub fn guess(
 {
     let tracks = reached_tracks(alloc, net)?;
     let (sheet, worth) = good_sheet(&tracks, kinds)?;
-    for weights in WEIGHTS {
-        if let Some(tree) = tree_for(&tracks, worth, weights, limit)? {
+    for is_planned in [false, true] {
+        if let Some(tree) = tree_for(&tracks, worth, is_planned, limit)? {
             if stands(alloc, net, &sheet, &tree, limit)? {
                 return Ok(Some((sheet, tree)));
             }

@@ -1,11 +1,19 @@
 //! The search for a certificate: a tree that splits the tracks in dispute, and takes from all trains the tracks that
 //! none of them can have.
 use crate::choice::{Ranked, best_split, sort_ranked};
-use crate::growth::{Growth, Level};
+use crate::growth::{Growth, Level, Weights};
 use crate::lost::{holding_of, holdings_of, least_worth, lost_tracks, may_go_to};
-use crate::sights::{Outlook, outlook_of};
-use crate::tracks::{Result, Tracks, set_mark};
+use crate::plan::{Branching, Plan};
+use crate::settling::planned;
 use rr_checker::{CertTree, Fate};
+use rr_tracks::{Outlook, Result, Tracks, outlook_of, set_mark};
+
+const WEIGHTS: Weights = Weights {
+    least: 64,
+    doubling: 10,
+    near: 90,
+    looks: 8_000,
+};
 
 // What becomes of a node.
 #[derive(Drop)]
@@ -15,15 +23,20 @@ enum Finding {
     GivenUp,
 }
 
-// A tree of at most so many nodes that shows that no run earns more than the claim, if one is found.
+// A tree of at most so many nodes that shows that no run earns more than the claim, if one is found: over a plan of
+// its splits, or with the splits that promise most at each node.
 pub(crate) fn tree_for(
     tracks: &Tracks,
     claim: u64,
-    weights: (u64, u64),
+    is_planned: bool,
     nodes: usize,
 ) -> Result<Option<CertTree>> {
-    let mut growth = Growth::new(tracks, claim, weights, nodes)?;
-    match tree_under(tracks, &mut growth, None, nodes)? {
+    let plan = match is_planned {
+        true => planned(tracks, claim)?,
+        false => Plan::new(tracks.alloc)?,
+    };
+    let mut growth = Growth::new(tracks, claim, WEIGHTS, nodes)?;
+    match tree_under(tracks, &mut growth, &plan, Some(0), None, nodes)? {
         Some(tree) if growth.has_full => {
             let whole = with_outer(tracks, tree)?;
             Ok(Some(whole))
@@ -53,17 +66,21 @@ fn denied_before(tracks: &Tracks, tree: CertTree, place: usize) -> Result<CertTr
     Ok(CertTree::Split(place, children))
 }
 
-// A tree that shows the same under what is decided so far, if one is found; `last` is the track that was split last.
+// A tree that shows the same under what is decided so far, if one is found; `case` is the case of the plan, and `last`
+// the track that was split last.
 fn tree_under(
     tracks: &Tracks,
     growth: &mut Growth,
+    plan: &Plan,
+    case: Option<usize>,
     last: Option<usize>,
     depth: usize,
 ) -> Result<Option<CertTree>> {
     if depth == 0 {
         return Ok(None);
     }
-    let track = match node_at(tracks, growth, last)? {
+    let split = split_at(plan, case);
+    let track = match node_at(tracks, growth, split, last)? {
         Finding::Leaf(leaf) => return Ok(Some(leaf)),
         Finding::GivenUp => return Ok(None),
         Finding::Split(track) => track,
@@ -72,16 +89,30 @@ fn tree_under(
     let mut children = Vec::new(tracks.alloc);
     for turn in 0..trains.saturating_add(1) {
         growth.set_fate(track, choice_at(trains.saturating_sub(turn)));
-        match tree_under(tracks, growth, Some(track), depth - 1)? {
+        let below = case_below(split, track, trains.saturating_sub(turn));
+        match tree_under(tracks, growth, plan, below, Some(track), depth - 1)? {
             None => return Ok(None),
             Some(child) => children.push(child)?,
         }
     }
     growth.set_fate(track, Fate::Open);
     children.reverse();
-    let split = CertTree::Split(tracks.place_of(track), children);
-    let tree = left_level(tracks, growth, split)?;
+    let node = CertTree::Split(tracks.place_of(track), children);
+    let tree = left_level(tracks, growth, node)?;
     Ok(Some(tree))
+}
+
+fn split_at(plan: &Plan, case: Option<usize>) -> Option<&Branching> {
+    plan.split_at(case?)
+}
+
+// The case of the planned split in which the track has the fate of that place.
+fn case_below(split: Option<&Branching>, track: usize, place: usize) -> Option<usize> {
+    let split = split?;
+    if split.track != track {
+        return None;
+    }
+    *split.cases.get(place)?
 }
 
 // The case of a split at that place: denied to all, then given to each train in turn.
@@ -105,7 +136,12 @@ fn left_level(tracks: &Tracks, growth: &mut Growth, tree: CertTree) -> Result<Ce
 }
 
 // A leaf where one stands, else the track to split, at a level of its own.
-fn node_at(tracks: &Tracks, growth: &mut Growth, last: Option<usize>) -> Result<Finding> {
+fn node_at(
+    tracks: &Tracks,
+    growth: &mut Growth,
+    planned: Option<&Branching>,
+    last: Option<usize>,
+) -> Result<Finding> {
     if !growth.spend(1) {
         return Ok(Finding::GivenUp);
     }
@@ -116,7 +152,7 @@ fn node_at(tracks: &Tracks, growth: &mut Growth, last: Option<usize>) -> Result<
     if let Some(leaf) = clash_of(tracks, growth, &outlook, last)? {
         return Ok(Finding::Leaf(leaf));
     }
-    grown(tracks, growth, &outlook)
+    grown(tracks, growth, planned, &outlook)
 }
 
 fn leaf_of(growth: &Growth, outlook: &Outlook) -> Option<CertTree> {
@@ -151,7 +187,12 @@ fn clash_of(
 }
 
 // A level for the node; a leaf where denying the lost tracks is enough, else the track to split.
-fn grown(tracks: &Tracks, growth: &mut Growth, outlook: &Outlook) -> Result<Finding> {
+fn grown(
+    tracks: &Tracks,
+    growth: &mut Growth,
+    planned: Option<&Branching>,
+    outlook: &Outlook,
+) -> Result<Finding> {
     let holdings = holdings_of(tracks, &growth.fates)?;
     let lost = lost_tracks(tracks, &growth.fates, &holdings, outlook)?;
     let rest = outlook_of(tracks, &growth.fates, &lost)?;
@@ -164,10 +205,26 @@ fn grown(tracks: &Tracks, growth: &mut Growth, outlook: &Outlook) -> Result<Find
             return Ok(finding);
         }
     }
-    match best_split(tracks, growth, &rest, &lost)? {
+    match chosen_split(tracks, growth, planned, &rest, &lost)? {
         Some(track) => Ok(Finding::Split(track)),
         None => Ok(Finding::GivenUp),
     }
+}
+
+// The planned track where it is open still, else the one that promises most.
+fn chosen_split(
+    tracks: &Tracks,
+    growth: &mut Growth,
+    planned: Option<&Branching>,
+    outlook: &Outlook,
+    lost: &[bool],
+) -> Result<Option<usize>> {
+    if let Some(split) = planned {
+        if growth.fates.get(split.track) == Some(&Fate::Open) {
+            return Ok(Some(split.track));
+        }
+    }
+    best_split(tracks, growth, outlook, lost)
 }
 
 fn add_level(tracks: &Tracks, growth: &mut Growth, lost: &[bool]) -> Result<()> {

@@ -1,7 +1,7 @@
 //! The tracks that trains can't have beside those that are decided.
-use crate::sights::{Outlook, worth_of};
-use crate::tracks::{Result, Tracks, has_mark, set_mark};
 use rr_checker::{CentreLimit, Fate};
+use rr_routes::reachability::is_marked;
+use rr_tracks::{Outlook, Result, Tracks, set_mark, worth_of};
 
 // The centres that the tracks of a train touch, and how many these are.
 #[derive(Drop)]
@@ -123,7 +123,7 @@ fn counts_over(tracks: &Tracks, holding: &Holding, track: usize, train: usize) -
         return false;
     };
     match stop_on(tracks, track) {
-        Some(stop) => *most <= holding.count && !has_mark(&holding.stops, stop),
+        Some(stop) => *most <= holding.count && !is_marked(&holding.stops, stop),
         None => false,
     }
 }

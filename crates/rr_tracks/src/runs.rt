@@ -1,15 +1,16 @@
 //! The best run of all trains over their routes.
+use crate::graph::{Result, Tracks, set_mark};
 use crate::routes::{Line, lines_of};
-use crate::tracks::{Result, Tracks, has_mark, set_mark};
 use rr_roster::Kind;
+use rr_routes::reachability::is_marked;
 use rr_routes::sheets::{LinkNumbers, Sheet, TrainWord};
 use std::alloc::Global;
 
 // How many routes are tried beside others.
 const TRIES: usize = 200_000;
 
-// The best run so far and the present one, in `picks`: for the trains from the last to the first the place of its route,
-// if it has one. The hexsides of the present one, and how many routes may still be tried.
+// The best run so far and the present one, in `picks`: for the trains from the last to the first the place of its
+// route, if it has one. The hexsides of the present one, and how many routes may still be tried.
 #[derive(Drop)]
 struct Trial {
     alloc: Global,
@@ -50,7 +51,7 @@ impl Trial {
 
     fn has_room_for(&self, line: &Line) -> bool {
         for side in &line.sides {
-            if has_mark(&self.taken, *side) {
+            if is_marked(&self.taken, *side) {
                 return false;
             }
         }
@@ -58,8 +59,8 @@ impl Trial {
     }
 }
 
-// The sheet of a run that earns much, and what it earns.
-pub(crate) fn good_sheet(tracks: &Tracks, kinds: &[Kind]) -> Result<(Sheet, u64)> {
+/// The sheet of a run that earns much, and what it earns.
+pub fn good_sheet(tracks: &Tracks, kinds: &[Kind]) -> Result<(Sheet, u64)> {
     let mut trains = Vec::new(tracks.alloc);
     for limit in &tracks.limits {
         let lines = lines_of(tracks, limit)?;

@@ -1,10 +1,14 @@
 //! The routes over the tracks: a path from a token to a centre, or two that have nothing but the token in common.
-use crate::tracks::{Result, Tracks, has_counted, has_mark, set_mark};
+use crate::graph::{Result, Tracks, has_counted, set_mark};
 use rr_checker::CentreLimit;
+use rr_routes::reachability::is_marked;
 use smallvec::SmallVec;
 
 // How many paths from one token are followed at most.
 const ARMS: usize = 4000;
+
+// How many ways are followed in looking for them at most.
+const STEPS: usize = 500_000;
 
 // How many of them, those that earn most, are joined in pairs.
 const JOINED: usize = 400;
@@ -29,6 +33,8 @@ struct Walker {
     worth: u64,
     shut: Vec<bool>,
     arms: Vec<Arm>,
+    // How many ways may still be followed.
+    steps: usize,
 }
 
 // A token, and the paths from it, the best first.
@@ -159,7 +165,7 @@ fn nodes_of(tracks: &Tracks, arm: &Arm) -> Result<Vec<bool>> {
 
 fn meets(tracks: &Tracks, nodes: &[bool], arm: &Arm) -> bool {
     for way in &arm.ways {
-        if has_mark(nodes, tracks.ending(*way)) {
+        if is_marked(nodes, tracks.ending(*way)) {
             return true;
         }
     }
@@ -180,6 +186,7 @@ fn arms_of(
         worth: 0,
         shut: Vec::from_slice(tracks.alloc, earlier)?,
         arms: Vec::new(tracks.alloc),
+        steps: STEPS,
     };
     for start in &tracks.starts {
         if tracks.beginning(*start) == token {
@@ -194,7 +201,11 @@ fn arms_of(
 // Goes on over the way from the path that is followed, and notes each centre that it comes to.
 fn follow(tracks: &Tracks, way: usize, walker: &mut Walker, depth: usize) -> Result<()> {
     let node = tracks.ending(way);
-    if depth == 0 || walker.arms.len() >= ARMS || !set_mark(&mut walker.shut, node, true) {
+    if depth == 0 || walker.steps == 0 || walker.arms.len() >= ARMS {
+        return Ok(());
+    }
+    walker.steps = walker.steps.saturating_sub(1);
+    if !set_mark(&mut walker.shut, node, true) {
         return Ok(());
     }
     let (centres, worth) = (walker.centres, walker.worth);
