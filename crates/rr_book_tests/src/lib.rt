@@ -9,6 +9,8 @@ mod desk;
 #[cfg(test)]
 mod opening;
 #[cfg(test)]
+mod parts;
+#[cfg(test)]
 mod refusals;
 #[cfg(test)]
 mod shares;

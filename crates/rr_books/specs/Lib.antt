@@ -8,3 +8,5 @@ pub mod ShareLaws
 pub mod Opening
 pub mod Totals
 pub mod Seating
+pub mod Bytes
+pub mod Parts

@@ -17,12 +17,12 @@ use std::marker::Model;
 /// The running balances and places of a table, which stand for its book. It takes no memory, and `Copy` copies it.
 #[derive(Clone, Copy, Debug)]
 pub struct Books {
-    cash: [i64; 15],
-    payments: u32,
-    players: u8,
-    places: [Place; 78],
-    trains: [Place; 120],
-    counts: [u8; 6],
+    pub(crate) cash: [i64; 15],
+    pub(crate) payments: u32,
+    pub(crate) players: u8,
+    pub(crate) places: [Place; 78],
+    pub(crate) trains: [Place; 120],
+    pub(crate) counts: [u8; 6],
 }
 
 impl Model for Books {

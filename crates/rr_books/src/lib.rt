@@ -1,16 +1,18 @@
 //! The books of a table: a list of entries, oldest first, and the running balances and places that stand for it.
 //!
-//! Stands on `rr_roster`. Its promise: `IsStateOf`, the running tables are those of the list of entries, whatever list
-//! it is.
+//! Stands on `rr_spelling` and `rr_roster`. Its promise: `IsStateOf`, the running tables are those of the list of
+//! entries, whatever list it is.
 #![tactic(auto)]
 
 mod acts;
+mod bytes;
 mod certificates;
 mod clause;
 mod entries;
 pub mod laws;
 mod ledger;
 mod parties;
+mod parts;
 mod refusal;
 mod seating;
 mod start;
@@ -21,6 +23,7 @@ pub use clause::Clause;
 pub use entries::{Cell, Entry, Marker};
 pub use ledger::Books;
 pub use parties::{Money, Party, Place, Seat};
+pub use parts::BooksParts;
 pub use refusal::Refusal;
 pub use rr_roster::{Corp, Kind, Private, ShareSource, TrainSource};
 pub use seating::left_of;

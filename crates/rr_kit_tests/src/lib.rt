@@ -1,4 +1,5 @@
-//! The tests of the crates that read a kit: `rr_words`, `rr_roster`, `rr_chart`, `rr_tiles` and `rr_kit`.
+//! The tests of `rr_spelling`, and of the crates that read a kit: `rr_words`, `rr_roster`, `rr_chart`, `rr_tiles` and
+//! `rr_kit`.
 #![tactic(auto)]
 
 #[cfg(test)]
@@ -9,6 +10,8 @@ mod chart;
 mod kit;
 #[cfg(test)]
 mod roster;
+#[cfg(test)]
+mod spelling;
 #[cfg(test)]
 mod tiles;
 #[cfg(test)]

@@ -1,9 +1,10 @@
 //! The roster of a kit: the privates, the corporations and the trains of a game, read from a TOML text.
 //!
-//! Stands on `toml`. Its promise: `Roster::read` is `IsAnswer`, the roster that the text spells or the
-//! first rule that it breaks.
+//! Stands on `rr_spelling` and `toml`. Its promise: `Roster::read` is `IsAnswer`, the roster that the text spells or
+//! the first rule that it breaks.
 #![tactic(auto)]
 
+mod bytes;
 mod company;
 mod document;
 mod fault;

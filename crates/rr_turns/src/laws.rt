@@ -1,4 +1,5 @@
 //! What always holds of tables that are taken back. The calls do nothing: their contracts hold of all tables.
+ghost use Rattle.rr_turns.specs.Ends.{BackKeepsItsCount, BackKeepsItsEnds, EachTurnHasItsEnd, EndsGrowAtTheEnd};
 ghost use Rattle.rr_turns.specs.Laws.{BackEndsWithItsTurn, BackToThePresentTurn, EndedTurnsStay, FloorsNeverFall, OneFrontEndsWithATurn, StampsNeverFall};
 
 /// Each accepted request raises the stamp by one, a take-back too.
@@ -29,4 +30,24 @@ pub fn back_to_the_present_turn<C>()
 /// What is played later changes no turn that has ended.
 pub fn ended_turns_stay<C>()
     ensures { EndedTurnsStay C }
+{}
+
+/// A table that is taken back to a turn keeps as many commands as were kept at that turn's end.
+pub fn back_keeps_its_count<C>()
+    ensures { BackKeepsItsCount C }
+{}
+
+/// One command more tells one turn's end more, if it ends a turn: the count of commands with it.
+pub fn ends_grow_at_the_end<C>()
+    ensures { EndsGrowAtTheEnd C }
+{}
+
+/// Each turn that has ended has its count, and turn 0 the opening's.
+pub fn each_turn_has_its_end<C>()
+    ensures { EachTurnHasItsEnd C }
+{}
+
+/// A table that is taken back to a turn keeps the counts of the turns up to that one.
+pub fn back_keeps_its_ends<C>()
+    ensures { BackKeepsItsEnds C }
 {}

@@ -1,9 +1,10 @@
 //! The words of a line and of a text: names, numbers, and how a line and a text are cut into words.
 //!
-//! Stands on std alone. Its promise: each reader (`Name::table`, `Name::player`, `number`) finds exactly what is
+//! Stands on `rr_spelling`. Its promise: each reader (`Name::table`, `Name::player`, `number`) finds exactly what is
 //! spelled, and `words` and joining are inverse.
 #![tactic(auto)]
 
+mod bytes;
 pub mod laws;
 pub mod line;
 pub mod name;
