@@ -1,12 +1,12 @@
 use rr_serve::{
-    CountingReader, CountingWriter, Fault, Input, LineBuffer, Machine, Output, laws, line, send,
-    serve,
+    CountingReader, CountingWriter, Ending, Fault, Input, LineBuffer, Machine, Output, laws, line,
+    send, serve,
 };
 use rr_words::LONGEST_LINE;
 use std::alloc::{AllocError, Global};
 use std::cell::Cell;
 use std::io;
-use std::io::{ErrorKind, Read, Write};
+use std::io::{BufRead, BufReader, ErrorKind, Read, Write};
 use std::process::Abort;
 
 /// Replies with the line itself, and says which lines are too long.
@@ -79,28 +79,26 @@ impl Write for Stuck {
     }
 }
 
-/// A reader that fails behind its last byte. It notes how many bytes were flushed as each line began.
+/// A reader that gives a chunk at each read, and ends behind the last. At an empty chunk the read fails. It notes how
+/// many bytes were flushed at each read.
 #[derive(Drop)]
-struct Torn<'a> {
-    rest: &'a [u8],
-    begins: bool,
+struct Chunks<'a> {
+    chunks: &'a [&'a str],
     flushed: &'a Cell<usize>,
     seen: Vec<usize>,
 }
 
-impl Read for Torn<'_> {
+impl Read for Chunks<'_> {
     fn read(&mut self, buf: &mut [u8]) -> io::Result<usize> {
-        if self.begins {
-            self.seen.push(self.flushed.get())?;
-        }
-        match self.rest.split_first() {
-            Some((byte, others)) if !buf.is_empty() => {
-                buf[0] = *byte;
-                self.begins = *byte == b'\n';
-                self.rest = others;
-                Ok(1)
+        let chunk = self.chunks.get(self.seen.len());
+        self.seen.push(self.flushed.get())?;
+        match chunk {
+            Some(chunk) if !chunk.is_empty() => {
+                let mut bytes = chunk.as_bytes();
+                bytes.read(buf)
             }
-            _ => Err(io::Error::from(ErrorKind::ConnectionReset)),
+            Some(_) => Err(io::Error::from(ErrorKind::ConnectionReset)),
+            None => Ok(0),
         }
     }
 }
@@ -124,7 +122,7 @@ struct Served {
 }
 
 // The calls have no contracts, so that what a test does costs its proof little.
-fn serve_lines<R: Read, W: Write>(
+fn serve_lines<R: BufRead, W: Write>(
     alloc: Global,
     buffer: &mut LineBuffer,
     reader: &mut R,
@@ -142,7 +140,20 @@ fn serve_lines<R: Read, W: Write>(
     })
 }
 
-// Serves a whole input to a writer that takes all.
+// Whether a whole input is served with this output, to a writer that takes all, and how many lines the machine took.
+fn answered_whole<R: BufRead>(
+    alloc: Global,
+    buffer: &mut LineBuffer,
+    reader: &mut R,
+    output: &[u8],
+) -> Result<(bool, usize), AllocError> {
+    let mut written = Vec::new(alloc);
+    let served = serve_lines(alloc, buffer, reader, &mut written)?;
+    let whole = served.result == Ok(()) && served.failed_reads == 0 && served.failed_writes == 0;
+    Ok((whole && written.as_slice() == output, served.lines))
+}
+
+// Serves a whole input at once, and by chunks of three bytes.
 fn check_served(
     rt: &impl Abort,
     alloc: Global,
@@ -150,13 +161,13 @@ fn check_served(
     input: &[u8],
     output: &[u8],
 ) -> usize {
-    let mut reader = input;
-    let mut written = Vec::new(alloc);
-    let served = serve_lines(alloc, buffer, &mut reader, &mut written).expect(rt, "memory");
-    assert!(rt; served.result == Ok(()));
-    assert!(rt; (served.failed_reads, served.failed_writes) == (0, 0));
-    assert!(rt; written.as_slice() == output);
-    served.lines
+    let mut at_once = input;
+    let (whole, lines) = answered_whole(alloc, buffer, &mut at_once, output).expect(rt, "memory");
+    assert!(rt; whole);
+    let mut chunks = BufReader::with_capacity(alloc, 3, input).expect(rt, "memory");
+    let by_chunks = answered_whole(alloc, buffer, &mut chunks, output);
+    assert!(rt; by_chunks == Ok((true, lines)));
+    lines
 }
 
 #[test]
@@ -215,28 +226,85 @@ fn ends_where_the_device_fails(rt: HostRuntime) {
     assert!(rt; reader == b"more\n".as_slice());
 }
 
-#[test]
-fn answers_before_it_reads_on(rt: HostRuntime) {
+fn make_chunks<'a>(
+    alloc: Global,
+    chunks: &'a [&'a str],
+    flushed: &'a Cell<usize>,
+) -> io::Result<BufReader<Chunks<'a>>> {
+    let seen = Vec::new(alloc);
+    BufReader::new(
+        alloc,
+        Chunks {
+            chunks,
+            flushed,
+            seen,
+        },
+    )
+}
+
+// How serving the chunks ended, by one `serve` behind another where one failed.
+fn served_by_chunks(
+    alloc: Global,
+    buffer: &mut LineBuffer,
+    reader: &mut BufReader<Chunks<'_>>,
+    writer: &mut Drip<'_>,
+) -> Result<bool, AllocError> {
+    let served = serve_lines(alloc, buffer, reader, writer)?;
+    if served.result == Ok(()) {
+        return Ok(served.failed_reads == 0);
+    }
+    let again = serve_lines(alloc, buffer, reader, writer)?;
+    Ok(served.failed_reads == 1 && again.result == Ok(()) && again.failed_reads == 0)
+}
+
+// Whether the chunks are answered so, and so many bytes were flushed at each read.
+fn is_answered_between_reads(
+    alloc: Global,
+    buffer: &mut LineBuffer,
+    chunks: &[&str],
+    output: &str,
+    seen: &[usize],
+) -> io::Result<bool> {
     let flushed = Cell::new(0);
-    let mut buffer = make_buffer(rt.alloc()).expect(&rt, "memory");
-    let mut reader = Torn {
-        rest: b"one\n\nthree\nfo",
-        begins: true,
-        flushed: &flushed,
-        seen: Vec::new(rt.alloc()),
-    };
+    let mut reader = make_chunks(alloc, chunks, &flushed)?;
     let mut writer = Drip {
-        bytes: Vec::new(rt.alloc()),
+        bytes: Vec::new(alloc),
         room: usize::MAX,
         flushed: &flushed,
     };
-    let served = serve_lines(rt.alloc(), &mut buffer, &mut reader, &mut writer).expect(
-        &rt, "memory",
-    );
-    assert!(rt; served.result == Err(Fault::StreamFailed));
-    assert!(rt; (served.failed_reads, served.failed_writes) == (1, 0));
-    assert!(rt; writer.bytes.as_slice() == b"one\n\nthree\n".as_slice());
-    assert!(rt; reader.seen.as_slice() == [0, 4, 5, 11].as_slice());
+    let ended = served_by_chunks(alloc, buffer, &mut reader, &mut writer)?;
+    let chunks = reader.into_inner();
+    Ok(ended && writer.bytes.as_slice() == output.as_bytes() && chunks.seen.as_slice() == seen)
+}
+
+#[test]
+fn answers_before_it_reads_on(rt: HostRuntime) {
+    let mut buffer = make_buffer(rt.alloc()).expect(&rt, "memory");
+    for (chunks, output, seen) in [
+        // A line a chunk, and one over three chunks.
+        (["one\n", "t", "w", "o\n"], "one\ntwo\n", [0, 4, 4, 4, 8]),
+        // Several lines in a chunk, and half a line.
+        (
+            ["one\n\nthree\nfo", "ur\n", "a\nb", "\n"],
+            "one\n\nthree\nfour\na\nb\n",
+            [0, 11, 16, 18, 20],
+        ),
+        // A line feed first, a read that fails between two lines, and a rest.
+        (
+            ["one", "\ntwo\n", "", "three\nfo"],
+            "one\ntwo\nthree\nno 55 malformed line\n",
+            [0, 0, 8, 8, 14],
+        ),
+        // A read that fails behind half a line: that half has no reply, and isn't kept.
+        (
+            ["one\ntw", "", "o\n", "x\n"],
+            "one\no\nx\n",
+            [0, 4, 4, 6, 8],
+        ),
+    ] {
+        let right = is_answered_between_reads(rt.alloc(), &mut buffer, &chunks, output, &seen);
+        assert!(rt; right.expect(&rt, "memory"));
+    }
 }
 
 #[test]
@@ -280,31 +348,45 @@ fn a_line_is_taken_whatever_the_writer_does(rt: HostRuntime) {
     assert!(rt; machine.lines == 3);
 }
 
-/// A reader that tells its end once, and then goes on.
-#[derive(Drop)]
-struct Typed {
-    reads: u64,
+// Whether the next part of the line ends so, and leaves this of it.
+fn is_taken<I: Input>(
+    input: &mut I,
+    line: &mut LineBuffer,
+    ending: Result<Option<Ending>, Fault>,
+    kept: &str,
+) -> bool {
+    let part = input.take_part(line);
+    part == ending && line.as_slice() == kept.as_bytes()
 }
 
-impl Read for Typed {
-    fn read(&mut self, buf: &mut [u8]) -> io::Result<usize> {
-        self.reads = self.reads.saturating_add(1);
-        if self.reads == 2 || buf.is_empty() {
-            return Ok(0);
-        }
-        buf[0] = b'x';
-        Ok(1)
-    }
+// Whether lines are taken part by part, a line feed is none of them, and a failed read adds nothing.
+fn takes_parts<I: Input>(input: &mut I, line: &mut LineBuffer) -> bool {
+    line.clear();
+    let failed = is_taken(input, line, Err(Fault::StreamFailed), "");
+    let begun = is_taken(input, line, Ok(None), "on");
+    let ended = is_taken(input, line, Ok(Some(Ending::LineFeed)), "one");
+    line.clear();
+    let empty = is_taken(input, line, Ok(Some(Ending::LineFeed)), "");
+    line.add(b"a ");
+    let rest = is_taken(input, line, Ok(None), "a rest");
+    failed && begun && ended && empty && rest && input.failures() == 1
+}
+
+// Whether it has ended, and says so again.
+fn has_ended<I: Input>(input: &mut I, line: &mut LineBuffer) -> bool {
+    let end = is_taken(input, line, Ok(Some(Ending::EndOfInput)), "a rest");
+    let again = is_taken(input, line, Ok(Some(Ending::EndOfInput)), "a rest");
+    end && again
 }
 
 #[test]
 fn an_ended_reader_is_not_read_again(rt: HostRuntime) {
-    let mut input = CountingReader::new(Typed { reads: 0 });
-    assert!(rt; input.next_byte() == Ok(Some(b'x')));
-    assert!(rt; input.next_byte() == Ok(None));
-    assert!(rt; input.next_byte() == Ok(None));
-    assert!(rt; input.failures() == 0);
-    assert!(rt; input.into_inner().reads == 2);
+    let flushed = Cell::new(0);
+    let mut line = make_buffer(rt.alloc()).expect(&rt, "memory");
+    let reader = make_chunks(rt.alloc(), &["", "on", "e\n\nrest"], &flushed);
+    let mut input = CountingReader::new(reader.expect(&rt, "memory"));
+    assert!(rt; takes_parts(&mut input, &mut line) && has_ended(&mut input, &mut line));
+    assert!(rt; input.into_inner().into_inner().seen.len() == 4);
 }
 
 #[test]

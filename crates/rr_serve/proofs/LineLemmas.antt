@@ -1,7 +1,7 @@
 -- Lemmas on lists and on what is kept of a line.
-use Rattle.std.proofs.Common.{◌≡◌, ℕ, zero, suc, ◌+◌, ◌-◌, ◌<◌, ◌≤◌, List, [], ◌∷◌, ◌++◌, length, take, drop, refl, ap, sym, arith, length-append, min, ◌∙◌}
-use Rattle.std.proofs.lemmas.List.{take_all, take-append-le, take_rest, take_min, append-nil}
-use Rattle.std.proofs.Math.Seq.{take-add}
+use Rattle.std.proofs.Common.{◌≡◌, ℕ, zero, suc, ◌+◌, ◌-◌, ◌≤◌, List, [], ◌∷◌, ◌++◌, length, take, drop, refl, ap, sym, arith, min, ◌∙◌}
+use Rattle.std.proofs.lemmas.List.{take_rest, take_min, append-nil}
+use Rattle.std.proofs.Math.Seq.{take-add, take-append-add}
 use Rattle.std.proofs.Math.Nat.{min_comm}
 use Rattle.std.specs.List.{AllByRecursion}
 use Rattle.rr_serve.specs.Lines.{taken}
@@ -32,6 +32,10 @@ pub AllByRecursion-push : {X : Type 0} (P : X → Type 0) (xs : List X) (x : X) 
 AllByRecursion-push P [] x all here = (here, tt)
 AllByRecursion-push P (y ∷ ys) x all here = (all.0, AllByRecursion-push P ys x all.1 here)
 
+pub AllByRecursion-append : {X : Type 0} (P : X → Type 0) (xs ys : List X) → AllByRecursion P xs → AllByRecursion P ys → AllByRecursion P (xs ++ ys)
+AllByRecursion-append P [] ys first second = second
+AllByRecursion-append P (x ∷ xs) ys first second = (first.0, AllByRecursion-append P xs ys first.1 second)
+
 -- to take as many as there are at most takes them all
 pub taken-min : (known : ℕ) (xs : List ℕ) → known ≡ min (length xs) 8001 → take known xs ≡ taken xs
 unfolding taken
@@ -41,15 +45,13 @@ pub taken-nil : taken [] ≡ []
 unfolding taken
 taken-nil = refl
 
--- a byte more fits
-pub taken-room : (xs : List ℕ) (x : ℕ) → length xs < 8001 → taken (xs ++ x ∷ []) ≡ xs ++ x ∷ []
+-- what fits of more bytes is kept
+pub taken-room : (xs ys : List ℕ) → length xs ≤ 8001 → xs ++ take (min (length ys) (8001 - length xs)) ys ≡ taken (xs ++ ys)
 unfolding taken
-taken-room xs x room = take_all 8001 (xs ++ x ∷ []) (omega (arith, length-append xs (x ∷ [])))
-
--- a byte more doesn't fit
-pub taken-full : (xs : List ℕ) (x : ℕ) → length xs ≡ 8001 → taken (xs ++ x ∷ []) ≡ xs
-unfolding taken
-taken-full xs x full = take-append-le 8001 xs (x ∷ []) (omega arith) ∙ take_all 8001 xs (omega arith)
+taken-room xs ys fits =
+    let room : length xs + (8001 - length xs) ≡ 8001 = omega arith in
+    ap (λ n. xs ++ take n ys) (min_comm (length ys) (8001 - length xs)) ∙ ap (λ zs. xs ++ zs) (take_min (8001 - length xs) ys)
+    ∙ sym (take-append-add xs ys (8001 - length xs)) ∙ ap (λ n. take n (xs ++ ys)) room
 
 -- what the buffer has taken says as much of the line as the line itself
 pub taken-append_taken : (xs ys : List ℕ) → taken (taken xs ++ ys) ≡ taken (xs ++ ys)

@@ -1,29 +1,31 @@
-ghost use Rattle.std.specs.Prelude.{◌≡◌, ◌-◌, ◌^◌, [], IfOk, IfErr, OnErr, IsNone, option_to_list};
-ghost use Rattle.rr_serve.specs.Streams.{InputState, HasEnded, Gives, FailsToGive};
+ghost use Rattle.std.specs.Prelude.{◌≡◌, ◌-◌, ◌<◌, ◌^◌, []};
+ghost use Rattle.rr_serve.specs.Parts.{TakesReady};
+ghost use Rattle.rr_serve.specs.Reading.{TakesPart};
+ghost use Rattle.rr_serve.specs.Streams.{InputState};
 
 use crate::faults::Fault;
+use crate::line_buffer::LineBuffer;
+use crate::reading::{Ending, Part, part_of};
 use crate::record::StreamRecord;
-use std::io::Read;
+use std::io::BufRead;
 
-/// What gives bytes, and counts the reads that fail.
+/// What gives lines by parts, and counts the reads that fail.
 pub trait Input {
     /// What it has seen so far.
     ghost state: { Self → InputState };
 
-    /// The next byte, or none at the end. An error, `StreamFailed`, comes where a read failed, and is counted.
-    fn next_byte(&mut self) -> Result<Option<u8>, Fault>
-        ensures gives { IfOk result (λ byte. Gives (state self.old) (option_to_list byte) (state self.new)) }
-        ensures end { IfOk result (λ byte. IsNone byte → HasEnded (state self.new)) }
-        ensures err { OnErr result (FailsToGive (state self.old) (state self.new)) }
-        ensures fault { IfErr result (λ fault. fault ≡ Fault.StreamFailed) };
+    /// Adds to the line what stands ready of it, and tells how it ended, or none where it goes on. Only where nothing
+    /// stands ready more is waited for. An error, `StreamFailed`, comes where a read failed, and is counted.
+    fn take_part(&mut self, line: &mut LineBuffer) -> Result<Option<Ending>, Fault>
+        ensures { TakesPart (state self.old) (state self.new) line.old line.new result };
 
     /// How many reads failed so far, up to 2^64 - 1.
     fn failures(&self) -> u64
         ensures { result ≡ (state self.now).failures };
 }
 
-/// A reader as an input. It is read a byte at a time, so let a reader of the system be a buffered one. Once it has told
-/// its end it isn't read again; a read behind 2^64 - 1 bytes isn't made, and counts as failed.
+/// A buffered reader as an input. Once it has told its end it isn't read again; a read behind 2^64 - 1 bytes isn't
+/// made, and counts as failed.
 #[derive(Drop)]
 pub struct CountingReader<R> {
     reader: R,
@@ -34,7 +36,7 @@ pub struct CountingReader<R> {
     notes: StreamRecord,
 }
 
-impl<R: Read> CountingReader<R> {
+impl<R: BufRead> CountingReader<R> {
     ghost use Rattle.rr_serve.specs.Counting.{input_state, reader_beneath};
 
     pub fn new(reader: R) -> CountingReader<R>
@@ -66,31 +68,22 @@ impl<R: Read> CountingReader<R> {
     }
 }
 
-impl<R: Read> Input for CountingReader<R> {
+impl<R: BufRead> Input for CountingReader<R> {
     ghost use Rattle.rr_serve.specs.Counting.{input_state};
 
     ghost state = { λ counting. input_state R.remaining counting };
 
-    fn next_byte(&mut self) -> Result<Option<u8>, Fault> {
+    fn take_part(&mut self, line: &mut LineBuffer) -> Result<Option<Ending>, Fault> {
         if self.at_end {
-            return Ok(None);
+            return Ok(Some(Ending::EndOfInput));
         }
-        if self.left == 0 {
-            self.failures = self.failures.saturating_add(1);
-            return Err(Fault::StreamFailed);
-        }
-        let mut byte = [0];
-        match self.reader.read(&mut byte) {
-            Ok(0) => {
-                self.at_end = true;
-                Ok(None)
+        match take_ready(&mut self.reader, self.left, line, &mut self.notes) {
+            Some(part) => {
+                self.left -= part.count as u64;
+                self.at_end = part.count == 0;
+                Ok(part.ending)
             }
-            Ok(_) => {
-                self.left -= 1;
-                self.notes.note(&[byte[0]]);
-                Ok(Some(byte[0]))
-            }
-            Err(_) => {
+            None => {
                 self.failures = self.failures.saturating_add(1);
                 Err(Fault::StreamFailed)
             }
@@ -100,4 +93,28 @@ impl<R: Read> Input for CountingReader<R> {
     fn failures(&self) -> u64 {
         self.failures
     }
+}
+
+/// Takes out of the reader what stands ready of the line, by at most one read, and notes it. None comes where the read
+/// failed, or no byte may be taken any more.
+fn take_ready<R: BufRead>(
+    reader: &mut R,
+    most: u64,
+    line: &mut LineBuffer,
+    notes: &mut StreamRecord,
+) -> Option<Part>
+    ensures { TakesReady (R.remaining reader.old) (R.remaining reader.new) notes.old.bytes notes.new.bytes line.old line.new most result }
+{
+    if most == 0 {
+        return None;
+    }
+    let ready = match reader.fill_buf() {
+        Ok(ready) => ready,
+        Err(_) => return None,
+    };
+    let part = part_of(ready, most);
+    line.add(&ready[..part.kept]);
+    notes.note(&ready[..part.count]);
+    reader.consume(part.count);
+    Some(part)
 }

@@ -1,9 +1,9 @@
 //! Reads lines, hands each to a machine that answers, and writes the replies.
-//! A reply is written and flushed before the next line is read, so that a program can send a line and wait.
+//! A reply is written and flushed before the next line is waited for, so that a program can send a line and wait.
 //! What it reads and writes counts the reads and writes that fail, so that a failure is told exactly where one came.
 //!
-//! Stands on std alone. Its promise: `serve` is a `Session`, the machine's replies to the lines that were read, each
-//! whole and flushed.
+//! Stands on std and `memchr`. Its promise: `serve` is a `Session`, the machine's replies to the lines that were read,
+//! each whole and flushed.
 #![tactic(auto)]
 
 mod answering;
@@ -21,4 +21,5 @@ pub use faults::Fault;
 pub use input::{CountingReader, Input};
 pub use line_buffer::LineBuffer;
 pub use output::{CountingWriter, Output, send};
+pub use reading::Ending;
 pub use serving::serve;

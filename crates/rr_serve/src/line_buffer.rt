@@ -1,11 +1,11 @@
-ghost use Rattle.std.specs.Prelude.{◌≡◌, [], ◌∷◌, ◌++◌, IfOk};
+ghost use Rattle.std.specs.Prelude.{◌≡◌, [], ◌++◌, IfOk};
 ghost use Rattle.rr_serve.specs.Lines.{taken};
 
 use rr_words::LONGEST_LINE;
 use std::alloc::{AllocError, Global};
 use std::marker::Model;
 
-/// Room for a line. It keeps one byte more than the longest line has, which tells that a line is too long.
+/// Room for a line. It keeps at most one byte more than the longest line has, which tells that a line is too long.
 #[derive(Drop)]
 pub struct LineBuffer {
     bytes: Vec<u8>,
@@ -32,22 +32,25 @@ impl LineBuffer {
         Ok(LineBuffer { bytes })
     }
 
-    pub(crate) fn clear(&mut self)
+    /// Keeps nothing of the line any more.
+    pub fn clear(&mut self)
         ensures { self.new ≡ [] }
     {
         self.bytes.clear();
     }
 
-    /// Adds a byte, unless the buffer is full: then the line is too long, and what else it has is not kept.
-    pub(crate) fn add(&mut self, byte: u8)
-        ensures { self.new ≡ taken (self.old ++ byte ∷ []) }
+    /// Adds bytes as far as there is room. Where there isn't, the line is too long, and what else it has is not kept.
+    pub fn add(&mut self, bytes: &[u8])
+        ensures added { self.new ≡ taken (self.old ++ bytes.now) }
+        ensures nothing { bytes.now ≡ [] → self.new ≡ self.old }
     {
-        if self.bytes.len() <= LONGEST_LINE {
-            self.bytes.push(byte).unwrap();
-        }
+        let room = LONGEST_LINE + 1 - self.bytes.len();
+        let kept = bytes.len().min(room);
+        self.bytes.extend_from_slice(&bytes[..kept]).unwrap();
     }
 
-    pub(crate) fn as_slice(&self) -> &[u8]
+    /// What is kept of the line.
+    pub fn as_slice(&self) -> &[u8]
         ensures { result.now ≡ self.now }
     {
         self.bytes.as_slice()

@@ -18,7 +18,7 @@ const DEVICE_FAILURE: &[u8] = b"no 60 ";
 const MALFORMED_LINE: &[u8] = b"no 55 malformed line\n";
 
 /// Answers each line that the reader gives, in turn: a reply is written, and the writer flushed, before the next line
-/// is read. It ends with `Ok` at the end of the input.
+/// is taken. It ends with `Ok` at the end of the input.
 ///
 /// # Errors
 /// `DeviceFailed` behind a reply that begins with `no 60 `, `StreamFailed` where a read, a write or a flush failed.
