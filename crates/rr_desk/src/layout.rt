@@ -2,6 +2,7 @@
 //!
 //! Stands on `rr_books`. Its promise: `IsLayoutOf`, kept by `follow` for any entry for which there is room.
 
+mod bytes;
 mod layout;
 
 pub use layout::{Lay, Layout, MOST_LAYS, MOST_STATIONS, Station};

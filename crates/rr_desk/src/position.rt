@@ -4,6 +4,8 @@
 //! Stands on the views. Its promise: `Position::follow` keeps `IsPositionOf` for every book, with any entry that fits.
 
 pub mod laws;
+mod parts;
 mod position;
 
+pub use parts::PositionParts;
 pub use position::{MOST_ENTRIES, Position};

@@ -5,3 +5,4 @@ pub mod SortLemmas
 pub mod FallLemmas
 pub mod ArrivalLemmas
 pub mod OperationsLemmas
+pub mod PartLemmas

@@ -7,3 +7,4 @@ pub mod Arrivals
 pub mod State
 pub mod StateLaws
 pub mod Operations
+pub mod Parts

@@ -4,3 +4,5 @@ pub mod Progress
 pub mod Due
 pub mod OperatingLaws
 pub mod WorkedRound
+pub mod Bytes
+pub mod Parts

@@ -1,7 +1,7 @@
-ghost use Rattle.std.specs.Prelude.{◌≡◌, true, false, nat_lt, slice_index};
+ghost use Rattle.std.specs.Prelude.{◌≡◌, true, false, nat_lt, slice_index, MatchOption};
 ghost use Rattle.rr_roster.specs.Company.{corp_index};
 ghost use Rattle.rr_books.specs.Same.{same_corp};
-ghost use Rattle.rr_market.specs.Arrivals.{lowered, ranks_after};
+ghost use Rattle.rr_market.specs.Arrivals.{AreRanks, are_ranks, lowered, ranks_after};
 
 use rr_books::Corp;
 use std::marker::Model;
@@ -33,6 +33,25 @@ impl Arrivals {
         }
     }
 
+    // The order that these numbers tell, if they are eight different ones from 0 to 7.
+    #[tactic(auto, using(crate::proofs::PartLemmas::ranks_tested, crate::proofs::PartLemmas::ranks_test))]
+    pub(crate) fn from_ranks(ranks: [u8; 8]) -> Option<Arrivals>
+        ensures { MatchOption result (AreRanks ranks → ⊥) (λ arrivals. AreRanks ranks × (arrivals ≡ ranks)) }
+    {
+        if !are_ranks(&ranks) {
+            return None;
+        }
+        Some(Arrivals { ranks })
+    }
+
+    // The number of each corporation.
+    pub(crate) fn ranks(&self) -> [u8; 8]
+        ensures value { result ≡ self.now }
+        ensures sound { AreRanks result }
+    {
+        self.ranks
+    }
+
     // The corporation's number: greater than those of all whose token moved last before its own did.
     pub(crate) fn of(&self, corp: Corp) -> u8
         ensures { result ≡ slice_index self.now (corp_index corp) }
@@ -60,4 +79,14 @@ fn lowered(before: u8, rank: u8) -> u8
     ensures { result ≡ lowered before rank }
 {
     if rank > before { rank - 1 } else { rank }
+}
+
+// Whether these are different numbers below 8.
+fn are_ranks(ranks: &[u8]) -> bool
+    ensures { result ≡ are_ranks ranks.now }
+{
+    match ranks {
+        [] => true,
+        [first, others @ ..] => *first < 8 && !others.contains(first) && are_ranks(others),
+    }
 }

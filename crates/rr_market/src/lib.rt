@@ -11,9 +11,11 @@ mod market;
 mod moves;
 pub mod operations;
 mod order;
+mod parts;
 
-pub use market::Market;
+pub use market::{Market, Token};
 pub use moves::par_cell;
 pub use order::OperatingOrder;
+pub use parts::MarketParts;
 pub use rr_books::{Cell, Corp};
 pub use rr_chart::{Chart, Zone};

@@ -15,19 +15,19 @@ use std::marker::Model;
 
 /// A corporation's token on the chart.
 #[derive(Clone, Copy, Debug, PartialEq, Eq)]
-struct Token {
+pub struct Token {
     /// Where it was put first.
-    first: Cell,
+    pub first: Cell,
     /// Where it is.
-    cell: Cell,
+    pub cell: Cell,
 }
 
 /// The tokens of the corporations on the stock chart, which stand for the marks of a book. It takes no memory, and
 /// `Copy` copies it. The chart is lent to each call: the one of the table, always.
 #[derive(Clone, Copy, Debug)]
 pub struct Market {
-    tokens: [Option<Token>; 8],
-    arrivals: Arrivals,
+    pub(crate) tokens: [Option<Token>; 8],
+    pub(crate) arrivals: Arrivals,
 }
 
 impl Model for Market {

@@ -4,3 +4,5 @@ pub mod Counts
 pub mod Opened
 pub mod Trades
 pub mod Bids
+pub mod Parts
+pub mod Bytes

@@ -4,7 +4,9 @@
 
 mod bidding;
 mod bids;
+mod parts;
 mod unsold;
 
 pub use bidding::Bidding;
+pub use parts::BiddingParts;
 pub use unsold::{cheapest, is_cheapest, is_unsold, same_private};

@@ -6,9 +6,11 @@
 
 pub mod bids;
 pub mod laws;
+mod parts;
 mod purchases;
 mod rounds;
 mod sales;
 
+pub use parts::RoundsParts;
 pub use purchases::Purchases;
 pub use rounds::Rounds;

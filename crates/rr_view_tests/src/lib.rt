@@ -14,6 +14,8 @@ mod opening;
 #[cfg(test)]
 mod operations;
 #[cfg(test)]
+mod parts;
+#[cfg(test)]
 mod position;
 #[cfg(test)]
 mod rounds;

@@ -33,10 +33,10 @@ pub struct Station {
 /// The tiles and tokens that were put on a board, oldest first. It takes no memory, and `Copy` copies it.
 #[derive(Clone, Copy, Debug)]
 pub struct Layout {
-    lays: [Lay; MOST_LAYS],
-    lay_count: usize,
-    stations: [Station; MOST_STATIONS],
-    station_count: usize,
+    pub(crate) lays: [Lay; MOST_LAYS],
+    pub(crate) lay_count: usize,
+    pub(crate) stations: [Station; MOST_STATIONS],
+    pub(crate) station_count: usize,
 }
 
 impl Model for Layout {

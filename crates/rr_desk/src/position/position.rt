@@ -19,14 +19,14 @@ pub const MOST_ENTRIES: u32 = 400_000_000;
 /// All that runs along with a table's book. It takes no memory, and `Copy` copies it.
 #[derive(Clone, Copy, Debug)]
 pub struct Position {
-    books: Books,
-    bidding: Bidding,
-    market: Market,
-    rounds: Rounds,
-    operations: Operations,
-    layout: Layout,
+    pub(crate) books: Books,
+    pub(crate) bidding: Bidding,
+    pub(crate) market: Market,
+    pub(crate) rounds: Rounds,
+    pub(crate) operations: Operations,
+    pub(crate) layout: Layout,
     // How many entries were followed, of those of the opening the payments alone.
-    entries: u32,
+    pub(crate) entries: u32,
 }
 
 impl Model for Position {

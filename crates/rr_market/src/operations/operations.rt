@@ -24,25 +24,25 @@ use std::marker::Model;
 /// it.
 #[derive(Clone, Copy, Debug)]
 pub struct Operations {
-    stage: Stage,
+    pub(crate) stage: Stage,
     /// The sets of operating rounds that have begun.
-    sets: u64,
+    pub(crate) sets: u64,
     /// The rounds of the last set that have begun.
-    round: u64,
+    pub(crate) round: u64,
     /// The rounds that the last set has.
-    set_length: u8,
+    pub(crate) set_length: u8,
     /// Which corporations had their turn in the last round.
-    turns: [bool; 8],
-    step: TurnStep,
-    has_run: bool,
+    pub(crate) turns: [bool; 8],
+    pub(crate) step: TurnStep,
+    pub(crate) has_run: bool,
     /// The least that the bank's balance was after any entry, in dollars, and 0 before the first.
-    lowest: i64,
+    pub(crate) lowest: i64,
     /// Whether a seat said that it is bankrupt.
-    bankrupt: bool,
+    pub(crate) bankrupt: bool,
     /// The tokens on the chart as the turn began.
-    market: Market,
+    pub(crate) market: Market,
     /// The stock rounds as the turn began, which tell who had floated.
-    stock: Rounds,
+    pub(crate) stock: Rounds,
 }
 
 impl Model for Operations {

@@ -65,7 +65,7 @@ impl TurnStep {
         self.rank() <= last.rank()
     }
 
-    fn rank(self) -> u8
+    pub(crate) fn rank(self) -> u8
         ensures { result ≡ rank self }
     {
         match self {

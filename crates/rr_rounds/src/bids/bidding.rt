@@ -16,13 +16,13 @@ use std::marker::Model;
 /// How far the auction of a table has come, which stands for its book. It takes no memory, and `Copy` copies it.
 #[derive(Clone, Copy, Debug)]
 pub struct Bidding {
-    turn: Seat,
-    passes: u32,
-    falls: u32,
-    bids: [[u64; 6]; 6],
-    par_due: Option<Seat>,
-    priority: Seat,
-    commands: u32,
+    pub(crate) turn: Seat,
+    pub(crate) passes: u32,
+    pub(crate) falls: u32,
+    pub(crate) bids: [[u64; 6]; 6],
+    pub(crate) par_due: Option<Seat>,
+    pub(crate) priority: Seat,
+    pub(crate) commands: u32,
 }
 
 impl Model for Bidding {

@@ -1,0 +1,31 @@
+-- Slots that were read.
+use Rattle.std.specs.List.{AllByRecursion, flat_map}
+use Rattle.std.proofs.Common.{◌≡◌, ℕ, ◌-◌, ◌<◌, List, [], ◌++◌, length, take, drop, replicate, sym, ap, ◌∙◌, subst, arith, length-take-le}
+use Rattle.std.proofs.lemmas.List.{drop-replicate}
+use Rattle.rr_spelling.specs.Form.{Form, IsTaken}
+use Rattle.rr_spelling.specs.Number.{spelled_number}
+use Rattle.rr_spelling.specs.OneWay.{counted_one_way}
+use Rattle.rr_desk.specs.Layout.Slots.{IsFilled, length-take-filled}
+
+-- slots that had nothing have the filler behind those that were taken
+pub refilled : {X : Type 0} (filler : X) (capacity before taken : ℕ) (old new : List X) → IsFilled filler capacity before old → take before old ≡ []
+    → IsTaken old taken new → IsFilled filler capacity taken new
+refilled {X = X} filler capacity before taken old new filled none read =
+    let zero : before ≡ 0 = sym (length-take-filled filler capacity before old filled) ∙ ap length none in
+    let whole : old ≡ replicate (capacity - 0) filler = subst (λ n. drop n old ≡ replicate (capacity - n) filler) zero filled.rest in
+    record {
+      fits = omega (arith, read.fits, read.all, filled.all);
+      all = read.all ∙ filled.all;
+      rest = read.rest ∙ ap (λ (xs : List X). drop taken xs) whole ∙ drop-replicate taken (capacity - 0) filler ∙ ap (λ n. replicate n filler) (let e : capacity - 0 - taken ≡ capacity - taken = omega arith in e);
+    }
+
+-- a row that stands there is the one that was read, and the rest stands behind it
+pub behind_row : {A : Type 0} (f : Form A) (count : ℕ) (old slots values : List A) (bytes mid rest : List ℕ) → length old < 65536 → IsTaken old count slots
+    → AllByRecursion f.Fits (take count slots) → length values < 65536 → AllByRecursion f.Fits values
+    → bytes ≡ (spelled_number 2 count ++ flat_map f.spelling (take count slots)) ++ mid
+    → bytes ≡ (spelled_number 2 (length values) ++ flat_map f.spelling values) ++ rest → mid ≡ rest
+behind_row {A = A} f count old slots values bytes mid rest small taken fits few fit read same =
+    let front : List A = take count slots in
+    let len : length front ≡ count = length-take-le count slots taken.fits in
+    let here : bytes ≡ (spelled_number 2 (length front) ++ flat_map f.spelling front) ++ mid = read ∙ ap (λ n. (spelled_number 2 n ++ flat_map f.spelling front) ++ mid) (sym len) in
+    (counted_one_way f.spelling f.Fits f.one_way front values mid rest (omega (arith, len, taken.fits, taken.all, small)) (omega (arith, few)) fits fit (sym here ∙ same)).1
