@@ -36,8 +36,8 @@ abbrev pub left_of : Option Checkpoint → ℕ
 left_of None = 0
 left_of (Some checkpoint) = left_at checkpoint.stage (length checkpoint.plan.fresh.items)
 
--- How many ticks the first one leaves of a checkpoint of so many fresh pages. Where an opening found it begun, the first one
--- writes a page, and else it shuts slot 0 of the other half.
+-- How many ticks the first one leaves of a checkpoint of so many fresh pages. Where an opening found it begun, the
+-- first one writes a page, and else it shuts slot 0 of the other half.
 abbrev pub left_behind_first : Option ℕ → ℕ → ℕ
 left_behind_first None pages = pages + 3
 left_behind_first (Some first) pages = pages + 2

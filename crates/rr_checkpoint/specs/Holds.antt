@@ -28,8 +28,8 @@ pub record HoldsAsBegun {codec : Codec} (old : Layout codec) (coming_old : Holdi
   pub middle : new.middle ≡ old.middle
   pub far : new.far ≡ Begun (far_lines old.far)
 
--- The same of a record more, whose line leads to this world: one that goes to the root's half leads to another world before
--- the first record of the other half.
+-- The same of a record more, whose line leads to this world: one that goes to the root's half leads to another world
+-- before the first record of the other half.
 pub record HoldsWithRecord {codec : Codec} (old : Layout codec) (coming_old : Holding) (line : List ℕ) (world : codec.World)
     (new : Layout codec) (coming_new : Holding) : Type 0 where
   pub layout : new ≡ with_line old line world
@@ -37,8 +37,8 @@ pub record HoldsWithRecord {codec : Codec} (old : Layout codec) (coming_old : Ho
   pub coming : coming_new ≡ coming_old
   pub middle : IsBegun old.far → new.middle ≡ old.middle
 
--- Behind the last step of a checkpoint the root of the next number is taken. Its chains spell the world before the first record of the other
--- half, behind it stand the records of that half, and there records go on.
+-- Behind the last step of a checkpoint the root of the next number is taken. Its chains spell the world before the
+-- first record of the other half, behind it stand the records of that half, and there records go on.
 pub record IsRenewed {codec : Codec} (old new : Layout codec) : Type 0 where
   pub next : new.root.number ≡ old.root.number + 1
   pub base : new.base ≡ old.middle

@@ -28,8 +28,8 @@ pub record Tells {codec : Codec} (taken : Taken) (place : Place) (free : FreePag
   pub goes_on : GoesOnAt layout place.half place.number
   pub reached : Has (present_of free) (reached_of layout.holding)
 
--- of a checkpoint under way: the pages that were taken for it are those that its root will reach, and its root's number comes
--- next after this one
+-- of a checkpoint under way: the pages that were taken for it are those that its root will reach, and its root's number
+-- comes next after this one
 abbrev pub HasComing : FreePages → ℕ → Option Checkpoint → Holding → Type 0
 HasComing free number None holding = Unit {0}
 HasComing free number (Some checkpoint) holding =

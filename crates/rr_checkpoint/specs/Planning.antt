@@ -20,8 +20,8 @@ use Rattle.rr_checkpoint.specs.Pages.{pages_with}
 use Rattle.rr_checkpoint.specs.Writer.{Carries, place_of, taken_of}
 use Rattle.rr_pages.specs.Journal.Layout.{other_half}
 
--- The plan is one for this layout, its root's number comes next after that of the layout's root, and the pages that were taken
--- are those that its root will reach.
+-- The plan is one for this layout, its root's number comes next after that of the layout's root, and the pages that
+-- were taken are those that its root will reach.
 pub record MayBegin (codec : Codec) (layout : Layout codec) (free : FreePages) (plan : Plan) : Type 0 where
   pub holding : Holding
   pub is_plan : IsPlan codec layout (plan_of plan holding)
@@ -42,7 +42,8 @@ pub record AreDrafted {codec : Codec} (layout : Layout codec) (free : FreePages)
   pub kept_pages : Has marks (pages_of (kept_of drafts))
   pub laid : AreLaid (present_of free) marks (coming_of free) fresh (fresh_chains drafts)
 
--- This directory, of this version, names those chains, and with them spells the world before the first record of the other half.
+-- This directory, of this version, names those chains, and with them spells the world before the first record of the
+-- other half.
 pub record IsDirectory (codec : Codec) (layout : Layout codec) (version : ℕ) (drafts : List Draft) (text : List ℕ) : Type 0 where
   pub named : codec.Heads version text (heads_of (chains_of drafts))
   pub spells : codec.Spells version text (texts_of (chains_of drafts)) layout.middle

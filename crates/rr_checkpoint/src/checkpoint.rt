@@ -1,6 +1,7 @@
 use rr_pages::{FreshPage, Root};
 
-/// All that a checkpoint writes: the coming root, and the pages that it will reach and that don't stand in the file yet.
+/// All that a checkpoint writes: the coming root, and the pages that it will reach and that don't stand in the file
+/// yet.
 #[derive(Drop)]
 pub struct Plan {
     pub root: Root,

@@ -15,6 +15,7 @@ ghost use Rattle.rr_pages.specs.Laying.{pages_for};
 ghost use Rattle.rr_pages.specs.Sets.{IsEmpty, TooFewFree, marked};
 ghost use Rattle.rr_pages.specs.Writing.{IsLaid};
 ghost use Rattle.rr_pages.specs.declared.fault.Fault.TheVariants as pages;
+ghost use Rattle.rr_pages.specs.declared.page.TheConstants.{MOST_PAGES};
 ghost use Rattle.rr_checkpoint.specs.Calls.{LeavesKept, LeavesEither};
 ghost use Rattle.rr_checkpoint.specs.Holds.{HoldsAsBegun, HoldsWithRecord, HoldsRenewed, HoldsAt, RestsAt};
 ghost use Rattle.rr_checkpoint.specs.OpenFile.{Tells};
@@ -114,8 +115,8 @@ impl<C: Codec> Writer<C> {
     /// Appends a record, and returns once it is on the disk. It takes no memory.
     ///
     /// # Errors
-    /// `HalfFull` where the half has no room for it; then no device call was made. After `Disk` the record is on the disk
-    /// or not.
+    /// `HalfFull` where the half has no room for it; then no device call was made. After `Disk` the record is on the
+    /// disk or not.
     pub fn append<D: Disk>(
         &mut self,
         disk: &mut D,
@@ -156,12 +157,12 @@ impl<C: Codec> Writer<C> {
         Ok(())
     }
 
-    /// Lays a chain of the coming root into free pages, and gives the first of them. Its pages come behind those that are
-    /// there.
+    /// Lays a chain of the coming root into free pages, and gives the first of them. Its pages come behind those that
+    /// are there.
     ///
     /// # Errors
-    /// `FileFull` where fewer pages are free than are needed; else `OutOfMemory` alone. After an error some pages may be
-    /// taken and laid: `abandon` frees all that were taken.
+    /// `FileFull` where fewer pages are free than are needed; else `OutOfMemory` alone. After an error some pages may
+    /// be taken and laid: `abandon` frees all that were taken.
     pub fn lay(
         &mut self,
         alloc: Global,
@@ -188,7 +189,7 @@ impl<C: Codec> Writer<C> {
     /// The coming root will reach this page, which the present one reaches.
     pub fn keep(&mut self, page: u32)
         requires resting { ticks_left_of self.old ≡ 0 }
-        requires page { page < 65536 }
+        requires page { page < MOST_PAGES }
         ensures coming { coming_of (free_of self.new) ≡ marked (coming_of (free_of self.old)) page }
         ensures present { present_of (free_of self.new) ≡ present_of (free_of self.old) }
         ensures carries { CarriesOn C.codec self.old self.new }
@@ -267,9 +268,9 @@ impl<C: Codec> Writer<C> {
         }
     }
 
-    /// Makes the first tick of a checkpoint, after which records go to the other half. It and the ticks behind it take no
-    /// memory; a checkpoint of p fresh pages has p + 4 ticks, this one included. Where an opening found the checkpoint begun,
-    /// it has p + 3: records go to the other half already, and this one writes the first fresh page.
+    /// Makes the first tick of a checkpoint, after which records go to the other half. It and the ticks behind it take
+    /// no memory; a checkpoint of p fresh pages has p + 4 ticks, this one included. Where an opening found the
+    /// checkpoint begun, it has p + 3: records go to the other half already, and this one writes the first fresh page.
     ///
     /// # Errors
     /// `DeviceFailed` where a device call failed; no checkpoint is under way then.
@@ -348,8 +349,8 @@ impl<C: Codec> Writer<C> {
         Ok(())
     }
 
-    /// Makes the next step of the checkpoint under way: one fresh page, or the stale root's gate shut, or the coming root
-    /// without its gate, or its gate. Without one under way nothing changes, and no device call is made.
+    /// Makes the next step of the checkpoint under way: one fresh page, or the stale root's gate shut, or the coming
+    /// root without its gate, or its gate. Without one under way nothing changes, and no device call is made.
     ///
     /// # Errors
     /// `DeviceFailed` where a device call failed; no checkpoint is under way then.
@@ -397,8 +398,8 @@ impl<C: Codec> Writer<C> {
         }
     }
 
-    /// Makes all ticks that are left. Where one was, each file that a stop may leave then takes a newer root, whose chains spell
-    /// the world before the first record of the other half, and behind it stand the records of that half.
+    /// Makes all ticks that are left. Where one was, each file that a stop may leave then takes a newer root, whose
+    /// chains spell the world before the first record of the other half, and behind it stand the records of that half.
     ///
     /// # Errors
     /// That of the first tick that fails, which is the last one made.

@@ -130,8 +130,8 @@ fn append(disk: &mut MemoryDisk, writer: &mut Writer<Lists>, line: &[u8]) -> Res
     writer.append(disk, line)
 }
 
-// How many ticks are left of a checkpoint that is begun, what the first of them answers, how many are left once a record is
-// kept; and what a tick answers once all are made, and another record is kept.
+// How many ticks are left of a checkpoint that is begun, what the first of them answers, how many are left once a
+// record is kept; and what a tick answers once all are made, and another record is kept.
 type Answers = (usize, Tick, usize, Tick);
 
 fn through_a_checkpoint(
@@ -174,8 +174,9 @@ fn checkpoint(alloc: Global, bytes: &[Bytes]) -> Result<(Answers, Told, usize, [
     Ok((answers, told, given(&mut disk, bytes), counts(&disk)))
 }
 
-// Two fresh pages take six ticks, of which the beginning is one. A record between two of them goes to slot 0 of the other
-// half, and the next one behind it. The file's root takes 2 writes and 3 syncs, the checkpoint 4 of each, a record 2.
+// Two fresh pages take six ticks, of which the beginning is one. A record between two of them goes to slot 0 of the
+// other half, and the next one behind it. The file's root takes 2 writes and 3 syncs, the checkpoint 4 of each, a
+// record 2.
 #[test]
 fn records_go_to_the_other_half_meanwhile(rt: HostRuntime) {
     let bytes = [
@@ -194,8 +195,8 @@ fn records_go_to_the_other_half_meanwhile(rt: HostRuntime) {
     assert!(rt; checkpoint(rt.alloc(), &bytes) == Ok((answers, told, 5, calls)));
 }
 
-// The page beside the directory comes first. How many ticks are left of a checkpoint that is begun by this, how many of the bytes a read gives then, and which calls were
-// made.
+// The page beside the directory comes first. How many ticks are left of a checkpoint that is begun by this, how many of
+// the bytes a read gives then, and which calls were made.
 fn first_tick(
     alloc: Global,
     mut writer: Writer<Lists>,
@@ -209,8 +210,8 @@ fn first_tick(
     Ok((left, given(&mut disk, bytes), counts(&disk)))
 }
 
-// Of a checkpoint that an opening found begun the first tick writes the first page, and syncs nothing. Else it syncs the other
-// half's slot 0, which is shut, and six ticks are to be made in place of five.
+// Of a checkpoint that an opening found begun the first tick writes the first page, and syncs nothing. Else it syncs
+// the other half's slot 0, which is shut, and six ticks are to be made in place of five.
 #[test]
 fn a_checkpoint_that_was_begun_has_a_tick_less(rt: HostRuntime) -> Result<(), Fail> {
     let page = [(4096 * 516, [7u8; 4].as_slice())];

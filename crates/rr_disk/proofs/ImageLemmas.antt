@@ -129,7 +129,8 @@ torn_wider at m n old new more torn =
       same = λ i h apart. torn.same i h (elim apart [ inl before ↦ inl before | inr behind ↦ inr (omega arith) ]);
     }
 
--- what is said of the image alone: outside the write's range it has what the settled file has outside the earlier ranges
+-- what is said of the image alone: outside the write's range it has what the settled file has outside the earlier
+-- ranges
 untouched : (state : DiskState) (at n : ℕ) (image : List ℕ) → Type 0
 untouched state at n image = (i : ℕ) → i < length state.settled → IsOutside state.ranges i → (i < at) ⊎ (at + n ≤ i) → get_or image i 0 ≡ get_or state.settled i 0
 

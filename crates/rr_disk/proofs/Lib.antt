@@ -1,3 +1,4 @@
+pub mod CallLemmas
 pub mod ChoiceLemmas
 pub mod EventLemmas
 pub mod FailureLemmas

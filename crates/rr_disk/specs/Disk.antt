@@ -1,8 +1,9 @@
 -- What a disk holds, what its calls do to that, and what a stop may leave of it.
--- Bytes are numbers here; that they are below 256 is nowhere used, so what is said of every image is said of more lists than a disk can hold.
+-- Bytes are numbers here; that they are below 256 is nowhere used, so what is said of every image is said of more lists
+-- than a disk can hold.
 use Rattle.std.specs.Prelude.{◌≡◌, ◌⊎◌, ℕ, zero, suc, ◌+◌, ◌-◌, ◌^◌, ◌<◌, ◌≤◌, min, max, ◌==◌, if◌then◌else◌, List, [], ◌∷◌, ◌++◌, length, take, drop, replicate, slice_index, Result, Ok, Err}
 use Rattle.rr_disk.specs.declared.fault.Fault.{Fault}
-use Rattle.rr_disk.specs.declared.fault.Fault.TheVariants.{DeviceFailed, OutOfMemory}
+use Rattle.rr_disk.specs.declared.fault.Fault.TheVariants.{DeviceFailed}
 
 pub record DiskState : Type 0 where
   pub content : List ℕ  -- what a read gives
@@ -19,8 +20,8 @@ abbrev pub furthest_end : List (ℕ × ℕ) → ℕ
 furthest_end [] = 0
 furthest_end (range ∷ ranges) = max range.1 (furthest_end ranges)
 
--- a stop in this state may leave this file: the settled bytes outside all ranges written since, any bytes inside them and past
--- the settled end, and a length from the settled one to the furthest end of those ranges
+-- a stop in this state may leave this file: the settled bytes outside all ranges written since, any bytes inside them
+-- and past the settled end, and a length from the settled one to the furthest end of those ranges
 pub record IsImage (state : DiskState) (image : List ℕ) : Type 0 where
   pub no_shorter : length state.settled ≤ length image
   pub no_longer : length image ≤ max (length state.settled) (furthest_end state.ranges)
@@ -48,8 +49,8 @@ after_write state at (byte ∷ bytes) =
 abbrev pub after_sync : DiskState → DiskState
 after_sync state = record { content = state.content; settled = state.content; ranges = [] }
 
--- After a write that failed: so many bytes of its range are unsynced, also past the end of the file, and a read gives these
--- bytes in the front of it. Where none is unsynced nothing changed
+-- After a write that failed: so many bytes of its range are unsynced, also past the end of the file, and a read gives
+-- these bytes in the front of it. Where none is unsynced nothing changed
 abbrev pub after_failed_write : DiskState → ℕ → ℕ → List ℕ → DiskState
 after_failed_write state at zero front = state
 after_failed_write state at (suc n) front =
@@ -59,14 +60,15 @@ after_failed_write state at (suc n) front =
       ranges = state.ranges ++ (at, at + suc n) ∷ [];
     }
 
--- A write of n bytes that fails: nothing went out; or its range is unsynced, up to all of it, and a read gives other bytes
--- in a front of that.
+-- A write of n bytes that fails: nothing went out; or its range is unsynced, up to all of it, and a read gives other
+-- bytes in a front of that.
 pub data FailedWrite (at n : ℕ) (past_old : List DiskState) (old : DiskState) (past_new : List DiskState) (new : DiskState) : Type 0 where
   Nothing_out : past_new ≡ past_old → new ≡ old → FailedWrite at n past_old old past_new new
   Some_out : (upto : ℕ) (front : List ℕ) → length front ≤ upto → upto ≤ n → past_new ≡ old ∷ past_old → new ≡ after_failed_write old at upto front
       → FailedWrite at n past_old old past_new new
 
--- the file after a write of n bytes at this place that a stop cut short: any bytes in the range and past the old end, the same elsewhere
+-- the file after a write of n bytes at this place that a stop cut short: any bytes in the range and past the old end,
+-- the same elsewhere
 pub record Torn (at n : ℕ) (old new : List ℕ) : Type 0 where
   pub no_shorter : length old ≤ length new
   pub no_longer : length new ≤ max (length old) (at + n)
@@ -85,8 +87,3 @@ counted n = min (n + 1) (2 ^ 64 - 1)
 abbrev pub CountsFault : {T : Type 0} → ℕ → ℕ → Result T Fault → Type 0
 CountsFault old new (Ok value) = new ≡ old
 CountsFault old new (Err fault) = (fault ≡ DeviceFailed) × (new ≡ counted old)
-
--- the number of a fault
-abbrev pub number_of : Fault → ℕ
-number_of DeviceFailed = 60
-number_of OutOfMemory = 70

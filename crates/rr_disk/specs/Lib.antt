@@ -1,4 +1,5 @@
 pub mod Cached
+pub mod Calls
 pub mod CallLog
 pub mod Choice
 pub mod Disk

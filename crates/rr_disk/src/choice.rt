@@ -8,7 +8,8 @@ use crate::bytes::put;
 /// What a stop keeps of one unsynced range.
 #[derive(Clone, Copy, Debug, PartialEq, Eq)]
 pub enum Kept {
-    /// What lay there before: the settled bytes, zeros past their end, or what the choices for earlier ranges put there.
+    /// What lay there before: the settled bytes, zeros past their end, or what the choices for earlier ranges put
+    /// there.
     Old,
     /// What a read gives there.
     New,

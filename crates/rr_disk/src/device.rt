@@ -1,5 +1,6 @@
 // The calls by which what a store keeps comes to a disk.
-ghost use Rattle.std.specs.Prelude.{◌≡◌, ◌+◌, ◌^◌, ◌<◌, ◌≤◌, ◌∷◌, length, OnOk, OnErr};
+ghost use Rattle.std.specs.Prelude.{◌≡◌, ◌+◌, ◌^◌, ◌<◌, ◌≤◌, ◌∷◌, [], length, OnOk, OnErr};
+ghost use Rattle.rr_disk.specs.Calls.{Step, Write, Sync, account, after_steps, StopsWithin};
 ghost use Rattle.rr_disk.specs.Disk.{after_write, after_sync, length_after, CountsFault, counted};
 ghost use Rattle.rr_disk.specs.Moments.{LeavesOnly, TornFrom};
 
@@ -15,6 +16,10 @@ pub fn write<D: Disk>(disk: &mut D, at: u64, bytes: &[u8]) -> Result<(), Fault>
     ensures done { OnOk result (D.Honest disk.new
         → D.state disk.new ≡ after_write (D.state disk.old) at bytes.now) }
     ensures passed { OnOk result (D.Honest disk.new → D.past disk.new ≡ D.state disk.old ∷ D.past disk.old) }
+    ensures calls { OnOk result (D.Honest disk.new
+        → account D.Disk disk.new ≡ after_steps (account D.Disk disk.old) (Write at bytes.now ∷ [])) }
+    ensures stops { OnErr result (D.Honest disk.new
+        → StopsWithin (account D.Disk disk.old) (Write at bytes.now ∷ []) (account D.Disk disk.new)) }
     ensures any_moment { D.Honest disk.new
         → LeavesOnly (D.past disk.old) (D.state disk.old) (D.past disk.new) (D.state disk.new)
         (TornFrom (D.state disk.old) at (length bytes.now)) }
@@ -42,6 +47,11 @@ pub fn put<D: Disk>(disk: &mut D, at: u64, bytes: &[u8]) -> Result<(), Fault>
         → D.state disk.new ≡ after_sync (after_write (D.state disk.old) at bytes.now)) }
     ensures passed { OnOk result (D.Honest disk.new
         → D.past disk.new ≡ after_write (D.state disk.old) at bytes.now ∷ D.state disk.old ∷ D.past disk.old) }
+    // The write is made once and then the sync, and nothing behind one that failed.
+    ensures calls { OnOk result (D.Honest disk.new
+        → account D.Disk disk.new ≡ after_steps (account D.Disk disk.old) (Write at bytes.now ∷ Sync ∷ [])) }
+    ensures stops { OnErr result (D.Honest disk.new
+        → StopsWithin (account D.Disk disk.old) (Write at bytes.now ∷ Sync ∷ []) (account D.Disk disk.new)) }
     ensures any_moment { D.Honest disk.new
         → LeavesOnly (D.past disk.old) (D.state disk.old) (D.past disk.new) (D.state disk.new)
         (TornFrom (D.state disk.old) at (length bytes.now)) }

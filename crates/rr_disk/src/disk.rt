@@ -26,8 +26,8 @@ pub trait Disk {
     /// The device did so far what these clauses say.
     ghost Honest: { Self → Type 0 };
 
-    /// The device refused no call so far that it has to take: no read within the file, no write that ends at byte 2^63 or
-    /// before, no sync.
+    /// The device refused no call so far that it has to take: no read within the file, no write that ends at byte 2^63
+    /// or before, no sync.
     ghost Works: { Self → Type 0 };
 
     /// The length of the file in bytes. No device call.
@@ -35,7 +35,8 @@ pub trait Disk {
         ensures told { result ≡ file_len self.now }
         ensures content { Honest self.now → result ≡ length (state self.now).content };
 
-    /// Reads all of `into` from byte `at` on. A read past the end is a fault, and after a fault `into` may hold anything.
+    /// Reads all of `into` from byte `at` on. A read past the end is a fault, and after a fault `into` may hold
+    /// anything.
     fn read_at(&mut self, at: u64, into: &mut [u8]) -> Result<(), Fault>
         ensures honest { Honest self.new → Honest self.old }
         ensures bytes { OnOk result (Honest self.new → IsAt (state self.old).content at into.new) }
@@ -48,8 +49,8 @@ pub trait Disk {
         ensures refused { OnErr result (Works self.new → file_len self.old < at + length into.old) }
         ensures same_len { file_len self.new ≡ file_len self.old };
 
-    /// Writes these bytes from byte `at` on. A gap between the end and `at` becomes zeros; an empty write changes nothing.
-    /// A write that ends past byte 2^63 is a fault.
+    /// Writes these bytes from byte `at` on. A gap between the end and `at` becomes zeros; an empty write changes
+    /// nothing. A write that ends past byte 2^63 is a fault.
     fn write_at(&mut self, at: u64, bytes: &[u8]) -> Result<(), Fault>
         ensures honest { Honest self.new → Honest self.old }
         ensures written { OnOk result (Honest self.new → state self.new ≡ after_write (state self.old) at bytes.now) }

@@ -12,21 +12,6 @@ pub enum Fault {
     OutOfMemory,
 }
 
-impl Fault {
-    ghost use Rattle.std.specs.Prelude.{◌≡◌};
-    ghost use Rattle.rr_disk.specs.Disk.{number_of};
-
-    /// The number that replies give.
-    pub fn number(self) -> u8
-        ensures { result ≡ number_of self }
-    {
-        match self {
-            Fault::DeviceFailed => 60,
-            Fault::OutOfMemory => 70,
-        }
-    }
-}
-
 impl From<AllocError> for Fault {
     ghost use Rattle.std.specs.Prelude.{◌≡◌};
     ghost use Rattle.rr_disk.specs.declared.fault.Fault.TheVariants.{OutOfMemory};

@@ -5,8 +5,8 @@ ghost use Rattle.rr_disk.specs.Plan.{strike_of, plan_after};
 use crate::plan::Plan;
 use crate::{Disk, Fault};
 
-/// A disk that fails at device calls chosen beforehand. Reads, writes and syncs are device calls, counted from 0. It works
-/// as long as the disk beneath does and none of these calls has come.
+/// A disk that fails at device calls chosen beforehand. Reads, writes and syncs are device calls, counted from 0. It
+/// works as long as the disk beneath does and none of these calls has come.
 #[derive(Drop)]
 pub struct FaultyDisk<D: Disk + Drop> {
     disk: D,

@@ -11,9 +11,10 @@ use std::marker::PhantomData;
 use std::os::unix::fs::FileExt;
 use std::rt::Files;
 
-/// A file of the system, which held what `S` says as it was opened. It notes each call and its answer, for clauses alone:
-/// it is honest where the answers are those of a file that held that, and keeps what the clauses of `Disk` say. This is a
-/// premise, which no code can test. Whether it works is known: whether the system refused a call that it has to take.
+/// A file of the system, which held what `S` says as it was opened. It notes each call and its answer, for clauses
+/// alone: it is honest where the answers are those of a file that held that, and keeps what the clauses of `Disk` say.
+/// This is a premise, which no code can test. Whether it works is known: whether the system refused a call that it has
+/// to take.
 #[derive(Drop)]
 pub struct FileDisk<S: Start> {
     file: File,

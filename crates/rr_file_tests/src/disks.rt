@@ -21,14 +21,13 @@ fn check_memory(
 }
 
 #[test]
-fn faults_have_texts_and_numbers(rt: HostRuntime) -> Result<(), Fail> {
-    for (fault, text, number) in [
-        (Fault::DeviceFailed, "device failed", 60),
-        (Fault::OutOfMemory, "out of memory", 70),
+fn faults_have_texts(rt: HostRuntime) -> Result<(), Fail> {
+    for (fault, text) in [
+        (Fault::DeviceFailed, "device failed"),
+        (Fault::OutOfMemory, "out of memory"),
     ] {
         let shown = format!(in rt.alloc(); "{fault}")?;
         assert!(rt; shown.as_str() == text);
-        assert!(rt; fault.number() == number);
     }
     Ok(())
 }

@@ -69,7 +69,8 @@ pub record IsUnchanged {D R : Type 0} (old new : Log D R) : Type 0 where
   pub kit : new.kit ≡ old.kit
   pub base : new.base ≡ old.base
 
--- A tick lowers what is left by one, and `Done` comes exactly with the last one. The first of a checkpoint leaves so many.
+-- A tick lowers what is left by one, and `Done` comes exactly with the last one. The first of a checkpoint leaves so
+-- many.
 abbrev pub LowersFrom : ℕ → Tick → ℕ → ℕ → Type 0
 LowersFrom first Idle old new = (old ≡ 0) × (new ≡ 0)
 LowersFrom first More old new = (0 < new) × (0 < old → old ≡ new + 1) × (old ≡ 0 → new ≡ first)
@@ -81,13 +82,14 @@ NumbersRoot Idle old new = new ≡ old
 NumbersRoot More old new = new ≡ old
 NumbersRoot Done old new = new ≡ old + 1
 
--- the tables that a checkpoint begun now writes: those from before the first record of the other half, or those that are lent
+-- the tables that a checkpoint begun now writes: those from before the first record of the other half, or those that
+-- are lent
 abbrev pub tables_due : Option Transcript → List Table → List Table
 tables_due None tables = tables
 tables_due (Some base) tables = tables_of base
 
--- how many ticks the first one leaves of a checkpoint that is begun now: one for each page that it lays, and three more, or one
--- fewer where an opening found it begun
+-- how many ticks the first one leaves of a checkpoint that is begun now: one for each page that it lays, and three
+-- more, or one fewer where an opening found it begun
 abbrev pub first_left : {D R : Type 0} → Log D R → List Table → ℕ
 first_left log tables = left_behind_first (place_of log).begun (needed_pages (tables_due log.base tables))
 
@@ -112,8 +114,8 @@ abbrev pub MeetsFullFile : {D R : Type 0} → Log D R → List Table → ℕ →
 MeetsFullFile log tables count =
     IsPastLast (next_number log) ⊎ (HasNoRoom (place_of log) count × (ticks_left log ≡ 0) × IsFileFull log tables)
 
--- Why a record of so many bytes isn't kept: there is no room for it where it would go, and if a tick was put off for want of
--- pages or memory, that is told. Or its number would be past the last.
+-- Why a record of so many bytes isn't kept: there is no room for it where it would go, and if a tick was put off for
+-- want of pages or memory, that is told. Or its number would be past the last.
 abbrev pub MayRefuse : Place → ℕ → Fault → Type 0
 MayRefuse place count F.DeviceFailed = Unit {0}
 MayRefuse place count F.HalfFull = HasNoRoom place count

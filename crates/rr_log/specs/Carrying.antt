@@ -30,8 +30,8 @@ pub record HaveSameTexts (old new : World) : Type 0 where
   pub of_tiles : new.tiles ≡ old.tiles
   pub of_board : new.board ≡ old.board
 
--- The root of a layout holds the texts of a kit on these pages, and they are the texts of the world, and of the world before
--- the first record of the other half.
+-- The root of a layout holds the texts of a kit on these pages, and they are the texts of the world, and of the world
+-- before the first record of the other half.
 pub record HoldsKit {takes : List ℕ → World → World → Type 0} (kit : KitPages) (layout : Layout (worlds takes))
     (world : World) : Type 0 where
   pub texts : TextChains
@@ -40,14 +40,14 @@ pub record HoldsKit {takes : List ℕ → World → World → Type 0} (kit : Kit
   pub of_world : HasTexts texts world
   pub of_middle : HasTexts texts layout.middle
 
--- Where an opening found a checkpoint begun, with its first record in the other half of this number, the tables from before
--- that record are kept; else none are.
+-- Where an opening found a checkpoint begun, with its first record in the other half of this number, the tables from
+-- before that record are kept; else none are.
 abbrev pub IsBase : Option ℕ → Option Transcript → List Table → Type 0
 IsBase None base tables = base ≡ None
 IsBase (Some first) base tables = (transcript : Transcript) × (base ≡ Some transcript) × (tables_of transcript ≡ tables)
 
--- What a log knows carries this world: what writes to its file carries it, the kit's texts are where it says, also in the
--- root that a checkpoint under way writes, and the tables that such a checkpoint will need are there.
+-- What a log knows carries this world: what writes to its file carries it, the kit's texts are where it says, also in
+-- the root that a checkpoint under way writes, and the tables that such a checkpoint will need are there.
 pub record Carries {D R : Type 0} (takes : List ℕ → World → World → Type 0) (log : Log D R) (state : DiskState)
     (world : World) : Type 0 where
   pub carried : file.Carries (worlds takes) log.writer state world

@@ -36,7 +36,8 @@ ticks_left log = file.ticks_left_of log.writer
 abbrev pub HasNoneBegun : Place → Type 0
 HasNoneBegun place = place.begun ≡ None
 
--- without a checkpoint under way a tick begins one: an opening found it begun, or at least 128 slots of the half are used
+-- without a checkpoint under way a tick begins one: an opening found it begun, or at least 128 slots of the half are
+-- used
 abbrev pub IsDue : Place → Type 0
 IsDue place = (place.begun ≡ None → ⊥) ⊎ (128 ≤ place.half.next_slot)
 

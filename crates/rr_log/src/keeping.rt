@@ -20,19 +20,19 @@ impl<D: Disk + Drop, R: Rules> Log<D, R> {
     ghost use Rattle.rr_log.specs.Carrying.{Carries, HaveSameTexts};
     ghost use Rattle.rr_log.specs.Log.{disk_of, is_broken, next_number, place_of, ticks_left, HasNoRoom, IsDue, IsTooLong};
 
-    /// Keeps a record. After `Ok` it is safe. Before it a tick is made, where a checkpoint is under way or is to begin; the
-    /// tables are those of the world before the record. A line has a byte at least.
+    /// Keeps a record. After `Ok` it is safe. Before it a tick is made, where a checkpoint is under way or is to begin;
+    /// the tables are those of the world before the record. A line has a byte at least.
     ///
     /// # Errors
     /// `OpenAgain`, with nothing changed; `DeviceFailed`, after which the record is on the disk or not, and the log is
-    /// broken; `HalfFull` where the half in use has no room for the record, of which nothing is written then. What refuses
-    /// the tick (`FileFull`, `OutOfMemory`) is put off, and told in place of `HalfFull` alone. `FileFull` also where the
-    /// record's number would be 2^63 - 1 or more.
+    /// broken; `HalfFull` where the half in use has no room for the record, of which nothing is written then. What
+    /// refuses the tick (`FileFull`, `OutOfMemory`) is put off, and told in place of `HalfFull` alone. `FileFull` also
+    /// where the record's number would be 2^63 - 1 or more.
     pub fn keep<T: TablesInWords>(&mut self, tables: &T, line: &[u8]) -> Result<(), Fault>
         requires { 0 < length line.now }
 
-        // Whatever a stop leaves at any moment keeps the world from before the record, or the one behind it, and the log
-        // carries on the one that the answer tells.
+        // Whatever a stop leaves at any moment keeps the world from before the record, or the one behind it, and the
+        // log carries on the one that the answer tells.
         ensures stops { D.Honest (disk_of self.new) → (old new : World) → R.takes line.now old new
             → HaveSameTexts old new → old.tables ≡ T.tables tables.now
             → Carries R.takes self.old (D.state (disk_of self.old)) old
@@ -44,8 +44,9 @@ impl<D: Disk + Drop, R: Rules> Log<D, R> {
             → Carries R.takes self.new (D.state (disk_of self.new)) (world_behind result old new) }
         ensures number { NumberBehind result (next_number self.old) (next_number self.new) }
 
-        // How far a checkpoint comes. Where the tick was its last, each file that a stop may leave takes a newer root: its chains
-        // spell the world as the checkpoint began, and only the records since then stand behind it, this one too if it is kept.
+        // How far a checkpoint comes. Where the tick was its last, each file that a stop may leave takes a newer root:
+        // its chains spell the world as the checkpoint began, and only the records since then stand behind it, this one
+        // too if it is kept.
         ensures renews { is_broken self.new ≡ false → ticks_left self.old ≡ 1 → ticks_left self.new ≡ 0
             → D.Honest (disk_of self.new) → (old new : World) → R.takes line.now old new → HaveSameTexts old new
             → (carries : Carries R.takes self.old (D.state (disk_of self.old)) old)
@@ -81,8 +82,8 @@ impl<D: Disk + Drop, R: Rules> Log<D, R> {
         ensures device { OnDeviceFault result (D.Honest (disk_of self.new) → (world : World)
             → Carries R.takes self.old (D.state (disk_of self.old)) world → D.Works (disk_of self.new) → ⊥) }
 
-        // Two of each are the record's, and one the tick's, where it is one of a checkpoint. Where the half is full only the
-        // tick's are made.
+        // Two of each are the record's, and one the tick's, where it is one of a checkpoint. Where the half is full
+        // only the tick's are made.
         ensures writes { D.write_count (disk_of self.new) ≤ D.write_count (disk_of self.old) + 3 }
         ensures syncs { D.sync_count (disk_of self.new) ≤ D.sync_count (disk_of self.old) + 3 }
         ensures tick_writes { IsErrOf result Fault.HalfFull

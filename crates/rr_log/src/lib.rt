@@ -2,10 +2,10 @@
 //! (`opening`), and in one that is open (`Log`) records are kept and checkpoints made in ticks, of the tables that the
 //! caller lends in words. It knows no game and no command: which lines lead from world to world, its rules say.
 //!
-//! Stands on `rr_checkpoint` and `rr_reading`. Its promises are the clauses `stops` and `carries` of `Log::keep`, `tick`
-//! and `checkpoint`: whatever a stop leaves at any moment keeps the world from before the record or the one behind it, and
-//! the log carries on what it knows, unless the device failed; those of `opening::open_file`: what is given is what the
-//! file holds; and of `formatting::format`, which leaves no store or the whole new file.
+//! Stands on `rr_checkpoint` and `rr_reading`. Its promises are the clauses `stops` and `carries` of `Log::keep`,
+//! `tick` and `checkpoint`: whatever a stop leaves at any moment keeps the world from before the record or the one
+//! behind it, and the log carries on what it knows, unless the device failed; those of `opening::open_file`: what is
+//! given is what the file holds; and of `formatting::format`, which leaves no store or the whole new file.
 #![tactic(auto)]
 
 mod fault;

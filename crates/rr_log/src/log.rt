@@ -17,8 +17,8 @@ pub struct Log<D: Drop, R> {
     pub(crate) disk: D,
     pub(crate) writer: Writer<Worlds<R>>,
     pub(crate) kit: KitPages,
-    // Where an opening found a checkpoint begun, and until its plan is made: the tables from before the first record of the
-    // other half.
+    // Where an opening found a checkpoint begun, and until its plan is made: the tables from before the first record of
+    // the other half.
     pub(crate) base: Option<Transcript>,
     pub(crate) broken: bool,
 }
@@ -27,7 +27,8 @@ impl<D: Disk + Drop, R: Rules> Log<D, R> {
     ghost use Rattle.rr_log.specs.Carrying.{Carries, HoldsKit, IsBase};
     ghost use Rattle.rr_log.specs.Log.{disk_of, writer_of, is_broken, next_number, ticks_left};
 
-    /// A log on a disk of which an opening made this writer. `base` is there exactly where that found a checkpoint begun.
+    /// A log on a disk of which an opening made this writer. `base` is there exactly where that found a checkpoint
+    /// begun.
     pub fn new(
         alloc: Global,
         disk: D,

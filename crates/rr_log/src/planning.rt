@@ -71,8 +71,8 @@ impl<D: Disk + Drop, R: Rules> Log<D, R> {
     ghost use Rattle.rr_log.specs.Carrying.{Carries, IsPlanned};
     ghost use Rattle.rr_log.specs.Log.{next_number, place_of, root_number, ticks_left};
 
-    // Makes the plan of the checkpoint that is to begin. Where an opening found one begun, it writes the tables from before
-    // the first record of the other half, and else those that are lent.
+    // Makes the plan of the checkpoint that is to begin. Where an opening found one begun, it writes the tables from
+    // before the first record of the other half, and else those that are lent.
     pub(crate) fn plan<T: TablesInWords>(&mut self, tables: &T) -> Result<Plan, Fault>
         requires { ticks_left self.old ≡ 0 }
         ensures plan { IfOk result (λ plan. (state : DiskState) (world : World) → world.tables ≡ T.tables tables.now

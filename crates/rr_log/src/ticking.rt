@@ -22,14 +22,14 @@ impl<D: Disk + Drop, R: Rules> Log<D, R> {
     ghost use Rattle.rr_log.specs.Carrying.{Carries};
     ghost use Rattle.rr_log.specs.Log.{disk_of, is_broken, next_number, place_of, root_number, ticks_left, HasNoneBegun, IsDue};
 
-    /// Makes one step of a checkpoint: it goes on with the one under way, or begins one where an opening found it begun or
-    /// at least 128 slots of the half in use are used. The tables are those of the world that the log carries: a first tick
-    /// takes them, and all memory that the later ones need. A checkpoint of p pages has p + 4 ticks, and p + 3 where an
-    /// opening found it begun, since its first tick writes the first page then.
+    /// Makes one step of a checkpoint: it goes on with the one under way, or begins one where an opening found it begun
+    /// or at least 128 slots of the half in use are used. The tables are those of the world that the log carries: a
+    /// first tick takes them, and all memory that the later ones need. A checkpoint of p pages has p + 4 ticks, and p +
+    /// 3 where an opening found it begun, since its first tick writes the first page then.
     ///
     /// # Errors
-    /// `OpenAgain`; `DeviceFailed`, after which the log is broken; in a first tick also `FileFull` and `OutOfMemory`, before
-    /// any device call: then the log goes on, and the next tick begins anew.
+    /// `OpenAgain`; `DeviceFailed`, after which the log is broken; in a first tick also `FileFull` and `OutOfMemory`,
+    /// before any device call: then the log goes on, and the next tick begins anew.
     pub fn tick<T: TablesInWords>(&mut self, tables: &T) -> Result<Tick, Fault>
         // Whatever a stop leaves at any moment keeps the world, and the log carries it on.
         ensures stops { D.Honest (disk_of self.new) → (world : World)
@@ -250,12 +250,12 @@ impl<D: Disk + Drop, R: Rules> Log<D, R> {
         }
     }
 
-    /// Makes a whole checkpoint: begins one where none is under way, and makes all ticks that are left. The tables are those
-    /// of the world that the log carries.
+    /// Makes a whole checkpoint: begins one where none is under way, and makes all ticks that are left. The tables are
+    /// those of the world that the log carries.
     ///
     /// # Errors
-    /// `OpenAgain`; `DeviceFailed`, after which the log is broken; where it begins one also `FileFull` and `OutOfMemory`,
-    /// before any device call: then the log goes on.
+    /// `OpenAgain`; `DeviceFailed`, after which the log is broken; where it begins one also `FileFull` and
+    /// `OutOfMemory`, before any device call: then the log goes on.
     pub fn checkpoint<T: TablesInWords>(&mut self, tables: &T) -> Result<(), Fault>
         // Whatever a stop leaves at any moment keeps the world, and the log carries it on.
         ensures stops { D.Honest (disk_of self.new) → (world : World) → world.tables ≡ T.tables tables.now
@@ -266,8 +266,9 @@ impl<D: Disk + Drop, R: Rules> Log<D, R> {
             → world.tables ≡ T.tables tables.now → Carries R.takes self.old (D.state (disk_of self.old)) world
             → Carries R.takes self.new (D.state (disk_of self.new)) world }
 
-        // Then each file that a stop may leave takes a newer root. Its chains spell the world as the checkpoint began, and only
-        // the records since then stand behind it. Where none was begun before, that is the world itself, and no record.
+        // Then each file that a stop may leave takes a newer root. Its chains spell the world as the checkpoint began,
+        // and only the records since then stand behind it. Where none was begun before, that is the world itself, and
+        // no record.
         ensures renews { OnOk result (D.Honest (disk_of self.new) → (world : World) → world.tables ≡ T.tables tables.now
             → (carries : Carries R.takes self.old (D.state (disk_of self.old)) world)
             → EachImage (D.state (disk_of self.new)) (TakesNewer (worlds R.takes) (as_begun carries.carried.layout) world)) }

@@ -1,4 +1,5 @@
-//! Files in memory and their openings, by calls without their contracts, so that what a test does costs its proof little.
+//! Files in memory and their openings, by calls without their contracts, so that what a test does costs its proof
+//! little.
 use crate::tables::AnyLine;
 use rr_checkpoint::Writer;
 use rr_checkpoint::plan::{KitPages, TextPages};
@@ -50,8 +51,8 @@ pub(crate) fn open<D: Disk>(alloc: Global, disk: &mut D) -> Result<Opened<Worlds
     open_file(alloc, disk)
 }
 
-// The number of the root and of the next record, how many records stand in the half that the root names and in the other
-// one, and the number at which a checkpoint was begun.
+// The number of the root and of the next record, how many records stand in the half that the root names and in the
+// other one, and the number at which a checkpoint was begun.
 pub(crate) type Found = (u64, u64, usize, usize, Option<u64>);
 
 pub(crate) fn found(opened: &Opened<Worlds<AnyLine>>) -> Found {

@@ -1,5 +1,5 @@
-//! Tests of the open file of a store: how it is opened, how records are kept and checkpoints made, what these write, and
-//! which lines its records may have.
+//! Tests of the open file of a store: how it is opened, how records are kept and checkpoints made, what these write,
+//! and which lines its records may have.
 #![tactic(auto)]
 
 #[cfg(test)]

@@ -99,8 +99,8 @@ fn has_the_table(opened: &Opened<Worlds<AnyLine>>) -> bool {
             .all(|table| table.bytes.as_slice() == KEPT)
 }
 
-// The faults of a record, and then of each call, on a log whose device fails behind so many calls; and how many records an
-// opening then reads.
+// The faults of a record, and then of each call, on a log whose device fails behind so many calls; and how many records
+// an opening then reads.
 fn faults(
     alloc: Global,
     tables: &OneTable,
@@ -192,8 +192,8 @@ fn tick_and_finish(
     Ok((answer, begun, state(log)))
 }
 
-// It is made of the tables from before the record, and those that are lent aren't asked. Of its five ticks the first one writes
-// the table's page.
+// It is made of the tables from before the record, and those that are lent aren't asked. Of its five ticks the first
+// one writes the table's page.
 #[test]
 fn a_checkpoint_that_was_begun_is_made_anew(rt: HostRuntime) -> Result<(), Fail> {
     let mut log = begun_log(rt.alloc())?;

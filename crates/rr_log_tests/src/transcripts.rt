@@ -13,8 +13,8 @@ use std::test::Fail;
 // before it.
 const CHAIN: &[u8] = b"\0\0\0\0\0\0\0\0\0\x11\0\x08open a b\0\x05buy a";
 
-// The page of the directory: no next page, 81 bytes used, the texts on pages 514 to 517, and one table of stamp 2, floor 0
-// and 2 kept commands, on page 519.
+// The page of the directory: no next page, 81 bytes used, the texts on pages 514 to 517, and one table of stamp 2,
+// floor 0 and 2 kept commands, on page 519.
 const DIRECTORY: &[u8] = b"\0\0\0\0\0\0\0\0\0\x51\
 \0\0\0\0\0\0\x02\x02\0\0\0\x05\0\0\0\0\0\0\x02\x03\0\0\0\x06\
 \0\0\0\0\0\0\x02\x04\0\0\0\x05\0\0\0\0\0\0\x02\x05\0\0\0\x05\0\x01\

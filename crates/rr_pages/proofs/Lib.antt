@@ -1,5 +1,6 @@
 pub mod Versions
 pub mod Bytes
+pub mod DeviceCalls
 pub mod Moments
 pub mod Spelling
 pub mod RootSpelling

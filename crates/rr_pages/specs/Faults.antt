@@ -1,20 +1,11 @@
 -- What the faults of pages mean.
 use Rattle.std.specs.Prelude.{ℕ, Result, Option, None, Some}
-use Rattle.rr_disk.specs.Disk as disk
 use Rattle.rr_disk.specs.Faults.{CountsFaultBy, OnFaultBy}
 use Rattle.rr_disk.specs.declared.fault.Fault.{Fault as OfDisk}
 use Rattle.rr_pages.specs.declared.fault.Damage.{Damage}
 use Rattle.rr_pages.specs.declared.fault.Damage.TheVariants.{RootField, PageOutside, PageTwice, UsedBytes, Form, Kit, Kept, Records}
 use Rattle.rr_pages.specs.declared.fault.Fault.{Fault}
 use Rattle.rr_pages.specs.declared.fault.Fault.TheVariants.{FileFull, Damaged, NotAStore, Disk, OutOfMemory}
-
--- the number of a fault
-abbrev pub number_of : Fault → ℕ
-number_of FileFull = 62
-number_of (Damaged damage) = 63
-number_of NotAStore = 64
-number_of (Disk fault) = disk.number_of fault
-number_of OutOfMemory = 70
 
 -- the number of the clause that a damaged file breaks
 abbrev pub clause_of : Damage → ℕ

@@ -8,8 +8,8 @@ use Rattle.rr_pages.specs.Pages.{IsData}
 use Rattle.rr_pages.specs.Chains.{next_of, used_of}
 use Rattle.rr_pages.specs.Sets.{IsMarked, marked}
 
--- From this page on a chain goes over these pages, none of them reached before, in a file of so many pages. It ends at its
--- last page, or breaks off at a number that no data page has or at a page that was reached before.
+-- From this page on a chain goes over these pages, none of them reached before, in a file of so many pages. It ends at
+-- its last page, or breaks off at a number that no data page has or at a page that was reached before.
 abbrev pub Walk : List ℕ → ℕ → List Bool → ℕ → List ℕ → Option Damage → Type 0
 Walk file count reached page [] end =
     ((IsData count page → ⊥) × (end ≡ Some PageOutside)) ⊎ (IsData count page × IsMarked reached page × (end ≡ Some PageTwice))
@@ -22,8 +22,8 @@ abbrev pub length_damage : ℕ → Option ℕ → Option Damage
 length_damage total None = None
 length_damage total (Some stated) = if total == stated then None else Some Form
 
--- The first clause that a chain breaks which was followed over these pages to this end: where it breaks off, then pages with
--- too many used bytes, then its length.
+-- The first clause that a chain breaks which was followed over these pages to this end: where it breaks off, then pages
+-- with too many used bytes, then its length.
 abbrev pub damage_of : List ℕ → List ℕ → Option Damage → Option ℕ → Option Damage
 damage_of file pages (Some damage) stated = Some damage
 damage_of file pages None stated =

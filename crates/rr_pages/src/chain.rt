@@ -18,8 +18,8 @@ pub struct FreshPage {
 /// Lays bytes into free pages, each but the last one filled, and gives the first of them. No bytes take one page. The
 /// new pages come behind those that are there, in the order of the chain. It makes no device call.
 ///
-/// `FileFull` where fewer pages are free than are needed; else `OutOfMemory` alone, and never where no page is free. After
-/// an error some pages may be taken and laid: `FreePages::abandon` frees all that were taken.
+/// `FileFull` where fewer pages are free than are needed; else `OutOfMemory` alone, and never where no page is free.
+/// After an error some pages may be taken and laid: `FreePages::abandon` frees all that were taken.
 pub fn chain_write(
     alloc: Global,
     free: &mut FreePages,

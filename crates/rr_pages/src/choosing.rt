@@ -33,8 +33,8 @@ struct Fields {
 /// Takes the open root of greater number. It writes nothing.
 ///
 /// # Errors
-/// `NotAStore` where the file has fewer than 515 pages, no open root, or an open root of a version that isn't known; else
-/// `Damaged` where a field of an open root is out of bounds, or both are open with one number. `Disk` where a read
+/// `NotAStore` where the file has fewer than 515 pages, no open root, or an open root of a version that isn't known;
+/// else `Damaged` where a field of an open root is out of bounds, or both are open with one number. `Disk` where a read
 /// fails, which none of a disk that works does.
 pub fn take_root<D: Disk>(disk: &mut D) -> Result<Taken, Fault>
     ensures chosen { D.Honest disk.new → Chooses (D.state disk.old).content result }

@@ -1,7 +1,8 @@
 ghost use Rattle.std.specs.Prelude.{◌≡◌, ◌⊎◌, ◌+◌, ◌^◌, ◌<◌, ◌≤◌, OnOk, OnErr};
+ghost use Rattle.rr_disk.specs.Calls.{account, after_steps};
 ghost use Rattle.rr_disk.specs.Disk.{counted, CountsFault};
 ghost use Rattle.rr_disk.specs.Moments.{LeavesOnly};
-ghost use Rattle.rr_pages.specs.Device.{Shuts, MayShut};
+ghost use Rattle.rr_pages.specs.Device.{Shuts, MayShut, shutting, StopsShutting};
 
 use crate::page::OPEN;
 use rr_disk::{Disk, Fault, put};
@@ -17,6 +18,10 @@ pub fn shut<D: Disk>(disk: &mut D, at: u64) -> Result<(), Fault>
     ensures any_moment { D.Honest disk.new
         → LeavesOnly (D.past disk.old) (D.state disk.old) (D.past disk.new) (D.state disk.new)
         (MayShut (D.state disk.old) at) }
+    ensures calls { OnOk result (D.Honest disk.new → account D.Disk disk.new
+        ≡ after_steps (account D.Disk disk.old) (shutting (D.state disk.old) at)) }
+    ensures stops { OnErr result (D.Honest disk.new
+        → StopsShutting (account D.Disk disk.old) at (account D.Disk disk.new)) }
     ensures honest { D.Honest disk.new → D.Honest disk.old }
     ensures fault { CountsFault (D.fault_count disk.old) (D.fault_count disk.new) result }
     ensures writes { D.write_count disk.new ≤ D.write_count disk.old + 1 }

@@ -1,8 +1,8 @@
 use std::alloc::{AllocError, AllocFailed};
 use thiserror::Error;
 
-/// Which clause a damaged file breaks. Its bytes alone decide those before `Form`, and the rules of the game those behind
-/// it. Of several the least is told.
+/// Which clause a damaged file breaks. Its bytes alone decide those before `Form`, and the rules of the game those
+/// behind it. Of several the least is told.
 #[derive(Clone, Copy, Debug, Drop, PartialEq, Eq, Error)]
 pub enum Damage {
     /// A field of an open root is out of bounds, or two open roots have the same number.
@@ -17,15 +17,15 @@ pub enum Damage {
     /// A page has more than 4,086 used bytes.
     #[error("4")]
     UsedBytes,
-    /// A chain has another length than is stated, the bytes of the directory spell none, those of a table's chain aren't
-    /// as many commands as it says, or kept words of a table are no request's, and no `best`.
+    /// A chain has another length than is stated, the bytes of the directory spell none, those of a table's chain
+    /// aren't as many commands as it says, or kept words of a table are no request's, and no `best`.
     #[error("5")]
     Form,
     /// A text of the kit is wrong.
     #[error("6")]
     Kit,
-    /// What a table keeps isn't an opening and then commands that are lawful, each after those before it; or its floor is
-    /// above the turns that ended in them.
+    /// What a table keeps isn't an opening and then commands that are lawful, each after those before it; or its floor
+    /// is above the turns that ended in them.
     #[error("7")]
     Kept,
     /// A record spells no request that its table may take, or is damaged.
@@ -72,24 +72,6 @@ pub enum Fault {
     /// Memory was wanted and refused.
     #[error("out of memory")]
     OutOfMemory,
-}
-
-impl Fault {
-    ghost use Rattle.std.specs.Prelude.{◌≡◌};
-    ghost use Rattle.rr_pages.specs.Faults.{number_of};
-
-    /// The number that replies give.
-    pub fn number(self) -> u8
-        ensures { result ≡ number_of self }
-    {
-        match self {
-            Fault::FileFull => 62,
-            Fault::Damaged(_) => 63,
-            Fault::NotAStore => 64,
-            Fault::Disk(fault) => fault.number(),
-            Fault::OutOfMemory => 70,
-        }
-    }
 }
 
 impl From<rr_disk::Fault> for Fault {

@@ -1,8 +1,8 @@
 //! The journal of a store: numbered records in two halves of a file, each record made durable by two writes and two
 //! syncs, and read again up to the first slot that holds no record of the expected number.
 //!
-//! Its promise: `append` leaves each image with the records from before, or with the new one whole, and from `Ok` on with
-//! it.
+//! Its promise: `append` leaves each image with the records from before, or with the new one whole, and from `Ok` on
+//! with it.
 
 mod buffer;
 mod fault;

@@ -35,8 +35,9 @@ pub fn standing_chains_are_read()
     ensures broken { laws.BrokenNone }
 {}
 
-/// The numbers of a file: a page has 4,096 bytes, and one of data 4,086 of its chain behind 10 that lead on; data begins on
-/// page 514, and a file has 515 to 65,536 pages; a root has 35 bytes behind its gate, and the byte A5 hex opens one.
+/// The numbers of a file: a page has 4,096 bytes, and one of data 4,086 of its chain behind 10 that lead on; data
+/// begins on page 514, and a file has 515 to 65,536 pages; a root has 35 bytes behind its gate, and the byte A5 hex
+/// opens one.
 pub fn sizes()
     ensures page { PAGE_BYTES ≡ 4096 }
     ensures link { LINK_BYTES ≡ 10 }

@@ -1,8 +1,9 @@
-//! What a store's file is made of: pages of 4,096 bytes, chains of them, which of them are free, two roots with gates, of
-//! which one is taken, and the two halves of its journal (`journal`). Numbers in the file are big-endian.
+//! What a store's file is made of: pages of 4,096 bytes, chains of them, which of them are free, two roots with gates,
+//! of which one is taken, and the two halves of its journal (`journal`). Numbers in the file are big-endian.
 //!
-//! Stands on `rr_disk`. Its promises: `chain_read` and `take_root` tell exactly what the bytes have, or the first clause
-//! broken; and `journal::Half::append` leaves each image with the records from before, or with the new one whole.
+//! Stands on `rr_disk`. Its promises: `chain_read` and `take_root` tell exactly what the bytes have, or the first
+//! clause broken; and `journal::Half::append` leaves each image with the records from before, or with the new one
+//! whole.
 #![tactic(auto)]
 
 mod chain;

@@ -1,9 +1,10 @@
 //! The two roots: one is taken, and the other, the stale one, is where the next root is written.
 ghost use Rattle.std.specs.Prelude.{◌≡◌, ◌≤◌, ◌+◌, ◌∷◌, ◌++◌, [], length, drop, not, OnOk, OnErr};
 ghost use Rattle.byteorder.specs.Endian.{big_bytes};
+ghost use Rattle.rr_disk.specs.Calls.{Step, Write, Sync, account, after_steps, StopsWithin};
 ghost use Rattle.rr_disk.specs.Disk.{after_write, after_sync, counted, CountsFault};
 ghost use Rattle.rr_disk.specs.Moments.{LeavesOnly, TornFrom};
-ghost use Rattle.rr_pages.specs.Device.{Shuts, MayShut, Flips, MayFlip};
+ghost use Rattle.rr_pages.specs.Device.{Shuts, MayShut, Flips, MayFlip, shutting, StopsShutting};
 ghost use Rattle.rr_pages.specs.Roots.{root_gate, half_number, root_bytes};
 
 use crate::device::shut;
@@ -53,6 +54,10 @@ impl Roots {
         ensures any_moment { D.Honest disk.new
             → LeavesOnly (D.past disk.old) (D.state disk.old) (D.past disk.new) (D.state disk.new)
             (MayShut (D.state disk.old) (root_gate (not self.now.taken))) }
+        ensures calls { OnOk result (D.Honest disk.new → account D.Disk disk.new
+            ≡ after_steps (account D.Disk disk.old) (shutting (D.state disk.old) (root_gate (not self.now.taken)))) }
+        ensures stops { OnErr result (D.Honest disk.new
+            → StopsShutting (account D.Disk disk.old) (root_gate (not self.now.taken)) (account D.Disk disk.new)) }
         ensures honest { D.Honest disk.new → D.Honest disk.old }
         ensures fault { CountsFault (D.fault_count disk.old) (D.fault_count disk.new) result }
         ensures writes { D.write_count disk.new ≤ D.write_count disk.old + 1 }
@@ -75,6 +80,12 @@ impl Roots {
         ensures any_moment { D.Honest disk.new
             → LeavesOnly (D.past disk.old) (D.state disk.old) (D.past disk.new) (D.state disk.new)
             (TornFrom (D.state disk.old) (root_gate (not self.now.taken) + 1) ROOT_BYTES) }
+        ensures calls { OnOk result (D.Honest disk.new → account D.Disk disk.new
+            ≡ after_steps (account D.Disk disk.old)
+            (Write (root_gate (not self.now.taken) + 1) (root_bytes root.now) ∷ Sync ∷ [])) }
+        ensures stops { OnErr result (D.Honest disk.new
+            → StopsWithin (account D.Disk disk.old)
+            (Write (root_gate (not self.now.taken) + 1) (root_bytes root.now) ∷ Sync ∷ []) (account D.Disk disk.new)) }
         ensures honest { D.Honest disk.new → D.Honest disk.old }
         ensures fault { CountsFault (D.fault_count disk.old) (D.fault_count disk.new) result }
         ensures writes { D.write_count disk.new ≡ counted (D.write_count disk.old) }
@@ -99,6 +110,11 @@ impl Roots {
         ensures any_moment { D.Honest disk.new
             → LeavesOnly (D.past disk.old) (D.state disk.old) (D.past disk.new) (D.state disk.new)
             (TornFrom (D.state disk.old) (root_gate (not self.old.taken)) 1) }
+        ensures calls { OnOk result (D.Honest disk.new → account D.Disk disk.new
+            ≡ after_steps (account D.Disk disk.old) (Write (root_gate (not self.old.taken)) (OPEN ∷ []) ∷ Sync ∷ [])) }
+        ensures stops { OnErr result (D.Honest disk.new
+            → StopsWithin (account D.Disk disk.old) (Write (root_gate (not self.old.taken)) (OPEN ∷ []) ∷ Sync ∷ [])
+            (account D.Disk disk.new)) }
         ensures taken { OnOk result (self.new.taken ≡ not self.old.taken) }
         ensures same { OnErr result (self.new ≡ self.old) }
         ensures honest { D.Honest disk.new → D.Honest disk.old }

@@ -1,5 +1,5 @@
 -- A file has one answer: each step of a reading leads on in one way, or ends in one.
-use Rattle.std.proofs.Common.{◌≡◌, inl, inr, ℕ, ◌+◌, Bool, false, not, List, [], ◌∷◌, length, Option, None, Some, sym, ap, ◌∙◌, subst}
+use Rattle.std.proofs.Common.{◌≡◌, inl, inr, ℕ, ◌+◌, Bool, false, List, [], ◌∷◌, length, Option, None, Some, sym, ap, ◌∙◌, subst}
 use Rattle.std.proofs.lemmas.List.{ext_get_or}
 use Rattle.rr_reading.specs.declared.dir.version.Version.{Version}
 use Rattle.rr_reading.specs.Dir.Directory.{Directory, Spells}

@@ -1,5 +1,4 @@
 pub mod Directory
-pub mod Fault
 pub mod Heads
 pub mod Kept
 pub mod Number

@@ -1,6 +1,5 @@
 -- What the faults of a reading mean.
 use Rattle.std.specs.Prelude.{ℕ, Result, Option, None, Some}
-use Rattle.rr_disk.specs.Disk as disk
 use Rattle.rr_disk.specs.Faults.{CountsFaultBy, OnFaultBy}
 use Rattle.rr_disk.specs.declared.fault.Fault.{Fault as OfDisk}
 use Rattle.rr_reading.specs.declared.dir.fault.Fault.{Fault as OfDirectory}
@@ -9,17 +8,9 @@ use Rattle.rr_pages.specs.declared.journal.fault.Fault.{Fault as OfJournal}
 use Rattle.rr_pages.specs.declared.journal.fault.Fault.TheVariants as journal
 use Rattle.rr_pages.specs.declared.fault.Fault.{Fault as OfPages}
 use Rattle.rr_pages.specs.declared.fault.Fault.TheVariants as pages
-use Rattle.rr_pages.specs.declared.fault.Damage.{Damage}
-use Rattle.rr_pages.specs.declared.fault.Damage.TheVariants.{RootField, PageOutside, PageTwice, UsedBytes, Form}
+use Rattle.rr_pages.specs.declared.fault.Damage.TheVariants.{Form}
 use Rattle.rr_reading.specs.declared.fault.Fault.{Fault}
 use Rattle.rr_reading.specs.declared.fault.Fault.TheVariants.{Damaged, NotAStore, Disk, OutOfMemory}
-
--- the number of a fault
-abbrev pub number_of : Fault → ℕ
-number_of (Damaged damage) = 63
-number_of NotAStore = 64
-number_of (Disk fault) = disk.number_of fault
-number_of OutOfMemory = 70
 
 -- a fault of the layers below
 abbrev pub of_pages : OfPages → Fault

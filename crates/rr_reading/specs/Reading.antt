@@ -1,8 +1,8 @@
 -- What a file holds, and the least clause that it breaks. The clauses that the bytes alone decide are the fields of the
--- roots, and then the chains that can be found: their page numbers, pages reached twice, used bytes, and the forms of the
--- directory and of the tables' chains. Records are read last, and tell no damage here: a kit that is refused and commands
--- that aren't lawful come before them.
-use Rattle.std.specs.Prelude.{◌≡◌, ℕ, ◌+◌, ◌≤◌, Bool, not, List, [], ◌∷◌, length, None, Result, Ok, Err}
+-- roots, and then the chains that can be found: their page numbers, pages reached twice, used bytes, and the forms of
+-- the directory and of the tables' chains. Records are read last, and tell no damage here: a kit that is refused and
+-- commands that aren't lawful come before them.
+use Rattle.std.specs.Prelude.{◌≡◌, ℕ, ◌+◌, ◌≤◌, Bool, List, [], ◌∷◌, length, None, Result, Ok, Err}
 use Rattle.rr_pages.specs.declared.page.TheConstants.{MOST_PAGES}
 use Rattle.rr_reading.specs.Dir.Directory.{Directory, Spells}
 use Rattle.rr_reading.specs.Dir.Heads.{heads_of}
@@ -114,9 +114,9 @@ pub data AreFound (file : List ℕ) (found : List FoundChain) : Type 0 where
 abbrev pub HasFound : List ℕ → (FoundChain → Type 0) → Type 0
 HasFound file P = (found : List FoundChain) × AreFound file found × HasOne P found
 
--- The bytes of the directory spell none, or a chain has another length than the directory says, or a table's chain isn't
--- as many commands as it says. That is judged once all chains are whole: where one isn't, a clause that is no higher is
--- broken.
+-- The bytes of the directory spell none, or a chain has another length than the directory says, or a table's chain
+-- isn't as many commands as it says. That is judged once all chains are whole: where one isn't, a clause that is no
+-- higher is broken.
 pub data IsOfNoForm (file : List ℕ) : Type 0 where
   Of_directory : (side : Bool) (root : Root) (reached : List Bool) (chain : HeldChain) → TakesRoot file side root
       → ReadsDirectory file root reached chain

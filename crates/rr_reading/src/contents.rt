@@ -61,12 +61,12 @@ struct FoundChains {
 /// Reads a store's file, as far as no rule of the game is needed. It writes nothing, and neither syncs.
 ///
 /// # Errors
-/// `NotAStore` where the file has fewer than 515 pages, no open root, or an open root of a version that isn't known; else
-/// `Damaged` with the least clause that it breaks: of each open root, and then over all chains that can be found, those of
-/// the directory and, where that can be read, of the texts and tables that it names. A chain that breaks off is judged as
-/// far as it goes. Else `Disk` or `OutOfMemory` alone: `Disk` never where the disk works, and `OutOfMemory` only where a
-/// root is taken. A record that is damaged is told by the end of its half: texts that are refused and commands that aren't
-/// lawful come before it.
+/// `NotAStore` where the file has fewer than 515 pages, no open root, or an open root of a version that isn't known;
+/// else `Damaged` with the least clause that it breaks: of each open root, and then over all chains that can be found,
+/// those of the directory and, where that can be read, of the texts and tables that it names. A chain that breaks off
+/// is judged as far as it goes. Else `Disk` or `OutOfMemory` alone: `Disk` never where the disk works, and
+/// `OutOfMemory` only where a root is taken. A record that is damaged is told by the end of its half: texts that are
+/// refused and commands that aren't lawful come before it.
 pub fn read_file<D: Disk>(alloc: Global, disk: &mut D) -> Result<Contents, Fault>
     ensures read { D.Honest disk.new → Reads (D.state disk.old).content result }
     ensures near { IfOk result (λ contents. GoesOn contents.taken.root.half contents.near) }

@@ -12,7 +12,7 @@ mod reading;
 mod version;
 mod writing;
 
-pub use directory::{ChainRef, Dir, KitChains, TableEntry};
+pub use directory::{ChainRef, Dir, KitChains, MOST_KEPT, MOST_TABLES, MOST_TEXT, TableEntry};
 pub use fault::Fault;
 pub use kept::{KeptCommands, write_kept};
 pub use version::{NEWEST, Version};

@@ -20,23 +20,6 @@ pub enum Fault {
     OutOfMemory,
 }
 
-impl Fault {
-    ghost use Rattle.std.specs.Prelude.{◌≡◌};
-    ghost use Rattle.rr_reading.specs.Faults.{number_of};
-
-    /// The number that replies give.
-    pub fn number(self) -> u8
-        ensures { result ≡ number_of self }
-    {
-        match self {
-            Fault::Damaged(_) => 63,
-            Fault::NotAStore => 64,
-            Fault::Disk(fault) => fault.number(),
-            Fault::OutOfMemory => 70,
-        }
-    }
-}
-
 // Reading takes no free page, so that a full file is never told.
 impl From<rr_pages::Fault> for Fault {
     ghost use Rattle.std.specs.Prelude.{◌≡◌};

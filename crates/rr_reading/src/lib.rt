@@ -1,9 +1,9 @@
-//! What an opening reads of a store's file before the rules judge it: the root that is taken, its directory (`dir`), the
-//! chains that this names, and the records of both halves; or the least clause of damage that the bytes alone decide. And
-//! the worlds that such files spell, in words (`worlds`).
+//! What an opening reads of a store's file before the rules judge it: the root that is taken, its directory (`dir`),
+//! the chains that this names, and the records of both halves; or the least clause of damage that the bytes alone
+//! decide. And the worlds that such files spell, in words (`worlds`).
 //!
-//! Stands on `rr_images` and `rr_pages`. Its promises: `read_file` gives both exactly, of every file; a directory is read
-//! as it was written; and so is a world, which a checkpoint needs of what it writes.
+//! Stands on `rr_images` and `rr_pages`. Its promises: `read_file` gives both exactly, of every file; a directory is
+//! read as it was written; and so is a world, which a checkpoint needs of what it writes.
 #![tactic(auto)]
 
 mod chains;

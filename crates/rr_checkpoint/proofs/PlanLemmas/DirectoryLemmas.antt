@@ -151,7 +151,8 @@ fresh_counted present coming between fresh more tables entries kit bytes laid is
     let counted = directory_counted kit (map laid_as laid.laid) tables entries bytes laid.texts laid.named is in
     omega (arith, laid.counted, fresh_count present coming between fresh laid.laid laid.in_turn, count, ap pages_for counted)
 
--- The pages of the tables and then those of their directory are taken one after another, and they are all that is written.
+-- The pages of the tables and then those of their directory are taken one after another, and they are all that is
+-- written.
 pages_laid : (fresh : List FreshPage) → map (λ (page : FreshPage). page.page) fresh ≡ map (λ (one : ℕ × List ℕ). one.0) (map fresh_of fresh)
 pages_laid [] = refl
 pages_laid (page ∷ fresh) = ap (λ (pages : List ℕ). page.page ∷ pages) (pages_laid fresh)

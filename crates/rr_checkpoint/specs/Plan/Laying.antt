@@ -36,8 +36,8 @@ needed_pages tables = table_pages tables + pages_for (directory_length tables)
 abbrev pub fresh_pages : Plan → List ℕ
 fresh_pages plan = map (λ fresh. fresh.page) plan.fresh.items
 
--- The chains of these tables were laid one after another, from these sets on, and nothing else is to be written; and the
--- entries name them.
+-- The chains of these tables were laid one after another, from these sets on, and nothing else is to be written; and
+-- the entries name them.
 pub record AreTablesLaid (present coming after : List Bool) (fresh : List FreshPage) (tables : List Table)
     (entries : List TableEntry) : Type 0 where
   pub laid : List LaidChain

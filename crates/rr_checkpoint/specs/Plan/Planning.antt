@@ -21,8 +21,8 @@ world_of texts tables =
       tables = tables;
     }
 
--- The root of a layout holds the texts of the kit on these pages, before the chains of its tables, and the world before the
--- first record of the other half has these texts and the tables of the transcript.
+-- The root of a layout holds the texts of the kit on these pages, before the chains of its tables, and the world before
+-- the first record of the other half has these texts and the tables of the transcript.
 pub record IsOfLayout (takes : List ℕ → World → World → Type 0) (kit : KitPages) (transcript : Transcript)
     (layout : Layout (worlds takes)) : Type 0 where
   pub texts : TextChains

@@ -6,8 +6,8 @@ use Rattle.rr_checkpoint.specs.Writer.{free_of, place_of, taken_of, ticks_left_o
 use Rattle.rr_images.specs.Codec.{Codec}
 use Rattle.rr_pages.specs.FreePages.{present_of}
 
--- No checkpoint is under way, and but for the pages that are taken for the coming root all is as before: the root and its
--- pages, where the next record goes, and what the writer carries.
+-- No checkpoint is under way, and but for the pages that are taken for the coming root all is as before: the root and
+-- its pages, where the next record goes, and what the writer carries.
 pub record OnlyTakes {C : Type 0} (codec : Codec) (old new : Writer C) : Type 0 where
   pub resting : ticks_left_of new ≡ 0
   pub taken : taken_of new ≡ taken_of old

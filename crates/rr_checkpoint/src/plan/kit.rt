@@ -2,8 +2,8 @@ ghost use Rattle.std.specs.Prelude.{◌≡◌};
 
 use rr_reading::dir::{ChainRef, KitChains};
 
-/// Where the present root holds a text: its chain's first page and length, as the directory names them, and all pages of
-/// that chain.
+/// Where the present root holds a text: its chain's first page and length, as the directory names them, and all pages
+/// of that chain.
 #[derive(Drop)]
 pub struct TextPages {
     pub chain: ChainRef,

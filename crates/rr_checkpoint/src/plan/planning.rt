@@ -13,6 +13,7 @@ ghost use Rattle.rr_checkpoint.specs.Plan.Transcript.{tables_of};
 ghost use Rattle.rr_checkpoint.specs.Plan.Writing.{OnlyTakes};
 ghost use Rattle.rr_reading.specs.Worlds.Spelling.{worlds};
 ghost use Rattle.rr_reading.specs.Worlds.World.{World};
+ghost use Rattle.rr_reading.specs.declared.dir.directory.TheConstants.{MOST_TABLES};
 
 use crate::plan::keeping::keep_texts;
 use crate::plan::laying::lay_tables;
@@ -23,14 +24,13 @@ use rr_reading::dir::{Dir, KitChains, NEWEST, TableEntry, Version};
 use rr_reading::worlds::{Rules, Worlds};
 use std::alloc::Global;
 
-/// Makes the plan of a checkpoint: the coming root keeps the texts of the kit where they stand, and holds the tables of the
-/// transcript. Its fresh pages are those that the tables and their directory take, and no others. No checkpoint is under way,
-/// and pages that were taken for one are given back first.
+/// Makes the plan of a checkpoint: the coming root keeps the texts of the kit where they stand, and holds the tables of
+/// the transcript. Its fresh pages are those that the tables and their directory take, and no others. No checkpoint is
+/// under way, and pages that were taken for one are given back first.
 ///
 /// # Errors
-/// `FileFull` where fewer pages are free, beside those of the texts, than the tables and the directory take, and no plan is
-/// made then; else
-/// `OutOfMemory` alone. Then the pages that were taken are given back.
+/// `FileFull` where fewer pages are free, beside those of the texts, than the tables and the directory take, and no
+/// plan is made then; else `OutOfMemory` alone. Then the pages that were taken are given back.
 pub fn plan_checkpoint<R: Rules>(
     alloc: Global,
     writer: &mut Writer<Worlds<R>>,
@@ -112,7 +112,7 @@ fn directory_bytes(
     kit: KitChains,
     tables: Vec<TableEntry>,
 ) -> Result<Vec<u8>, Fault>
-    requires { length tables.items ≤ 64 }
+    requires { length tables.items ≤ MOST_TABLES }
     ensures bytes { IfOk result (λ bytes. bytes.items ≡ spelling version (record { kit = kit; tables = tables.items })) }
     ensures memory { IfErr result (λ fault. fault ≡ Fault.OutOfMemory) }
 {

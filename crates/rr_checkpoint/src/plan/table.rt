@@ -1,5 +1,7 @@
 ghost use Rattle.std.specs.Prelude.{◌≡◌, ◌^◌, ◌<◌, ◌≤◌, length, OnOk, OnErr, IsOkUnless};
 ghost use Rattle.std.proofs.Props.{props};
+ghost use Rattle.rr_reading.specs.declared.dir.directory.TheConstants.{MOST_KEPT};
+ghost use Rattle.rr_turns.specs.declared.limits.TheConstants.{LAST_STAMP};
 ghost use Rattle.rr_reading.specs.Dir.Kept.{IsShort, SpellsKept, first_commands};
 ghost use Rattle.rr_words.specs.Name.{IsTableName};
 
@@ -17,9 +19,9 @@ pub struct TableTranscript {
     pub(crate) kept: u32,
     pub(crate) bytes: Vec<u8>,
     ghost named: { IsTableName name },
-    ghost stamped: { stamp ≤ 4000000000 },
+    ghost stamped: { stamp ≤ LAST_STAMP },
     ghost floored: { floor < 2 ^ 32 },
-    ghost few_kept: { kept ≤ 4096 },
+    ghost few_kept: { kept ≤ MOST_KEPT },
     ghost spelled: { SpellsKept bytes.items (first_commands kept bytes.items) } by { Prim.hlevel props },
 }
 
@@ -28,7 +30,7 @@ impl TableTranscript {
 
     /// A table of this name, stamp and floor, without a command. The stamp is at most 4,000,000,000.
     pub fn new(alloc: Global, name: &Name, stamp: u64, floor: u32) -> TableTranscript
-        requires { stamp ≤ 4000000000 }
+        requires { stamp ≤ LAST_STAMP }
         ensures { table_of result ≡ without_commands name.now stamp floor }
     {
         // Its contract says that it is a table's name.
@@ -49,7 +51,7 @@ impl TableTranscript {
     /// `OutOfMemory`; then the table is as it was.
     pub fn add(&mut self, words: &[u8]) -> Result<(), Fault>
         requires short { IsShort words.now }
-        requires room { length (commands_of self.old) < 4096 }
+        requires room { length (commands_of self.old) < MOST_KEPT }
         ensures ok { OnOk result (table_of self.new ≡ with_command (table_of self.old) words.now) }
         ensures err { OnErr result (table_of self.new ≡ table_of self.old) }
         ensures memory { IsOkUnless result Fault.OutOfMemory }

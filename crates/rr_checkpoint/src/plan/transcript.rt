@@ -1,18 +1,19 @@
 ghost use Rattle.std.specs.Prelude.{◌≡◌, ◌≢◌, ◌<◌, ◌≤◌, ◌++◌, [], ◌∷◌, All, AllPairs, length, OnOk, OnErr, IsOkUnless};
 ghost use Rattle.std.proofs.Props.{props};
+ghost use Rattle.rr_reading.specs.declared.dir.directory.TheConstants.{MOST_TABLES};
 
 use crate::plan::TableTranscript;
 use rr_pages::Fault;
 use std::alloc::Global;
 
-/// The tables of a store at a moment, in order of opening: at most 64, each with a name of its own and with a command at
-/// least. It is what a checkpoint writes, whatever is played meanwhile.
+/// The tables of a store at a moment, in order of opening: at most 64, each with a name of its own and with a command
+/// at least. It is what a checkpoint writes, whatever is played meanwhile.
 #[derive(Drop)]
 pub struct Transcript {
     pub(crate) tables: Vec<TableTranscript>,
     ghost some_kept: { All (λ table. 1 ≤ table.kept) tables.items } by { Prim.hlevel props },
     ghost own_names: { AllPairs (λ table other. table.name ≢ other.name) tables.items } by { Prim.hlevel props },
-    ghost few: { length tables.items ≤ 64 },
+    ghost few: { length tables.items ≤ MOST_TABLES },
 }
 
 impl Transcript {
@@ -32,7 +33,7 @@ impl Transcript {
     /// # Errors
     /// `OutOfMemory`; then the tables are those from before.
     pub fn push(&mut self, table: TableTranscript) -> Result<(), Fault>
-        requires room { length (tables_of self.old) < 64 }
+        requires room { length (tables_of self.old) < MOST_TABLES }
         requires some { 1 ≤ length (commands_of table) }
         requires own_name { All (λ other. other.name ≢ (table_of table).name) (tables_of self.old) }
         ensures ok { OnOk result (tables_of self.new ≡ tables_of self.old ++ table_of table ∷ []) }

@@ -1,5 +1,5 @@
 -- A new file on a device.
-use Rattle.std.specs.Prelude.{◌≡◌, ◌⊎◌, ℕ, ◌-◌, ◌*◌, ◌<◌, ◌≤◌, false, List, [], ◌∷◌, length, map, replicate, slice_index}
+use Rattle.std.specs.Prelude.{◌≡◌, ◌⊎◌, ℕ, ◌+◌, ◌-◌, ◌*◌, ◌<◌, ◌≤◌, false, List, [], ◌∷◌, length, map, replicate, slice_index}
 use Rattle.std.specs.List.{flat_map}
 use Rattle.rr_disk.specs.Disk.{DiskState, after_write, after_sync}
 use Rattle.rr_disk.specs.Moments.{EachImage}
@@ -12,7 +12,9 @@ use Rattle.rr_pages.specs.Pages.{StandsAt}
 use Rattle.rr_pages.specs.Roots.{IsRootOpen, root_bytes}
 use Rattle.rr_pages.specs.Writing.{fresh_of}
 use Rattle.rr_pages.specs.declared.chain.FreshPage.{FreshPage}
+use Rattle.rr_pages.specs.declared.page.TheConstants.{PAGE_BYTES, FIRST_DATA}
 use Rattle.rr_pages.specs.declared.root.Root.{Root}
+use Rattle.rr_pages.specs.declared.root.TheConstants.{ROOT_BYTES}
 use Rattle.rr_reading.specs.Worlds.Spelling.{worlds}
 use Rattle.rr_reading.specs.Worlds.World.{World}
 use Rattle.rr_log.specs.Formatting.NewFile.{IsFirstRoot, IsNewFile}
@@ -26,25 +28,25 @@ all_bytes fresh = flat_map bytes_of fresh
 
 -- the zeros between the gate of the second root and the data pages
 unfoldable pub header_zeros : List ℕ
-header_zeros = replicate (4096 * 514 - 4097) 0
+header_zeros = replicate (PAGE_BYTES * FIRST_DATA - (PAGE_BYTES + 1)) 0
 
 -- a disk behind the first calls: as many bytes as lie before the data pages, synced, and the zeros among them
 abbrev pub header_state : DiskState → DiskState
-header_state state = after_write (after_sync (after_write state (4096 * 514 - 1) (0 ∷ []))) 4097 header_zeros
+header_state state = after_write (after_sync (after_write state (PAGE_BYTES * FIRST_DATA - 1) (0 ∷ []))) (PAGE_BYTES + 1) header_zeros
 
 -- behind the calls before the last gate: then the pages, and the root behind its shut gate, synced
 abbrev pub closed_state : Root → List ℕ → DiskState → DiskState
 closed_state root pages state =
-    after_sync (after_write (after_write (header_state state) (4096 * 514) pages) 1 (root_bytes root))
+    after_sync (after_write (after_write (header_state state) (PAGE_BYTES * FIRST_DATA) pages) 1 (root_bytes root))
 
 -- The bytes of a new file: on page 0 an open gate and the root behind it, zeros up to the first data page, and then the
 -- fresh pages, up to the last page that the root counts.
 pub record HasNewBytes (root : Root) (fresh : List FreshPage) (file : List ℕ) : Type 0 where
   pub open_gate : IsRootOpen file false
   pub root_there : StandsAt file 1 (root_bytes root)
-  pub zeros : (i : ℕ) → 36 ≤ i → i < 4096 * 514 → slice_index file i ≡ 0
+  pub zeros : (i : ℕ) → ROOT_BYTES + 1 ≤ i → i < PAGE_BYTES * FIRST_DATA → slice_index file i ≡ 0
   pub pages : AllStand file (map fresh_of fresh)
-  pub ends : length file ≡ 4096 * root.pages  -- to the last page
+  pub ends : length file ≡ PAGE_BYTES * root.pages  -- to the last page
 
 -- The new file stands whole, and keeps its world, without a record and with no checkpoint begun.
 pub record IsFormatted (takes : List ℕ → World → World → Type 0) (root : Root) (fresh : List FreshPage)
@@ -58,16 +60,16 @@ abbrev pub IsNoneOrFormatted : (List ℕ → World → World → Type 0) → Roo
 IsNoneOrFormatted takes root fresh holding world file =
     IsNoStore file ⊎ IsFormatted takes root fresh holding world file
 
--- The file is a new one of this version that keeps this world: on page 0 it has the first root, whose number is 1, and the first
--- record will have number 1 and go into the first half. No record stands there yet, no checkpoint is begun, and the file ends with the last
--- page that the root counts.
+-- The file is a new one of this version that keeps this world: on page 0 it has the first root, whose number is 1, and
+-- the first record will have number 1 and go into the first half. No record stands there yet, no checkpoint is begun,
+-- and the file ends with the last page that the root counts.
 pub record KeepsNew (codec : Codec) (version : ℕ) (world : codec.World) (file : List ℕ) : Type 0 where
   pub root : Root
   pub first : IsFirstRoot root
   pub version_is : root.version ≡ version
   pub holding : Holding
   pub kept : KeepsAt codec (formatted false root holding world) file world
-  pub ends : length file ≡ 4096 * root.pages
+  pub ends : length file ≡ PAGE_BYTES * root.pages
 
 -- the same by its world alone: no store yet, or the new one that keeps it
 abbrev pub KeepsNoneOr : (codec : Codec) → ℕ → codec.World → List ℕ → Type 0

@@ -7,6 +7,7 @@ use Rattle.rr_pages.specs.Laying.{AllStand}
 use Rattle.rr_pages.specs.Roots.{IsKnownVersion, IsSound}
 use Rattle.rr_pages.specs.Writing.{fresh_of}
 use Rattle.rr_pages.specs.declared.chain.FreshPage.{FreshPage}
+use Rattle.rr_pages.specs.declared.page.TheConstants.{PAGE_BYTES, FIRST_DATA}
 use Rattle.rr_pages.specs.declared.root.Root.{Root}
 use Rattle.rr_reading.specs.Worlds.Spelling.{worlds}
 use Rattle.rr_reading.specs.Worlds.World.{World}
@@ -28,15 +29,15 @@ pub record IsFirstRoot (root : Root) : Type 0 where
   pub first : root.first ≡ 1
   pub version : IsKnownVersion root.version
 
--- The pages, of 4,096 bytes each, follow one another from the first data page to the last page of the root, and wherever
--- they stand, they spell the world.
+-- The pages, of 4,096 bytes each, follow one another from the first data page to the last page of the root, and
+-- wherever they stand, they spell the world.
 pub record IsNewFile (takes : List ℕ → World → World → Type 0) (root : Root) (fresh : List FreshPage)
     (world : World) : Type 0 where
   pub holding : Holding
   pub first_root : IsFirstRoot root
-  pub in_turn : map page_of fresh ≡ pages_from 514 (length fresh)
-  pub count : root.pages ≡ 514 + length fresh
+  pub in_turn : map page_of fresh ≡ pages_from FIRST_DATA (length fresh)
+  pub count : root.pages ≡ FIRST_DATA + length fresh
   pub spare : AreSpare [] (map fresh_of fresh)
-  pub sound : (file : List ℕ) → 4096 * root.pages ≤ length file → IsSound file root
+  pub sound : (file : List ℕ) → PAGE_BYTES * root.pages ≤ length file → IsSound file root
   pub spells : (file : List ℕ) → AllStand file (map fresh_of fresh)
       → Spelled (worlds takes) file root holding world

@@ -10,9 +10,9 @@ use Rattle.rr_log.specs.declared.opening.opened.Opened.{Opened}
 use Rattle.rr_log.specs.Opening.Opened.{held_by}
 use Rattle.rr_reading.specs.Held.{Held, chains_of, holding_of}
 
--- The layout is what was read of a file that keeps this world: its root and what this holds, the near records and the far
--- ones. So its base is spelled by the chains that were read, the near records lead from it to the world before the far
--- ones, and these to the file's world. No record is damaged.
+-- The layout is what was read of a file that keeps this world: its root and what this holds, the near records and the
+-- far ones. So its base is spelled by the chains that were read, the near records lead from it to the world before the
+-- far ones, and these to the file's world. No record is damaged.
 pub record IsReadAs {codec : Codec} (layout : Layout codec) (has : Held) (world : codec.World) : Type 0 where
   pub side : layout.side ≡ has.side
   pub root : layout.root ≡ has.root

@@ -6,6 +6,7 @@ ghost use Rattle.rr_log.specs.Formatting.NewFile.{empty_world};
 ghost use Rattle.rr_pages.specs.Faults.{CountsFault};
 ghost use Rattle.rr_pages.specs.Links.{NoVerdict};
 ghost use Rattle.rr_reading.specs.Worlds.Spelling.{worlds};
+ghost use Rattle.rr_reading.specs.declared.dir.directory.TheConstants.{MOST_TEXT};
 
 use crate::formatting::{new_file, write_new_file};
 use rr_disk::Disk;
@@ -15,8 +16,8 @@ use rr_reading::worlds::Rules;
 use std::alloc::Global;
 
 /// Makes a store of an empty disk, with the four texts of a kit, each of 65,536 bytes at most, and without a table. Its
-/// root is number 1, of the newest version, and its first record will be number 1, in the first half. Wherever the device
-/// stops, the file on it is no store yet, or this one.
+/// root is number 1, of the newest version, and its first record will be number 1, in the first half. Wherever the
+/// device stops, the file on it is no store yet, or this one.
 ///
 /// # Errors
 /// `OutOfMemory` before the first device call, and `Disk` where a call failed: then what the disk holds is no store, or
@@ -30,10 +31,10 @@ pub fn format<R: Rules, D: Disk>(
     board: &[u8],
 ) -> Result<(), Fault>
     requires empty { D.file_len disk.old ≡ 0 }
-    requires short_chart { length chart.now ≤ 65536 }
-    requires short_roster { length roster.now ≤ 65536 }
-    requires short_tiles { length tiles.now ≤ 65536 }
-    requires short_board { length board.now ≤ 65536 }
+    requires short_chart { length chart.now ≤ MOST_TEXT }
+    requires short_roster { length roster.now ≤ MOST_TEXT }
+    requires short_tiles { length tiles.now ≤ MOST_TEXT }
+    requires short_board { length board.now ≤ MOST_TEXT }
 
     // Whatever a stop leaves from now on, and whatever it left since the call began.
     ensures each { OnOk result (D.Honest disk.new → length (D.state disk.old).content ≡ 0

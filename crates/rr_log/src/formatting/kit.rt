@@ -4,6 +4,7 @@ ghost use Rattle.rr_log.specs.Formatting.InTurn.{AreInTurn};
 ghost use Rattle.rr_log.specs.Formatting.Kit.{IsKitLaid};
 ghost use Rattle.rr_log.specs.Formatting.NewFile.{empty_world};
 ghost use Rattle.rr_pages.specs.FreePages.{present_of, coming_of};
+ghost use Rattle.rr_reading.specs.declared.dir.directory.TheConstants.{MOST_TEXT};
 
 use crate::formatting::text::lay_text;
 use rr_pages::{Fault, FreePages, FreshPage};
@@ -20,10 +21,10 @@ pub(crate) fn lay_kit(
     tiles: &[u8],
     board: &[u8],
 ) -> Result<KitChains, Fault>
-    requires short_chart { length chart.now ≤ 65536 }
-    requires short_roster { length roster.now ≤ 65536 }
-    requires short_tiles { length tiles.now ≤ 65536 }
-    requires short_board { length board.now ≤ 65536 }
+    requires short_chart { length chart.now ≤ MOST_TEXT }
+    requires short_roster { length roster.now ≤ MOST_TEXT }
+    requires short_tiles { length tiles.now ≤ MOST_TEXT }
+    requires short_board { length board.now ≤ MOST_TEXT }
     requires nothing { fresh.old.items ≡ [] }
     requires in_turn { AreInTurn (present_of free.old) (coming_of free.old) 0 }
     ensures laid { IfOk result (λ kit. IsKitLaid (present_of free.old) (coming_of free.old) (coming_of free.new)

@@ -2,6 +2,7 @@ ghost use Rattle.std.specs.Prelude.{◌≡◌, ◌+◌, ◌≤◌, false, [], le
 ghost use Rattle.rr_reading.specs.Dir.Directory.{spelling};
 ghost use Rattle.rr_reading.specs.Dir.Version.{version_number};
 ghost use Rattle.rr_log.specs.Formatting.NewFile.{IsNewFile, empty_world};
+ghost use Rattle.rr_reading.specs.declared.dir.directory.TheConstants.{MOST_TEXT};
 ghost use Rattle.rr_pages.specs.declared.journal.layout.HalfIndex.TheVariants.{First};
 
 use crate::formatting::kit::lay_kit;
@@ -19,8 +20,9 @@ pub struct NewFile {
     pub fresh: Vec<FreshPage>,
 }
 
-/// Lays the four texts of a kit, each of 65,536 bytes at most, and a directory that names them and no table, in the form of
-/// this version. The file has no record, and the first one will have number 1, in the first half. Which lines records may have, `R` says.
+/// Lays the four texts of a kit, each of 65,536 bytes at most, and a directory that names them and no table, in the
+/// form of this version. The file has no record, and the first one will have number 1, in the first half. Which lines
+/// records may have, `R` says.
 ///
 /// # Errors
 /// `OutOfMemory` alone.
@@ -32,10 +34,10 @@ pub fn new_file<R: Rules>(
     tiles: &[u8],
     board: &[u8],
 ) -> Result<NewFile, Fault>
-    requires short_chart { length chart.now ≤ 65536 }
-    requires short_roster { length roster.now ≤ 65536 }
-    requires short_tiles { length tiles.now ≤ 65536 }
-    requires short_board { length board.now ≤ 65536 }
+    requires short_chart { length chart.now ≤ MOST_TEXT }
+    requires short_roster { length roster.now ≤ MOST_TEXT }
+    requires short_tiles { length tiles.now ≤ MOST_TEXT }
+    requires short_board { length board.now ≤ MOST_TEXT }
     ensures holds { IfOk result (λ file. IsNewFile R.takes file.root file.fresh.items
         (empty_world chart.now roster.now tiles.now board.now)) }
     ensures version { IfOk result (λ file. file.root.version ≡ version_number version) }
@@ -71,7 +73,7 @@ fn directory_bytes(alloc: Global, version: Version, kit: KitChains) -> Result<Ve
 // The root of a file of this version with so many data pages whose directory begins on this page.
 fn first_root(version: Version, directory: u64, count: u64) -> Root
     requires { count ≤ 1000 }
-    ensures { result ≡ record { number = 1; directory = directory; half = First; first = 1; pages = 514 + count; version = version_number version } }
+    ensures { result ≡ record { number = 1; directory = directory; half = First; first = 1; pages = FIRST_DATA + count; version = version_number version } }
 {
     Root {
         number: 1,

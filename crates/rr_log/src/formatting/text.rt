@@ -3,6 +3,7 @@ ghost use Rattle.std.specs.Prelude.{◌≡◌, ◌+◌, ◌≤◌, length, IfOk,
 ghost use Rattle.rr_log.specs.Formatting.InTurn.{AreInTurn};
 ghost use Rattle.rr_pages.specs.FreePages.{present_of, coming_of};
 ghost use Rattle.rr_pages.specs.Writing.{IsLaid};
+ghost use Rattle.rr_reading.specs.declared.dir.directory.TheConstants.{MOST_TEXT};
 
 use rr_pages::{Fault, FreePages, FreshPage, chain_write};
 use rr_reading::dir::ChainRef;
@@ -15,7 +16,7 @@ pub(crate) fn lay_text(
     fresh: &mut Vec<FreshPage>,
     text: &[u8],
 ) -> Result<ChainRef, Fault>
-    requires short { length text.now ≤ 65536 }
+    requires short { length text.now ≤ MOST_TEXT }
     requires few { length fresh.old.items ≤ 1000 }
     requires in_turn { AreInTurn (present_of free.old) (coming_of free.old) (length fresh.old.items) }
     ensures laid { IfOk result (λ chain. IsLaid (present_of free.old) (coming_of free.old) (coming_of free.new) text.now

@@ -27,9 +27,9 @@ const ZEROS: usize = (DATA_BYTE - ZEROS_BYTE) as usize;
 /// Puts a new file on an empty disk. Wherever the device stops, the file on it is no store yet, or the whole new one.
 ///
 /// First comes one byte at the end of what lies before the data pages: that file is too short to be a store, whatever a
-/// stop leaves of it. It is synced, so that both roots' gates are shut on the device. Then the zeros behind the gates, so
-/// that the file has no hole in which a later record would first have to find room, the data pages, and the root behind
-/// its shut gate are written and synced, and only then is the gate opened.
+/// stop leaves of it. It is synced, so that both roots' gates are shut on the device. Then the zeros behind the gates,
+/// so that the file has no hole in which a later record would first have to find room, the data pages, and the root
+/// behind its shut gate are written and synced, and only then is the gate opened.
 ///
 /// # Errors
 /// `OutOfMemory` before the first device call, and `Disk` where a call failed: then nothing else is written, and what
@@ -91,7 +91,7 @@ fn write_closed<D: Disk>(
     ensures writes { D.write_count disk.new ≤ D.write_count disk.old + 4 }
     ensures syncs { D.sync_count disk.new ≤ D.sync_count disk.old + 2 }
     ensures works { D.Works disk.new → D.Works disk.old }
-    ensures refused { OnErr result (D.Works disk.new → 2 ^ 63 < 4096 * 514 + length pages.now) }
+    ensures refused { OnErr result (D.Works disk.new → 2 ^ 63 < PAGE_BYTES * FIRST_DATA + length pages.now) }
 {
     write_header(disk, zeros)?;
     write(disk, DATA_BYTE, pages)?;

@@ -29,17 +29,17 @@ use std::alloc::Global;
 /// Opens a store's file: one sync, and then reads alone.
 ///
 /// What needs the rules of the game isn't judged here: whether the texts are a kit's, and whether the commands that are
-/// kept and those of the records are lawful (clauses 6 and 7). A record that is damaged (clause 8, `Opened::is_damaged`)
-/// comes behind these, and so doesn't refuse the file here: the caller judges all three, and where one is broken drops
-/// the writer.
+/// kept and those of the records are lawful (clauses 6 and 7). A record that is damaged (clause 8,
+/// `Opened::is_damaged`) comes behind these, and so doesn't refuse the file here: the caller judges all three, and
+/// where one is broken drops the writer.
 ///
 /// Records in the half that the root doesn't name tell that a checkpoint was begun there: the next record goes behind
 /// them, and the checkpoint is to be made anew. Without one the next record goes on in the root's half.
 ///
 /// # Errors
-/// `Disk` where the sync failed, before anything was read, or a read did; where the disk works, neither does. `NotAStore`
-/// and `Damaged` as `read_file` tells them, with the least of the clauses 1 to 5 that is broken. Else `OutOfMemory` alone,
-/// and only where a root is taken. After each of them the bytes are as they were.
+/// `Disk` where the sync failed, before anything was read, or a read did; where the disk works, neither does.
+/// `NotAStore` and `Damaged` as `read_file` tells them, with the least of the clauses 1 to 5 that is broken. Else
+/// `OutOfMemory` alone, and only where a root is taken. After each of them the bytes are as they were.
 pub fn open_file<D: Disk, C: Codec>(alloc: Global, disk: &mut D) -> Result<Opened<C>, Fault>
     // What is given is what the file holds, and the next record goes behind it.
     ensures holds { IfOk result (λ opened. D.Honest disk.new → Holds (D.state disk.old).content (held_by opened)) }

@@ -9,8 +9,8 @@ use rr_reading::dir::Dir;
 /// What an opening gives: what the file holds, and what writes to it.
 #[derive(Drop)]
 pub struct Opened<C> {
-    /// It has the root that is taken, the pages that this reaches, and where the next record goes. It is of use only where
-    /// the file is one of ours: no record is damaged, and what the file holds spells a world.
+    /// It has the root that is taken, the pages that this reaches, and where the next record goes. It is of use only
+    /// where the file is one of ours: no record is damaged, and what the file holds spells a world.
     pub writer: Writer<C>,
     pub dir: Dir,
     /// The directory's chain.
@@ -28,9 +28,9 @@ impl<C> Opened<C> {
     ghost use Rattle.std.specs.Prelude.{◌↔◌, IsTrue};
     ghost use Rattle.rr_log.specs.Opening.Opened.{HasDamagedRecord, held_by};
 
-    /// Whether the records of a half end in one that is damaged: it has the expected number, and a length that no record
-    /// there may have. Then the file stands for nothing, and is damaged by clause 8, where texts that are refused and
-    /// commands that aren't lawful, the records' own before it included, don't come before that.
+    /// Whether the records of a half end in one that is damaged: it has the expected number, and a length that no
+    /// record there may have. Then the file stands for nothing, and is damaged by clause 8, where texts that are
+    /// refused and commands that aren't lawful, the records' own before it included, don't come before that.
     pub fn is_damaged(&self) -> bool
         ensures { IsTrue result ↔ HasDamagedRecord (held_by self.now) }
     {

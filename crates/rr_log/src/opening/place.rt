@@ -2,6 +2,7 @@
 ghost use Rattle.std.specs.Prelude.{◌≡◌, ◌<◌, ◌≤◌, ◌^◌, not, length};
 ghost use Rattle.rr_pages.specs.Journal.Reading.{lines};
 ghost use Rattle.rr_pages.specs.Journal.Run.{slots_of};
+ghost use Rattle.rr_pages.specs.declared.journal.layout.TheConstants.{LAST_SLOT};
 ghost use Rattle.rr_log.specs.Opening.Place.{GoesBehind};
 ghost use Rattle.rr_pages.specs.Journal.Layout.{other_half};
 ghost use Rattle.rr_reading.specs.Held.{GoesOn};
@@ -48,7 +49,7 @@ fn first_number(first: u64) -> u64
 fn count(scanned: &Scanned) -> u64
     requires { scanned.now.half.next_slot ≡ slots_of (lines scanned.now.records.items) }
     ensures same { result ≡ length (lines scanned.now.records.items) }
-    ensures few { result ≤ 255 }
+    ensures few { result ≤ LAST_SLOT }
 {
     (scanned.records.len() as u64).min(u64::from(scanned.half.next_slot))
 }

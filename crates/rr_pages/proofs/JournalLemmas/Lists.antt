@@ -1,5 +1,5 @@
 -- Slices written in half.
-use Rattle.std.proofs.Common.{◌≡◌, ℕ, ◌+◌, ◌-◌, ◌<◌, ◌≤◌, Result, Ok, Err, OnErr, List, [], ◌∷◌, ◌++◌, length, take, drop, ap, ◌∙◌, arith, length-drop}
+use Rattle.std.proofs.Common.{◌≡◌, ℕ, ◌+◌, ◌-◌, ◌<◌, ◌≤◌, List, [], ◌∷◌, ◌++◌, length, take, drop, ap, ◌∙◌, arith, length-drop}
 use Rattle.std.proofs.lemmas.List.{drop_all, take_all, append-nil}
 use Rattle.std.proofs.Math.ListN.{set}
 use borrow.Rule.Slice.PartMut.{put_mid}
@@ -9,11 +9,6 @@ pub put_mid-behind : (a k : ℕ) (xs ys : List ℕ) → length xs ≤ a + k → 
 put_mid-behind a k xs ys all =
     let none : drop k (drop a xs) ≡ [] = drop_all k (drop a xs) (omega (arith, length-drop a xs)) in
     ap (λ (zs : List ℕ). take a xs ++ (ys ++ zs)) none ∙ ap (λ (zs : List ℕ). take a xs ++ zs) (append-nil ys)
-
--- a fact that holds anyway
-pub on_err : {T E P : Type 0} (result : Result T E) → P → OnErr result P
-on_err (Ok value) fact = tt
-on_err (Err fault) fact = fact
 
 -- a first item, and a list behind it
 pub put_first : (k : ℕ) (xs ys : List ℕ) (y : ℕ) → 0 < length xs → length xs ≤ 1 + k → put_mid 1 k (set xs 0 y) ys ≡ y ∷ ys

@@ -1,16 +1,9 @@
 -- What the faults of the journal mean.
 use Rattle.std.specs.Prelude.{ℕ, Result, Option, None, Some}
-use Rattle.rr_disk.specs.Disk as disk
 use Rattle.rr_disk.specs.Faults.{CountsFaultBy, OnFaultBy}
 use Rattle.rr_disk.specs.declared.fault.Fault.{Fault as OfDisk}
 use Rattle.rr_pages.specs.declared.journal.fault.Fault.{Fault}
 use Rattle.rr_pages.specs.declared.journal.fault.Fault.TheVariants.{HalfFull, Disk, OutOfMemory}
-
--- the number of a fault
-abbrev pub number_of : Fault → ℕ
-number_of HalfFull = 61
-number_of (Disk fault) = disk.number_of fault
-number_of OutOfMemory = 70
 
 -- the fault of the disk that a fault tells, if it tells one
 abbrev pub of_disk : Fault → Option OfDisk

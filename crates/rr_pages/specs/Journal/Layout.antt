@@ -1,5 +1,5 @@
--- Where the slots of a half lie in the file, and how a record is spelled in them. Numbers are big-endian, and a byte past
--- the end of a file counts as 0.
+-- Where the slots of a half lie in the file, and how a record is spelled in them. Numbers are big-endian, and a byte
+-- past the end of a file counts as 0.
 use Rattle.std.specs.Prelude.{◌≡◌, ℕ, ◌+◌, ◌-◌, ◌*◌, ◌/◌, ◌<◌, ◌≤◌, List, ◌∷◌, ◌++◌, length, replicate, slice_index}
 use Rattle.byteorder.specs.Endian.{big_from, big_bytes}
 use Rattle.rr_pages.specs.declared.journal.layout.TheConstants.{SLOT_BYTES, HEADER_BYTES, LAST_SLOT, MOST_SLOTS, FIRST_SLOT_PAGE, HALF_PAGES}

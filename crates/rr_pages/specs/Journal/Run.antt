@@ -18,8 +18,8 @@ pub record IsRecord (file : List ℕ) (half : HalfIndex) (slot number : ℕ) (by
 abbrev pub HasRecord : List ℕ → HalfIndex → ℕ → ℕ → Type 0
 HasRecord file half slot number = (bytes : List ℕ) × IsRecord file half slot number bytes
 
--- No record of the expected number begins in this slot: it is shut, as the last one always counts; or the record has another
--- number; or it has that number and is damaged, with no bytes, too many, or running into the last slot.
+-- No record of the expected number begins in this slot: it is shut, as the last one always counts; or the record has
+-- another number; or it has that number and is damaged, with no bytes, too many, or running into the last slot.
 abbrev pub Ends : List ℕ → HalfIndex → ℕ → ℕ → RunEnd → Type 0
 Ends file half slot number Closed = slot < LAST_SLOT → IsOpen file half slot → ⊥
 Ends file half slot number OtherNumber = (slot < LAST_SLOT) × IsOpen file half slot × (number_at file half slot ≢ number)

@@ -1,15 +1,22 @@
 -- What a half is before and after an append, and what a stop within one may leave.
-use Rattle.std.specs.Prelude.{◌≡◌, ◌⊎◌, ℕ, ◌<◌, List, [], length}
+use Rattle.std.specs.Prelude.{◌≡◌, ◌⊎◌, ℕ, ◌+◌, ◌<◌, List, [], ◌∷◌, length}
+use Rattle.rr_disk.specs.Calls.{Step, Write, Sync}
 use Rattle.rr_disk.specs.Disk.{DiskState, IsImage, Torn}
 use Rattle.rr_disk.specs.Moments.{EachImage}
 use Rattle.rr_pages.specs.declared.journal.half.Half.{Half}
+use Rattle.rr_pages.specs.declared.page.TheConstants.{OPEN}
 use Rattle.rr_pages.specs.declared.journal.reading.RunEnd.TheVariants.{Closed}
-use Rattle.rr_pages.specs.Journal.Layout.{gate_place, IsOpen, StandsAt, spelling}
+use Rattle.rr_pages.specs.Journal.Layout.{gate_place, IsOpen, StandsAt, spelling, spelling_behind_gate}
 use Rattle.rr_pages.specs.Journal.Run.{Run, slots_of}
 
 -- the byte at which the half's next record begins
 abbrev pub next_gate : Half → ℕ
 next_gate half = gate_place half.index half.next_slot
+
+-- the calls that append a record: what is behind its gate and a sync, then its gate and a sync
+abbrev pub appending : Half → ℕ → List ℕ → List Step
+appending half number bytes =
+    Write (next_gate half + 1) (spelling_behind_gate number bytes) ∷ Sync ∷ Write (next_gate half) (OPEN ∷ []) ∷ Sync ∷ []
 
 -- The half may take a record: its next slot begins within the settled file, and each stop now leaves it shut.
 pub record IsReady (half : Half) (state : DiskState) : Type 0 where

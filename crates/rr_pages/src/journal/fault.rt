@@ -15,22 +15,6 @@ pub enum Fault {
     OutOfMemory,
 }
 
-impl Fault {
-    ghost use Rattle.std.specs.Prelude.{◌≡◌};
-    ghost use Rattle.rr_pages.specs.Journal.Faults.{number_of};
-
-    /// The number that replies give.
-    pub fn number(self) -> u8
-        ensures { result ≡ number_of self }
-    {
-        match self {
-            Fault::HalfFull => 61,
-            Fault::Disk(fault) => fault.number(),
-            Fault::OutOfMemory => 70,
-        }
-    }
-}
-
 impl From<rr_disk::Fault> for Fault {
     ghost use Rattle.std.specs.Prelude.{◌≡◌};
     ghost use Rattle.rr_pages.specs.declared.journal.fault.Fault.TheVariants.{Disk};

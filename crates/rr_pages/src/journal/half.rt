@@ -1,5 +1,6 @@
 ghost use Rattle.std.specs.Prelude.{◌≡◌, ◌⊎◌, ◌↔◌, ◌+◌, ◌*◌, ◌^◌, ◌<◌, ◌≤◌, [], ◌∷◌, ◌++◌, List, ℕ, length, OnOk, OnErr, IsErrOf, IsTrue};
-ghost use Rattle.rr_disk.specs.Disk.{FailedWrite, after_write, after_sync, counted};
+ghost use Rattle.rr_disk.specs.Calls.{account, after_steps, StopsWithin};
+ghost use Rattle.rr_disk.specs.Disk.{after_write, after_sync, counted};
 ghost use Rattle.rr_disk.specs.Moments.{LeavesOnly};
 ghost use Rattle.rr_pages.specs.Journal.Faults.{CountsFault, OnDeviceFault};
 ghost use Rattle.rr_pages.specs.Journal.Layout.{HasRoom, slots_for, spelling};
@@ -7,7 +8,7 @@ ghost use Rattle.rr_pages.specs.Journal.Layout.{HasRoom, slots_for, spelling};
 use crate::journal::layout::{HalfIndex, fits_slots, gate_place, slots_for};
 use crate::journal::{Fault, RecordBuffer};
 use crate::page::{FIRST_DATA, PAGE_BYTES};
-use rr_disk::Disk;
+use rr_disk::{Disk, put};
 
 /// A half of the journal, and where its next record goes.
 #[derive(Clone, Copy, Debug, PartialEq, Eq)]
@@ -20,7 +21,7 @@ pub struct Half {
 impl Half {
     ghost use Rattle.rr_pages.specs.Journal.Run.{Run};
     ghost use Rattle.rr_pages.specs.declared.journal.reading.RunEnd.TheVariants.{Closed};
-    ghost use Rattle.rr_pages.specs.Journal.Stops.{next_gate, IsReady, Keeps, MayLeave};
+    ghost use Rattle.rr_pages.specs.Journal.Stops.{next_gate, appending, IsReady, Keeps, MayLeave};
 
     /// Writes a record behind those of the half, and returns once it is on the disk: its bytes and the closed gate
     /// behind them in one write, a sync, its gate in one write, a sync. It takes no memory.
@@ -67,6 +68,12 @@ impl Half {
         ensures written { OnOk result (D.Honest disk.new → D.state disk.new
             ≡ after_sync (after_write (D.state disk.old) (next_gate self.old) (spelling number bytes.now))) }
 
+        // The device calls are these four in turn, and none is made behind one that fails.
+        ensures calls { OnOk result (D.Honest disk.new → account D.Disk disk.new
+            ≡ after_steps (account D.Disk disk.old) (appending self.old number bytes.now)) }
+        ensures stops { OnDeviceFault result (D.Honest disk.new
+            → StopsWithin (account D.Disk disk.old) (appending self.old number bytes.now) (account D.Disk disk.new)) }
+
         // A stop at any moment of the call leaves the record whole or not at all, and all else as it might have been.
         ensures any_moment { D.Honest disk.new → IsReady self.old (D.state disk.old)
             → LeavesOnly (D.past disk.old) (D.state disk.old) (D.past disk.new) (D.state disk.new)
@@ -109,28 +116,4 @@ impl Half {
     {
         gate_place(self.index, self.next_slot)
     }
-}
-
-// One write, and the sync that makes it durable.
-fn put<D: Disk>(disk: &mut D, at: u64, bytes: &[u8]) -> Result<(), Fault>
-    ensures done { OnOk result (D.Honest disk.new
-        → D.state disk.new ≡ after_sync (after_write (D.state disk.old) at bytes.now)) }
-    ensures passed { OnOk result (D.Honest disk.new
-        → D.past disk.new ≡ after_write (D.state disk.old) at bytes.now ∷ D.state disk.old ∷ D.past disk.old) }
-    // Where the sync failed, all the bytes went out.
-    ensures failed { OnErr result (D.Honest disk.new
-        → FailedWrite at (length bytes.now) (D.past disk.old) (D.state disk.old) (D.past disk.new) (D.state disk.new)) }
-    ensures fault { CountsFault (D.fault_count disk.old) (D.fault_count disk.new) result }
-    ensures no_memory { IsErrOf result Fault.OutOfMemory → ⊥ }
-    ensures not_full { IsErrOf result Fault.HalfFull → ⊥ }
-    ensures writes { D.write_count disk.new ≡ counted (D.write_count disk.old) }
-    ensures syncs { D.sync_count disk.new ≤ D.sync_count disk.old + 1 }
-    ensures synced { OnOk result (D.sync_count disk.new ≡ counted (D.sync_count disk.old)) }
-    ensures honest { D.Honest disk.new → D.Honest disk.old }
-    ensures works { D.Works disk.new → D.Works disk.old }
-    ensures refused { OnErr result (D.Works disk.new → 2 ^ 63 < at + length bytes.now) }
-{
-    disk.write_at(at, bytes)?;
-    disk.sync()?;
-    Ok(())
 }

@@ -11,8 +11,8 @@ pub fn halves_have_one_run()
     ensures only { (file : List ℕ) (half : _) (first : ℕ) → HasNoOther file half first }
 {}
 
-/// The numbers of a half: 256 slots of 4,096 bytes, the first half's from page 2 on, of which the last, slot 255, has no
-/// record; a record has 13 bytes in front of its own, and takes two slots at most.
+/// The numbers of a half: 256 slots of 4,096 bytes, the first half's from page 2 on, of which the last, slot 255, has
+/// no record; a record has 13 bytes in front of its own, and takes two slots at most.
 pub fn sizes()
     ensures slot { SLOT_BYTES ≡ 4096 }
     ensures header { HEADER_BYTES ≡ 13 }

@@ -47,14 +47,6 @@ impl HalfIndex {
             HalfIndex::Second => HalfIndex::First,
         }
     }
-
-    /// The byte of the file at which the half's slot 0 begins: its gate. While that is shut the half has no records.
-    pub fn first_gate(self) -> u64
-        ensures place { result ≡ layout.gate_place self 0 }
-        ensures small { result < PAGE_BYTES * (FIRST_SLOT_PAGE + HALF_PAGES + 1) }
-    {
-        gate_place(self, 0)
-    }
 }
 
 // The page of a half's slot 0.

@@ -23,7 +23,8 @@ pub enum RunEnd {
     /// The slot behind the last record is open, and its number isn't the one expected: an older record was left there.
     /// The run ends as at a shut slot, but nothing may be appended there before that slot's gate is shut.
     OtherNumber,
-    /// The slot behind the last record is open with the expected number, and its length is none that a record there may have.
+    /// The slot behind the last record is open with the expected number, and its length is none that a record there may
+    /// have.
     Damaged,
 }
 
@@ -48,8 +49,8 @@ enum Found {
 /// where no such record begins. Slot 255 is never looked at. It writes nothing. A half has at most 255 records, so that
 /// their numbers are counted up to 2^64 - 1.
 ///
-/// `Disk` where a device call failed, as where the file ends within the half; `OutOfMemory` where the records don't fit,
-/// and never of a half without one.
+/// `Disk` where a device call failed, as where the file ends within the half; `OutOfMemory` where the records don't
+/// fit, and never of a half without one.
 pub fn scan<D: Disk>(
     alloc: Global,
     disk: &mut D,

@@ -18,8 +18,8 @@ AreExact takes =
     ((line : List ℕ) (old first second : World) → takes line old first → takes line old second → first ≡ second)
     → IsExact (worlds takes)
 
--- the directory that is written of a world in the form of a version, behind chains that hold its texts, names those chains
--- and spells the world
+-- the directory that is written of a world in the form of a version, behind chains that hold its texts, names those
+-- chains and spells the world
 pub record IsReadBack (version : Version) (texts : TextChains) (chains : List HeldChain) (world : World) : Type 0 where
   pub named : Heads (version_number version) (bytes_for version texts chains world) (heads_of (chains_of texts chains))
   pub spells : Spells (version_number version) (bytes_for version texts chains world) (texts_of (chains_of texts chains)) world
@@ -29,8 +29,8 @@ WrittenIsRead =
     (version : Version) (texts : TextChains) (chains : List HeldChain) (world : World) → HoldTexts texts chains world
     → AreShort world.tables → IsDirectory (directory_for texts chains world) → IsReadBack version texts chains world
 
--- a directory that names chains and spells a world with them, in a file of the version of this number, is the one that is
--- written, and they hold the world's texts
+-- a directory that names chains and spells a world with them, in a file of the version of this number, is the one that
+-- is written, and they hold the world's texts
 pub record IsWritten (number : ℕ) (bytes : List ℕ) (texts : TextChains) (chains : List HeldChain) (world : World) : Type 0 where
   pub version : Version
   pub numbered : version_number version ≡ number

@@ -11,7 +11,7 @@ use rr_words::text::TEXT_BYTES;
 use std::alloc::Global;
 
 /// The most tables that a store holds.
-pub const MOST_TABLES: u16 = 64;
+pub const MOST_TABLES: usize = 64;
 
 /// The most commands that a table keeps.
 pub const MOST_KEPT: u32 = MOST_COMMANDS as u32;
@@ -62,8 +62,8 @@ impl Dir {
     /// Reads a directory in the form of this version. No byte may stand behind the last table.
     ///
     /// # Errors
-    /// `Damaged` where the bytes spell no directory, `OutOfMemory` where the tables find no room. That is told only behind
-    /// a kit, a number of tables that may be, and a table.
+    /// `Damaged` where the bytes spell no directory, `OutOfMemory` where the tables find no room. That is told only
+    /// behind a kit, a number of tables that may be, and a table.
     pub fn read(alloc: Global, version: Version, bytes: &[u8]) -> Result<Dir, Fault>
         ensures found { IfOk result (λ dir. Spells version bytes.now (directory_of dir)) }
         ensures damaged { IsErrOf result Fault.Damaged → (d : Directory) → Spells version bytes.now d → ⊥ }

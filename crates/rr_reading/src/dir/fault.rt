@@ -1,5 +1,4 @@
 ghost use Rattle.std.specs.Prelude.{◌≡◌};
-ghost use Rattle.rr_reading.specs.Dir.Fault.{fault_number};
 ghost use Rattle.rr_reading.specs.declared.dir.fault.Fault.TheVariants.{OutOfMemory};
 
 use std::alloc::{AllocError, AllocFailed};
@@ -15,18 +14,6 @@ pub enum Fault {
     /// Memory was wanted and refused.
     #[error("out of memory")]
     OutOfMemory,
-}
-
-impl Fault {
-    /// The number that replies give: 63 or 70.
-    pub fn number(self) -> u8
-        ensures { result ≡ fault_number self }
-    {
-        match self {
-            Fault::Damaged => 63,
-            Fault::OutOfMemory => 70,
-        }
-    }
 }
 
 impl From<AllocError> for Fault {

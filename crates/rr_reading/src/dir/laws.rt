@@ -12,8 +12,8 @@ use crate::dir::version::NEWEST;
 use rr_pages::NEWEST_VERSION;
 use rr_turns::LAST_STAMP;
 
-/// Bytes spell at most one directory, name at most one list of chains, and spell at most one list of commands, and a number
-/// names at most one version. That each has one spelling holds by definition.
+/// Bytes spell at most one directory, name at most one list of chains, and spell at most one list of commands, and a
+/// number names at most one version. That each has one spelling holds by definition.
 pub fn one_meaning()
     ensures directory { (version : Version) (bytes : List ℕ) (first second : Directory) → Spells version bytes first → Spells version bytes second → first ≡ second }
     ensures heads { (number : ℕ) (bytes : List ℕ) (first second : List (ℕ × ℕ)) → Heads number bytes first → Heads number bytes second → first ≡ second }
@@ -26,8 +26,8 @@ pub fn newest_version()
     ensures { version_number NEWEST ≡ NEWEST_VERSION }
 {}
 
-/// The limits of a directory: 64 tables, each of which keeps 4,096 commands at most and has a stamp up to 4,000,000,000, and
-/// texts of 65,536 bytes.
+/// The limits of a directory: 64 tables, each of which keeps 4,096 commands at most and has a stamp up to
+/// 4,000,000,000, and texts of 65,536 bytes.
 pub fn limits()
     ensures tables { MOST_TABLES ≡ 64 }
     ensures kept { MOST_KEPT ≡ 4096 }

@@ -101,7 +101,7 @@ fn next_count(cursor: &mut Cursor) -> Option<u16>
         (λ count. (count ≤ MOST_TABLES) × (cursor.old ≡ spelled_number 2 count ++ cursor.new)) }
 {
     let count = cursor.u16()?;
-    if count <= MOST_TABLES {
+    if usize::from(count) <= MOST_TABLES {
         Some(count)
     } else {
         None

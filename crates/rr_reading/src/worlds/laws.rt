@@ -25,8 +25,8 @@ pub fn worlds_are_read_back()
     ensures read { laws.ReadIsWritten }
 {}
 
-/// What a checkpoint's plan asks of its directory: behind the texts' chains, which stay where they stand, and a chain laid
-/// for each table, it names them all and spells the world.
+/// What a checkpoint's plan asks of its directory: behind the texts' chains, which stay where they stand, and a chain
+/// laid for each table, it names them all and spells the world.
 pub fn checkpoints_spell_worlds()
     ensures { laws.CheckpointsSpell }
 {}

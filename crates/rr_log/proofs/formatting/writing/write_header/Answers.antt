@@ -1,7 +1,7 @@
 use Rattle.std.proofs.Common.{◌∙◌, ℕ, List, [], ◌∷◌, length, ap, arith}
 use Rattle.rr_disk.specs.Disk.{DiskState, after_sync, after_write}
 use Rattle.rr_disk.proofs.MomentLemmas.{joins}
-use Rattle.rr_pages.proofs.JournalLemmas.Lists.{on_err}
+use Rattle.rr_disk.proofs.CallLemmas.{on_err}
 use Rattle.rr_log.proofs.FormattingLemmas.NewBytes.{length-zeros}
 use Rattle.rr_log.proofs.FormattingLemmas.Moments.{header_left, zeros_left}
 use Rattle.rr_log.proofs.formatting.writing.write_header.Goals as goal

@@ -1,4 +1,5 @@
 use Rattle.std.proofs.Common.{◌≡◌, ◌⊎◌, ℕ, ◌+◌, List, [], ◌∷◌, ◌++◌, length, take, sym, ◌∙◌, ap, subst, arith}
+use Rattle.rr_disk.specs.Calls.{account}
 use Rattle.rr_disk.specs.Disk.{DiskState, FailedWrite, after_write, after_sync}
 use Rattle.rr_disk.proofs.MomentLemmas.{weaker}
 use Rattle.rr_pages.specs.declared.journal.reading.RunEnd.TheVariants.{Closed}
@@ -6,7 +7,7 @@ use Rattle.rr_pages.specs.Journal.Layout.{spelling_behind_gate}
 use Rattle.rr_pages.specs.Journal.Run.{Run}
 use Rattle.rr_pages.specs.Journal.Stops.{next_gate}
 use Rattle.rr_pages.proofs.JournalLemmas.Appends.{whole_written}
-use Rattle.rr_pages.proofs.JournalLemmas.DeviceLemmas.{on_device}
+use Rattle.rr_pages.proofs.JournalLemmas.DeviceLemmas.{on_device, put_failed, stops_in_first, stops_in_second, appended}
 use Rattle.rr_pages.proofs.JournalLemmas.Lists.{behind_first, first_alone}
 use Rattle.rr_pages.proofs.JournalLemmas.Moments.{first_fails, second_fails, second_done, before_or_after, keeps_ready, kept_after}
 use Rattle.rr_pages.proofs.JournalLemmas.Spelling.{length_behind}
@@ -19,7 +20,7 @@ returns-in_err-put-clause-any_moment g c = λ honest ready.
     let sent = behind_first c.spelled-whole.result.now (spelling_behind_gate c.args.number c.args.bytes.now) 165 c.spelled-whole.ensures in
     let past = g.D.Disk.past c.args.disk.now in
     let failed : FailedWrite (next_gate half + 1) (length (spelling_behind_gate c.args.number c.args.bytes.now)) past before (g.D.Disk.past c.put.new.disk) (g.D.Disk.state c.put.new.disk) =
-    rw (sym sent, sym c.next_gate-gate.ensures.place) (c.in_err-put.ensures.failed honest) in
+    rw (sym sent, sym c.next_gate-gate.ensures.place) (put_failed (account g.D.Disk c.args.disk.now) (account g.D.Disk c.put.new.disk) _ _ (c.in_err-put.ensures.stops honest)) in
     first_fails half before past c.args.number c.args.bytes.now ready failed
 
 pub returns-in_err-put-2-clause-any_moment : goal.returns-in_err-put-2-clause-any_moment
@@ -36,7 +37,7 @@ returns-in_err-put-2-clause-any_moment g c = λ honest ready.
     let opened = first_alone c.spelled-whole.result.now (spelling_behind_gate c.args.number c.args.bytes.now) 165 c.spelled-whole.ensures in
     let one : length (take 1 c.spelled-whole.result.now) ≡ 1 = ap (λ (sent : List ℕ). length sent) opened in
     let failed : FailedWrite (next_gate half) 1 (g.D.Disk.past c.put.new.disk) (g.D.Disk.state c.put.new.disk) (g.D.Disk.past c.put-2.new.disk) (g.D.Disk.state c.put-2.new.disk) =
-    rw (sym one, sym c.next_gate-gate.ensures.place) (c.in_err-put-2.ensures.failed honest) in
+    rw (sym one, sym c.next_gate-gate.ensures.place) (put_failed (account g.D.Disk c.put.new.disk) (account g.D.Disk c.put-2.new.disk) _ _ (c.in_err-put-2.ensures.stops honest)) in
     second_fails half before past c.args.number c.args.bytes.now ready stays passed is failed
 
 pub returns-clause-any_moment : goal.returns-clause-any_moment
@@ -115,3 +116,31 @@ returns-in_err-put-clause-device g c =
     let sent = behind_first c.spelled-whole.result.now (spelling_behind_gate c.args.number c.args.bytes.now) 165 c.spelled-whole.ensures in
     on_device c.from_residual.result
     (λ works. absurd (omega (arith, c.in_err-put.ensures.refused works, ap length sent, length_behind c.args.number c.args.bytes.now, room.not_long, c.next_gate-gate.ensures.small)))
+
+pub returns-in_err-put-clause-stops : goal.returns-in_err-put-clause-stops
+returns-in_err-put-clause-stops g c =
+    let sent = behind_first c.spelled-whole.result.now (spelling_behind_gate c.args.number c.args.bytes.now) 165 c.spelled-whole.ensures in
+    let opened = first_alone c.spelled-whole.result.now (spelling_behind_gate c.args.number c.args.bytes.now) 165 c.spelled-whole.ensures in
+    on_device c.from_residual.result
+    (λ honest.
+    stops_in_first c.args.self.now c.args.number c.args.bytes.now (account g.D.Disk c.args.disk.now) _ _ _ c.next_gate-gate.ensures.place sent opened
+    (account g.D.Disk c.put.new.disk) (c.in_err-put.ensures.stops honest))
+
+pub returns-in_err-put-2-clause-stops : goal.returns-in_err-put-2-clause-stops
+returns-in_err-put-2-clause-stops g c =
+    let sent = behind_first c.spelled-whole.result.now (spelling_behind_gate c.args.number c.args.bytes.now) 165 c.spelled-whole.ensures in
+    let opened = first_alone c.spelled-whole.result.now (spelling_behind_gate c.args.number c.args.bytes.now) 165 c.spelled-whole.ensures in
+    on_device c.from_residual-in_err-put-2.result
+    (λ honest.
+    stops_in_second c.args.self.now c.args.number c.args.bytes.now (account g.D.Disk c.args.disk.now) _ _ _ c.next_gate-gate.ensures.place sent opened
+    (account g.D.Disk c.put.new.disk) (c.in_ok-put.ensures.calls (c.in_err-put-2.ensures.honest honest)) (account g.D.Disk c.put-2.new.disk) (c.in_err-put-2.ensures.stops honest))
+
+pub returns-clause-calls : goal.returns-clause-calls
+returns-clause-calls g c = λ honest.
+    let sent = behind_first c.spelled-whole.result.now (spelling_behind_gate c.args.number c.args.bytes.now) 165 c.spelled-whole.ensures in
+    let opened = first_alone c.spelled-whole.result.now (spelling_behind_gate c.args.number c.args.bytes.now) 165 c.spelled-whole.ensures in
+    appended c.args.self.now c.args.number c.args.bytes.now (account g.D.Disk c.args.disk.now) _ _ _ c.next_gate-gate.ensures.place sent opened
+    (account g.D.Disk c.put.new.disk) (c.in_ok-put.ensures.calls (c.in_ok-put-2.ensures.honest honest)) (account g.D.Disk c.put-2.new.disk) (c.in_ok-put-2.ensures.calls honest)
+
+pub returns-in_err-put-2-clause-honest : goal.returns-in_err-put-2-clause-honest
+returns-in_err-put-2-clause-honest g c = λ honest. c.in_ok-put.ensures.honest (c.in_err-put-2.ensures.honest honest)
