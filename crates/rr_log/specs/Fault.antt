@@ -4,14 +4,6 @@ use Rattle.rr_disk.specs.Disk.{counted}
 use Rattle.rr_log.specs.declared.fault.Fault.{Fault}
 use Rattle.rr_log.specs.declared.fault.Fault.TheVariants as F
 
--- the number that a reply gives
-abbrev pub number_of : Fault → ℕ
-number_of F.DeviceFailed = 60
-number_of F.HalfFull = 61
-number_of F.FileFull = 62
-number_of F.OpenAgain = 65
-number_of F.OutOfMemory = 70
-
 -- what a refusal says of the disk's count of faults: one more exactly where the device failed
 abbrev pub Counts : ℕ → ℕ → Fault → Type 0
 Counts old new F.DeviceFailed = new ≡ counted old

@@ -19,21 +19,3 @@ pub enum Fault {
     #[error("out of memory")]
     OutOfMemory,
 }
-
-impl Fault {
-    ghost use Rattle.std.specs.Prelude.{◌≡◌};
-    ghost use Rattle.rr_log.specs.Fault.{number_of};
-
-    /// The number that a reply gives.
-    pub fn number(&self) -> u8
-        ensures { result ≡ number_of self.now }
-    {
-        match self {
-            Fault::DeviceFailed => 60,
-            Fault::HalfFull => 61,
-            Fault::FileFull => 62,
-            Fault::OpenAgain => 65,
-            Fault::OutOfMemory => 70,
-        }
-    }
-}

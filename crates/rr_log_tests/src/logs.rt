@@ -286,25 +286,25 @@ fn a_log_whose_device_failed_is_to_be_opened_again(rt: HostRuntime) -> Result<()
     Ok(())
 }
 
-// The number of the first fault that has another number or text than it is to have.
-fn unlike(alloc: Global) -> Result<Option<u8>, Fail> {
+// The text of the first fault that has another one than it is to have.
+fn unlike(alloc: Global) -> Result<Option<&'static str>, Fail> {
     let rows = [
-        (Fault::DeviceFailed, 60, "device failed"),
-        (Fault::HalfFull, 61, "half full"),
-        (Fault::FileFull, 62, "file full"),
-        (Fault::OpenAgain, 65, "open again"),
-        (Fault::OutOfMemory, 70, "out of memory"),
+        (Fault::DeviceFailed, "device failed"),
+        (Fault::HalfFull, "half full"),
+        (Fault::FileFull, "file full"),
+        (Fault::OpenAgain, "open again"),
+        (Fault::OutOfMemory, "out of memory"),
     ];
-    for (fault, number, text) in rows {
-        if fault.number() != number || fault.to_string(alloc)?.as_str() != text {
-            return Ok(Some(number));
+    for (fault, text) in rows {
+        if fault.to_string(alloc)?.as_str() != text {
+            return Ok(Some(text));
         }
     }
     Ok(None)
 }
 
 #[test]
-fn faults_have_numbers_and_texts(rt: HostRuntime) -> Result<(), Fail> {
+fn faults_have_texts(rt: HostRuntime) -> Result<(), Fail> {
     let row = unlike(rt.alloc())?;
     assert_eq!(rt; row, None);
     Ok(())

@@ -3,10 +3,8 @@ use Rattle.std.specs.Prelude.{◌≡◌, ℕ, Result, Ok, Err}
 use Rattle.rr_disk.specs.declared.fault.Fault as disk
 use Rattle.rr_disk.specs.declared.fault.Fault.TheVariants as D
 use Rattle.rr_disk.specs.Disk.{counted}
-use Rattle.rr_books.specs.Refusal as numbers
 use Rattle.rr_kit.specs.declared.fault.Fault as kit
 use Rattle.rr_kit.specs.declared.fault.Fault.TheVariants as K
-use Rattle.rr_kit.specs.Fault as kits
 use Rattle.rr_log.specs.declared.fault.Fault as log
 use Rattle.rr_log.specs.declared.fault.Fault.TheVariants as L
 use Rattle.rr_pages.specs.declared.fault.Fault as pages
@@ -22,23 +20,6 @@ use Rattle.rr_tables.specs.declared.fault.Fault as tables
 use Rattle.rr_tables.specs.declared.fault.Fault.TheVariants as T
 use Rattle.rr_store.specs.declared.fault.Fault.{Fault}
 use Rattle.rr_store.specs.declared.fault.Fault.TheVariants as F
-
--- the number that a reply gives
-abbrev pub number_of : Fault → ℕ
-number_of (F.Kit fault) = kits.number_of fault
-number_of (F.Game fault) = numbers.number_of fault
-number_of (F.StaleStamp stamp) = 52
-number_of F.TurnNotKept = 53
-number_of F.TooManyCommands = 54
-number_of F.DeviceFailed = 60
-number_of F.FileFull = 62
-number_of (F.Damaged clause) = 63
-number_of F.NotAStore = 64
-number_of F.NotEmpty = 64
-number_of F.OpenAgain = 65
-number_of F.TooManyTables = 66
-number_of F.NoSuchTable = 68
-number_of F.OutOfMemory = 70
 
 abbrev pub of_kit : kit.Fault → Fault
 of_kit K.OutOfMemory = F.OutOfMemory

@@ -1,5 +1,5 @@
 ghost use Rattle.std.specs.Prelude.{◌≡◌};
-ghost use Rattle.rr_store.specs.Fault.{number_of, of_kit, of_log, of_pages, of_reading, of_recovery, of_rules, of_tables};
+ghost use Rattle.rr_store.specs.Fault.{of_kit, of_log, of_pages, of_reading, of_recovery, of_rules, of_tables};
 ghost use Rattle.rr_store.specs.declared.fault.Fault.TheVariants.{OutOfMemory};
 
 use crate::recovery;
@@ -53,29 +53,6 @@ pub enum Fault {
     /// A request for memory was refused.
     #[error("out of memory")]
     OutOfMemory,
-}
-
-impl Fault {
-    /// The number that a reply gives.
-    pub fn number(&self) -> u8
-        ensures { result ≡ number_of self.now }
-    {
-        match self {
-            Fault::Kit(fault) => fault.number(),
-            Fault::Game(fault) => fault.number(),
-            Fault::StaleStamp(_) => 52,
-            Fault::TurnNotKept => 53,
-            Fault::TooManyCommands => 54,
-            Fault::DeviceFailed => 60,
-            Fault::FileFull => 62,
-            Fault::Damaged(_) => 63,
-            Fault::NotAStore | Fault::NotEmpty => 64,
-            Fault::OpenAgain => 65,
-            Fault::TooManyTables => 66,
-            Fault::NoSuchTable => 68,
-            Fault::OutOfMemory => 70,
-        }
-    }
 }
 
 impl From<rr_kit::Fault> for Fault {

@@ -1,4 +1,3 @@
-pub mod Fault
 pub mod Writable
 pub mod Tables
 pub mod Changing

@@ -1,6 +1,5 @@
 ghost use Rattle.std.specs.Prelude.{◌≡◌};
 ghost use Rattle.rr_tables.specs.declared.records.fault.Fault.TheVariants as R;
-ghost use Rattle.rr_tables.specs.Fault.{number_of};
 ghost use Rattle.rr_tables.specs.declared.fault.Fault.TheVariants.{File, Rules};
 
 use crate::records;
@@ -16,18 +15,6 @@ pub enum Fault {
     /// It is lawful, but what keeps its record refused.
     #[error("{0}")]
     File(rr_log::Fault),
-}
-
-impl Fault {
-    /// The number that a reply gives.
-    pub fn number(&self) -> u8
-        ensures { result ≡ number_of self.now }
-    {
-        match self {
-            Fault::Rules(fault) => fault.number(),
-            Fault::File(fault) => fault.number(),
-        }
-    }
 }
 
 impl From<records::Fault> for Fault {

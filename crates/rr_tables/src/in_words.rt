@@ -8,6 +8,7 @@ ghost use Rattle.rr_checkpoint.specs.Plan.Transcript.{commands_of, table_of};
 ghost use Rattle.rr_tables.specs.InWords.{with_commands};
 ghost use Rattle.rr_tables.specs.Tables.{world_of};
 ghost use Rattle.rr_tables.specs.Writable.{IsWritable};
+ghost use Rattle.rr_reading.specs.declared.dir.directory.TheConstants.{MOST_KEPT};
 
 use crate::Tables;
 use rr_checkpoint::plan::{TableTranscript, Transcript};
@@ -58,7 +59,7 @@ fn write_table(alloc: Global, name: &Name, table: &Table) -> Result<TableTranscr
 
 // Adds the words of these commands.
 fn add_commands(written: &mut TableTranscript, commands: &[Spelled]) -> Result<(), Fault>
-    requires few { length (commands_of written.old) + length commands.now ≤ 4096 }
+    requires few { length (commands_of written.old) + length commands.now ≤ MOST_KEPT }
     requires short { All IsShort (map text commands.now) }
     ensures ok { OnOk result (table_of written.new ≡ with_commands (table_of written.old) commands.now) }
     ensures memory { IfErr result (λ fault. fault ≡ Fault.OutOfMemory) }

@@ -16,4 +16,5 @@ mod taking;
 
 pub use fault::Fault;
 pub use journal::{Journal, Standing};
-pub use tables::{MOST_TABLES, Tables};
+pub use rr_reading::dir::MOST_TABLES;
+pub use tables::Tables;

@@ -5,24 +5,24 @@ ghost use Rattle.indexmap.specs.IndexMap.{get, index_map_len, spare};
 ghost use Rattle.rr_game.specs.History.Tables.{IsPlayed, kept_in};
 ghost use Rattle.rr_tables.specs.declared.records.fault.Fault.TheVariants as R;
 ghost use Rattle.rr_tables.specs.Writable.{IsWritable};
+ghost use Rattle.rr_reading.specs.declared.dir.directory.TheConstants.{MOST_TABLES};
+ghost use Rattle.rr_turns.specs.declared.limits.TheConstants.{LAST_STAMP};
 
 use crate::Fault;
 use indexmap::IndexMap;
 use rr_game::history::Table;
 use rr_kit::Kit;
+use rr_reading::dir::MOST_TABLES;
 use rr_words::Name;
 use std::alloc::Global;
-
-/// The most tables of a store.
-pub const MOST_TABLES: usize = 64;
 
 /// The tables of a store, in the order of their opening: at most 64, each played by the rules of one kit.
 #[derive(Drop)]
 pub struct Tables {
     pub(crate) kit: Kit,
     pub(crate) map: IndexMap<Name, Box<Table>>,
-    ghost room: { 64 ≤ index_map_len map + spare map },
-    ghost few: { index_map_len map ≤ 64 },
+    ghost room: { MOST_TABLES ≤ index_map_len map + spare map },
+    ghost few: { index_map_len map ≤ MOST_TABLES },
     ghost played: { (name : List ℕ) → IfSome (get bytes_eq map name) (λ table. IsPlayed kit table.value) } by { Prim.hlevel props },
     ghost writable: { (name : List ℕ) → IfSome (get bytes_eq map name) (λ table. IsWritable (kept_in table.value)) } by { Prim.hlevel props },
 }
@@ -56,7 +56,7 @@ impl Tables {
     /// How many tables there are.
     pub fn count(&self) -> usize
         ensures value { result ≡ length (world_of self.now) }
-        ensures few { result ≤ 64 }
+        ensures few { result ≤ MOST_TABLES }
     {
         self.map.len()
     }
@@ -112,7 +112,7 @@ impl Tables {
     fn stamp_at(&self, place: usize) -> u64
         requires { place < length self.now.map.entries }
         ensures more { requests_in (take (place + 1) (world_of self.now)) ≡ requests_in (take place (world_of self.now)) + result }
-        ensures few { result ≤ 4000000000 }
+        ensures few { result ≤ LAST_STAMP }
     {
         match self.map.get_index(place) {
             Some((_, table)) => stamp_of(table),
@@ -123,7 +123,7 @@ impl Tables {
     /// Puts a table that a file tells behind the others, under a name of its own. A checkpoint can write it: its floor is
     /// below 2^32, and no command that it keeps has more than 65,535 bytes.
     pub fn put(&mut self, name: Name, table: Box<Table>)
-        requires few { length (world_of self.old) < 64 }
+        requires few { length (world_of self.old) < MOST_TABLES }
         requires own_name { table_named (world_of self.old) name ≡ None }
         requires played { IsPlayed self.old.kit table.value }
         requires writable { IsWritable (kept_in table.value) }
@@ -135,7 +135,7 @@ impl Tables {
 
     // Puts a table behind the others.
     pub(crate) fn add(&mut self, name: Name, table: Box<Table>)
-        requires few { index_map_len self.old.map < 64 }
+        requires few { index_map_len self.old.map < MOST_TABLES }
         requires absent { get bytes_eq self.old.map name ≡ None }
         requires played { IsPlayed self.old.kit table.value }
         requires writable { IsWritable (kept_in table.value) }
@@ -149,7 +149,7 @@ impl Tables {
 // The stamp of a table: how many requests it has accepted.
 fn stamp_of(table: &Table) -> u64
     ensures value { result ≡ (kept_in table.now).stamp }
-    ensures few { result ≤ 4000000000 }
+    ensures few { result ≤ LAST_STAMP }
 {
     table.stamp()
 }

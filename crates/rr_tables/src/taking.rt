@@ -19,11 +19,11 @@ ghost use Rattle.rr_turns.specs.Judgement.{IsVerdict, MayFind, settled};
 ghost use Rattle.rr_turns.specs.Kept.{kept_after};
 ghost use Rattle.rr_turns.specs.declared.request.Request.{Request as AnyRequest};
 
-use crate::tables::MOST_TABLES;
 use crate::{Fault, Journal, Tables, records};
 use rr_code::{Command, Players};
 use rr_game::history::{Change, Request, Table};
 use rr_kit::Kit;
+use rr_reading::dir::MOST_TABLES;
 use rr_words::Name;
 use std::alloc::Global;
 
@@ -95,7 +95,7 @@ impl Tables {
             (λ _. opening_verdict (option_map kept_in_box (get bytes_eq self.now.map name.now)) (index_map_len self.now.map) stamp ≡ None)
             (λ fault. opening_verdict (option_map kept_in_box (get bytes_eq self.now.map name.now)) (index_map_len self.now.map) stamp ≡ Some fault) }
         ensures absent { OnOk result (get bytes_eq self.now.map name.now ≡ None) }
-        ensures few { OnOk result (index_map_len self.now.map < 64) }
+        ensures few { OnOk result (index_map_len self.now.map < MOST_TABLES) }
     {
         if let Some(table) = self.map.get(name) {
             return Err(records::Fault::StaleStamp(table.stamp()));

@@ -1,15 +1,9 @@
--- The numbers of faults, and the clause that a kept command breaks.
-use Rattle.std.specs.Prelude.{ℕ}
+-- The clause that a kept command breaks.
 use Rattle.rr_game.specs.declared.history.fault.Fault as table
 use Rattle.rr_game.specs.declared.history.fault.Fault.TheVariants as H
 use Rattle.rr_pages.specs.declared.fault.Damage.TheVariants.{Kept}
 use Rattle.rr_store.specs.declared.recovery.fault.Fault.{Fault}
 use Rattle.rr_store.specs.declared.recovery.fault.Fault.TheVariants.{Damaged, OutOfMemory}
-
--- the number that replies give
-abbrev pub number_of : Fault → ℕ
-number_of (Damaged damage) = 63
-number_of OutOfMemory = 70
 
 -- a kept command that its table refuses damages the file, unless memory was wanted
 abbrev pub of_table : table.Fault → Fault

@@ -13,21 +13,6 @@ pub enum Fault {
     OutOfMemory,
 }
 
-impl Fault {
-    ghost use Rattle.std.specs.Prelude.{◌≡◌};
-    ghost use Rattle.rr_store.specs.Recovery.Fault.{number_of};
-
-    /// The number that replies give.
-    pub fn number(self) -> u8
-        ensures { result ≡ number_of self }
-    {
-        match self {
-            Fault::Damaged(_) => 63,
-            Fault::OutOfMemory => 70,
-        }
-    }
-}
-
 /// Of a record: it spells no request.
 impl From<rr_code::Fault> for Fault {
     ghost use Rattle.std.specs.Prelude.{◌≡◌};

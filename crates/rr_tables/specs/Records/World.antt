@@ -3,6 +3,7 @@ use Rattle.std.specs.Prelude.{◌≡◌, ℕ, ◌+◌, ◌==◌, not, nat_le, le
 use Rattle.std.specs.Map.{lookup}
 use Rattle.indexmap.specs.IndexMap.{insert_entry}
 use Rattle.rr_kit.specs.declared.kit.Kit.{Kit}
+use Rattle.rr_reading.specs.declared.dir.directory.TheConstants.{MOST_TABLES}
 use Rattle.rr_code.specs.declared.command.Command.{Command}
 use Rattle.rr_code.specs.declared.command.Command.TheVariants.{Open}
 use Rattle.rr_code.specs.Request.{IsRequest}
@@ -26,7 +27,7 @@ abbrev pub opening_verdict : Option TableState → ℕ → ℕ → Option Fault
 opening_verdict (Some t) tables stamp = Some (F.StaleStamp t.stamp)
 opening_verdict None tables stamp =
     if not (stamp == 0) then Some (F.StaleStamp 0)
-    else if nat_le 64 tables then Some F.TooManyTables
+    else if nat_le MOST_TABLES tables then Some F.TooManyTables
     else None
 
 -- the judgement on a request, by the table of its name, which there may not be

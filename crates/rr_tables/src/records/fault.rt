@@ -1,5 +1,5 @@
 ghost use Rattle.std.specs.Prelude.{◌≡◌};
-ghost use Rattle.rr_tables.specs.Records.Fault.{number_of, of_table};
+ghost use Rattle.rr_tables.specs.Records.Fault.{of_table};
 
 use rr_books::Refusal;
 use thiserror::Error;
@@ -28,23 +28,6 @@ pub enum Fault {
     /// A request for memory was refused.
     #[error("out of memory")]
     OutOfMemory,
-}
-
-impl Fault {
-    /// The number that a reply gives.
-    pub fn number(&self) -> u8
-        ensures { result ≡ number_of self.now }
-    {
-        match self {
-            Fault::Game(fault) => fault.number(),
-            Fault::StaleStamp(_) => 52,
-            Fault::TurnNotKept => 53,
-            Fault::TooManyCommands => 54,
-            Fault::TooManyTables => 66,
-            Fault::NoSuchTable => 68,
-            Fault::OutOfMemory => 70,
-        }
-    }
 }
 
 impl From<rr_game::history::Fault> for Fault {
