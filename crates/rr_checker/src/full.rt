@@ -16,6 +16,7 @@ use rr_routes::{CentreLimit, Fate};
 use std::alloc::{AllocError, Global};
 
 // Whether every link is decided and the run over the links, if there is one, earns at most the claim.
+#[inline(never)]
 pub(crate) fn is_full(
     alloc: Global,
     net: &Net,

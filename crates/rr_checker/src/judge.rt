@@ -29,6 +29,7 @@ pub fn check(alloc: Global, net: &Net, claim: usize, tree: &CertTree) -> Result<
 }
 
 // Whether the tree shows under the fates that no run earns more than the claim. If it does, the fates are as before.
+// It goes as deep as the tree, so what judges a leaf isn't to lie within its frame on the stack.
 fn check_at(
     alloc: Global,
     net: &Net,
@@ -64,6 +65,7 @@ fn check_at(
     }
 }
 
+#[inline(never)]
 fn is_bad_train(
     alloc: Global,
     net: &Net,

@@ -36,7 +36,16 @@ pub(crate) fn tree_for(
         false => Plan::new(tracks.alloc)?,
     };
     let mut growth = Growth::new(tracks, claim, WEIGHTS, nodes)?;
-    match tree_under(tracks, &mut growth, &plan, Some(0), None, nodes)? {
+    let root = Node {
+        case: Some(0),
+        last: None,
+        depth: nodes,
+    };
+    let mut trees = Vec::new(tracks.alloc);
+    if !tree_under(tracks, &mut growth, &plan, root, &mut trees)? {
+        return Ok(None);
+    }
+    match trees.pop() {
         Some(tree) if growth.has_full => {
             let whole = with_outer(tracks, tree)?;
             Ok(Some(whole))
@@ -66,40 +75,53 @@ fn denied_before(tracks: &Tracks, tree: CertTree, place: usize) -> Result<CertTr
     Ok(CertTree::Split(place, children))
 }
 
-// A tree that shows the same under what is decided so far, if one is found; `case` is the case of the plan, and `last`
-// the track that was split last.
+// A node that the tree is grown from: the case of the plan, the track that was split last, and how many splits may stand
+// below.
+#[derive(Clone, Copy)]
+struct Node {
+    case: Option<usize>,
+    last: Option<usize>,
+    depth: usize,
+}
+
+// Puts a tree that shows the same under what is decided so far behind the others, and tells whether one was found.
 fn tree_under(
     tracks: &Tracks,
     growth: &mut Growth,
     plan: &Plan,
-    case: Option<usize>,
-    last: Option<usize>,
-    depth: usize,
-) -> Result<Option<CertTree>> {
-    if depth == 0 {
-        return Ok(None);
+    node: Node,
+    trees: &mut Vec<CertTree>,
+) -> Result<bool> {
+    if node.depth == 0 {
+        return Ok(false);
     }
-    let split = split_at(plan, case);
-    let track = match node_at(tracks, growth, split, last)? {
-        Finding::Leaf(leaf) => return Ok(Some(leaf)),
-        Finding::GivenUp => return Ok(None),
+    let split = split_at(plan, node.case);
+    let track = match node_at(tracks, growth, split, node.last)? {
+        Finding::Leaf(leaf) => {
+            trees.push(leaf)?;
+            return Ok(true);
+        }
+        Finding::GivenUp => return Ok(false),
         Finding::Split(track) => track,
     };
     let trains = tracks.limits.len();
     let mut children = Vec::new(tracks.alloc);
     for turn in 0..trains.saturating_add(1) {
         growth.set_fate(track, choice_at(trains.saturating_sub(turn)));
-        let below = case_below(split, track, trains.saturating_sub(turn));
-        match tree_under(tracks, growth, plan, below, Some(track), depth - 1)? {
-            None => return Ok(None),
-            Some(child) => children.push(child)?,
+        let below = Node {
+            case: case_below(split, track, trains.saturating_sub(turn)),
+            last: Some(track),
+            depth: node.depth - 1,
+        };
+        if !tree_under(tracks, growth, plan, below, &mut children)? {
+            return Ok(false);
         }
     }
     growth.set_fate(track, Fate::Open);
     children.reverse();
-    let node = CertTree::Split(tracks.place_of(track), children);
-    let tree = left_level(tracks, growth, node)?;
-    Ok(Some(tree))
+    let split = CertTree::Split(tracks.place_of(track), children);
+    trees.push(left_level(tracks, growth, split)?)?;
+    Ok(true)
 }
 
 fn split_at(plan: &Plan, case: Option<usize>) -> Option<&Branching> {
@@ -123,7 +145,8 @@ fn choice_at(place: usize) -> Fate {
     }
 }
 
-// The tree with what its level denies in front of it; the level is left.
+// The tree with what its level denies in front of it; the level is left. (Out of line: the recursion's frame stays small.)
+#[inline(never)]
 fn left_level(tracks: &Tracks, growth: &mut Growth, tree: CertTree) -> Result<CertTree> {
     let mut tree = tree;
     if let Some(level) = growth.levels.pop() {
@@ -135,7 +158,8 @@ fn left_level(tracks: &Tracks, growth: &mut Growth, tree: CertTree) -> Result<Ce
     Ok(tree)
 }
 
-// A leaf where one stands, else the track to split, at a level of its own.
+// A leaf where one stands, else the track to split, at a level of its own. (Out of line, too.)
+#[inline(never)]
 fn node_at(
     tracks: &Tracks,
     growth: &mut Growth,
