@@ -1,2 +1,3 @@
+pub mod NewLinkLemmas
 pub mod ReachLemmas
 pub mod Sights

@@ -70,17 +70,17 @@ pub record ReachesNewLink (old new : Net) (corp : Corp) : Type 0 where
   pub is_new : has_link old.links link ≡ false
   pub reached : ReachesLink new corp (place + 1)
 
--- the link at a place is reached, and isn't among the old ones
-abbrev pub is_new_link : Reached → List Link → ℕ → Link → Bool
-is_new_link reached old place link = reaches_link reached (place + 1) && not (has_link old link)
+-- the link at a place is one of the hex, is reached, and isn't among the old ones
+abbrev pub is_new_link : Reached → List Link → List ℕ → ℕ → Link → Bool
+is_new_link reached old hex place link = bytes_eq link.hex hex && (reaches_link reached (place + 1) && not (has_link old link))
 
--- one of the links is reached, and isn't among the old ones
-pub record HasNewLink (reached : Reached) (old links : List Link) : Type 0 where
+-- one of the links is one of the hex, is reached, and isn't among the old ones
+pub record HasNewLink (reached : Reached) (old : List Link) (hex : List ℕ) (links : List Link) : Type 0 where
   pub place : ℕ
   pub link : Link
   pub inside : place < length links
   pub here : slice_index_or links place link ≡ link
-  pub passes : is_new_link reached old place link ≡ true
+  pub passes : is_new_link reached old hex place link ≡ true
 
 -- the network of a position, and with one tile more
 abbrev pub net_now : Plan → List Supply → Position → Net

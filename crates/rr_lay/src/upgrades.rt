@@ -13,6 +13,7 @@ use rr_kit::board::Hex;
 use rr_network::{Link, Network, Node, Reach, last_lay, same_node};
 use rr_roster::Corp;
 use rr_tiles::{Manifest, Supply, keeps};
+use rr_words::HexName;
 use std::alloc::{AllocError, Global};
 
 // A tile to be laid, with the hex and the supply that it names.
@@ -91,26 +92,27 @@ pub(crate) fn reaches_new_link(
     let old = Network::of(alloc, kit.board(), kit.tiles(), layout)?;
     let new = Network::of(alloc, kit.board(), kit.tiles(), &more)?;
     let reach = Reach::of(alloc, &new, corp)?;
-    Ok(reaches_any(&reach, old.links(), new.links()))
+    Ok(reaches_any(&reach, old.links(), &lay.hex, new.links()))
 }
 
-// Whether one of the links is reached and isn't among the old ones.
-fn reaches_any(reach: &Reach, old: &[Link], links: &[Link]) -> bool
-    ensures { IsTrue result ↔ HasNewLink reach.now old.now links.now }
+// Whether one of the links of the hex is reached and isn't among the old ones. No link of another hex can be new, so
+// none is looked for.
+fn reaches_any(reach: &Reach, old: &[Link], hex: &HexName, links: &[Link]) -> bool
+    ensures { IsTrue result ↔ HasNewLink reach.now old.now hex.now links.now }
 {
     for (place, link) in links.iter().enumerate() {
-        if is_new_link(reach, old, place, link) {
+        if is_new_link(reach, old, hex, place, link) {
             return true;
         }
     }
     false
 }
 
-fn is_new_link(reach: &Reach, old: &[Link], place: usize, link: &Link) -> bool
+fn is_new_link(reach: &Reach, old: &[Link], hex: &HexName, place: usize, link: &Link) -> bool
     requires { place + 1 < 2 ^ 64 }
-    ensures { result ≡ is_new_link reach.now old.now place link.now }
+    ensures { result ≡ is_new_link reach.now old.now hex.now place link.now }
 {
-    reach.has_link(place + 1) && !has_link(old, link)
+    link.hex == *hex && reach.has_link(place + 1) && !has_link(old, link)
 }
 
 fn has_link(links: &[Link], link: &Link) -> bool
