@@ -4,17 +4,15 @@ use rr_books::{Corp, Kind};
 use rr_desk::Position;
 use rr_orders::Order;
 use rr_search::best_run::laws::{few_links_fit, trains_may_stay};
+use rr_search::Fault;
 use rr_search::best_run::{BestRun, best_run};
 use std::alloc::Global;
 use std::process::Abort;
 
-/// What is found in at most so many bytes, or the fault's number.
-fn found(rt: &impl Abort, alloc: Global, table: &Position, most: usize) -> Result<BestRun, u8> {
+/// What is found in at most so many bytes.
+fn found(rt: &impl Abort, alloc: Global, table: &Position, most: usize) -> Result<BestRun, Fault> {
     let kit = small_kit(rt, alloc);
-    match best_run(alloc, &kit, table, Corp::Prr, most) {
-        Ok(run) => Ok(run),
-        Err(fault) => Err(fault.number()),
-    }
+    best_run(alloc, &kit, table, Corp::Prr, most)
 }
 
 /// Whether this revenue and these words of a sheet are found, and the words are read as an order.
@@ -28,7 +26,7 @@ fn finds(
 ) -> bool {
     match found(rt, alloc, table, most) {
         Ok(run) => run.revenue().0 == revenue && run.sheet() == sheet && is_order(run.as_bytes()),
-        Err(number) => number == 70,
+        Err(_) => false,
     }
 }
 
@@ -40,7 +38,7 @@ fn is_order(words: &[u8]) -> bool {
 fn finds_none(rt: &impl Abort, alloc: Global, table: &Position, most: usize) -> bool {
     match found(rt, alloc, table, most) {
         Ok(_) => false,
-        Err(number) => number == 41 || number == 70,
+        Err(fault) => fault == Fault::NoCertificate,
     }
 }
 

@@ -74,7 +74,6 @@ fn gives_up_where_it_may(rt: HostRuntime) {
     assert!(rt; no_tree == Some(Fault::NoCertificate));
     let no_kind = refusal(&rt, rt.alloc(), 7, 1024);
     assert!(rt; no_kind == Some(Fault::NoCertificate));
-    assert!(rt; Fault::NoCertificate.number() == 41);
 }
 
 // numbers that look random: a linear congruence

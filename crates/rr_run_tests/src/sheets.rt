@@ -147,10 +147,7 @@ fn writes_any_place(rt: HostRuntime) {
 }
 
 #[test]
-fn faults_have_numbers(rt: HostRuntime) {
-    assert!(rt; Fault::Malformed.number() == 55);
-    assert!(rt; Fault::CertificateRefused.number() == 40);
-    assert!(rt; Fault::OutOfMemory.number() == 70);
+fn laws_are_called(rt: HostRuntime) {
     laws::one_meaning();
     laws::accepted_is_spelled();
     laws::read_is_spelled();

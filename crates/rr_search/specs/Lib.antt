@@ -1,4 +1,3 @@
-pub mod Fault
 pub mod Found
 pub mod Orientation
 pub mod Whole

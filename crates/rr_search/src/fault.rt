@@ -1,5 +1,4 @@
 ghost use Rattle.std.specs.Prelude.{◌≡◌};
-ghost use Rattle.rr_search.specs.Fault.{number_of};
 ghost use Rattle.rr_search.specs.declared.fault.Fault.TheVariants.{OutOfMemory};
 
 use std::alloc::{AllocError, AllocFailed};
@@ -14,18 +13,6 @@ pub enum Fault {
     /// A request for memory was refused.
     #[error("out of memory")]
     OutOfMemory,
-}
-
-impl Fault {
-    /// The number that replies give with the text.
-    pub fn number(&self) -> u8
-        ensures { result ≡ number_of self.now }
-    {
-        match self {
-            Fault::NoCertificate => 41,
-            Fault::OutOfMemory => 70,
-        }
-    }
 }
 
 impl From<AllocError> for Fault {

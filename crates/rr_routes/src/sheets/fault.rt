@@ -1,5 +1,4 @@
 ghost use Rattle.std.specs.Prelude.{◌≡◌};
-ghost use Rattle.rr_routes.specs.Sheets.Fault.{fault_number};
 ghost use Rattle.rr_routes.specs.declared.sheets.fault.Fault.TheVariants.{OutOfMemory};
 
 use std::alloc::{AllocError, AllocFailed};
@@ -17,19 +16,6 @@ pub enum Fault {
     /// There is no memory to read or to write the text.
     #[error("out of memory")]
     OutOfMemory,
-}
-
-impl Fault {
-    /// The fault's number: 55, 40 or 70.
-    pub fn number(self) -> u8
-        ensures { result ≡ fault_number self }
-    {
-        match self {
-            Fault::Malformed => 55,
-            Fault::CertificateRefused => 40,
-            Fault::OutOfMemory => 70,
-        }
-    }
 }
 
 impl From<AllocError> for Fault {
