@@ -82,6 +82,11 @@ fn no_books_have_values_out_of_bounds(rt: HostRuntime) {
     }
 }
 
+fn read_back(bytes: &[u8]) -> Option<BooksParts> {
+    let mut cursor = Cursor::of(bytes);
+    BooksParts::read(&mut cursor)
+}
+
 #[test]
 fn books_have_their_bytes(rt: HostRuntime) -> Result<(), AllocError> {
     let parts = parts(&rt);
@@ -91,8 +96,7 @@ fn books_have_their_bytes(rt: HostRuntime) -> Result<(), AllocError> {
     assert!(rt; bytes.get(..8) == Some([255, 255, 255, 255, 255, 255, 246, 160].as_slice()));
     assert!(rt; bytes.get(120..125) == Some([0, 0, 0, 2, 2].as_slice()));
     assert!(rt; bytes.get(130..133) == Some([3, 1, 0].as_slice()));
-    let read = BooksParts::read(&mut Cursor::of(&bytes));
-    match read {
+    match read_back(&bytes) {
         Some(again) => {
             assert!(rt; again.cash == parts.cash && again.payments == parts.payments);
             assert!(rt; again.places == parts.places && again.trains == parts.trains);
@@ -100,9 +104,7 @@ fn books_have_their_bytes(rt: HostRuntime) -> Result<(), AllocError> {
         }
         None => assert!(rt; false),
     }
-    let short = bytes
-        .get(1..)
-        .map(|rest| BooksParts::read(&mut Cursor::of(rest)).is_none());
+    let short = bytes.get(1..).map(|rest| read_back(rest).is_none());
     check(&rt, "one byte short", short, Some(true));
     Ok(())
 }
