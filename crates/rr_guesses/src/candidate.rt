@@ -3,12 +3,13 @@ ghost use Rattle.std.specs.Prelude.{◌≡◌, IfOk, IfSome, true};
 ghost use Rattle.rr_guesses.specs.Certified.{IsCertified, IsModest};
 
 use crate::certificate::tree_for;
+use crate::graph::reached_tracks;
+use crate::runs::good_sheet;
 use rr_books::Refusal;
 use rr_checker::{CertTree, Net, check};
 use rr_referee::legal;
 use rr_roster::Kind;
 use rr_routes::sheets::Sheet;
-use rr_tracks::{good_sheet, reached_tracks};
 use std::alloc::{AllocError, Global};
 
 /// A legal sheet of the net's trains, whose kinds these are in order, and a certificate of at most `limit` nodes that

@@ -1,12 +1,13 @@
 //! The search for a certificate: a tree that splits the tracks in dispute, and takes from all trains the tracks that
 //! none of them can have.
 use crate::choice::{Ranked, best_split, sort_ranked};
+use crate::graph::{Result, Tracks, set_mark};
 use crate::growth::{Growth, Level, Weights};
 use crate::lost::{holding_of, holdings_of, least_worth, lost_tracks, may_go_to};
 use crate::plan::{Branching, Plan};
 use crate::settling::planned;
+use crate::sights::{Outlook, outlook_of};
 use rr_checker::{CertTree, Fate};
-use rr_tracks::{Outlook, Result, Tracks, outlook_of, set_mark};
 
 const WEIGHTS: Weights = Weights {
     least: 64,

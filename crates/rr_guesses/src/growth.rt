@@ -1,7 +1,7 @@
 //! What a search for a certificate has decided, and what it may still spend.
+use crate::graph::{Result, Tracks};
 use rr_checker::Fate;
 use rr_routes::reachability::is_marked;
-use rr_tracks::{Result, Tracks};
 
 // How many steps from way to way a search may take in its looks: on a large board it looks less often.
 const STEPS: usize = 16_000_000;

@@ -1,7 +1,8 @@
 //! The tracks that trains can't have beside those that are decided.
+use crate::graph::{Result, Tracks, set_mark};
+use crate::sights::{Outlook, worth_of};
 use rr_checker::{CentreLimit, Fate};
 use rr_routes::reachability::is_marked;
-use rr_tracks::{Outlook, Result, Tracks, set_mark, worth_of};
 
 // The centres that the tracks of a train touch, and how many these are.
 #[derive(Drop)]

@@ -1,7 +1,8 @@
 //! A plan of the splits of a tree: cases of what is decided, and the splits that were looked into at each.
+use crate::graph::{Result, Tracks, goes_over};
+use crate::sights::Outlook;
 use rr_checker::Fate;
 use rr_routes::reachability::Index;
-use rr_tracks::{Outlook, Result, Tracks, goes_over};
 use std::alloc::Global;
 
 // What a leaf promises: promises are in sixteenths of a node.

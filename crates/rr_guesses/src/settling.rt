@@ -1,11 +1,12 @@
 //! A best-first search for the splits of a tree: where it promises to be largest it is looked into, and then the split
 //! that promises the fewest nodes is kept.
 use crate::choice::{first_bids, promise_of, promise_under};
+use crate::graph::{Result, Tracks};
 use crate::growth::{Growth, Weights};
 use crate::lost::{Holding, holdings_of, least_worth, lost_tracks, may_go_to};
 use crate::plan::{Branching, Decision, Plan, fates_of, mark_of};
+use crate::sights::{Outlook, outlook_of};
 use rr_checker::Fate;
-use rr_tracks::{Outlook, Result, Tracks, outlook_of};
 
 const WEIGHTS: Weights = Weights {
     least: 576,

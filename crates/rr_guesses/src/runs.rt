@@ -59,8 +59,8 @@ impl Trial {
     }
 }
 
-/// The sheet of a run that earns much, and what it earns.
-pub fn good_sheet(tracks: &Tracks, kinds: &[Kind]) -> Result<(Sheet, u64)> {
+// The sheet of a run that earns much, and what it earns.
+pub(crate) fn good_sheet(tracks: &Tracks, kinds: &[Kind]) -> Result<(Sheet, u64)> {
     let mut trains = Vec::new(tracks.alloc);
     for limit in &tracks.limits {
         let lines = lines_of(tracks, limit)?;

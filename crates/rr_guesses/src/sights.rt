@@ -3,33 +3,33 @@ use crate::graph::{Result, Tracks, goes_over, has_counted, may_use, set_mark};
 use rr_checker::{CentreLimit, Fate};
 use rr_routes::reachability::is_marked;
 
-/// What the trains reach.
+// What the trains reach.
 #[derive(Drop)]
-pub struct Outlook {
-    /// For each train marks of the ways that it goes over.
-    pub sights: Vec<Vec<bool>>,
-    /// The greatest values that they count there, together.
-    pub worth: u64,
-    /// A train that doesn't reach a track of its own.
-    pub stranded: Option<usize>,
+pub(crate) struct Outlook {
+    // For each train marks of the ways that it goes over.
+    pub(crate) sights: Vec<Vec<bool>>,
+    // The greatest values that they count there, together.
+    pub(crate) worth: u64,
+    // A train that doesn't reach a track of its own.
+    pub(crate) stranded: Option<usize>,
 }
 
 impl Outlook {
-    /// Whether no run keeps the fates and earns more than the claim.
-    pub fn is_closed(&self, claim: u64) -> bool {
+    // Whether no run keeps the fates and earns more than the claim.
+    pub(crate) fn is_closed(&self, claim: u64) -> bool {
         self.worth <= claim || self.stranded.is_some()
     }
 
-    /// Whether the train goes over the track.
-    pub fn reaches(&self, train: usize, track: usize) -> bool {
+    // Whether the train goes over the track.
+    pub(crate) fn reaches(&self, train: usize, track: usize) -> bool {
         match self.sights.get(train) {
             Some(ways) => goes_over(ways, track),
             None => false,
         }
     }
 
-    /// Whether some train reaches the track.
-    pub fn is_seen(&self, track: usize) -> bool {
+    // Whether some train reaches the track.
+    pub(crate) fn is_seen(&self, track: usize) -> bool {
         for ways in &self.sights {
             if goes_over(ways, track) {
                 return true;
@@ -51,8 +51,8 @@ impl Outlook {
     }
 }
 
-/// What the trains reach under the fates, without the marked tracks.
-pub fn outlook_of(tracks: &Tracks, fates: &[Fate], without: &[bool]) -> Result<Outlook> {
+// What the trains reach under the fates, without the marked tracks.
+pub(crate) fn outlook_of(tracks: &Tracks, fates: &[Fate], without: &[bool]) -> Result<Outlook> {
     let mut outlook = Outlook {
         sights: Vec::new(tracks.alloc),
         worth: 0,
@@ -125,8 +125,8 @@ fn sight_worth(tracks: &Tracks, limit: &CentreLimit, ways: &[bool]) -> Result<u6
     Ok(worth_of(tracks, limit, &stops))
 }
 
-/// The greatest values that a train of the limit counts among the marked centres and those with a token.
-pub fn worth_of(tracks: &Tracks, limit: &CentreLimit, marks: &[bool]) -> u64 {
+// The greatest values that a train of the limit counts among the marked centres and those with a token.
+pub(crate) fn worth_of(tracks: &Tracks, limit: &CentreLimit, marks: &[bool]) -> u64 {
     let mut counted = 0usize;
     let mut worth = 0u64;
     for (place, stop) in tracks.stops.iter().enumerate() {

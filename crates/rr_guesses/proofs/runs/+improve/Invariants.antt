@@ -1,4 +1,4 @@
-use Rattle.rr_tracks.proofs.runs.+improve.Given as goal
+use Rattle.rr_guesses.proofs.runs.+improve.Given as goal
 
 abbrev pub decreases-improve : goal.decreases-improve
 decreases-improve l = l.left

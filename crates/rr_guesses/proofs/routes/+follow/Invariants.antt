@@ -1,4 +1,4 @@
-use Rattle.rr_tracks.proofs.routes.+follow.Given as goal
+use Rattle.rr_guesses.proofs.routes.+follow.Given as goal
 
 abbrev pub decreases-follow : goal.decreases-follow
 decreases-follow l = l.depth

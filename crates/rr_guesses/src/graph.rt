@@ -5,8 +5,8 @@ use smallvec::SmallVec;
 use std::alloc::{AllocError, Global};
 use std::mem;
 
-/// What is found, or that memory was wanting: nothing else can fail here.
-pub type Result<T> = std::result::Result<T, AllocError>;
+// What is found, or that memory was wanting: nothing else can fail here.
+pub(crate) type Result<T> = std::result::Result<T, AllocError>;
 
 // A link, gone over from one end to the other.
 #[derive(Drop)]
@@ -18,61 +18,61 @@ struct Leg {
     to: Node,
 }
 
-/// A centre.
+// A centre.
 #[derive(Drop)]
-pub struct Stop {
+pub(crate) struct Stop {
     // Its place among the centres of the net.
     centre: usize,
-    /// What it is worth.
-    pub worth: u64,
-    /// Whether the corporation has a token there.
-    pub has_token: bool,
-    /// Whether a walk ends there.
-    pub is_terminal: bool,
+    // What it is worth.
+    pub(crate) worth: u64,
+    // Whether the corporation has a token there.
+    pub(crate) has_token: bool,
+    // Whether a walk ends there.
+    pub(crate) is_terminal: bool,
 }
 
-/// A track, gone over from one end to the other: the ends of it, as walks meet them.
+// A track, gone over from one end to the other: the ends of it, as walks meet them.
 #[derive(Drop)]
-pub struct Way {
+pub(crate) struct Way {
     // The link's place in the net.
     place: usize,
-    /// Whether it begins at a hexside.
-    pub is_from_side: bool,
-    /// The other tracks that touch the node where it begins.
-    pub others: SmallVec<usize, 4>,
-    /// The node where it ends, named by the first way that ends there.
-    pub node: usize,
-    /// The stop where it ends.
-    pub stop: Option<usize>,
+    // Whether it begins at a hexside.
+    pub(crate) is_from_side: bool,
+    // The other tracks that touch the node where it begins.
+    pub(crate) others: SmallVec<usize, 4>,
+    // The node where it ends, named by the first way that ends there.
+    pub(crate) node: usize,
+    // The stop where it ends.
+    pub(crate) stop: Option<usize>,
 }
 
-/// The links that matter, and how walks go on over them.
+// The links that matter, and how walks go on over them.
 #[derive(Drop)]
-pub struct Tracks {
-    /// Where what is found about them is kept.
-    pub alloc: Global,
-    /// Which links of the net they are.
-    pub reached: Vec<bool>,
-    /// Two for each track.
-    pub ways: Vec<Way>,
-    /// For each way those that may follow it.
-    pub graph: Vec<Followers>,
-    /// The ways that begin at a token.
-    pub starts: Vec<usize>,
-    /// The centres, the greatest value first.
-    pub stops: Vec<Stop>,
-    /// What the trains count at most.
-    pub limits: Vec<CentreLimit>,
+pub(crate) struct Tracks {
+    // Where what is found about them is kept.
+    pub(crate) alloc: Global,
+    // Which links of the net they are.
+    pub(crate) reached: Vec<bool>,
+    // Two for each track.
+    pub(crate) ways: Vec<Way>,
+    // For each way those that may follow it.
+    pub(crate) graph: Vec<Followers>,
+    // The ways that begin at a token.
+    pub(crate) starts: Vec<usize>,
+    // The centres, the greatest value first.
+    pub(crate) stops: Vec<Stop>,
+    // What the trains count at most.
+    pub(crate) limits: Vec<CentreLimit>,
 }
 
 impl Tracks {
-    /// How many tracks there are.
-    pub fn count(&self) -> usize {
+    // How many tracks there are.
+    pub(crate) fn count(&self) -> usize {
         self.ways.len() / 2
     }
 
-    /// The link's place in the net.
-    pub fn place_of(&self, track: usize) -> usize {
+    // The link's place in the net.
+    pub(crate) fn place_of(&self, track: usize) -> usize {
         match self.ways.get(track.saturating_mul(2)) {
             Some(way) => way.place,
             None => 0,
@@ -99,8 +99,8 @@ impl Tracks {
     }
 }
 
-/// The tracks that the corporation reaches.
-pub fn reached_tracks(alloc: Global, net: &Net) -> Result<Tracks> {
+// The tracks that the corporation reaches.
+pub(crate) fn reached_tracks(alloc: Global, net: &Net) -> Result<Tracks> {
     let reached = reached_links(alloc, net)?;
     let legs = legs_over(alloc, net, &reached)?;
     let departures = departures_of(alloc, &legs)?;
@@ -160,16 +160,16 @@ fn legs_over(alloc: Global, net: &Net, marks: &[bool]) -> Result<Vec<Leg>> {
     Ok(legs)
 }
 
-/// Marks the place or takes its mark away, and tells whether that changed anything.
-pub fn set_mark(marks: &mut Vec<bool>, place: usize, mark: bool) -> bool {
+// Marks the place or takes its mark away, and tells whether that changed anything.
+pub(crate) fn set_mark(marks: &mut Vec<bool>, place: usize, mark: bool) -> bool {
     match marks.get_mut(place) {
         Some(old) => mem::replace(old, mark) != mark,
         None => false,
     }
 }
 
-/// Whether one of the track's two ways is marked.
-pub fn goes_over(ways: &[bool], track: usize) -> bool {
+// Whether one of the track's two ways is marked.
+pub(crate) fn goes_over(ways: &[bool], track: usize) -> bool {
     let first = track.saturating_mul(2);
     is_marked(ways, first) || is_marked(ways, first.saturating_add(1))
 }
