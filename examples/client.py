@@ -5,11 +5,15 @@ usage: client.py PROGRAM FILE
 
 FILE is a new store that `moderate format` made. The client opens a table for three players, lets each buy a private
 company, and prints what everybody has then. It shows what a program that plays by lines needs: one line out, one line
-back; the stamp of the last `ok`; and, where the reply is lost, how the line is sent once more but taken once.
+back; the stamp of the last `ok`, taken anew where it was stale; and, where the reply is lost, how the line is sent
+once more but taken once.
 """
 import subprocess
 import sys
 from contextlib import suppress
+
+STALE_STAMP = 52
+NO_SUCH_TABLE = 68
 
 
 class Refused(Exception):
@@ -34,7 +38,12 @@ class Moderator:
         self.ask("tables")
 
     def line(self, words):
-        """Sends one line and gives its reply, which comes before the next line need be sent."""
+        """Sends one line and gives its reply, which comes before the next line need be sent.
+
+        Words with a line feed would be two lines with two replies: they are a ValueError, and nothing is sent.
+        """
+        if "\n" in words:
+            raise ValueError(f"more than one line: {words!r}")
         with suppress(BrokenPipeError):  # it has ended; why may still be there to read
             self.serving.stdin.write(words + "\n")
             self.serving.stdin.flush()
@@ -55,17 +64,25 @@ class Moderator:
         try:
             return int(self.ask(f"stamp {table}")[0])
         except Refused as refusal:
-            if refusal.number != 68:
+            if refusal.number != NO_SUCH_TABLE:
                 raise
             return 0
 
     def play(self, table, words):
-        """Plays a command. Gives the words behind the new stamp: the revenue of a `run`, and the sheet of a `best`."""
+        """Plays a command. Gives the words behind the new stamp: the revenue of a `run`, and the sheet of a `best`.
+
+        Where the stamp was stale, something was played at the table that this client didn't see. The stamp is taken
+        anew then, and the refusal is raised all the same: look at the table, and play the command again if it still
+        holds.
+        """
         if table not in self.stamps:
             self.stamps[table] = self.stamp(table)
         kind, _, answer = self.line(f"{self.stamps[table]} {table} {words}").partition(" ")
         if kind != "ok":
-            raise Refused(answer)
+            refusal = Refused(answer)
+            if refusal.number == STALE_STAMP:
+                self.stamps[table] = int(answer.split(" ")[-1])
+            raise refusal
         _, stamp, *more = answer.split(" ")
         self.stamps[table] = int(stamp)
         return more

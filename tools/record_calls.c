@@ -26,7 +26,7 @@ static long calls = 0, failing_call = 0, kept_bytes = 0, reads = 0, failing_read
 static ssize_t (*real_write)(int, const void *, size_t);
 static ssize_t (*real_pwrite)(int, const void *, size_t, off_t);
 static ssize_t (*real_pread)(int, void *, size_t, off_t);
-static int (*real_fsync)(int);
+static int (*real_fdatasync)(int);
 static int (*real_open)(const char *, int, ...);
 
 static long number_in(const char *name) {
@@ -38,7 +38,7 @@ __attribute__((constructor)) static void begin(void) {
     real_write = dlsym(RTLD_NEXT, "write");
     real_pwrite = dlsym(RTLD_NEXT, "pwrite");
     real_pread = dlsym(RTLD_NEXT, "pread");
-    real_fsync = dlsym(RTLD_NEXT, "fsync");
+    real_fdatasync = dlsym(RTLD_NEXT, "fdatasync");
     real_open = dlsym(RTLD_NEXT, "open");
     failing_call = number_in("CALL_FAILS");
     kept_bytes = number_in("CALL_KEEPS");
@@ -94,14 +94,14 @@ ssize_t pwrite64(int file, const void *bytes, size_t length, off_t place) {
     return pwrite(file, bytes, length, place);
 }
 
-int fsync(int file) {
+int fdatasync(int file) {
     int fails = ++calls == failing_call;
     note('S', fails, 0, 0, NULL);
-    return fails ? fault() : real_fsync(file);
+    return fails ? fault() : real_fdatasync(file);
 }
 
-/* No call of the store syncs less than all of a file, or changes its length otherwise than by a write. */
-int fdatasync(int file) {
+/* No call of the store syncs a file's times, or changes its length otherwise than by a write. */
+int fsync(int file) {
     (void)file;
     abort();
 }

@@ -71,17 +71,28 @@ def root_at(data, side):
     return Root(side, *(number_at(data, at + place, count) for place, count in fields))
 
 
-def records_in(data, half, number):
-    """The records of a half from slot 0 on, of this number and one more each."""
-    found, slot = [], 0
+def records_from(data, half, number):
+    """Yields of each record of a half the slot in which it begins and its length: from slot 0 on, of this number and one more
+    each."""
+    slot = 0
     while slot < SLOTS:
         at = gate_of(half, slot)
-        if data[at] != OPEN or number_at(data, at + 1, 8) != number + len(found):
+        if data[at] != OPEN or number_at(data, at + 1, 8) != number:
             break
         length = number_at(data, at + 9, 4)
-        found.append(data[at + 13:at + 13 + length].decode())
-        slot += slots_for(length)
-    return found
+        yield slot, length
+        slot, number = slot + slots_for(length), number + 1
+
+
+def record_at(data, half, slot, length):
+    """The bytes of a record."""
+    at = gate_of(half, slot) + 13
+    return data[at:at + length]
+
+
+def records_in(data, half, number):
+    """The records of a half from slot 0 on, of this number and one more each."""
+    return [record_at(data, half, *it).decode() for it in records_from(data, half, number)]
 
 
 def chain_at(data, head, reached):

@@ -27,8 +27,8 @@ fn main(rt: HostRuntime) -> ExitCode {
     }
 }
 
-/// Takes the descriptor of each standard stream that was closed before the start. The store's file would get it, and then a
-/// reply would be written into the file. Nothing can be read from what is held there, and nothing written to it.
+/// Takes the descriptor of each standard stream that was closed before the start. The store's file would get it, and
+/// then a reply would be written into the file. Nothing can be read from what is held there, and nothing written to it.
 fn hold_streams(rt: &HostRuntime) -> io::Result<[File; 3]> {
     Ok([open_nothing(rt)?, open_nothing(rt)?, open_nothing(rt)?])
 }

@@ -26,14 +26,14 @@ pub fn bids_are_the_last()
     ensures { BidsAreTheLast }
 {}
 
-/// Priority is with the seat on the left of the last that got a private, at its price or at a bid, and with the first seat
-/// while none did.
+/// Priority is with the seat on the left of the last that got a private, at its price or at a bid, and with the first
+/// seat while none did.
 pub fn priority_is_left_of_the_buyer()
     ensures { PriorityIsLeftOfTheBuyer }
 {}
 
-/// The next turn is that of the seat on the left of the one that bought, bid or passed last in its turn, and the first is
-/// that of the first seat. To raise or to leave a raising is no turn.
+/// The next turn is that of the seat on the left of the one that bought, bid or passed last in its turn, and the first
+/// is that of the first seat. To raise or to leave a raising is no turn.
 pub fn turn_is_left_of_the_last()
     ensures { TurnIsLeftOfTheLast }
 {}
@@ -45,8 +45,8 @@ pub fn first_price_falls_by_passes()
     ensures { FirstPriceFallsByPasses }
 {}
 
-/// A pass brings the incomes exactly where all players pass in a row with it while another private than the first is for
-/// sale.
+/// A pass brings the incomes exactly where all players pass in a row with it while another private than the first is
+/// for sale.
 pub fn incomes_come_by_passes()
     ensures { IncomesComeByPasses }
 {}
@@ -82,8 +82,8 @@ pub fn seat_in_turn_buys()
     ensures { SeatInTurnBuys }
 {}
 
-/// In a worked auction two seats' last bids, the last buyer and the last turn are those that the rules say, and in another
-/// the first price fell twice.
+/// In a worked auction two seats' last bids, the last buyer and the last turn are those that the rules say, and in
+/// another the first price fell twice.
 pub fn worked_tellings()
     ensures { TellingsAreWorked }
 {}

@@ -37,7 +37,7 @@ pub(crate) fn position(rt: &(impl Abort + AllocGlobal), players: u8) -> Position
 
 /// A desk at a table of two players.
 pub(crate) fn desk(rt: &(impl Abort + AllocGlobal)) -> Desk {
-    Desk::new(rt.alloc(), position(rt, 2))
+    Desk::new(rt.alloc(), &position(rt, 2)).expect(rt, "memory")
 }
 
 /// Stops where a value is not the one that is wanted. A function, so that this is proved once for all tests.

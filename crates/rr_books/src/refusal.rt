@@ -105,7 +105,8 @@ pub enum Refusal {
     /// Another seat would become president of the corporation that is due.
     #[error("presidency would change")]
     PresidencyWouldChange,
-    /// The corporation that is due and its president can pay the train that it must own, or the president can sell shares.
+    /// The corporation that is due and its president can pay the train that it must own, or the president can sell
+    /// shares.
     #[error("not bankrupt")]
     NotBankrupt,
     /// The game is over.

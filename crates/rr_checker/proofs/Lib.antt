@@ -4,6 +4,7 @@ pub mod IndexLemmas
 pub mod TrackLemmas
 pub mod WalkLemmas
 pub mod RankLemmas
+pub mod ReachedLemmas
 pub mod BoundLemmas
 pub mod OwnLemmas
 pub mod JudgeLemmas

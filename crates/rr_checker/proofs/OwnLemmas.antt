@@ -1,7 +1,7 @@
 -- The links that are a train's own, and why it can't run over all of them.
 use Rattle.std.proofs.Common.{◌≡◌, ◌≢◌, ℕ, ◌+◌, ◌<◌, ◌≤◌, ◌⊎◌, ◌↔◌, ◌==◌, ◌&&◌, ◌||◌, not, Bool, true, false, Option, None, Some, List, [], ◌∷◌, ◌++◌, length, ltb, get_or, replicate, set, take, refl, sym, ◌∙◌, ap, subst, inl, inr, arith}
 use Rattle.std.specs.Bool.{Decides}
-use Rattle.std.specs.List.{Contains, list_any, slice_get}
+use Rattle.std.specs.List.{Contains, filter, list_any, slice_get}
 use Rattle.std.proofs.lemmas.Bool.{false≢true, cases_eq, cases_lt}
 use Rattle.std.proofs.lemmas.Bool.Decides.{same_from_decides, Decides-eqb, Decides-ltb, Decides-like, Decides-not, Decides-and, Decides-or}
 use Rattle.std.proofs.lemmas.List.{take_more, take_all, get_or_past, length-replicate, length-set}
@@ -24,14 +24,15 @@ use Rattle.rr_routes.proofs.Walks.{Walk-in_net}
 use Rattle.rr_routes.proofs.ReachabilityLemmas.MarkLemmas.{marked_before, marked_here, marked_still}
 use Rattle.rr_routes.proofs.ReachabilityLemmas.SearchLemmas.{none_marked}
 use Rattle.rr_checker.specs.declared.step.Step.{Step}
-use Rattle.rr_checker.specs.Steps.{same_node}
+use Rattle.rr_checker.specs.Steps.{HasStep, same_node}
 use Rattle.rr_checker.specs.Searching.{AreEnds}
 use Rattle.rr_checker.specs.Index.{IsIndexOf, TouchesAt, noted_at}
-use Rattle.rr_checker.specs.Ranked.{AddsNode, IsRankingOf}
-use Rattle.rr_checker.specs.Own.{is_of, is_others, AreSelected, AreLinksWith, some_link, link_touches, touches, is_third, is_second, crowds, crowds_end, crowds_end_on, is_crowded_by, is_crowded, is_crowded_on, is_over, GoesOver, AreGoneOver, is_unreached, is_side_of, shares_end, shares_end_on, shares_side, is_shared, is_shared_on, AddsTouched, IsTouched}
+use Rattle.rr_checker.specs.Ranked.{EndsAtCentre, IsRankingOf}
+use Rattle.rr_checker.specs.Own.{is_of, is_others, AreSelected, AreLinksWith, some_link, link_touches, touches, is_third, is_second, crowds, crowds_end, crowds_end_on, is_crowded_by, is_crowded, is_crowded_on, is_over, GoesOver, AreGoneOver, is_unreached, is_side_of, shares_end, shares_end_on, shares_side, is_shared, is_shared_on, is_touched_on, IsTouched}
 use Rattle.rr_checker.proofs.IndexLemmas.{noted_there, one_noted}
 use Rattle.rr_checker.proofs.PlaceLemmas.{no_step}
-use Rattle.rr_checker.proofs.StepLemmas.{yes, to_true, Decides-never, Decides-same_node, Decides-list_any}
+use Rattle.rr_checker.proofs.ReachedLemmas.{filter_ranked}
+use Rattle.rr_checker.proofs.StepLemmas.{step_over, yes, to_true, Decides-never, Decides-same_node, Decides-list_any}
 
 pub Decides-is_of : (train : ℕ) (fate : Fate) → Decides (is_of train fate) (fate ≡ Of train)
 Decides-is_of train Open = Decides-never (λ e. cc)
@@ -172,38 +173,6 @@ module _ (net : Net) (own : List ℕ) where
         | inr meets ↦ (crowd.2.0.other, crowd.0, crowd.1, (crowd.2.0, crowd.2.1, inr refl), meets)
       ]
 
-  -- what the links touch, with a link more
-  pub touched_first : IsRankingOf net (IsTouched net []) []
-  touched_first = record {
-    in_order = record { none_twice = tt; greatest_first = tt };
-    exact = λ centre. (λ c. absurd (Contains-nil centre c), λ d. absurd (Contains-nil d.0 d.1));
-  }
-
-  IsTouched-more : (i centre : ℕ) → i < length own → IsTouched net (take (i + 1) own) centre ↔ (IsTouched net (take i own) centre ⊎ Touches net (get_or own i 0) (Centre centre))
-  IsTouched-more i centre h = (
-    λ d. elim (Contains-push_cases (take i own) (get_or own i 0) d.0 (rw (take_more own i 0 h) at d.1)) [
-      | inl old ↦ inl (d.0, old, d.2)
-      | inr is ↦ inr (subst (λ l. Touches net l (Centre centre)) (sym is) d.2)
-    ],
-    λ d. elim d [
-      | inl old ↦ (old.0, rw (take_more own i 0 h) (Contains-append_left (take i own) (get_or own i 0 ∷ []) old.0 old.1), old.2)
-      | inr new ↦ (get_or own i 0, rw (take_more own i 0 h) (Contains-push (take i own) (get_or own i 0)), new)
-    ],
-  )
-
-  pub touched_next : (i : ℕ) (old new : List ℕ) → i < length own → IsRankingOf net (IsTouched net (take i own)) old → AddsTouched net (get_or own i 0) old new
-      → IsRankingOf net (IsTouched net (take (i + 1) own)) new
-  touched_next i old new h r a = record {
-    in_order = a.ranked r.in_order;
-    exact = λ centre. (
-      λ c. (IsTouched-more i centre h).1 (elim ((a.same centre).0 c) [ inl d ↦ inl ((r.exact centre).0 d) | inr is ↦ inr is ]),
-      λ c. (a.same centre).1 (elim ((IsTouched-more i centre h).0 c) [ inl d ↦ inl ((r.exact centre).1 d) | inr is ↦ inr is ]),
-    );
-  }
-
-  pub touched_done : (i : ℕ) (touched : List ℕ) → length own ≤ i → IsRankingOf net (IsTouched net (take i own)) touched → IsRankingOf net (IsTouched net own) touched
-  touched_done i touched h r = rw (take_all i own h) at r
-
 -- over an index of the links the tests are the same
 module _ (net : Net) (own : List ℕ) (index : List (List ℕ)) (ix : IsIndexOf (TouchesAt net own) index) where
   Decides-crowds_at : (one : ℕ) (node : Node) → Decides (crowds net (noted_at index node) one node) (Crowds net own one node)
@@ -229,27 +198,27 @@ module _ (net : Net) (own : List ℕ) (index : List (List ℕ)) (ix : IsIndexOf 
       (Decides-crowds_at one (Hexside link.side)) (Decides-crowds_at one link.other))))
       (Decides-is_crowded net own)
 
--- the centre of a link that is there, or none where it isn't
-pub adds_touched : (net : Net) (place : ℕ) (link : Link) (old new : List ℕ) → LinkAt net place link → AddsNode net link.other old new → AddsTouched net place old new
-adds_touched net place link old new at a = record {
-  ranked = a.ranked;
-  same = λ centre. (
-    λ c. elim ((a.same centre).0 c) [ inl was ↦ inl was | inr is ↦ inr (link, at, inr (sym is)) ],
-    λ d. (a.same centre).1 (elim d [
-      | inl was ↦ inl was
-      | inr touching ↦ elim touching.2 [
-        | inl is ↦ cc
-        | inr is ↦ let same : touching.0 ≡ link = (let e = touching.1 in cc) in inr (sym (is ∙ ap (λ (l : Link). l.other) same))
-      ]
-    ]),
-  );
-}
+  Decides-is_touched_on : (centre : ℕ) → Decides (is_touched_on net index centre) (IsTouched net own centre)
+  Decides-is_touched_on centre =
+      Decides-like (is_touched_on net index centre)
+      (λ found. (found.0, one_noted net own index ix (Centre centre) found.0 found.1, found.2))
+      (λ found. (found.0, noted_there net own index ix (Centre centre) found.0 found.1 found.2, found.2))
+      (Decides-list_any (λ link. touches net link (Centre centre)) (λ link. Touches net link (Centre centre)) (noted_at index (Centre centre))
+      (λ link c. Decides-touches net link (Centre centre)))
 
-pub adds_nothing : (net : Net) (place : ℕ) (old : List ℕ) → slice_get net.links place ≡ None → AddsTouched net place old old
-adds_nothing net place old at = record {
-  ranked = λ r. r;
-  same = λ centre. (λ c. inl c, λ d. elim d [ inl was ↦ was | inr touching ↦ let e = touching.1 in cc ]);
-}
+  -- a centre that one of the links touches is the end of a step
+  is_end : (steps : List Step) → ((step : Step) → Contains steps step ↔ HasStep net (length net.links) step) → (centre : ℕ) → IsTouched net own centre → EndsAtCentre steps centre
+  is_end steps all centre found =
+      let over = step_over net found.0 (Hexside found.2.0.side) (Centre centre) (found.2.0, found.2.1, elim found.2.2 [ inl is ↦ absurd (let e = is in cc) | inr is ↦ inl (refl, is) ]) in
+      (over.step, (all over.step).1 over.has, over.to_is)
+
+  -- of the ranked list of all centres those that the links touch are the ranked list of these
+  pub touched_ranked : (steps : List Step) (ranked : List ℕ) → ((step : Step) → Contains steps step ↔ HasStep net (length net.links) step)
+      → IsRankingOf net (λ centre. Contains net.tokens centre ⊎ EndsAtCentre steps centre) ranked
+      → IsRankingOf net (IsTouched net own) (filter (is_touched_on net index) ranked)
+  touched_ranked steps ranked all r =
+      filter_ranked net (λ centre. Contains net.tokens centre ⊎ EndsAtCentre steps centre) (IsTouched net own) (is_touched_on net index) ranked Decides-is_touched_on
+      (λ centre found. inr (is_end steps all centre found)) r
 
 pub Decides-is_over : (limit : CentreLimit) (count : ℕ) → Decides (is_over limit count) (IsWithin limit count → ⊥)
 Decides-is_over (AtMost most) count = Decides-like (ltb most count) (λ over within. omega arith) (λ never. below most count never) (Decides-ltb most count)

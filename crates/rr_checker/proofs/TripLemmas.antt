@@ -5,7 +5,7 @@ use Rattle.std.specs.List.{AllByRecursion, Contains, list_any, slice_get}
 use Rattle.std.proofs.lemmas.List.{take_more, take_all}
 use Rattle.std.proofs.lemmas.Bool.{cases_eq, cases_lt}
 use Rattle.std.proofs.lemmas.Bool.Decides.{Decides-eqb, Decides-ltb, Decides-like, Decides-not, Decides-and, Decides-or}
-use Rattle.std.proofs.lemmas.List.Elements.{Contains-push_cases, Contains-get_or}
+use Rattle.std.proofs.lemmas.List.Elements.{Contains-get_or}
 use Rattle.rr_routes.specs.declared.net.Node.{Node}
 use Rattle.rr_routes.specs.declared.net.Node.TheVariants.{Hexside, Centre}
 use Rattle.rr_routes.specs.declared.net.Link.{Link}
@@ -13,10 +13,11 @@ use Rattle.rr_routes.specs.declared.net.CentreLimit.{CentreLimit}
 use Rattle.rr_routes.specs.declared.net.CentreLimit.TheVariants.{AtMost, Unlimited}
 use Rattle.rr_routes.specs.Net.{Net, AreEnds, Joins, IsCentre, IsTerminal, IsWithin, HasToken}
 use Rattle.rr_routes.specs.Routes.{Passes, Walk, one_link, goes_on, NoneTwice, but_last, inner, last, EndsAreCentres, NoTerminalInside, Route, centres}
-use Rattle.rr_routes.proofs.Elements.{Contains-here, Contains-there, Contains-cases, Contains-nil}
+use Rattle.rr_routes.proofs.Elements.{Contains-cases, Contains-nil}
 use Rattle.rr_checker.specs.Steps.{same_node, has_token, is_terminal}
 use Rattle.rr_checker.specs.Own.{is_over}
 use Rattle.rr_checker.specs.Trips.{node_at, GoesAt, link_joins, joins, hexes_differ, passes_on, is_centre, IsWay, trip_over}
+use Rattle.rr_checker.proofs.RankLemmas.{NoneTwice-push}
 use Rattle.rr_checker.proofs.StepLemmas.{yes, no, Decides-never, Decides-always, Decides-same_node, Decides-list_any, Decides-has_token, Decides-is_terminal}
 use Rattle.rr_checker.proofs.OwnLemmas.{Decides-some_link, Decides-is_over}
 
@@ -70,17 +71,6 @@ module _ (net : Net) where
       goes_on link next links from to nodes first.joins (first.passes (omega arith))
       (walk_from (next ∷ links) (to ∷ nodes) (omega arith) (omega arith) (λ k less.
       let h = each (suc k) (omega arith) in record { joins = h.joins; passes = λ more. h.passes (omega arith) }))
-
--- nothing stands twice where nothing stands among those before it
-pub NoneTwice-push_node : (xs : List Node) (x : Node) → NoneTwice xs → (Contains xs x → ⊥) → NoneTwice (xs ++ x ∷ [])
-NoneTwice-push_node [] x none out = (λ c. Contains-nil x c, tt)
-NoneTwice-push_node (y ∷ ys) x none out = (
-  λ c. elim (Contains-push_cases ys x y c) [
-    | inl old ↦ none.0 old
-    | inr is ↦ out (subst (λ e. Contains (y ∷ ys) e) (sym is) (Contains-here y ys))
-  ],
-  NoneTwice-push_node ys x none.1 (λ c. out (Contains-there y ys x c)),
-)
 
 pub twice_before : (xs : List Node) (i : ℕ) (d : Node) → i < length xs → Contains (take i xs) (get_or xs i d) → NoneTwice xs → ⊥
 twice_before [] i d less c none = omega arith
@@ -144,7 +134,7 @@ Decides-has_node nodes node =
 module _ (nodes : List Node) where
   pub simple_next : (i : ℕ) → i < length nodes → NoneTwice (take i nodes) → list_any (λ other. same_node other (node_at nodes i)) (take i nodes) ≡ false → NoneTwice (take (i + 1) nodes)
   simple_next i less none fresh =
-      rw (take_more nodes i (Hexside 0) less) (NoneTwice-push_node (take i nodes) (node_at nodes i) none (no (Decides-has_node (take i nodes) (node_at nodes i)) fresh))
+      rw (take_more nodes i (Hexside 0) less) (NoneTwice-push (take i nodes) (node_at nodes i) none (no (Decides-has_node (take i nodes) (node_at nodes i)) fresh))
 
   pub simple_broken : (i : ℕ) → i < length nodes → list_any (λ other. same_node other (node_at nodes i)) (take i nodes) ≡ true → Decides false (NoneTwice nodes)
   simple_broken i less before = Decides-never (twice_before nodes i (Hexside 0) less (yes (Decides-has_node (take i nodes) (node_at nodes i)) before))

@@ -14,7 +14,7 @@ use Rattle.rr_routes.proofs.Reaching.{begins, continues, WalkTo-holds}
 use Rattle.rr_checker.specs.declared.step.Step.{Step}
 use Rattle.rr_checker.specs.Steps.{same_node, allows, has_token, is_terminal, HasStep, passes_at, goes_on}
 use Rattle.rr_routes.specs.Reachability.Places.{AreMarkedItems}
-use Rattle.rr_checker.specs.Searching.{AreEnds, AreTracks}
+use Rattle.rr_checker.specs.Searching.{AreEndMarks, AreEnds, AreTracks}
 use Rattle.rr_checker.proofs.StepLemmas.{yes, no, to_true, to_false, Decides-same_node, Decides-has_token, Decides-is_terminal, Decides-allows, Decides-passes, HasStep-Joins, step_over}
 
 parts : (a b c : Bool) → (not a && (b && c)) ≡ true → (a ≡ false) × (b ≡ true) × (c ≡ true)
@@ -130,16 +130,24 @@ module _ (net : Net) (fates : List Fate) (train : ℕ) where
         }
 
     -- the marked steps end where walks end
-    pub marked-ends : (marks : List Bool) (marked : List Step) → ((state : ℕ) → state < length graph → IsMarked marks state ↔ IsReachedWithin graph allowed starts state)
-        → AreMarkedItems steps marks (length steps) marked → AreEnds net (MayUse fates train) marked
-    marked-ends marks marked m a link node = (
+    pub end-marks : (marks : List Bool) → ((state : ℕ) → state < length graph → IsMarked marks state ↔ IsReachedWithin graph allowed starts state)
+        → AreEndMarks net (MayUse fates train) steps marks
+    end-marks marks m link node = (
       λ found.
           let step = found.0 in
-          let h = (a step).0 found.1 in
+          let h = found.1 in
           let walk = walk_from_reached step h.place ((m h.place (omega (arith, h.inside, s.rows.states))).0 h.marked) in
           subst (λ n. WalkTo net (MayUse fates train) link n) found.3 (subst (λ l. WalkTo net (MayUse fates train) l step.to) found.2
           (subst (λ (x : Step). WalkTo net (MayUse fates train) x.link x.to) h.here walk.1)),
       λ w.
           let h = WalkTo-holds net (MayUse fates train) IsReachedAt at_first at_next link node w in
-          (h.step, (a h.step).1 (record { place = h.place; inside = h.inside; here = h.here; marked = (m h.place (omega (arith, h.inside, s.rows.states))).1 h.reached }), h.link_is, h.to_is),
+          (h.step, record { place = h.place; inside = h.inside; here = h.here; marked = (m h.place (omega (arith, h.inside, s.rows.states))).1 h.reached }, h.link_is, h.to_is),
     )
+
+-- so do they as a list
+pub marked-ends : (net : Net) (MayUse : ℕ → Type 0) (steps : List Step) (marks : List Bool) (marked : List Step) → AreEndMarks net MayUse steps marks
+    → AreMarkedItems steps marks (length steps) marked → AreEnds net MayUse marked
+marked-ends net MayUse steps marks marked e a link node = (
+  λ found. (e link node).0 (found.0, (a found.0).0 found.1, found.2, found.3),
+  λ w. let h = (e link node).1 w in (h.0, (a h.0).1 h.1, h.2, h.3),
+)

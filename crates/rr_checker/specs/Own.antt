@@ -1,5 +1,5 @@
 -- The tests on the links that are a train's own.
-use Rattle.std.specs.Prelude.{◌≡◌, ℕ, ◌<◌, ◌==◌, ◌&&◌, ◌||◌, ◌⊎◌, ◌↔◌, not, nat_lt, Bool, true, false, Option, None, Some, List, AllPairs, Contains, length, slice_get, slice_index_or}
+use Rattle.std.specs.Prelude.{◌≡◌, ℕ, ◌<◌, ◌==◌, ◌&&◌, ◌||◌, ◌↔◌, not, nat_lt, Bool, true, false, Option, None, Some, List, AllPairs, Contains, length, slice_get, slice_index_or}
 use Rattle.std.specs.List.{list_any}
 use Rattle.rr_routes.specs.declared.net.Node.{Node}
 use Rattle.rr_routes.specs.declared.net.Node.TheVariants.{Hexside, Centre}
@@ -14,7 +14,6 @@ use Rattle.rr_routes.specs.Reachability.Reach.{IsMarked}
 use Rattle.rr_checker.specs.declared.step.Step.{Step}
 use Rattle.rr_checker.specs.Steps.{same_node}
 use Rattle.rr_checker.specs.Index.{noted_at}
-use Rattle.rr_checker.specs.Ranked.{IsRanked}
 
 -- the fate is that train
 abbrev pub is_of : ℕ → Fate → Bool
@@ -101,11 +100,6 @@ shares_side net others place = some_link (slice_get net.links place) (shares_end
 abbrev pub is_shared : Net → List ℕ → List ℕ → Bool
 is_shared net own others = list_any (shares_side net others) own
 
--- the centre that the link touches, if any, stands in the ranked list, beside those that did
-pub record AddsTouched (net : Net) (place : ℕ) (old new : List ℕ) : Type 0 where
-  pub ranked : IsRanked net old → IsRanked net new
-  pub same : (centre : ℕ) → Contains new centre ↔ (Contains old centre ⊎ Touches net place (Centre centre))
-
 -- a link of the list touches the centre
 abbrev pub IsTouched : Net → List ℕ → ℕ → Type 0
 IsTouched net own centre = (link : ℕ) × Contains own link × Touches net link (Centre centre)
@@ -123,3 +117,6 @@ shares_end_on net index link =
 
 abbrev pub is_shared_on : Net → List (List ℕ) → List ℕ → Bool
 is_shared_on net index own = list_any (λ place. some_link (slice_get net.links place) (shares_end_on net index)) own
+
+abbrev pub is_touched_on : Net → List (List ℕ) → ℕ → Bool
+is_touched_on net index centre = list_any (λ link. touches net link (Centre centre)) (noted_at index (Centre centre))

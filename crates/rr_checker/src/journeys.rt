@@ -120,7 +120,8 @@ fn is_missing(one: &[usize], other: &[usize]) -> bool
     one.iter().any(|x| !is_among(other, *x))
 }
 
-/// The centre at the end of the link that isn't its hexside; none where that is a hexside too, or there is no such link.
+/// The centre at the end of the link that isn't its hexside; none where that is a hexside too, or there is no such
+/// link.
 pub fn centre_at(net: &Net, link: usize) -> Option<usize>
     ensures { result ≡ centre_at (slice_get net.now.links link) }
 {

@@ -1,5 +1,5 @@
-//! Judges certificates: whether a tree of cases shows that no run of a net earns more than is claimed. What it tells of the
-//! parts of a route serves the judge of sheets too.
+//! Judges certificates: whether a tree of cases shows that no run of a net earns more than is claimed. What it tells of
+//! the parts of a route serves the judge of sheets too.
 //!
 //! Stands on `rr_routes`. Its promise: `check` is true exactly where the certificate is accepted.
 #![tactic(auto)]

@@ -1,16 +1,14 @@
 //! The links that are a train's own, and what they touch.
-ghost use Rattle.std.specs.Prelude.{◌≡◌, ◌||◌, IfOk, OnOk, length, slice_get};
+ghost use Rattle.std.specs.Prelude.{◌≡◌, ◌||◌, IfOk, length, slice_get};
 ghost use Rattle.std.specs.Bool.{Decides};
-ghost use Rattle.std.specs.List.{list_any};
-ghost use Rattle.rr_routes.specs.declared.net.Node.TheVariants.{Hexside};
+ghost use Rattle.std.specs.List.{filter, list_any};
+ghost use Rattle.rr_routes.specs.declared.net.Node.TheVariants.{Hexside, Centre};
 ghost use Rattle.rr_routes.specs.Net.{limit_of};
 ghost use Rattle.rr_routes.specs.Certificates.{IsBad};
-ghost use Rattle.rr_checker.specs.Ranked.{IsRankingOf};
 ghost use Rattle.rr_checker.specs.Searching.{IsTracksOf};
-ghost use Rattle.rr_checker.specs.Own.{AddsTouched, AreGoneOver, AreLinksWith, IsTouched, crowds, crowds_end_on, is_crowded_on, is_of, is_others, is_over, is_second, is_shared, is_shared_on, is_side_of, is_third, is_unreached, link_touches, shares_end, shares_end_on, shares_side, some_link, touches};
+ghost use Rattle.rr_checker.specs.Own.{AreGoneOver, AreLinksWith, crowds, crowds_end_on, is_crowded_on, is_of, is_others, is_over, is_second, is_shared, is_shared_on, is_side_of, is_third, is_touched_on, is_unreached, link_touches, shares_end, shares_end_on, shares_side, some_link, touches};
 ghost use Rattle.rr_checker.specs.Index.{noted_at};
 
-use crate::centres::add_node;
 use crate::index::{index_of_links, noted_at};
 use crate::railway::Net;
 use crate::reach::ends_of;
@@ -35,12 +33,12 @@ pub(crate) fn is_bad(
     let others = others_links(alloc, fates, train)?;
     let ends = ends_of(alloc, tracks, fates, train)?;
     let reached = gone_over(alloc, net, &ends)?;
-    let touched = touched_centres(alloc, net, &own)?;
     let own_index = index_of_links(alloc, net, &own)?;
     let others_index = index_of_links(alloc, net, &others)?;
+    let touched = touched_count(net, &own_index, &tracks.centres);
     let crowded = is_crowded_on(net, &own_index, &own);
     let shared = is_shared_on(net, &others_index, &own);
-    Ok(runs_badly(net, train, crowded, shared, &own, &reached, &touched))
+    Ok(runs_badly(net, train, crowded, shared, &own, &reached, touched))
 }
 
 fn runs_badly(
@@ -50,11 +48,11 @@ fn runs_badly(
     shared: bool,
     own: &[usize],
     reached: &[bool],
-    touched: &[usize],
+    touched: usize,
 ) -> bool
-    ensures { result ≡ (crowded || (is_over (limit_of net.now train) (length touched.now) || (is_unreached reached.now own.now || shared))) }
+    ensures { result ≡ (crowded || (is_over (limit_of net.now train) touched || (is_unreached reached.now own.now || shared))) }
 {
-    crowded || counts_fewer(net, train, touched.len()) || is_unreached(reached, own) || shared
+    crowded || counts_fewer(net, train, touched) || is_unreached(reached, own) || shared
 }
 
 /// The links that are the train's own, in order.
@@ -103,24 +101,29 @@ fn is_others(train: usize, fate: &Fate) -> bool
     }
 }
 
-// The centres that the links touch.
-fn touched_centres(alloc: Global, net: &Net, own: &[usize]) -> Result<Vec<usize>, AllocError>
-    ensures { IfOk result (λ touched. IsRankingOf net.now (IsTouched net.now own.now) touched.items) }
+// How many of the centres are touched by links of the list that the index has by their nodes.
+fn touched_count(net: &Net, index: &Index, centres: &[usize]) -> usize
+    ensures { result ≡ length (filter (is_touched_on net.now index.now) centres.now) }
 {
-    let mut touched = Vec::new(alloc);
-    for link in own {
-        add_touched(net, &mut touched, *link)?;
-    }
-    Ok(touched)
+    centres
+        .iter()
+        .filter(|centre| is_touched_on(net, index, **centre))
+        .count()
 }
 
-fn add_touched(net: &Net, touched: &mut Vec<usize>, place: usize) -> Result<(), AllocError>
-    ensures { OnOk result (AddsTouched net.now place touched.old.items touched.new.items) }
+fn is_touched_on(net: &Net, index: &Index, centre: usize) -> bool
+    ensures { result ≡ is_touched_on net.now index.now centre }
 {
-    match net.links().get(place) {
-        Some(link) => add_node(net, touched, &link.other),
-        None => Ok(()),
-    }
+    touches_one(net, noted_at(index, &Node::Centre(centre)), centre)
+}
+
+// Whether one of the links touches the centre.
+fn touches_one(net: &Net, links: &[usize], centre: usize) -> bool
+    ensures { result ≡ list_any (λ link. touches net.now link (Centre centre)) links.now }
+{
+    links
+        .iter()
+        .any(|link| touches(net, *link, &Node::Centre(centre)))
 }
 
 fn counts_fewer(net: &Net, train: usize, count: usize) -> bool

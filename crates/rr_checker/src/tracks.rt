@@ -3,8 +3,9 @@ ghost use Rattle.std.specs.Prelude.{◌≡◌, IfOk, length};
 ghost use Rattle.rr_routes.specs.Reachability.Index.{IsIndexOf};
 ghost use Rattle.rr_routes.specs.Reachability.Places.{ArePassing, ArePlaces, IsGraphOf};
 ghost use Rattle.rr_checker.specs.Steps.{follows, goes_on, has_token};
-ghost use Rattle.rr_checker.specs.Searching.{BeginsAt, IsTracksOf};
+ghost use Rattle.rr_checker.specs.Searching.{ArrivesAt, BeginsAt, IsTracksOf};
 
+use crate::centres::ranking;
 use crate::index::{node_key, noted_at};
 use crate::railway::Net;
 use crate::step::{Step, has_token, is_terminal, may_follow, steps_of};
@@ -20,6 +21,10 @@ pub(crate) struct Tracks {
     pub(crate) graph: Vec<Followers>,
     // The places of the steps by which a walk may begin.
     pub(crate) starts: Vec<usize>,
+    // The places of the steps, by the node where each ends.
+    pub(crate) arrivals: Index,
+    // The centres with a token and those where steps end, the greatest value first.
+    pub(crate) centres: Vec<usize>,
 }
 
 pub(crate) fn tracks_of(alloc: Global, net: &Net) -> Result<Tracks, AllocError>
@@ -28,10 +33,14 @@ pub(crate) fn tracks_of(alloc: Global, net: &Net) -> Result<Tracks, AllocError>
     let steps = steps_of(alloc, net)?;
     let graph = graph_of(alloc, net, &steps)?;
     let starts = starts_of(alloc, net, &steps)?;
+    let arrivals = arrivals_of(alloc, &steps)?;
+    let centres = ranking(alloc, net, &steps)?;
     Ok(Tracks {
         steps,
         graph,
         starts,
+        arrivals,
+        centres,
     })
 }
 
@@ -115,6 +124,17 @@ fn index_of(alloc: Global, steps: &[Step]) -> Result<Index, AllocError>
     let mut index = Index::with_rows(alloc, steps.len())?;
     for (place, step) in steps.iter().enumerate() {
         index.note(node_key(&step.from), place)?;
+    }
+    Ok(index)
+}
+
+// The places of the steps, by the node that each ends at.
+fn arrivals_of(alloc: Global, steps: &[Step]) -> Result<Index, AllocError>
+    ensures { IfOk result (λ index. IsIndexOf (ArrivesAt steps.now (length steps.now)) index) }
+{
+    let mut index = Index::with_rows(alloc, steps.len())?;
+    for (place, step) in steps.iter().enumerate() {
+        index.note(node_key(&step.to), place)?;
     }
     Ok(index)
 }

@@ -72,8 +72,8 @@ fn is_next(net: &Net, taken: &[usize], at: &Node, link: usize) -> bool
     touches(net, link, at) && !is_among(taken, link)
 }
 
-/// The node at the other end of the link, for one who comes from the given node; that node where the net has no such link.
-/// From a node that the link doesn't touch it gives its hexside.
+/// The node at the other end of the link, for one who comes from the given node; that node where the net has no such
+/// link. From a node that the link doesn't touch it gives its hexside.
 pub fn far_end(net: &Net, link: usize, at: &Node) -> Node
     ensures { result ≡ far_end (slice_get net.now.links link) at.now }
 {
@@ -127,7 +127,8 @@ pub fn centres_of(alloc: Global, nodes: &[Node]) -> Result<Vec<usize>, AllocErro
     Ok(counted)
 }
 
-fn push_centre(counted: &mut Vec<usize>, node: &Node) -> Result<(), AllocError>
+// Puts the node behind the centres, if it is one.
+pub(crate) fn push_centre(counted: &mut Vec<usize>, node: &Node) -> Result<(), AllocError>
     ensures { OnOk result (counted.new.items ≡ counted.old.items ++ centres (node.now ∷ [])) }
 {
     match node {
@@ -165,8 +166,8 @@ pub fn has_token_on(net: &Net, nodes: &[Node]) -> bool
     nodes.iter().any(|node| has_token(net, node))
 }
 
-/// Whether the links, one after the other, are a walk along the nodes: each joins two of them, none is followed by itself,
-/// and at a hexside the walk passes from one hex into the other. A walk has a link.
+/// Whether the links, one after the other, are a walk along the nodes: each joins two of them, none is followed by
+/// itself, and at a hexside the walk passes from one hex into the other. A walk has a link.
 pub fn is_walk(net: &Net, links: &[usize], nodes: &[Node]) -> bool
     ensures { Decides result (Walk net.now links.now nodes.now) }
 {

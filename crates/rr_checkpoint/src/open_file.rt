@@ -3,9 +3,9 @@ ghost use Rattle.rr_disk.specs.Disk as device;
 ghost use Rattle.rr_disk.specs.Disk.{counted};
 ghost use Rattle.rr_images.specs.Holding.{Holding, reached_of};
 ghost use Rattle.rr_images.specs.Progress.{IsPlan};
-ghost use Rattle.rr_pages.specs.Journal.Faults.{CountsFault, OnDeviceFault};
+ghost use Rattle.rr_pages.specs.Faults.{CountsFault, OnDeviceFault, OnlyHalf};
 ghost use Rattle.rr_pages.specs.Journal.Layout.{HasRoom};
-ghost use Rattle.rr_pages.specs.declared.journal.fault.Fault.TheVariants as journal;
+ghost use Rattle.rr_pages.specs.declared.fault.Fault.TheVariants as pages;
 ghost use Rattle.rr_pages.specs.FreePages.{coming_of};
 ghost use Rattle.rr_pages.specs.Sets.{Has};
 ghost use Rattle.rr_checkpoint.specs.Calls.{LeavesKept, LeavesEither, Renews, StaysTaken};
@@ -16,7 +16,7 @@ use crate::Place;
 use crate::checkpoint::{Checkpoint, Stage};
 use rr_disk::{Disk, Fault, write};
 use rr_images::Codec;
-use rr_pages::journal::{self, Half, RecordBuffer};
+use rr_pages::journal::{Half, RecordBuffer};
 use rr_pages::{FreePages, PAGE_BYTES, Roots, Taken, shut};
 use std::marker::PhantomData;
 
@@ -39,7 +39,7 @@ impl<C: Codec> OpenFile<C> {
         &mut self,
         disk: &mut D,
         line: &[u8],
-    ) -> Result<(), journal::Fault>
+    ) -> Result<(), rr_pages::Fault>
         requires some { 0 < length line.now }
         requires number { self.old.place.number < 2 ^ 63 }
 
@@ -50,11 +50,11 @@ impl<C: Codec> OpenFile<C> {
         ensures stops { D.Honest disk.new → (old new : C.codec.World) → C.codec.Takes line.now old new
             → (checkpoint : _) → CarriesWith C.codec self.old checkpoint (D.state disk.old) old
             → LeavesEither C.codec (D.past disk.old) (D.state disk.old) (D.past disk.new) (D.state disk.new) old new }
-        ensures full { IsErrOf result journal.HalfFull
+        ensures full { IsErrOf result pages.HalfFull
             ↔ (HasRoom self.old.place.half.next_slot (length line.now) → ⊥) }
-        ensures same { IsErrOf result journal.HalfFull → self.new ≡ self.old }
-        ensures no_call { IsErrOf result journal.HalfFull → disk.new ≡ disk.old }
-        ensures no_memory { IsErrOf result journal.OutOfMemory → ⊥ }
+        ensures same { IsErrOf result pages.HalfFull → self.new ≡ self.old }
+        ensures no_call { IsErrOf result pages.HalfFull → disk.new ≡ disk.old }
+        ensures only { OnlyHalf result }
         ensures number { OnOk result (self.new.place.number ≡ self.old.place.number + 1) }
         ensures begun { self.new.place.begun ≡ self.old.place.begun }
 
@@ -68,7 +68,7 @@ impl<C: Codec> OpenFile<C> {
         ensures works { D.Works disk.new → D.Works disk.old }
     {
         if !self.place.half.has_room(line.len()) {
-            return Err(journal::Fault::HalfFull);
+            return Err(rr_pages::Fault::HalfFull);
         }
         self.place
             .half

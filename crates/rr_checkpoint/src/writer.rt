@@ -7,9 +7,8 @@ ghost use Rattle.rr_images.specs.Calls.{TakesNewer};
 ghost use Rattle.rr_images.specs.Layout.{Layout};
 ghost use Rattle.rr_images.specs.Plans.{Draft, chains_of};
 ghost use Rattle.rr_images.specs.Progress.{Resting, IsBetween};
-ghost use Rattle.rr_pages.specs.Journal.Faults.{CountsFault, OnDeviceFault};
+ghost use Rattle.rr_pages.specs.Faults.{CountsFault, OnDeviceFault, OnlyHalf};
 ghost use Rattle.rr_pages.specs.Journal.Layout.{HasRoom};
-ghost use Rattle.rr_pages.specs.declared.journal.fault.Fault.TheVariants as journal;
 ghost use Rattle.rr_pages.specs.FreePages.{present_of, coming_of};
 ghost use Rattle.rr_pages.specs.Laying.{pages_for};
 ghost use Rattle.rr_pages.specs.Sets.{IsEmpty, TooFewFree, marked};
@@ -117,11 +116,7 @@ impl<C: Codec> Writer<C> {
     /// # Errors
     /// `HalfFull` where the half has no room for it; then no device call was made. After `Disk` the record is on the
     /// disk or not.
-    pub fn append<D: Disk>(
-        &mut self,
-        disk: &mut D,
-        line: &[u8],
-    ) -> Result<(), rr_pages::journal::Fault>
+    pub fn append<D: Disk>(&mut self, disk: &mut D, line: &[u8]) -> Result<(), rr_pages::Fault>
         requires some { 0 < length line.now }
         requires number { (place_of self.old).number < 2 ^ 63 }
 
@@ -137,11 +132,11 @@ impl<C: Codec> Writer<C> {
         ensures left { ticks_left_of self.new ≡ ticks_left_of self.old }
 
         // When each error comes.
-        ensures full { IsErrOf result journal.HalfFull
+        ensures full { IsErrOf result pages.HalfFull
             ↔ (HasRoom (place_of self.old).half.next_slot (length line.now) → ⊥) }
-        ensures same { IsErrOf result journal.HalfFull → self.new ≡ self.old }
-        ensures no_call { IsErrOf result journal.HalfFull → disk.new ≡ disk.old }
-        ensures no_memory { IsErrOf result journal.OutOfMemory → ⊥ }
+        ensures same { IsErrOf result pages.HalfFull → self.new ≡ self.old }
+        ensures no_call { IsErrOf result pages.HalfFull → disk.new ≡ disk.old }
+        ensures only { OnlyHalf result }
         ensures fault { CountsFault (D.fault_count disk.old) (D.fault_count disk.new) result }
         ensures device { OnDeviceFault result (D.Works disk.new → ⊥) }
 

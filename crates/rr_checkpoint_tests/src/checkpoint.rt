@@ -10,8 +10,8 @@ use rr_images::laws::{
     fresh_pages_are_written, kept_files_stand, made_plans_are_plans, records_are_appended,
     refused_files_stand_for_nothing, roots_are_read, roots_change_places,
 };
-use rr_pages::journal::{Fault, Half, HalfIndex, RecordBuffer};
-use rr_pages::{FreePages, FreshPage, PageSet, Root, Roots, Taken};
+use rr_pages::journal::{Half, HalfIndex, RecordBuffer};
+use rr_pages::{Fault, FreePages, FreshPage, ReachedPages, Root, Roots, Taken};
 use rr_reading::laws::{damaged_files_are_refused, held_files_stand};
 use std::alloc::{AllocError, Global};
 use std::test::Fail;
@@ -80,7 +80,7 @@ fn opened_as_begun(alloc: Global) -> Result<Writer<Lists>, AllocError> {
 }
 
 fn opened_at(alloc: Global, place: Place) -> Result<Writer<Lists>, AllocError> {
-    let mut reached = PageSet::new(alloc)?;
+    let mut reached = ReachedPages::new(alloc)?;
     reached.take(514);
     let free = FreePages::new(alloc, reached)?;
     let taken = Taken {
@@ -229,9 +229,9 @@ fn lay(
     writer: &mut Writer<Lists>,
     fresh: &mut Vec<FreshPage>,
     text: &[u8],
-) -> Result<u32, rr_pages::Fault> {
+) -> Result<u32, Fault> {
     if writer.ticks_left() > 0 {
-        return Err(rr_pages::Fault::OutOfMemory);
+        return Err(Fault::OutOfMemory);
     }
     writer.lay(alloc, fresh, text)
 }
@@ -244,20 +244,16 @@ fn keep_only(writer: &mut Writer<Lists>, page: u16) {
     }
 }
 
-fn plan(
-    alloc: Global,
-    writer: &mut Writer<Lists>,
-    fresh: Vec<FreshPage>,
-) -> Result<Plan, rr_pages::Fault> {
+fn plan(alloc: Global, writer: &mut Writer<Lists>, fresh: Vec<FreshPage>) -> Result<Plan, Fault> {
     let low = writer.place().number < 1 << 63 && writer.taken().root.number < (1 << 63) - 1;
     if writer.ticks_left() > 0 || !low {
-        return Err(rr_pages::Fault::OutOfMemory);
+        return Err(Fault::OutOfMemory);
     }
     writer.plan(alloc, fresh, b"directory")
 }
 
 // Lays a text, which is abandoned, and another one, and gives its page and the plan.
-fn laid(alloc: Global, writer: &mut Writer<Lists>) -> Result<(u32, Plan), rr_pages::Fault> {
+fn laid(alloc: Global, writer: &mut Writer<Lists>) -> Result<(u32, Plan), Fault> {
     let mut fresh = Vec::new(alloc);
     lay(alloc, writer, &mut fresh, b"lost")?;
     fresh.clear();
@@ -270,7 +266,7 @@ fn laid(alloc: Global, writer: &mut Writer<Lists>) -> Result<(u32, Plan), rr_pag
 // That page, how many pages are fresh, and the root's number, directory, half, first record, page count and version.
 type Planned = (u32, usize, (u64, u64, HalfIndex, u64, u64, u16));
 
-fn planned(alloc: Global) -> Result<Planned, rr_pages::Fault> {
+fn planned(alloc: Global) -> Result<Planned, Fault> {
     let mut writer = opened(alloc)?;
     let (page, plan) = laid(alloc, &mut writer)?;
     let root = plan.root;

@@ -1,8 +1,9 @@
 use crate::calls::{Bytes, in_memory, written};
-use rr_disk::{FaultyDisk, MemoryDisk};
+use rr_disk::{Disk, FaultyDisk, MemoryDisk};
 use rr_pages::Damage;
 use rr_pages::journal::RunEnd;
 use rr_reading::laws::files_have_one_answer;
+use rr_reading::lending::Commands;
 use rr_reading::{Contents, Fault, read_file};
 use std::alloc::Global;
 
@@ -68,18 +69,28 @@ pub(crate) fn has_texts(has: &Contents) -> bool {
         && has.texts.board.bytes.as_slice() == b"board".as_slice()
 }
 
-// Whether the directory and its only table have their bytes, and the pages 514 to 519 are reached.
-fn has_the_table(has: &Contents) -> bool {
-    match has.tables.as_slice() {
-        [table] => {
-            has.directory.bytes.as_slice() == DIRECTORY
-                && table.bytes.as_slice() == KEPT
-                && table.pages.as_slice() == [519].as_slice()
-                && has.reached.has(514)
-                && has.reached.has(519)
-                && !has.reached.has(513)
-                && !has.reached.has(520)
-        }
+// Whether the directory has its bytes, its only table the two commands, and the pages 514 to 519 are reached.
+fn has_the_table<D: Disk>(disk: &mut D, has: &mut Contents) -> bool {
+    has.directory.bytes.as_slice() == DIRECTORY
+        && has.reached.has(514)
+        && has.reached.has(519)
+        && !has.reached.has(513)
+        && !has.reached.has(520)
+        && keeps_both(disk, &mut has.tables)
+}
+
+fn keeps_both<D: Disk>(disk: &mut D, tables: &mut Commands) -> bool {
+    tables.turn_to(0);
+    tables.chain_count() == 1
+        && keeps(disk, tables, b"open a b")
+        && keeps(disk, tables, b"buy a")
+        && matches!(tables.next(disk), Ok(None))
+}
+
+// Whether the next command has these words.
+fn keeps<D: Disk>(disk: &mut D, tables: &mut Commands, words: &[u8]) -> bool {
+    match tables.next(disk) {
+        Ok(Some(next)) => next == words,
         _ => false,
     }
 }
@@ -90,10 +101,14 @@ fn front<'a>(all: &'a [Bytes<'a>], count: usize) -> &'a [Bytes<'a>] {
 
 // Whether an altered file has its texts and its table, and why the records of both halves end and how many there are.
 fn told(alloc: Global, alterations: &[Bytes]) -> Result<([bool; 2], [(RunEnd, usize); 2]), Fault> {
-    let has = read(alloc, alterations, u64::MAX)?;
+    let Ok(mut disk) = file(alloc, alterations, u64::MAX) else {
+        return Err(Fault::OutOfMemory);
+    };
+    let mut has = read_file(alloc, &mut disk)?;
     let near = (has.near.end, has.near.records.len());
     let far = (has.far.end, has.far.records.len());
-    Ok(([has_texts(&has), has_the_table(&has)], [near, far]))
+    let table = has_the_table(&mut disk, &mut has);
+    Ok(([has_texts(&has), table], [near, far]))
 }
 
 // Records of number 1 in slot 0 of half 0, and of number 2 in that of half 1; the root names the other half; and the
@@ -180,6 +195,22 @@ fn the_least_damage_is_told(rt: HostRuntime) {
 
 fn fault(alloc: Global, alterations: &[Bytes], calls: u64) -> Option<Fault> {
     read(alloc, alterations, calls).err()
+}
+
+// Three commands are stated to be kept, of which two are there: so much is known behind the read of the table's page.
+const ONE_TOO_MANY: [Bytes; 1] = [(2_105_422, b"\x03")];
+
+// The 14th call reads that page. Where it fails, the device did, and nothing is told of the table.
+#[test]
+fn a_failed_read_of_a_table_is_no_damage(rt: HostRuntime) {
+    let alloc = rt.alloc();
+    let told = [
+        fault(alloc, &[], 13),
+        fault(alloc, &ONE_TOO_MANY, 13),
+        fault(alloc, &ONE_TOO_MANY, 14),
+    ];
+    let device = Some(Fault::Disk(rr_disk::Fault::DeviceFailed));
+    assert!(rt; told == [device, device, Some(Fault::Damaged(Damage::Form))]);
 }
 
 fn is_told(alloc: Global, fault: Fault, text: &str) -> bool {

@@ -1,6 +1,6 @@
 -- What the program writes, and how it ends.
 use Rattle.std.specs.Prelude.{◌≡◌, ◌⊎◌, ◌+◌, ◌<◌, ◌≤◌, false, ℕ, List, [], length, Result, Ok, Err, codes}
-use Rattle.rr_disk.specs.Disk.{DiskState, counted}
+use Rattle.rr_disk.specs.Disk.{DiskState, counted, counted_by}
 use Rattle.rr_disk.specs.Moments.{EachImage, LeavesOnly}
 use Rattle.rr_kit.specs.declared.kit.Kit.{Kit}
 use Rattle.rr_kit.specs.Kits.{IsRightKit, KitTexts, SpellsKit}
@@ -13,8 +13,8 @@ use Rattle.rr_store.specs.declared.fault.Fault.TheVariants as T
 use Rattle.rr_store.specs.Allowing.{Between, FormatAllows}
 use Rattle.rr_store.specs.Fault.{CountsFailure, OnDevice}
 use Rattle.rr_store.specs.Files.{AreTablesOf}
-use Rattle.rr_store.specs.Formatting.{RefusesFormat}
-use Rattle.rr_store.specs.Holding.{Carries}
+use Rattle.rr_store.specs.Formatting.{format_writes, RefusesFormat}
+use Rattle.rr_store.specs.Holding.{Carries, GamesArePlayed}
 use Rattle.rr_store.specs.Opening.{IsNoVerdict, OpenAllows, Refuses}
 use Rattle.rr_store.specs.World.{World}
 use Rattle.rr_moderator.specs.declared.fault.Fault.{Fault}
@@ -47,13 +47,13 @@ abbrev pub IsTold : Summary → OutputState → OutputState → Ending → Type 
 IsTold summary before after ending = IsAcknowledged (summary_text summary) before after ending
 
 -- What a formatting does to a disk, however it ends: a stop at any moment of it leaves no store yet of an empty disk that was
--- none, or one that keeps these texts and no table; and it makes five writes and three syncs at most.
+-- none, or one that keeps these texts and no table; and it makes as many writes as that takes, and three syncs, at most.
 pub record MayFormat {D : Type 0} (Honest Works : D → Type 0) (state : D → DiskState) (past : D → List DiskState) (writes syncs : D → ℕ) (texts : KitTexts) (old new : D) : Type 0 where
   pub stops : Honest new → length (state old).content ≡ 0 → EachImage (state old) (λ image. Refuses image T.NotAStore)
       → LeavesOnly (past old) (state old) (past new) (state new) (λ image. Refuses image T.NotAStore ⊎ KeepsTables texts [] image)
   pub honest : Honest new → Honest old
   pub works : Works new → Works old
-  pub few_writes : writes new ≤ writes old + 5
+  pub few_writes : writes new ≤ writes old + format_writes texts
   pub few_syncs : syncs new ≤ syncs old + 3
 
 -- What a `format` over these texts does to a disk and a writer, and the status with which it ends. Where it isn't made, the
@@ -63,7 +63,7 @@ pub data Formats {D : Type 0} (Honest Works : D → Type 0) (state : D → DiskS
   Made : (ending : Ending) → MayFormat Honest Works state past writes syncs texts old new
       → IsRightKit texts → (Honest new → 0 < length (state old).content → ⊥)
       → (Honest new → FormatAllows texts (state old) (state new) (Ok tt))
-      → faults new ≡ faults old → writes new ≡ counted (counted (counted (counted (counted (writes old)))))
+      → faults new ≡ faults old → writes new ≡ counted_by (format_writes texts) (writes old)
       → IsAcknowledged (codes "ok\n") writer_old writer_new ending
       → Formats Honest Works state past faults writes syncs texts old new writer_old writer_new (status_of ending)
   Not_made : (fault : store.Fault) (ending : Ending) → MayFormat Honest Works state past writes syncs texts old new
@@ -82,7 +82,7 @@ ending_of (Err fault) = Faulted fault
 
 -- Why the tables that are served or told are those of the file: it stands for them, on an honest disk that was synced and not
 -- written, and that carries them where the file is one of ours; and of every disk they were played by the rules of a right
--- kit, it was synced once and not written, and the device hasn't failed.
+-- kit, in memory too, it was synced once and not written, and the device hasn't failed.
 pub record Begins {D : Type 0} (Honest Works : D → Type 0) (state : D → DiskState) (past : D → List DiskState) (faults writes syncs : D → ℕ) (old : D) (begun : Moderator D) : Type 0 where
   pub honest : Honest (disk_under begun) → Honest old
   pub works : Works (disk_under begun) → Works old
@@ -94,6 +94,7 @@ pub record Begins {D : Type 0} (Honest Works : D → Type 0) (state : D → Disk
   pub carries : Honest (disk_under begun) → (texts : KitTexts)
       → KeepsTables texts (held_of begun).tables (state old).content → Carries state (store_of begun) texts
   pub played : (texts : KitTexts) × SpellsKit texts (held_of begun).kit × AreTablesOf (held_of begun).kit (held_of begun).tables
+  pub each : GamesArePlayed (store_of begun)
   pub whole : (held_of begun).broken ≡ false
   pub no_fault : faults (disk_under begun) ≡ faults old
   pub no_write : writes (disk_under begun) ≡ writes old

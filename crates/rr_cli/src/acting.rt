@@ -14,9 +14,9 @@ use std::alloc::Global;
 
 /// Does what the plan asks, and gives the status with which the program ends, and the disk.
 ///
-/// `format` writes `ok` or its refusal. `serve` and `check` write a refusal where the file can't be opened; once it is open,
-/// `serve` writes replies alone, and `check` one line that tells how much the file holds. The texts are used by `format`
-/// alone, and the reader by `serve` alone.
+/// `format` writes `ok` or its refusal. `serve` and `check` write a refusal where the file can't be opened; once it is
+/// open, `serve` writes replies alone, and `check` one line that tells how much the file holds. The texts are used by
+/// `format` alone, and the reader by `serve` alone.
 pub fn act<D: Disk + Drop, I: Input, O: Output>(
     alloc: Global,
     plan: &Plan,

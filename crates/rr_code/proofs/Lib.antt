@@ -1,3 +1,4 @@
+pub mod ByteLemmas
 pub mod PlayersLemmas
 pub mod ReadingLemmas
 pub mod TextLemmas

@@ -68,18 +68,6 @@ record-only bytes words read of exact table r h = rw (exact, of, read_record_wor
 pub line-found : (bytes : List ℕ) (line : Line) → IsLine line → words_of bytes ≡ line_words line → SpellsLine bytes line
 line-found bytes line is_line words = record { is_line = is_line; spelled = line_of-words bytes (line_words line) words }
 
--- what stands behind the stamp
-pub unstamped-some : (bytes first rest : List ℕ) (stamp : ℕ) (table : List ℕ) (r : Request Command) → SpellsLine bytes (L.Request stamp table r) → words_of bytes ≡ first ∷ words_of rest → SpellsRecord rest table r
-unstamped-some bytes first rest stamp table r h cut =
-    let words : words_of bytes ≡ decimal stamp ∷ table ∷ request_words r = words_of-text bytes (L.Request stamp table r) h in
-    let behind : words_of rest ≡ table ∷ request_words r = cc in
-    record { name = h.is_line.1; request = h.is_line.2; spelled = line_of-words rest (table ∷ request_words r) behind }
-
-pub unstamped-none : (bytes first : List ℕ) (stamp : ℕ) (table : List ℕ) (r : Request Command) → SpellsLine bytes (L.Request stamp table r) → words_of bytes ≡ first ∷ [] → ⊥
-unstamped-none bytes first stamp table r h cut =
-    let words : words_of bytes ≡ decimal stamp ∷ table ∷ request_words r = words_of-text bytes (L.Request stamp table r) h in
-    cc
-
 -- a text has one meaning
 pub command-unique : (c d : Command) → IsCommand c → IsCommand d → text c ≡ text d → c ≡ d
 command-unique c d first second same =

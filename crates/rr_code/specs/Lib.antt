@@ -6,3 +6,4 @@ pub mod Request
 pub mod Reading
 pub mod Query
 pub mod Line
+pub mod Bytes

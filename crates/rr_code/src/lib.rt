@@ -1,10 +1,11 @@
 //! The lines that the moderator reads: one spelling for each request and each query.
 //!
-//! Stands on `rr_words`, `rr_roster`, `rr_turns` and `rr_orders`. Its promise: `Line::read` and `read_record` read
+//! Stands on `rr_spelling`, `rr_words`, `rr_roster`, `rr_turns` and `rr_orders`. Its promise: `Line::read` and `read_record` read
 //! exactly what is spelled, one text a line (`laws::one_spelling`).
 #![tactic(auto)]
 
 mod auction;
+mod bytes;
 mod command;
 mod fault;
 pub mod laws;
@@ -16,7 +17,7 @@ mod stock;
 
 pub use command::Command;
 pub use fault::Fault;
-pub use line::{Line, unstamped};
+pub use line::Line;
 pub use players::Players;
 pub use query::{Account, Owner, Query, TrainHolder};
 pub use request::{read_record, write_request};

@@ -1,10 +1,6 @@
-ghost use Rattle.std.specs.Prelude.{◌≡◌, ◌<◌, ◌≤◌, ◌^◌, ℕ, List, ◌∷◌, decimal, length, IfSome, MatchResult};
+ghost use Rattle.std.specs.Prelude.{◌≡◌, ◌<◌, ◌^◌, ◌∷◌, decimal, IfSome, MatchResult};
 ghost use Rattle.rr_code.specs.Line.{IsLine, SpellsLine, line_words, read_line_words, read_stamped};
-ghost use Rattle.rr_code.specs.Request.{SpellsRecord};
-ghost use Rattle.rr_code.specs.declared.command.Command.{Command as Played};
-ghost use Rattle.rr_turns.specs.declared.request.Request.{Request as Asked};
-ghost use Rattle.rr_words.specs.Line.{is_space, words_of};
-ghost use Rattle.std.specs.List.{after_first};
+ghost use Rattle.rr_words.specs.Line.{words_of};
 
 use crate::command::Command;
 use crate::fault::Fault;
@@ -13,7 +9,7 @@ use crate::request::request_named;
 use rr_orders::scan::{Words, next_table, read_corp};
 use rr_roster::Corp;
 use rr_turns::Request;
-use rr_words::{Name, number, split_word};
+use rr_words::{Name, number};
 
 /// A line that a user sends.
 #[derive(Debug, Drop, PartialEq, Eq)]
@@ -26,8 +22,8 @@ pub enum Line<'a> {
     },
     /// A question.
     Query(Query),
-    /// The best run of a corporation is to be found, and played as its run. No table keeps such a request, and no record
-    /// holds it: what is kept is the run.
+    /// The best run of a corporation is to be found, and played as its run. No table keeps such a request, and no
+    /// record holds it: what is kept is the run.
     Best {
         stamp: u64,
         table: Name,
@@ -83,16 +79,4 @@ fn read_stamped<'a>(stamp: u64, words: &mut Words<'a>) -> Option<Line<'a>>
         table,
         request,
     })
-}
-
-/// What stands behind a request's stamp, as it is journaled. A line of one word has nothing there.
-pub fn unstamped(line: &[u8]) -> &[u8]
-    ensures record { (stamp : ℕ) (table : List ℕ) (r : Asked Played) → SpellsLine line.now (Line.Request stamp table r) → SpellsRecord result.now table r }
-    ensures behind { result.now ≡ after_first is_space line.now }
-    ensures shorter { length result.now ≤ length line.now }
-{
-    match split_word(line) {
-        (_, Some(rest)) => rest,
-        (_, None) => &[],
-    }
 }

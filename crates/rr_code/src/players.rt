@@ -6,11 +6,14 @@ use rr_orders::scan::Words;
 use rr_words::Name;
 use std::marker::Model;
 
+/// The most players of a table.
+pub(crate) const MOST_PLAYERS: usize = 6;
+
 /// The players of a table, in seating order: 2 to 6 different names.
 #[derive(Clone, Copy, Debug, PartialEq, Eq)]
 pub struct Players {
-    names: [Name; 6],
-    count: usize,
+    pub(crate) names: [Name; MOST_PLAYERS],
+    pub(crate) count: usize,
 }
 
 impl Model for Players {
@@ -49,11 +52,11 @@ impl Players {
         ensures { SomeIff result (ArePlayers words.old) words.old }
     {
         let first = Name::player(words.next()?)?;
-        let mut names = [first; 6];
+        let mut names = [first; MOST_PLAYERS];
         let mut count = 1;
         while let Some(word) = words.next() {
             let name = Name::player(word)?;
-            if count == 6 {
+            if count == MOST_PLAYERS {
                 return None;
             }
             names[count] = name;
@@ -69,7 +72,7 @@ impl Players {
     }
 }
 
-fn all_different(names: &[Name]) -> bool
+pub(crate) fn all_different(names: &[Name]) -> bool
     ensures { result ≡ all_different names.now }
 {
     match names {

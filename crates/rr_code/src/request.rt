@@ -91,7 +91,8 @@ fn write_turn_words(head: &[u8], turn: u64, out: &mut Vec<u8>) -> Result<(), All
     write_number(turn, out)
 }
 
-/// Reads a journal's record: the name of a table, and the words of a request. The words of a run are lent from the record.
+/// Reads a journal's record: the name of a table, and the words of a request. The words of a run are lent from the
+/// record.
 ///
 /// # Errors
 /// `Malformed` where the bytes are no record's text.

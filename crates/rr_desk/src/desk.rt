@@ -1,4 +1,4 @@
-ghost use Rattle.std.specs.Prelude.{◌≡◌, [], ◌++◌, OnOk, OnErr, IfErr};
+ghost use Rattle.std.specs.Prelude.{◌≡◌, [], ◌++◌, IfOk, OnOk, OnErr, IfErr};
 ghost use Rattle.rr_books.specs.Book.{Book};
 ghost use Rattle.rr_desk.specs.Effects.{adds};
 ghost use Rattle.rr_desk.specs.Position.Position.{Fits, IsPositionOf};
@@ -7,13 +7,14 @@ ghost use Rattle.rr_desk.specs.Desk.{Holds, Takes};
 use crate::entries::Entries;
 use crate::position::Position;
 use rr_books::{Books, Entry, Refusal};
-use std::alloc::Global;
+use std::alloc::{AllocError, Global};
 use std::marker::Model;
 
 /// A working copy of a table's position, and the entries of the command under way.
 #[derive(Debug, Drop)]
 pub struct Desk {
-    position: Position,
+    // In a box: the one copy of a position that a command makes.
+    position: Box<Position>,
     entries: Entries,
 }
 
@@ -22,20 +23,24 @@ impl Model for Desk {
 
     ghost Value = { OnDesk };
 
-    ghost view = { λ d. record { position = d.position; entries = d.entries } };
+    ghost view = { λ d. record { position = d.position.value; entries = d.entries } };
 }
 
 impl Desk {
-    /// A desk with this position and no entry yet.
-    pub fn new(alloc: Global, position: Position) -> Desk
-        ensures position { result.position ≡ position }
-        ensures entries { result.entries ≡ [] }
-        ensures holds { (book : Book) → IsPositionOf book position → Holds book result }
+    /// A desk with a copy of this position and no entry yet.
+    ///
+    /// # Errors
+    ///
+    /// `AllocError` where there is no memory for the copy.
+    pub fn new(alloc: Global, position: &Position) -> Result<Desk, AllocError>
+        ensures position { IfOk result (λ desk. desk.position ≡ position.now) }
+        ensures entries { IfOk result (λ desk. desk.entries ≡ []) }
+        ensures holds { IfOk result (λ desk. (book : Book) → IsPositionOf book position.now → Holds book desk) }
     {
-        Desk {
-            position,
+        Ok(Desk {
+            position: Box::new(alloc, *position)?,
             entries: Entries::new(alloc),
-        }
+        })
     }
 
     /// The position with the entries so far.
@@ -71,16 +76,16 @@ impl Desk {
         ensures takes { OnOk result (Takes (adds entry) self.old self.new) }
         ensures err { OnErr result (self.new ≡ self.old) }
     {
-        let mut position = self.position;
-        position.follow(&entry)?;
-        self.entries.push(entry)?;
-        self.position = position;
+        // The room comes first: then nothing fails behind the position's step, and no position is copied.
+        self.entries.entries.reserve(1)?;
+        self.position.follow(&entry)?;
+        self.entries.entries.push(entry).unwrap();
         Ok(())
     }
 
     /// The position and the entries, once the command is worked out.
-    pub fn into_parts(self) -> (Position, Entries)
-        ensures position { result.0 ≡ self.position }
+    pub fn into_parts(self) -> (Box<Position>, Entries)
+        ensures position { result.0.value ≡ self.position }
         ensures entries { result.1 ≡ self.entries }
     {
         (self.position, self.entries)

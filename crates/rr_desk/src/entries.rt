@@ -8,7 +8,7 @@ use std::marker::Model;
 /// Entries, oldest first.
 #[derive(Debug, Drop)]
 pub struct Entries {
-    entries: Vec<Entry>,
+    pub(crate) entries: Vec<Entry>,
 }
 
 impl Model for Entries {

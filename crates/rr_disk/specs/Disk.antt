@@ -83,6 +83,11 @@ pub record IsAt (file : List ℕ) (at : ℕ) (bytes : List ℕ) : Type 0 where
 abbrev pub counted : ℕ → ℕ
 counted n = min (n + 1) (2 ^ 64 - 1)
 
+-- so many more, counted one by one
+unfoldable pub counted_by : ℕ → ℕ → ℕ
+counted_by zero n = n
+counted_by (suc more) n = counted (counted_by more n)
+
 -- a device call that fails does so by `DeviceFailed`, and it alone is counted
 abbrev pub CountsFault : {T : Type 0} → ℕ → ℕ → Result T Fault → Type 0
 CountsFault old new (Ok value) = new ≡ old

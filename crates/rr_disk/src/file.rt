@@ -209,7 +209,8 @@ impl<S: Start> Disk for FileDisk<S> {
         ensures refused { OnErr result (has_refused self.new ≡ true) }
     {
         self.syncs = self.syncs.saturating_add(1);
-        if self.file.sync_all().is_err() {
+        // It leaves out the file's times alone: a length that a write made greater is needed to read, and so kept.
+        if self.file.sync_data().is_err() {
             return Err(self.fails(true));
         }
         self.record.note(&[FileCall::Sync], &[]);

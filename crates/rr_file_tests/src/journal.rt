@@ -2,8 +2,9 @@ use crate::calls::{
     beneath, content, failing_after, failing_once, in_memory, stopped, sync, unsynced, write,
 };
 use rr_disk::{Disk, Kept, MemoryDisk};
+use rr_pages::Fault;
 use rr_pages::journal::{
-    Fault, Half, HalfIndex, RecordBuffer, RunEnd, Scanned, halves_have_one_run, scan,
+    Half, HalfIndex, RecordBuffer, RunEnd, Scanned, halves_have_one_run, scan,
 };
 use std::alloc::{AllocError, Global};
 use std::process::Abort;

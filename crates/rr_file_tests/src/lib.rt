@@ -10,4 +10,8 @@ mod disks;
 #[cfg(test)]
 mod journal;
 #[cfg(test)]
+mod lending;
+#[cfg(test)]
+mod page_set;
+#[cfg(test)]
 mod pages;

@@ -4,7 +4,7 @@ use crate::calls::{content, counts, in_memory, write};
 use rr_disk::MemoryDisk;
 use rr_pages::journal::HalfIndex;
 use rr_pages::{
-    Damage, Fault, FreePages, FreshPage, PageSet, ReadChain, Root, Roots, Taken, chain_read,
+    Damage, Fault, FreePages, FreshPage, ReachedPages, ReadChain, Root, Roots, Taken, chain_read,
     chain_write, laws, shut, take_root,
 };
 use std::alloc::Global;
@@ -23,14 +23,19 @@ fn blank(rt: &impl Abort, alloc: Global) -> MemoryDisk {
 
 // The calls below have almost no contracts, so that what a test does costs its proof little.
 
-fn place_of(page: u16) -> u64
+pub(crate) fn place_of(page: u16) -> u64
     ensures { result ≤ 4096 * 65535 }
 {
     4096 * u64::from(page)
 }
 
 // Writes the next page and the count of used bytes of a page.
-fn link(disk: &mut MemoryDisk, page: u16, next: u64, used: u16) -> Result<(), rr_disk::Fault> {
+pub(crate) fn link(
+    disk: &mut MemoryDisk,
+    page: u16,
+    next: u64,
+    used: u16,
+) -> Result<(), rr_disk::Fault> {
     write(disk, place_of(page), &next.to_be_bytes())?;
     write(disk, place_of(page) + 8, &used.to_be_bytes())?;
     Ok(())
@@ -42,7 +47,7 @@ fn read(
     head: u64,
     stated: Option<u32>,
 ) -> Result<ReadChain, Fault> {
-    let mut reached = PageSet::new(alloc)?;
+    let mut reached = ReachedPages::new(alloc)?;
     chain_read(alloc, disk, 516, &mut reached, head, stated)
 }
 
@@ -114,7 +119,7 @@ fn a_chain_has_its_stated_length(rt: HostRuntime) {
 fn what_was_laid_is_read(rt: HostRuntime) {
     let alloc = rt.alloc();
     let mut disk = blank(&rt, alloc);
-    let mut free = FreePages::new(alloc, PageSet::new(alloc).expect(&rt, "memory")).expect(
+    let mut free = FreePages::new(alloc, ReachedPages::new(alloc).expect(&rt, "memory")).expect(
         &rt, "memory",
     );
     let mut fresh = Vec::new(alloc);
@@ -156,7 +161,7 @@ fn the_root_that_was_written_last_is_taken(rt: HostRuntime) {
 // The first free page behind a page kept and one taken; once both are abandoned; once they are kept and taken anew, and
 // reclaimed; and once nothing is kept of them.
 fn free_in_turn(alloc: Global) -> Result<[Option<u32>; 4], Fault> {
-    let mut free = FreePages::new(alloc, PageSet::new(alloc)?)?;
+    let mut free = FreePages::new(alloc, ReachedPages::new(alloc)?)?;
     free.keep(514);
     free.take()?;
     let taken = free.first_free();

@@ -1,5 +1,5 @@
 -- The state of a table's game that takes one command more.
-use Rattle.std.proofs.Common.{◌≡◌, ◌+◌, true, List, [], ◌∷◌, ◌++◌, refl, sym, ap, ◌∙◌, subst, length, length-append, ℕ, Bool, Some}
+use Rattle.std.proofs.Common.{◌≡◌, ◌+◌, true, List, [], ◌∷◌, ◌++◌, refl, sym, ap, ◌∙◌, subst, length-append, ℕ, Some}
 use Rattle.std.proofs.lemmas.List.Sums.{fold-append}
 use Rattle.rr_code.specs.declared.command.Command.{Command}
 use Rattle.rr_code.specs.declared.command.Command.TheVariants.{Open, BuyPrivate, Bid, Pass, Par, BuyShare, Sell, Swap, Done, Order}
@@ -12,6 +12,8 @@ use Rattle.rr_rules.specs.State.{AtTable, GameState, IsStandingOf}
 use Rattle.rr_game.specs.Keeping.{IsGameOf}
 use Rattle.rr_game.specs.Names.{act_of}
 use Rattle.rr_game.specs.Play.{begins_with_opening, opened_state, play, played_on, players_of, state_with}
+use Rattle.rr_game.specs.Turning.{ends_turn}
+use Rattle.rr_turns.specs.Ends.{turn_ends}
 
 -- the commands are an opening and others
 pub record Opens (accepted : List Command) : Type 0 where
@@ -50,21 +52,31 @@ goes_on kit accepted c h =
     let o = opens accepted h in
     subst (λ (cs : List Command). GoesOn kit cs c) (sym o.split) (goes_on_from kit o.players o.others c)
 
-pub stepped : (kit : Kit) (accepted : List Command) (c : Command) (act : Act) (old new : Game) → IsGameOf kit accepted old → act_of old.players c ≡ Some act
-    → new.played ≡ old.played + 1 → new.players ≡ old.players
-    → IsStandingOf (state_after kit (play kit accepted) act) new.standing
-    → IsGameOf kit (accepted ++ c ∷ []) new
-stepped kit accepted c act old new h named more same standing =
+-- how a table stands behind the act that a command names
+pub stands : (kit : Kit) (accepted : List Command) (c : Command) (act : Act) (old : Game) (standing : AtTable) → IsGameOf kit accepted old → act_of old.players c ≡ Some act
+    → IsStandingOf (state_after kit (play kit accepted) act) standing
+    → IsStandingOf (play kit (accepted ++ c ∷ [])) standing
+stands kit accepted c act old standing h named stand =
     let on = goes_on kit accepted c h.opening in
     let state = play kit accepted in
     let by_name : state_with kit state (Some act) ≡ played_on kit (players_of accepted) state c =
     ap (state_with kit state) (sym named) ∙ ap (λ (ps : List (List ℕ)). played_on kit ps state c) h.players in
-    let P : GameState → Type 0 = λ s. IsStandingOf s new.standing in
+    let P : GameState → Type 0 = λ s. IsStandingOf s standing in
+    subst P (by_name ∙ sym on.state) stand
+
+pub stepped : (kit : Kit) (accepted : List Command) (c : Command) (old new : Game) → IsGameOf kit accepted old
+    → new.played ≡ old.played + 1 → new.players ≡ old.players
+    → IsStandingOf (play kit (accepted ++ c ∷ [])) new.standing
+    → new.ends ≡ turn_ends (ends_turn kit) (accepted ++ c ∷ [])
+    → IsGameOf kit (accepted ++ c ∷ []) new
+stepped kit accepted c old new h more same standing ends =
+    let on = goes_on kit accepted c h.opening in
     record {
       opening = on.opening;
       played = more ∙ ap (λ (n : ℕ). n + 1) h.played ∙ sym (length-append accepted (c ∷ []));
       players = same ∙ h.players ∙ sym on.players;
-      standing = subst P (by_name ∙ sym on.state) standing;
+      standing = standing;
+      ends = ends;
     }
 
 -- how a table stands that opens, by the roster that the kit lends

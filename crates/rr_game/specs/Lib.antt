@@ -1,8 +1,10 @@
 pub mod Names
 pub mod Verdict
 pub mod Play
-pub mod Keeping
 pub mod Queries
+pub mod Turning
+pub mod Keeping
 pub mod Laws
 pub mod Running
 pub mod History
+pub mod Parts

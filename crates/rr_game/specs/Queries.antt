@@ -1,5 +1,5 @@
 -- What a table's book says of its game.
-use Rattle.std.specs.Prelude.{ℕ, suc, ◌+◌, ◌*◌, ◌/◌, ℤ, pos, negsuc, ◌+ℤ◌, Bool, true, false, List, Option, None, Some, option_and_then, option_map, unwrap_or, sum_by, if◌then◌else◌}
+use Rattle.std.specs.Prelude.{ℕ, ◌+◌, ◌*◌, ◌/◌, ℤ, pos, ◌+ℤ◌, Bool, true, false, List, Option, None, Some, option_and_then, option_map, unwrap_or, sum_by, if◌then◌else◌}
 use Rattle.rr_roster.specs.declared.company.Corp.{Corp}
 use Rattle.rr_roster.specs.declared.company.Private.{Private}
 use Rattle.rr_roster.specs.Company.{corps, privates}

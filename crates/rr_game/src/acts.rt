@@ -17,13 +17,13 @@ use rr_orders::{CertificateWords, SheetWords};
 use std::alloc::Global;
 
 impl Game {
-    /// The command with seats in place of names. The words of a run take memory: they are copied only where the run comes
-    /// in its order.
+    /// The command with seats in place of names. The words of a run take memory: they are copied only where the run
+    /// comes in its order.
     ///
     /// # Errors
     ///
-    /// `WrongStep` for an opening; `NoSuchName` for a player who isn't at the table; what refuses a run before its words
-    /// are looked at; or `OutOfMemory`.
+    /// `WrongStep` for an opening; `NoSuchName` for a player who isn't at the table; what refuses a run before its
+    /// words are looked at; or `OutOfMemory`.
     pub(crate) fn act(&self, alloc: Global, kit: &Kit, command: &Command) -> Result<Act, Refusal>
         requires { amount_in command.now ≤ 10000000000 }
         ensures { MatchResult result

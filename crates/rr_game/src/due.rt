@@ -7,6 +7,7 @@ ghost use Rattle.rr_game.specs.Queries.{due, due_at, due_in_auction, due_in_oper
 
 use crate::game::Game;
 use rr_books::{Corp, Seat};
+use rr_desk::Position;
 use rr_kit::Kit;
 use rr_market::operations::{Stage, TurnStep};
 
@@ -57,8 +58,15 @@ impl Game {
     pub fn owes_par(&self) -> bool
         ensures { (book : Book) → IsPositionOf book self.now.standing.position → result ≡ owes_par book }
     {
-        is_par(rr_auction::Due::of(self.standing.position()))
+        owes_par(self.standing.position())
     }
+}
+
+/// Whether the B&O's par is due at this position.
+pub(crate) fn owes_par(position: &Position) -> bool
+    ensures { (book : Book) → IsPositionOf book position.now → result ≡ owes_par book }
+{
+    is_par(rr_auction::Due::of(position))
 }
 
 fn due_in_auction(due: rr_auction::Due) -> Due

@@ -1,8 +1,10 @@
 ghost use Rattle.std.specs.Prelude.{◌≡◌, ◌+◌, ◌<◌, ◌≤◌, ◌++◌, List, [], ◌∷◌, None, Some, IfOk, MatchResult};
+ghost use Rattle.std.proofs.Props.{props};
 ghost use Rattle.rr_turns.specs.declared.limits.TheConstants.{MOST_COMMANDS};
 ghost use Rattle.rr_rules.specs.State.{GameState, IsStandingOf};
 ghost use Rattle.rr_game.specs.Names.{amount_in};
 ghost use Rattle.rr_game.specs.Play.{play, players_of};
+ghost use Rattle.rr_game.specs.Turning.{AreWithin};
 ghost use Rattle.rr_game.specs.Verdict.{command_judgement, over_verdict};
 ghost use Rattle.rr_turns.specs.Judgement.{IsVerdict, MayFind};
 
@@ -10,16 +12,20 @@ use rr_books::Refusal;
 use rr_code::{Command, Players};
 use rr_kit::Kit;
 use rr_rules::Standing;
-use std::alloc::Global;
+use rr_turns::Ends;
+use std::alloc::{AllocError, Global};
 
-/// One table's game. It takes no memory, and `Copy` copies it. The kit is lent to each call: the one with which the
-/// table opened, always.
-#[derive(Clone, Copy, Debug)]
+/// One table's game. It is moved and not copied: its position is large, and in a box. The kit is lent to each call: the
+/// one with which the table opened, always.
+#[derive(Debug, Drop)]
 pub struct Game {
     pub(crate) players: Players,
     pub(crate) standing: Standing,
     /// The commands that were played, the opening among them.
     pub(crate) played: u32,
+    /// How many were played at the end of each turn.
+    pub(crate) ends: Ends,
+    ghost within: { AreWithin played ends } by { Prim.hlevel props },
 }
 
 impl Game {
@@ -27,16 +33,22 @@ impl Game {
     ghost use Rattle.rr_game.specs.Keeping.{IsGameOf};
 
     /// The game of a table that opens with these players.
-    pub fn open(players: Players, kit: &Kit) -> Game
-        ensures game { IsGameOf kit.now (Command.Open players ∷ []) result }
-        ensures played { result.played ≡ 1 }
+    ///
+    /// # Errors
+    ///
+    /// `AllocError` where there is no memory for its position.
+    pub fn open(alloc: Global, players: Players, kit: &Kit) -> Result<Game, AllocError>
+        ensures game { IfOk result (λ game. IsGameOf kit.now (Command.Open players ∷ []) game) }
+        ensures played { IfOk result (λ game. game.played ≡ 1) }
     {
         let count = players.as_slice().len() as u8;
-        Game {
+        let standing = Standing::open(alloc, count, kit.roster())?;
+        Ok(Game {
             players,
-            standing: Standing::open(count, kit.roster()),
+            standing,
             played: 1,
-        }
+            ends: Ends::opening(),
+        })
     }
 
     /// How many commands were played, the opening among them.
@@ -66,10 +78,12 @@ impl Game {
         self.judge_end(kit)?;
         let act = self.act(alloc, kit, command)?;
         let taken = self.standing.take(alloc, kit, &act)?;
+        let ends = self.ends_after(command, &taken.standing);
         Ok(Game {
             players: self.players,
             standing: taken.standing,
             played: self.played + 1,
+            ends,
         })
     }
 

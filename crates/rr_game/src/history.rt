@@ -5,8 +5,8 @@
 
 mod change;
 mod fault;
+mod kept;
 pub mod laws;
-mod playing;
 mod replaying;
 mod running;
 mod spelled;
@@ -15,6 +15,6 @@ mod table;
 
 pub use change::Change;
 pub use fault::Fault;
+pub use kept::KeptCommands;
 pub use rr_turns::Request;
-pub use spelled::Spelled;
 pub use table::Table;

@@ -10,8 +10,8 @@ use rr_rules::Standing;
 use std::alloc::Global;
 
 impl Game {
-    /// Whether the corporation may run now: what is asked of a run before its sheet and its certificate are looked at. It
-    /// takes no memory.
+    /// Whether the corporation may run now: what is asked of a run before its sheet and its certificate are looked at.
+    /// It takes no memory.
     ///
     /// # Errors
     ///

@@ -13,8 +13,8 @@ use rr_kit::Kit;
 use rr_words::Name;
 
 impl Game {
-    /// What the player is worth, in dollars: its cash, its shares at their market price, or nothing without one, and its
-    /// open privates at their face.
+    /// What the player is worth, in dollars: its cash, its shares at their market price, or nothing without one, and
+    /// its open privates at their face.
     ///
     /// # Errors
     ///

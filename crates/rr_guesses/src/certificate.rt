@@ -34,7 +34,10 @@ pub(crate) fn tree_for(
 ) -> Result<Option<CertTree>> {
     let plan = match is_planned {
         true => planned(tracks, claim)?,
-        false => Plan::new(tracks.alloc)?,
+        false => Some(Plan::new(tracks.alloc)?),
+    };
+    let Some(plan) = plan else {
+        return Ok(None);
     };
     let mut growth = Growth::new(tracks, claim, WEIGHTS, nodes)?;
     let root = Node {
@@ -76,8 +79,8 @@ fn denied_before(tracks: &Tracks, tree: CertTree, place: usize) -> Result<CertTr
     Ok(CertTree::Split(place, children))
 }
 
-// A node that the tree is grown from: the case of the plan, the track that was split last, and how many splits may stand
-// below.
+// A node that the tree is grown from: the case of the plan, the track that was split last, and how many splits may
+// stand below.
 #[derive(Clone, Copy)]
 struct Node {
     case: Option<usize>,
@@ -146,7 +149,8 @@ fn choice_at(place: usize) -> Fate {
     }
 }
 
-// The tree with what its level denies in front of it; the level is left. (Out of line: the recursion's frame stays small.)
+// The tree with what its level denies in front of it; the level is left. (Out of line: the recursion's frame stays
+// small.)
 #[inline(never)]
 fn left_level(tracks: &Tracks, growth: &mut Growth, tree: CertTree) -> Result<CertTree> {
     let mut tree = tree;

@@ -92,6 +92,14 @@ impl Tracks {
         self.ending(way ^ 1)
     }
 
+    // The hexside where the way ends.
+    pub(crate) fn side_at(&self, way: usize) -> Option<usize> {
+        match self.ways.get(way) {
+            Some(way) if way.stop.is_none() => Some(way.node),
+            Some(_) | None => None,
+        }
+    }
+
     // The centre where the way ends.
     pub(crate) fn stop_at(&self, way: usize) -> Option<&Stop> {
         let stop = self.ways.get(way)?.stop?;

@@ -39,41 +39,36 @@ struct Walker {
 
 // A token, and the paths from it, the best first.
 #[derive(Drop)]
-struct Hub {
+pub(crate) struct Hub {
     token: usize,
     arms: Vec<Arm>,
 }
 
 // A route as the paths that it goes over, back over the first to a token and on over the second, and what it earns.
 #[derive(Drop)]
-struct Draft<'a> {
-    back: &'a [usize],
-    on: &'a [usize],
-    worth: u64,
-}
-
-// A route: its tracks in order, the hexsides on it, and what it earns.
-#[derive(Drop)]
-pub(crate) struct Line {
-    pub(crate) tracks: Vec<usize>,
-    pub(crate) sides: Vec<usize>,
+pub(crate) struct Line<'a> {
+    pub(crate) back: &'a [usize],
+    pub(crate) on: &'a [usize],
     pub(crate) worth: u64,
 }
 
-// Routes of a train of the limit, the best first.
-pub(crate) fn lines_of(tracks: &Tracks, limit: &CentreLimit) -> Result<Vec<Line>> {
-    let hubs = hubs_of(tracks, limit)?;
-    let mut drafts = Vec::new(tracks.alloc);
-    for hub in &hubs {
-        add_drafts(tracks, limit, hub, &mut drafts)?;
+// Routes of a train of the limit over the paths from these tokens, the best first.
+pub(crate) fn lines_over<'a>(
+    tracks: &Tracks,
+    limit: &CentreLimit,
+    hubs: &'a [Hub],
+) -> Result<Vec<Line<'a>>> {
+    let mut lines = Vec::new(tracks.alloc);
+    for hub in hubs {
+        add_lines(tracks, limit, hub, &mut lines)?;
     }
-    drafts.sort_by_key(|draft| u64::MAX.saturating_sub(draft.worth))?;
-    drafts.truncate(LINES);
-    lines_over(tracks, &drafts)
+    lines.sort_by_key(|line| u64::MAX.saturating_sub(line.worth))?;
+    lines.truncate(LINES);
+    Ok(lines)
 }
 
 // The tokens, each with the paths that pass none of the earlier ones.
-fn hubs_of(tracks: &Tracks, limit: &CentreLimit) -> Result<Vec<Hub>> {
+pub(crate) fn hubs_of(tracks: &Tracks, limit: &CentreLimit) -> Result<Vec<Hub>> {
     let mut hubs = Vec::new(tracks.alloc);
     let mut earlier = vec![in tracks.alloc; false; tracks.ways.len()]?;
     for start in &tracks.starts {
@@ -87,27 +82,27 @@ fn hubs_of(tracks: &Tracks, limit: &CentreLimit) -> Result<Vec<Hub>> {
 }
 
 // Adds the routes over the token.
-fn add_drafts<'a>(
+fn add_lines<'a>(
     tracks: &Tracks,
     limit: &CentreLimit,
     hub: &'a Hub,
-    drafts: &mut Vec<Draft<'a>>,
+    lines: &mut Vec<Line<'a>>,
 ) -> Result<()> {
     let Some(stop) = tracks.stop_at(hub.token) else {
         return Ok(());
     };
-    add_single(stop.worth, &hub.arms, drafts)?;
+    add_single(stop.worth, &hub.arms, lines)?;
     if stop.is_terminal {
         return Ok(());
     }
     let joined = hub.arms.get(..JOINED).unwrap_or(&hub.arms);
-    add_paired(tracks, limit, stop.worth, joined, drafts)
+    add_paired(tracks, limit, stop.worth, joined, lines)
 }
 
 // Adds the routes of one path each.
-fn add_single<'a>(own: u64, arms: &'a [Arm], drafts: &mut Vec<Draft<'a>>) -> Result<()> {
+fn add_single<'a>(own: u64, arms: &'a [Arm], lines: &mut Vec<Line<'a>>) -> Result<()> {
     for arm in arms {
-        drafts.push(Draft {
+        lines.push(Line {
             back: &[],
             on: arm.ways.as_slice(),
             worth: own.saturating_add(arm.worth),
@@ -122,29 +117,32 @@ fn add_paired<'a>(
     limit: &CentreLimit,
     own: u64,
     arms: &'a [Arm],
-    drafts: &mut Vec<Draft<'a>>,
+    lines: &mut Vec<Line<'a>>,
 ) -> Result<()> {
+    let mut nodes = vec![in tracks.alloc; false; tracks.ways.len()]?;
     for (place, arm) in arms.iter().enumerate() {
-        add_pairs(tracks, limit, own, arm, &arms[..place], drafts)?;
+        mark_nodes(tracks, arm, true, &mut nodes);
+        add_pairs(tracks, limit, own, arm, &nodes, &arms[..place], lines)?;
+        mark_nodes(tracks, arm, false, &mut nodes);
     }
     Ok(())
 }
 
-// Adds the routes over the path and one of the others.
+// Adds the routes over the path, which has the marked nodes, and one of the others.
 fn add_pairs<'a>(
     tracks: &Tracks,
     limit: &CentreLimit,
     own: u64,
     arm: &'a Arm,
+    nodes: &[bool],
     others: &'a [Arm],
-    drafts: &mut Vec<Draft<'a>>,
+    lines: &mut Vec<Line<'a>>,
 ) -> Result<()> {
-    let nodes = nodes_of(tracks, arm)?;
     let worth = own.saturating_add(arm.worth);
     for other in others {
         let centres = arm.centres.saturating_add(other.centres);
-        if !has_counted(limit, centres) && !meets(tracks, &nodes, other) {
-            drafts.push(Draft {
+        if !has_counted(limit, centres) && !meets(tracks, nodes, other) {
+            lines.push(Line {
                 back: arm.ways.as_slice(),
                 on: other.ways.as_slice(),
                 worth: worth.saturating_add(other.worth),
@@ -154,13 +152,11 @@ fn add_pairs<'a>(
     Ok(())
 }
 
-// Marks of the nodes on the path.
-fn nodes_of(tracks: &Tracks, arm: &Arm) -> Result<Vec<bool>> {
-    let mut nodes = vec![in tracks.alloc; false; tracks.ways.len()]?;
+// Marks the nodes on the path, or takes their marks away.
+fn mark_nodes(tracks: &Tracks, arm: &Arm, mark: bool, nodes: &mut Vec<bool>) {
     for way in &arm.ways {
-        set_mark(&mut nodes, tracks.ending(*way), true);
+        set_mark(nodes, tracks.ending(*way), mark);
     }
-    Ok(nodes)
 }
 
 fn meets(tracks: &Tracks, nodes: &[bool], arm: &Arm) -> bool {
@@ -241,38 +237,21 @@ fn note(tracks: &Tracks, walker: &mut Walker) -> Result<()> {
     Ok(())
 }
 
-// The routes with their tracks, in the order of the drafts.
-fn lines_over(tracks: &Tracks, drafts: &[Draft]) -> Result<Vec<Line>> {
-    let mut lines = Vec::new(tracks.alloc);
-    for draft in drafts {
-        let line = line_over(tracks, draft)?;
-        lines.push(line)?;
+// The tracks of the route in order, in the direction that begins with the lower one.
+pub(crate) fn tracks_on(tracks: &Tracks, line: &Line) -> Result<Vec<usize>> {
+    let mut route = Vec::new(tracks.alloc);
+    add_tracks(line.back, &mut route)?;
+    route.reverse();
+    add_tracks(line.on, &mut route)?;
+    if route.last() < route.first() {
+        route.reverse();
     }
-    Ok(lines)
+    Ok(route)
 }
 
-// The route in the direction that begins with the lower track.
-fn line_over(tracks: &Tracks, draft: &Draft) -> Result<Line> {
-    let mut line = Line {
-        tracks: Vec::new(tracks.alloc),
-        sides: Vec::new(tracks.alloc),
-        worth: draft.worth,
-    };
-    add_ways(tracks, draft.back, &mut line)?;
-    line.tracks.reverse();
-    add_ways(tracks, draft.on, &mut line)?;
-    if line.tracks.last() < line.tracks.first() {
-        line.tracks.reverse();
-    }
-    Ok(line)
-}
-
-fn add_ways(tracks: &Tracks, ways: &[usize], line: &mut Line) -> Result<()> {
+fn add_tracks(ways: &[usize], route: &mut Vec<usize>) -> Result<()> {
     for way in ways {
-        line.tracks.push(*way / 2)?;
-        if tracks.stop_at(*way).is_none() {
-            line.sides.push(tracks.ending(*way))?;
-        }
+        route.push(*way / 2)?;
     }
     Ok(())
 }

@@ -1,6 +1,6 @@
 //! The best run of all trains over their routes.
 use crate::graph::{Result, Tracks, set_mark};
-use crate::routes::{Line, lines_of};
+use crate::routes::{Hub, Line, hubs_of, lines_over, tracks_on};
 use rr_roster::Kind;
 use rr_routes::reachability::is_marked;
 use rr_routes::sheets::{LinkNumbers, Sheet, TrainWord};
@@ -49,10 +49,16 @@ impl Trial {
         Ok(())
     }
 
-    fn has_room_for(&self, line: &Line) -> bool {
-        for side in &line.sides {
-            if is_marked(&self.taken, *side) {
-                return false;
+    fn has_room_for(&self, tracks: &Tracks, line: &Line) -> bool {
+        self.has_room_over(tracks, line.back) && self.has_room_over(tracks, line.on)
+    }
+
+    fn has_room_over(&self, tracks: &Tracks, ways: &[usize]) -> bool {
+        for way in ways {
+            if let Some(side) = tracks.side_at(*way) {
+                if is_marked(&self.taken, side) {
+                    return false;
+                }
             }
         }
         true
@@ -61,15 +67,32 @@ impl Trial {
 
 // The sheet of a run that earns much, and what it earns.
 pub(crate) fn good_sheet(tracks: &Tracks, kinds: &[Kind]) -> Result<(Sheet, u64)> {
-    let mut trains = Vec::new(tracks.alloc);
-    for limit in &tracks.limits {
-        let lines = lines_of(tracks, limit)?;
-        trains.push(lines)?;
-    }
+    let hubs = hubs_of_all(tracks)?;
+    let trains = lines_of_all(tracks, &hubs)?;
     let mut trial = Trial::new(tracks.alloc, tracks.ways.len(), TRIES)?;
-    improve(&trains, trains.len(), 0, &mut trial)?;
+    improve(tracks, &trains, trains.len(), 0, &mut trial)?;
     let sheet = written(tracks, &trains, kinds, &trial)?;
     Ok((sheet, trial.worth.unwrap_or(0)))
+}
+
+// For each train the tokens, with the paths from them.
+fn hubs_of_all(tracks: &Tracks) -> Result<Vec<Vec<Hub>>> {
+    let mut hubs = Vec::new(tracks.alloc);
+    for limit in &tracks.limits {
+        let own = hubs_of(tracks, limit)?;
+        hubs.push(own)?;
+    }
+    Ok(hubs)
+}
+
+// For each train its routes, the best first.
+fn lines_of_all<'a>(tracks: &Tracks, hubs: &'a [Vec<Hub>]) -> Result<Vec<Vec<Line<'a>>>> {
+    let mut trains = Vec::new(tracks.alloc);
+    for (limit, own) in tracks.limits.iter().zip(hubs) {
+        let lines = lines_over(tracks, limit, own)?;
+        trains.push(lines)?;
+    }
+    Ok(trains)
 }
 
 // The best run as a sheet.
@@ -85,13 +108,18 @@ fn written(tracks: &Tracks, trains: &[Vec<Line>], kinds: &[Kind], trial: &Trial)
     Ok(sheet)
 }
 
-fn picked(trains: &[Vec<Line>], train: usize, pick: Option<usize>) -> Option<&Line> {
+fn picked<'a, 'b>(
+    trains: &'a [Vec<Line<'b>>],
+    train: usize,
+    pick: Option<usize>,
+) -> Option<&'a Line<'b>> {
     trains.get(train)?.get(pick?)
 }
 
 fn numbers_of(tracks: &Tracks, line: &Line) -> Result<LinkNumbers> {
     let mut numbers = LinkNumbers::new(tracks.alloc);
-    for track in &line.tracks {
+    let route = tracks_on(tracks, line)?;
+    for track in &route {
         let place = tracks.place_of(*track) as u64;
         numbers.push(place.saturating_add(1))?;
     }
@@ -100,7 +128,13 @@ fn numbers_of(tracks: &Tracks, line: &Line) -> Result<LinkNumbers> {
 
 // Tries the routes of the first so many trains beside what is taken, and keeps the best run. `trains` has the routes of
 // each, the best first.
-fn improve(trains: &[Vec<Line>], left: usize, worth: u64, trial: &mut Trial) -> Result<()> {
+fn improve(
+    tracks: &Tracks,
+    trains: &[Vec<Line>],
+    left: usize,
+    worth: u64,
+    trial: &mut Trial,
+) -> Result<()> {
     if left == 0 {
         return trial.keep(worth);
     }
@@ -112,31 +146,32 @@ fn improve(trains: &[Vec<Line>], left: usize, worth: u64, trial: &mut Trial) -> 
                 break;
             }
             trial.tries = trial.tries.saturating_sub(1);
-            if trial.has_room_for(line) {
-                take(trial, line, place)?;
-                improve(trains, left - 1, most, trial)?;
-                give_back(trial, line);
+            if trial.has_room_for(tracks, line) {
+                trial.picks.push(Some(place))?;
+                mark_sides(tracks, line, true, trial);
+                improve(tracks, trains, left - 1, most, trial)?;
+                mark_sides(tracks, line, false, trial);
+                trial.picks.pop();
             }
         }
     }
     trial.picks.push(None)?;
-    improve(trains, left - 1, worth, trial)?;
+    improve(tracks, trains, left - 1, worth, trial)?;
     trial.picks.pop();
     Ok(())
 }
 
-fn take(trial: &mut Trial, line: &Line, place: usize) -> Result<()> {
-    trial.picks.push(Some(place))?;
-    for side in &line.sides {
-        set_mark(&mut trial.taken, *side, true);
-    }
-    Ok(())
+// Marks the hexsides on the route, or takes their marks away.
+fn mark_sides(tracks: &Tracks, line: &Line, mark: bool, trial: &mut Trial) {
+    mark_sides_over(tracks, line.back, mark, trial);
+    mark_sides_over(tracks, line.on, mark, trial);
 }
 
-fn give_back(trial: &mut Trial, line: &Line) {
-    trial.picks.pop();
-    for side in &line.sides {
-        set_mark(&mut trial.taken, *side, false);
+fn mark_sides_over(tracks: &Tracks, ways: &[usize], mark: bool, trial: &mut Trial) {
+    for way in ways {
+        if let Some(side) = tracks.side_at(*way) {
+            set_mark(&mut trial.taken, side, mark);
+        }
     }
 }
 

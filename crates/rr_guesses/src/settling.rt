@@ -37,17 +37,17 @@ struct Scene {
     holdings: Vec<Holding>,
 }
 
-// A plan of the splits that show that no run earns more than the claim.
-pub(crate) fn planned(tracks: &Tracks, claim: u64) -> Result<Plan> {
+// A plan of the splits that show that no run earns more than the claim; none on too many tracks.
+pub(crate) fn planned(tracks: &Tracks, claim: u64) -> Result<Option<Plan>> {
+    if tracks.count() > MOST_TRACKS {
+        return Ok(None);
+    }
     let mut growth = Growth::new(tracks, claim, WEIGHTS, 0)?;
     let mut plan = Plan::new(tracks.alloc)?;
-    if tracks.count() > MOST_TRACKS {
-        return Ok(plan);
-    }
     let promise = promise_of(tracks, &mut growth)?;
     let first = plan.add(tracks.alloc, None, 0, promise)?;
     settle(tracks, &mut growth, &mut plan, first, tracks.count())?;
-    Ok(plan)
+    Ok(Some(plan))
 }
 
 // Looks into the case, keeps its best split, and settles the cases below it.

@@ -28,8 +28,8 @@ impl Kit {
     ///
     /// The first text that is refused, in the order chart, roster, tiles, board, gives the fault: `BadChart` with the
     /// first wrong word; `BadRoster`, or `RosterRule` with the first rule broken; `BadManifest` and `BadBoard` with the
-    /// first wrong line. Any text of more than `TEXT_BYTES` bytes is refused. `OutOfMemory` may come at any text that is no
-    /// longer, and is ASCII, or UTF-8 as a roster's.
+    /// first wrong line. Any text of more than `TEXT_BYTES` bytes is refused. `OutOfMemory` may come at any text that
+    /// is no longer, and is ASCII, or UTF-8 as a roster's.
     pub fn read(
         alloc: Global,
         chart: &[u8],

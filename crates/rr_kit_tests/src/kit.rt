@@ -2,7 +2,6 @@
 use rr_kit::{Fault, Kit, laws};
 use rr_roster::Private;
 use std::alloc::Global;
-use std::test::Fail;
 
 const CHART: &[u8] = b"60y 67 71 76 82 90 100p\n";
 
@@ -24,46 +23,55 @@ train = [
  {name="6", price=630, count=2}, {name="D", price=1100, count=6, trade=800}]
 "#;
 
-#[test]
-fn a_kit_has_what_its_texts_spell(rt: HostRuntime) -> Result<(), Fail> {
-    let kit = Kit::read(rt.alloc(), CHART, ROSTER.as_bytes(), TILES, BOARD)?;
-    assert!(rt; kit.roster().face(Private::Sv) == 20);
-    assert!(rt; kit.chart().par_cells().len() == 1);
-    assert!(rt; kit.tiles().count(7) == Some(4));
-    assert!(rt; kit.board().hexes().len() == 1);
-    Ok(())
+// The calls below have no contracts and assert nothing, so that what a test does costs its proof little.
+
+/// What each of the kit's texts says first.
+fn has_its_texts(kit: &Kit) -> bool {
+    let face = kit.roster().face(Private::Sv);
+    let pars = kit.chart().par_cells().len();
+    let count = kit.tiles().count(7);
+    let hexes = kit.board().hexes().len();
+    face == 20 && pars == 1 && count == Some(4) && hexes == 1
 }
 
-/// Why the texts of a kit are refused.
-fn refusal(
+fn is_read(alloc: Global) -> bool {
+    match Kit::read(alloc, CHART, ROSTER.as_bytes(), TILES, BOARD) {
+        Ok(kit) => has_its_texts(&kit),
+        Err(_) => false,
+    }
+}
+
+#[test]
+fn a_kit_has_what_its_texts_spell(rt: HostRuntime) {
+    assert!(rt; is_read(rt.alloc()));
+}
+
+/// Whether the texts of a kit are refused for this.
+fn is_refused(
     alloc: Global,
     chart: &[u8],
     roster: &[u8],
     tiles: &[u8],
     board: &[u8],
-) -> Option<Fault> {
-    Kit::read(alloc, chart, roster, tiles, board).err()
+    fault: Fault,
+) -> bool {
+    Kit::read(alloc, chart, roster, tiles, board).err() == Some(fault)
+}
+
+fn are_refused(alloc: Global) -> [bool; 4] {
+    let roster = ROSTER.as_bytes();
+    let chart = Fault::BadChart { line: 0, word: 0 };
+    [
+        is_refused(alloc, b"100\n", b"x", b"x", b"x", chart),
+        is_refused(alloc, CHART, b"x", b"x", b"x", Fault::BadRoster),
+        is_refused(alloc, CHART, roster, b"x\n", b"x", Fault::BadManifest(1)),
+        is_refused(alloc, CHART, roster, b"", b"\nx\n", Fault::BadBoard(2)),
+    ]
 }
 
 #[test]
 fn the_first_wrong_text_is_told(rt: HostRuntime) {
-    let roster = ROSTER.as_bytes();
-    let wrong: [(&[u8], &[u8], &[u8], &[u8], Fault); 4] = [
-        (
-            b"100\n",
-            b"x",
-            b"x",
-            b"x",
-            Fault::BadChart { line: 0, word: 0 },
-        ),
-        (CHART, b"x", b"x", b"x", Fault::BadRoster),
-        (CHART, roster, b"x\n", b"x", Fault::BadManifest(1)),
-        (CHART, roster, b"", b"\nx\n", Fault::BadBoard(2)),
-    ];
-    for (chart, roster, tiles, board, fault) in wrong {
-        let told = refusal(rt.alloc(), chart, roster, tiles, board);
-        assert!(rt; told == Some(fault));
-    }
+    assert!(rt; are_refused(rt.alloc()) == [true; 4]);
     assert!(rt; Fault::BadBoard(2).number() == 7);
 }
 

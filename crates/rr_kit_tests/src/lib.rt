@@ -11,6 +11,8 @@ mod kit;
 #[cfg(test)]
 mod roster;
 #[cfg(test)]
+mod shown;
+#[cfg(test)]
 mod spelling;
 #[cfg(test)]
 mod tiles;

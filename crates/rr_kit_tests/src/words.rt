@@ -1,7 +1,26 @@
 //! Names, numbers, and lines and texts cut into words.
-use rr_words::{HexName, Name, laws, number, rows, small_number, split_word, words};
+use rr_words::{HexName, Name, Row, laws, number, rows, small_number, split_word, words};
 use std::alloc::Global;
-use std::test::Fail;
+
+// The calls below have no contracts and assert nothing, so that what a test does costs its proof little.
+
+/// A word, and whether it names a table and a player.
+static NAMES: [(&str, bool, bool); 14] = [
+    ("a", true, true),
+    ("game7", true, true),
+    ("abcdefghijkl", true, true),
+    ("banks", true, true),
+    ("abcdefghijklm", true, false),
+    ("abcdefghijklmnop", true, false),
+    ("bank", true, false),
+    ("offer", true, false),
+    ("pool", true, false),
+    ("abcdefghijklmnopq", false, false),
+    ("7a", false, false),
+    ("Ann", false, false),
+    ("an-n", false, false),
+    ("", false, false),
+];
 
 fn is_table(word: &str) -> bool {
     Name::table(word.as_bytes()).is_some()
@@ -11,163 +30,198 @@ fn is_player(word: &str) -> bool {
     Name::player(word.as_bytes()).is_some()
 }
 
-/// The first of the words that names a table, or a player, otherwise than is said.
-fn first_other_name<'a>(words: &[&'a str], table: bool, player: bool) -> Option<&'a str> {
-    for word in words {
-        if is_table(*word) != table || is_player(*word) != player {
-            return Some(*word);
+/// Whether each of the words names a table, or a player, as is said.
+fn are_names(words: &[(&str, bool, bool)]) -> bool {
+    for (word, table, player) in words {
+        if is_table(*word) != *table || is_player(*word) != *player {
+            return false;
         }
     }
-    None
+    true
 }
 
 #[test]
 fn reads_names(rt: HostRuntime) {
-    let both = ["a", "game7", "abcdefghijkl", "banks"];
-    assert!(rt; first_other_name(&both, true, true).is_none());
-    let tables = ["abcdefghijklm", "abcdefghijklmnop", "bank", "offer", "pool"];
-    assert!(rt; first_other_name(&tables, true, false).is_none());
-    let neither = ["abcdefghijklmnopq", "7a", "Ann", "an-n", ""];
-    assert!(rt; first_other_name(&neither, false, false).is_none());
+    assert!(rt; are_names(&NAMES));
 }
 
-#[test]
-fn compares_names(rt: HostRuntime) -> Result<(), Fail> {
-    let name = Name::player(b"ann").ok_or("a name")?;
-    assert!(rt; name.as_bytes() == b"ann".as_slice());
-    assert!(rt; name == Name::table(b"ann").ok_or("a name")?);
-    assert!(rt; name != Name::table(b"anna").ok_or("a name")?);
-    Ok(())
+/// Whether the words name the same, the first one a player and the other one a table.
+fn is_same_name(player: &[u8], table: &[u8]) -> Option<bool> {
+    Some(Name::player(player)? == Name::table(table)?)
 }
 
-fn is_hex(word: &str) -> bool {
-    HexName::read(word.as_bytes()).is_some()
-}
-
-/// Whether the word is read, and its bytes are held.
-fn is_held_hex(word: &str) -> bool {
-    match HexName::read(word.as_bytes()) {
-        Some(hex) => hex.as_bytes() == word.as_bytes(),
+fn keeps_its_bytes(player: &[u8]) -> bool {
+    match Name::player(player) {
+        Some(name) => name.as_bytes() == player,
         None => false,
     }
 }
 
 #[test]
-fn reads_names_of_hexes(rt: HostRuntime) {
-    assert!(rt; is_held_hex("B10"));
-    assert!(rt; is_held_hex("H"));
-    assert!(rt; is_held_hex("7"));
-    assert!(rt; is_held_hex("ABC4"));
-    assert!(rt; !is_hex("ABCD5"));
-    assert!(rt; !is_hex("b10"));
-    assert!(rt; !is_hex(""));
+fn compares_names(rt: HostRuntime) {
+    let same = is_same_name(b"ann", b"ann") == Some(true);
+    let other = is_same_name(b"ann", b"anna") == Some(false);
+    assert!(rt; same && other && keeps_its_bytes(b"ann"));
 }
 
-fn value(word: &str) -> Option<u64> {
-    number(word.as_bytes())
+/// A word, and whether it names a hex.
+static HEXES: [(&str, bool); 7] = [
+    ("B10", true),
+    ("H", true),
+    ("7", true),
+    ("ABC4", true),
+    ("ABCD5", false),
+    ("b10", false),
+    ("", false),
+];
+
+/// Whether the word names a hex as is said, and its bytes are held if it does.
+fn is_hex(word: &str, is_read: bool) -> bool {
+    match HexName::read(word.as_bytes()) {
+        Some(hex) => is_read && hex.as_bytes() == word.as_bytes(),
+        None => !is_read,
+    }
 }
 
-/// The first of the words that is read as another number.
-fn first_other_number<'a>(numbers: &[(&'a str, Option<u64>)]) -> Option<&'a str> {
-    for (word, want) in numbers {
-        if value(*word) != *want {
-            return Some(*word);
+fn are_hexes(words: &[(&str, bool)]) -> bool {
+    for (word, is_read) in words {
+        if !is_hex(*word, *is_read) {
+            return false;
         }
     }
-    None
+    true
+}
+
+#[test]
+fn reads_names_of_hexes(rt: HostRuntime) {
+    assert!(rt; are_hexes(&HEXES));
+}
+
+static NUMBERS: [(&str, Option<u64>); 11] = [
+    ("0", Some(0)),
+    ("7", Some(7)),
+    ("1830", Some(1830)),
+    ("9999999999", Some(9_999_999_999)),
+    ("10000000000", None),
+    ("00", None),
+    ("07", None),
+    ("", None),
+    ("-1", None),
+    ("+1", None),
+    ("1x", None),
+];
+
+/// Numbers from 5 to 10.
+static SMALL_NUMBERS: [(&str, Option<u16>); 5] = [
+    ("5", Some(5)),
+    ("10", Some(10)),
+    ("4", None),
+    ("11", None),
+    ("65546", None),
+];
+
+/// Whether each of the words is read as its number.
+fn are_numbers(words: &[(&str, Option<u64>)]) -> bool {
+    for (word, wanted) in words {
+        if number(word.as_bytes()) != *wanted {
+            return false;
+        }
+    }
+    true
+}
+
+fn are_small_numbers(words: &[(&str, Option<u16>)]) -> bool {
+    for (word, wanted) in words {
+        if small_number(word.as_bytes(), 5, 10) != *wanted {
+            return false;
+        }
+    }
+    true
 }
 
 #[test]
 fn reads_numbers(rt: HostRuntime) {
-    let numbers = [
-        ("0", Some(0)),
-        ("7", Some(7)),
-        ("1830", Some(1830)),
-        ("9999999999", Some(9_999_999_999)),
-        ("10000000000", None),
-        ("00", None),
-        ("07", None),
-        ("", None),
-        ("-1", None),
-        ("+1", None),
-        ("1x", None),
-    ];
-    assert!(rt; first_other_number(&numbers).is_none());
-}
-
-fn small_value(word: &str) -> Option<u16> {
-    small_number(word.as_bytes(), 5, 10)
+    assert!(rt; are_numbers(&NUMBERS));
 }
 
 #[test]
 fn reads_small_numbers(rt: HostRuntime) {
-    assert!(rt; small_value("5") == Some(5));
-    assert!(rt; small_value("10") == Some(10));
-    assert!(rt; small_value("4").is_none());
-    assert!(rt; small_value("11").is_none());
-    assert!(rt; small_value("65546").is_none());
+    assert!(rt; are_small_numbers(&SMALL_NUMBERS));
 }
 
-/// Adds the words, each behind a bar.
-fn tell(told: &mut String, words: &[&[u8]]) -> Result<(), Fail> {
-    for word in words {
-        told.push('|')?;
-        for byte in *word {
-            told.push(char::from(*byte))?;
+fn are_words(found: &[&[u8]], wanted: &[&str]) -> bool {
+    for (word, text) in found.iter().zip(wanted) {
+        if *word != text.as_bytes() {
+            return false;
         }
     }
-    Ok(())
+    found.len() == wanted.len()
 }
 
-/// The words of a line, each behind a bar.
-fn told_words(alloc: Global, line: &str) -> Result<String, Fail> {
-    let mut told = String::new(alloc);
-    let cut = words(alloc, line.as_bytes())?;
-    tell(&mut told, &cut)?;
-    Ok(told)
-}
+static LINE: [&str; 5] = ["1", "t", "bid", "", "CA"];
 
-#[test]
-fn cuts_lines(rt: HostRuntime) -> Result<(), Fail> {
-    for (line, want) in [("1 t bid  CA", "|1|t|bid||CA"), ("", "|")] {
-        let told = told_words(rt.alloc(), line)?;
-        assert!(rt; told.as_str() == want);
+/// Whether the line is cut into these words.
+fn is_cut(alloc: Global, line: &str, wanted: &[&str]) -> bool {
+    match words(alloc, line.as_bytes()) {
+        Ok(found) => are_words(&found, wanted),
+        Err(_) => false,
     }
-    Ok(())
 }
 
 #[test]
-fn splits_lines(rt: HostRuntime) -> Result<(), Fail> {
-    let (first, rest) = split_word(b"bid CA 45");
-    assert!(rt; first == b"bid".as_slice());
-    assert!(rt; rest.ok_or("a rest")? == b"CA 45".as_slice());
-    let (only, none) = split_word(b"done");
-    assert!(rt; only == b"done".as_slice());
-    assert!(rt; none.is_none());
-    Ok(())
+fn cuts_lines(rt: HostRuntime) {
+    let cut = is_cut(rt.alloc(), "1 t bid  CA", &LINE);
+    assert!(rt; cut && is_cut(rt.alloc(), "", &[""]));
 }
 
-/// The rows of the text, each as its number and its words.
-fn told_rows(alloc: Global, text: &str) -> Result<Option<String>, Fail> {
-    let Some(read) = rows(alloc, text)? else {
-        return Ok(None);
-    };
-    let mut told = String::new(alloc);
-    for row in &read {
-        let number = format!(in alloc; "{} ", row.number)?;
-        told.push_str(number.as_str())?;
-        tell(&mut told, &row.words)?;
+/// Whether the line is split into its first word and this rest.
+fn is_split(line: &[u8], first: &[u8], rest: Option<&[u8]>) -> bool {
+    let (word, left) = split_word(line);
+    word == first && left == rest
+}
+
+#[test]
+fn splits_lines(rt: HostRuntime) {
+    let split = is_split(b"bid CA 45", b"bid", Some(b"CA 45"));
+    assert!(rt; split && is_split(b"done", b"done", None));
+}
+
+/// The numbers and the words of rows.
+static ROWS: [(usize, &[&str]); 2] = [
+    (3, &["hex", "A", "0,0", "white"]),
+    (5, &["block", "CS", "A"]),
+];
+
+fn are_rows(found: &[Row], wanted: &[(usize, &[&str])]) -> bool {
+    for (row, (number, words)) in found.iter().zip(wanted) {
+        if row.number != *number || !are_words(&row.words, *words) {
+            return false;
+        }
     }
-    Ok(Some(told))
+    found.len() == wanted.len()
+}
+
+/// Whether the text has these rows.
+fn has_rows(alloc: Global, text: &str, wanted: &[(usize, &[&str])]) -> bool {
+    match rows(alloc, text) {
+        Ok(Some(found)) => are_rows(&found, wanted),
+        _ => false,
+    }
+}
+
+/// Whether the text is refused, as one of other bytes is.
+fn has_none(alloc: Global, text: &str) -> bool {
+    match rows(alloc, text) {
+        Ok(found) => found.is_none(),
+        Err(_) => false,
+    }
 }
 
 #[test]
-fn reads_rows(rt: HostRuntime) -> Result<(), Fail> {
+fn reads_rows(rt: HostRuntime) {
     let text = "# a board\r\n\nhex A  0,0 white\r\n   \n block CS A";
-    let told = told_rows(rt.alloc(), text)?.ok_or("rows")?;
-    assert!(rt; told.as_str() == "3 |hex|A|0,0|white5 |block|CS|A");
-    assert!(rt; told_rows(rt.alloc(), "hex é")?.is_none());
-    Ok(())
+    let read = has_rows(rt.alloc(), text, &ROWS);
+    assert!(rt; read && has_none(rt.alloc(), "hex é"));
 }
 
 #[test]

@@ -1,7 +1,7 @@
 //! The laws that every table is sound, whatever commands it accepted, that each run paid as best was best, that each
-//! command has a verdict, and that the phase is the greatest kind of which a train was ever sold. Its modules have laws on
-//! commands of stock rounds (`sequence`), on the auction and the stock rounds behind it (`soundness`), and on corporations'
-//! turns (`turns`).
+//! command has a verdict, and that the phase is the greatest kind of which a train was ever sold. Its modules have laws
+//! on commands of stock rounds (`sequence`), on the auction and the stock rounds behind it (`soundness`), and on
+//! corporations' turns (`turns`).
 //!
 //! Stands on `rr_game`, the rules and `rr_referee`; nothing of the program stands on it. Its promises: `sound`,
 //! `best_runs_were_best`, `each_command_has_a_verdict` and `phases_are_greatest_sold`.
@@ -19,8 +19,8 @@ ghost use Rattle.rr_laws.specs.Verdicts.{EachCommandHasAVerdict, NoRuleWantsMemo
 
 /// Whatever two to six players open a table, with a kit whose roster names each corporation, and whatever commands it
 /// accepts then, bank, seats and corporations have together what the bank began with and only the bank may have less
-/// than nothing, each certificate has a place of the table, each 20% certificate is in the offering or with a player than
-/// whom no other has more of the corporation, and the pool has at most half of each.
+/// than nothing, each certificate has a place of the table, each 20% certificate is in the offering or with a player
+/// than whom no other has more of the corporation, and the pool has at most half of each.
 pub fn sound()
     ensures { TablesStaySound }
 {
@@ -48,8 +48,8 @@ pub fn plays_go_on()
     ensures { PlaysGoOn }
 {}
 
-/// Each command has a verdict, whatever the kit, the players and the state of the table are, and only one: it is lawful,
-/// or it is refused with one fault, which is never want of memory. It can't be that it is neither.
+/// Each command has a verdict, whatever the kit, the players and the state of the table are, and only one: it is
+/// lawful, or it is refused with one fault, which is never want of memory. It can't be that it is neither.
 pub fn each_command_has_a_verdict()
     ensures some { EachCommandHasAVerdict }
     ensures one { CommandsHaveOneVerdict }

@@ -57,8 +57,8 @@ pub fn judge_lay(
 ///
 /// # Errors
 ///
-/// `OutOfMemory`, also where `rr_desk::layout::MOST_LAYS` tiles were laid already; the desk may have some of the entries
-/// then.
+/// `OutOfMemory`, also where `rr_desk::layout::MOST_LAYS` tiles were laid already; the desk may have some of the
+/// entries then.
 pub fn play_lay(kit: &Kit, desk: &mut Desk, corp: Corp, lay: &Lay) -> Result<(), Refusal>
     ensures fault { IfErr result (λ fault. fault ≡ B.OutOfMemory) }
     ensures takes { OnOk result (Takes (lays_tile kit.now.board corp lay.now) desk.old desk.new) }

@@ -4,7 +4,13 @@
 #[cfg(test)]
 mod code;
 #[cfg(test)]
+mod ends;
+#[cfg(test)]
+mod kept_words;
+#[cfg(test)]
 mod orders;
+#[cfg(test)]
+mod players;
 #[cfg(test)]
 mod scan;
 #[cfg(test)]

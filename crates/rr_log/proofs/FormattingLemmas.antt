@@ -4,5 +4,6 @@ pub mod Holding
 pub mod Blank
 pub mod NewBytes
 pub mod Kept
+pub mod Calls
+pub mod Outliving
 pub mod Moments
-pub mod PageBytes

@@ -1,3 +1,4 @@
+pub mod Calls
 pub mod InTurn
 pub mod Kit
 pub mod NewFile

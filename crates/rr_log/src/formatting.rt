@@ -8,6 +8,7 @@ mod disk;
 mod kit;
 pub mod laws;
 mod laying;
+mod pages;
 mod text;
 mod writing;
 

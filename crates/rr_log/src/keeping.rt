@@ -12,7 +12,6 @@ ghost use Rattle.rr_reading.specs.Worlds.World.{World};
 use crate::planning::is_past_last;
 use crate::{Fault, Log, TablesInWords};
 use rr_disk::Disk;
-use rr_pages::journal;
 use rr_reading::worlds::Rules;
 
 impl<D: Disk + Drop, R: Rules> Log<D, R> {
@@ -194,12 +193,17 @@ impl<D: Disk + Drop, R: Rules> Log<D, R> {
     {
         match self.writer.append(&mut self.disk, line) {
             Ok(()) => Ok(()),
-            Err(journal::Fault::HalfFull) => Err(full),
-            Err(journal::Fault::Disk(_)) => {
+            Err(rr_pages::Fault::HalfFull) => Err(full),
+            Err(rr_pages::Fault::Disk(_)) => {
                 self.broken = true;
                 Err(Fault::DeviceFailed)
             }
-            Err(journal::Fault::OutOfMemory) => Err(Fault::OutOfMemory),
+            Err(
+                rr_pages::Fault::FileFull
+                | rr_pages::Fault::Damaged(_)
+                | rr_pages::Fault::NotAStore
+                | rr_pages::Fault::OutOfMemory,
+            ) => unreachable!(),
         }
     }
 }

@@ -7,7 +7,7 @@ use rr_disk::{Disk, FaultyDisk, MemoryDisk};
 use rr_log::formatting::format;
 use rr_log::opening::{Opened, open_file};
 use rr_pages::journal::RecordBuffer;
-use rr_pages::{FreePages, PageSet, ReadChain};
+use rr_pages::{FreePages, ReachedPages, ReadChain};
 use rr_reading::dir::{ChainRef, KitChains};
 use rr_reading::worlds::Worlds;
 use rr_reading::{Fault, KitTexts};
@@ -86,7 +86,7 @@ pub(crate) fn with_free_pages(
     writer: &Writer<Worlds<AnyLine>>,
     count: u8,
 ) -> Result<Writer<Worlds<AnyLine>>, AllocError> {
-    let mut reached = PageSet::new(alloc)?;
+    let mut reached = ReachedPages::new(alloc)?;
     for page in 514..519 {
         reached.take(page);
     }

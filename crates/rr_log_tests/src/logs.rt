@@ -7,12 +7,10 @@ use rr_checkpoint::plan::Transcript;
 use rr_disk::{Disk, FaultyDisk, MemoryDisk};
 use rr_log::opening::Opened;
 use rr_log::{Fault, Log};
+use rr_reading::lending::Commands;
 use rr_reading::worlds::Worlds;
 use std::alloc::Global;
 use std::test::Fail;
-
-// The chain of the table that is lent: two commands, each with the length of its words before it.
-const KEPT: &[u8] = b"\0\x08open a b\0\x05buy a";
 
 // The calls below have almost no contracts, so that what a test does costs its proof little.
 
@@ -86,17 +84,29 @@ fn left_behind_six(
 // What an opening finds in the file of a log, and whether its directory has one table, which keeps the two commands.
 fn reopened(alloc: Global, log: Log<MemoryDisk, AnyLine>) -> Result<(Found, bool), Fail> {
     let mut disk = disk_of(log);
-    let opened = open(alloc, &mut disk)?;
-    Ok((found(&opened), has_the_table(&opened)))
+    let mut opened = open(alloc, &mut disk)?;
+    let table = has_the_table(&mut disk, &mut opened);
+    Ok((found(&opened), table))
 }
 
-fn has_the_table(opened: &Opened<Worlds<AnyLine>>) -> bool {
-    opened.dir.tables.len() == 1
-        && opened.tables.len() == 1
-        && opened
-            .tables
-            .iter()
-            .all(|table| table.bytes.as_slice() == KEPT)
+fn has_the_table(disk: &mut MemoryDisk, opened: &mut Opened<Worlds<AnyLine>>) -> bool {
+    opened.dir.tables.len() == 1 && keeps_both(disk, &mut opened.tables)
+}
+
+fn keeps_both(disk: &mut MemoryDisk, tables: &mut Commands) -> bool {
+    tables.turn_to(0);
+    tables.chain_count() == 1
+        && keeps(disk, tables, b"open a b")
+        && keeps(disk, tables, b"buy a")
+        && matches!(tables.next(disk), Ok(None))
+}
+
+// Whether the next command has these words.
+fn keeps(disk: &mut MemoryDisk, tables: &mut Commands, words: &[u8]) -> bool {
+    match tables.next(disk) {
+        Ok(Some(next)) => next == words,
+        _ => false,
+    }
 }
 
 // The faults of a record, and then of each call, on a log whose device fails behind so many calls; and how many records

@@ -1,11 +1,12 @@
 //! The tables that are lent to a log, and the rules of its records.
 ghost use Rattle.std.specs.Prelude.{[], ◌∷◌};
-ghost use Rattle.rr_checkpoint.specs.Plan.Transcript.{with_command, without_commands};
+ghost use Rattle.rr_checkpoint.specs.Plan.Transcript.{table_with};
 
 use rr_checkpoint::plan::{TableTranscript, Transcript};
 use rr_log::TablesInWords;
 use rr_pages::Fault;
 use rr_reading::worlds::Rules;
+use rr_turns::KeptWords;
 use rr_words::Name;
 use std::alloc::Global;
 use std::test::Fail;
@@ -28,15 +29,18 @@ pub(crate) struct OneTable {
 }
 
 impl TablesInWords for OneTable {
-    ghost tables = { λ lent. with_command (with_command (without_commands lent.name 2 0) lent.opening) lent.purchase ∷ [] };
+    ghost tables = { λ lent. table_with lent.name 2 0 (lent.opening ∷ lent.purchase ∷ []) ∷ [] };
 
     fn transcript(&self, alloc: Global) -> Result<Transcript, Fault> {
         if self.is_refused {
             return Err(Fault::OutOfMemory);
         }
-        let mut table = TableTranscript::new(alloc, &self.name, 2, 0);
-        table.add(&self.opening)?;
-        table.add(&self.purchase)?;
+        let mut commands = KeptWords::new(alloc);
+        commands.reserve(self.opening.len())?;
+        commands.push(&self.opening);
+        commands.reserve(self.purchase.len())?;
+        commands.push(&self.purchase);
+        let table = TableTranscript::of(alloc, &self.name, 2, 0, &commands)?;
         let mut transcript = Transcript::new(alloc);
         transcript.push(table)?;
         Ok(transcript)

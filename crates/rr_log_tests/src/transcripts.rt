@@ -5,6 +5,7 @@ use rr_checkpoint::{Plan, Writer};
 use rr_pages::journal::HalfIndex;
 use rr_pages::{Fault, FreshPage};
 use rr_reading::worlds::Worlds;
+use rr_turns::{KeptWords, LONGEST_COMMAND};
 use rr_words::Name;
 use std::alloc::Global;
 use std::test::Fail;
@@ -81,11 +82,13 @@ fn a_plan_lays_the_table_and_then_the_directory(rt: HostRuntime) -> Result<(), F
 
 // One table that keeps this command.
 fn keeping(alloc: Global, name: &Name, words: &[u8]) -> Result<Transcript, Fault> {
-    if words.len() >= 65536 {
+    if words.len() > LONGEST_COMMAND {
         return Err(Fault::OutOfMemory);
     }
-    let mut table = TableTranscript::new(alloc, name, 2, 0);
-    table.add(words)?;
+    let mut commands = KeptWords::new(alloc);
+    commands.reserve(words.len())?;
+    commands.push(words);
+    let table = TableTranscript::of(alloc, name, 2, 0, &commands)?;
     let mut transcript = Transcript::new(alloc);
     transcript.push(table)?;
     Ok(transcript)

@@ -1,4 +1,4 @@
-ghost use Rattle.std.specs.Prelude.{◌≡◌, ℕ, ◌≤◌, ◌<◌, [], ◌∷◌, ◌++◌, fold, None, Some, option_map, option_and_then, unwrap_or, position, ◌+◌, length, IfOk, IfSome, MatchOption, MatchResult, OnErr};
+ghost use Rattle.std.specs.Prelude.{◌≡◌, ◌≤◌, ◌<◌, [], ◌∷◌, ◌++◌, None, Some, option_map, option_and_then, unwrap_or, position, ◌+◌, length, IfOk, IfSome, MatchOption, MatchResult, OnErr};
 ghost use Rattle.rr_chart.specs.Chart.{par_place};
 ghost use Rattle.rr_books.specs.Book.{Book};
 ghost use Rattle.rr_market.specs.Marks.{mark_of, first_mark_of, price_at, zone_at, price_of, zone_of, par_of};
@@ -201,16 +201,6 @@ impl Market {
         let cell = self.cell_after_rise(chart, corp)?;
         self.mark(corp, cell);
         Some(cell)
-    }
-
-    /// Follows the next entries of the book, such as those of a command.
-    pub fn follow_all(&mut self, entries: &[Entry])
-        ensures value { self.new ≡ fold after self.old entries.now }
-        ensures book { (book : Book) → IsMarketOf book self.old → IsMarketOf (book ++ entries.now) self.new }
-    {
-        for entry in entries {
-            self.follow(entry);
-        }
     }
 
     /// Follows the next entry of the book, of which a mark alone moves a token.

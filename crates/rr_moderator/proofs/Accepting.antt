@@ -20,6 +20,7 @@ one_stamp a b p q = cc
 abbrev pub Accepts : Held → Held → List ℕ → Request Command → ℕ → Type 0
 Accepts old new name c n =
     (table_named new.tables name ≡ Some (state_after old.kit (table_named old.tables name) c)) × (new.kit ≡ old.kit) × (n ≡ stamp_after old.kit old.tables name c)
+    × (new.broken ≡ false)
 
 pub accepts : (old new : Held) (stamp : ℕ) (name : List ℕ) (c : Request Command) (n : ℕ) {taking : Result ℕ store.Fault} → Takes old stamp name c new taking → taking ≡ Ok n
     → Accepts old new name c n
@@ -27,6 +28,7 @@ accepts old new stamp name c n (Accepted whole lawful after) is = (
   ap (λ (h : Held). table_named h.tables name) after ∙ named_after old.tables name (state_after old.kit (table_named old.tables name) c),
   ap (λ (h : Held). h.kit) after,
   sym (one_stamp (stamp_after old.kit old.tables name c) n refl is),
+  ap (λ (h : Held). h.broken) after ∙ whole,
 )
 accepts old new stamp name c n (Refused fault whole refused same) is = absurd (cc is)
 accepts old new stamp name c n (Wants whole first same) is = absurd (cc is)

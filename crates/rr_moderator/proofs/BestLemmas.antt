@@ -1,5 +1,5 @@
 -- The best runs that are found: why there is none, that their lines fit, and that they earn alike.
-use Rattle.std.proofs.Common.{◌≡◌, ◌⊎◌, ℕ, ◌+◌, ◌-◌, ◌≤◌, ◌==◌, true, false, List, [], ◌∷◌, ◌++◌, length, Option, None, Some, Result, Ok, inl, inr, option_map, refl, sym, ap, subst, ◌∙◌, arith, codes, decimal, length-append}
+use Rattle.std.proofs.Common.{◌≡◌, ◌⊎◌, ℕ, ◌+◌, ◌≤◌, ◌==◌, true, false, List, [], ◌∷◌, ◌++◌, length, Option, None, Some, Result, Ok, inl, inr, option_map, refl, sym, ap, subst, ◌∙◌, arith, codes, decimal, length-append}
 use Rattle.std.specs.Fmt.{signed_decimal}
 use Rattle.std.proofs.lemmas.Bool.Decides.{nat_tests}
 use Rattle.std.proofs.lemmas.List.Sums.{fold-append}
@@ -36,7 +36,6 @@ use Rattle.rr_tables.specs.declared.records.fault.Fault.TheVariants as J
 use Rattle.rr_tables.specs.Records.Fault.{of_table}
 use Rattle.rr_store.specs.Held.{Held, LacksTable}
 use Rattle.rr_store.specs.World.{TableState, state_after, table_named}
-use Rattle.rr_moderator.specs.declared.fault.Fault.{Fault}
 use Rattle.rr_moderator.specs.BestLaws.{BestRunsEarnAlike}
 use Rattle.rr_moderator.specs.Answer.{earned_words}
 use Rattle.rr_moderator.specs.Best.{IsBestRun, LacksRun, HasNone, LacksMemory, best_run, book_of, room_behind, run_verdict}
@@ -97,14 +96,13 @@ line_length : (stamp : ℕ) (name : List ℕ) (c : Corp) (sheet certificate : Li
     → length (line_text (L.Request stamp name (best_run c sheet certificate))) ≡ length (decimal stamp) + length name + 2 + length (text (O.RunBest c sheet certificate))
 line_length stamp name c sheet certificate = joined (decimal stamp) name (text (O.RunBest c sheet certificate))
 
--- so a sheet is no longer than a line
-pub sheet_short : {kit : Kit} {t : Option TableState} {stamp : ℕ} {name : List ℕ} {c : Corp} {sheet certificate : List ℕ} → IsBestRun kit t stamp name c sheet certificate
-    → length sheet ≤ LONGEST_LINE
-sheet_short {stamp} {name} {c} {sheet} {certificate} is =
+-- so a sheet whose run's words fit into a line is no longer than one
+pub words_short : (c : Corp) (words sheet certificate : List ℕ) (most behind : ℕ) → SpellsOrder words (O.RunBest c sheet certificate) → length words ≤ most
+    → most + behind ≡ LONGEST_LINE → length sheet ≤ LONGEST_LINE
+words_short c words sheet certificate most behind spelled few whole =
+    let same = ap (λ (l : List ℕ). length l) spelled.spelled in
     let within = sheet_within c sheet certificate in
-    let line = line_length stamp name c sheet certificate in
-    let fits = is.fits in
-    omega (arith, within, line, fits)
+    omega (arith, same, within, few, whole)
 
 -- what is found
 

@@ -22,7 +22,7 @@ use Rattle.rr_store.specs.declared.store.Store.{Store}
 use Rattle.rr_store.specs.Allowing.{BeforeOrAfter}
 use Rattle.rr_store.specs.Committing.{Commits, Spares}
 use Rattle.rr_store.specs.Held.{Held, Takes, Accepted, Refused, Wants, NoRoom, Fails, Again, stamp_after, with_tables}
-use Rattle.rr_store.specs.Holding.{Carries, HasNoRoom, IsFull, IsFullFor, IsUnchanged, disk_of, file_of, held_of, number_of_next, ticks_left}
+use Rattle.rr_store.specs.Holding.{Carries, GamesArePlayed, HasNoRoom, IsFull, IsFullFor, IsUnchanged, disk_of, file_of, held_of, number_of_next, ticks_left}
 use Rattle.rr_store.specs.Keeping.{ComesOn, MakesAtMost}
 use Rattle.rr_store.specs.World.{TableRequest, TableState, for_table, judgement_in, state_after, table_named, world_after}
 use Rattle.rr_store.proofs.Standing.{carried_keeps, carried_now, stands_either}
@@ -145,7 +145,7 @@ module _ {D : Type 0} (Honest Works : D → Type 0) (state : D → DiskState) (p
       lasts_unchanged (record { same_file = ap (λ (x : Store D). file_of x) same; same_held = ap (λ (x : Store D). held_of x) same })
       (λ h whole texts s. subst (λ (x : Store D). Carries state x texts) (sym same) s) calm (Makes_none same calm.2)
 
-  module _ (stamp : ℕ) (name : List ℕ) (c : Request Command) (sheet : List ℕ) (short : length line ≤ LONGEST_LINE) (asks : AsksFor (held_of old) line stamp (for_table name c) sheet) (whole : (held_of old).broken ≡ false) where
+  module _ (stamp : ℕ) (name : List ℕ) (c : Request Command) (sheet : List ℕ) (short : length line ≤ LONGEST_LINE) (asks : AsksFor (held_of old) line stamp (for_table name c) sheet) (whole : (held_of old).broken ≡ false) (played : GamesArePlayed old) where
     abbrev asked : TableRequest
     asked = for_table name c
 
@@ -310,7 +310,7 @@ module _ {D : Type 0} (Honest Works : D → Type 0) (state : D → DiskState) (p
     ruled_out fault told verdict same k (inl is) =
         let P : store.Fault → Type 0 = λ f. Committed (Err f) in
         let own = subst P is k in
-        wanting (told ∙ ap (λ (f : store.Fault). refusal_of (of_store f)) is) same own (own.wanting refl)
+        wanting (told ∙ ap (λ (f : store.Fault). refusal_of (of_store f)) is) same own (own.wanting played refl)
     ruled_out fault told verdict same k (inr other) =
         let by_rule = refused_by_rules (held_of old).kit (held_of old).tables stamp name c fault verdict in
         let calm = verdict_calm (held_of old).kit (table_named (held_of old).tables name) (length (held_of old).tables) stamp c by_rule.0 by_rule.1 in
@@ -322,15 +322,15 @@ module _ {D : Type 0} (Honest Works : D → Type 0) (state : D → DiskState) (p
     lasts_by : (taking : Result ℕ store.Fault) → reply ≡ reply_to (text_of (held_of old) name c sheet taking) → Takes (held_of old) stamp name c (held_of new) taking → Committed taking → Lasting
     lasts_by taking told (Accepted was lawful held_is) k = taken (stamp_after (held_of old).kit (held_of old).tables name c) told lawful held_is k
     lasts_by taking told (Refused fault was verdict held_is) k = ruled_out fault told verdict held_is k (is_memory fault)
-    lasts_by taking told (Wants was first held_is) k = wanting told held_is k (k.wanting refl)
+    lasts_by taking told (Wants was first held_is) k = wanting told held_is k (k.wanting played refl)
     lasts_by taking told (NoRoom was lawful held_is) k = no_space told lawful held_is k
     lasts_by taking told (Fails was lawful held_is) k = failed told lawful k
     lasts_by taking told (Again broken held_is) k = both_ways (held_of old).broken broken whole
 
     pub request_lasts : (taking : Result ℕ store.Fault) → reply ≡ reply_to (text_of (held_of old) name c sheet taking) → Committed taking → Lasting
-    request_lasts taking told k = lasts_by taking told k.takes k
+    request_lasts taking told k = lasts_by taking told (k.takes played) k
 
-  module _ (stamp : ℕ) (name : List ℕ) (corp : Corp) (short : length line ≤ LONGEST_LINE) (spells : SpellsLine line (L.Best stamp name corp)) (whole : (held_of old).broken ≡ false) where
+  module _ (stamp : ℕ) (name : List ℕ) (corp : Corp) (short : length line ≤ LONGEST_LINE) (spells : SpellsLine line (L.Best stamp name corp)) (whole : (held_of old).broken ≡ false) (played : GamesArePlayed old) where
     abbrev CommittedBest : Result (List ℕ) Fault → Type 0
     CommittedBest outcome = CommitsBest Honest Works state past faults writes syncs old name stamp corp new outcome
 
@@ -338,4 +338,4 @@ module _ {D : Type 0} (Honest Works : D → Type 0) (state : D → DiskState) (p
     pub best_lasts : (outcome : Result (List ℕ) Fault) → reply ≡ reply_to outcome → CommittedBest outcome → Lasting
     best_lasts outcome told (Stays fault lacks same) = lasts_alone same (subst SaysNeither (sym told) (lacks_calm lacks))
     best_lasts outcome told (Goes_on sheet certificate taking is commits) =
-        request_lasts stamp name (best_run corp sheet certificate) sheet short (AsBest corp sheet certificate spells is refl) whole taking told commits
+        request_lasts stamp name (best_run corp sheet certificate) sheet short (AsBest corp sheet certificate spells is refl) whole played taking told commits

@@ -15,7 +15,7 @@ use Rattle.rr_moderator.specs.declared.fault.Fault.{Fault}
 use Rattle.rr_moderator.specs.Fault.{refusal_of}
 use Rattle.rr_moderator.specs.Queries.{Answer, fault_of, reply_of}
 use Rattle.rr_store.specs.declared.store.Store.{Store}
-use Rattle.rr_store.specs.Holding.{held_of}
+use Rattle.rr_store.specs.Holding.{GamesArePlayed, held_of}
 use Rattle.rr_store.specs.World.{table_named}
 use Rattle.rr_moderator.specs.Best.{IsBestRun}
 use Rattle.rr_moderator.specs.Choosing.{CommitsBest, Stays, Goes_on}
@@ -40,12 +40,12 @@ one_line line l m first second = line-unique l m first.is_line second.is_line (s
 -- what comes of asking for a best run, from what it does to the store
 pub best_meets : {D : Type 0} (Honest Works : D → Type 0) (state : D → DiskState) (past : D → List DiskState) (faults writes syncs : D → ℕ)
     (old : Store D) (name : List ℕ) (stamp : ℕ) (c : Corp) (new : Store D) {outcome : Result (List ℕ) Fault}
-    → CommitsBest Honest Works state past faults writes syncs old name stamp c new outcome
+    → GamesArePlayed old → CommitsBest Honest Works state past faults writes syncs old name stamp c new outcome
     → MeetsBest (held_of old) stamp name c (held_of new) outcome
-best_meets {D} Honest Works state past faults writes syncs old name stamp c new (Stays fault lacks same) =
+best_meets {D} Honest Works state past faults writes syncs old name stamp c new played (Stays fault lacks same) =
     Lacks fault lacks (ap (λ (s : Store D). held_of s) same)
-best_meets Honest Works state past faults writes syncs old name stamp c new (Goes_on sheet certificate taking is commits) =
-    Finds sheet certificate taking is commits.takes
+best_meets Honest Works state past faults writes syncs old name stamp c new played (Goes_on sheet certificate taking is commits) =
+    Finds sheet certificate taking is (commits.takes played)
 
 some_order : (a b : Order) → Some a ≡ Some b → a ≡ b
 some_order a b e = cc

@@ -1,21 +1,31 @@
--- Serving by one machine, seen as serving by another.
-use Rattle.std.proofs.Common.{◌≡◌, ℕ, List, [], ◌∷◌, Option, None, Some, Result, refl, ap, ◌∙◌}
+-- Serving by one machine, seen as serving by another, while something holds that each answer keeps.
+use Rattle.std.proofs.Common.{◌≡◌, ℕ, List, [], ◌∷◌, Option, None, Some, Result, sym, ap, subst, ◌∙◌}
+use Rattle.rr_serve.specs.Lines.{taken}
 use Rattle.rr_serve.specs.Serving.{Served, Session, AnswersAll}
 use Rattle.rr_serve.specs.Streams.{InputState, OutputState}
 use Rattle.rr_serve.specs.declared.faults.Fault.{Fault}
 
-module _ {S T : Type 0} (A : S → List ℕ → S → Type 0) (r : S → List ℕ) (B : T → List ℕ → T → Type 0) (q : T → List ℕ) (f : S → T)
-    (steps : (s : S) (line : List ℕ) (t : S) → A s line t → B (f s) line (f t)) (same : (s : S) → r s ≡ q (f s)) where
-  pub Served-seen : (old : S) (lines replies : List (List ℕ)) (new : S) → Served A r old lines replies new → Served B q (f old) lines replies (f new)
-  Served-seen old [] [] new served = ap f served
-  Served-seen old (line ∷ lines) (reply ∷ replies) new served =
-      (f served.0, steps old _ served.0 served.1, served.2 ∙ same served.0, Served-seen served.0 lines replies new served.3)
-  Served-seen old [] (reply ∷ replies) new served = absurd served
-  Served-seen old (line ∷ lines) [] new served = absurd served
+module _ {S T : Type 0} (A : S → List ℕ → S → Type 0) (r : S → List ℕ) (B : T → List ℕ → T → Type 0) (q : T → List ℕ) (f : S → T) (P : S → Type 0)
+    (steps : (s : S) (line : List ℕ) (t : S) → P s → A s line t → B (f s) line (f t) × P t) (same : (s : S) → r s ≡ q (f s)) where
+  pub Served-seen : (old : S) (lines replies : List (List ℕ)) (new : S) → P old → Served A r old lines replies new → Served B q (f old) lines replies (f new)
+  Served-seen old [] [] new holds served = ap f served
+  Served-seen old (line ∷ lines) (reply ∷ replies) new holds served =
+      let step = steps old (taken line) served.0 holds served.1 in
+      (f served.0, step.0, served.2 ∙ same served.0, Served-seen served.0 lines replies new step.1 served.3)
+  Served-seen old [] (reply ∷ replies) new holds served = absurd served
+  Served-seen old (line ∷ lines) [] new holds served = absurd served
 
-  abbrev pub Session-seen : (old new : S) (reader_old reader_new : InputState) (writer_old writer_new : OutputState) (result : Result (Unit {0}) Fault)
+  -- and it holds in the end
+  pub Served-holds : (old : S) (lines replies : List (List ℕ)) (new : S) → P old → Served A r old lines replies new → P new
+  Served-holds old [] [] new holds served = subst P (sym served) holds
+  Served-holds old (line ∷ lines) (reply ∷ replies) new holds served =
+      Served-holds served.0 lines replies new (steps old (taken line) served.0 holds served.1).1 served.3
+  Served-holds old [] (reply ∷ replies) new holds served = absurd served
+  Served-holds old (line ∷ lines) [] new holds served = absurd served
+
+  abbrev pub Session-seen : (old new : S) (reader_old reader_new : InputState) (writer_old writer_new : OutputState) (result : Result (Unit {0}) Fault) → P old
       → Session A r old new reader_old reader_new writer_old writer_new result → Session B q (f old) (f new) reader_old reader_new writer_old writer_new result
-  Session-seen old new reader_old reader_new writer_old writer_new result session =
+  Session-seen old new reader_old reader_new writer_old writer_new result holds session =
       record {
         read = session.read;
         lines = session.lines;
@@ -24,14 +34,14 @@ module _ {S T : Type 0} (A : S → List ℕ → S → Type 0) (r : S → List �
         behind = session.behind;
         gives = session.gives;
         split = session.split;
-        served = Served-seen old session.lines session.replies new session.served;
+        served = Served-seen old session.lines session.replies new holds session.served;
         ends = session.ends;
       }
 
-  pub AnswersAll-seen : (old new : S) (remaining contents written : Option (List ℕ))
+  pub AnswersAll-seen : (old new : S) (remaining contents written : Option (List ℕ)) → P old
       → AnswersAll A r old new remaining contents written → AnswersAll B q (f old) (f new) remaining contents written
-  AnswersAll-seen old new None contents written all = tt
-  AnswersAll-seen old new (Some input) contents written all =
+  AnswersAll-seen old new None contents written holds all = tt
+  AnswersAll-seen old new (Some input) contents written holds all =
       let answered = all.1 in (
         all.0,
         record {
@@ -39,18 +49,9 @@ module _ {S T : Type 0} (A : S → List ℕ → S → Type 0) (r : S → List �
           rest = answered.rest;
           replies = answered.replies;
           split = answered.split;
-          served = Served-seen old answered.lines answered.replies new answered.served;
+          served = Served-seen old answered.lines answered.replies new holds answered.served;
           none_fails = answered.none_fails;
           bytes_are = answered.bytes_are;
         },
         all.2,
       )
-
--- Serving by a machine that answers in two ways at once, seen as serving in the first.
-module _ {S : Type 0} (A C : S → List ℕ → S → Type 0) (r : S → List ℕ) where
-  abbrev Both : S → List ℕ → S → Type 0
-  Both s line t = A s line t × C s line t
-
-  pub AnswersAll-first : (old new : S) (remaining contents written : Option (List ℕ))
-      → AnswersAll Both r old new remaining contents written → AnswersAll A r old new remaining contents written
-  AnswersAll-first = AnswersAll-seen Both r A r (λ s. s) (λ s line t a. a.0) (λ s. refl)

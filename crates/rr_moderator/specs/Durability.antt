@@ -17,7 +17,7 @@ use Rattle.rr_store.specs.Allowing.{BeforeOrAfter}
 use Rattle.rr_store.specs.Committing.{Commits}
 use Rattle.rr_store.specs.Files.{StandsFor}
 use Rattle.rr_store.specs.Held.{Held, with_tables}
-use Rattle.rr_store.specs.Holding.{Carries, HasNoRoom, IsFull, IsFullFor, IsUnchanged, Rests, disk_of, file_of, held_of, number_of_next, ticks_left}
+use Rattle.rr_store.specs.Holding.{Carries, GamesArePlayed, HasNoRoom, IsFull, IsFullFor, IsUnchanged, Rests, disk_of, file_of, held_of, number_of_next, ticks_left}
 use Rattle.rr_store.specs.Keeping.{ComesOn, MakesAtMost}
 use Rattle.rr_store.specs.World.{TableRequest, state_after, table_named, world_after}
 use Rattle.rr_moderator.specs.Answer.{accepted_text}
@@ -169,6 +169,11 @@ told state = state.1
 abbrev pub SpeaksAndLasts : {D : Type 0} → (D → Type 0) → (D → Type 0) → (D → DiskState) → (D → List DiskState) → (D → ℕ) → (D → ℕ) → (D → ℕ) → Told D → List ℕ → Told D → Type 0
 SpeaksAndLasts Honest Works state past faults writes syncs old line new =
     Answers (held_of old.0) line (held_of new.0) new.1 × Lasts Honest Works state past faults writes syncs old.0 line new.0 new.1
+
+-- so it is where the tables were played, and then they are played behind the line
+abbrev pub SpeaksPlayed : {D : Type 0} → (D → Type 0) → (D → Type 0) → (D → DiskState) → (D → List DiskState) → (D → ℕ) → (D → ℕ) → (D → ℕ) → Told D → List ℕ → Told D → Type 0
+SpeaksPlayed Honest Works state past faults writes syncs old line new =
+    GamesArePlayed old.0 → SpeaksAndLasts Honest Works state past faults writes syncs old line new × GamesArePlayed new.0
 
 -- While these lines are answered in just this way, the file stands for a world that was held before one of them or at the
 -- end, or for such a world with the request that was pending then.

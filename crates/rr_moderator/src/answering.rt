@@ -7,8 +7,9 @@ ghost use Rattle.rr_roster.specs.Company.{corp_name, kind_name, private_name};
 ghost use Rattle.rr_books.specs.State.{holder_in};
 ghost use Rattle.rr_moderator.specs.Answer.{answer_of, asked_words, owned, price_words, runs_trains, spaced};
 ghost use Rattle.rr_game.specs.History.Tables.{IsPlayed, kept_in};
-ghost use Rattle.rr_store.specs.Holding.{held_of};
+ghost use Rattle.rr_store.specs.Holding.{GamesArePlayed, held_of};
 ghost use Rattle.rr_store.specs.World.{names};
+ghost use Rattle.rr_reading.specs.declared.dir.directory.TheConstants.{MOST_TABLES};
 ghost use Rattle.rr_books.specs.Book.{Book, train_holder};
 ghost use Rattle.rr_desk.specs.Position.Position.{IsPositionOf};
 ghost use Rattle.rr_orders.specs.Texts.{added};
@@ -92,7 +93,7 @@ pub(crate) fn answer<D: Disk + Drop>(
     reply: &mut Reply,
 ) -> Result<(), Fault>
     requires { (held_of store.now).broken ≡ false }
-    ensures { MatchResult result
+    ensures { GamesArePlayed store.now → MatchResult result
         (λ _. (query_verdict (held_of store.now).kit (held_of store.now).tables query.now ≡ None)
         × (reply.new ≡ query_text (held_of store.now).kit (held_of store.now).tables query.now))
         (λ fault. query_verdict (held_of store.now).kit (held_of store.now).tables query.now ≡ Some fault) }
@@ -111,7 +112,7 @@ fn write_answer<D: Disk + Drop>(
 ) -> Result<(), Fault>
     requires whole { (held_of store.now).broken ≡ false }
     requires empty { reply.old ≡ [] }
-    ensures answer { Writes (query_answer (held_of store.now).kit (held_of store.now).tables query.now) result reply.new }
+    ensures answer { GamesArePlayed store.now → Writes (query_answer (held_of store.now).kit (held_of store.now).tables query.now) result reply.new }
     ensures bounded { length reply.new ≤ 1100 }
 {
     match query {
@@ -190,7 +191,7 @@ fn write_names<D: Disk + Drop>(store: &Store<D>, reply: &mut Reply)
 fn count_of<D: Disk + Drop>(store: &Store<D>) -> usize
     requires { (held_of store.now).broken ≡ false }
     ensures count { result ≡ length (held_of store.now).tables }
-    ensures few { result ≤ 64 }
+    ensures few { result ≤ MOST_TABLES }
 {
     match store.count() {
         Ok(count) => count,

@@ -7,8 +7,8 @@ use rr_disk::Disk;
 
 /// Tables don't know of each other. Of two moderators that agree in a table, take a run each without a refusal that
 /// comes of the device, the file's room, memory or the number of tables: where the lines that name the table are the
-/// same, and the runs that are found for those that ask for the best one, so are the replies to them, whatever lines for
-/// other tables come between.
+/// same, and the runs that are found for those that ask for the best one, so are the replies to them, whatever lines
+/// for other tables come between.
 pub fn alone()
     ensures { Alone }
 {
@@ -27,8 +27,8 @@ pub fn best_runs_are_lawful()
     ensures { BestRunsAreLawful }
 {}
 
-/// However many lines are answered, no reply says that the device failed while the device works: such a failure is never
-/// of the moderator's own making.
+/// However many lines are answered, no reply says that the device failed while the device works: such a failure is
+/// never of the moderator's own making.
 pub fn none_fails_while_working<D: Disk + Drop>()
     ensures { NoneFailsWhileWorking D.Honest D.Works D.state D.past D.fault_count D.write_count D.sync_count }
 {}

@@ -24,7 +24,7 @@ ghost use Rattle.rr_store.specs.Committing.{Commits};
 ghost use Rattle.rr_store.specs.Events as calls;
 ghost use Rattle.rr_store.specs.Fault.{CountsFailure, OnDevice};
 ghost use Rattle.rr_store.specs.Files.{AreTablesOf};
-ghost use Rattle.rr_store.specs.Holding.{Carries, HasNoneBegun, root_of, ticks_left};
+ghost use Rattle.rr_store.specs.Holding.{Carries, GamesArePlayed, HasNoneBegun, root_of, ticks_left};
 ghost use Rattle.rr_store.specs.Holding as held_in;
 ghost use Rattle.rr_store.specs.Opening.{IsNoVerdict, OpenAllows};
 ghost use Rattle.rr_store.specs.Ticking.{MakesFew, Steps};
@@ -51,7 +51,8 @@ use rr_store::{Refused, Store};
 use rr_words::{LONGEST_LINE, Name};
 use std::alloc::Global;
 
-/// What answers lines: the store of the tables, the reply to the line taken last, and where memory for searches is taken.
+/// What answers lines: the store of the tables, the reply to the line taken last, and where memory for searches is
+/// taken.
 #[derive(Drop)]
 struct State<D: Drop> {
     store: Store<D>,
@@ -70,11 +71,11 @@ impl<D: Disk + Drop> Moderator<D> {
     /// Opens a file that `format` made, and plays what was accepted into it again. It makes a sync, and no write.
     ///
     /// # Errors
-    /// `DeviceFailed`; `NotAStore` where the file has no roots of this version; `Damaged` with the least clause that it breaks;
-    /// `OutOfMemory`, and only where a root is taken.
+    /// `DeviceFailed`; `NotAStore` where the file has no roots of this version; `Damaged` with the least clause that it
+    /// breaks; `OutOfMemory`, and only where a root is taken.
     pub fn open(alloc: Global, disk: D) -> Result<Moderator<D>, Refused<D>>
-        // The moderator holds what the file stands for; else the file breaks a clause, or the device failed or memory was
-        // wanted. Whatever is answered, the sync was made, unless the device failed.
+        // The moderator holds what the file stands for; else the file breaks a clause, or the device failed or memory
+        // was wanted. Whatever is answered, the sync was made, unless the device failed.
         ensures opened { IfOk result (λ moderator. D.Honest (disk_under moderator)
             → Opens (D.state disk).content (held_of moderator)) }
         ensures stands { IfOk result (λ moderator. D.Honest (disk_under moderator) → (texts : KitTexts)
@@ -85,8 +86,8 @@ impl<D: Disk + Drop> Moderator<D> {
             → Between (D.past disk) (D.state disk) (D.past refused.disk) (D.state refused.disk)
             (λ moments. OpenAllows (D.state disk) moments (D.state refused.disk) (Err refused.fault))) }
 
-        // Where the file is one of ours, its store goes on with it; and then it is refused only where the device failed or
-        // memory was wanted.
+        // Where the file is one of ours, its store goes on with it; and then it is refused only where the device failed
+        // or memory was wanted.
         ensures carries { IfOk result (λ moderator. D.Honest (disk_under moderator) → (texts : KitTexts)
             → KeepsTables texts (held_of moderator).tables (D.state disk).content → Carries D.state (store_of moderator) texts) }
         ensures only { IfErr result (λ refused. D.Honest refused.disk → (texts : KitTexts) (kit : Kit) (tables : World)
@@ -99,6 +100,7 @@ impl<D: Disk + Drop> Moderator<D> {
         // Of every disk: nothing is held that the rules of a right kit don't allow, and the device hasn't failed.
         ensures played { IfOk result (λ moderator. (texts : KitTexts)
             × SpellsKit texts (held_of moderator).kit × AreTablesOf (held_of moderator).kit (held_of moderator).tables) }
+        ensures each { IfOk result (λ moderator. GamesArePlayed (store_of moderator)) }
         ensures whole { IfOk result (λ moderator. (held_of moderator).broken ≡ false) }
         ensures honest { IfOk result (λ moderator. D.Honest (disk_under moderator) → D.Honest disk) }
         ensures honest_left { IfErr result (λ refused. D.Honest refused.disk → D.Honest disk) }
@@ -151,19 +153,20 @@ impl<D: Disk + Drop> Moderator<D> {
         Ok(Summary { tables, last })
     }
 
-    /// Makes a whole checkpoint: all steps of the one under way that are left, or those of a new one. Lines make one step each
-    /// where one is due, so no call is needed. Where none was begun, an opening behind this one finds no record to play again;
-    /// else it finds those since the one under way began.
+    /// Makes a whole checkpoint: all steps of the one under way that are left, or those of a new one. Lines make one
+    /// step each where one is due, so no call is needed. Where none was begun, an opening behind this one finds no
+    /// record to play again; else it finds those since the one under way began.
     ///
     /// # Errors
-    /// `OpenAgain`; `DeviceFailed`, after which the file has to be opened again; `FileFull` and `OutOfMemory` before any
-    /// device call.
+    /// `OpenAgain`; `DeviceFailed`, after which the file has to be opened again; `FileFull` and `OutOfMemory` before
+    /// any device call.
     pub fn checkpoint(&mut self) -> Result<(), rr_store::Fault>
         ensures steps { Steps D.Honest D.Works D.state D.past D.fault_count (store_of self.old) result (store_of self.new) }
         ensures left { OnOk result (ticks_left (store_of self.new) ≡ 0) }
 
-        // Then each file that a stop may leave takes a newer root. Its chains spell the world as the checkpoint began, and only
-        // the records since then stand behind it. Where none was begun before, that is what is held, and no record.
+        // Then each file that a stop may leave takes a newer root. Its chains spell the world as the checkpoint began,
+        // and only the records since then stand behind it. Where none was begun before, that is what is held, and no
+        // record.
         ensures renews { OnOk result (D.Honest (disk_under self.new) → (texts : KitTexts) → (carries : Carries D.state (store_of self.old) texts)
             → EachImage (D.state (disk_under self.new)) (TakesNewer table_files (as_begun carries.file.carried.layout) (in_words texts (held_of self.old).tables))) }
         ensures whole { OnOk result (HasNoneBegun (store_of self.old) → D.Honest (disk_under self.new) → (texts : KitTexts) → Carries D.state (store_of self.old) texts
@@ -189,9 +192,10 @@ impl<D: Disk + Drop> Moderator<D> {
 
     /// Answers a line, given without its line feed, by the bytes of its reply.
     pub fn answer(&mut self, line: &[u8]) -> &[u8]
-        ensures* { sem 𝓛 (Rests (the_row D.row) self.entry (λ new.
-            Answers (held_of self.old) line.now (held_of new) result.now
-            × Lasts D.Honest D.Works D.state D.past D.fault_count D.write_count D.sync_count (store_of self.old) line.now (store_of new) result.now)) }
+        ensures* { sem 𝓛 (Rests (the_row D.row) self.entry (λ new. GamesArePlayed (store_of self.old)
+            → Answers (held_of self.old) line.now (held_of new) result.now
+            × Lasts D.Honest D.Works D.state D.past D.fault_count D.write_count D.sync_count (store_of self.old) line.now (store_of new) result.now
+            × GamesArePlayed (store_of new))) }
     {
         self.state.say(line);
         self.state.reply()
@@ -202,8 +206,9 @@ impl<D: Disk + Drop> Moderator<D> {
     /// # Errors
     /// `StreamFailed` where a write or the flush failed. A request that was accepted stays accepted.
     pub fn line<O: Output>(&mut self, line: &[u8], writer: &mut O) -> Result<(), Fault>
-        ensures answers { Answers (held_of self.old) (taken line.now) (held_of self.new) (last_reply self.new) }
-        ensures lasts { Lasts D.Honest D.Works D.state D.past D.fault_count D.write_count D.sync_count (store_of self.old) (taken line.now) (store_of self.new) (last_reply self.new) }
+        ensures answers { GamesArePlayed (store_of self.old) → Answers (held_of self.old) (taken line.now) (held_of self.new) (last_reply self.new) }
+        ensures played { GamesArePlayed (store_of self.old) → GamesArePlayed (store_of self.new) }
+        ensures lasts { GamesArePlayed (store_of self.old) → Lasts D.Honest D.Works D.state D.past D.fault_count D.write_count D.sync_count (store_of self.old) (taken line.now) (store_of self.new) (last_reply self.new) }
         ensures ok { OnOk result (IsSent (O.state writer.old) (last_reply self.new) (O.state writer.new)) }
         ensures err { OnErr result (IsCutShort (O.state writer.old) (last_reply self.new) (O.state writer.new)) }
         ensures fault { IfErr result (λ fault. fault ≡ Fault.StreamFailed) }
@@ -222,23 +227,25 @@ impl<D: Disk + Drop> Moderator<D> {
         writer: &mut O,
     ) -> Result<(), Fault>
         // At `Ok` all is read, and what is written is the replies to all lines and to a rest.
-        ensures whole { OnOk result (AnswersAll Speaks said (spoken_of self.old) (spoken_of self.new)
+        ensures whole { OnOk result (GamesArePlayed (store_of self.old) → AnswersAll Speaks said (spoken_of self.old) (spoken_of self.new)
             (I.state reader.old).remaining (O.state writer.old).contents (O.state writer.new).contents) }
 
-        // However it ends, it tells of a failed stream exactly where a read, a write or a flush failed; and the lines that were
-        // read are answered, each so that what it comes to lasts, and what is written is their replies as far as it got. So
-        // whatever a stop leaves at any moment of it stands for a world that the moderator held before one of the lines, or
-        // for that with the request pending then.
+        // However it ends, it tells of a failed stream exactly where a read, a write or a flush failed; and the lines
+        // that were read are answered, each so that what it comes to lasts, and what is written is their replies as far
+        // as it got. So whatever a stop leaves at any moment of it stands for a world that the moderator held before
+        // one of the lines, or for that with the request pending then.
         ensures session { (cause : Result (Unit {0}) serve.Fault) × EndsAs result cause
             × CountsFailures cause (I.state reader.old).failures (I.state reader.new).failures
             (O.state writer.old).failures (O.state writer.new).failures
-            × (session : Session (SpeaksAndLasts D.Honest D.Works D.state D.past D.fault_count D.write_count D.sync_count) told (told_of self.old) (told_of self.new)
+            × (GamesArePlayed (store_of self.old)
+            → (session : Session (SpeaksAndLasts D.Honest D.Works D.state D.past D.fault_count D.write_count D.sync_count) told (told_of self.old) (told_of self.new)
             (I.state reader.old) (I.state reader.new) (O.state writer.old) (O.state writer.new) cause)
             × (D.Honest (disk_under self.new)
             → (texts : KitTexts) → Carries D.state (store_of self.old) texts
             → LeavesOnly (D.past (disk_under self.old)) (D.state (disk_under self.old)) (D.past (disk_under self.new)) (D.state (disk_under self.new))
             (StandsAlong D.Honest D.Works D.state D.past D.fault_count D.write_count D.sync_count texts
-            (told_of self.old) session.lines session.replies (told_of self.new) session.served)) }
+            (told_of self.old) session.lines session.replies (told_of self.new) session.served))) }
+        ensures played { GamesArePlayed (store_of self.old) → GamesArePlayed (store_of self.new) }
     {
         rr_serve::serve(&mut self.state, reader, writer, &mut self.buffer)?;
         Ok(())
@@ -254,11 +261,10 @@ fn make_buffers(alloc: Global) -> Result<(Reply, LineBuffer), rr_store::Fault>
 }
 
 impl<D: Disk + Drop> Machine for State<D> {
-    ghost use Rattle.rr_moderator.specs.Serving.{Answers};
-    ghost use Rattle.rr_moderator.specs.Durability.{Lasts};
+    ghost use Rattle.rr_moderator.specs.Durability.{SpeaksPlayed};
 
-    ghost Answers = { λ old line new. Answers (held_in.held_of old.store) line (held_in.held_of new.store) new.reply
-        × Lasts D.Honest D.Works D.state D.past D.fault_count D.write_count D.sync_count old.store line new.store new.reply };
+    ghost Answers = { λ old line new. SpeaksPlayed D.Honest D.Works D.state D.past D.fault_count D.write_count D.sync_count
+        (old.store, old.reply) line (new.store, new.reply) };
 
     ghost reply_of = { λ state. state.reply };
 
@@ -274,8 +280,9 @@ impl<D: Disk + Drop> Machine for State<D> {
 impl<D: Disk + Drop> State<D> {
     /// Makes the reply to a line.
     fn say(&mut self, line: &[u8])
-        ensures answers { Answers (held_in.held_of self.old.store) line.now (held_in.held_of self.new.store) self.new.reply }
-        ensures lasts { Lasts D.Honest D.Works D.state D.past D.fault_count D.write_count D.sync_count self.old.store line.now self.new.store self.new.reply }
+        ensures answers { GamesArePlayed self.old.store → Answers (held_in.held_of self.old.store) line.now (held_in.held_of self.new.store) self.new.reply }
+        ensures played { GamesArePlayed self.old.store → GamesArePlayed self.new.store }
+        ensures lasts { GamesArePlayed self.old.store → Lasts D.Honest D.Works D.state D.past D.fault_count D.write_count D.sync_count self.old.store line.now self.new.store self.new.reply }
     {
         if let Err(fault) = self.respond(line) {
             fault.write(&mut self.reply);
@@ -284,8 +291,9 @@ impl<D: Disk + Drop> State<D> {
 
     /// Makes the reply to a line, unless it is refused.
     fn respond(&mut self, line: &[u8]) -> Result<(), Fault>
-        ensures responds { Responds (held_in.held_of self.old.store) line.now (held_in.held_of self.new.store) (outcome_of result self.new.reply) }
-        ensures lasts { Lasts D.Honest D.Works D.state D.past D.fault_count D.write_count D.sync_count self.old.store line.now
+        ensures responds { GamesArePlayed self.old.store → Responds (held_in.held_of self.old.store) line.now (held_in.held_of self.new.store) (outcome_of result self.new.reply) }
+        ensures played { GamesArePlayed self.old.store → GamesArePlayed self.new.store }
+        ensures lasts { GamesArePlayed self.old.store → Lasts D.Honest D.Works D.state D.past D.fault_count D.write_count D.sync_count self.old.store line.now
             self.new.store (reply_to (outcome_of result self.new.reply)) }
     {
         if line.len() > LONGEST_LINE {
@@ -310,8 +318,9 @@ impl<D: Disk + Drop> State<D> {
     fn run_best(&mut self, stamp: u64, table: &Name, corp: Corp) -> Result<(), Fault>
         requires name { IsTableName table.now }
         requires whole { (held_in.held_of self.old.store).broken ≡ false }
-        ensures { CommitsBest D.Honest D.Works D.state D.past D.fault_count D.write_count D.sync_count self.old.store table.now stamp corp
+        ensures committed { GamesArePlayed self.old.store → CommitsBest D.Honest D.Works D.state D.past D.fault_count D.write_count D.sync_count self.old.store table.now stamp corp
             self.new.store (outcome_of result self.new.reply) }
+        ensures played { GamesArePlayed self.old.store → GamesArePlayed self.new.store }
     {
         let run = find_best(self.alloc, &self.store, stamp, table, corp)?;
         let order = Order::read(run.as_bytes()).unwrap();
@@ -332,7 +341,8 @@ impl<D: Disk + Drop> State<D> {
         requires short { length sheet.now ≤ LONGEST_LINE }
         ensures { (taking : Result ℕ stored.Fault)
             × Commits D.Honest D.Works D.state D.past D.fault_count D.write_count D.sync_count self.old.store table.now stamp request.now self.new.store taking
-            × (outcome_of result self.new.reply ≡ text_of (held_in.held_of self.old.store) table.now request.now sheet.now taking) }
+            × (GamesArePlayed self.old.store
+            → outcome_of result self.new.reply ≡ text_of (held_in.held_of self.old.store) table.now request.now sheet.now taking) }
     {
         let stamp = self.store.commit(table, stamp, request)?;
         self.reply.accept(table, stamp);
@@ -346,9 +356,8 @@ impl<D: Disk + Drop> State<D> {
 
     /// What the trains earned that ran last, behind a space.
     fn tell_revenue(&mut self, name: &Name)
-        requires room { length self.old.reply ≤ 60 }
-        requires whole { (held_in.held_of self.old.store).broken ≡ false }
-        ensures told { (t : TableState) → table_named (held_in.held_of self.old.store).tables name.now ≡ Some t
+        requires { length self.old.reply ≤ 60 }
+        ensures told { GamesArePlayed self.old.store → (held_in.held_of self.old.store).broken ≡ false → (t : TableState) → table_named (held_in.held_of self.old.store).tables name.now ≡ Some t
             → self.new.reply ≡ self.old.reply ++ (codes " " ++ signed_decimal (play (held_in.held_of self.old.store).kit t.commands).revenue.0) }
         ensures bounded { length self.new.reply ≤ length self.old.reply + 21 }
         ensures store { self.new.store ≡ self.old.store }

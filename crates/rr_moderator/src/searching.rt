@@ -1,10 +1,10 @@
 //! The search for the best run of a corporation at a table.
 ghost use Rattle.rr_words.specs.declared.line.TheConstants.{LONGEST_LINE};
-ghost use Rattle.std.specs.Prelude.{◌≡◌, ◌+◌, false, None, Some, MatchResult, decimal, length};
+ghost use Rattle.std.specs.Prelude.{◌≡◌, ◌+◌, ◌≤◌, false, None, Some, IfOk, MatchResult, decimal, length};
 ghost use Rattle.rr_game.specs.History.Tables.{IsPlayed, kept_in};
 ghost use Rattle.rr_orders.specs.Order.{SpellsOrder};
 ghost use Rattle.rr_orders.specs.declared.order.Order.TheVariants.{RunBest};
-ghost use Rattle.rr_store.specs.Holding.{held_of};
+ghost use Rattle.rr_store.specs.Holding.{GamesArePlayed, held_of};
 ghost use Rattle.rr_store.specs.World.{table_named};
 ghost use Rattle.rr_moderator.specs.Best.{IsBestRun, LacksRun, room_behind, run_verdict};
 
@@ -31,9 +31,10 @@ pub(crate) fn find_best<D: Disk + Drop>(
     corp: Corp,
 ) -> Result<BestRun, Fault>
     requires { (held_of store.now).broken ≡ false }
-    ensures { MatchResult result
-        (λ run. SpellsOrder run.words (RunBest corp run.sheet run.certificate)
-        × IsBestRun (held_of store.now).kit (table_named (held_of store.now).tables name.now) stamp name.now corp run.sheet run.certificate)
+    ensures words { IfOk result (λ run. SpellsOrder run.words (RunBest corp run.sheet run.certificate)) }
+    ensures short { IfOk result (λ run. length run.sheet ≤ LONGEST_LINE) }
+    ensures found { GamesArePlayed store.now → MatchResult result
+        (λ run. IsBestRun (held_of store.now).kit (table_named (held_of store.now).tables name.now) stamp name.now corp run.sheet run.certificate)
         (λ fault. LacksRun (held_of store.now).kit (table_named (held_of store.now).tables name.now) stamp name.now corp fault) }
 {
     let table = runs_at(alloc, store, stamp, name, corp)?;
@@ -52,7 +53,7 @@ fn runs_at<'a, D: Disk + Drop>(
     corp: Corp,
 ) -> Result<&'a Table, records::Fault>
     requires { (held_of store.now).broken ≡ false }
-    ensures { MatchResult result
+    ensures { GamesArePlayed store.now → MatchResult result
         (λ table. (table_named (held_of store.now).tables name.now ≡ Some (kept_in table.now))
         × IsPlayed (held_of store.now).kit table.now
         × (run_verdict (held_of store.now).kit (table_named (held_of store.now).tables name.now) stamp corp ≡ None))

@@ -19,7 +19,8 @@ fn joined(key: usize, part: usize) -> usize
     key % PART_BOUND * PART_WEIGHT + part % PART_BOUND
 }
 
-pub(crate) fn name_key(name: &HexName) -> usize
+/// The key of a hex of this name.
+pub fn name_key(name: &HexName) -> usize
     ensures { result ≡ name_key name.now }
 {
     bytes_key(name.as_bytes())
@@ -35,7 +36,8 @@ fn bytes_key(bytes: &[u8]) -> usize
     key
 }
 
-pub(crate) fn centre_key(centre: &CentreAt) -> usize
+/// The key of a centre: of its hex, and of its number there.
+pub fn centre_key(centre: &CentreAt) -> usize
     ensures { result ≡ centre_key centre.now }
 {
     joined(name_key(&centre.hex), centre.number)
@@ -50,7 +52,8 @@ pub(crate) fn node_key(node: &Node) -> usize
     }
 }
 
-fn hexside_key(side: &Hexside) -> usize
+/// The key of a hexside: of its place, and of its edge.
+pub fn hexside_key(side: &Hexside) -> usize
     ensures { result ≡ hexside_key side.now }
 {
     joined(

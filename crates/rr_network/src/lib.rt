@@ -13,6 +13,7 @@ mod reach;
 mod step;
 mod survey;
 
+pub use key::{centre_key, hexside_key, name_key};
 pub use network::{Network, Stop, last_lay};
 pub use node::{Axial, CentreAt, Hexside, Link, Node, across, hexside_at, same_node};
 pub use reach::Reach;

@@ -139,7 +139,7 @@ fn graph_of(
 {
     let stops = index_of_stops(alloc, network.stops())?;
     let starts = index_of(alloc, steps)?;
-    let mut graph = Vec::new(alloc);
+    let mut graph = Vec::with_capacity(alloc, steps.len())?;
     for step in steps {
         let followers = followers_of(alloc, network, &stops, corp, steps, &starts, step)?;
         graph.push(followers)?;

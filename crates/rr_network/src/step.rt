@@ -28,7 +28,7 @@ pub struct Step {
 pub(crate) fn steps_of(alloc: Global, links: &[Link]) -> Result<Vec<Step>, AllocError>
     ensures { IfOk result (λ steps. steps.items ≡ steps_of links.now) }
 {
-    let mut steps = Vec::new(alloc);
+    let mut steps = Vec::with_capacity(alloc, 2 * links.len())?;
     for (i, link) in links.iter().enumerate() {
         steps.push(forward(i + 1, link))?;
         steps.push(backward(i + 1, link))?;

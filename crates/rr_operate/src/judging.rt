@@ -17,8 +17,8 @@ use rr_words::HexName;
 use std::alloc::Global;
 
 /// Judges a command of a corporation's turn, where its trains earned this revenue in this turn (0 before a run), and
-/// gives what they have earned behind it: what the run earns, nothing behind the turn's end, and the same revenue behind
-/// any other command.
+/// gives what they have earned behind it: what the run earns, nothing behind the turn's end, and the same revenue
+/// behind any other command.
 ///
 /// # Errors
 ///

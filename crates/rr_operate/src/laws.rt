@@ -29,8 +29,8 @@ pub fn worked_order()
     ensures { WorkedOrder }
 {}
 
-/// A corporation with a train ends its turn, and the next round begins; what its trains earned is forgotten. One without a
-/// train could buy one of the pool.
+/// A corporation with a train ends its turn, and the next round begins; what its trains earned is forgotten. One
+/// without a train could buy one of the pool.
 pub fn worked_turn_end()
     ensures { WorkedTurnEnd }
 {}

@@ -23,8 +23,8 @@ pub(crate) struct Turn {
     pub due: Option<Corp>,
 }
 
-/// Whether a command of a corporation's turn comes in its order, where its trains earned this revenue in this turn. What
-/// the rules of the command itself say is asked behind that.
+/// Whether a command of a corporation's turn comes in its order, where its trains earned this revenue in this turn.
+/// What the rules of the command itself say is asked behind that.
 ///
 /// # Errors
 ///

@@ -22,7 +22,8 @@ use rr_lay::{play_lay, play_station};
 ///
 /// # Errors
 ///
-/// `OutOfMemory`, also where the board has no room for a tile or token more; the desk may have some of the entries then.
+/// `OutOfMemory`, also where the board has no room for a tile or token more; the desk may have some of the entries
+/// then.
 pub fn play(kit: &Kit, desk: &mut Desk, revenue: Money, act: &Act) -> Result<(), Refusal>
     requires least { pos 0 ≤ℤ revenue.0 }
     requires greatest { revenue.0 ≤ℤ pos 10000000000 }

@@ -14,25 +14,34 @@ use std::process::Abort;
 
 const CHART: &str = "60 67\n53 60p\n";
 
-fn prr(number: ShareNumber) -> Cert {
-    Cert::Share(Corp::Prr, number)
+const PRR: Corp = Corp::Prr;
+
+const AT_A: Place = Place::Seat(A);
+
+/// Where PRR's certificates are that were given.
+static GIVEN: [(Cert, Place); 7] = [
+    (Cert::President(PRR), AT_A),
+    (Cert::Share(PRR, ShareNumber::One), AT_A),
+    (Cert::Share(PRR, ShareNumber::Two), AT_A),
+    (Cert::Share(PRR, ShareNumber::Three), AT_A),
+    (Cert::Share(PRR, ShareNumber::Four), AT_A),
+    (Cert::Share(PRR, ShareNumber::Five), Place::Pool),
+    (Cert::Share(PRR, ShareNumber::Six), Place::Pool),
+];
+
+// The calls below have no contracts, so that what a test does costs its proof little.
+
+fn give_all(rt: &impl Abort, table: &mut Position, certificates: &[(Cert, Place)]) {
+    for (cert, to) in certificates {
+        give(rt, table, *cert, *to);
+    }
 }
 
 /// Two players with 1,200 each, PRR's shares as said, its token on a cell, and a bank that spent so much.
 fn table(rt: &impl Abort, alloc: Global, spent: u16, row: u8, column: u8) -> Position {
     let mut table = position(rt, alloc, 2);
-    for (cert, to) in [
-        (Cert::President(Corp::Prr), Place::Seat(A)),
-        (prr(ShareNumber::One), Place::Seat(A)),
-        (prr(ShareNumber::Two), Place::Seat(A)),
-        (prr(ShareNumber::Three), Place::Seat(A)),
-        (prr(ShareNumber::Four), Place::Seat(A)),
-        (prr(ShareNumber::Five), Place::Pool),
-        (prr(ShareNumber::Six), Place::Pool),
-    ] {
-        give(rt, &mut table, cert, to);
-    }
-    mark(rt, &mut table, Corp::Prr, row, column);
+    give_all(rt, &mut table, &GIVEN);
+    mark(rt, &mut table, PRR, row, column);
     fund(rt, &mut table, Party::Corp(Corp::Nyc), spent);
     table
 }
@@ -41,111 +50,160 @@ fn cash(position: &Position, party: Party, roster: &Roster) -> i64 {
     position.books().money(party, roster).0
 }
 
-/// What the bank, the two seats and PRR have, where its token is, and how many entries there are.
-fn taken(desk: Desk, roster: &Roster) -> ([i64; 4], Option<Cell>, usize) {
-    let (position, entries) = desk.into_parts();
-    let money = [
-        cash(&position, Party::Bank, roster),
-        cash(&position, Party::Seat(A), roster),
-        cash(&position, Party::Seat(B), roster),
-        cash(&position, Party::Corp(Corp::Prr), roster),
-    ];
-    let cell = position.market().cell(Corp::Prr);
-    (money, cell, entries.as_slice().len())
+/// What the bank, the two seats and PRR have.
+fn money(position: &Position, roster: &Roster) -> [i64; 4] {
+    [
+        cash(position, Party::Bank, roster),
+        cash(position, Party::Seat(A), roster),
+        cash(position, Party::Seat(B), roster),
+        cash(position, Party::Corp(PRR), roster),
+    ]
 }
 
-fn at(row: u8, column: u8) -> Option<Cell> {
-    Some(Cell { row, column })
+/// What they have, where PRR's token is, and how many entries there are.
+type Outcome = ([i64; 4], Option<Cell>, usize);
+
+fn outcome(desk: &Desk, roster: &Roster) -> Outcome {
+    let position = desk.position();
+    let cell = position.market().cell(PRR);
+    let entries = desk.entries().as_slice().len();
+    (money(position, roster), cell, entries)
 }
 
-fn paid(rt: &impl Abort, chart: &Chart, desk: &mut Desk) {
-    pay_out(desk, chart, Corp::Prr, Money(100)).expect(rt, "memory");
+fn pay(rt: &impl Abort, chart: &Chart, desk: &mut Desk) {
+    pay_out(desk, chart, PRR, Money(100)).expect(rt, "memory");
 }
 
-fn kept(rt: &impl Abort, chart: &Chart, desk: &mut Desk, revenue: i64) {
-    assert!(rt; 0 <= revenue && revenue < 1000);
-    withhold(desk, chart, Corp::Prr, Money(revenue)).expect(rt, "memory");
+fn keep(rt: &impl Abort, chart: &Chart, desk: &mut Desk, revenue: u8) {
+    withhold(desk, chart, PRR, Money(i64::from(revenue))).expect(rt, "memory");
+}
+
+/// What comes of 100 dollars paid out, where the bank spent so much and the token is on this cell.
+fn paid(
+    rt: &impl Abort,
+    alloc: Global,
+    chart: &Chart,
+    roster: &Roster,
+    start: (u16, u8, u8),
+) -> Outcome {
+    let (spent, row, column) = start;
+    let mut desk = Desk::new(alloc, &table(rt, alloc, spent, row, column)).expect(rt, "memory");
+    pay(rt, chart, &mut desk);
+    outcome(&desk, roster)
 }
 
 #[test]
 fn a_dividend_is_paid(rt: HostRuntime) {
-    let alloc = rt.alloc();
-    let chart = chart(&rt, alloc, CHART);
-    let mut desk = Desk::new(alloc, table(&rt, alloc, 0, 1, 0));
-    paid(&rt, &chart, &mut desk);
-    let (money, cell, entries) = taken(desk, &roster(&rt, alloc, ROSTER));
-    assert!(rt; money == [9520, 1260, 1200, 20]);
-    assert!(rt; cell == at(1, 1) && entries == 5);
+    let chart = chart(&rt, rt.alloc(), CHART);
+    let roster = roster(&rt, rt.alloc(), ROSTER);
+    let paid = paid(&rt, rt.alloc(), &chart, &roster, (0, 1, 0));
+    let cell = Cell { row: 1, column: 1 };
+    assert!(rt; paid == ([9520, 1260, 1200, 20], Some(cell), 5));
 }
 
 #[test]
 fn a_bank_with_50_owes_30(rt: HostRuntime) {
-    let alloc = rt.alloc();
-    let chart = chart(&rt, alloc, CHART);
-    let mut desk = Desk::new(alloc, table(&rt, alloc, 9550, 1, 1));
-    paid(&rt, &chart, &mut desk);
-    let (money, cell, entries) = taken(desk, &roster(&rt, alloc, ROSTER));
-    assert!(rt; money == [-30, 1260, 1200, 20]);
-    assert!(rt; cell == at(0, 1) && entries == 5);
+    let chart = chart(&rt, rt.alloc(), CHART);
+    let roster = roster(&rt, rt.alloc(), ROSTER);
+    let paid = paid(&rt, rt.alloc(), &chart, &roster, (9550, 1, 1));
+    let cell = Cell { row: 0, column: 1 };
+    assert!(rt; paid == ([-30, 1260, 1200, 20], Some(cell), 5));
 }
 
 #[test]
 fn a_token_stays_at_the_corner(rt: HostRuntime) {
-    let alloc = rt.alloc();
-    let chart = chart(&rt, alloc, CHART);
-    let mut desk = Desk::new(alloc, table(&rt, alloc, 0, 0, 1));
-    paid(&rt, &chart, &mut desk);
-    let (_, cell, entries) = taken(desk, &roster(&rt, alloc, ROSTER));
-    assert!(rt; cell == at(0, 1) && entries == 4);
+    let chart = chart(&rt, rt.alloc(), CHART);
+    let roster = roster(&rt, rt.alloc(), ROSTER);
+    let paid = paid(&rt, rt.alloc(), &chart, &roster, (0, 0, 1));
+    let cell = Cell { row: 0, column: 1 };
+    assert!(rt; paid == ([9520, 1260, 1200, 20], Some(cell), 4));
+}
+
+/// The token's cell, what is withheld, the cell behind it, and how many entries there are.
+type Row = (Cell, u8, Cell, usize);
+
+static WITHHELD: [Row; 3] = [
+    (
+        Cell { row: 0, column: 1 },
+        100,
+        Cell { row: 0, column: 0 },
+        3,
+    ),
+    (Cell { row: 0, column: 0 }, 0, Cell { row: 1, column: 0 }, 3),
+    (
+        Cell { row: 1, column: 0 },
+        50,
+        Cell { row: 1, column: 0 },
+        2,
+    ),
+];
+
+/// Whether PRR has what is withheld, its token is on that cell, and so many entries are added.
+fn is_withheld(rt: &impl Abort, alloc: Global, chart: &Chart, roster: &Roster, row: &Row) -> bool {
+    let (at, revenue, cell, entries) = row;
+    let mut desk = Desk::new(alloc, &table(rt, alloc, 0, at.row, at.column)).expect(rt, "memory");
+    keep(rt, chart, &mut desk, *revenue);
+    let (money, token, added) = outcome(&desk, roster);
+    let right = money[1] == 1200 && money[3] == i64::from(*revenue);
+    right && token == Some(*cell) && added == *entries
+}
+
+fn are_withheld(
+    rt: &impl Abort,
+    alloc: Global,
+    chart: &Chart,
+    roster: &Roster,
+    rows: &[Row],
+) -> bool {
+    for row in rows {
+        if !is_withheld(rt, alloc, chart, roster, row) {
+            return false;
+        }
+    }
+    true
 }
 
 #[test]
 fn what_is_withheld_goes_to_the_corporation(rt: HostRuntime) {
-    let alloc = rt.alloc();
-    let chart = chart(&rt, alloc, CHART);
-    let rows = [
-        (0, 1, 100, at(0, 0), 3),
-        (0, 0, 0, at(1, 0), 3),
-        (1, 0, 50, at(1, 0), 2),
-    ];
-    for (row, column, revenue, cell, entries) in rows {
-        let mut desk = Desk::new(alloc, table(&rt, alloc, 0, row, column));
-        kept(&rt, &chart, &mut desk, revenue);
-        let (money, token, added) = taken(desk, &roster(&rt, alloc, ROSTER));
-        assert!(rt; money[1] == 1200 && money[3] == revenue);
-        assert!(rt; token == cell && added == entries);
-    }
+    let chart = chart(&rt, rt.alloc(), CHART);
+    let roster = roster(&rt, rt.alloc(), ROSTER);
+    assert!(rt; are_withheld(&rt, rt.alloc(), &chart, &roster, &WITHHELD));
+}
+
+/// Whether the first entry is a pay-out's words, and the sixth those of a withholding.
+fn are_words_first(entries: &[Entry]) -> bool {
+    let paid = matches!(
+        entries.get(0),
+        Some(Entry::Step(Marker::Act(Act::PayOut { .. })))
+    );
+    let held = matches!(
+        entries.get(5),
+        Some(Entry::Step(Marker::Act(Act::Hold { .. })))
+    );
+    paid && held
 }
 
 #[test]
 fn words_come_first(rt: HostRuntime) {
     let alloc = rt.alloc();
     let chart = chart(&rt, alloc, CHART);
-    let mut desk = Desk::new(alloc, table(&rt, alloc, 0, 1, 0));
-    paid(&rt, &chart, &mut desk);
-    kept(&rt, &chart, &mut desk, 0);
-    let entries = desk.entries().as_slice();
-    assert!(rt;
-        matches!(
-            entries.get(0),
-            Some(Entry::Step(Marker::Act(Act::PayOut { .. })))
-        )
-    );
-    assert!(rt;
-        matches!(
-            entries.get(5),
-            Some(Entry::Step(Marker::Act(Act::Hold { .. })))
-        )
-    );
+    let mut desk = Desk::new(alloc, &table(&rt, alloc, 0, 1, 0)).expect(&rt, "memory");
+    pay(&rt, &chart, &mut desk);
+    keep(&rt, &chart, &mut desk, 0);
+    assert!(rt; are_words_first(desk.entries().as_slice()));
+}
+
+/// The number of the refusal of a pay-out, or 0.
+fn pay_fault(revenue: i64) -> u8 {
+    match judge_pay(Money(revenue)) {
+        Ok(()) => 0,
+        Err(fault) => fault.number(),
+    }
 }
 
 #[test]
 fn nothing_is_not_paid_out(rt: HostRuntime) {
-    assert!(rt; judge_pay(Money(10)).is_ok());
-    match judge_pay(Money(0)) {
-        Ok(()) => assert!(rt; false),
-        Err(fault) => assert!(rt; fault.number() == 42),
-    }
+    assert!(rt; pay_fault(10) == 0 && pay_fault(0) == 42);
 }
 
 #[test]

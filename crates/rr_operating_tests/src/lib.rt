@@ -14,6 +14,8 @@ mod forced;
 #[cfg(test)]
 mod operate;
 #[cfg(test)]
+mod parts;
+#[cfg(test)]
 mod rules;
 #[cfg(test)]
 mod running;

@@ -1,4 +1,5 @@
 //! A turn of PRR on a small board, with its token in A.
+ghost use Rattle.std.specs.Prelude.{◌≡◌, true};
 ghost use Rattle.rr_trains.specs.Depot.Small.{IsSmall};
 
 use crate::fixtures::{float, fund, give_train, kit, name, operate, position, station};
@@ -27,99 +28,194 @@ const TILES: &[u8] = b"yellow 7 x4 0-1
 green 23 x3 0-3 0-4
 ";
 
-fn turn_kit(rt: &impl Abort, alloc: Global) -> Kit {
-    kit(rt, alloc, b"100p\n", TILES, BOARD)
+const PRR: Corp = Corp::Prr;
+
+const NYC: Corp = Corp::Nyc;
+
+/// A command.
+#[derive(Clone, Copy)]
+enum Order {
+    /// PRR lays tile 23 on B.
+    Lay,
+    /// PRR places a token in D.
+    Station,
+    /// PRR's train runs from A to the town in C.
+    Run,
+    /// The same, with its certificate.
+    RunBest,
+    PayOut,
+    Hold(Corp),
+    /// PRR buys a 2-train of the bank.
+    Train,
+    /// The NYC gives up a 2-train.
+    Discard,
+    End(Corp),
+}
+
+use Order::{Discard, End, Hold, Lay, PayOut, Run, RunBest, Station, Train};
+
+// The calls below have no contracts, so that what a test does costs its proof little.
+
+fn command(rt: &impl Abort, alloc: Global, order: Order) -> Act {
+    match order {
+        Lay => lay(rt),
+        Station => token(rt),
+        Run => run(rt, alloc),
+        RunBest => best_run(rt, alloc),
+        PayOut => Act::PayOut { corp: PRR },
+        Hold(corp) => Act::Hold { corp },
+        Train => train(),
+        Discard => discard(),
+        End(corp) => Act::End { corp },
+    }
+}
+
+fn lay(rt: &impl Abort) -> Act {
+    Act::Lay {
+        corp: PRR,
+        hex: name(rt, b"B"),
+        tile: 23,
+        turn: 2,
+    }
+}
+
+fn token(rt: &impl Abort) -> Act {
+    Act::Station {
+        corp: PRR,
+        hex: name(rt, b"D"),
+        centre: 1,
+    }
 }
 
 fn words(rt: &impl Abort, alloc: Global, text: &[u8]) -> Words {
     Words::of(alloc, text).expect(rt, "memory")
 }
 
+fn run(rt: &impl Abort, alloc: Global) -> Act {
+    let sheet = words(rt, alloc, b"2=1-2-3");
+    Act::Run { corp: PRR, sheet }
+}
+
+fn best_run(rt: &impl Abort, alloc: Global) -> Act {
+    let sheet = words(rt, alloc, b"2=1-2-3");
+    let certificate = words(rt, alloc, b"s5 b s1 b s4 x1 x1");
+    Act::RunBest {
+        corp: PRR,
+        sheet,
+        certificate,
+    }
+}
+
+fn train() -> Act {
+    Act::BuyTrain {
+        corp: PRR,
+        kind: Kind::Two,
+        source: TrainSource::Bank,
+    }
+}
+
+fn discard() -> Act {
+    Act::Discard {
+        corp: NYC,
+        kind: Kind::Two,
+    }
+}
+
+/// Whether the price is small, as that of each of these commands is.
+fn is_small(act: &Act) -> bool
+    ensures { result ≡ true → IsSmall act.now }
+{
+    match act {
+        Act::BuyTrainFrom { price, .. } => *price <= 10_000_000_000,
+        Act::TakePrivate { price, .. } => *price <= 10_000_000_000,
+        _ => true,
+    }
+}
+
+fn turn_kit(rt: &impl Abort, alloc: Global) -> Kit {
+    kit(rt, alloc, b"100p\n", TILES, BOARD)
+}
+
 /// PRR has 500 dollars and its token in A, and is due; the NYC waits. The first 3 is sold.
 fn operating(rt: &impl Abort, alloc: Global) -> Position {
     let mut table = position(rt, alloc, 2);
-    fund(rt, &mut table, Party::Corp(Corp::Prr), 500);
-    station(rt, &mut table, Corp::Prr, b"A");
+    fund(rt, &mut table, Party::Corp(PRR), 500);
+    station(rt, &mut table, PRR, b"A");
     give_train(rt, &mut table, Kind::Three, 1, Place::Gone);
-    float(rt, &mut table, Corp::Prr);
-    float(rt, &mut table, Corp::Nyc);
+    float(rt, &mut table, PRR);
+    float(rt, &mut table, NYC);
     operate(rt, &mut table);
     table
 }
 
 /// What the trains have earned behind the command, or the fault's number.
-fn judged(
-    rt: &impl Abort,
-    alloc: Global,
-    table: &Position,
-    revenue: u16,
-    act: &Act,
-) -> Result<i64, u8> {
-    let kit = turn_kit(rt, alloc);
-    match judge(alloc, &kit, table, Money(i64::from(revenue)), act) {
+type Verdict = Result<i64, u8>;
+
+fn verdict(alloc: Global, kit: &Kit, table: &Position, revenue: u8, act: &Act) -> Verdict {
+    match judge(alloc, kit, table, Money(i64::from(revenue)), act) {
         Ok(next) => Ok(next.0),
         Err(fault) => Err(fault.number()),
     }
 }
 
+/// The verdict on a command, where the trains have earned so much.
+fn judged(
+    rt: &impl Abort,
+    alloc: Global,
+    kit: &Kit,
+    table: &Position,
+    order: Order,
+    revenue: u8,
+) -> Verdict {
+    verdict(alloc, kit, table, revenue, &command(rt, alloc, order))
+}
+
 /// The number of the fault of the command's order, or 0.
-fn order_fault(rt: &impl Abort, alloc: Global, table: &Position, revenue: u16, act: &Act) -> u8 {
-    let kit = turn_kit(rt, alloc);
-    match judge_order(&kit, table, Money(i64::from(revenue)), act) {
+fn order_fault(kit: &Kit, table: &Position, act: &Act) -> u8 {
+    match judge_order(kit, table, Money(0), act) {
         Ok(()) => 0,
         Err(fault) => fault.number(),
     }
+}
+
+fn added(rt: &impl Abort, kit: &Kit, desk: &mut Desk, revenue: u8, act: &Act) {
+    assert!(rt; is_small(act));
+    play(kit, desk, Money(i64::from(revenue)), act).expect(rt, "memory");
 }
 
 /// How many entries a command adds, and the table behind it.
 fn with(
     rt: &impl Abort,
     alloc: Global,
+    kit: &Kit,
     table: Position,
-    revenue: u16,
-    act: &Act,
-) -> (usize, Position)
-    requires { IsSmall act.now }
-{
-    let mut desk = Desk::new(alloc, table);
-    let kit = turn_kit(rt, alloc);
-    play(&kit, &mut desk, Money(i64::from(revenue)), act).expect(rt, "memory");
+    order: Order,
+    revenue: u8,
+) -> (usize, Position) {
+    let mut desk = Desk::new(alloc, &table).expect(rt, "memory");
+    added(rt, kit, &mut desk, revenue, &command(rt, alloc, order));
     let (position, entries) = desk.into_parts();
-    (entries.as_slice().len(), position)
+    (entries.as_slice().len(), *position)
 }
 
 #[test]
 fn a_turn_with_a_tile_a_token_and_a_train(rt: HostRuntime) {
     let alloc = rt.alloc();
+    let kit = turn_kit(&rt, alloc);
     let table = operating(&rt, alloc);
-    let corp = Corp::Prr;
-    let lay = Act::Lay {
-        corp,
-        hex: name(&rt, b"B"),
-        tile: 23,
-        turn: 2,
-    };
-    assert!(rt; judged(&rt, alloc, &table, 0, &lay) == Ok(0));
-    let (laid, table) = with(&rt, alloc, table, 0, &lay);
-    let station = Act::Station {
-        corp,
-        hex: name(&rt, b"D"),
-        centre: 1,
-    };
-    assert!(rt; judged(&rt, alloc, &table, 0, &lay) == Err(42));
-    assert!(rt; judged(&rt, alloc, &table, 0, &station) == Ok(0));
-    let (placed, table) = with(&rt, alloc, table, 0, &station);
-    let (held, table) = with(&rt, alloc, table, 0, &Act::Hold { corp });
-    assert!(rt; judged(&rt, alloc, &table, 0, &Act::End { corp }) == Err(47));
-    let train = Act::BuyTrain {
-        corp,
-        kind: Kind::Two,
-        source: TrainSource::Bank,
-    };
-    assert!(rt; judged(&rt, alloc, &table, 0, &train) == Ok(0));
-    let (bought, table) = with(&rt, alloc, table, 0, &train);
-    assert!(rt; judged(&rt, alloc, &table, 0, &Act::End { corp }) == Ok(0));
-    let (ended, _) = with(&rt, alloc, table, 0, &Act::End { corp });
+    let lay = judged(&rt, alloc, &kit, &table, Lay, 0);
+    let (laid, table) = with(&rt, alloc, &kit, table, Lay, 0);
+    let again = judged(&rt, alloc, &kit, &table, Lay, 0);
+    let station = judged(&rt, alloc, &kit, &table, Station, 0);
+    let (placed, table) = with(&rt, alloc, &kit, table, Station, 0);
+    assert!(rt; [lay, again, station] == [Ok(0), Err(42), Ok(0)]);
+    let (held, table) = with(&rt, alloc, &kit, table, Hold(PRR), 0);
+    let owing = judged(&rt, alloc, &kit, &table, End(PRR), 0);
+    let train = judged(&rt, alloc, &kit, &table, Train, 0);
+    let (bought, table) = with(&rt, alloc, &kit, table, Train, 0);
+    let end = judged(&rt, alloc, &kit, &table, End(PRR), 0);
+    assert!(rt; [owing, train, end] == [Err(47), Ok(0), Ok(0)]);
+    let (ended, _) = with(&rt, alloc, &kit, table, End(PRR), 0);
     // Words and tile; words, payment and token; words and payment; words, train and payment; words and NYC's token.
     assert!(rt; [laid, placed, held, bought, ended] == [3, 3, 2, 3, 2]);
 }
@@ -127,25 +223,18 @@ fn a_turn_with_a_tile_a_token_and_a_train(rt: HostRuntime) {
 #[test]
 fn a_run_is_paid_out(rt: HostRuntime) {
     let alloc = rt.alloc();
+    let kit = turn_kit(&rt, alloc);
     let mut table = operating(&rt, alloc);
-    give_train(&rt, &mut table, Kind::Two, 1, Place::Corp(Corp::Prr));
-    let corp = Corp::Prr;
-    let best = Act::RunBest {
-        corp,
-        sheet: words(&rt, alloc, b"2=1-2-3"),
-        certificate: words(&rt, alloc, b"s5 b s1 b s4 x1 x1"),
-    };
-    let run = Act::Run {
-        corp,
-        sheet: words(&rt, alloc, b"2=1-2-3"),
-    };
-    assert!(rt; judged(&rt, alloc, &table, 0, &run) == Ok(30));
-    assert!(rt; judged(&rt, alloc, &table, 0, &best) == Ok(30));
-    let (ran, table) = with(&rt, alloc, table, 0, &best);
-    assert!(rt; judged(&rt, alloc, &table, 0, &Act::PayOut { corp }) == Err(42));
-    assert!(rt; judged(&rt, alloc, &table, 30, &Act::PayOut { corp }) == Ok(30));
-    let (paid, table) = with(&rt, alloc, table, 30, &Act::PayOut { corp });
-    assert!(rt; judged(&rt, alloc, &table, 30, &Act::End { corp }) == Ok(0));
+    give_train(&rt, &mut table, Kind::Two, 1, Place::Corp(PRR));
+    let run = judged(&rt, alloc, &kit, &table, Run, 0);
+    let best = judged(&rt, alloc, &kit, &table, RunBest, 0);
+    let (ran, table) = with(&rt, alloc, &kit, table, RunBest, 0);
+    assert!(rt; [run, best] == [Ok(30), Ok(30)]);
+    let nothing = judged(&rt, alloc, &kit, &table, PayOut, 0);
+    let pay = judged(&rt, alloc, &kit, &table, PayOut, 30);
+    let (paid, table) = with(&rt, alloc, &kit, table, PayOut, 30);
+    let end = judged(&rt, alloc, &kit, &table, End(PRR), 30);
+    assert!(rt; [nothing, pay, end] == [Err(42), Ok(30), Ok(0)]);
     // The certificate and the words; the words, two seats and the pool.
     assert!(rt; [ran, paid] == [2, 4]);
 }
@@ -153,20 +242,17 @@ fn a_run_is_paid_out(rt: HostRuntime) {
 #[test]
 fn commands_come_in_their_order(rt: HostRuntime) {
     let alloc = rt.alloc();
+    let kit = turn_kit(&rt, alloc);
     let mut table = operating(&rt, alloc);
-    let corp = Corp::Nyc;
-    let drop = Act::Discard {
-        corp,
-        kind: Kind::Two,
-    };
-    assert!(rt; order_fault(&rt, alloc, &table, 0, &Act::End { corp }) == 42);
-    assert!(rt; order_fault(&rt, alloc, &table, 0, &Act::Hold { corp }) == 20);
-    assert!(rt; judged(&rt, alloc, &table, 0, &drop) == Err(42));
+    let end = Act::End { corp: NYC };
+    let hold = Act::Hold { corp: NYC };
+    assert!(rt; order_fault(&kit, &table, &end) == 42 && order_fault(&kit, &table, &hold) == 20);
+    assert!(rt; judged(&rt, alloc, &kit, &table, Discard, 0) == Err(42));
     for number in 1..=5 {
-        give_train(&rt, &mut table, Kind::Two, number, Place::Corp(corp));
+        give_train(&rt, &mut table, Kind::Two, number, Place::Corp(NYC));
     }
-    assert!(rt; order_fault(&rt, alloc, &table, 0, &Act::End { corp }) == 46);
-    assert!(rt; judged(&rt, alloc, &table, 0, &drop) == Ok(0));
+    assert!(rt; order_fault(&kit, &table, &end) == 46);
+    assert!(rt; judged(&rt, alloc, &kit, &table, Discard, 0) == Ok(0));
 }
 
 #[test]

@@ -1,88 +1,183 @@
 //! Runs of PRR on the small board, with its token in A.
 use crate::fixtures::{small_kit, with_train};
 use rr_books::{Clause, Corp, Kind, Refusal};
+use rr_desk::Position;
+use rr_kit::Kit;
 use rr_routes::sheets::{is_certificate, is_sheet};
 use rr_running::laws::{best_earns_most, one_verdict_on_a_run};
 use rr_running::{BestRun, judge_best_run, judge_run, kinds_held, net_now};
 use std::alloc::Global;
 use std::process::Abort;
 
+// The calls below have no contracts and assert nothing, so that what a test does costs its proof little.
+
 /// The revenue, or the fault's number.
-fn judged(rt: &impl Abort, alloc: Global, kind: Kind, words: &[u8]) -> Result<i64, u8> {
-    let table = with_train(rt, alloc, kind);
-    match judge_run(alloc, &small_kit(rt, alloc), &table, Corp::Prr, words) {
+type Verdict = Result<i64, u8>;
+
+fn judged(alloc: Global, kit: &Kit, table: &Position, words: &[u8]) -> Verdict {
+    match judge_run(alloc, kit, table, Corp::Prr, words) {
         Ok(revenue) => Ok(revenue.0),
         Err(fault) => Err(fault.number()),
     }
 }
 
-/// The same with a certificate.
-fn shown(rt: &impl Abort, alloc: Global, words: &[u8], certificate: &[u8]) -> Result<i64, u8> {
-    let table = with_train(rt, alloc, Kind::Two);
-    let kit = small_kit(rt, alloc);
+/// Whether each of the runs has its verdict.
+fn are_judged(alloc: Global, kit: &Kit, table: &Position, runs: &[(&[u8], Verdict)]) -> bool {
+    for (words, verdict) in runs {
+        if judged(alloc, kit, table, *words) != *verdict {
+            return false;
+        }
+    }
+    true
+}
+
+/// The verdict on a run with a certificate.
+fn shown(alloc: Global, kit: &Kit, table: &Position, words: &[u8], certificate: &[u8]) -> Verdict {
     let run = BestRun { words, certificate };
-    match judge_best_run(alloc, &kit, &table, Corp::Prr, &run) {
+    match judge_best_run(alloc, kit, table, Corp::Prr, &run) {
         Ok(revenue) => Ok(revenue.0),
         Err(fault) => Err(fault.number()),
     }
 }
+
+static OF_A_TWO: [(&[u8], Verdict); 4] = [
+    (b"2=1-2-3", Ok(30)),
+    (b"2=1-2-3-4-5", Err(39)),
+    (b"3=1-2-3", Err(39)),
+    (b"2=-", Ok(0)),
+];
+
+static OF_A_DIESEL: [(&[u8], Verdict); 1] = [(b"D=1-2-3-4-5-6-7", Ok(100))];
 
 #[test]
 fn a_sheet_earns_its_revenue(rt: HostRuntime) {
     let alloc = rt.alloc();
-    assert!(rt; judged(&rt, alloc, Kind::Two, b"2=1-2-3") == Ok(30));
-    assert!(rt; judged(&rt, alloc, Kind::Two, b"2=1-2-3-4-5") == Err(39));
-    assert!(rt; judged(&rt, alloc, Kind::Two, b"3=1-2-3") == Err(39));
-    assert!(rt; judged(&rt, alloc, Kind::Diesel, b"D=1-2-3-4-5-6-7") == Ok(100));
-    assert!(rt; judged(&rt, alloc, Kind::Two, b"2=-") == Ok(0));
+    let kit = small_kit(&rt, alloc);
+    let two = with_train(&rt, alloc, Kind::Two);
+    let diesel = with_train(&rt, alloc, Kind::Diesel);
+    assert!(rt; are_judged(alloc, &kit, &two, &OF_A_TWO));
+    assert!(rt; are_judged(alloc, &kit, &diesel, &OF_A_DIESEL));
+}
+
+static NO_SHEETS: [&[u8]; 6] = [b"2", b"2=", b"2=01-2", b" ", b"2=1-2-3 ", b"T=1"];
+
+/// Whether the words are no sheet, and a run by them is refused, with a certificate too.
+fn is_refused(alloc: Global, kit: &Kit, table: &Position, words: &[u8]) -> bool {
+    let refused = judged(alloc, kit, table, words) == Err(39);
+    refused && !is_sheet(words) && shown(alloc, kit, table, words, b"b") == Err(39)
+}
+
+fn are_refused(alloc: Global, kit: &Kit, table: &Position, sheets: &[&[u8]]) -> bool {
+    for words in sheets {
+        if !is_refused(alloc, kit, table, *words) {
+            return false;
+        }
+    }
+    true
+}
+
+/// Whether the run is refused for a wrong word, or memory is wanted.
+fn has_wrong_word(alloc: Global, kit: &Kit, table: &Position, words: &[u8]) -> bool {
+    let judged = judge_run(alloc, kit, table, Corp::Prr, words);
+    let clause = Refusal::IllegalSheet(Clause::WrongWord);
+    judged == Err(clause) || judged == Err(Refusal::OutOfMemory)
 }
 
 #[test]
 fn words_that_spell_no_sheet_are_refused(rt: HostRuntime) {
     let alloc = rt.alloc();
-    let words: [&[u8]; 6] = [b"2", b"2=", b"2=01-2", b" ", b"2=1-2-3 ", b"T=1"];
-    for words in words {
-        assert!(rt; !is_sheet(words));
-        assert!(rt; judged(&rt, alloc, Kind::Two, words) == Err(39));
-        assert!(rt; shown(&rt, alloc, words, b"b") == Err(39));
-    }
-    let clause = Refusal::IllegalSheet(Clause::WrongWord);
+    let kit = small_kit(&rt, alloc);
     let table = with_train(&rt, alloc, Kind::Two);
-    let judged = judge_run(alloc, &small_kit(&rt, alloc), &table, Corp::Prr, b"2-1");
-    assert!(rt; judged == Err(clause) || judged == Err(Refusal::OutOfMemory));
+    assert!(rt; are_refused(alloc, &kit, &table, &NO_SHEETS));
+    assert!(rt; has_wrong_word(alloc, &kit, &table, b"2-1"));
+}
+
+static SHEETS: [(&[u8], bool); 3] = [
+    (b"", true),
+    (b"2=1-2-3 D=- 6=9999999999", true),
+    (b"6=10000000000", false),
+];
+
+static CERTIFICATES: [(&[u8], bool); 5] = [
+    (b"", true),
+    (b"f s5 x1 b", true),
+    (b"s0", true),
+    (b"s", false),
+    (b"b  b", false),
+];
+
+fn are_sheets(sheets: &[(&[u8], bool)]) -> bool {
+    for (words, wanted) in sheets {
+        if is_sheet(*words) != *wanted {
+            return false;
+        }
+    }
+    true
+}
+
+fn are_certificates(certificates: &[(&[u8], bool)]) -> bool {
+    for (words, wanted) in certificates {
+        if is_certificate(*words) != *wanted {
+            return false;
+        }
+    }
+    true
 }
 
 #[test]
 fn the_form_of_a_line_is_told_without_memory(rt: HostRuntime) {
-    assert!(rt; is_sheet(b""));
-    assert!(rt; is_sheet(b"2=1-2-3 D=- 6=9999999999"));
-    assert!(rt; !is_sheet(b"6=10000000000"));
-    assert!(rt; is_certificate(b""));
-    assert!(rt; is_certificate(b"f s5 x1 b"));
-    assert!(rt; is_certificate(b"s0"));
-    assert!(rt; !is_certificate(b"s"));
-    assert!(rt; !is_certificate(b"b  b"));
+    assert!(rt; are_sheets(&SHEETS) && are_certificates(&CERTIFICATES));
+}
+
+const TREE: &[u8] = b"s5 b s1 b s4 x1 x1";
+
+/// A sheet, a certificate, and the verdict.
+static SHOWN: [(&[u8], &[u8], Verdict); 4] = [
+    (b"2=1-2-3", TREE, Ok(30)),
+    (b"2=-", TREE, Err(40)),
+    (b"2=1-2-3", b"s5 b", Err(40)),
+    (b"2=1-2-3-4-5", TREE, Err(39)),
+];
+
+fn are_shown(alloc: Global, kit: &Kit, table: &Position, runs: &[(&[u8], &[u8], Verdict)]) -> bool {
+    for (words, certificate, verdict) in runs {
+        if shown(alloc, kit, table, *words, *certificate) != *verdict {
+            return false;
+        }
+    }
+    true
 }
 
 #[test]
 fn a_certificate_is_judged(rt: HostRuntime) {
     let alloc = rt.alloc();
-    let tree = b"s5 b s1 b s4 x1 x1";
-    assert!(rt; shown(&rt, alloc, b"2=1-2-3", tree) == Ok(30));
-    assert!(rt; shown(&rt, alloc, b"2=-", tree) == Err(40));
-    assert!(rt; shown(&rt, alloc, b"2=1-2-3", b"s5 b") == Err(40));
-    assert!(rt; shown(&rt, alloc, b"2=1-2-3-4-5", tree) == Err(39));
+    let kit = small_kit(&rt, alloc);
+    let table = with_train(&rt, alloc, Kind::Two);
+    assert!(rt; are_shown(alloc, &kit, &table, &SHOWN));
+}
+
+/// Whether the corporation's one train is a 3.
+fn holds_a_three(alloc: Global, table: &Position) -> bool {
+    match kinds_held(alloc, table.books(), Corp::Prr) {
+        Ok(kinds) => kinds.as_slice() == [Kind::Three].as_slice(),
+        Err(_) => false,
+    }
+}
+
+/// How many trains and links the net has.
+fn sizes(alloc: Global, kit: &Kit, table: &Position) -> (usize, usize) {
+    match net_now(alloc, kit, table, Corp::Prr) {
+        Ok(net) => (net.trains().len(), net.links().len()),
+        Err(_) => (0, 0),
+    }
 }
 
 #[test]
 fn a_net_has_the_trains_of_the_corporation(rt: HostRuntime) {
     let alloc = rt.alloc();
+    let kit = small_kit(&rt, alloc);
     let table = with_train(&rt, alloc, Kind::Three);
-    let kinds = kinds_held(alloc, table.books(), Corp::Prr).expect(&rt, "memory");
-    assert!(rt; kinds.as_slice() == [Kind::Three].as_slice());
-    let net = net_now(alloc, &small_kit(&rt, alloc), &table, Corp::Prr).expect(&rt, "memory");
-    assert!(rt; net.trains().len() == 1);
-    assert!(rt; net.links().len() == 7);
+    assert!(rt; holds_a_three(alloc, &table) && sizes(alloc, &kit, &table) == (1, 7));
 }
 
 #[test]

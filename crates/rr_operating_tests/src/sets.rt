@@ -12,58 +12,53 @@ const BOARD: &str = "hex A 0,0 grey c20/1:5
 home PRR A 1
 ";
 
-/// What the last entry is.
-#[derive(Drop)]
-enum Ending {
-    Nothing,
-    StockRound,
-    OperatingRound,
-    Token,
-    Other,
-}
+// The calls below have no contracts, so that what a test does costs its proof little.
 
 fn home_kit(rt: &impl Abort, alloc: Global) -> Kit {
     kit(rt, alloc, b"100p\n", b"yellow 7 x4 0-1\n", BOARD)
 }
 
-fn ending_of(entries: &[Entry]) -> Ending {
-    match entries {
-        [] => Ending::Nothing,
-        [.., Entry::Step(Marker::Stock)] => Ending::StockRound,
-        [.., Entry::Step(Marker::Operating)] => Ending::OperatingRound,
-        [.., Entry::Station { .. }] => Ending::Token,
-        _ => Ending::Other,
-    }
+fn end_in_a_stock_round(entries: &[Entry]) -> bool {
+    matches!(entries, [.., Entry::Step(Marker::Stock)])
 }
 
-/// How many entries a desk has, what the last one is, and the position.
-fn done(desk: Desk) -> (usize, Ending, Position) {
+fn end_with_a_token(entries: &[Entry]) -> bool {
+    matches!(entries, [.., Entry::Station { .. }])
+}
+
+/// How many entries there are, and whether the last one begins a stock round or places a token.
+type Added = (usize, bool, bool);
+
+/// What a desk has added, and the position.
+fn done(desk: Desk) -> (Added, Position) {
     let (position, entries) = desk.into_parts();
-    let ending = ending_of(entries.as_slice());
-    (entries.as_slice().len(), ending, position)
+    let entries = entries.as_slice();
+    let stock = end_in_a_stock_round(entries);
+    let token = end_with_a_token(entries);
+    ((entries.len(), stock, token), *position)
 }
 
 fn behind_stock_round(
     rt: &impl Abort,
     alloc: Global,
+    kit: &Kit,
     table: Position,
-) -> (usize, Ending, Position) {
-    let mut desk = Desk::new(alloc, table);
-    go_on_in_stock_round(&mut desk, &home_kit(rt, alloc)).expect(rt, "memory");
+) -> (Added, Position) {
+    let mut desk = Desk::new(alloc, &table).expect(rt, "memory");
+    go_on_in_stock_round(&mut desk, kit).expect(rt, "memory");
     done(desk)
 }
 
-fn behind_turn(
-    rt: &impl Abort,
-    alloc: Global,
-    table: Position,
-    corp: Corp,
-) -> (usize, Ending, Position) {
+fn end_turn(rt: &impl Abort, table: &mut Position) {
+    let end = Entry::Step(Marker::Act(Act::End { corp: Corp::Prr }));
+    table.follow(&end).expect(rt, "room");
+}
+
+fn behind_turn(rt: &impl Abort, alloc: Global, kit: &Kit, table: Position) -> (Added, Position) {
     let mut more = table;
-    let end = Entry::Step(Marker::Act(Act::End { corp }));
-    more.follow(&end).expect(rt, "room");
-    let mut desk = Desk::new(alloc, more);
-    go_on_in_operating_round(&mut desk, &home_kit(rt, alloc)).expect(rt, "memory");
+    end_turn(rt, &mut more);
+    let mut desk = Desk::new(alloc, &more).expect(rt, "memory");
+    go_on_in_operating_round(&mut desk, kit).expect(rt, "memory");
     done(desk)
 }
 
@@ -78,36 +73,36 @@ fn stock_round(rt: &impl Abort, alloc: Global) -> Position {
 
 #[test]
 fn nothing_follows_within_a_stock_round(rt: HostRuntime) {
-    let alloc = rt.alloc();
-    let (entries, ending, _) = behind_stock_round(&rt, alloc, stock_round(&rt, alloc));
-    assert!(rt; entries == 0 && matches!(ending, Ending::Nothing));
+    let kit = home_kit(&rt, rt.alloc());
+    let table = stock_round(&rt, rt.alloc());
+    let (added, _) = behind_stock_round(&rt, rt.alloc(), &kit, table);
+    assert!(rt; added == (0, false, false));
 }
 
 #[test]
 fn rounds_without_a_corporation_pass(rt: HostRuntime) {
-    let alloc = rt.alloc();
-    let mut table = stock_round(&rt, alloc);
+    let kit = home_kit(&rt, rt.alloc());
+    let mut table = stock_round(&rt, rt.alloc());
     operate(&rt, &mut table);
-    let (entries, ending, _) = behind_stock_round(&rt, alloc, table);
+    let (added, _) = behind_stock_round(&rt, rt.alloc(), &kit, table);
     // An income, the second round with its income, the next stock round.
-    assert!(rt; entries == 4 && matches!(ending, Ending::StockRound));
+    assert!(rt; added == (4, true, false));
 }
 
 #[test]
 fn a_set_of_two_rounds(rt: HostRuntime) {
-    let alloc = rt.alloc();
-    let mut table = stock_round(&rt, alloc);
+    let kit = home_kit(&rt, rt.alloc());
+    let mut table = stock_round(&rt, rt.alloc());
     float(&rt, &mut table, Corp::Prr);
     operate(&rt, &mut table);
-    let (entries, ending, table) = behind_stock_round(&rt, alloc, table);
+    let (added, table) = behind_stock_round(&rt, rt.alloc(), &kit, table);
     // The income, and PRR's token at home.
-    assert!(rt; entries == 2 && matches!(ending, Ending::Token));
-    assert!(rt; table.layout().stations().len() == 1);
-    let (entries, ending, table) = behind_turn(&rt, alloc, table, Corp::Prr);
+    assert!(rt; added == (2, false, true) && table.layout().stations().len() == 1);
+    let (added, table) = behind_turn(&rt, rt.alloc(), &kit, table);
     // The second round and its income; PRR has its token.
-    assert!(rt; entries == 2 && matches!(ending, Ending::Other));
-    let (entries, ending, _) = behind_turn(&rt, alloc, table, Corp::Prr);
-    assert!(rt; entries == 1 && matches!(ending, Ending::StockRound));
+    assert!(rt; added == (2, false, false));
+    let (added, _) = behind_turn(&rt, rt.alloc(), &kit, table);
+    assert!(rt; added == (1, true, false));
 }
 
 #[test]

@@ -11,8 +11,8 @@ use rr_roster::{Corp, Kind, Private, TrainSource};
 use rr_words::{HexName, Name};
 use std::alloc::AllocError;
 
-/// What a corporation does in its turn of an operating round, or a player for it. A number that an order's words spell has
-/// one to ten digits, so it is below 10^10, and the first of several digits is not 0.
+/// What a corporation does in its turn of an operating round, or a player for it. A number that an order's words spell
+/// has one to ten digits, so it is below 10^10, and the first of several digits is not 0.
 #[derive(Debug, Drop, PartialEq, Eq)]
 pub enum Order<'a> {
     /// The corporation lays the tile of this number, 1 to 999, turned by this many sixths, 0 to 5.
@@ -86,8 +86,8 @@ pub enum Order<'a> {
     Force {
         corp: Corp,
     },
-    /// The president sells this number of 10% shares of a corporation to raise money for the train that its own corporation
-    /// must buy.
+    /// The president sells this number of 10% shares of a corporation to raise money for the train that its own
+    /// corporation must buy.
     Raise {
         player: Name,
         corp: Corp,
@@ -100,9 +100,9 @@ pub enum Order<'a> {
 }
 
 impl<'a> Order<'a> {
-    /// Reads the words of an order as a table keeps them, without a stamp and the table's name; `None` where the bytes are
-    /// no order's text. Each order has one text: its words with one space between each two, none before and none behind,
-    /// and numbers without a leading zero. It takes no memory.
+    /// Reads the words of an order as a table keeps them, without a stamp and the table's name; `None` where the bytes
+    /// are no order's text. Each order has one text: its words with one space between each two, none before and none
+    /// behind, and numbers without a leading zero. It takes no memory.
     pub fn read(words: &'a [u8]) -> Option<Order<'a>>
         ensures exact { result ≡ read_order (words_of words.now) }
         ensures found { IfSome result (λ order. SpellsOrder words.now order) }

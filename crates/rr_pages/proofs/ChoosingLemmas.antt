@@ -2,12 +2,12 @@
 use Rattle.std.proofs.Common.{◌≡◌, ◌⊎◌, inl, inr, ℕ, zero, suc, ◌+◌, ◌*◌, ◌<◌, ◌≤◌, Bool, true, false, not, List, length, slice_index, Some, None, Err, refl, sym, ◌∙◌, arith}
 use Rattle.rr_disk.specs.Disk.{IsAt}
 use Rattle.rr_pages.specs.declared.fault.Fault.{Fault}
-use Rattle.rr_pages.specs.declared.fault.Fault.TheVariants.{FileFull, Damaged, NotAStore, Disk, OutOfMemory}
+use Rattle.rr_pages.specs.declared.fault.Fault.TheVariants.{FileFull, HalfFull, Damaged, NotAStore, Disk, OutOfMemory}
 use Rattle.rr_pages.specs.declared.root.Root.{Root}
 use Rattle.rr_pages.specs.declared.choosing.Fields.{Fields}
 use Rattle.rr_pages.specs.Roots.{half_number, root_gate, IsRootOpen, IsKnownVersion, field, HasFields, IsSound, Stale, Shut, Older, IsStale, IsTaken}
-use Rattle.rr_pages.specs.Choosing.{IsNoStore, Too_short, Both_shut, Another_version, AreInBounds, HasBadField, Out_of_bounds, Same_number, AreFields, StandsBehind, AreFieldsIn, IsInBounds, IsRootOf, Chooses, OnlyDevice, IsJudged}
-use Rattle.rr_pages.specs.Faults.{CountsFault}
+use Rattle.rr_pages.specs.Choosing.{IsNoStore, Too_short, Both_shut, Another_version, AreInBounds, HasBadField, Out_of_bounds, Same_number, AreFields, StandsBehind, AreFieldsIn, IsInBounds, IsRootOf, Chooses, IsJudged}
+use Rattle.rr_pages.specs.Faults.{CountsFault, OnlyDevice}
 use Rattle.rr_pages.specs.Pages.{number_in}
 use Rattle.rr_pages.proofs.Bytes.{at_index, number_read}
 use Rattle.rr_pages.proofs.Versions.{known_same}
@@ -251,6 +251,7 @@ fields_stand file side bytes fields is whole are =
 -- a fault of the device says nothing of the file
 pub chooses_nothing : (T : Type 0) (file : List ℕ) (fault : Fault) → OnlyDevice {T = T} (Err fault) → Chooses file (Err fault)
 chooses_nothing T file FileFull none = absurd none
+chooses_nothing T file HalfFull none = absurd none
 chooses_nothing T file (Damaged damage) none = absurd none
 chooses_nothing T file NotAStore none = absurd none
 chooses_nothing T file (Disk fault) none = tt
@@ -259,6 +260,7 @@ chooses_nothing T file OutOfMemory none = absurd none
 -- and a verdict is none of the device
 pub judged_counts : (S T : Type 0) (old new : ℕ) (fault : Fault) → IsJudged {T = S} (Err fault) → new ≡ old → CountsFault {T = T} old new (Err fault)
 judged_counts S T old new FileFull none same = absurd none
+judged_counts S T old new HalfFull none same = absurd none
 judged_counts S T old new (Damaged damage) none same = same
 judged_counts S T old new NotAStore none same = same
 judged_counts S T old new (Disk fault) none same = absurd none

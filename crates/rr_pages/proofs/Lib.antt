@@ -4,7 +4,11 @@ pub mod DeviceCalls
 pub mod Moments
 pub mod Spelling
 pub mod RootSpelling
+pub mod MarkLemmas
+pub mod WordLemmas
+pub mod PageSetLemmas
 pub mod SetLemmas
+pub mod TakenLemmas
 pub mod ChoosingLemmas
 pub mod Walks
 pub mod Lists

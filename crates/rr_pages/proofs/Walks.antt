@@ -1,22 +1,22 @@
 -- Following a chain from page to page.
-use Rattle.std.proofs.Common.{◌≡◌, ◌≢◌, ◌⊎◌, inl, inr, ℕ, zero, suc, ◌+◌, ◌*◌, ◌<◌, ◌≤◌, Bool, true, false, ◌||◌, List, [], ◌∷◌, ◌++◌, length, get_or, sum_by, nat_lt, ◌==◌, if◌then◌else◌, Option, Some, None, Result, Err, refl, sym, ◌∙◌, ap, subst, arith, length-append}
+use Rattle.std.proofs.Common.{◌≡◌, ◌≢◌, ◌⊎◌, inl, inr, ℕ, zero, suc, ◌+◌, ◌*◌, ◌<◌, ◌≤◌, Bool, true, false, ◌||◌, ◌&&◌, List, [], ◌∷◌, ◌++◌, length, get_or, sum_by, nat_lt, ◌==◌, if◌then◌else◌, Option, Some, None, Result, Err, refl, sym, ◌∙◌, ap, subst, arith, length-append}
 use Rattle.std.specs.List.{list_any}
-use Rattle.std.proofs.lemmas.Bool.{or_parts, or_from, ltb-false, le-ltb, eq-eqb, cond-true, cond-false, cases_eq}
+use Rattle.std.proofs.lemmas.Bool.{and_from, and_parts, or_parts, or_from, ltb-true, lt-ltb, ltb-false, le-ltb, eq-eqb, cond-true, cond-false, cases_eq}
 use Rattle.std.proofs.lemmas.List.{map-append, append_assoc, append-nil, length-set}
 use Rattle.std.proofs.lemmas.List.Sums.{sum_by-cons}
 use Rattle.rr_pages.specs.declared.fault.Damage.{Damage}
 use Rattle.rr_pages.specs.declared.fault.Damage.TheVariants.{PageOutside, PageTwice, UsedBytes, Form}
 use Rattle.rr_pages.specs.declared.fault.Fault.{Fault}
-use Rattle.rr_pages.specs.declared.fault.Fault.TheVariants.{FileFull, Damaged, NotAStore, Disk, OutOfMemory}
+use Rattle.rr_pages.specs.declared.fault.Fault.TheVariants.{FileFull, HalfFull, Damaged, NotAStore, Disk, OutOfMemory}
 use Rattle.rr_pages.specs.declared.reading.Link.{Link}
 use Rattle.rr_pages.specs.declared.reading.ReadChain.{ReadChain}
 use Rattle.rr_pages.specs.Pages.{IsData, IsIn, AllApart, AreData}
 use Rattle.rr_pages.specs.Chains.{next_of, used_of, Links, Chain}
 use Rattle.rr_pages.specs.Sets.{IsMarked, marked, all_marked, Has}
 use Rattle.rr_pages.specs.Walk.{Walk, length_damage, damage_of}
-use Rattle.rr_pages.specs.Faults.{OnDeviceFault}
-use Rattle.rr_pages.specs.Links.{pages_of, AreLinks, AreBelow, EndsPast, Gathers, AddsPiece, links_damage, judged, NoVerdict}
-use Rattle.rr_pages.specs.Reading.{BeginsAnew, IsWhole, IsBroken, Reads}
+use Rattle.rr_pages.specs.Faults.{NoVerdict, OnDeviceFault}
+use Rattle.rr_pages.specs.Links.{all_fit, pages_of, AreLinks, AreBelow, EndsPast, Gathers, AddsPiece, links_damage, judged}
+use Rattle.rr_pages.specs.Reading.{BeginsAnew, IsUnbroken, IsWhole, IsBroken, Follows, Reads}
 use Rattle.rr_pages.proofs.SetLemmas.{not_both, in_last, has_more}
 
 few_of : (over : Bool) (other : Option Damage) → (if over then Some UsedBytes else other) ≡ None → over ≡ false
@@ -131,6 +131,17 @@ module _ (file : List ℕ) where
   read_broken count reached head stated after links end damage walk are is marks =
       record { pages = pages_of links; end = end; walk = walk; broken = judged_same links end stated are ∙ sym is; marks = marks }
 
+  pub follow_whole : (count : ℕ) (reached : List Bool) (head : ℕ) (stated : Option ℕ) (after : List Bool) (links : List Link) (end : Option Damage) → Walk file count reached head (pages_of links) end → AreLinks file links
+      → None ≡ judged links end stated → after ≡ all_marked reached (pages_of links) → IsUnbroken file count reached head stated after links
+  follow_whole count reached head stated after links end walk are is marks =
+      let no_damage : end ≡ None = judged_end links end stated (sym is) in
+      record {
+        walk = subst (λ (e : Option Damage). Walk file count reached head (pages_of links) e) no_damage walk;
+        unbroken = damage_same links stated are ∙ subst (λ (e : Option Damage). judged links e stated ≡ None) no_damage (sym is);
+        used = are;
+        marks = marks;
+      }
+
   pub read_whole : (count : ℕ) (reached : List Bool) (head : ℕ) (stated : Option ℕ) (after : List Bool) (links : List Link) (end : Option Damage) (pages bytes : List ℕ) → Walk file count reached head (pages_of links) end → AreLinks file links
       → None ≡ judged links end stated → after ≡ all_marked reached (pages_of links) → Gathers file links bytes → pages ≡ pages_of links → IsWhole file count reached head stated after pages bytes
   read_whole count reached head stated after links end pages bytes walk are is marks gathers same =
@@ -140,6 +151,12 @@ module _ (file : List ℕ) where
       let few : list_any (λ (link : Link). nat_lt 4086 link.used) links ≡ false = few_of (list_any (λ (link : Link). nat_lt 4086 link.used) links) (length_damage (sum_by (λ (link : Link). link.used) links) stated) none in
       subst (λ (ps : List ℕ). IsWhole file count reached head stated after ps bytes) (sym same)
       (record { walk = whole; unbroken = damage_same links stated are ∙ none; chain = walk_chain count reached head links bytes whole are gathers few; marks = marks })
+
+  -- one that was followed whole, with the bytes of its pages
+  pub read_unbroken : (count : ℕ) (reached : List Bool) (head : ℕ) (stated : Option ℕ) (after : List Bool) (links : List Link) (pages bytes : List ℕ) → IsUnbroken file count reached head stated after links → Gathers file links bytes
+      → pages ≡ pages_of links → IsWhole file count reached head stated after pages bytes
+  read_unbroken count reached head stated after links pages bytes is gathers same =
+      read_whole count reached head stated after links None pages bytes is.walk is.used (sym is.unbroken ∙ damage_same links stated is.used) is.marks gathers same
 
   -- there is one way from a page on
   pub walk_only : (count : ℕ) (reached : List Bool) (head : ℕ) (pages others : List ℕ) (end other : Option Damage) → Walk file count reached head pages end → Walk file count reached head others other → (pages ≡ others) × (end ≡ other)
@@ -182,6 +199,31 @@ past_count len count (link ∷ links) below few (inr past) =
     let parts = or_parts (nat_lt 4086 link.used) (list_any (λ (l : Link). nat_lt 4086 l.used) links) few in
     past_count len count links below.1 parts.1 past
 
+few_fit : (count : ℕ) (links : List Link) → AreBelow count links → list_any (λ (link : Link). nat_lt 4086 link.used) links ≡ false → all_fit count links ≡ true
+few_fit count [] below few = refl
+few_fit count (link ∷ links) below few =
+    let parts = or_parts (nat_lt 4086 link.used) (list_any (λ (l : Link). nat_lt 4086 l.used) links) few in
+    and_from (nat_lt link.page count && nat_lt link.used 4087) (all_fit count links)
+    (and_from (nat_lt link.page count) (nat_lt link.used 4087) (lt-ltb link.page count below.0) (lt-ltb link.used 4087 (omega (arith, ltb-false 4086 link.used parts.0))))
+    (few_fit count links below.1 parts.1)
+
+pub fit_whole : (count : ℕ) (links : List Link) (end : Option Damage) (stated : Option ℕ) → AreBelow count links → None ≡ judged links end stated → all_fit count links ≡ true
+fit_whole count links (Some damage) stated below is = absurd (cc)
+fit_whole count links None stated below is =
+    few_fit count links below (few_of (list_any (λ (link : Link). nat_lt 4086 link.used) links) (length_damage (sum_by (λ (link : Link). link.used) links) stated) (sym is))
+
+-- the first of links that fit, and the others
+pub fit_first : (count : ℕ) (link : Link) (links : List Link) → all_fit count (link ∷ links) ≡ true → (link.page < count) × (link.used < 4087) × (all_fit count links ≡ true)
+fit_first count link links fit =
+    let parts = and_parts (nat_lt link.page count && nat_lt link.used 4087) (all_fit count links) fit in
+    let own = and_parts (nat_lt link.page count) (nat_lt link.used 4087) parts.0 in
+    (ltb-true link.page count own.0, ltb-true link.used 4087 own.1, parts.1)
+
+pub past_fit : (len count : ℕ) (links : List Link) → all_fit count links ≡ true → EndsPast len links → len < 4096 * count
+past_fit len count [] fit past = absurd past
+past_fit len count (link ∷ links) fit (inl past) = let first = fit_first count link links fit in omega (arith, past, first.0, first.1)
+past_fit len count (link ∷ links) fit (inr past) = past_fit len count links (fit_first count link links fit).2 past
+
 -- a chain that breaks no clause lies below the page count
 pub past_whole : (len count : ℕ) (links : List Link) (end : Option Damage) (stated : Option ℕ) → AreBelow count links → None ≡ judged links end stated → EndsPast len links → len < 4096 * count
 past_whole len count links (Some damage) stated below is past = absurd (cc)
@@ -214,6 +256,7 @@ judged_begins file count reached head links end stated walk none =
 fault_failed : (T : Type 0) (file : List ℕ) (count : ℕ) (reached : List Bool) (head : ℕ) (stated : Option ℕ) (after : List Bool) (fault : Fault) → NoVerdict {T = T} (Err fault) → (fault ≡ OutOfMemory → BeginsAnew count reached head)
     → Reads file count reached head stated after (Err fault)
 fault_failed T file count reached head stated after FileFull none begins = none
+fault_failed T file count reached head stated after HalfFull none begins = none
 fault_failed T file count reached head stated after (Damaged damage) none begins = absurd none
 fault_failed T file count reached head stated after NotAStore none begins = none
 fault_failed T file count reached head stated after (Disk fault) none begins = tt
@@ -223,6 +266,20 @@ pub reads_failed : (T : Type 0) (file : List ℕ) (count : ℕ) (reached : List 
     → (fault ≡ OutOfMemory → BeginsAnew count reached head) → Reads file count reached head stated after result
 reads_failed T file count reached head stated after result fault is none begins =
     subst (λ (r : Result ReadChain Fault). Reads file count reached head stated after r) (sym is) (fault_failed T file count reached head stated after fault none begins)
+
+-- what isn't followed isn't read
+follows_reads : (file : List ℕ) (count : ℕ) (reached : List Bool) (head : ℕ) (stated : Option ℕ) (after : List Bool) (fault : Fault) → Follows file count reached head stated after (Err fault) → Reads file count reached head stated after (Err fault)
+follows_reads file count reached head stated after FileFull told = told
+follows_reads file count reached head stated after HalfFull told = told
+follows_reads file count reached head stated after (Damaged damage) told = told
+follows_reads file count reached head stated after NotAStore told = told
+follows_reads file count reached head stated after (Disk fault) told = told
+follows_reads file count reached head stated after OutOfMemory told = told
+
+pub unfollowed : (file : List ℕ) (count : ℕ) (reached : List Bool) (head : ℕ) (stated : Option ℕ) (after : List Bool) (result : Result ReadChain Fault) (fault : Fault) → result ≡ Err fault
+    → Follows file count reached head stated after (Err fault) → Reads file count reached head stated after result
+unfollowed file count reached head stated after result fault is told =
+    subst (λ (r : Result ReadChain Fault). Reads file count reached head stated after r) (sym is) (follows_reads file count reached head stated after fault told)
 
 -- a chain that stands is followed to its end, and breaks no clause
 module _ (file : List ℕ) (count : ℕ) (low : count ≤ 65536) where
@@ -287,6 +344,7 @@ pages_push links grown link page pushed there = ap (λ (ls : List Link). pages_o
 -- where a call ends as one below it did, what is so where the device failed there is so here
 device_by : (T U : Type 0) {P Q : Type 0} (fault : Fault) → (P → Q) → OnDeviceFault {T = T} (Err fault) P → OnDeviceFault {T = U} (Err fault) Q
 device_by T U FileFull so given = tt
+device_by T U HalfFull so given = tt
 device_by T U (Damaged damage) so given = tt
 device_by T U NotAStore so given = tt
 device_by T U (Disk cause) so given = so given

@@ -2,7 +2,7 @@
 use Rattle.std.specs.Prelude.{◌≡◌, ℕ, ◌*◌, ◌^◌, ◌<◌, ◌≤◌, Bool, true, false, List, length, drop, slice_index, Option, None, Some, Result, Ok, Err}
 use Rattle.rr_pages.specs.declared.fault.Fault.{Fault}
 use Rattle.rr_pages.specs.declared.fault.Damage.TheVariants.{RootField}
-use Rattle.rr_pages.specs.declared.fault.Fault.TheVariants.{FileFull, Damaged, NotAStore, Disk, OutOfMemory}
+use Rattle.rr_pages.specs.declared.fault.Fault.TheVariants.{FileFull, HalfFull, Damaged, NotAStore, Disk, OutOfMemory}
 use Rattle.rr_pages.specs.declared.choosing.Fields.{Fields}
 use Rattle.rr_pages.specs.declared.choosing.Taken.{Taken}
 use Rattle.byteorder.specs.Endian.{big_number}
@@ -35,6 +35,7 @@ pub data HasBadField (file : List ℕ) : Type 0 where
 abbrev pub Chooses : List ℕ → Result Taken Fault → Type 0
 Chooses file (Ok taken) = (stale : Stale) × IsTaken file taken.side taken.root stale
 Chooses file (Err FileFull) = ⊥
+Chooses file (Err HalfFull) = ⊥
 Chooses file (Err (Damaged damage)) = (damage ≡ RootField) × (IsNoStore file → ⊥) × HasBadField file
 Chooses file (Err NotAStore) = IsNoStore file
 Chooses file (Err (Disk fault)) = Unit {0}
@@ -82,19 +83,11 @@ pub record IsRootOf (fields : Fields) (root : Root) : Type 0 where
   pub pages : root.pages ≡ fields.pages
   pub version : root.version ≡ fields.version
 
--- a fault of the device alone
-abbrev pub OnlyDevice : {T : Type 0} → Result T Fault → Type 0
-OnlyDevice (Ok value) = Unit {0}
-OnlyDevice (Err FileFull) = ⊥
-OnlyDevice (Err (Damaged damage)) = ⊥
-OnlyDevice (Err NotAStore) = ⊥
-OnlyDevice (Err (Disk fault)) = Unit {0}
-OnlyDevice (Err OutOfMemory) = ⊥
-
 -- a verdict on the file, and no fault from outside
 abbrev pub IsJudged : {T : Type 0} → Result T Fault → Type 0
 IsJudged (Ok value) = Unit {0}
 IsJudged (Err FileFull) = ⊥
+IsJudged (Err HalfFull) = ⊥
 IsJudged (Err (Damaged damage)) = Unit {0}
 IsJudged (Err NotAStore) = Unit {0}
 IsJudged (Err (Disk fault)) = ⊥

@@ -1,5 +1,4 @@
 pub mod Buffer
-pub mod Faults
 pub mod Law
 pub mod Layout
 pub mod Reading

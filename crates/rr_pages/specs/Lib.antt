@@ -6,8 +6,10 @@ pub mod Laws
 pub mod Laying
 pub mod FreePages
 pub mod Links
+pub mod Marks
 pub mod PageSet
 pub mod Pages
+pub mod ReachedPages
 pub mod Reading
 pub mod Roots
 pub mod Sets

@@ -1,11 +1,9 @@
 -- What following a chain gathers.
-use Rattle.std.specs.Prelude.{◌≡◌, ◌⊎◌, ℕ, ◌+◌, ◌*◌, ◌<◌, nat_lt, if◌then◌else◌, List, [], ◌∷◌, ◌++◌, length, map, sum_by, Option, None, Some, Result, Ok, Err}
+use Rattle.std.specs.Prelude.{◌≡◌, ◌⊎◌, ℕ, ◌+◌, ◌*◌, ◌<◌, nat_lt, ◌&&◌, if◌then◌else◌, Bool, true, List, [], ◌∷◌, ◌++◌, length, map, sum_by, Option, None, Some}
 use Rattle.std.specs.List.{list_any}
 use Rattle.rr_pages.specs.declared.page.TheConstants.{PAGE_BYTES, LINK_BYTES, MOST_USED}
 use Rattle.rr_pages.specs.declared.fault.Damage.{Damage}
 use Rattle.rr_pages.specs.declared.fault.Damage.TheVariants.{UsedBytes}
-use Rattle.rr_pages.specs.declared.fault.Fault.{Fault}
-use Rattle.rr_pages.specs.declared.fault.Fault.TheVariants.{FileFull, Damaged, NotAStore, Disk, OutOfMemory}
 use Rattle.rr_pages.specs.declared.reading.Link.{Link}
 use Rattle.rr_pages.specs.Chains.{used_of}
 use Rattle.rr_pages.specs.Pages.{StandsAt}
@@ -23,6 +21,11 @@ AreLinks file (link ∷ links) = (link.used ≡ used_of file link.page) × AreLi
 abbrev pub AreBelow : ℕ → List Link → Type 0
 AreBelow count [] = Unit {0}
 AreBelow count (link ∷ links) = (link.page < count) × AreBelow count links
+
+-- each lies there, and has no more used bytes than a page holds
+abbrev pub all_fit : ℕ → List Link → Bool
+all_fit count [] = true
+all_fit count (link ∷ links) = (nat_lt link.page count && nat_lt link.used (MOST_USED + 1)) && all_fit count links
 
 -- the used bytes of one of them end past this many bytes
 abbrev pub EndsPast : ℕ → List Link → Type 0
@@ -47,12 +50,3 @@ links_damage links stated =
 abbrev pub judged : List Link → Option Damage → Option ℕ → Option Damage
 judged links (Some damage) stated = Some damage
 judged links None stated = links_damage links stated
-
--- a fault of the device or for want of memory alone
-abbrev pub NoVerdict : {T : Type 0} → Result T Fault → Type 0
-NoVerdict (Ok value) = Unit {0}
-NoVerdict (Err FileFull) = ⊥
-NoVerdict (Err (Damaged damage)) = ⊥
-NoVerdict (Err NotAStore) = ⊥
-NoVerdict (Err (Disk fault)) = Unit {0}
-NoVerdict (Err OutOfMemory) = Unit {0}

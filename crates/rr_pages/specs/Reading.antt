@@ -2,9 +2,12 @@
 use Rattle.std.specs.Prelude.{◌≡◌, ℕ, Bool, List, Option, None, Some, Result, Ok, Err}
 use Rattle.rr_pages.specs.declared.fault.Fault.{Fault}
 use Rattle.rr_pages.specs.declared.fault.Damage.{Damage}
-use Rattle.rr_pages.specs.declared.fault.Fault.TheVariants.{FileFull, Damaged, NotAStore, Disk, OutOfMemory}
+use Rattle.rr_pages.specs.declared.fault.Fault.TheVariants.{FileFull, HalfFull, Damaged, NotAStore, Disk, OutOfMemory}
+use Rattle.rr_pages.specs.declared.reading.FollowedChain.{FollowedChain}
+use Rattle.rr_pages.specs.declared.reading.Link.{Link}
 use Rattle.rr_pages.specs.declared.reading.ReadChain.{ReadChain}
 use Rattle.rr_pages.specs.Chains.{Chain}
+use Rattle.rr_pages.specs.Links.{pages_of, AreLinks}
 use Rattle.rr_pages.specs.Pages.{IsData}
 use Rattle.rr_pages.specs.Sets.{IsMarked, all_marked}
 use Rattle.rr_pages.specs.Walk.{Walk, damage_of}
@@ -28,10 +31,28 @@ pub record IsBroken (file : List ℕ) (count : ℕ) (reached : List Bool) (head 
 abbrev pub BeginsAnew : ℕ → List Bool → ℕ → Type 0
 BeginsAnew count reached head = IsData count head × (IsMarked reached head → ⊥)
 
--- memory is wanted only for a chain that has a page
+-- it was followed over these links to its end, and breaks no clause
+pub record IsUnbroken (file : List ℕ) (count : ℕ) (reached : List Bool) (head : ℕ) (stated : Option ℕ) (after : List Bool) (links : List Link) : Type 0 where
+  pub walk : Walk file count reached head (pages_of links) None
+  pub unbroken : damage_of file (pages_of links) None stated ≡ None
+  pub used : AreLinks file links
+  pub marks : after ≡ all_marked reached (pages_of links)
+
+-- what following a chain answers; memory is wanted only for one that has a page
+abbrev pub Follows : List ℕ → ℕ → List Bool → ℕ → Option ℕ → List Bool → Result FollowedChain Fault → Type 0
+Follows file count reached head stated after (Ok chain) = IsUnbroken file count reached head stated after chain.links.items
+Follows file count reached head stated after (Err FileFull) = ⊥
+Follows file count reached head stated after (Err HalfFull) = ⊥
+Follows file count reached head stated after (Err (Damaged damage)) = IsBroken file count reached head stated after damage
+Follows file count reached head stated after (Err NotAStore) = ⊥
+Follows file count reached head stated after (Err (Disk fault)) = Unit {0}
+Follows file count reached head stated after (Err OutOfMemory) = BeginsAnew count reached head
+
+-- what reading it answers; memory is wanted only for one that has a page
 abbrev pub Reads : List ℕ → ℕ → List Bool → ℕ → Option ℕ → List Bool → Result ReadChain Fault → Type 0
 Reads file count reached head stated after (Ok chain) = IsWhole file count reached head stated after chain.pages.items chain.bytes.items
 Reads file count reached head stated after (Err FileFull) = ⊥
+Reads file count reached head stated after (Err HalfFull) = ⊥
 Reads file count reached head stated after (Err (Damaged damage)) = IsBroken file count reached head stated after damage
 Reads file count reached head stated after (Err NotAStore) = ⊥
 Reads file count reached head stated after (Err (Disk fault)) = Unit {0}

@@ -1,5 +1,5 @@
 -- Which pages are taken: sets of pages as lists of marks, one for each page number from 0 on.
-use Rattle.std.specs.Prelude.{◌≡◌, ◌↔◌, ℕ, ◌<◌, ◌≤◌, Bool, true, false, List, [], ◌∷◌, get_or, set, length}
+use Rattle.std.specs.Prelude.{◌≡◌, ◌↔◌, ℕ, ◌<◌, ◌≤◌, ◌||◌, Bool, true, false, List, [], ◌∷◌, get_or, set, length, nat_lt}
 use Rattle.rr_pages.specs.declared.page.TheConstants.{FIRST_DATA, MOST_PAGES}
 use Rattle.rr_pages.specs.Pages.{IsIn, AllApart}
 
@@ -36,6 +36,11 @@ pub record IsFirstFree (present coming : List Bool) (page : ℕ) : Type 0 where
 
 abbrev pub NoneFree : List Bool → List Bool → Type 0
 NoneFree present coming = (page : ℕ) → IsFree present coming page → ⊥
+
+-- a set that has what isn't free: the pages of the roots and of the journal, and those that either root reaches
+pub record HasTaken (present coming taken : List Bool) : Type 0 where
+  pub whole : length taken ≡ MOST_PAGES
+  pub marks : (page : ℕ) → get_or taken page false ≡ (nat_lt page FIRST_DATA || (get_or present page false || get_or coming page false))
 
 -- these pages are taken one after another, each as the first one that is free
 abbrev pub TakesFree : List Bool → List Bool → List ℕ → List Bool → Type 0

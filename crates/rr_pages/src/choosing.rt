@@ -1,7 +1,7 @@
 ghost use Rattle.std.specs.Prelude.{◌≡◌, ◌+◌, ◌*◌, ◌<◌, ◌≤◌, ◌↔◌, true, false, not, ℕ, List, length, IfOk, IsTrue};
 ghost use Rattle.rr_pages.specs.Choosing.{Chooses, StandsBehind, AreFieldsIn, IsInBounds, IsRootOf};
-ghost use Rattle.rr_pages.specs.Choosing.{OnlyDevice, IsJudged};
-ghost use Rattle.rr_pages.specs.Faults.{CountsFault, OnDeviceFault};
+ghost use Rattle.rr_pages.specs.Choosing.{IsJudged};
+ghost use Rattle.rr_pages.specs.Faults.{CountsFault, OnDeviceFault, OnlyDevice};
 ghost use Rattle.rr_pages.specs.Roots.{IsKnownVersion, LiesWithin, half_number};
 
 use crate::journal::{FIRST_SLOT_PAGE, HalfIndex};

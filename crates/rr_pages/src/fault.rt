@@ -60,6 +60,9 @@ pub enum Fault {
     /// Fewer pages are free than are needed, under the 65,536 that a file has at most.
     #[error("file full")]
     FileFull,
+    /// The slots left in a half of the journal don't suffice for the record.
+    #[error("half full")]
+    HalfFull,
     /// The file breaks a clause of its form.
     #[error("damaged {0}")]
     Damaged(Damage),

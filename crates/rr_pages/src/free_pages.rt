@@ -1,9 +1,11 @@
-ghost use Rattle.std.specs.Prelude.{◌≡◌, ◌↔◌, ◌<◌, ◌≤◌, length, IfOk, OnErr, IsOkUnless, IsTrue, MatchOption};
-ghost use Rattle.rr_pages.specs.Sets.{IsEmpty, IsFree, IsFirstFree, NoneFree, marked};
-ghost use Rattle.rr_pages.specs.PageSet.{marks_of};
+ghost use Rattle.std.specs.Prelude.{◌≡◌, ◌||◌, ℕ, ◌<◌, Bool, List, false, get_or, length, nat_lt, IfOk, OnErr, IsOkUnless, MatchOption};
+ghost use Rattle.rr_pages.specs.Sets.{HasTaken, IsEmpty, IsFirstFree, NoneFree, marked};
+ghost use Rattle.rr_pages.specs.PageSet as sets;
+ghost use Rattle.rr_pages.specs.ReachedPages.{marks_of};
+ghost use Rattle.rr_pages.specs.declared.page.TheConstants.{MOST_PAGES};
 
 use crate::page::{FIRST_DATA, MOST_PAGES};
-use crate::{Fault, PageSet};
+use crate::{Fault, PageSet, ReachedPages};
 use std::alloc::{AllocError, Global};
 use std::mem;
 
@@ -11,21 +13,28 @@ use std::mem;
 /// takes no more memory.
 #[derive(Drop)]
 pub struct FreePages {
-    present: PageSet,
-    coming: PageSet,
+    present: ReachedPages,
+    coming: ReachedPages,
+    // All that aren't free, so that the first free page is looked for in one set.
+    taken: PageSet,
+    ghost told: { ∥ HasTaken (marks_of present) (marks_of coming) (sets.marks_of taken) ∥₁ },
 }
 
 impl FreePages {
     ghost use Rattle.rr_pages.specs.FreePages.{present_of, coming_of};
 
     /// With the pages that the present root reaches, and none for the coming one.
-    pub fn new(alloc: Global, reached: PageSet) -> Result<FreePages, AllocError>
+    pub fn new(alloc: Global, reached: ReachedPages) -> Result<FreePages, AllocError>
         ensures present { IfOk result (λ pages. present_of pages ≡ marks_of reached) }
         ensures coming { IfOk result (λ pages. IsEmpty (coming_of pages)) }
     {
+        let coming = ReachedPages::new(alloc)?;
+        let mut taken = PageSet::new(alloc, MOST_PAGES)?;
+        rebuild(&mut taken, &reached);
         Ok(FreePages {
             present: reached,
-            coming: PageSet::new(alloc)?,
+            coming,
+            taken,
         })
     }
 
@@ -34,12 +43,7 @@ impl FreePages {
         ensures { MatchOption result (NoneFree (present_of self.now) (coming_of self.now))
             (λ page. IsFirstFree (present_of self.now) (coming_of self.now) page) }
     {
-        for page in FIRST_DATA..MOST_PAGES {
-            if self.is_free(page) {
-                return Some(page);
-            }
-        }
-        None
+        self.taken.first_free()
     }
 
     /// Takes the first free page for the coming root. `FileFull` where no page is free.
@@ -55,7 +59,7 @@ impl FreePages {
         match self.first_free() {
             None => Err(Fault::FileFull),
             Some(page) => {
-                self.coming.take(page);
+                self.keep(page);
                 Ok(page)
             }
         }
@@ -69,6 +73,7 @@ impl FreePages {
         ensures whole { length (coming_of self.old) ≡ MOST_PAGES }
     {
         self.coming.take(page);
+        self.taken.take(page);
     }
 
     /// The coming root is the present one now: what it doesn't reach is free.
@@ -77,7 +82,7 @@ impl FreePages {
         ensures coming { IsEmpty (coming_of self.new) }
     {
         mem::swap(&mut self.present, &mut self.coming);
-        self.coming.clear();
+        self.abandon();
     }
 
     /// There will be no coming root: what was taken for it is free again.
@@ -86,14 +91,28 @@ impl FreePages {
         ensures coming { IsEmpty (coming_of self.new) }
     {
         self.coming.clear();
+        rebuild(&mut self.taken, &self.present);
     }
+}
 
-    // Whether a data page is free.
-    fn is_free(&self, page: u32) -> bool
-        requires low { FIRST_DATA ≤ page }
-        requires high { page < MOST_PAGES }
-        ensures { IsTrue result ↔ IsFree (present_of self.now) (coming_of self.now) page }
-    {
-        !self.present.has(page) && !self.coming.has(page)
+// Takes the pages of the roots and of the journal and those that are reached, and no others.
+fn rebuild(taken: &mut PageSet, reached: &ReachedPages)
+    requires { length (sets.marks_of taken.old) ≡ MOST_PAGES }
+    ensures { (coming : List Bool) → IsEmpty coming → HasTaken (marks_of reached.now) coming (sets.marks_of taken.new) }
+{
+    taken.clear();
+    take_front(taken);
+    taken.union(&reached.set);
+}
+
+// Takes the pages before the first data page too.
+fn take_front(taken: &mut PageSet)
+    requires { length (sets.marks_of taken.old) ≡ MOST_PAGES }
+    ensures whole { length (sets.marks_of taken.new) ≡ MOST_PAGES }
+    ensures marks { (page : ℕ) → get_or (sets.marks_of taken.new) page false
+        ≡ (nat_lt page FIRST_DATA || get_or (sets.marks_of taken.old) page false) }
+{
+    for page in 0..FIRST_DATA {
+        taken.take(page);
     }
 }

@@ -5,14 +5,12 @@
 //! with it.
 
 mod buffer;
-mod fault;
 mod half;
 mod law;
 mod layout;
 mod reading;
 
 pub use buffer::RecordBuffer;
-pub use fault::Fault;
 pub use half::Half;
 pub use law::{halves_have_one_run, sizes};
 pub use layout::{

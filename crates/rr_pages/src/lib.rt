@@ -15,6 +15,7 @@ pub mod journal;
 pub mod laws;
 mod page;
 mod page_set;
+mod reached_pages;
 mod reading;
 mod root;
 
@@ -25,5 +26,6 @@ pub use fault::{Damage, Fault};
 pub use free_pages::FreePages;
 pub use page::{FIRST_DATA, LEAST_PAGES, LINK_BYTES, MOST_PAGES, MOST_USED, OPEN, PAGE_BYTES};
 pub use page_set::PageSet;
-pub use reading::{ReadChain, chain_read};
+pub use reached_pages::ReachedPages;
+pub use reading::{FollowedChain, Link, ReadChain, chain_follow, chain_read, read_pieces};
 pub use root::{NEWEST_VERSION, ROOT_BYTES, Root, Roots};

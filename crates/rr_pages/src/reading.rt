@@ -1,9 +1,9 @@
-ghost use Rattle.std.specs.Prelude.{◌≡◌, ◌+◌, ◌*◌, ◌<◌, ◌≤◌, length, nat_lt, sum_by, IfOk, IsErrOf, OnOk};
+ghost use Rattle.std.specs.Prelude.{◌≡◌, ◌+◌, ◌*◌, ◌<◌, ◌≤◌, true, length, nat_lt, sum_by, IfOk, IsErrOf, OnOk};
 ghost use Rattle.rr_pages.specs.Chains.{next_of, used_of};
-ghost use Rattle.rr_pages.specs.Faults.{CountsFault, OnDeviceFault};
-ghost use Rattle.rr_pages.specs.PageSet.{marks_of};
-ghost use Rattle.rr_pages.specs.Reading.{BeginsAnew, Reads};
-ghost use Rattle.rr_pages.specs.Links.{pages_of, AreLinks, AreBelow, EndsPast, Gathers, AddsPiece, links_damage, judged, NoVerdict};
+ghost use Rattle.rr_pages.specs.Faults.{CountsFault, NoVerdict, OnDeviceFault};
+ghost use Rattle.rr_pages.specs.ReachedPages.{marks_of};
+ghost use Rattle.rr_pages.specs.Reading.{BeginsAnew, Follows, Reads};
+ghost use Rattle.rr_pages.specs.Links.{all_fit, pages_of, AreLinks, AreBelow, EndsPast, Gathers, AddsPiece, links_damage, judged};
 ghost use Rattle.rr_pages.specs.Sets.{all_marked};
 ghost use Rattle.rr_pages.specs.Walk.{Walk};
 ghost use Rattle.rr_pages.specs.Walk as walk;
@@ -11,7 +11,7 @@ ghost use Rattle.std.specs.List.{list_any};
 ghost use Rattle.rr_disk.specs.Disk.{IsAt};
 
 use crate::page::{LINK_BYTES, MOST_PAGES, MOST_USED, PAGE_BYTES, is_data};
-use crate::{Damage, Fault, PageSet};
+use crate::{Damage, Fault, ReachedPages};
 use byteorder::{BigEndian, ByteOrder};
 use rr_disk::Disk;
 use std::alloc::Global;
@@ -24,12 +24,26 @@ pub struct ReadChain {
     pub bytes: Vec<u8>,
 }
 
-// The front of a page: which page follows in its chain, and how many of its own bytes are used.
+/// A page of a chain.
 #[derive(Clone, Copy, Debug)]
-struct Link {
-    page: u32,
+pub struct Link {
+    pub page: u32,
+    /// How many of its own bytes are used, 4,086 at most in a chain that is whole.
+    pub used: u16,
+}
+
+/// A chain as it was followed, from its first page to its last.
+#[derive(Debug, Drop)]
+pub struct FollowedChain {
+    pub links: Vec<Link>,
+}
+
+// The front of a page of a chain.
+#[derive(Drop)]
+struct Front {
+    link: Link,
+    // The page that follows in the chain, 0 behind its last one.
     next: u64,
-    used: u16,
 }
 
 // A chain as far as it goes, and why it breaks off, if it does.
@@ -48,7 +62,7 @@ pub fn chain_read<D: Disk>(
     alloc: Global,
     disk: &mut D,
     count: u32,
-    reached: &mut PageSet,
+    reached: &mut ReachedPages,
     head: u64,
     stated: Option<u32>,
 ) -> Result<ReadChain, Fault>
@@ -65,13 +79,40 @@ pub fn chain_read<D: Disk>(
     ensures works { D.Works disk.new → D.Works disk.old }
     ensures same_len { D.file_len disk.new ≡ D.file_len disk.old }
 {
+    let followed = chain_follow(alloc, disk, count, reached, head, stated)?;
+    let chain = read_pieces(alloc, disk, &followed.links)?;
+    Ok(chain)
+}
+
+/// Follows a chain as `chain_read` does, with the same faults, and reads the front of each page alone.
+pub fn chain_follow<D: Disk>(
+    alloc: Global,
+    disk: &mut D,
+    count: u32,
+    reached: &mut ReachedPages,
+    head: u64,
+    stated: Option<u32>,
+) -> Result<FollowedChain, Fault>
+    requires { count ≤ MOST_PAGES }
+    ensures followed { D.Honest disk.new
+        → Follows (D.state disk.old).content count (marks_of reached.old) head stated (marks_of reached.new) result }
+    ensures fit { IfOk result (λ chain. all_fit count chain.links.items ≡ true) }
+    ensures fault { CountsFault (D.fault_count disk.old) (D.fault_count disk.new) result }
+    ensures honest { D.Honest disk.new → D.Honest disk.old }
+    ensures same_state { D.Honest disk.new → D.state disk.new ≡ D.state disk.old }
+    ensures same_past { D.Honest disk.new → D.past disk.new ≡ D.past disk.old }
+    ensures writes { D.write_count disk.new ≡ D.write_count disk.old }
+    ensures syncs { D.sync_count disk.new ≡ D.sync_count disk.old }
+    ensures device { OnDeviceFault result (D.Works disk.new → D.file_len disk.old < PAGE_BYTES * count) }
+    ensures works { D.Works disk.new → D.Works disk.old }
+    ensures same_len { D.file_len disk.new ≡ D.file_len disk.old }
+{
     let walked = walk(alloc, disk, count, reached, head)?;
     match judge(&walked.links, walked.end, stated) {
         Some(damage) => Err(Fault::Damaged(damage)),
-        None => {
-            let chain = read_pieces(alloc, disk, &walked.links)?;
-            Ok(chain)
-        }
+        None => Ok(FollowedChain {
+            links: walked.links,
+        }),
     }
 }
 
@@ -80,7 +121,7 @@ fn walk<D: Disk>(
     alloc: Global,
     disk: &mut D,
     count: u32,
-    reached: &mut PageSet,
+    reached: &mut ReachedPages,
     head: u64,
 ) -> Result<Walked, Fault>
     requires { count ≤ MOST_PAGES }
@@ -119,22 +160,21 @@ fn walk<D: Disk>(
                 end: Some(Damage::PageTwice),
             });
         }
-        let link = read_link(disk, page)?;
+        let front = read_front(disk, page)?;
         reached.take(page);
-        links.push(link)?;
-        if link.next == 0 {
+        links.push(front.link)?;
+        if front.next == 0 {
             return Ok(Walked { links, end: None });
         }
-        next = link.next;
+        next = front.next;
     }
 }
 
-// Reads the front of a page.
-fn read_link<D: Disk>(disk: &mut D, page: u32) -> Result<Link, Fault>
-    ensures link { IfOk result (λ link. D.Honest disk.new
-        → (link.next ≡ next_of (D.state disk.old).content page)
-        × (link.used ≡ used_of (D.state disk.old).content page)) }
-    ensures page { IfOk result (λ link. link.page ≡ page) }
+fn read_front<D: Disk>(disk: &mut D, page: u32) -> Result<Front, Fault>
+    ensures front { IfOk result (λ front. D.Honest disk.new
+        → (front.next ≡ next_of (D.state disk.old).content page)
+        × (front.link.used ≡ used_of (D.state disk.old).content page)) }
+    ensures page { IfOk result (λ front. front.link.page ≡ page) }
     ensures only { NoVerdict result }
     ensures fault { CountsFault (D.fault_count disk.old) (D.fault_count disk.new) result }
     ensures honest { D.Honest disk.new → D.Honest disk.old }
@@ -148,10 +188,12 @@ fn read_link<D: Disk>(disk: &mut D, page: u32) -> Result<Link, Fault>
 {
     let mut front = [0u8; LINK_BYTES];
     disk.read_at(PAGE_BYTES * page as u64, &mut front)?;
-    Ok(Link {
-        page,
+    Ok(Front {
+        link: Link {
+            page,
+            used: BigEndian::read_u16(&front[8..]),
+        },
         next: BigEndian::read_u64(&front),
-        used: BigEndian::read_u16(&front[8..]),
     })
 }
 
@@ -211,8 +253,11 @@ fn used_in(links: &[Link]) -> u64
     total
 }
 
-// Reads the bytes of these pages.
-fn read_pieces<D: Disk>(alloc: Global, disk: &mut D, links: &[Link]) -> Result<ReadChain, Fault>
+/// Reads the bytes of these pages of a chain, as it was followed.
+///
+/// # Errors
+/// `Disk` where a read fails, and else `OutOfMemory` alone.
+pub fn read_pieces<D: Disk>(alloc: Global, disk: &mut D, links: &[Link]) -> Result<ReadChain, Fault>
     ensures bytes { IfOk result (λ chain. D.Honest disk.new
         → Gathers (D.state disk.old).content links.now chain.bytes.items) }
     ensures pages { IfOk result (λ chain. chain.pages.items ≡ pages_of links.now) }

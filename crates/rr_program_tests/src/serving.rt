@@ -1,6 +1,6 @@
-//! The moderator's replies. Whole games stand in the folder `games` of the repository. What a failure of its streams or of
-//! the device leaves is tried on the built program by `tools/try-the-program` and `tools/stop-anywhere`, and in which order it
-//! writes, syncs and answers by `tools/try-the-file`.
+//! The moderator's replies. Whole games stand in the folder `games` of the repository. What a failure of its streams or
+//! of the device leaves is tried on the built program by `tools/try-the-program` and `tools/stop-anywhere`, and in
+//! which order it writes, syncs and answers by `tools/try-the-file`.
 use crate::kits::{formatted, opened};
 use rr_disk::{Disk, MemoryDisk};
 use rr_moderator::{Fault, Moderator, Reply, Summary};

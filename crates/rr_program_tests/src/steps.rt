@@ -1,5 +1,5 @@
-//! How many calls of its device each command makes with which a checkpoint is made. Which calls these are is tried on the
-//! built program by `tools/try-the-file`.
+//! How many calls of its device each command makes with which a checkpoint is made. Which calls these are is tried on
+//! the built program by `tools/try-the-file`.
 use crate::kits::{formatted, opened};
 use rr_disk::{Disk, MemoryDisk};
 use rr_moderator::Moderator;
@@ -81,7 +81,8 @@ fn are_between(before: Calls, behind: Calls, calls: (u64, u64)) -> bool {
         && behind.syncs == before.syncs.saturating_add(calls.1)
 }
 
-/// The first command behind those that make a checkpoint due, counted from 0, which makes other calls than its row says.
+/// The first command behind those that make a checkpoint due, counted from 0, which makes other calls than its row
+/// says.
 fn first_other_row(alloc: Global, rows: &[(u64, u64)]) -> Result<Option<usize>, Fail> {
     let mut before = calls_for(alloc, DUE)?;
     for (place, row) in rows.iter().enumerate() {
@@ -95,9 +96,9 @@ fn first_other_row(alloc: Global, rows: &[(u64, u64)]) -> Result<Option<usize>, 
 }
 
 // The record of a command is two writes and two syncs. Before those of the 129th to the 134th come the six steps of a
-// checkpoint of two fresh pages, one for the table and one for the directory: a sync, since slot 0 of the other half is shut
-// already; a write for each page; a sync, since the gate of the older root is shut already; the root and a sync; its gate and
-// a sync. The 135th command has its record alone.
+// checkpoint of two fresh pages, one for the table and one for the directory: a sync, since slot 0 of the other half is
+// shut already; a write for each page; a sync, since the gate of the older root is shut already; the root and a sync;
+// its gate and a sync. The 135th command has its record alone.
 #[test]
 fn each_step_of_a_checkpoint_comes_with_a_command(rt: HostRuntime) -> Result<(), Fail> {
     let rows = [(2, 3), (3, 2), (3, 2), (2, 3), (3, 3), (3, 3), (2, 2)];

@@ -1,5 +1,6 @@
 -- Chains that are followed one after another.
-use Rattle.std.proofs.Common.{◌≡◌, ℕ, ◌+◌, ◌<◌, ◌≤◌, Bool, List, [], ◌∷◌, ◌++◌, length, map, fold, take, get_or, Option, None, Some, Ok, Err, refl, sym, ap, ◌∙◌, subst, arith, length-append}
+use Rattle.std.proofs.Common.{◌≡◌, ℕ, ◌+◌, ◌<◌, ◌≤◌, Bool, true, List, [], ◌∷◌, ◌++◌, length, map, fold, take, get_or, Option, None, Some, Ok, Err, refl, sym, ap, ◌∙◌, subst, arith, length-append, append-nil}
+use Rattle.std.proofs.lemmas.Bool.{and_from, and_parts}
 use Rattle.std.proofs.lemmas.List.{map-append, take_more, take_all, length-map}
 use Rattle.std.proofs.lemmas.List.Sums.{fold-append}
 use Rattle.rr_reading.specs.declared.dir.directory.ChainRef.{ChainRef}
@@ -9,10 +10,9 @@ use Rattle.rr_reading.specs.Dir.Heads.{head_of, heads_of}
 use Rattle.rr_images.specs.Following.{AllRead}
 use Rattle.rr_images.specs.Holding.{HeldChain}
 use Rattle.rr_pages.specs.declared.fault.Damage.{Damage}
-use Rattle.rr_pages.specs.declared.fault.Fault.{Fault as PageFault}
-use Rattle.rr_pages.specs.declared.fault.Fault.TheVariants as pages
-use Rattle.rr_pages.specs.declared.reading.ReadChain.{ReadChain}
-use Rattle.rr_pages.specs.Reading.{Reads}
+use Rattle.rr_pages.specs.declared.reading.FollowedChain.{FollowedChain}
+use Rattle.rr_pages.specs.Links.{all_fit, pages_of}
+use Rattle.rr_pages.specs.Reading.{Follows}
 use Rattle.rr_pages.specs.Sets.{all_marked}
 use Rattle.rr_pages.specs.Walk.{Walk}
 use Rattle.rr_pages.proofs.Walks.{walk_only}
@@ -20,10 +20,11 @@ use Rattle.rr_reading.specs.declared.chains.Followed.{Followed}
 use Rattle.rr_reading.specs.declared.chains.Followed.TheVariants.{Whole, Broken}
 use Rattle.rr_reading.specs.declared.fault.Fault.{Fault}
 use Rattle.rr_reading.specs.declared.fault.Fault.TheVariants as F
-use Rattle.rr_reading.specs.Chains.{held, all_held, FoundChain, AllFollowed, damage_in, lower_of, least_in, IsFollowed, damage_told, read_of, AreRead}
-use Rattle.rr_reading.specs.Faults.{IsNoVerdict}
-use Rattle.rr_reading.specs.Told.{told_broken, told_least, IsToldBroken}
+use Rattle.rr_reading.specs.Chains.{held_in, all_held_in, FoundChain, AllFollowed, damage_in, lower_of, least_in, IsFit, IsFollowed, damage_told, whole_of, AreRead}
+use Rattle.rr_reading.specs.Lending.Fitting.{each_fits}
+use Rattle.rr_reading.specs.Told.{told_least, IsToldBroken}
 use Rattle.rr_reading.proofs.Least.{AllRight, walk_right}
+use Rattle.rr_reading.proofs.LendingLemmas.LinkLemmas.{whole_joined}
 
 module _ (file : List ℕ) (count : ℕ) where
   -- one chain that was followed, and the least clause that it breaks
@@ -36,7 +37,7 @@ module _ (file : List ℕ) (count : ℕ) where
 
   followed_one : (before : List Bool) (head : ℕ × ℕ) (after : List Bool) (followed : Followed) → IsFollowed file count before head after followed → OneFollowed before head after (damage_told followed)
   followed_one before head after (Whole read) is =
-      record { chain = record { pages = read.pages.items; end = None; stated = Some head.1 }; stated = refl; walk = is.walk; marks = is.marks; damage = is.unbroken }
+      record { chain = record { pages = pages_of read.links.items; end = None; stated = Some head.1 }; stated = refl; walk = is.walk; marks = is.marks; damage = is.unbroken }
   followed_one before head after (Broken damage) is =
       record { chain = record { pages = is.pages; end = is.end; stated = Some head.1 }; stated = refl; walk = is.walk; marks = is.marks; damage = is.broken }
 
@@ -73,9 +74,9 @@ module _ (file : List ℕ) (count : ℕ) where
   )
 
   whole_more : (before between after : List Bool) (heads : List (ℕ × ℕ)) (head : ℕ × ℕ) (least : Option Damage) (chains : List HeldChain) (followed : Followed) → (least ≡ None → AllRead file count before heads between chains)
-      → IsFollowed file count between head after followed → lower_of least (damage_told followed) ≡ None → AllRead file count before (heads ++ head ∷ []) after (chains ++ all_held (read_of followed))
+      → IsFollowed file count between head after followed → lower_of least (damage_told followed) ≡ None → AllRead file count before (heads ++ head ∷ []) after (chains ++ all_held_in file (whole_of followed))
   whole_more before between after heads head None chains (Whole read) whole is none =
-      read_on before between after heads (head ∷ []) chains (held read ∷ []) (whole refl) (held read, [], after, refl, is, (refl, refl))
+      read_on before between after heads (head ∷ []) chains (held_in file read ∷ []) (whole refl) (held_in file read, [], after, refl, is, (refl, refl))
   whole_more before between after heads head None chains (Broken damage) whole is none = absurd (cc)
   whole_more before between after heads head (Some least) chains (Whole read) whole is none = absurd (cc)
   whole_more before between after heads head (Some least) chains (Broken damage) whole is none = absurd (cc)
@@ -84,7 +85,7 @@ module _ (file : List ℕ) (count : ℕ) where
   are_read_none before = record { found = []; followed = (refl, refl); is_least = refl; whole = λ none. (refl, refl) }
 
   are_read_more : (before between after : List Bool) (heads : List (ℕ × ℕ)) (head : ℕ × ℕ) (least : Option Damage) (chains : List HeldChain) (followed : Followed) → AreRead file count before heads between least chains
-      → IsFollowed file count between head after followed → AreRead file count before (heads ++ head ∷ []) after (lower_of least (damage_told followed)) (chains ++ all_held (read_of followed))
+      → IsFollowed file count between head after followed → AreRead file count before (heads ++ head ∷ []) after (lower_of least (damage_told followed)) (chains ++ all_held_in file (whole_of followed))
   are_read_more before between after heads head least chains followed read is =
       let one = followed_one between head after followed is in
       record {
@@ -128,41 +129,39 @@ module _ (file : List ℕ) (count : ℕ) where
       let joined : (a.0 ∷ a.1) ≡ (b.0 ∷ b.1) = λ i. record { pages = only.0 i; end = only.1 i; stated = stated i } ∷ rest i in
       a.2 ∙ (joined ∙ sym b.2)
 
--- what a call reads of a chain
-pub call_followed : (file : List ℕ) (count : ℕ) (before after : List Bool) (head stated : ℕ) (fault : PageFault) (followed : Followed) → Reads file count before head (Some stated) after (Err fault) → told_broken fault ≡ Ok followed
-    → IsFollowed file count before (head, stated) after followed
-call_followed file count before after head stated pages.FileFull followed read is = absurd read
-call_followed file count before after head stated (pages.Damaged damage) followed read is =
-    let same : Broken damage ≡ followed = cc in
-    subst (λ (f : Followed). IsFollowed file count before (head, stated) after f) same read
-call_followed file count before after head stated pages.NotAStore followed read is = absurd read
-call_followed file count before after head stated (pages.Disk fault) followed read is = absurd (cc)
-call_followed file count before after head stated pages.OutOfMemory followed read is = absurd (cc)
-
-pub call_no_verdict : (file : List ℕ) (count : ℕ) (before after : List Bool) (head stated : ℕ) (fault : PageFault) (told : Fault) → Reads file count before head (Some stated) after (Err fault) → told_broken fault ≡ Err told → IsNoVerdict told
-call_no_verdict file count before after head stated pages.FileFull told read is = absurd read
-call_no_verdict file count before after head stated (pages.Damaged damage) told read is = absurd (cc)
-call_no_verdict file count before after head stated pages.NotAStore told read is = absurd read
-call_no_verdict file count before after head stated (pages.Disk fault) told read is = let same : F.Disk fault ≡ told = cc in subst IsNoVerdict same tt
-call_no_verdict file count before after head stated pages.OutOfMemory told read is = let same : F.OutOfMemory ≡ told = cc in subst IsNoVerdict same tt
+-- a chain that was followed has the bytes of its pages
+pub call_followed : (file : List ℕ) (count : ℕ) (before after : List Bool) (head stated : ℕ) (chain : FollowedChain) → Follows file count before head (Some stated) after (Ok chain)
+    → IsFollowed file count before (head, stated) after (Whole chain)
+call_followed file count before after head stated chain is = whole_joined file count before head (Some stated) after chain.links.items is
 
 -- a chain more, of a disk that has later what it had
-pub call_more : (file now : List ℕ) (count : ℕ) (before between after : List Bool) (heads more : List (ℕ × ℕ)) (head : ℕ × ℕ) (least new : Option Damage) (chains grown : List ReadChain) (followed : Followed) → now ≡ file → more ≡ heads ++ head ∷ []
-    → AreRead file count before heads between least (all_held chains) → IsFollowed now count between head after followed → grown ≡ chains ++ read_of followed → new ≡ lower_of least (damage_told followed)
-    → AreRead file count before more after new (all_held grown)
+pub call_more : (file now : List ℕ) (count : ℕ) (before between after : List Bool) (heads more : List (ℕ × ℕ)) (head : ℕ × ℕ) (least new : Option Damage) (chains grown : List FollowedChain) (followed : Followed) → now ≡ file → more ≡ heads ++ head ∷ []
+    → AreRead file count before heads between least (all_held_in file chains) → IsFollowed now count between head after followed → grown ≡ chains ++ whole_of followed → new ≡ lower_of least (damage_told followed)
+    → AreRead file count before more after new (all_held_in file grown)
 call_more file now count before between after heads more head least new chains grown followed same heads_are read is grown_is new_is =
     let there : IsFollowed file count between head after followed = subst (λ (f : List ℕ). IsFollowed f count between head after followed) same is in
-    let all = are_read_more file count before between after heads head least (all_held chains) followed read there in
-    subst (λ (hs : List (ℕ × ℕ)). AreRead file count before hs after new (all_held grown)) (sym heads_are)
-    (subst (λ (told : Option Damage). AreRead file count before (heads ++ head ∷ []) after told (all_held grown)) (sym new_is)
-    (subst (λ (cs : List HeldChain). AreRead file count before (heads ++ head ∷ []) after (lower_of least (damage_told followed)) cs) (sym (ap all_held grown_is ∙ map-append held chains (read_of followed))) all))
+    let all = are_read_more file count before between after heads head least (all_held_in file chains) followed read there in
+    subst (λ (hs : List (ℕ × ℕ)). AreRead file count before hs after new (all_held_in file grown)) (sym heads_are)
+    (subst (λ (told : Option Damage). AreRead file count before (heads ++ head ∷ []) after told (all_held_in file grown)) (sym new_is)
+    (subst (λ (cs : List HeldChain). AreRead file count before (heads ++ head ∷ []) after (lower_of least (damage_told followed)) cs) (sym (ap (all_held_in file) grown_is ∙ map-append (held_in file) chains (whole_of followed))) all))
 
 -- how many were read while none is broken
-pub each_more : (least new : Option Damage) (n : ℕ) (chains grown : List ReadChain) (followed : Followed) → (least ≡ None → length chains ≡ n) → grown ≡ chains ++ read_of followed → new ≡ lower_of least (damage_told followed) → new ≡ None → length grown ≡ n + 1
-each_more None new n chains grown (Whole read) each grown_is new_is none = omega (arith, ap (λ (cs : List ReadChain). length cs) grown_is, length-append chains (read ∷ []), each refl)
+pub each_more : (least new : Option Damage) (n : ℕ) (chains grown : List FollowedChain) (followed : Followed) → (least ≡ None → length chains ≡ n) → grown ≡ chains ++ whole_of followed → new ≡ lower_of least (damage_told followed) → new ≡ None → length grown ≡ n + 1
+each_more None new n chains grown (Whole read) each grown_is new_is none = omega (arith, ap (λ (cs : List FollowedChain). length cs) grown_is, length-append chains (read ∷ []), each refl)
 each_more None new n chains grown (Broken damage) each grown_is new_is none = absurd (cc)
 each_more (Some least) new n chains grown (Whole read) each grown_is new_is none = absurd (cc)
 each_more (Some least) new n chains grown (Broken damage) each grown_is new_is none = absurd (cc)
+
+-- each of them lies within the file
+fits_last : (count : ℕ) (chains : List FollowedChain) (chain : FollowedChain) → each_fits count chains ≡ true → all_fit count chain.links.items ≡ true → each_fits count (chains ++ chain ∷ []) ≡ true
+fits_last count [] chain fit last = and_from (all_fit count chain.links.items) true last refl
+fits_last count (first ∷ chains) chain fit last =
+    let parts = and_parts (all_fit count first.links.items) (each_fits count chains) fit in
+    and_from (all_fit count first.links.items) (each_fits count (chains ++ chain ∷ [])) parts.0 (fits_last count chains chain parts.1 last)
+
+pub fits_more : (count : ℕ) (chains grown : List FollowedChain) (followed : Followed) → each_fits count chains ≡ true → IsFit count followed → grown ≡ chains ++ whole_of followed → each_fits count grown ≡ true
+fits_more count chains grown (Whole chain) fit last is = ap (each_fits count) is ∙ fits_last count chains chain fit last
+fits_more count chains grown (Broken damage) fit last is = ap (each_fits count) (is ∙ append-nil chains) ∙ fit
 
 -- what comes of the least clause
 pub least_told : {T : Type 0} → (file : List ℕ) (count : ℕ) (before after : List Bool) (heads : List (ℕ × ℕ)) (chains : List HeldChain) (least : Option Damage) (given : T) (fault : Fault) → AreRead file count before heads after least chains

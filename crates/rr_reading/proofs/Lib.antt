@@ -7,4 +7,5 @@ pub mod Told
 pub mod FirstBroken
 pub mod Standing
 pub mod DirLemmas
+pub mod LendingLemmas
 pub mod WorldLemmas

@@ -38,7 +38,7 @@ module _ (file : List ℕ) (count : ℕ) where
   ]
 
   module _ (before : List Bool) (head : ℕ) (stated : Option ℕ) where
-    one_whole : (after others : List Bool) (pages more text bytes : List ℕ) → IsWhole file count before head stated after pages text → IsWhole file count before head stated others more bytes → (after ≡ others) × (pages ≡ more) × (text ≡ bytes)
+    pub one_whole : (after others : List Bool) (pages more text bytes : List ℕ) → IsWhole file count before head stated after pages text → IsWhole file count before head stated others more bytes → (after ≡ others) × (pages ≡ more) × (text ≡ bytes)
     one_whole after others pages more text bytes a b =
         let only = walk_only file count before head pages more None None a.walk b.walk in
         let chain = one_chain file head count count pages more text bytes a.chain b.chain (walk_data before head pages a.walk) (walk_data before head more b.walk) in

@@ -152,6 +152,7 @@ module _ (file : List ℕ) where
   -- a root
   pub root_told : (fault : PageFault) → Chooses file (Err fault) → Refuses file (of_pages fault)
   root_told pages.FileFull chosen = absurd chosen
+  root_told pages.HalfFull chosen = absurd chosen
   root_told (pages.Damaged damage) chosen =
       subst (λ (d : Damage). IsDamage file d) (sym chosen.0) (record { store = chosen.1; broken = chosen.2; least = λ other broken. clause_some other })
   root_told pages.NotAStore chosen = chosen
@@ -181,6 +182,7 @@ module _ (file : List ℕ) where
 
       pub directory_told : (before after : List Bool) (fault : PageFault) → NoneReached before → Reads file count before root.directory None after (Err fault) → Refuses file (of_pages fault)
       directory_told before after pages.FileFull none read = absurd read
+      directory_told before after pages.HalfFull none read = absurd read
       directory_told before after (pages.Damaged damage) none read =
           directory_broken before after none damage (subst (λ (n : ℕ). IsBroken file n before root.directory None after damage) count_is read)
       directory_told before after pages.NotAStore none read = absurd read

@@ -1,5 +1,5 @@
 -- How the chains that a directory names are followed, one after another, and what of them is read.
-use Rattle.std.specs.Prelude.{◌≡◌, ◌≢◌, ◌⊎◌, ℕ, ◌<◌, nat_lt, if◌then◌else◌, Bool, List, [], ◌∷◌, length, map, fold, sum_by, Option, None, Some}
+use Rattle.std.specs.Prelude.{◌≡◌, ◌≢◌, ◌⊎◌, ℕ, ◌<◌, nat_lt, if◌then◌else◌, Bool, true, List, [], ◌∷◌, length, map, fold, sum_by, Option, None, Some}
 use Rattle.rr_pages.specs.declared.page.TheConstants.{MOST_USED}
 use Rattle.rr_reading.specs.declared.dir.directory.TableEntry.{TableEntry}
 use Rattle.rr_reading.specs.Dir.Kept.{SpellsKept}
@@ -7,12 +7,15 @@ use Rattle.rr_images.specs.Following.{AllRead}
 use Rattle.rr_images.specs.Holding.{HeldChain}
 use Rattle.rr_pages.specs.declared.fault.Damage.{Damage}
 use Rattle.rr_pages.specs.declared.fault.Damage.TheVariants.{PageOutside, PageTwice}
+use Rattle.rr_pages.specs.declared.reading.FollowedChain.{FollowedChain}
 use Rattle.rr_pages.specs.declared.reading.ReadChain.{ReadChain}
 use Rattle.rr_pages.specs.Chains.{used_of}
 use Rattle.rr_pages.specs.Faults.{clause_of}
+use Rattle.rr_pages.specs.Links.{all_fit, pages_of}
 use Rattle.rr_pages.specs.Reading.{IsWhole, IsBroken}
 use Rattle.rr_pages.specs.Sets.{all_marked}
 use Rattle.rr_pages.specs.Walk.{Walk, damage_of}
+use Rattle.rr_reading.specs.Lending.Pages.{joined}
 use Rattle.rr_reading.specs.declared.chains.Followed.{Followed}
 use Rattle.rr_reading.specs.declared.chains.Followed.TheVariants.{Whole, Broken}
 
@@ -20,8 +23,12 @@ use Rattle.rr_reading.specs.declared.chains.Followed.TheVariants.{Whole, Broken}
 abbrev pub held : ReadChain → HeldChain
 held chain = record { pages = chain.pages.items; text = chain.bytes.items }
 
-abbrev pub all_held : List ReadChain → List HeldChain
-all_held chains = map held chains
+-- a chain that was followed: its bytes are those of its pages in the file
+abbrev pub held_in : List ℕ → FollowedChain → HeldChain
+held_in file chain = record { pages = pages_of chain.links.items; text = joined file chain.links.items }
+
+abbrev pub all_held_in : List ℕ → List FollowedChain → List HeldChain
+all_held_in file chains = map (held_in file) chains
 
 -- a chain that can be found: its pages, as far as it can be followed; why it breaks off, where it does; and the length
 -- that is stated for it, where one is
@@ -83,17 +90,22 @@ least_in file found = fold (λ least chain. lower_of least (damage_in file chain
 -- what following a chain found
 abbrev pub IsFollowed : List ℕ → ℕ → List Bool → ℕ × ℕ → List Bool → Followed → Type 0
 IsFollowed file count before head after (Whole chain) =
-    IsWhole file count before head.0 (Some head.1) after chain.pages.items chain.bytes.items
+    IsWhole file count before head.0 (Some head.1) after (pages_of chain.links.items) (joined file chain.links.items)
 IsFollowed file count before head after (Broken damage) =
     IsBroken file count before head.0 (Some head.1) after damage
+
+-- a chain that is whole lies within the file, by this page count
+abbrev pub IsFit : ℕ → Followed → Type 0
+IsFit count (Whole chain) = all_fit count chain.links.items ≡ true
+IsFit count (Broken damage) = Unit {0}
 
 abbrev pub damage_told : Followed → Option Damage
 damage_told (Whole chain) = None
 damage_told (Broken damage) = Some damage
 
-abbrev pub read_of : Followed → List ReadChain
-read_of (Whole chain) = chain ∷ []
-read_of (Broken damage) = []
+abbrev pub whole_of : Followed → List FollowedChain
+whole_of (Whole chain) = chain ∷ []
+whole_of (Broken damage) = []
 
 -- The chains of these heads were followed, and this is the least clause that they break. Where they break none, all of
 -- them were read.

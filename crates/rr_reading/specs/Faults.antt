@@ -4,8 +4,6 @@ use Rattle.rr_disk.specs.Faults.{CountsFaultBy, OnFaultBy}
 use Rattle.rr_disk.specs.declared.fault.Fault.{Fault as OfDisk}
 use Rattle.rr_reading.specs.declared.dir.fault.Fault.{Fault as OfDirectory}
 use Rattle.rr_reading.specs.declared.dir.fault.Fault.TheVariants as directory
-use Rattle.rr_pages.specs.declared.journal.fault.Fault.{Fault as OfJournal}
-use Rattle.rr_pages.specs.declared.journal.fault.Fault.TheVariants as journal
 use Rattle.rr_pages.specs.declared.fault.Fault.{Fault as OfPages}
 use Rattle.rr_pages.specs.declared.fault.Fault.TheVariants as pages
 use Rattle.rr_pages.specs.declared.fault.Damage.TheVariants.{Form}
@@ -15,15 +13,11 @@ use Rattle.rr_reading.specs.declared.fault.Fault.TheVariants.{Damaged, NotAStore
 -- a fault of the layers below
 abbrev pub of_pages : OfPages → Fault
 of_pages pages.FileFull = OutOfMemory
+of_pages pages.HalfFull = OutOfMemory
 of_pages (pages.Damaged damage) = Damaged damage
 of_pages pages.NotAStore = NotAStore
 of_pages (pages.Disk fault) = Disk fault
 of_pages pages.OutOfMemory = OutOfMemory
-
-abbrev pub of_journal : OfJournal → Fault
-of_journal journal.HalfFull = OutOfMemory
-of_journal (journal.Disk fault) = Disk fault
-of_journal journal.OutOfMemory = OutOfMemory
 
 abbrev pub of_directory : OfDirectory → Fault
 of_directory directory.Damaged = Damaged Form

@@ -6,12 +6,14 @@ use Rattle.rr_pages.specs.declared.journal.reading.RunEnd.{RunEnd}
 use Rattle.rr_pages.specs.declared.journal.reading.Scanned.{Scanned}
 use Rattle.rr_pages.specs.Journal.Reading.{lines}
 use Rattle.rr_pages.specs.Journal.Run.{slots_of}
-use Rattle.rr_pages.specs.PageSet.{marks_of}
+use Rattle.rr_pages.specs.ReachedPages.{marks_of}
 use Rattle.rr_pages.specs.declared.journal.layout.HalfIndex.{HalfIndex}
 use Rattle.rr_pages.specs.declared.root.Root.{Root}
 use Rattle.rr_reading.specs.declared.contents.Contents.{Contents}
 use Rattle.rr_reading.specs.declared.contents.KitTexts.{KitTexts}
-use Rattle.rr_reading.specs.Chains.{held, all_held}
+use Rattle.rr_reading.specs.Chains.{held, all_held_in}
+use Rattle.rr_reading.specs.Lending.Chains.{all_of}
+use Rattle.rr_reading.specs.declared.lending.commands.Commands.{Commands}
 
 -- the chains of a kit's four texts
 pub record TextChains : Type 0 where
@@ -33,6 +35,10 @@ chains_held texts =
       board = held texts.board;
     }
 
+-- the chains in which these are the commands
+abbrev pub tables_in : List ℕ → Commands → List HeldChain
+tables_in file commands = all_held_in file (all_of commands.chains)
+
 -- the root that is taken, the directory and its chain, the chains that it names, the pages that all of them reach, and
 -- the records in the half that the root names and in the other one, with why they end
 pub record Held : Type 0 where
@@ -52,15 +58,16 @@ pub record Held : Type 0 where
 abbrev pub holding_of : Held → Holding
 holding_of held = record { directory = held.chain; chains = chains_of held.texts held.tables }
 
-abbrev pub held_of : Contents → Held
-held_of contents =
+-- what was read of a file: the bytes of its tables' chains are those of their pages in the file
+abbrev pub held_of : List ℕ → Contents → Held
+held_of file contents =
     record {
       side = contents.taken.side;
       root = contents.taken.root;
       directory = directory_of contents.dir;
       chain = held contents.directory;
       texts = chains_held contents.texts;
-      tables = all_held contents.tables.items;
+      tables = tables_in file contents.tables;
       reached = marks_of contents.reached;
       near = lines contents.near.records.items;
       near_end = contents.near.end;

@@ -2,7 +2,9 @@ pub mod Faults
 pub mod Chains
 pub mod Told
 pub mod Held
+pub mod Texts
 pub mod Reading
 pub mod Laws
 pub mod Dir
+pub mod Lending
 pub mod Worlds

@@ -148,5 +148,5 @@ Refuses file OutOfMemory = HasRoot file
 
 -- what reading a file answers
 abbrev pub Reads : List ℕ → Result Contents Fault → Type 0
-Reads file (Ok contents) = Holds file (held_of contents)
+Reads file (Ok contents) = Holds file (held_of file contents)
 Reads file (Err fault) = Refuses file fault

@@ -1,24 +1,29 @@
-ghost use Rattle.std.specs.Prelude.{◌≡◌, ◌*◌, ◌<◌, Bool, not, length, IfOk, IfErr};
+ghost use Rattle.std.specs.Prelude.{◌≡◌, ◌+◌, ◌*◌, ◌<◌, ◌≤◌, Bool, true, not, length, drop, IfOk, IfErr};
 ghost use Rattle.rr_pages.specs.Journal.Layout.{other_half};
 ghost use Rattle.rr_reading.specs.Dir.Directory.{directory_of};
-ghost use Rattle.rr_pages.specs.PageSet.{marks_of};
-ghost use Rattle.rr_reading.specs.Chains.{held, all_held};
+ghost use Rattle.rr_pages.specs.ReachedPages.{marks_of};
+ghost use Rattle.rr_reading.specs.Chains.{held, all_held_in, AreOfForm};
 ghost use Rattle.rr_reading.specs.Faults.{CountsFault, OnDeviceFault};
-ghost use Rattle.rr_reading.specs.Held.{GoesOn, chains_held};
+ghost use Rattle.rr_reading.specs.Held.{GoesOn, chains_held, chains_of, tables_in};
+ghost use Rattle.rr_reading.specs.Lending.Chains.{all_of, count_of};
+ghost use Rattle.rr_reading.specs.Lending.Fitting.{each_fits};
 ghost use Rattle.rr_reading.specs.Reading.{TakesRoot, HoldsChains, Reads, Refuses};
+ghost use Rattle.rr_reading.specs.Told.{RefusesForm};
 ghost use Rattle.rr_pages.specs.declared.page.TheConstants.{PAGE_BYTES};
 
 use crate::Fault;
-use crate::chains::read_chains;
-use crate::dir::Dir;
+use crate::chains::follow_chains;
+use crate::dir::{Dir, TableEntry};
 use crate::directory::{FoundDirectory, read_directory};
-use crate::forms::are_of_form;
+use crate::forms::judge_forms;
+use crate::lending::{Chains, Commands, JoiningBuffer};
 use crate::named::{named_chains, take_texts};
 use crate::records::{FoundRecords, read_records};
 use crate::root::{page_count, read_root};
+use crate::texts::read_texts;
 use rr_disk::Disk;
 use rr_pages::journal::Scanned;
-use rr_pages::{Damage, PageSet, ReadChain, Root, Taken};
+use rr_pages::{FollowedChain, ReachedPages, ReadChain, Root, Taken};
 use std::alloc::Global;
 
 /// The chains of a kit's texts, whose bytes are the texts.
@@ -38,10 +43,10 @@ pub struct Contents {
     /// The directory's chain.
     pub directory: ReadChain,
     pub texts: KitTexts,
-    /// The chain of each table, in the order of the directory. Its bytes are as many kept commands as that says.
-    pub tables: Vec<ReadChain>,
+    /// The kept commands in the chain of each table, in the order of the directory: as many as that says.
+    pub tables: Commands,
     /// The pages of all these chains.
-    pub reached: PageSet,
+    pub reached: ReachedPages,
     /// The records in the half that the root names, and why they end.
     pub near: Scanned,
     /// Those in the other half, numbered on.
@@ -54,8 +59,15 @@ struct FoundChains {
     dir: Dir,
     directory: ReadChain,
     texts: KitTexts,
-    tables: Vec<ReadChain>,
-    reached: PageSet,
+    tables: Commands,
+    reached: ReachedPages,
+}
+
+// What the chains that a directory names hold.
+#[derive(Drop)]
+struct FoundNamed {
+    texts: KitTexts,
+    tables: Commands,
 }
 
 /// Reads a store's file, as far as no rule of the game is needed. It writes nothing, and neither syncs.
@@ -71,6 +83,7 @@ pub fn read_file<D: Disk>(alloc: Global, disk: &mut D) -> Result<Contents, Fault
     ensures read { D.Honest disk.new → Reads (D.state disk.old).content result }
     ensures near { IfOk result (λ contents. GoesOn contents.taken.root.half contents.near) }
     ensures far { IfOk result (λ contents. GoesOn (other_half contents.taken.root.half) contents.far) }
+    ensures within { IfOk result (λ contents. PAGE_BYTES * count_of contents.tables.chains ≤ D.file_len disk.old) }
     ensures fault { CountsFault (D.fault_count disk.old) (D.fault_count disk.new) result }
     ensures honest { D.Honest disk.new → D.Honest disk.old }
     ensures same_state { D.Honest disk.new → D.state disk.new ≡ D.state disk.old }
@@ -108,9 +121,10 @@ pub fn read_file<D: Disk>(alloc: Global, disk: &mut D) -> Result<Contents, Fault
 fn read_found<D: Disk>(alloc: Global, disk: &mut D, root: &Root) -> Result<FoundChains, Fault>
     ensures found { IfOk result (λ found. D.Honest disk.new → (side : Bool) → TakesRoot (D.state disk.old).content side root.now
         → HoldsChains (D.state disk.old).content side root.now (directory_of found.dir) (held found.directory)
-        (chains_held found.texts) (all_held found.tables.items) (marks_of found.reached)) }
+        (chains_held found.texts) (tables_in (D.state disk.old).content found.tables) (marks_of found.reached)) }
     ensures refused { IfErr result (λ fault. D.Honest disk.new → (side : Bool) → TakesRoot (D.state disk.old).content side root.now
         → Refuses (D.state disk.old).content fault) }
+    ensures pages { IfOk result (λ found. count_of found.tables.chains ≤ root.now.pages) }
     ensures fault { CountsFault (D.fault_count disk.old) (D.fault_count disk.new) result }
     ensures honest { D.Honest disk.new → D.Honest disk.old }
     ensures same_state { D.Honest disk.new → D.state disk.new ≡ D.state disk.old }
@@ -128,11 +142,8 @@ fn read_found<D: Disk>(alloc: Global, disk: &mut D, root: &Root) -> Result<Found
     } = read_directory(alloc, disk, root)?;
     let count = page_count(root.pages);
     let named = named_chains(alloc, &dir)?;
-    let mut tables = read_chains(alloc, disk, count, &mut reached, &named)?;
-    let texts = take_texts(&mut tables);
-    if !are_of_form(&dir.tables, &tables) {
-        return Err(Fault::Damaged(Damage::Form));
-    }
+    let chains = follow_chains(alloc, disk, count, &mut reached, &named)?;
+    let FoundNamed { texts, tables } = find_named(alloc, disk, count, &dir.tables, chains)?;
     Ok(FoundChains {
         dir,
         directory: chain,
@@ -140,4 +151,50 @@ fn read_found<D: Disk>(alloc: Global, disk: &mut D, root: &Root) -> Result<Found
         tables,
         reached,
     })
+}
+
+// What is in the chains of the texts and then of the tables with these entries, as they were followed.
+fn find_named<D: Disk>(
+    alloc: Global,
+    disk: &mut D,
+    count: u32,
+    entries: &[TableEntry],
+    chains: Vec<FollowedChain>,
+) -> Result<FoundNamed, Fault>
+    requires many { length entries.now + 4 ≡ length chains.items }
+    requires fit { each_fits count chains.items ≡ true }
+    ensures found { IfOk result (λ found. D.Honest disk.new → all_held_in (D.state disk.old).content chains.items
+        ≡ chains_of (chains_held found.texts) (tables_in (D.state disk.old).content found.tables)) }
+    ensures forms { IfOk result (λ found. D.Honest disk.new
+        → AreOfForm entries.now (tables_in (D.state disk.old).content found.tables)) }
+    ensures pages { IfOk result (λ found. count_of found.tables.chains ≡ count) }
+    ensures refused { IfErr result (λ fault. D.Honest disk.new
+        → RefusesForm fault (AreOfForm entries.now (all_held_in (D.state disk.old).content (drop 4 chains.items)))) }
+    ensures fault { CountsFault (D.fault_count disk.old) (D.fault_count disk.new) result }
+    ensures honest { D.Honest disk.new → D.Honest disk.old }
+    ensures same_state { D.Honest disk.new → D.state disk.new ≡ D.state disk.old }
+    ensures same_past { D.Honest disk.new → D.past disk.new ≡ D.past disk.old }
+    ensures writes { D.write_count disk.new ≡ D.write_count disk.old }
+    ensures syncs { D.sync_count disk.new ≡ D.sync_count disk.old }
+    ensures device { OnDeviceFault result (D.Works disk.new → D.file_len disk.old < PAGE_BYTES * count) }
+    ensures works { D.Works disk.new → D.Works disk.old }
+    ensures same_len { D.file_len disk.new ≡ D.file_len disk.old }
+{
+    let mut chains = chains;
+    let followed = take_texts(&mut chains);
+    let texts = read_texts(alloc, disk, &followed)?;
+    let mut tables = lend(alloc, count, chains)?;
+    judge_forms(disk, entries, &mut tables)?;
+    Ok(FoundNamed { texts, tables })
+}
+
+fn lend(alloc: Global, count: u32, chains: Vec<FollowedChain>) -> Result<Commands, Fault>
+    requires { each_fits count chains.items ≡ true }
+    ensures all { IfOk result (λ tables. all_of tables.chains ≡ chains.items) }
+    ensures pages { IfOk result (λ tables. count_of tables.chains ≡ count) }
+    ensures memory { IfErr result (λ fault. fault ≡ Fault.OutOfMemory) }
+{
+    let chains = Chains::new(alloc, count, chains)?;
+    let joined = JoiningBuffer::new(alloc)?;
+    Ok(Commands::new(chains, joined))
 }

@@ -1,7 +1,7 @@
 // The directory of a root.
 ghost use Rattle.std.specs.Prelude.{◌≡◌, ◌*◌, ◌<◌, Bool, IfOk, IfErr};
 ghost use Rattle.rr_reading.specs.Dir.Directory.{directory_of};
-ghost use Rattle.rr_pages.specs.PageSet.{marks_of};
+ghost use Rattle.rr_pages.specs.ReachedPages.{marks_of};
 ghost use Rattle.rr_reading.specs.Chains.{held};
 ghost use Rattle.rr_reading.specs.Faults.{CountsFault, OnDeviceFault};
 ghost use Rattle.rr_reading.specs.Reading.{TakesRoot, HasDirectory, ReadsDirectory, Refuses};
@@ -11,7 +11,7 @@ use crate::Fault;
 use crate::dir::{Dir, Version};
 use crate::root::page_count;
 use rr_disk::Disk;
-use rr_pages::{PageSet, ReadChain, Root, chain_read};
+use rr_pages::{ReachedPages, ReadChain, Root, chain_read};
 use std::alloc::Global;
 
 // A directory as it was read.
@@ -19,14 +19,14 @@ use std::alloc::Global;
 pub(crate) struct FoundDirectory {
     pub(crate) dir: Dir,
     pub(crate) chain: ReadChain,
-    pub(crate) reached: PageSet,
+    pub(crate) reached: ReachedPages,
 }
 
 // Its chain as it was read.
 #[derive(Drop)]
 struct FoundChain {
     chain: ReadChain,
-    reached: PageSet,
+    reached: ReachedPages,
 }
 
 // Reads the directory of the root that is taken.
@@ -77,7 +77,7 @@ fn read_chain_of<D: Disk>(alloc: Global, disk: &mut D, root: &Root) -> Result<Fo
     ensures works { D.Works disk.new → D.Works disk.old }
     ensures same_len { D.file_len disk.new ≡ D.file_len disk.old }
 {
-    let mut reached = PageSet::new(alloc)?;
+    let mut reached = ReachedPages::new(alloc)?;
     let chain = chain_read(
         alloc,
         disk,

@@ -1,5 +1,5 @@
 use crate::dir;
-use rr_pages::{Damage, journal};
+use rr_pages::Damage;
 use std::alloc::{AllocError, AllocFailed};
 use thiserror::Error;
 
@@ -20,7 +20,7 @@ pub enum Fault {
     OutOfMemory,
 }
 
-// Reading takes no free page, so that a full file is never told.
+// Reading takes no free page and appends nothing, so that neither a full file nor a full half is ever told.
 impl From<rr_pages::Fault> for Fault {
     ghost use Rattle.std.specs.Prelude.{◌≡◌};
     ghost use Rattle.rr_reading.specs.Faults.{of_pages};
@@ -32,22 +32,8 @@ impl From<rr_pages::Fault> for Fault {
             rr_pages::Fault::Damaged(damage) => Fault::Damaged(damage),
             rr_pages::Fault::NotAStore => Fault::NotAStore,
             rr_pages::Fault::Disk(fault) => Fault::Disk(fault),
-            rr_pages::Fault::FileFull | rr_pages::Fault::OutOfMemory => Fault::OutOfMemory,
-        }
-    }
-}
-
-// Nor does it append, so that a half is never told full.
-impl From<journal::Fault> for Fault {
-    ghost use Rattle.std.specs.Prelude.{◌≡◌};
-    ghost use Rattle.rr_reading.specs.Faults.{of_journal};
-
-    ghost from_gives = { λ fault wrapped. wrapped ≡ of_journal fault };
-
-    fn from(fault: journal::Fault) -> Fault {
-        match fault {
-            journal::Fault::Disk(fault) => Fault::Disk(fault),
-            journal::Fault::HalfFull | journal::Fault::OutOfMemory => Fault::OutOfMemory,
+            rr_pages::Fault::FileFull | rr_pages::Fault::HalfFull | rr_pages::Fault::OutOfMemory =>
+                Fault::OutOfMemory,
         }
     }
 }

@@ -2,12 +2,11 @@
 ghost use Rattle.std.specs.Prelude.{◌≡◌, ◌+◌, ◌≤◌, length, map, IfOk, IfErr};
 ghost use Rattle.rr_reading.specs.Dir.Directory.{directory_of};
 ghost use Rattle.rr_reading.specs.Dir.Heads.{head_of, heads_of};
-ghost use Rattle.rr_reading.specs.Chains.{all_held};
-ghost use Rattle.rr_reading.specs.Held.{chains_of, chains_held};
+ghost use Rattle.rr_reading.specs.Texts.{named_after};
 
+use crate::Fault;
 use crate::dir::{ChainRef, Dir};
-use crate::{Fault, KitTexts};
-use rr_pages::ReadChain;
+use rr_pages::FollowedChain;
 use std::alloc::Global;
 
 // Where they stand.
@@ -24,17 +23,25 @@ pub(crate) fn named_chains(alloc: Global, dir: &Dir) -> Result<Vec<ChainRef>, Fa
     Ok(chains)
 }
 
+// The chains of a kit's texts, as they were followed.
+#[derive(Drop)]
+pub(crate) struct FollowedTexts {
+    pub(crate) chart: FollowedChain,
+    pub(crate) roster: FollowedChain,
+    pub(crate) tiles: FollowedChain,
+    pub(crate) board: FollowedChain,
+}
+
 // Takes the texts' chains from the front of all, and leaves the tables'.
-pub(crate) fn take_texts(chains: &mut Vec<ReadChain>) -> KitTexts
+pub(crate) fn take_texts(chains: &mut Vec<FollowedChain>) -> FollowedTexts
     requires { 4 ≤ length chains.old.items }
-    ensures halves { all_held chains.old.items ≡ chains_of (chains_held result) (all_held chains.new.items) }
-    ensures each { length chains.new.items + 4 ≡ length chains.old.items }
+    ensures { chains.old.items ≡ named_after result chains.new.items }
 {
     let chart = chains.remove(0);
     let roster = chains.remove(0);
     let tiles = chains.remove(0);
     let board = chains.remove(0);
-    KitTexts {
+    FollowedTexts {
         chart,
         roster,
         tiles,

@@ -32,6 +32,7 @@ pub(crate) fn read_root<D: Disk>(disk: &mut D) -> Result<Taken, Fault>
 // The page count of a root. One that is taken has at most 65,536 pages.
 pub(crate) fn page_count(pages: u64) -> u32
     ensures few { result ≤ MOST_PAGES }
+    ensures least { result ≤ pages }
     ensures same { pages ≤ MOST_PAGES → result ≡ pages }
 {
     pages.min(u64::from(MOST_PAGES)) as u32

@@ -1,7 +1,7 @@
 //! What is reached from some states of a graph by going on to the states that may follow.
 //!
-//! Stands on std alone. Its promise: what is marked is exactly what `IsReached`, or `IsReachedWithin`. An index of places
-//! by keys (`Index`) finds what may follow without asking each state.
+//! Stands on `smallvec`. Its promise: what is marked is exactly what `IsReached`, or `IsReachedWithin`. An index of
+//! places by keys (`Index`) finds what may follow without asking each state.
 
 mod graph;
 mod marking;

@@ -1,4 +1,5 @@
-//! The words of sheets and certificates: which links each train runs over, and the tree that shows that no run earns more.
+//! The words of sheets and certificates: which links each train runs over, and the tree that shows that no run earns
+//! more.
 //!
 //! Stands on `CertTree`, `rr_roster` and `rr_words`. Its promise: sheets and certificates are read exactly where they
 //! are spelled, and written as that text; and whether a text has their form is told without memory.

@@ -22,62 +22,41 @@ const CHART: &str = "76 82 100p
 70 76 90p
 ";
 
-/// A table, and all entries since it opened.
-#[derive(Drop)]
-struct Table {
-    desk: Desk,
+fn open(rt: &impl Abort, alloc: Global, players: u8, roster: &Roster) -> Desk {
+    assert!(rt; players >= 2);
+    assert!(rt; players <= 6);
+    Desk::new(alloc, &open_table(players, roster)).expect(rt, "memory")
 }
 
-impl Table {
-    fn open(rt: &impl Abort, alloc: Global, players: u8, roster: &Roster) -> Table {
-        assert!(rt; players >= 2);
-        assert!(rt; players <= 6);
-        Table {
-            desk: Desk::new(alloc, open_table(players, roster)),
-        }
+/// Takes an act, or says why it is refused.
+fn take(
+    rt: &impl Abort,
+    desk: &mut Desk,
+    act: &Act,
+    roster: &Roster,
+    chart: &Chart,
+) -> Option<Refusal> {
+    if let Err(fault) = judge(roster, chart, desk.position(), act) {
+        return Some(fault);
     }
+    assert!(rt; is_small(act));
+    let played = play(roster, chart, desk, act);
+    assert!(rt; played.is_ok());
+    None
+}
 
-    /// The table after an act, and the fault if it is refused.
-    fn after(
-        self,
-        rt: &impl Abort,
-        act: &Act,
-        roster: &Roster,
-        chart: &Chart,
-    ) -> (Table, Option<Refusal>) {
-        let Table { mut desk } = self;
-        if let Err(fault) = judge(roster, chart, desk.position(), act) {
-            return (Table { desk }, Some(fault));
-        }
-        assert!(rt; is_small(act));
-        let played = play(roster, chart, &mut desk, act);
-        assert!(rt; played.is_ok());
-        (Table { desk }, None)
-    }
+/// What is due, which private is asked at which price, and how many turns have ended.
+fn standing(desk: &Desk, roster: &Roster) -> (Due, Option<(Private, Money)>, u32) {
+    let position = desk.position();
+    (Due::of(position), asked(position, roster), turns(position))
+}
 
-    fn due(&self) -> Due {
-        Due::of(self.desk.position())
-    }
+fn cash(desk: &Desk, party: Party, roster: &Roster) -> i64 {
+    desk.books().money(party, roster).0
+}
 
-    fn is_over(&self) -> bool {
-        is_over(self.desk.position())
-    }
-
-    fn asked(&self, roster: &Roster) -> Option<(Private, Money)> {
-        asked(self.desk.position(), roster)
-    }
-
-    fn turns(&self) -> u32 {
-        turns(self.desk.position())
-    }
-
-    fn cash(&self, party: Party, roster: &Roster) -> i64 {
-        self.desk.books().money(party, roster).0
-    }
-
-    fn entries(&self) -> &[Entry] {
-        self.desk.entries().as_slice()
-    }
+fn entries(desk: &Desk) -> &[Entry] {
+    desk.entries().as_slice()
 }
 
 fn is_small(act: &Act) -> bool
@@ -126,7 +105,9 @@ fn end_with_the_par(entries: &[Entry]) -> bool {
 /// The price of the corporation by the marks among these entries.
 fn price_after(entries: &[Entry], chart: &Chart, corp: Corp) -> Option<u16> {
     let mut market = Market::new();
-    market.follow_all(entries);
+    for entry in entries {
+        market.follow(entry);
+    }
     market.price(chart, corp)
 }
 
@@ -134,56 +115,70 @@ fn price_after(entries: &[Entry], chart: &Chart, corp: Corp) -> Option<u16> {
 fn a_purchase_and_a_bid_that_is_too_low(rt: HostRuntime) {
     let roster = roster(&rt, rt.alloc(), ROSTER);
     let chart = chart(&rt, rt.alloc(), CHART);
-    let table = Table::open(&rt, rt.alloc(), 4, &roster);
-    assert!(rt; table.due() == Due::Turn(A));
-    assert!(rt; table.asked(&roster) == Some((Private::Sv, Money(20))));
-    assert!(rt; table.turns() == 0);
-    let (table, fault) = table.after(&rt, &Act::BuyPrivate { seat: A }, &roster, &chart);
-    assert!(rt; fault.is_none());
-    assert!(rt; table.due() == Due::Turn(B));
-    assert!(rt; table.asked(&roster) == Some((Private::Csl, Money(40))));
-    assert!(rt; table.turns() == 1);
-    assert!(rt; table.cash(Party::Seat(A), &roster) == 580);
-    assert!(rt; table.cash(Party::Bank, &roster) == 9620);
-    assert!(rt; are_of_the_first_purchase(table.entries()));
+    let mut desk = open(&rt, rt.alloc(), 4, &roster);
+    let asked = Some((Private::Sv, Money(20)));
+    assert!(rt; standing(&desk, &roster) == (Due::Turn(A), asked, 0));
+    let fault = take(
+        &rt,
+        &mut desk,
+        &Act::BuyPrivate { seat: A },
+        &roster,
+        &chart,
+    );
+    let asked = Some((Private::Csl, Money(40)));
+    assert!(rt; fault.is_none() && standing(&desk, &roster) == (Due::Turn(B), asked, 1));
+    let bought = are_of_the_first_purchase(entries(&desk));
+    let paid = cash(&desk, Party::Seat(A), &roster) == 580;
+    assert!(rt; bought && paid && cash(&desk, Party::Bank, &roster) == 9620);
     let low = Act::Bid {
         seat: B,
         private: Private::Dh,
         amount: 74,
     };
-    let (_table, fault) = table.after(&rt, &low, &roster, &chart);
+    let fault = take(&rt, &mut desk, &low, &roster, &chart);
     assert!(rt; fault == Some(Refusal::BidTooLow(75)));
 }
 
+static BUYERS: [Seat; 6] = [A, B, A, B, A, B];
+
 /// Two players have bought the six privates in turn, and the second of them got the B&O's.
-fn all_sold(rt: &impl Abort, alloc: Global, roster: &Roster, chart: &Chart) -> Table {
-    let mut table = Table::open(rt, alloc, 2, roster);
-    for seat in [A, B, A, B, A, B] {
-        let (next, fault) = table.after(rt, &Act::BuyPrivate { seat }, roster, chart);
+fn all_sold(rt: &impl Abort, alloc: Global, roster: &Roster, chart: &Chart) -> Desk {
+    let mut desk = open(rt, alloc, 2, roster);
+    for seat in &BUYERS {
+        let buy = Act::BuyPrivate { seat: *seat };
+        let fault = take(rt, &mut desk, &buy, roster, chart);
         assert!(rt; fault.is_none());
-        table = next;
     }
-    table
+    desk
+}
+
+/// Why a par of the B&O at a price is refused, if it is.
+fn par(
+    rt: &impl Abort,
+    desk: &mut Desk,
+    price: u64,
+    roster: &Roster,
+    chart: &Chart,
+) -> Option<Refusal> {
+    let par = Act::Par {
+        seat: B,
+        corp: Corp::Bo,
+        price,
+    };
+    take(rt, desk, &par, roster, chart)
 }
 
 #[test]
 fn a_par_puts_the_token_on_the_chart(rt: HostRuntime) {
     let roster = roster(&rt, rt.alloc(), ROSTER);
     let chart = chart(&rt, rt.alloc(), CHART);
-    let mut table = all_sold(&rt, rt.alloc(), &roster, &chart);
-    for (price, refusal) in [(67, Some(Refusal::NotAPar)), (90, None)] {
-        let par = Act::Par {
-            seat: B,
-            corp: Corp::Bo,
-            price,
-        };
-        let (next, fault) = table.after(&rt, &par, &roster, &chart);
-        assert!(rt; fault == refusal);
-        table = next;
-    }
-    assert!(rt; table.is_over());
-    assert!(rt; end_with_the_par(table.entries()));
-    assert!(rt; price_after(table.entries(), &chart, Corp::Bo) == Some(90));
+    let mut desk = all_sold(&rt, rt.alloc(), &roster, &chart);
+    let wrong = par(&rt, &mut desk, 67, &roster, &chart);
+    let right = par(&rt, &mut desk, 90, &roster, &chart);
+    assert!(rt; wrong == Some(Refusal::NotAPar) && right.is_none());
+    let price = price_after(entries(&desk), &chart, Corp::Bo);
+    let ended = is_over(desk.position()) && end_with_the_par(entries(&desk));
+    assert!(rt; ended && price == Some(90));
 }
 
 #[test]

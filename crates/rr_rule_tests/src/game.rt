@@ -68,16 +68,16 @@ fn refusal(
     game.step(alloc, command, kit).err()
 }
 
-fn opened(rt: &impl Abort, command: Command, kit: &Kit) -> Game {
+fn opened(rt: &impl Abort, alloc: Global, command: Command, kit: &Kit) -> Game {
     match command {
-        Command::Open { players } => Game::open(players, kit),
+        Command::Open { players } => Game::open(alloc, players, kit).expect(rt, "memory"),
         _ => rt.abort(),
     }
 }
 
 /// The game of a and b after these commands.
 fn played(rt: &impl Abort, alloc: Global, kit: &Kit, lines: &[&[u8]]) -> Game {
-    let mut game = opened(rt, command(rt, b"open a b"), kit);
+    let mut game = opened(rt, alloc, command(rt, b"open a b"), kit);
     for words in lines {
         game = after(rt, &game, alloc, &command(rt, *words), kit);
     }
@@ -98,94 +98,145 @@ fn place(rt: &impl Abort, game: &Game, player: Name) -> Place {
         .expect(rt, "a player of the table")
 }
 
+/// The kit of the small chart and board.
+fn small_kit(rt: &impl Abort, alloc: Global) -> Kit {
+    kit(rt, alloc, CHART, ROSTER.as_bytes(), BOARD)
+}
+
+fn due(game: &Game, kit: &Kit) -> Due {
+    game.due(kit)
+}
+
+fn asked(game: &Game, kit: &Kit) -> Option<(Private, Money)> {
+    game.asked(kit)
+}
+
 #[test]
 fn a_game_begins_with_the_auction(rt: HostRuntime) {
-    let kit = kit(&rt, rt.alloc(), CHART, ROSTER.as_bytes(), BOARD);
+    let kit = small_kit(&rt, rt.alloc());
     let game = played(&rt, rt.alloc(), &kit, &[]);
-    assert!(rt; game.due(&kit) == Due::Turn(A));
-    assert!(rt; game.asked(&kit) == Some((Private::Sv, Money(20))));
-    assert!(rt; game.limit() == 28);
+    assert!(rt; due(&game, &kit) == Due::Turn(A) && game.limit() == 28);
+    assert!(rt; asked(&game, &kit) == Some((Private::Sv, Money(20))));
+}
+
+static AUCTION: [&[u8]; 7] = [
+    b"buy a",
+    b"buy b",
+    b"buy a",
+    b"buy b",
+    b"buy a",
+    b"buy b",
+    b"par b B&O 100",
+];
+
+static STOCK_ROUND: [&[u8]; 9] = [
+    b"buy a",
+    b"buy b",
+    b"buy a",
+    b"buy b",
+    b"buy a",
+    b"buy b",
+    b"par b B&O 100",
+    b"par a PRR 100",
+    b"done a",
+];
+
+/// What a has: money, shares of the PRR, a place, and the SV.
+fn has_its_part(rt: &impl Abort, game: &Game, kit: &Kit) -> bool {
+    let a = player(rt, b"a");
+    let seat = Place::Seat(A);
+    let named = game.player(A) == b"a".as_slice() && place(rt, game, a) == seat;
+    let paid = cash(rt, game, a, kit) == Money(750) && holds(rt, game, &a, Corp::Prr) == 30;
+    named && paid && game.owns(seat, Private::Sv)
+}
+
+/// Whether the PRR stands at 100, behind the B&O.
+fn has_its_order(game: &Game, kit: &Kit) -> bool {
+    let cell = Cell { row: 0, column: 6 };
+    let order = [Corp::Bo, Corp::Prr];
+    let priced = game.price(Corp::Prr, kit) == Some((100, cell));
+    priced && game.order(kit).as_slice() == order.as_slice()
 }
 
 #[test]
 fn an_auction_and_the_stock_round_behind_it(rt: HostRuntime) {
-    let alloc = rt.alloc();
-    let kit = kit(&rt, alloc, CHART, ROSTER.as_bytes(), BOARD);
-    let lines: [&[u8]; 9] = [
-        b"buy a",
-        b"buy b",
-        b"buy a",
-        b"buy b",
-        b"buy a",
-        b"buy b",
-        b"par b B&O 100",
-        b"par a PRR 100",
-        b"done a",
-    ];
-    let game = played(&rt, alloc, &kit, &lines[..7]);
-    assert!(rt; game.due(&kit) == Due::Stock(A));
-    let game = played(&rt, alloc, &kit, &lines);
-    assert!(rt; game.due(&kit) == Due::Stock(B));
-    assert!(rt; game.played() == 10);
-    assert!(rt; game.asked(&kit).is_none());
-    let a = player(&rt, b"a");
-    assert!(rt; game.player(A) == b"a".as_slice());
-    assert!(rt; cash(&rt, &game, a, &kit) == Money(750));
-    assert!(rt; holds(&rt, &game, &a, Corp::Prr) == 30);
-    assert!(rt; place(&rt, &game, a) == Place::Seat(A));
-    assert!(rt; game.owns(Place::Seat(A), Private::Sv));
-    let cell = Cell { row: 0, column: 6 };
-    assert!(rt; game.price(Corp::Prr, &kit) == Some((100, cell)));
-    let order = [Corp::Bo, Corp::Prr];
-    assert!(rt; game.order(&kit).as_slice() == order.as_slice());
+    let kit = small_kit(&rt, rt.alloc());
+    let game = played(&rt, rt.alloc(), &kit, &AUCTION);
+    assert!(rt; due(&game, &kit) == Due::Stock(A));
+    let game = played(&rt, rt.alloc(), &kit, &STOCK_ROUND);
+    let played = game.played() == 10 && asked(&game, &kit).is_none();
+    assert!(rt; played && due(&game, &kit) == Due::Stock(B));
+    assert!(rt; has_its_part(&rt, &game, &kit) && has_its_order(&game, &kit));
+}
+
+/// Whether the game refuses the command for this.
+fn is_refused(
+    rt: &impl Abort,
+    game: &Game,
+    alloc: Global,
+    kit: &Kit,
+    words: &[u8],
+    fault: Refusal,
+) -> bool {
+    refusal(rt, game, alloc, &command(rt, words), kit) == Some(fault)
 }
 
 #[test]
 fn the_auction_takes_no_order(rt: HostRuntime) {
     let alloc = rt.alloc();
-    let kit = kit(&rt, alloc, CHART, ROSTER.as_bytes(), BOARD);
+    let kit = small_kit(&rt, alloc);
     let game = played(&rt, alloc, &kit, &[]);
-    let run = command(&rt, b"run PRR 2=1-2 best s1 b f");
-    assert!(rt; refusal(&rt, &game, alloc, &run, &kit) == Some(Refusal::WrongStep));
-    let sale = command(&rt, b"train PRR 2 NYC 40 nobody b");
-    assert!(rt; refusal(&rt, &game, alloc, &sale, &kit) == Some(Refusal::NoSuchName));
+    let run = b"run PRR 2=1-2 best s1 b f";
+    assert!(rt; is_refused(&rt, &game, alloc, &kit, run, Refusal::WrongStep));
+    let sale = b"train PRR 2 NYC 40 nobody b";
+    assert!(rt; is_refused(&rt, &game, alloc, &kit, sale, Refusal::NoSuchName));
 }
 
-// Two players buy the privates; a floats the PRR, which is due as the first operating round begins.
+/// Two players buy the privates; a floats the PRR, which is due as the first operating round begins.
+static TO_AN_OPERATING_ROUND: [&[u8]; 20] = [
+    b"buy a",
+    b"buy b",
+    b"buy a",
+    b"buy b",
+    b"buy a",
+    b"buy b",
+    b"par b B&O 100",
+    b"par a PRR 100",
+    b"done a",
+    b"done b",
+    b"buy a PRR offer",
+    b"done a",
+    b"done b",
+    b"buy a PRR offer",
+    b"done a",
+    b"done b",
+    b"buy a PRR offer",
+    b"done a",
+    b"done b",
+    b"done a",
+];
+
+/// How many 2s the PRR has, and the pool.
+fn twos(game: &Game) -> [u8; 2] {
+    [
+        game.trains(TrainHolder::Corp(Corp::Prr), Kind::Two),
+        game.trains(TrainHolder::Pool, Kind::Two),
+    ]
+}
+
+/// Whether the PRR has its money, no train, and no debt, in the first phase.
+fn has_only_money(game: &Game, kit: &Kit) -> bool {
+    let money = game.cash(&Account::Corp(Corp::Prr), kit) == Ok(Money(1000));
+    let phase = game.phase() == Kind::Two && game.iou(kit) == 0;
+    money && phase && twos(game) == [0, 0] && game.revenue() == Money(0)
+}
+
 #[test]
 fn a_corporation_is_due_in_an_operating_round(rt: HostRuntime) {
-    let alloc = rt.alloc();
-    let kit = kit(&rt, alloc, CHART, ROSTER.as_bytes(), BOARD);
-    let lines: [&[u8]; 20] = [
-        b"buy a",
-        b"buy b",
-        b"buy a",
-        b"buy b",
-        b"buy a",
-        b"buy b",
-        b"par b B&O 100",
-        b"par a PRR 100",
-        b"done a",
-        b"done b",
-        b"buy a PRR offer",
-        b"done a",
-        b"done b",
-        b"buy a PRR offer",
-        b"done a",
-        b"done b",
-        b"buy a PRR offer",
-        b"done a",
-        b"done b",
-        b"done a",
-    ];
-    let game = played(&rt, alloc, &kit, &lines);
-    assert!(rt; game.due(&kit) == Due::Operating(Corp::Prr, TurnStep::Lay));
-    assert!(rt; game.cash(&Account::Corp(Corp::Prr), &kit) == Ok(Money(1000)));
-    assert!(rt; game.phase() == Kind::Two);
-    assert!(rt; game.iou(&kit) == 0);
-    assert!(rt; game.trains(TrainHolder::Corp(Corp::Prr), Kind::Two) == 0);
-    assert!(rt; game.trains(TrainHolder::Pool, Kind::Two) == 0);
-    assert!(rt; game.revenue() == Money(0));
+    let kit = small_kit(&rt, rt.alloc());
+    let game = played(&rt, rt.alloc(), &kit, &TO_AN_OPERATING_ROUND);
+    assert!(rt; due(&game, &kit) == Due::Operating(Corp::Prr, TurnStep::Lay));
+    assert!(rt; has_only_money(&game, &kit));
 }
 
 #[test]

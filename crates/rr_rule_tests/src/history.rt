@@ -1,7 +1,5 @@
 //! A table that is taken back.
-ghost use Rattle.std.proofs.Props.{props};
 ghost use Rattle.rr_code.specs.Command.{IsCommand};
-ghost use Rattle.rr_game.specs.History.Tables.{IsPlayed};
 
 use crate::fixtures::ROSTER;
 use rr_code::{Command, Players};
@@ -19,7 +17,6 @@ const BOARD: &[u8] = b"hex A 0,0 white\n";
 struct Club {
     kit: Kit,
     table: Table,
-    ghost played: { IsPlayed kit table } by { Prim.hlevel props },
 }
 
 impl Club {
@@ -48,7 +45,7 @@ impl Club {
             .table
             .judge(alloc, stamp, &request, &self.kit)
             .expect(rt, "a lawful command");
-        assert!(rt; change.added().is_some());
+        self.table.reserve(&change).expect(rt, "room for a command");
         self.table.take(change);
     }
 
@@ -60,6 +57,18 @@ impl Club {
     fn forget(&mut self, turn: u64) -> Result<(), Fault> {
         let stamp = self.table.stamp();
         self.table.forget(stamp, turn)
+    }
+
+    fn play_all(&mut self, rt: &impl Abort, alloc: Global, lines: &[&[u8]]) {
+        for words in lines {
+            self.play(rt, alloc, *words).expect(rt, "a lawful command");
+        }
+    }
+
+    /// The stamp, how many turns have ended, and how many commands there are.
+    fn counts(&self) -> (u64, u64, usize) {
+        let table = &self.table;
+        (table.stamp(), table.turns(), table.commands().len())
     }
 }
 
@@ -76,11 +85,21 @@ fn command<'a>(rt: &impl Abort, words: &'a [u8]) -> Command<'a>
     Command::read(words).expect(rt, "a command")
 }
 
-fn opened(rt: &impl Abort, alloc: Global, kit: &Kit) -> Table
-    ensures { IsPlayed kit.now result }
-{
+fn opened(rt: &impl Abort, alloc: Global, kit: &Kit) -> Table {
     Table::open(alloc, &players(rt, b"open a b c d e f"), kit).expect(rt, "a table")
 }
+
+static NINE_TURNS: [&[u8]; 9] = [
+    b"pass a",
+    b"pass b",
+    b"bid c C&SL 45",
+    b"pass d",
+    b"pass e",
+    b"pass f",
+    b"buy a",
+    b"pass b",
+    b"pass c",
+];
 
 /// Nine turns of the auction, with stamp 57.
 fn club_of_nine_turns(rt: &impl Abort, alloc: Global) -> Club {
@@ -88,81 +107,64 @@ fn club_of_nine_turns(rt: &impl Abort, alloc: Global) -> Club {
     for _ in 0..47 {
         club.take_back(alloc, 0).expect(rt, "turn 0 is kept");
     }
-    let lines: [&[u8]; 9] = [
-        b"pass a",
-        b"pass b",
-        b"bid c C&SL 45",
-        b"pass d",
-        b"pass e",
-        b"pass f",
-        b"buy a",
-        b"pass b",
-        b"pass c",
-    ];
-    for words in lines {
-        club.play(rt, alloc, words).expect(rt, "a lawful command");
-    }
+    club.play_all(rt, alloc, &NINE_TURNS);
     club
 }
 
 #[test]
 fn a_table_is_taken_back_to_a_kept_turn(rt: HostRuntime) {
     let mut club = club_of_nine_turns(&rt, rt.alloc());
-    assert!(rt; club.table.turns() == 9);
-    assert!(rt; club.table.stamp() == 57);
-    assert!(rt; club.take_back(rt.alloc(), 2) == Ok(()));
-    assert!(rt; club.table.stamp() == 58);
-    assert!(rt; club.table.turns() == 2);
-    assert!(rt; club.table.commands().len() == 3);
-    assert!(rt; club.take_back(rt.alloc(), 9) == Err(Fault::TurnNotKept));
-    assert!(rt; club.table.stamp() == 58);
+    let nine = club.counts();
+    let back = club.take_back(rt.alloc(), 2);
+    assert!(rt; (nine, back, club.counts()) == ((57, 9, 10), Ok(()), (58, 2, 3)));
+    let again = club.take_back(rt.alloc(), 9);
+    assert!(rt; (again, club.counts()) == (Err(Fault::TurnNotKept), (58, 2, 3)));
 }
 
 #[test]
 fn forgotten_turns_are_not_kept(rt: HostRuntime) {
     let mut club = club_of_nine_turns(&rt, rt.alloc());
-    assert!(rt; club.forget(3) == Ok(()));
-    assert!(rt; club.table.floor() == 3);
-    assert!(rt; club.table.turns() == 9);
-    assert!(rt; club.take_back(rt.alloc(), 2) == Err(Fault::TurnNotKept));
-    assert!(rt; club.forget(10) == Err(Fault::TurnNotKept));
-    assert!(rt; club.take_back(rt.alloc(), 3) == Ok(()));
-    assert!(rt; club.table.stamp() == 59);
-    assert!(rt; club.play(&rt, rt.alloc(), b"pass d") == Ok(()));
-    assert!(rt; club.table.turns() == 4);
+    let forgotten = club.forget(3);
+    assert!(rt; forgotten == Ok(()) && club.table.floor() == 3 && club.table.turns() == 9);
+    let before = club.take_back(rt.alloc(), 2);
+    let later = club.forget(10);
+    let back = club.take_back(rt.alloc(), 3);
+    assert!(rt;
+        [before, later, back] == [Err(Fault::TurnNotKept), Err(Fault::TurnNotKept), Ok(())]
+    );
+    let stamp = club.table.stamp();
+    let passed = club.play(&rt, rt.alloc(), b"pass d");
+    assert!(rt; (stamp, passed, club.table.turns()) == (59, Ok(()), 4));
 }
 
 #[test]
 fn a_command_is_taken_once(rt: HostRuntime) {
     let mut club = Club::open(&rt, rt.alloc());
     let pass = command(&rt, b"pass a");
-    assert!(rt; club.play_at(rt.alloc(), 1, &pass) == Ok(()));
-    assert!(rt; club.play_at(rt.alloc(), 1, &pass) == Err(Fault::StaleStamp(2)));
-    assert!(rt; club.take_back(rt.alloc(), 0) == Ok(()));
-    assert!(rt; club.play_at(rt.alloc(), 1, &pass) == Err(Fault::StaleStamp(3)));
-    assert!(rt; club.play_at(rt.alloc(), 3, &pass) == Ok(()));
+    let first = club.play_at(rt.alloc(), 1, &pass);
+    let again = club.play_at(rt.alloc(), 1, &pass);
+    let back = club.take_back(rt.alloc(), 0);
+    assert!(rt; [first, again, back] == [Ok(()), Err(Fault::StaleStamp(2)), Ok(())]);
+    let stale = club.play_at(rt.alloc(), 1, &pass);
+    let anew = club.play_at(rt.alloc(), 3, &pass);
+    assert!(rt; [stale, anew] == [Err(Fault::StaleStamp(3)), Ok(())]);
 }
+
+static SIX_TURNS: [&[u8]; 6] = [b"buy a", b"buy b", b"buy c", b"buy d", b"buy e", b"pass f"];
 
 /// The B&O's par ends the turn that buys the private, and a take-back drops a purchase without its par.
 #[test]
 fn a_turn_under_way_is_dropped(rt: HostRuntime) {
     let alloc = rt.alloc();
     let mut club = Club::open(&rt, alloc);
-    let lines: [&[u8]; 6] = [b"buy a", b"buy b", b"buy c", b"buy d", b"buy e", b"pass f"];
-    for words in lines {
-        club.play(&rt, alloc, words).expect(&rt, "a lawful command");
-    }
-    assert!(rt; club.table.turns() == 6);
-    club.play(&rt, alloc, b"buy a")
-        .expect(&rt, "a lawful purchase");
-    assert!(rt; club.table.turns() == 6);
-    assert!(rt; club.table.commands().len() == 8);
-    assert!(rt; club.take_back(alloc, 6) == Ok(()));
-    assert!(rt; club.table.commands().len() == 7);
-    club.play(&rt, alloc, b"buy a")
-        .expect(&rt, "a lawful purchase");
-    club.play(&rt, alloc, b"par a B&O 100")
-        .expect(&rt, "a lawful par");
+    club.play_all(&rt, alloc, &SIX_TURNS);
+    let ended = club.table.turns();
+    club.play_all(&rt, alloc, &[b"buy a"]);
+    assert!(rt; (ended, club.table.turns(), club.table.commands().len()) == (6, 6, 8));
+    let back = club.take_back(alloc, 6);
+    assert!(rt; back == Ok(()) && club.table.commands().len() == 7);
+    assert!(rt; club.table.game().turns() == 6);
+    club.play_all(&rt, alloc, &[b"buy a", b"par a B&O 100"]);
     assert!(rt; club.table.turns() == 7);
 }
 
@@ -170,9 +172,7 @@ fn a_turn_under_way_is_dropped(rt: HostRuntime) {
 fn a_command_is_judged_before_it_counts(rt: HostRuntime) {
     let mut club = Club::open(&rt, rt.alloc());
     club.play_once_judged(&rt, rt.alloc(), b"pass a");
-    assert!(rt; club.table.stamp() == 2);
-    assert!(rt; club.table.turns() == 1);
-    assert!(rt; club.table.commands().len() == 2);
+    assert!(rt; club.counts() == (2, 1, 2));
 }
 
 #[test]
@@ -180,6 +180,7 @@ fn laws_are_called(_rt: HostRuntime) {
     rr_game::history::laws::requests_have_one_verdict();
     rr_game::history::laws::tables_go_on();
     rr_game::history::laws::back_goes_to_its_turn();
+    rr_game::history::laws::back_keeps_its_count();
     rr_game::history::laws::back_to_the_present_turn();
     rr_game::history::laws::accepted_turns_are_kept();
     rr_turns::laws::stamps_never_fall::<u8>();
@@ -188,16 +189,25 @@ fn laws_are_called(_rt: HostRuntime) {
     rr_turns::laws::one_front_ends_with_a_turn::<u8>();
     rr_turns::laws::back_to_the_present_turn::<u8>();
     rr_turns::laws::ended_turns_stay::<u8>();
+    rr_turns::laws::back_keeps_its_count::<u8>();
+    rr_turns::laws::ends_grow_at_the_end::<u8>();
+    rr_turns::laws::each_turn_has_its_end::<u8>();
+    rr_turns::laws::back_keeps_its_ends::<u8>();
+}
+
+/// Whether the table's one command is its opening.
+fn has_its_opening_alone(club: &Club) -> bool {
+    let commands = club.table.commands();
+    if commands.len() != 1 {
+        return false;
+    }
+    let words = commands.words().get(0);
+    words == Some(b"open a b c d e f".as_slice())
+        && matches!(commands.command(0), Command::Open { .. })
 }
 
 #[test]
 fn the_opening_is_spelled(rt: HostRuntime) {
     let club = Club::open(&rt, rt.alloc());
-    match club.table.commands() {
-        [opening] => {
-            assert!(rt; opening.as_bytes() == b"open a b c d e f".as_slice());
-            assert!(rt; matches!(opening.command(), Command::Open { .. }));
-        }
-        _ => rt.abort(),
-    }
+    assert!(rt; has_its_opening_alone(&club));
 }

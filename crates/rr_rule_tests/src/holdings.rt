@@ -160,76 +160,114 @@ impl Table {
         judge_sale_in_round(&self.position, &self.chart, seat, corp, 1)
     }
 
-    fn can_sell(&self, seat: Seat) -> bool {
-        has_lawful_sale(&self.position, &self.chart, seat)
-    }
-
-    fn must_sell(&self, seat: Seat) -> bool {
-        must_sell_first(&self.position, &self.chart, seat)
+    /// Whether the seat has a lawful sale, and whether it must sell first.
+    fn selling(&self, seat: Seat) -> (bool, bool) {
+        let can_sell = has_lawful_sale(&self.position, &self.chart, seat);
+        (can_sell, must_sell_first(&self.position, &self.chart, seat))
     }
 }
 
+static SIX_PRIVATES: [(Private, Place); 3] = [
+    (Private::Sv, AT_A),
+    (Private::Bo, AT_A),
+    (Private::Csl, AT_B),
+];
+
+static SIX_LOTS: [Lot; 3] = [
+    (PRR, true, 0, 3, AT_A),
+    (NYC, true, 0, 4, AT_A),
+    (Corp::Bm, false, 0, 2, AT_A),
+];
+
 #[test]
 fn certificates_in_a_coloured_zone_are_not_counted(rt: HostRuntime) {
-    let mut table = Table::dealt(
-        &rt,
-        rt.alloc(),
-        6,
-        &[
-            (Private::Sv, AT_A),
-            (Private::Bo, AT_A),
-            (Private::Csl, AT_B),
-        ],
-        &[
-            (PRR, true, 0, 3, AT_A),
-            (NYC, true, 0, 4, AT_A),
-            (Corp::Bm, false, 0, 2, AT_A),
-        ],
-        &[(PRR, At::White)],
-    );
-    assert!(rt; table.counted(A) == 13);
+    let tokens = [(PRR, At::White)];
+    let mut table = Table::dealt(&rt, rt.alloc(), 6, &SIX_PRIVATES, &SIX_LOTS, &tokens);
+    let white = table.counted(A);
     table.put(&rt, NYC, At::Yellow);
-    assert!(rt; table.counted(A) == 8);
-    assert!(rt; table.counted(B) == 1);
+    assert!(rt; [white, table.counted(A), table.counted(B)] == [13, 8, 1]);
+}
+
+static PRIVATES: [(Private, Place); 2] = [(Private::Sv, AT_A), (Private::Csl, AT_A)];
+
+/// Whether A, of so many players, with eleven certificates is over the limit; would be with one of the B&M, and of the
+/// NYC; and is with one more.
+fn limits_of_eleven(rt: &impl Abort, alloc: Global, players: u8) -> [bool; 4] {
+    let lots = [(PRR, true, 0, 8, AT_A)];
+    let mut table = Table::dealt(rt, alloc, players, &PRIVATES, &lots, &[(NYC, At::Yellow)]);
+    let eleven = table.is_over_certificates(A);
+    let white = table.takes_too_many(A, Corp::Bm);
+    let yellow = table.takes_too_many(A, NYC);
+    table.give(rt, Cert::Private(Private::Dh), AT_A);
+    [eleven, white, yellow, table.is_over_certificates(A)]
 }
 
 #[test]
 fn six_players_hold_eleven_certificates(rt: HostRuntime) {
-    for (players, is_over) in [(6, true), (5, false)] {
-        let mut table = Table::dealt(
-            &rt,
-            rt.alloc(),
-            players,
-            &[(Private::Sv, AT_A), (Private::Csl, AT_A)],
-            &[(PRR, true, 0, 8, AT_A)],
-            &[(NYC, At::Yellow)],
-        );
-        assert!(rt; !table.is_over_certificates(A));
-        assert!(rt; table.takes_too_many(A, Corp::Bm) == is_over);
-        assert!(rt; !table.takes_too_many(A, NYC));
-        table.give(&rt, Cert::Private(Private::Dh), AT_A);
-        assert!(rt; table.is_over_certificates(A) == is_over);
+    assert!(rt; limits_of_eleven(&rt, rt.alloc(), 6) == [false, true, false, true]);
+    assert!(rt; limits_of_eleven(&rt, rt.alloc(), 5) == [false; 4]);
+}
+
+/// Whether A with 60% is over the limit of 60%, would be with no more, and with 10% more; is then; and is over a limit.
+fn limits_at(rt: &impl Abort, alloc: Global, at: At) -> [bool; 5] {
+    let lots = [(PRR, true, 0, 4, AT_A)];
+    let mut table = Table::dealt(rt, alloc, 3, &[], &lots, &[(PRR, at)]);
+    let sixty = table.is_over_sixty(A, PRR);
+    let same = table.takes_too_much(A, PRR, 0);
+    let more = table.takes_too_much(A, PRR, 10);
+    table.give_lot(rt, (PRR, false, 4, 1, AT_A));
+    [
+        sixty,
+        same,
+        more,
+        table.is_over_sixty(A, PRR),
+        table.is_over(A),
+    ]
+}
+
+/// Zones, and whether more than 60% is too much there.
+static ZONES: [(At, bool); 5] = [
+    (At::Nowhere, true),
+    (At::White, true),
+    (At::Yellow, true),
+    (At::Orange, false),
+    (At::Brown, false),
+];
+
+fn are_limited(rt: &impl Abort, alloc: Global, zones: &[(At, bool)]) -> bool {
+    for (at, is_over) in zones {
+        let over = *is_over;
+        if limits_at(rt, alloc, *at) != [false, false, over, over, over] {
+            return false;
+        }
     }
+    true
 }
 
 #[test]
 fn more_than_sixty_percent_is_held_in_orange_and_brown(rt: HostRuntime) {
-    for (at, is_over) in [
-        (At::Nowhere, true),
-        (At::White, true),
-        (At::Yellow, true),
-        (At::Orange, false),
-        (At::Brown, false),
-    ] {
-        let lots = [(PRR, true, 0, 4, AT_A)];
-        let mut table = Table::dealt(&rt, rt.alloc(), 3, &[], &lots, &[(PRR, at)]);
-        assert!(rt; !table.is_over_sixty(A, PRR));
-        assert!(rt; !table.takes_too_much(A, PRR, 0));
-        assert!(rt; table.takes_too_much(A, PRR, 10) == is_over);
-        table.give_lot(&rt, (PRR, false, 4, 1, AT_A));
-        assert!(rt; table.is_over_sixty(A, PRR) == is_over);
-        assert!(rt; table.is_over(A) == is_over);
+    assert!(rt; are_limited(&rt, rt.alloc(), &ZONES));
+}
+
+/// A verdict on a sale of so many shares.
+type Verdict = (u64, Result<(), Refusal>);
+
+static TO_THE_POOL: [Verdict; 5] = [
+    (3, Err(Refusal::PoolOverHalf)),
+    (2, Ok(())),
+    (0, Err(Refusal::NotForSale)),
+    (4, Err(Refusal::NotForSale)),
+    (1844674407370955162, Err(Refusal::NotForSale)),
+];
+
+/// Whether each of A's sales of the PRR has its verdict.
+fn are_judged(table: &Table, verdicts: &[Verdict]) -> bool {
+    for (count, verdict) in verdicts {
+        if table.sale(A, PRR, *count) != *verdict {
+            return false;
+        }
     }
+    true
 }
 
 #[test]
@@ -238,25 +276,18 @@ fn the_pool_holds_half(rt: HostRuntime) {
     let mut table = Table::dealt(&rt, rt.alloc(), 3, &[], &lots, &[]);
     assert!(rt; table.sale(A, PRR, 1) == Err(Refusal::NotForSale));
     table.put(&rt, PRR, At::White);
-    for (count, verdict) in [
-        (3, Err(Refusal::PoolOverHalf)),
-        (2, Ok(())),
-        (0, Err(Refusal::NotForSale)),
-        (4, Err(Refusal::NotForSale)),
-        (1844674407370955162, Err(Refusal::NotForSale)),
-    ] {
-        assert!(rt; table.sale(A, PRR, count) == verdict);
-    }
+    assert!(rt; are_judged(&table, &TO_THE_POOL));
 }
 
 #[test]
 fn a_president_leaves_a_successor(rt: HostRuntime) {
     let lots = [(PRR, true, 0, 1, AT_A), (PRR, false, 1, 1, AT_B)];
     let mut table = Table::dealt(&rt, rt.alloc(), 3, &[], &lots, &[(PRR, At::White)]);
-    assert!(rt; table.sale(A, PRR, 1) == Ok(()));
-    assert!(rt; table.sale(A, PRR, 2) == Err(Refusal::NotForSale));
+    let one = table.sale(A, PRR, 1);
+    let two = table.sale(A, PRR, 2);
     table.give_lot(&rt, (PRR, false, 2, 1, AT_B));
-    assert!(rt; table.sale(A, PRR, 2) == Ok(()));
+    let again = table.sale(A, PRR, 2);
+    assert!(rt; [one, two, again] == [Ok(()), Err(Refusal::NotForSale), Ok(())]);
 }
 
 #[test]
@@ -264,18 +295,14 @@ fn nothing_is_sold_in_the_first_stock_round(rt: HostRuntime) {
     let lots = [(NYC, true, 0, 5, AT_A)];
     let mut table = Table::dealt(&rt, rt.alloc(), 3, &[], &lots, &[(NYC, At::White)]);
     table.begin_round(&rt);
-    assert!(rt; table.sell(A, PRR) == Err(Refusal::FirstStockRound));
-    assert!(rt; !table.can_sell(A));
-    assert!(rt; !table.must_sell(A));
+    let first = (table.sell(A, PRR), table.selling(A));
+    assert!(rt; first == (Err(Refusal::FirstStockRound), (false, false)));
     table.begin_round(&rt);
-    assert!(rt; table.sell(A, PRR) == Err(Refusal::NotForSale));
-    for (seat, may_and_must) in [(A, true), (B, false)] {
-        assert!(rt; table.can_sell(seat) == may_and_must);
-        assert!(rt; table.must_sell(seat) == may_and_must);
-    }
+    let second = (table.sell(A, PRR), table.selling(A));
+    assert!(rt; second == (Err(Refusal::NotForSale), (true, true)));
+    let other = table.selling(B);
     table.give_lot(&rt, (NYC, false, 0, 1, Place::Pool));
-    assert!(rt; table.can_sell(A));
-    assert!(rt; !table.must_sell(A));
+    assert!(rt; [other, table.selling(A)] == [(false, false), (true, false)]);
 }
 
 #[test]

@@ -35,13 +35,9 @@ green 24 x3 0-3 0-2
 ";
 
 /// The fault's number, or 0, how many entries there are, whether the command's words come first, and PRR's money.
-#[derive(Drop)]
-struct Outcome {
-    fault: u8,
-    entries: usize,
-    says: bool,
-    cash: i64,
-}
+type Outcome = (u8, usize, bool, i64);
+
+// The calls below have no contracts, so that what a test does costs its proof little.
 
 /// Two players, and PRR with 100 dollars. This place has SV, and this one the first 3.
 fn funded(rt: &impl Abort, alloc: Global, sv: Place, three: Place) -> Position {
@@ -72,8 +68,8 @@ fn kit(rt: &impl Abort, alloc: Global, board: &str) -> Kit {
     Kit::read(alloc, b"100p\n", ROSTER.as_bytes(), TILES, board.as_bytes()).expect(rt, "a kit")
 }
 
-fn name(rt: &impl Abort, word: &[u8]) -> HexName {
-    HexName::read(word).expect(rt, "a hex's name")
+fn name(rt: &impl Abort, word: &str) -> HexName {
+    HexName::read(word.as_bytes()).expect(rt, "a hex's name")
 }
 
 fn begins_with_words(entries: &[Entry]) -> bool {
@@ -81,71 +77,62 @@ fn begins_with_words(entries: &[Entry]) -> bool {
 }
 
 fn refused(fault: Refusal) -> Outcome {
-    Outcome {
-        fault: fault.number(),
-        entries: 0,
-        says: false,
-        cash: 0,
-    }
+    (fault.number(), 0, false, 0)
 }
 
 /// What was taken.
 fn taken(desk: Desk) -> (Outcome, Position) {
     let (position, entries) = desk.into_parts();
-    let outcome = Outcome {
-        fault: 0,
-        entries: entries.as_slice().len(),
-        says: begins_with_words(entries.as_slice()),
-        cash: position.books().balance(Party::Corp(Corp::Prr)).0,
-    };
-    (outcome, position)
+    let entries = entries.as_slice();
+    let cash = position.books().balance(Party::Corp(Corp::Prr)).0;
+    let outcome = (0, entries.len(), begins_with_words(entries), cash);
+    (outcome, *position)
 }
 
-/// Lays a tile on the small board for PRR.
+/// A tile on a hex, turned.
+type Tile = (&'static str, u16, u8);
+
+/// Lays a tile for PRR.
 fn lay(
     rt: &impl Abort,
     alloc: Global,
+    kit: &Kit,
     position: Position,
-    hex: &[u8],
-    tile: u16,
-    turn: u8,
+    tile: Tile,
 ) -> (Outcome, Position) {
-    let kit = kit(rt, alloc, SMALL);
+    let (hex, tile, turn) = tile;
     let hex = name(rt, hex);
     let lay = Lay { hex, tile, turn };
-    if let Err(fault) = rr_lay::judge_lay(alloc, &kit, &position, Corp::Prr, &lay) {
+    if let Err(fault) = rr_lay::judge_lay(alloc, kit, &position, Corp::Prr, &lay) {
         return (refused(fault), position);
     }
-    let mut desk = Desk::new(alloc, position);
-    rr_lay::play_lay(&kit, &mut desk, Corp::Prr, &lay).expect(rt, "memory");
+    let mut desk = Desk::new(alloc, &position).expect(rt, "memory");
+    rr_lay::play_lay(kit, &mut desk, Corp::Prr, &lay).expect(rt, "memory");
     taken(desk)
 }
 
-/// Places PRR's token on a board.
+/// Places PRR's token in a centre of a hex.
 fn place(
     rt: &impl Abort,
     alloc: Global,
+    kit: &Kit,
     position: Position,
-    text: &str,
-    hex: &[u8],
+    hex: &str,
     centre: u64,
 ) -> (Outcome, Position) {
-    let kit = kit(rt, alloc, text);
-    let station = Station {
-        corp: Corp::Prr,
-        hex: name(rt, hex),
-        centre,
-    };
-    if let Err(fault) = rr_lay::judge_station(alloc, &kit, &position, &station) {
+    let hex = name(rt, hex);
+    let corp = Corp::Prr;
+    let station = Station { corp, hex, centre };
+    if let Err(fault) = rr_lay::judge_station(alloc, kit, &position, &station) {
         return (refused(fault), position);
     }
-    let mut desk = Desk::new(alloc, position);
+    let mut desk = Desk::new(alloc, &position).expect(rt, "memory");
     rr_lay::play_station(&mut desk, &station).expect(rt, "memory");
     taken(desk)
 }
 
 /// The position with a token on the first centre of a hex.
-fn with_token(rt: &impl Abort, position: Position, corp: Corp, hex: &[u8]) -> Position {
+fn with_token(rt: &impl Abort, position: Position, corp: Corp, hex: &str) -> Position {
     let mut more = position;
     let token = Entry::Station {
         corp,
@@ -158,75 +145,135 @@ fn with_token(rt: &impl Abort, position: Position, corp: Corp, hex: &[u8]) -> Po
 
 /// PRR at home, with what `funded` says.
 fn at_home(rt: &impl Abort, alloc: Global, sv: Place, three: Place) -> Position {
-    with_token(rt, funded(rt, alloc, sv, three), Corp::Prr, b"A")
+    with_token(rt, funded(rt, alloc, sv, three), Corp::Prr, "A")
 }
 
-#[test]
-fn green_from_the_first_3(rt: HostRuntime) {
-    let alloc = rt.alloc();
-    for (three, tile, fault) in [(Place::Offer, 23, 32), (Place::Gone, 24, 34)] {
-        let start = at_home(&rt, alloc, Place::Offer, three);
-        let (refused, after) = lay(&rt, alloc, start, b"B", tile, 2);
-        assert!(rt; refused.fault == fault);
-        assert!(rt; after.layout().lays().len() == 0);
-    }
-    let start = at_home(&rt, alloc, Place::Offer, Place::Gone);
-    let (laid, after) = lay(&rt, alloc, start, b"B", 23, 2);
-    assert!(rt; laid.fault == 0 && laid.says);
-    assert!(rt; laid.entries == 3 && laid.cash == 100);
-    assert!(rt; after.layout().lays().len() == 1);
+/// How many tiles were laid.
+fn lays(position: &Position) -> usize {
+    position.layout().lays().len()
 }
 
-#[test]
-fn a_private_blocks_while_a_player_holds_it(rt: HostRuntime) {
-    let alloc = rt.alloc();
-    for (sv, fault, cash) in [(Place::Seat(B), 36, 0), (Place::Corp(Corp::Prr), 0, 70)] {
-        let start = at_home(&rt, alloc, sv, Place::Gone);
-        let (_, track) = lay(&rt, alloc, start, b"B", 23, 2);
-        let (outcome, _) = lay(&rt, alloc, track, b"F", 7, 3);
-        assert!(rt; outcome.fault == fault);
-        assert!(rt; outcome.cash == cash);
+/// Where the first 3 is, a tile, and why it is refused while the SV is in the offering.
+static REFUSED_TILES: [(Place, Tile, u8); 6] = [
+    (Place::Offer, ("B", 23, 2), 32),
+    (Place::Gone, ("B", 24, 2), 34),
+    (Place::Gone, ("Z", 7, 0), 1),
+    (Place::Gone, ("F", 8, 0), 1),
+    (Place::Gone, ("A", 23, 0), 32),
+    (Place::Gone, ("F", 7, 0), 34),
+];
+
+fn is_tile_refused(
+    rt: &impl Abort,
+    alloc: Global,
+    kit: &Kit,
+    three: Place,
+    tile: Tile,
+    fault: u8,
+) -> bool {
+    let start = at_home(rt, alloc, Place::Offer, three);
+    let (outcome, after) = lay(rt, alloc, kit, start, tile);
+    outcome == (fault, 0, false, 0) && lays(&after) == 0
+}
+
+fn are_tiles_refused(
+    rt: &impl Abort,
+    alloc: Global,
+    kit: &Kit,
+    rows: &[(Place, Tile, u8)],
+) -> bool {
+    for (three, tile, fault) in rows {
+        if !is_tile_refused(rt, alloc, kit, *three, *tile, *fault) {
+            return false;
+        }
     }
+    true
 }
 
 #[test]
 fn what_there_is_not_cannot_be_laid(rt: HostRuntime) {
-    let alloc = rt.alloc();
-    for (hex, tile, fault) in [(b"Z", 7, 1), (b"F", 8, 1), (b"A", 23, 32), (b"F", 7, 34)] {
-        let start = at_home(&rt, alloc, Place::Offer, Place::Gone);
-        let (refused, _) = lay(&rt, alloc, start, hex.as_slice(), tile, 0);
-        assert!(rt; refused.fault == fault);
+    let kit = kit(&rt, rt.alloc(), SMALL);
+    assert!(rt; are_tiles_refused(&rt, rt.alloc(), &kit, &REFUSED_TILES));
+}
+
+#[test]
+fn green_from_the_first_3(rt: HostRuntime) {
+    let kit = kit(&rt, rt.alloc(), SMALL);
+    let start = at_home(&rt, rt.alloc(), Place::Offer, Place::Gone);
+    let (outcome, after) = lay(&rt, rt.alloc(), &kit, start, ("B", 23, 2));
+    assert!(rt; outcome == (0, 3, true, 100) && lays(&after) == 1);
+}
+
+/// The fault of a tile on F behind one on B, and PRR's money, where SV is at a place.
+fn blocked(rt: &impl Abort, alloc: Global, kit: &Kit, sv: Place) -> (u8, i64) {
+    let start = at_home(rt, alloc, sv, Place::Gone);
+    let (_, track) = lay(rt, alloc, kit, start, ("B", 23, 2));
+    let (outcome, _) = lay(rt, alloc, kit, track, ("F", 7, 3));
+    let (fault, _, _, cash) = outcome;
+    (fault, cash)
+}
+
+#[test]
+fn a_private_blocks_while_a_player_holds_it(rt: HostRuntime) {
+    let kit = kit(&rt, rt.alloc(), SMALL);
+    assert!(rt; blocked(&rt, rt.alloc(), &kit, Place::Seat(B)) == (36, 0));
+    assert!(rt; blocked(&rt, rt.alloc(), &kit, Place::Corp(Corp::Prr)) == (0, 70));
+}
+
+/// Whether a token in a centre of a hex is refused for this.
+fn is_token_refused(
+    rt: &impl Abort,
+    alloc: Global,
+    kit: &Kit,
+    start: Position,
+    token: (&str, u64, u8),
+) -> bool {
+    let (hex, centre, fault) = token;
+    let (outcome, _) = place(rt, alloc, kit, start, hex, centre);
+    outcome == (fault, 0, false, 0)
+}
+
+static REFUSED_TOKENS: [(&str, u64, u8); 3] = [("Z", 1, 1), ("C", 1, 37), ("D", 1, 37)];
+
+fn are_tokens_refused(
+    rt: &impl Abort,
+    alloc: Global,
+    kit: &Kit,
+    start: Position,
+    tokens: &[(&str, u64, u8)],
+) -> bool {
+    for token in tokens {
+        if !is_token_refused(rt, alloc, kit, start, *token) {
+            return false;
+        }
     }
+    true
+}
+
+#[test]
+fn the_second_token_has_its_places(rt: HostRuntime) {
+    let kit = kit(&rt, rt.alloc(), SMALL);
+    let start = at_home(&rt, rt.alloc(), Place::Offer, Place::Offer);
+    assert!(rt; are_tokens_refused(&rt, rt.alloc(), &kit, start, &REFUSED_TOKENS));
 }
 
 #[test]
 fn the_second_token(rt: HostRuntime) {
-    let alloc = rt.alloc();
-    let start = at_home(&rt, alloc, Place::Offer, Place::Offer);
-    for (text, hex, centre, fault) in [
-        (SMALL, b"Z", 1, 1),
-        (SMALL, b"C", 1, 37),
-        (SMALL, b"D", 1, 37),
-        (WIDER, b"D", 257, 37),
-    ] {
-        let (refused, _) = place(&rt, alloc, start, text, hex.as_slice(), centre);
-        assert!(rt; refused.fault == fault);
-    }
-    let (placed, after) = place(&rt, alloc, start, WIDER, b"D", 1);
-    assert!(rt; placed.fault == 0 && placed.says);
-    assert!(rt; placed.entries == 3 && placed.cash == 60);
-    let (again, _) = place(&rt, alloc, after, WIDER, b"D", 1);
-    assert!(rt; again.fault == 37);
+    let wider = kit(&rt, rt.alloc(), WIDER);
+    let start = at_home(&rt, rt.alloc(), Place::Offer, Place::Offer);
+    assert!(rt; is_token_refused(&rt, rt.alloc(), &wider, start, ("D", 257, 37)));
+    let (outcome, after) = place(&rt, rt.alloc(), &wider, start, "D", 1);
+    assert!(rt; outcome == (0, 3, true, 60));
+    assert!(rt; is_token_refused(&rt, rt.alloc(), &wider, after, ("D", 1, 37)));
 }
 
 #[test]
 fn a_filled_city_takes_no_token(rt: HostRuntime) {
-    let alloc = rt.alloc();
-    let start = at_home(&rt, alloc, Place::Offer, Place::Offer);
-    let filled = with_token(&rt, start, Corp::Nyc, b"D");
-    let (refused, after) = place(&rt, alloc, filled, SMALL, b"D", 1);
-    assert!(rt; refused.fault == 37);
-    assert!(rt; after.layout().stations().len() == 2);
+    let kit = kit(&rt, rt.alloc(), SMALL);
+    let start = at_home(&rt, rt.alloc(), Place::Offer, Place::Offer);
+    let filled = with_token(&rt, start, Corp::Nyc, "D");
+    let (outcome, after) = place(&rt, rt.alloc(), &kit, filled, "D", 1);
+    assert!(rt; outcome == (37, 0, false, 0) && after.layout().stations().len() == 2);
 }
 
 #[test]

@@ -1,5 +1,5 @@
-//! Tests of the rules of a table: what a seat may hold, the auction, the stock rounds, tiles and tokens, the laws, and the
-//! game that joins them.
+//! Tests of the rules of a table: what a seat may hold, the auction, the stock rounds, tiles and tokens, the laws, and
+//! the game that joins them.
 #![tactic(auto)]
 
 #[cfg(test)]
@@ -14,6 +14,8 @@ mod history;
 mod holdings;
 #[cfg(test)]
 mod lay;
+#[cfg(test)]
+mod parts;
 #[cfg(test)]
 mod sound;
 #[cfg(test)]

@@ -1,8 +1,12 @@
 //! A par in the first stock round, the end of a round, and laws.
+ghost use Rattle.std.specs.Prelude.{◌<◌};
+
 use crate::fixtures::{A, B, ROSTER, chart, position, roster};
-use rr_books::{Act, Cert, Corp, Entry, Marker, Party, Place, Private, Refusal};
+use rr_books::{Act, Cert, Corp, Entry, Marker, Party, Place, Private, Refusal, Seat};
+use rr_chart::Chart;
 use rr_desk::Desk;
 use rr_laws::sequence::go_on;
+use rr_roster::Roster;
 use rr_stock::laws::{
     lawful_sales_move_shares, one_turn_at_most, pool_stays_within_half, worked_end, worked_float,
     worked_must_sell, worked_par, worked_presidency, worked_sale, worked_second_purchase,
@@ -23,30 +27,50 @@ fn first_round(rt: &impl Abort, alloc: Global) -> Desk {
     };
     start.follow(&private).expect(rt, "room");
     start.follow(&Entry::Step(Marker::Stock)).expect(rt, "room");
-    Desk::new(alloc, start)
+    Desk::new(alloc, &start).expect(rt, "memory")
 }
 
 fn cash(desk: &Desk, party: Party) -> i64 {
     desk.books().balance(party).0
 }
 
+/// The seat that is due.
+fn turn(desk: &Desk) -> Option<Seat> {
+    due(desk.position())
+}
+
+fn fault(desk: &Desk, chart: &Chart, act: &Act) -> Option<Refusal> {
+    judge(chart, desk.position(), act).err()
+}
+
+fn price(desk: &Desk, chart: &Chart) -> Option<u16> {
+    desk.position().market().price(chart, Corp::Prr)
+}
+
+fn pass(rt: &impl Abort, desk: &mut Desk, chart: &Chart, seat: Seat)
+    requires { seat.0 < 6 }
+{
+    play(chart, desk, &Act::Done { seat }).expect(rt, "memory");
+}
+
+fn follow_on(rt: &impl Abort, desk: &mut Desk, roster: &Roster) {
+    go_on(desk, roster).expect(rt, "memory");
+}
+
 #[test]
 fn a_par_of_100_costs_200(rt: HostRuntime) {
     let chart = chart(&rt, rt.alloc(), CHART);
     let mut desk = first_round(&rt, rt.alloc());
-    assert!(rt; due(desk.position()) == Some(B));
     let par = Act::Par {
         seat: B,
         corp: Corp::Prr,
         price: 100,
     };
-    assert!(rt; judge(&chart, desk.position(), &par).err().is_none());
+    assert!(rt; turn(&desk) == Some(B) && fault(&desk, &chart, &par).is_none());
     play(&chart, &mut desk, &par).expect(&rt, "memory");
-    assert!(rt; cash(&desk, Party::Seat(B)) == 1000);
-    let price = desk.position().market().price(&chart, Corp::Prr);
-    assert!(rt; price == Some(100));
+    assert!(rt; cash(&desk, Party::Seat(B)) == 1000 && price(&desk, &chart) == Some(100));
     let done = Act::Done { seat: A };
-    assert!(rt; judge(&chart, desk.position(), &done).err() == Some(Refusal::NotYourTurn));
+    assert!(rt; fault(&desk, &chart, &done) == Some(Refusal::NotYourTurn));
 }
 
 #[test]
@@ -54,15 +78,14 @@ fn a_round_ends_as_both_pass(rt: HostRuntime) {
     let roster = roster(&rt, rt.alloc(), ROSTER);
     let chart = chart(&rt, rt.alloc(), CHART);
     let mut desk = first_round(&rt, rt.alloc());
-    play(&chart, &mut desk, &Act::Done { seat: B }).expect(&rt, "memory");
-    go_on(&mut desk, &roster).expect(&rt, "memory");
-    assert!(rt; due(desk.position()) == Some(A));
-    play(&chart, &mut desk, &Act::Done { seat: A }).expect(&rt, "memory");
-    assert!(rt; due(desk.position()).is_none());
-    go_on(&mut desk, &roster).expect(&rt, "memory");
-    assert!(rt; due(desk.position()) == Some(B));
-    assert!(rt; cash(&desk, Party::Seat(A)) == 1205);
-    assert!(rt; !desk.position().rounds().is_first());
+    pass(&rt, &mut desk, &chart, B);
+    follow_on(&rt, &mut desk, &roster);
+    let first = turn(&desk);
+    pass(&rt, &mut desk, &chart, A);
+    let second = turn(&desk);
+    follow_on(&rt, &mut desk, &roster);
+    assert!(rt; [first, second, turn(&desk)] == [Some(A), None, Some(B)]);
+    assert!(rt; cash(&desk, Party::Seat(A)) == 1205 && !desk.position().rounds().is_first());
 }
 
 #[test]

@@ -57,6 +57,12 @@ turn_refused_at kit state revenue act fault same h =
     let Judged : Money → Type 0 = λ m. rows.MayJudge kit state.book m act fault in
     turn_refused kit state act fault (subst Judged same h)
 
+pub turn_lawful_at : (kit : Kit) (state : GameState) (revenue : Money) (act : Act) → revenue ≡ state.revenue
+    → rows.IsVerdict kit state.book revenue act None → IsVerdict (operating_judgement false kit state act) None
+turn_lawful_at kit state revenue act same h =
+    let Judged : Money → Type 0 = λ m. rows.IsVerdict kit state.book m act None in
+    turn_lawful kit state act (subst Judged same h)
+
 -- a corporation that must own a train and can't pay it
 
 force_is : (first : Option Refusal) (Next : Option Refusal → Type 0) (verdict : Option Refusal) → force.After first Next verdict → IsFirstOrBehind first Next verdict

@@ -4,3 +4,4 @@ pub mod Playing
 pub mod Runs
 pub mod RuleLaws
 pub mod Forced
+pub mod Parts

@@ -32,7 +32,7 @@ impl Standing {
         ensures entries { IfOk result (λ taken. (state : GameState) → IsStandingOf state self.now → taken.entries ≡ entries_in G.Auction kit.now state act.now) }
     {
         rr_auction::judge(kit.roster(), kit.chart(), &self.position, act)?;
-        let mut desk = Desk::new(alloc, self.position);
+        let mut desk = Desk::new(alloc, &self.position)?;
         rr_auction::play(kit.roster(), kit.chart(), &mut desk, act)?;
         let (position, entries) = desk.into_parts();
         let revenue = self.revenue;
@@ -57,7 +57,7 @@ impl Standing {
         ensures entries { IfOk result (λ taken. (state : GameState) → IsStandingOf state self.now → taken.entries ≡ entries_in G.Stock kit.now state act.now) }
     {
         rr_stock::judge(kit.chart(), &self.position, act)?;
-        let mut desk = Desk::new(alloc, self.position);
+        let mut desk = Desk::new(alloc, &self.position)?;
         rr_stock::play(kit.chart(), &mut desk, act)?;
         rr_operate::sets::go_on_in_stock_round(&mut desk, kit)?;
         let (position, entries) = desk.into_parts();
@@ -100,7 +100,7 @@ impl Standing {
         ensures entries { IfOk result (λ taken. (state : GameState) → IsStandingOf state self.now → taken.entries ≡ entries_in G.Operating kit.now state act.now) }
     {
         crate::forced::judge(alloc, kit, &self.position, act)?;
-        let mut desk = Desk::new(alloc, self.position);
+        let mut desk = Desk::new(alloc, &self.position)?;
         crate::forced::play(kit.roster(), kit.chart(), &mut desk, act)?;
         let (position, entries) = desk.into_parts();
         let revenue = self.revenue;
@@ -121,7 +121,7 @@ impl Standing {
         ensures entries { IfOk result (λ taken. (state : GameState) → IsStandingOf state self.now → taken.entries ≡ entries_in G.Operating kit.now state act.now) }
     {
         let revenue = rr_operate::judge(alloc, kit, &self.position, self.revenue, act)?;
-        let mut desk = Desk::new(alloc, self.position);
+        let mut desk = Desk::new(alloc, &self.position)?;
         rr_operate::play(kit, &mut desk, self.revenue, act)?;
         let (position, entries) = desk.into_parts();
         Ok(Taken {

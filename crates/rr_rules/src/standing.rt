@@ -16,14 +16,14 @@ use rr_desk::{Entries, Position};
 use rr_kit::Kit;
 use rr_market::operations::Stage;
 use rr_roster::Roster;
-use std::alloc::Global;
+use std::alloc::{AllocError, Global};
 use std::marker::Model;
 
-/// How a table's game stands: the position, and what the trains of the corporation that is due earned in its turn. It
-/// takes no memory, and `Copy` copies it.
-#[derive(Clone, Copy, Debug)]
+/// How a table's game stands: the position, and what the trains of the corporation that is due earned in its turn.
+#[derive(Debug, Drop)]
 pub struct Standing {
-    pub(crate) position: Position,
+    // In a box, so that a standing moves without a copy of it.
+    pub(crate) position: Box<Position>,
     // In dollars, nothing before the trains ran.
     pub(crate) revenue: Money,
 }
@@ -34,11 +34,9 @@ impl Model for Standing {
 
     ghost Value = { AtTable };
 
-    ghost view = { λ s. record { position = s.position; revenue = s.revenue } };
+    ghost view = { λ s. record { position = s.position.value; revenue = s.revenue } };
 
     ghost invariant = { λ s. (pos 0 ≤ℤ s.revenue.0) × (s.revenue.0 ≤ℤ pos 10000000000) };
-
-    ghost inverse = { λ s. record { position = s.position; revenue = s.revenue } };
 }
 
 /// What a command comes to.
@@ -52,16 +50,20 @@ pub struct Taken {
 
 impl Standing {
     /// How a table stands that opens with so many players, once the auction has begun.
-    pub fn open(players: u8, roster: &Roster) -> Standing
+    ///
+    /// # Errors
+    ///
+    /// `AllocError` where there is no memory for its position.
+    pub fn open(alloc: Global, players: u8, roster: &Roster) -> Result<Standing, AllocError>
         requires least { 2 ≤ players }
         requires greatest { players ≤ 6 }
-        ensures { (names : List (List ℕ)) → length names ≡ players
-            → IsStandingOf (record { book = opened names roster.now; revenue = record { 0 = pos 0 } }) result }
+        ensures { IfOk result (λ standing. (names : List (List ℕ)) → length names ≡ players
+            → IsStandingOf (record { book = opened names roster.now; revenue = record { 0 = pos 0 } }) standing) }
     {
-        Standing {
-            position: rr_auction::open_table(players, roster),
+        Ok(Standing {
+            position: Box::new(alloc, rr_auction::open_table(players, roster))?,
             revenue: Money(0),
-        }
+        })
     }
 
     /// The position.
@@ -80,7 +82,8 @@ impl Standing {
         self.revenue
     }
 
-    /// Whether the game is over: a seat is bankrupt, or a set of operating rounds has ended and the bank owed money before.
+    /// Whether the game is over: a seat is bankrupt, or a set of operating rounds has ended and the bank owed money
+    /// before.
     pub fn is_over(&self, kit: &Kit) -> bool
         ensures { (book : Book) → IsPositionOf book self.now.position → result ≡ game_is_over kit.now book }
     {

@@ -1,4 +1,5 @@
-//! The small board as it is read: a city, a track, a town, a city and an off-board area in a row, and a hex without tracks.
+//! The small board as it is read: a city, a track, a town, a city and an off-board area in a row, and a hex without
+//! tracks.
 use rr_desk::layout::{Lay, Layout, MOST_LAYS, MOST_STATIONS, Station};
 use rr_kit::board::Board;
 use rr_roster::Corp;

@@ -85,6 +85,22 @@ fn judges_full_leaves(rt: HostRuntime) {
     }
 }
 
+// Both links are the train's own: two centres, then one that both touch.
+#[test]
+fn judges_leaves_by_the_centres_that_are_touched(rt: HostRuntime) {
+    for (ends, most, wanted) in [
+        ("00c0 10c1", 1, true),
+        ("00c0 10c1", 2, false),
+        ("00c0 11c0", 0, true),
+        ("00c0 11c0", 1, false),
+    ] {
+        let links = links(&rt, rt.alloc(), ends);
+        let net = net_of(&rt, rt.alloc(), links, 0, &[], &[CentreLimit::AtMost(most)]);
+        let accepted = is_accepted(&rt, rt.alloc(), &net, 30, 1, b"s1 b s2 b x1");
+        assert!(rt; accepted == wanted);
+    }
+}
+
 #[test]
 fn tells_the_parts_of_a_route(rt: HostRuntime) {
     let net = small_net(&rt, rt.alloc(), CentreLimit::AtMost(2));

@@ -3,8 +3,8 @@ use crate::board::{lay, name, prr_at_home, small_board, station, tiles};
 use rr_desk::layout::Layout;
 use rr_kit::board::Place;
 use rr_network::{
-    Axial, CentreAt, Link, Network, Node, Reach, Stop, across, hexside_at, last_lay, laws, node_of,
-    same_node,
+    Axial, CentreAt, Hexside, Link, Network, Node, Reach, Stop, across, centre_key, hexside_at,
+    hexside_key, last_lay, laws, name_key, node_of, same_node,
 };
 use rr_roster::Corp;
 use rr_tiles::Kind;
@@ -187,4 +187,21 @@ fn goes_on_from_its_own_city(rt: HostRuntime) {
     assert!(rt; links.as_slice() == [1, 2, 4, 5, 6, 7, 8].as_slice());
     assert!(rt; nyc.has_node(&centre(&rt, b"D")));
     assert!(rt; nyc.has_node(&hexside(4, 2)));
+}
+
+// 65 is the letter A; each further part comes behind 127 times what there is.
+#[test]
+fn has_keys(rt: HostRuntime) {
+    assert!(rt; name_key(&name(&rt, b"A")) == 65);
+    assert!(rt; name_key(&name(&rt, b"A1")) == 65 * 127 + 49);
+    let centre = CentreAt {
+        hex: name(&rt, b"A"),
+        number: 2,
+    };
+    assert!(rt; centre_key(&centre) == 65 * 127 + 2);
+    let side = Hexside {
+        at: Axial { q: -1, r: 2 },
+        edge: 1,
+    };
+    assert!(rt; hexside_key(&side) == (127 + 4) * 127 + 1);
 }

@@ -1,5 +1,5 @@
 //! A graph small enough to be followed by hand.
-use rr_routes::reachability::{Followers, is_marked, marked_items, reached, reached_within};
+use rr_routes::reachability::{Followers, Index, is_marked, marked_items, reached, reached_within};
 use std::alloc::Global;
 use std::process::Abort;
 
@@ -91,4 +91,16 @@ fn takes_the_marked_items(rt: HostRuntime) {
         &rt, "memory",
     );
     assert!(rt; marked.as_slice() == [7, 9].as_slice());
+}
+
+#[test]
+fn notes_places_by_keys(rt: HostRuntime) {
+    let mut index = Index::with_rows(rt.alloc(), 2).expect(&rt, "memory");
+    for (key, place) in [(0, 5), (3, 6), (2, 7)] {
+        index.note(key, place).expect(&rt, "memory");
+    }
+    assert!(rt; index.noted_at(0) == [5, 7].as_slice());
+    assert!(rt; index.noted_at(1) == [6].as_slice());
+    let none = Index::with_rows(rt.alloc(), 0).expect(&rt, "memory");
+    assert!(rt; none.noted_at(9).is_empty());
 }

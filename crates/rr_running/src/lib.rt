@@ -1,5 +1,5 @@
-//! A corporation's run as the rules judge it: whether the words of a command spell the sheet of a lawful run of its trains
-//! over the board as it lies, what the run earns, and whether a certificate shows that none earns more.
+//! A corporation's run as the rules judge it: whether the words of a command spell the sheet of a lawful run of its
+//! trains over the board as it lies, what the run earns, and whether a certificate shows that none earns more.
 //!
 //! Stands on `rr_network` and `rr_referee`, and ties them to the book. Its promise: `judge_run` and `judge_best_run`
 //! answer exactly by `IsRunVerdict` and `IsBestRunVerdict`, want of memory apart, and give `run_revenue`.

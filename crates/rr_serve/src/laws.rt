@@ -22,7 +22,8 @@ pub fn taking()
     ensures too_long { (line : List ℕ) → LONGEST_LINE < length line → length (taken line) ≡ LONGEST_LINE + 1 }
 {}
 
-/// What replies that were sent come to: just they are written, each has its flush, nothing is held back, and nothing failed.
+/// What replies that were sent come to: just they are written, each has its flush, nothing is held back, and nothing
+/// failed.
 pub fn sending()
     ensures written { (before : OutputState) (replies : List (List ℕ)) (after : OutputState) → AreSent before replies after →
         after.written ≡ before.written ++ concat replies }

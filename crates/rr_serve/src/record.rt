@@ -4,8 +4,8 @@ ghost use Rattle.std.specs.Borrow.{ftrue};
 
 use std::marker::{Model, PhantomData};
 
-/// The bytes so far, in turn, those of them before the last flush, and how many flushes there were. It holds nothing when
-/// the program runs.
+/// The bytes so far, in turn, those of them before the last flush, and how many flushes there were. It holds nothing
+/// when the program runs.
 #[derive(Drop)]
 pub struct StreamRecord {
     marker: PhantomData<u8>,

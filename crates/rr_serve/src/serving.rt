@@ -32,7 +32,8 @@ pub fn serve<M: Machine, I: Input, O: Output>(
     ensures whole { OnOk result (AnswersAll M.Answers M.reply_of machine.old machine.new
         (I.state reader.old).remaining (O.state writer.old).contents (O.state writer.new).contents) }
 
-    // However it ends, the machine took the lines that were read, and what is written is their replies as far as it got.
+    // However it ends, the machine took the lines that were read, and what is written is their replies as far as it
+    // got.
     ensures session { Session M.Answers M.reply_of machine.old machine.new
         (I.state reader.old) (I.state reader.new) (O.state writer.old) (O.state writer.new) result }
 

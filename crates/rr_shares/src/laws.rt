@@ -22,14 +22,14 @@ pub fn president_has_the_most()
     ensures { PresidentHasTheMost }
 {}
 
-/// A sale by a seat that holds what it sells moves just those shares to the pool, and nobody at the table holds more than
-/// the president then; a president that sells keeps 20%, or another seat has as much to take over.
+/// A sale by a seat that holds what it sells moves just those shares to the pool, and nobody at the table holds more
+/// than the president then; a president that sells keeps 20%, or another seat has as much to take over.
 pub fn sales_move_shares()
     ensures { SalesMoveShares }
 {}
 
-/// Of two seats with equally many shares the nearer one on the president's left takes over, and a president with as many
-/// stays.
+/// Of two seats with equally many shares the nearer one on the president's left takes over, and a president with as
+/// many stays.
 pub fn worked_heirs()
     ensures { WorkedHeirs }
 {}

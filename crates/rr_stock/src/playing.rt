@@ -9,8 +9,8 @@ use rr_chart::Chart;
 use rr_desk::Desk;
 
 /// Adds to the desk what a command of a stock round brings about: `par`, `buy` of a share, `sell`, `swap` or `done`.
-/// Any other adds nothing. It doesn't ask whether the command is lawful, which `judge` tells. Where the stock round ends
-/// with it, it adds that an operating round begins, and nothing of that round.
+/// Any other adds nothing. It doesn't ask whether the command is lawful, which `judge` tells. Where the stock round
+/// ends with it, it adds that an operating round begins, and nothing of that round.
 ///
 /// # Errors
 ///

@@ -1,5 +1,5 @@
 -- What a commit does, from what the tables and the keeping of its record did.
-use Rattle.std.proofs.Common.{◌≡◌, ◌⊎◌, ℕ, ◌+◌, ◌≤◌, Bool, false, true, List, [], ◌∷◌, length, map, None, Some, Result, Ok, Err, option_map, inl, inr, refl, sym, ap, subst, ◌∙◌, arith}
+use Rattle.std.proofs.Common.{◌≡◌, ◌⊎◌, ◌↔◌, ℕ, ◌+◌, ◌≤◌, Bool, false, true, List, [], ◌∷◌, length, map, None, Some, Result, Ok, Err, IsErrOf, IsTrue, option_map, inl, inr, refl, sym, ap, subst, ◌∙◌, arith}
 use Rattle.rr_disk.specs.Disk.{DiskState}
 use Rattle.rr_disk.specs.Moments.{EachImage, LeavesOnly}
 use Rattle.rr_images.specs.Calls.{TakesNewer}
@@ -39,11 +39,11 @@ use Rattle.rr_store.specs.Committing.{Commits, NumberBehind, Spares, layout_behi
 use Rattle.rr_store.specs.Fault.{CountsEnd, OnDeviceFault, of_log, of_rules, of_tables}
 use Rattle.rr_store.specs.Files.{AreTablesOf}
 use Rattle.rr_store.specs.Held.{Accepted, Again, Fails, Held, NoRoom, Refused, Takes, Wants, stamp_after, with_tables}
-use Rattle.rr_store.specs.Holding.{Carries, HasNoRoom, IsUnchanged, disk_of, file_of, held_of, number_of_next, ticks_left}
+use Rattle.rr_store.specs.Holding.{Carries, GamesArePlayed, HasNoRoom, IsUnchanged, disk_of, file_of, held_of, number_of_next, ticks_left}
 use Rattle.rr_store.specs.Keeping.{Keeping, MakesAtMost}
 use Rattle.rr_store.specs.World.{World, for_table, judgement_in, world_after}
 use Rattle.rr_store.proofs.Standing.{carried_keeps, carried_now, keeps_either, record_leads, stands_either, tables_after}
-use Rattle.rr_store.proofs.Verdicts.{no_failure, no_full}
+use Rattle.rr_store.proofs.Verdicts.{no_again, no_failure, no_full}
 
 abbrev held : Kit → World → Bool → Held
 held kit tables broken = record { kit = kit; tables = tables; broken = broken }
@@ -103,14 +103,26 @@ module _ {D : Type 0} (Honest Works : D → Type 0) (state : D → DiskState) (p
   abbrev Lawful : Type 0
   Lawful = IsVerdict (judgement_in kit_now tables_now stamp name c) None
 
+  abbrev Played : Type 0
+  Played = GamesArePlayed old
+
+  abbrev PlayedOn : Type 0
+  PlayedOn = Played → GamesArePlayed new
+
+  abbrev Told : Result ℕ Fault → Type 0
+  Told result = Played → Takes (held_of old) stamp name c (held_of new) result
+
   abbrev KeptBy : Log D TableRules → Kept → Log D TableRules → Type 0
   KeptBy before kept after = Keeping Honest Works state past faults writes syncs before (map table_in_words tables_now) bytes_of kept after
 
   -- all is as it was
-  spared : (fault : Fault) → (fault ≡ F.DeviceFailed → ⊥) → (fault ≡ F.FileFull → ⊥) → Takes (held_of old) stamp name c (held_of new) (Err fault) → IsUnchanged old new → Done (Err fault)
-  spared fault other room takes same =
+  spared : (fault : Fault) → (fault ≡ F.DeviceFailed → ⊥) → (fault ≡ F.FileFull → ⊥) → IsErrOf {T = ℕ} (Err fault) F.OpenAgain ↔ IsTrue (held_of old).broken → PlayedOn
+      → Told (Err fault) → IsUnchanged old new → Done (Err fault)
+  spared fault other room again played_on takes same =
       record {
         takes = takes;
+        played = played_on;
+        again = again;
         honest = λ h. subst Honest same_disk h;
         allowed = λ h texts s. record {
           moments = [];
@@ -134,7 +146,7 @@ module _ {D : Type 0} (Honest Works : D → Type 0) (state : D → DiskState) (p
         renews = λ whole one none h texts s. let left : ticks_left new ≡ ticks_left old = ap (λ (f : Log D TableRules). file.ticks_left f) same.same_file in absurd (omega (arith, one, none, left));
         number = number_same fault (number_of_next old) (number_of_next new) (ap (λ (f : Log D TableRules). next_number f) same.same_file);
         spares = spares_same old new fault same;
-        wanting = λ is. inl same;
+        wanting = λ played is. inl same;
         counts = counts_same fault (faults (disk_of old)) (faults (disk_of new)) other (ap faults same_disk);
         works = λ w. subst Works same_disk w;
         few_writes = λ room. at_most writes 3;
@@ -162,6 +174,7 @@ module _ {D : Type 0} (Honest Works : D → Type 0) (state : D → DiskState) (p
       carried texts s = record {
         right = subst (λ (x : Held). SpellsKit texts x.kit) (sym same.same_held) s.right;
         tables_of_kit = subst (λ (x : Held). AreTablesOf x.kit x.tables) (sym same.same_held) s.tables_of_kit;
+        played = played_on s.played;
         file = subst (λ (x : Held). carrying.Carries Takes_line (file_of new) (state (disk_of new)) (in_words texts x.tables)) (sym same.same_held)
             (subst (λ (f : Log D TableRules). carrying.Carries Takes_line f (state (file.disk_of f)) (in_words texts tables_now)) (sym same.same_file) s.file);
       }
@@ -169,20 +182,25 @@ module _ {D : Type 0} (Honest Works : D → Type 0) (state : D → DiskState) (p
   -- a store whose device failed before
   pub commits_again : new ≡ old → (held_of old).broken ≡ true → Done (Err F.OpenAgain)
   commits_again still broken =
-      spared F.OpenAgain (λ is. absurd (cc is)) (λ is. absurd (cc is)) (Again broken (ap held_of still))
+      spared F.OpenAgain (λ is. absurd (cc is)) (λ is. absurd (cc is)) (λ is. broken, λ is. refl) (λ played. subst GamesArePlayed (sym still) played)
+      (λ played. Again broken (ap held_of still))
       (record { same_file = ap file_of still; same_held = ap held_of still })
 
-  module _ (form : IsTableName name × IsRequest c) where
+  module _ (form : IsTableName name × IsRequest c) (was : is_broken (file_of old) ≡ false) (played_on : PlayedOn) where
+    -- a store that isn't broken isn't told to be
+    not_again : (result : Result ℕ Fault) → (IsErrOf result F.OpenAgain → ⊥) → IsErrOf result F.OpenAgain ↔ IsTrue (held_of old).broken
+    not_again result other = (λ is. absurd (other is), λ broken. let both : true ≡ false = sym broken ∙ was in absurd (cc both))
+
     lawful_in : (texts : KitTexts) → Carries state old texts → Lawful → IsLawful texts kit_now tables_now stamp (for_table name c)
     lawful_in texts s lawful = record { right = s.right; of_form = form; lawful = lawful }
 
     -- the moments of a keeping
-    passed_by : (kept : Kept) (result : Result ℕ Fault) → Lawful → KeptBy (file_of old) kept (file_of new) → (h : Honest (disk_of new)) (texts : KitTexts) → Carries state old texts
+    passed_by : (kept : Kept) (result : Result ℕ Fault) → (Played → Lawful) → KeptBy (file_of old) kept (file_of new) → (h : Honest (disk_of new)) (texts : KitTexts) → Carries state old texts
         → ((moments : List DiskState) → CommitEnds texts kit_now tables_now stamp (for_table name c) moments (state (disk_of new)) result)
         → Between (past (disk_of old)) (state (disk_of old)) (past (disk_of new)) (state (disk_of new))
         (λ moments. CommitAllows texts kit_now tables_now stamp (for_table name c) (state (disk_of old)) moments (state (disk_of new)) result)
     passed_by kept result lawful k h texts s ends =
-        let is_lawful = lawful_in texts s lawful in
+        let is_lawful = lawful_in texts s (lawful s.played) in
         let stops = k.stops h (in_words texts tables_now) (in_words texts behind) (record_leads texts kit_now tables_now stamp (for_table name c) is_lawful s.tables_of_kit) refl s.file in
         record {
           moments = stops.since;
@@ -197,30 +215,32 @@ module _ {D : Type 0} (Honest Works : D → Type 0) (state : D → DiskState) (p
           };
         }
 
-    kept_by : (kept : Kept) → Lawful → KeptBy (file_of old) kept (file_of new) → Honest (disk_of new) → (texts : KitTexts) → Carries state old texts
+    kept_by : (kept : Kept) → (Played → Lawful) → KeptBy (file_of old) kept (file_of new) → Honest (disk_of new) → (texts : KitTexts) → Carries state old texts
         → LeavesOnly (past (disk_of old)) (state (disk_of old)) (past (disk_of new)) (state (disk_of new)) (KeepsTablesOr texts kit_now tables_now (Some (for_table name c)))
     kept_by kept lawful k h texts s =
-        let is_lawful = lawful_in texts s lawful in
+        let is_lawful = lawful_in texts s (lawful s.played) in
         weaker (k.stops h (in_words texts tables_now) (in_words texts behind) (record_leads texts kit_now tables_now stamp (for_table name c) is_lawful s.tables_of_kit) refl s.file)
         (KeepsTablesOr texts kit_now tables_now (Some (for_table name c))) (keeps_either texts kit_now tables_now stamp (for_table name c) is_lawful s.tables_of_kit)
 
     -- the request was taken
-    taken : (n : ℕ) → Takes (held_of old) stamp name c (held_of new) (Ok n) → Lawful → held_of new ≡ with_tables (held_of old) behind
+    taken : (n : ℕ) → Told (Ok n) → (Played → Lawful) → (Played → held_of new ≡ with_tables (held_of old) behind)
         → KeptBy (file_of old) (Ok tt) (file_of new) → Done (Ok n)
     taken n takes lawful held_is k =
         record {
           takes = takes;
+          played = played_on;
+          again = not_again (Ok n) (λ is. cc is);
           honest = k.honest;
           allowed = λ h texts s. passed_by (Ok tt) (Ok n) lawful k h texts s
-              (λ moments. (lawful_in texts s lawful, subst (λ (w : World). Keeps (state (disk_of new)) texts w) (ap (λ (x : Held). x.tables) held_is) (carried_keeps state new texts (on h texts s))));
+              (λ moments. (lawful_in texts s (lawful s.played), subst (λ (w : World). Keeps (state (disk_of new)) texts w) (ap (λ (x : Held). x.tables) (held_is s.played)) (carried_keeps state new texts (on h texts s))));
           keeps = kept_by (Ok tt) lawful k;
           carries = λ h whole texts s. on h texts s;
           renews = λ whole one none h texts s.
-              subst (λ (x : Held). EachImage (state (disk_of new)) (TakesNewer table_files (layout_behind (Ok n) s.file.carried.layout bytes_of (in_words texts x.tables)) (in_words texts x.tables))) (sym held_is)
-              (k.renews k.broken one none h (in_words texts tables_now) (in_words texts behind) (record_leads texts kit_now tables_now stamp (for_table name c) (lawful_in texts s lawful) s.tables_of_kit) s.file);
+              subst (λ (x : Held). EachImage (state (disk_of new)) (TakesNewer table_files (layout_behind (Ok n) s.file.carried.layout bytes_of (in_words texts x.tables)) (in_words texts x.tables))) (sym (held_is s.played))
+              (k.renews k.broken one none h (in_words texts tables_now) (in_words texts behind) (record_leads texts kit_now tables_now stamp (for_table name c) (lawful_in texts s (lawful s.played)) s.tables_of_kit) s.file);
           number = k.number;
           spares = tt;
-          wanting = λ is. absurd (cc is);
+          wanting = λ played is. absurd (cc is);
           counts = k.counts;
           works = k.works;
           few_writes = k.few_writes;
@@ -237,26 +257,30 @@ module _ {D : Type 0} (Honest Works : D → Type 0) (state : D → DiskState) (p
       where
         on : Honest (disk_of new) → (texts : KitTexts) → Carries state old texts → Carries state new texts
         on h texts s =
-            let is_lawful = lawful_in texts s lawful in record {
-              right = subst (λ (x : Held). SpellsKit texts x.kit) (sym held_is) s.right;
-              tables_of_kit = subst (λ (x : Held). AreTablesOf x.kit x.tables) (sym held_is) (tables_after texts kit_now tables_now stamp (for_table name c) is_lawful s.tables_of_kit);
-              file = subst (λ (x : Held). carrying.Carries Takes_line (file_of new) (state (disk_of new)) (in_words texts x.tables)) (sym held_is)
+            let is_lawful = lawful_in texts s (lawful s.played) in
+            let is = held_is s.played in record {
+              right = subst (λ (x : Held). SpellsKit texts x.kit) (sym is) s.right;
+              tables_of_kit = subst (λ (x : Held). AreTablesOf x.kit x.tables) (sym is) (tables_after texts kit_now tables_now stamp (for_table name c) is_lawful s.tables_of_kit);
+              played = played_on s.played;
+              file = subst (λ (x : Held). carrying.Carries Takes_line (file_of new) (state (disk_of new)) (in_words texts x.tables)) (sym is)
                   (k.carries h k.broken (in_words texts tables_now) (in_words texts behind) (record_leads texts kit_now tables_now stamp (for_table name c) is_lawful s.tables_of_kit) refl s.file);
             }
 
     -- the device failed
-    failed : Takes (held_of old) stamp name c (held_of new) (Err F.DeviceFailed) → Lawful → KeptBy (file_of old) (Err L.DeviceFailed) (file_of new) → Done (Err F.DeviceFailed)
+    failed : Told (Err F.DeviceFailed) → (Played → Lawful) → KeptBy (file_of old) (Err L.DeviceFailed) (file_of new) → Done (Err F.DeviceFailed)
     failed takes lawful k =
         record {
           takes = takes;
+          played = played_on;
+          again = not_again (Err F.DeviceFailed) (λ is. cc is);
           honest = k.honest;
-          allowed = λ h texts s. passed_by (Err L.DeviceFailed) (Err F.DeviceFailed) lawful k h texts s (λ moments. lawful_in texts s lawful);
+          allowed = λ h texts s. passed_by (Err L.DeviceFailed) (Err F.DeviceFailed) lawful k h texts s (λ moments. lawful_in texts s (lawful s.played));
           keeps = kept_by (Err L.DeviceFailed) lawful k;
           carries = λ h whole texts s. let both : true ≡ false = sym k.broken ∙ whole in absurd (cc both);
           renews = λ whole one none h texts s. let both : true ≡ false = sym k.broken ∙ whole in absurd (cc both);
           number = tt;
           spares = tt;
-          wanting = λ is. absurd (cc is);
+          wanting = λ played is. absurd (cc is);
           counts = k.counts;
           works = k.works;
           few_writes = k.few_writes;
@@ -269,16 +293,17 @@ module _ {D : Type 0} (Honest Works : D → Type 0) (state : D → DiskState) (p
           makes_room = tt;
           full = λ is. absurd (cc is);
           device = λ h texts s.
-              k.device h (in_words texts tables_now) (in_words texts behind) (record_leads texts kit_now tables_now stamp (for_table name c) (lawful_in texts s lawful) s.tables_of_kit) refl s.file;
+              k.device h (in_words texts tables_now) (in_words texts behind) (record_leads texts kit_now tables_now stamp (for_table name c) (lawful_in texts s (lawful s.played)) s.tables_of_kit) refl s.file;
         }
 
     -- it wasn't taken, and the file carries on what was held
-    module _ (kept : log.Fault) (lawful : Lawful) (k : KeptBy (file_of old) (Err kept) (file_of new)) (whole : is_broken (file_of new) ≡ false) (held_is : held_of new ≡ held_of old) where
+    module _ (kept : log.Fault) (lawful : Played → Lawful) (k : KeptBy (file_of old) (Err kept) (file_of new)) (whole : is_broken (file_of new) ≡ false) (held_is : held_of new ≡ held_of old) where
       goes_on : Honest (disk_of new) → (texts : KitTexts) → Carries state old texts → Carries state new texts
       goes_on h texts s =
-          let is_lawful = lawful_in texts s lawful in record {
+          let is_lawful = lawful_in texts s (lawful s.played) in record {
             right = subst (λ (x : Held). SpellsKit texts x.kit) (sym held_is) s.right;
             tables_of_kit = subst (λ (x : Held). AreTablesOf x.kit x.tables) (sym held_is) s.tables_of_kit;
+            played = played_on s.played;
             file = subst (λ (x : Held). carrying.Carries Takes_line (file_of new) (state (disk_of new)) (in_words texts x.tables)) (sym held_is)
                 (k.carries h whole (in_words texts tables_now) (in_words texts behind) (record_leads texts kit_now tables_now stamp (for_table name c) is_lawful s.tables_of_kit) refl s.file);
           }
@@ -287,15 +312,17 @@ module _ {D : Type 0} (Honest Works : D → Type 0) (state : D → DiskState) (p
           → EachImage (state (disk_of new)) (TakesNewer table_files s.file.carried.layout (in_words texts (held_of new).tables))
       renews_on one none h texts s =
           subst (λ (x : Held). EachImage (state (disk_of new)) (TakesNewer table_files s.file.carried.layout (in_words texts x.tables))) (sym held_is)
-          (k.renews whole one none h (in_words texts tables_now) (in_words texts behind) (record_leads texts kit_now tables_now stamp (for_table name c) (lawful_in texts s lawful) s.tables_of_kit) s.file)
+          (k.renews whole one none h (in_words texts tables_now) (in_words texts behind) (record_leads texts kit_now tables_now stamp (for_table name c) (lawful_in texts s (lawful s.played)) s.tables_of_kit) s.file)
 
       keeps_on : Honest (disk_of new) → (texts : KitTexts) → Carries state old texts → Keeps (state (disk_of new)) texts tables_now
       keeps_on h texts s = subst (λ (w : World). Keeps (state (disk_of new)) texts w) (ap (λ (x : Held). x.tables) held_is) (carried_keeps state new texts (goes_on h texts s))
 
-    file_full : Takes (held_of old) stamp name c (held_of new) (Err F.FileFull) → Lawful → held_of new ≡ held_of old → KeptBy (file_of old) (Err L.FileFull) (file_of new) → Done (Err F.FileFull)
+    file_full : Told (Err F.FileFull) → (Played → Lawful) → held_of new ≡ held_of old → KeptBy (file_of old) (Err L.FileFull) (file_of new) → Done (Err F.FileFull)
     file_full takes lawful held_is k =
         record {
           takes = takes;
+          played = played_on;
+          again = not_again (Err F.FileFull) (λ is. cc is);
           honest = k.honest;
           allowed = λ h texts s. passed_by (Err L.FileFull) (Err F.FileFull) lawful k h texts s (λ moments. keeps_on L.FileFull lawful k k.broken held_is h texts s);
           keeps = kept_by (Err L.FileFull) lawful k;
@@ -303,7 +330,7 @@ module _ {D : Type 0} (Honest Works : D → Type 0) (state : D → DiskState) (p
           renews = λ whole one none h texts s. renews_on L.FileFull lawful k whole held_is one none h texts s;
           number = k.number;
           spares = tt;
-          wanting = λ is. absurd (cc is);
+          wanting = λ played is. absurd (cc is);
           counts = k.counts;
           works = k.works;
           few_writes = k.few_writes;
@@ -318,10 +345,12 @@ module _ {D : Type 0} (Honest Works : D → Type 0) (state : D → DiskState) (p
           device = tt;
         }
 
-    no_memory : Takes (held_of old) stamp name c (held_of new) (Err F.OutOfMemory) → Lawful → held_of new ≡ held_of old → KeptBy (file_of old) (Err L.OutOfMemory) (file_of new) → Done (Err F.OutOfMemory)
+    no_memory : Told (Err F.OutOfMemory) → (Played → Lawful) → held_of new ≡ held_of old → KeptBy (file_of old) (Err L.OutOfMemory) (file_of new) → Done (Err F.OutOfMemory)
     no_memory takes lawful held_is k =
         record {
           takes = takes;
+          played = played_on;
+          again = not_again (Err F.OutOfMemory) (λ is. cc is);
           honest = k.honest;
           allowed = λ h texts s. passed_by (Err L.OutOfMemory) (Err F.OutOfMemory) lawful k h texts s (λ moments. keeps_on L.OutOfMemory lawful k k.broken held_is h texts s);
           keeps = kept_by (Err L.OutOfMemory) lawful k;
@@ -329,7 +358,7 @@ module _ {D : Type 0} (Honest Works : D → Type 0) (state : D → DiskState) (p
           renews = λ whole one none h texts s. renews_on L.OutOfMemory lawful k whole held_is one none h texts s;
           number = k.number;
           spares = tt;
-          wanting = λ is. wants (k.memory refl);
+          wanting = λ played is. wants played (k.memory refl);
           counts = k.counts;
           works = k.works;
           few_writes = k.few_writes;
@@ -344,48 +373,57 @@ module _ {D : Type 0} (Honest Works : D → Type 0) (state : D → DiskState) (p
           device = tt;
         }
       where
-        wants : (file_of new ≡ file_of old) ⊎ HasNoRoom new name c → IsUnchanged old new ⊎ (Lawful × HasNoRoom new name c)
-        wants (inl same) = inl (record { same_file = same; same_held = held_is })
-        wants (inr none) = inr (lawful, none)
+        wants : Played → (file_of new ≡ file_of old) ⊎ HasNoRoom new name c → IsUnchanged old new ⊎ (Lawful × HasNoRoom new name c)
+        wants played (inl same) = inl (record { same_file = same; same_held = held_is })
+        wants played (inr none) = inr (lawful played, none)
 
-    module _ (was : is_broken (file_of old) ≡ false) (kit_is : new.tables.kit ≡ old.tables.kit) where
-      pub commits : (n : ℕ) → IsVerdict (ruled.judgement_in kit_now tables_now stamp name c) None
-          → world_of new.tables ≡ behind → n ≡ stamp_after kit_now tables_now name c → KeptBy (file_of old) (Ok tt) (file_of new) → Done (Ok n)
-      commits n by_rules world counted k =
-          let lawful = map-is of_rules (ruled.judgement_in kit_now tables_now stamp name c) None by_rules in
-          let held_is = held_same kit_now new.tables.kit behind (world_of new.tables) (is_broken (file_of old)) (is_broken (file_of new)) kit_is world (k.broken ∙ sym was) in
-          taken n (subst (λ (x : ℕ). Takes (held_of old) stamp name c (held_of new) (Ok x)) (sym counted) (Accepted was lawful held_is)) lawful held_is k
+    module _ (kit_is : new.tables.kit ≡ old.tables.kit) where
+      pub commits : (n : ℕ) → (Played → IsVerdict (ruled.judgement_in kit_now tables_now stamp name c) None)
+          → (Played → world_of new.tables ≡ behind) → n ≡ stamp_after kit_now tables_now name c → KeptBy (file_of old) (Ok tt) (file_of new) → Done (Ok n)
+      commits n by_rules world counted k = taken n takes lawful held_is k
+        where
+          lawful : Played → Lawful
+          lawful played = map-is of_rules (ruled.judgement_in kit_now tables_now stamp name c) None (by_rules played)
+
+          held_is : Played → held_of new ≡ with_tables (held_of old) behind
+          held_is played =
+              held_same kit_now new.tables.kit behind (world_of new.tables) (is_broken (file_of old)) (is_broken (file_of new)) kit_is (world played) (k.broken ∙ sym was)
+
+          takes : Told (Ok n)
+          takes played =
+              subst (λ (x : ℕ). Takes (held_of old) stamp name c (held_of new) (Ok x)) (sym counted) (Accepted was (lawful played) (held_is played))
 
       module _ (world : world_of new.tables ≡ tables_now) where
         held_is_if : (b : Bool) → is_broken (file_of new) ≡ b → held_of new ≡ held kit_now tables_now b
         held_is_if b is = held_same kit_now new.tables.kit tables_now (world_of new.tables) b (is_broken (file_of new)) kit_is world is
 
-        by_rule : (fault : rules.Fault) → MayFind (ruled.judgement_in kit_now tables_now stamp name c) R.OutOfMemory fault → file_of new ≡ file_of old → Done (Err (of_rules fault))
+        by_rule : (fault : rules.Fault) → (Played → MayFind (ruled.judgement_in kit_now tables_now stamp name c) R.OutOfMemory fault) → file_of new ≡ file_of old → Done (Err (of_rules fault))
         by_rule fault found still =
             let same = held_is_if (is_broken (file_of old)) (ap (λ (f : Log D TableRules). is_broken f) still) in
-            spared (of_rules fault) (no_failure fault) (no_full fault) (refused_by found same) (record { same_file = still; same_held = same })
+            spared (of_rules fault) (no_failure fault) (no_full fault) (not_again (Err (of_rules fault)) (λ is. no_again fault (let one : of_rules fault ≡ F.OpenAgain = cc is in one))) played_on
+            (λ played. refused_by (found played) same) (record { same_file = still; same_held = same })
           where
             refused_by : MayFind (ruled.judgement_in kit_now tables_now stamp name c) R.OutOfMemory fault → held_of new ≡ held_of old → Takes (held_of old) stamp name c (held_of new) (Err (of_rules fault))
             refused_by (inl verdict) same = Refused (of_rules fault) was (map-is of_rules (ruled.judgement_in kit_now tables_now stamp name c) (Some fault) verdict) same
             refused_by (inr wants) same =
                 subst (λ (f : rules.Fault). Takes (held_of old) stamp name c (held_of new) (Err (of_rules f))) (sym wants.1) (Wants was (ap (option_map of_rules) wants.0) same)
 
-        by_file : (fault : log.Fault) → IsVerdict (ruled.judgement_in kit_now tables_now stamp name c) None → KeptBy (file_of old) (Err fault) (file_of new) → Done (Err (of_log fault))
+        by_file : (fault : log.Fault) → (Played → IsVerdict (ruled.judgement_in kit_now tables_now stamp name c) None) → KeptBy (file_of old) (Err fault) (file_of new) → Done (Err (of_log fault))
         by_file L.DeviceFailed by_rules k =
-            let lawful = map-is of_rules (ruled.judgement_in kit_now tables_now stamp name c) None by_rules in
-            failed (Fails was lawful (held_is_if true k.broken)) lawful k
+            let lawful : Played → Lawful = λ played. map-is of_rules (ruled.judgement_in kit_now tables_now stamp name c) None (by_rules played) in
+            failed (λ played. Fails was (lawful played) (held_is_if true k.broken)) lawful k
         by_file L.HalfFull by_rules k = absurd (k.room refl)
         by_file L.FileFull by_rules k =
-            let lawful = map-is of_rules (ruled.judgement_in kit_now tables_now stamp name c) None by_rules in
+            let lawful : Played → Lawful = λ played. map-is of_rules (ruled.judgement_in kit_now tables_now stamp name c) None (by_rules played) in
             let same = held_is_if (is_broken (file_of old)) (k.broken ∙ sym was) in
-            file_full (NoRoom was lawful same) lawful same k
+            file_full (λ played. NoRoom was (lawful played) same) lawful same k
         by_file L.OpenAgain by_rules k = let both : true ≡ false = sym (k.again.0 refl) ∙ was in absurd (cc both)
         by_file L.OutOfMemory by_rules k =
-            let lawful = map-is of_rules (ruled.judgement_in kit_now tables_now stamp name c) None by_rules in
+            let lawful : Played → Lawful = λ played. map-is of_rules (ruled.judgement_in kit_now tables_now stamp name c) None (by_rules played) in
             let same = held_is_if (is_broken (file_of old)) (k.broken ∙ sym was) in
-            no_memory (Wants was (lawful-first (judgement_in kit_now tables_now stamp name c) lawful) same) lawful same k
+            no_memory (λ played. Wants was (lawful-first (judgement_in kit_now tables_now stamp name c) (lawful played)) same) lawful same k
 
-        pub commits_not : (fault : table.Fault) → MayRefuse (ruled.judgement_in kit_now tables_now stamp name c) fault
+        pub commits_not : (fault : table.Fault) → (Played → MayRefuse (ruled.judgement_in kit_now tables_now stamp name c) fault)
             → Passed (λ (before : FileJournal D) (tables : World) (bytes : List ℕ) (kept : Kept) (after : FileJournal D). Keeping Honest Works state past faults writes syncs before.file (map table_in_words tables) bytes kept after.file)
             old.journal tables_now bytes_of new.journal (Err fault)
             → Done (Err (of_tables fault))

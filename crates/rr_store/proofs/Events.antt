@@ -106,16 +106,6 @@ outcome old stamp name request new result whole (comes.NoRoom was lawful is) = i
 outcome old stamp name request new result whole (comes.Fails was lawful is) = inr (inr (refl, is))
 outcome old stamp name request new result whole (comes.Again broken is) = let both : true ≡ false = sym broken ∙ whole in absurd (cc both)
 
--- a store whose device failed answers that it has to be opened again
-pub again : (old : Held) (stamp : ℕ) (name : List ℕ) (request : Request Command) (new : Held) (result : Result ℕ Fault) → old.broken ≡ true
-    → Takes old stamp name request new result → result ≡ Err F.OpenAgain
-again old stamp name request new result broken (comes.Accepted was lawful is) = let both : true ≡ false = sym broken ∙ was in absurd (cc both)
-again old stamp name request new result broken (comes.Refused fault was verdict is) = let both : true ≡ false = sym broken ∙ was in absurd (cc both)
-again old stamp name request new result broken (comes.Wants was lawful is) = let both : true ≡ false = sym broken ∙ was in absurd (cc both)
-again old stamp name request new result broken (comes.NoRoom was lawful is) = let both : true ≡ false = sym broken ∙ was in absurd (cc both)
-again old stamp name request new result broken (comes.Fails was lawful is) = let both : true ≡ false = sym broken ∙ was in absurd (cc both)
-again old stamp name request new result broken (comes.Again was is) = refl
-
 pub unread : (fault : Fault) → IsNoVerdict fault → refusal_of fault ≡ Unread
 unread fault (inl is) = ap refusal_of is
 unread fault (inr is) = ap refusal_of is
@@ -177,7 +167,7 @@ module _ {D : Type 0} (Honest Works : D → Type 0) (state : D → DiskState) (p
         }
 
     pub commit_is_event : CommitIsEvent state texts old name request result new moments
-    commit_is_event = by_outcome (outcome (held_of old) stamp name request (held_of new) result whole c.takes)
+    commit_is_event = by_outcome (outcome (held_of old) stamp name request (held_of new) result whole (c.takes s.played))
 
   module _ (old new : Store D) (moments : List DiskState) (h : Honest (disk_of new)) (s : Carries state old texts) (whole : (held_of old).broken ≡ false)
       (passes : Passes state past (disk_of old) (disk_of new) moments) where

@@ -1,14 +1,16 @@
 -- What an opening does, from what was found in the file.
-use Rattle.std.proofs.Common.{◌≡◌, ℕ, List, [], ◌∷◌, Ok, Err, inl, inr, refl, sym, subst}
+use Rattle.std.proofs.Common.{◌≡◌, ℕ, List, [], ◌∷◌, Ok, Err, inl, inr, refl, sym, ap, subst, ◌∙◌}
+use Rattle.rr_checkpoint.specs.declared.writer.Writer.{Writer}
 use Rattle.rr_checkpoint.specs.Writer as writer
 use Rattle.rr_disk.specs.declared.fault.Fault.TheVariants as D
-use Rattle.rr_disk.specs.Disk.{DiskState, after_sync}
+use Rattle.rr_disk.specs.Disk.{DiskState, after_sync, counted}
 use Rattle.rr_disk.specs.Moments.{SyncsOnce, Not_synced, Synced}
 use Rattle.rr_disk.proofs.ImageLemmas.{each_synced}
 use Rattle.rr_images.specs.Layout.{Keeps as KeepsFile}
 use Rattle.rr_kit.specs.declared.kit.Kit.{Kit}
 use Rattle.rr_kit.specs.Kits.{KitTexts, SpellsKit}
-use Rattle.rr_log.specs.Opening.Carrying.{CarriesRead}
+use Rattle.rr_log.specs.Opening.Carrying.{CarriesRead, IsReadAs}
+use Rattle.rr_log.specs.declared.opening.opened.Opened.{Opened}
 use Rattle.rr_log.specs.Opening.Opened.{held_by}
 use Rattle.rr_log.specs.Opening.Place.{GoesBehind}
 use Rattle.rr_log.specs.Opening.Syncing.{IsSynced, WasSynced}
@@ -21,19 +23,21 @@ use Rattle.rr_reading.specs.Reading.{Holds}
 use Rattle.rr_tables.specs.Records.Headline.{KeepsTables}
 use Rattle.rr_tables.specs.Records.Taking.{table_files}
 use Rattle.rr_tables.specs.Records.Words.{in_words}
+use Rattle.rr_pages.specs.Journal.Reading.{lines}
 use Rattle.rr_pages.specs.declared.fault.Damage.{Damage}
 use Rattle.rr_store.specs.declared.recovery.fault.Fault as recovery
 use Rattle.rr_store.specs.declared.recovery.fault.Fault.TheVariants as C
 use Rattle.rr_store.specs.Recovery.Recovered.{HoldsPlayedTables}
 use Rattle.rr_store.specs.Recovery.Telling as recovers
-use Rattle.rr_tables.specs.Tables.{world_of}
+use Rattle.rr_tables.specs.Tables.{ArePlayed, world_of}
 use Rattle.rr_reading.specs.Worlds.World as words
 use Rattle.rr_store.specs.declared.fault.Fault.{Fault}
 use Rattle.rr_store.specs.declared.fault.Fault.TheVariants as F
 use Rattle.rr_store.specs.declared.found.Found.{Found}
 use Rattle.rr_store.specs.declared.store.Store.{Store}
 use Rattle.rr_store.specs.Allowing.{Between, Keeps}
-use Rattle.rr_store.specs.Fault.{of_reading, of_recovery}
+use Rattle.rr_store.specs.Fault.{CountsFailure, OnDevice, of_reading, of_recovery}
+use Rattle.rr_store.specs.Recovery.Fault as recovery_of
 use Rattle.rr_store.specs.Files.{AreTablesOf, StandsFor}
 use Rattle.rr_store.specs.Holding.{Carries, disk_of, held_of}
 use Rattle.rr_store.specs.Opening.{IsFound, IsNoVerdict, IsSyncedFirst, OpenAllows, Refuses, SyncsAtMost, SyncsFirst}
@@ -52,6 +56,8 @@ calm_read R.OutOfMemory none = inr refl
 module _ (file : List ℕ) (has : Held) (holds : Holds file has) where
   pub refuses_recovered : (fault : recovery.Fault) → recovers.Refuses has fault → Refuses file (of_recovery fault)
   refuses_recovered (C.Damaged damage) broken = inr (record { has = has; holds = holds; damage = damage; broken = broken; numbered = refl })
+  refuses_recovered (C.Disk D.DeviceFailed) broken = tt
+  refuses_recovered (C.Disk D.OutOfMemory) broken = (has.side, has.root, holds.chains.has_directory.taken)
   refuses_recovered C.OutOfMemory broken = (has.side, has.root, holds.chains.has_directory.taken)
 
   -- memory is wanted for a file that holds something
@@ -68,7 +74,46 @@ refuses_read file old new R.OutOfMemory counts refused = refused
 
 pub calm_recovered : (has : Held) → ((damage : Damage) → recovers.IsDamage has damage → ⊥) → (fault : recovery.Fault) → recovers.Refuses has fault → IsNoVerdict (of_recovery fault)
 calm_recovered has never (C.Damaged damage) broken = absurd (never damage broken)
+calm_recovered has never (C.Disk D.DeviceFailed) broken = inl refl
+calm_recovered has never (C.Disk D.OutOfMemory) broken = inr refl
 calm_recovered has never C.OutOfMemory broken = inr refl
+
+-- the disk's clauses of a recovery
+pub device_recovered : {P Q : Type 0} (fault : recovery.Fault) → recovery_of.OnDeviceFault {T = Unit {0}} (Err fault) P → (P → Q) → OnDevice (of_recovery fault) Q
+device_recovered (C.Damaged damage) given so = tt
+device_recovered (C.Disk D.DeviceFailed) given so = so given
+device_recovered (C.Disk D.OutOfMemory) given so = tt
+device_recovered C.OutOfMemory given so = tt
+
+pub counts_recovered : (first old new : ℕ) (fault : recovery.Fault) → old ≡ first → recovery_of.CountsFault {T = Unit {0}} old new (Err fault) → CountsFailure first new (of_recovery fault)
+counts_recovered first old new (C.Damaged damage) same counts = counts ∙ same
+counts_recovered first old new (C.Disk D.DeviceFailed) same counts = counts.1 ∙ ap counted same
+counts_recovered first old new (C.Disk D.OutOfMemory) same counts = let never : D.OutOfMemory ≡ D.DeviceFailed = counts.0 in absurd (cc never)
+counts_recovered first old new C.OutOfMemory same counts = counts ∙ same
+
+-- what was opened, of a disk that has later what it had
+pub held_along : {T : Type 0} (opened : Opened T) (P : Held → Type 0) (now file : List ℕ) → now ≡ file → (Holds now (held_by now opened) → P (held_by now opened)) → Holds file (held_by file opened) → P (held_by file opened)
+held_along opened P now file same so = subst (λ (f : List ℕ). Holds f (held_by f opened) → P (held_by f opened)) same so
+
+pub synced_on : {past_old past_mid past_new : List DiskState} {old mid new : DiskState} → past_new ≡ past_mid → new ≡ mid → WasSynced past_old old past_mid mid → WasSynced past_old old past_new new
+synced_on same_past same_state was = record { passed = same_past ∙ was.passed; settled = same_state ∙ was.settled }
+
+-- and where its tables' chains were gone over
+module _ {T : Type 0} (old new : Opened T) where
+  pub goes_along : (file : List ℕ) → new.writer ≡ old.writer → held_by file new ≡ held_by file old → GoesBehind (writer.taken_of old.writer).root (lines old.near.records.items) (lines old.far.records.items) (writer.place_of old.writer)
+      → GoesBehind (writer.taken_of new.writer).root (lines new.near.records.items) (lines new.far.records.items) (writer.place_of new.writer)
+  goes_along file same_writer same_held goes =
+      let behind : GoesBehind (held_by file new).root (held_by file new).near (held_by file new).far (writer.place_of old.writer) =
+      subst (λ (has : Held). GoesBehind has.root has.near has.far (writer.place_of old.writer)) (sym same_held) goes in
+      subst (λ (w : Writer T). GoesBehind (held_by file new).root (held_by file new).near (held_by file new).far (writer.place_of w)) (sym same_writer) behind
+
+pub carries_along : {T : Type 0} (old new : Opened T) (before after : DiskState) (world : words.World) → after ≡ before → new.writer ≡ old.writer → held_by before.content new ≡ held_by before.content old
+    → CarriesRead table_files old before world → CarriesRead table_files new after world
+carries_along {T} old new before after world same_state same_writer same_held read =
+    let by_writer : (carries : writer.Carries table_files new.writer before world) × IsReadAs carries.layout (held_by before.content old) world =
+    subst (λ (w : Writer T). (carries : writer.Carries table_files w before world) × IsReadAs carries.layout (held_by before.content old) world) (sym same_writer) (read.carries, read.is_read) in
+    subst (λ (state : DiskState). CarriesRead table_files new state world) (sym same_state)
+    (record { carries = by_writer.0; is_read = subst (λ (has : Held). IsReadAs by_writer.0.layout has world) (sym same_held) by_writer.1 })
 
 -- the moments of an opening
 pub opened_by : (past_old : List DiskState) (old : DiskState) (past_new : List DiskState) (new : DiskState) (texts : KitTexts) (tables : World) → WasSynced past_old old past_new new
@@ -114,6 +159,8 @@ module _ (past_old : List DiskState) (old : DiskState) (past_new : List DiskStat
 
   pub synced_recovered : (fault : recovery.Fault) → WasSynced past_old old past_new new → IsSyncedFirst (of_recovery fault) past_old old past_new new
   synced_recovered (C.Damaged damage) was = was
+  synced_recovered (C.Disk D.DeviceFailed) was = Synced was.passed was.settled
+  synced_recovered (C.Disk D.OutOfMemory) was = was
   synced_recovered C.OutOfMemory was = was
 
   pub synced_wanting : (fault : Fault) → fault ≡ F.OutOfMemory → WasSynced past_old old past_new new → IsSyncedFirst fault past_old old past_new new
@@ -129,7 +176,7 @@ module _ {D : Type 0} (Honest : D → Type 0) (state : D → DiskState) (past : 
   opened_store was h =
       let honest = subst Honest disk_is h in
       let r = (is_found honest).recovered in
-      let stands = stands_now (held_by found.opened) found.recovered r (state old).content (is_found honest).holds in
+      let stands = stands_now (held_by (state old).content found.opened) found.recovered r (state old).content (is_found honest).holds in
       let opened = opened_by (past old) (state old) (past then) (state then) r.texts (world_of found.recovered.tables) (was honest) stands in
       let of_store = subst (λ (w : World). Between (past old) (state old) (past then) (state then) (λ moments. OpenAllows (state old) moments (state then) (Ok (r.texts, w)))) (sym tables_are) opened in (
         r.texts,
@@ -138,17 +185,20 @@ module _ {D : Type 0} (Honest : D → Type 0) (state : D → DiskState) (past : 
       )
 
   -- and goes on with a file that keeps it
-  pub carries_store : ((file : List ℕ) (texts : KitTexts) → IsFound file found → writer.ticks_left_of found.opened.writer ≡ 0
-      → GoesBehind (held_by found.opened).root (held_by found.opened).near (held_by found.opened).far (writer.place_of found.opened.writer)
-      → CarriesRead table_files found.opened (state then) (in_words texts (world_of found.recovered.tables)) → Carries state store texts)
+  pub carries_store : ((texts : KitTexts) → IsFound (state then).content found → writer.ticks_left_of found.opened.writer ≡ 0
+      → GoesBehind (writer.taken_of found.opened.writer).root (lines found.opened.near.records.items) (lines found.opened.far.records.items) (writer.place_of found.opened.writer)
+      → CarriesRead table_files found.opened (state then) (in_words texts (world_of found.recovered.tables)) → ArePlayed found.recovered.tables → Carries state store texts)
+      → ArePlayed found.recovered.tables
       → writer.ticks_left_of found.opened.writer ≡ 0
-      → (Honest then → GoesBehind (held_by found.opened).root (held_by found.opened).near (held_by found.opened).far (writer.place_of found.opened.writer))
+      → (Honest then → GoesBehind (writer.taken_of found.opened.writer).root (lines found.opened.near.records.items) (lines found.opened.far.records.items) (writer.place_of found.opened.writer))
+      → (Honest then → WasSynced (past old) (state old) (past then) (state then))
       → (Honest then → (world : words.World) → KeepsFile table_files (state old).content world → CarriesRead table_files found.opened (state then) world)
       → Honest (disk_of store) → (texts : KitTexts) → KeepsTables texts (held_of store).tables (state old).content → Carries state store texts
-  carries_store begun resting place goes_on h texts keeps =
+  carries_store begun played resting place was goes_on h texts keeps =
       let honest = subst Honest disk_is h in
-      begun (state old).content texts (is_found honest) resting (place honest)
-      (goes_on honest (in_words texts (world_of found.recovered.tables)) (subst (λ (w : World). KeepsTables texts w (state old).content) tables_are keeps))
+      let here = subst (λ (s : DiskState). IsFound s.content found) (sym (was honest).settled) (is_found honest) in
+      begun texts here resting (place honest)
+      (goes_on honest (in_words texts (world_of found.recovered.tables)) (subst (λ (w : World). KeepsTables texts w (state old).content) tables_are keeps)) played
 
 -- the store holds tables that were played, where those were that were found
 pub played_store : {D : Type 0} (store : Store D) (found : Found) → (held_of store).kit ≡ found.recovered.tables.kit → (held_of store).tables ≡ world_of found.recovered.tables

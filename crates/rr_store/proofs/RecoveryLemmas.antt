@@ -1,6 +1,7 @@
 pub mod WordLemmas
 pub mod FormLemmas
 pub mod PlayingLemmas
+pub mod LentLemmas
 pub mod TellingLemmas
 pub mod BaseLemmas
 pub mod ReplayLemmas

@@ -37,7 +37,7 @@ use Rattle.rr_store.specs.Sessions.{By_checkpoint, By_commit, By_open, By_tick, 
 use Rattle.rr_store.specs.Committing.{Spares}
 use Rattle.rr_store.specs.Ticking.{Steps}
 use Rattle.rr_store.specs.World.{TableRequest, World, for_table, world_after}
-use Rattle.rr_store.proofs.Events.{Outcome, again, commit_is_event, leads_on, open_is_event, outcome, step_is_event, unread}
+use Rattle.rr_store.proofs.Events.{Outcome, commit_is_event, leads_on, open_is_event, outcome, step_is_event, unread}
 
 -- no moment has no image
 none_of_none : (moments : List DiskState) (image : List ℕ) → [] ≡ moments → IsImageOfOne moments image → ⊥
@@ -267,8 +267,11 @@ module _ {D : Type 0} (Honest Works : D → Type 0) (state : D → DiskState) (p
       module _ (name : List ℕ) (stamp : ℕ) (request : Request Command) (result : Result ℕ Fault) (moments : List DiskState)
           (c : Commits Honest Works state past faults writes syncs old name stamp request new result)
           (h : Honest (disk_of new)) (passes : Passes state past (disk_of old) (disk_of new) moments) where
+        again : (held_of old).broken ≡ true → result ≡ Err F.OpenAgain
+        again broken = c.again.1 broken
+
         unchanged : (held_of old).broken ≡ true → IsUnchanged old new
-        unchanged broken = subst (λ (r : Result ℕ Fault). Spares old r new) (again (held_of old) stamp name request (held_of new) result broken c.takes) c.spares
+        unchanged broken = subst (λ (r : Result ℕ Fault). Spares old r new) (again broken) c.spares
 
         matches : Outcome (held_of old) name request (held_of new) result → (held_of old).broken ≡ false
             → Matches (Has new) (after_commit of_tables system (for_table name request) (world_in texts new) (state (disk_of new)) (ending_of result))
@@ -299,13 +302,13 @@ module _ {D : Type 0} (Honest Works : D → Type 0) (state : D → DiskState) (p
             let e = commit_is_event Honest Works state past faults writes syncs texts old new name stamp request result moments c h (carried whole) whole passes in (
               after_commit of_tables system (for_table name request) (world_in texts new) (state (disk_of new)) (ending_of result),
               schedule.Commits (world_in texts old) (world_in texts new) (for_table name request) moments (state (disk_of new)) (ending_of result) (serves whole) e.ends e.leads,
-              matches (outcome (held_of old) stamp name request (held_of new) result whole c.takes) whole,
+              matches (outcome (held_of old) stamp name request (held_of new) result whole (c.takes (carried whole).played)) whole,
             )
         committed true broken =
             let same = unchanged broken in
             let none = no_moments moments passes same in
             let there = still broken same in
-            let is = again (held_of old) stamp name request (held_of new) result broken c.takes in (
+            let is = again broken in (
               system,
               subst (λ (event : EventOf of_tables). Happens of_tables (in_words texts first) system event system)
                   (λ i. Commit (for_table name request) (none i) (there.disk i) (ending_of (sym is i))) (schedule.Commits_again (for_table name request) (is_broken broken)),

@@ -18,7 +18,7 @@ use Rattle.rr_tables.specs.Records.Headline.{KeepsTables}
 use Rattle.rr_tables.specs.Records.Taking.{Takes, table_files}
 use Rattle.rr_tables.specs.Records.Words.{in_words, table_in_words}
 use Rattle.rr_tables.specs.declared.tables.Tables.{Tables}
-use Rattle.rr_tables.specs.Tables.{world_of}
+use Rattle.rr_tables.specs.Tables.{ArePlayed, world_of}
 use Rattle.rr_reading.specs.Worlds.World.{Table}
 use Rattle.rr_reading.specs.Worlds.World as words
 use Rattle.rr_store.specs.declared.fault.Fault.{Fault}
@@ -112,6 +112,7 @@ module _ {D : Type 0} (Honest Works : D → Type 0) (state : D → DiskState) (p
       carries_by h whole texts carries = record {
         right = subst (λ (t : Tables). SpellsKit texts t.kit) (sym same) carries.right;
         tables_of_kit = subst (λ (t : Tables). AreTablesOf t.kit (world_of t)) (sym same) carries.tables_of_kit;
+        played = subst ArePlayed (sym same) carries.played;
         file = subst (λ (t : Tables). carrying.Carries Takes (file_of new) (state (disk_of new)) (in_words texts (world_of t))) (sym same)
             (s.carries h whole (in_words texts tables_now) refl carries.file);
       }
@@ -124,6 +125,7 @@ module _ {D : Type 0} (Honest Works : D → Type 0) (state : D → DiskState) (p
           keeps = keeps_by (Ok value) s;
           carries = carries_by (Ok value) s;
           held = held_if (file.is_broken (file_of old)) (s.broken ∙ sym (not_true (file.is_broken (file_of old)) (λ broken. never (s.again.1 broken))));
+          played = λ played. subst ArePlayed (sym same) played;
           number = s.number;
           again = (λ is. absurd (cc is), λ broken. absurd (never (s.again.1 broken)));
           refused = tt;
@@ -149,6 +151,7 @@ module _ {D : Type 0} (Honest Works : D → Type 0) (state : D → DiskState) (p
             keeps = keeps_by (Err fault) s;
             carries = carries_by (Err fault) s;
             held = held;
+            played = λ played. subst ArePlayed (sym same) played;
             number = s.number;
             again = again;
             refused = refused;

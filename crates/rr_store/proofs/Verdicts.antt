@@ -43,11 +43,12 @@ present_at kit t n stamp c h = present_step kit t stamp c h
 pub present : (kit : Kit) (tables : World) (stamp : ℕ) (name : List ℕ) (c : Request Command) → IsVerdict (judgement_in kit tables stamp name c) None → stamp ≡ present_stamp (table_named tables name)
 present kit tables stamp name c h = present_at kit (table_named tables name) _ stamp c h
 
--- a rule's fault is neither of the device nor of the file
+-- a rule's fault is neither of the device nor of the file, nor of a store that is broken
 
 abbrev IsOfFile : Fault → Type 0
 IsOfFile F.DeviceFailed = Unit {0}
 IsOfFile F.FileFull = Unit {0}
+IsOfFile F.OpenAgain = Unit {0}
 IsOfFile _ = ⊥
 
 rules_tell : (fault : rules.Fault) → IsOfFile (of_rules fault) → ⊥
@@ -64,3 +65,6 @@ no_failure fault is = rules_tell fault (let P : Fault → Type 0 = IsOfFile in s
 
 pub no_full : (fault : rules.Fault) → of_rules fault ≡ F.FileFull → ⊥
 no_full fault is = rules_tell fault (let P : Fault → Type 0 = IsOfFile in subst P (sym is) tt)
+
+pub no_again : (fault : rules.Fault) → of_rules fault ≡ F.OpenAgain → ⊥
+no_again fault is = rules_tell fault (let P : Fault → Type 0 = IsOfFile in subst P (sym is) tt)

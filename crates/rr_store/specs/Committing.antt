@@ -1,5 +1,5 @@
 -- What a commit does to a store.
-use Rattle.std.specs.Prelude.{◌≡◌, None, ◌⊎◌, ℕ, ◌+◌, ◌≤◌, false, List, Some, Result, Ok, Err, OnOk, map}
+use Rattle.std.specs.Prelude.{◌≡◌, None, ◌⊎◌, ◌↔◌, ℕ, ◌+◌, ◌≤◌, false, List, Some, Result, Ok, Err, IsErrOf, IsTrue, OnOk, map}
 use Rattle.rr_disk.specs.Disk.{DiskState}
 use Rattle.rr_disk.specs.Moments.{EachImage, LeavesOnly}
 use Rattle.rr_code.specs.declared.command.Command.{Command}
@@ -19,7 +19,7 @@ use Rattle.rr_store.specs.declared.store.Store.{Store}
 use Rattle.rr_store.specs.Allowing.{Between, CommitAllows}
 use Rattle.rr_store.specs.Fault.{CountsEnd, OnDeviceFault}
 use Rattle.rr_store.specs.Held.{Takes}
-use Rattle.rr_store.specs.Holding.{Carries, HasNoRoom, IsFull, IsFullFor, IsUnchanged, Rests, disk_of, file_of, held_of, number_of_next, ticks_left}
+use Rattle.rr_store.specs.Holding.{Carries, GamesArePlayed, HasNoRoom, IsFull, IsFullFor, IsUnchanged, Rests, disk_of, file_of, held_of, number_of_next, ticks_left}
 use Rattle.rr_store.specs.Keeping.{ComesOn, MakesAtMost}
 use Rattle.rr_store.specs.World.{for_table, judgement_in}
 use Rattle.rr_reading.specs.Worlds.World as words
@@ -44,10 +44,10 @@ Spares old (Err F.FileFull) new = Unit {0}
 Spares old (Err F.OutOfMemory) new = Unit {0}
 Spares old (Err fault) new = IsUnchanged old new
 
--- What a commit does, by its result: what the store holds then; and, on an honest disk that carries what was held, what the
--- disk passed through, that each file which a stop leaves keeps what was held or, of a lawful request, that with it, and that
+-- What a commit does, by its result: what a store of played tables holds then, and that they are played; and, on an honest disk
+-- that carries what was held, what the disk passed through, that each file which a stop leaves keeps what was held or, of a lawful request, that with it, and that
 -- the disk carries what is held now. Of every disk: the number of the next record; that a refusal by the rules changes nothing,
--- nor does want of memory, unless the request is lawful and behind the call the half in use has no room for its record, so that
+-- nor, where its tables were played, does want of memory, unless the request is lawful and behind the call the half in use has no room for its record, so that
 -- none is refused for want of a checkpoint's memory that has room; and that a device fault is told exactly where the disk counts one.
 -- The file is told to be full only where no checkpoint makes room for the request's record: it takes more than two slots, or
 -- behind the call its number would be past the last, or the half in use has no room for it and a checkpoint finds too few free
@@ -61,7 +61,9 @@ Spares old (Err fault) new = IsUnchanged old new
 -- behind it. And an honest disk that works, and carries what was held, is never told to have failed.
 pub record Commits {D : Type 0} (Honest Works : D → Type 0) (state : D → DiskState) (past : D → List DiskState) (faults writes syncs : D → ℕ)
     (old : Store D) (name : List ℕ) (stamp : ℕ) (request : Request Command) (new : Store D) (result : Result ℕ Fault) : Type 0 where
-  pub takes : Takes (held_of old) stamp name request (held_of new) result
+  pub takes : GamesArePlayed old → Takes (held_of old) stamp name request (held_of new) result
+  pub played : GamesArePlayed old → GamesArePlayed new
+  pub again : IsErrOf result F.OpenAgain ↔ IsTrue (held_of old).broken
   pub honest : Honest (disk_of new) → Honest (disk_of old)
   pub allowed : Honest (disk_of new) → (texts : KitTexts) → Carries state old texts
       → Between (past (disk_of old)) (state (disk_of old)) (past (disk_of new)) (state (disk_of new))
@@ -75,7 +77,7 @@ pub record Commits {D : Type 0} (Honest Works : D → Type 0) (state : D → Dis
       (layout_behind result carries.file.carried.layout (record_text name request) (in_words texts (held_of new).tables)) (in_words texts (held_of new).tables))
   pub number : NumberBehind result (number_of_next old) (number_of_next new)
   pub spares : Spares old result new
-  pub wanting : result ≡ Err F.OutOfMemory → IsUnchanged old new
+  pub wanting : GamesArePlayed old → result ≡ Err F.OutOfMemory → IsUnchanged old new
       ⊎ (IsVerdict (judgement_in (held_of old).kit (held_of old).tables stamp name request) None × HasNoRoom new name request)
   pub counts : CountsEnd (faults (disk_of old)) (faults (disk_of new)) result
   pub works : Works (disk_of new) → Works (disk_of old)

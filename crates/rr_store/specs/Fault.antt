@@ -52,9 +52,10 @@ abbrev pub of_disk : disk.Fault → Fault
 of_disk D.DeviceFailed = F.DeviceFailed
 of_disk D.OutOfMemory = F.OutOfMemory
 
--- the pages of a new file
+-- the pages of a new file; it has no record
 abbrev pub of_pages : pages.Fault → Fault
 of_pages P.FileFull = F.FileFull
+of_pages P.HalfFull = F.FileFull
 of_pages (P.Damaged damage) = F.Damaged (clause_of damage)
 of_pages P.NotAStore = F.NotAStore
 of_pages (P.Disk fault) = of_disk fault
@@ -70,6 +71,7 @@ of_reading R.OutOfMemory = F.OutOfMemory
 -- what the rules of the game say of a file
 abbrev pub of_recovery : recovery.Fault → Fault
 of_recovery (V.Damaged damage) = F.Damaged (clause_of damage)
+of_recovery (V.Disk fault) = of_disk fault
 of_recovery V.OutOfMemory = F.OutOfMemory
 
 -- what a refusal says of the disk's count of faults: one more exactly where the device failed

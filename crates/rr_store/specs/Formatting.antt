@@ -2,6 +2,7 @@
 use Rattle.std.specs.Prelude.{◌≡◌, ℕ, ◌<◌, ◌⊎◌, List, length}
 use Rattle.rr_kit.specs.declared.fault.Fault as kit
 use Rattle.rr_kit.specs.Kits.{IsRightKit, KitTexts, RefusesKit}
+use Rattle.rr_log.specs.Formatting.Calls.{data_pages, laying_writes}
 use Rattle.rr_store.specs.declared.fault.Fault.{Fault}
 use Rattle.rr_store.specs.declared.fault.Fault.TheVariants as F
 use Rattle.rr_store.specs.Fault.{of_kit}
@@ -16,3 +17,7 @@ RefusesFormat Honest file texts fault =
     ((fault ≡ F.NotEmpty) × (Honest → 0 < length file))
     ⊎ RefusesTexts texts fault
     ⊎ (IsRightKit texts × ((fault ≡ F.DeviceFailed) ⊎ (fault ≡ F.OutOfMemory)))
+
+-- how many writes make a new store of these texts
+abbrev pub format_writes : KitTexts → ℕ
+format_writes texts = laying_writes (data_pages texts.chart texts.roster texts.tiles texts.board)

@@ -11,7 +11,7 @@ use Rattle.rr_log.specs.Log as log
 use Rattle.rr_tables.specs.declared.records.rules.TableRules.{TableRules}
 use Rattle.rr_tables.specs.Records.Taking.{Takes}
 use Rattle.rr_tables.specs.Records.Words.{in_words, table_in_words}
-use Rattle.rr_tables.specs.Tables.{world_of}
+use Rattle.rr_tables.specs.Tables.{ArePlayed, world_of}
 use Rattle.rr_turns.specs.declared.request.Request.{Request}
 use Rattle.rr_store.specs.declared.store.Store.{Store}
 use Rattle.rr_store.specs.Files.{AreTablesOf}
@@ -67,11 +67,16 @@ IsFullFor store name request =
 abbrev pub Rests : {D : Type 0} → Store D → Type 0
 Rests store = keeping.Rests store.journal.file
 
--- Whatever a stop leaves now, the file keeps these texts of the kit and what the store holds, and the open file goes on behind
--- it: on this a call rests, and this it carries on.
+-- each table that it holds in memory was played: its game is the play of the commands that it keeps
+abbrev pub GamesArePlayed : {D : Type 0} → Store D → Type 0
+GamesArePlayed store = ArePlayed store.tables
+
+-- Whatever a stop leaves now, the file keeps these texts of the kit and what the store holds, the open file goes on behind it, and
+-- the tables in memory were played: on this a call rests, and this it carries on.
 pub record Carries {D : Type 0} (state : D → DiskState) (store : Store D) (texts : KitTexts) : Type 0 where
   pub right : SpellsKit texts (held_of store).kit
   pub tables_of_kit : AreTablesOf (held_of store).kit (held_of store).tables
+  pub played : GamesArePlayed store
   pub file : file.Carries Takes (file_of store) (state (disk_of store)) (in_words texts (held_of store).tables)
 
 -- the file, and so the disk, and what is held are as they were

@@ -70,5 +70,5 @@ IsSyncedFirst _ past_old old past_new new = WasSynced past_old old past_new new
 
 -- what was found is what the file holds, and what is recovered of that
 pub record IsFound (file : List ℕ) (found : Found) : Type 0 where
-  pub holds : Holds file (held_by found.opened)
-  pub recovered : IsRecoveredFrom (held_by found.opened) found.recovered
+  pub holds : Holds file (held_by file found.opened)
+  pub recovered : IsRecoveredFrom (held_by file found.opened) found.recovered

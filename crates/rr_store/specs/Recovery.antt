@@ -1,6 +1,8 @@
 pub mod Fault
 pub mod Kept
 pub mod Told
+pub mod Playing
+pub mod Spelling
 pub mod Restoring
 pub mod Replaying
 pub mod Taking

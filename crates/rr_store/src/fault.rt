@@ -29,7 +29,8 @@ pub enum Fault {
     /// The device failed. Whether the request under way was taken is known when the file is opened again.
     #[error("device failed")]
     DeviceFailed,
-    /// A record takes more than two slots, fewer pages are free than a checkpoint needs, or a number would be the last one.
+    /// A record takes more than two slots, fewer pages are free than a checkpoint needs, or a number would be the last
+    /// one.
     #[error("file full")]
     FileFull,
     /// The file holds what no store of ours holds; the first clause that it breaks, from 1 to 8.
@@ -115,7 +116,7 @@ impl From<rr_pages::Fault> for Fault {
 
     fn from(fault: rr_pages::Fault) -> Fault {
         match fault {
-            rr_pages::Fault::FileFull => Fault::FileFull,
+            rr_pages::Fault::FileFull | rr_pages::Fault::HalfFull => Fault::FileFull,
             rr_pages::Fault::Damaged(damage) => Fault::Damaged(damage.clause()),
             rr_pages::Fault::NotAStore => Fault::NotAStore,
             rr_pages::Fault::Disk(rr_disk::Fault::DeviceFailed) => Fault::DeviceFailed,
@@ -147,6 +148,8 @@ impl From<recovery::Fault> for Fault {
     fn from(fault: recovery::Fault) -> Fault {
         match fault {
             recovery::Fault::Damaged(damage) => Fault::Damaged(damage.clause()),
+            recovery::Fault::Disk(rr_disk::Fault::DeviceFailed) => Fault::DeviceFailed,
+            recovery::Fault::Disk(rr_disk::Fault::OutOfMemory) => Fault::OutOfMemory,
             recovery::Fault::OutOfMemory => Fault::OutOfMemory,
         }
     }

@@ -1,5 +1,5 @@
 ghost use Rattle.std.specs.Prelude.{◌≡◌, ◌⊎◌, ◌+◌, ◌<◌, ◌≤◌, [], length, MatchResult, OnOk, IfErr, Err};
-ghost use Rattle.rr_disk.specs.Disk.{counted};
+ghost use Rattle.rr_disk.specs.Disk.{counted_by};
 ghost use Rattle.rr_disk.specs.Moments.{LeavesOnly};
 ghost use Rattle.rr_log.specs.Formatting.Formatted.{IsUnused};
 ghost use Rattle.rr_kit.specs.Kits.{IsRightKit};
@@ -8,7 +8,7 @@ ghost use Rattle.rr_tables.specs.Records.Headline.{KeepsTables};
 ghost use Rattle.rr_store.specs.Allowing.{FormatAllows};
 ghost use Rattle.rr_store.specs.Fault.{CountsFailure, OnDeviceFault};
 ghost use Rattle.rr_store.specs.Files.{IsNewStore};
-ghost use Rattle.rr_store.specs.Formatting.{RefusesFormat, RefusesTexts};
+ghost use Rattle.rr_store.specs.Formatting.{format_writes, RefusesFormat, RefusesTexts};
 ghost use Rattle.rr_store.specs.Lent.{lent_texts};
 
 use crate::fault::Fault;
@@ -18,14 +18,14 @@ use rr_kit::Kit;
 use rr_tables::records::TableRules;
 use std::alloc::Global;
 
-/// Makes a store of an empty file, from the texts of a kit. Its root is number 1, and its first record will be number 1.
-/// Wherever the device stops, the file is no store yet, or this one, which keeps these texts and no table.
+/// Makes a store of an empty file, from the texts of a kit. Its root is number 1, and its first record will be number
+/// 1. Wherever the device stops, the file is no store yet, or this one, which keeps these texts and no table.
 ///
 /// # Errors
 /// `NotEmpty` first; then the first text that is refused, in the order chart, roster, tiles, board: a chart at its
 /// first wrong word, a roster that isn't right, a manifest or a board at its first wrong line, and any text of more
-/// than 65,536 bytes at line 0; then `DeviceFailed`. `OutOfMemory` may come at any text that is no longer and is ASCII, or
-/// UTF-8 as a roster's, and behind them.
+/// than 65,536 bytes at line 0; then `DeviceFailed`. `OutOfMemory` may come at any text that is no longer and is ASCII,
+/// or UTF-8 as a roster's, and behind them.
 pub fn format<D: Disk>(alloc: Global, disk: &mut D, texts: Texts<'_>) -> Result<(), Fault>
     // Where it is done, the file keeps these texts and no table, whatever a stop leaves; and before, whatever it left.
     ensures allowed { D.Honest disk.new
@@ -46,9 +46,10 @@ pub fn format<D: Disk>(alloc: Global, disk: &mut D, texts: Texts<'_>) -> Result<
     ensures honest { D.Honest disk.new → D.Honest disk.old }
     ensures fault { IfErr result (CountsFailure (D.fault_count disk.old) (D.fault_count disk.new)) }
     ensures no_fault { OnOk result (D.fault_count disk.new ≡ D.fault_count disk.old) }
-    ensures writes { OnOk result
-        (D.write_count disk.new ≡ counted (counted (counted (counted (counted (D.write_count disk.old)))))) }
-    ensures few_writes { D.write_count disk.new ≤ D.write_count disk.old + 5 }
+    ensures writes { OnOk result (D.write_count disk.new
+        ≡ counted_by (format_writes (lent_texts texts.entry)) (D.write_count disk.old)) }
+    ensures few_writes { D.write_count disk.new
+        ≤ D.write_count disk.old + format_writes (lent_texts texts.entry) }
     ensures few_syncs { D.sync_count disk.new ≤ D.sync_count disk.old + 3 }
 
     // A disk that works doesn't fail here.
@@ -90,9 +91,10 @@ fn put_texts<D: Disk>(alloc: Global, disk: &mut D, texts: Texts<'_>) -> Result<(
     ensures honest { D.Honest disk.new → D.Honest disk.old }
     ensures fault { IfErr result (CountsFailure (D.fault_count disk.old) (D.fault_count disk.new)) }
     ensures no_fault { OnOk result (D.fault_count disk.new ≡ D.fault_count disk.old) }
-    ensures writes { OnOk result
-        (D.write_count disk.new ≡ counted (counted (counted (counted (counted (D.write_count disk.old)))))) }
-    ensures few_writes { D.write_count disk.new ≤ D.write_count disk.old + 5 }
+    ensures writes { OnOk result (D.write_count disk.new
+        ≡ counted_by (format_writes (lent_texts texts.entry)) (D.write_count disk.old)) }
+    ensures few_writes { D.write_count disk.new
+        ≤ D.write_count disk.old + format_writes (lent_texts texts.entry) }
     ensures few_syncs { D.sync_count disk.new ≤ D.sync_count disk.old + 3 }
     ensures device { OnDeviceFault result (D.Works disk.new → ⊥) }
     ensures works { D.Works disk.new → D.Works disk.old }

@@ -1,5 +1,5 @@
-//! The crash-safe store of a club's tables: the world of the requests that one file accepted, whatever a stop leaves of it.
-//! What an opening makes of the file's bytes by the rules of the game, `recovery` says.
+//! The crash-safe store of a club's tables: the world of the requests that one file accepted, whatever a stop leaves of
+//! it. What an opening makes of the file's bytes by the rules of the game, `recovery` says.
 //!
 //! Stands on `rr_tables` and `rr_log`. Its promise: a commit's `CommitAllows`, a tick's `TickAllows` and an opening's
 //! `OpenAllows`: each image stands for the world before, or with the one request under way.

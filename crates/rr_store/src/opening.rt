@@ -1,25 +1,25 @@
 //! Opening a file: after one sync its bytes are read, and its tables are recovered by the rules of the game.
-ghost use Rattle.std.specs.Prelude.{◌≡◌, ℕ, List, false, IfOk, IfErr, Ok, Err};
+ghost use Rattle.std.specs.Prelude.{◌≡◌, false, IfOk, IfErr, Ok, Err};
 ghost use Rattle.rr_checkpoint.specs.Writer as writer;
 ghost use Rattle.rr_disk.specs.Disk.{DiskState, counted};
 ghost use Rattle.rr_images.specs.Layout.{Keeps as KeepsFile};
 ghost use Rattle.rr_kit.specs.declared.kit.Kit.{Kit as AnyKit};
 ghost use Rattle.rr_kit.specs.Kits.{KitTexts, SpellsKit};
 ghost use Rattle.rr_log.specs.Opening.Carrying.{CarriesRead};
-ghost use Rattle.rr_log.specs.Opening.Opened.{held_by};
 ghost use Rattle.rr_log.specs.Opening.Place.{GoesBehind};
 ghost use Rattle.rr_log.specs.Opening.Syncing.{WasSynced};
+ghost use Rattle.rr_pages.specs.Journal.Reading.{lines};
 ghost use Rattle.rr_tables.specs.Records.Headline.{KeepsTables};
 ghost use Rattle.rr_store.specs.Recovery.Recovered.{HoldsPlayedTables};
 ghost use Rattle.rr_tables.specs.Records.Taking.{table_files};
 ghost use Rattle.rr_tables.specs.Records.World.{World};
 ghost use Rattle.rr_tables.specs.Records.Words.{in_words};
-ghost use Rattle.rr_tables.specs.Tables.{world_of};
+ghost use Rattle.rr_tables.specs.Tables.{ArePlayed, world_of};
 ghost use Rattle.rr_reading.specs.Worlds.World as words;
 ghost use Rattle.rr_store.specs.Allowing.{Between};
 ghost use Rattle.rr_store.specs.Fault.{CountsEnd, CountsFailure, OnDevice, OnDeviceFault};
 ghost use Rattle.rr_store.specs.Files.{AreTablesOf};
-ghost use Rattle.rr_store.specs.Holding.{Carries, disk_of, held_of};
+ghost use Rattle.rr_store.specs.Holding.{Carries, GamesArePlayed, disk_of, held_of};
 ghost use Rattle.rr_store.specs.Opening.{IsFound, IsNoVerdict, IsSyncedFirst, OpenAllows, Refuses};
 
 use crate::fault::Fault;
@@ -45,13 +45,13 @@ pub struct Refused<D: Drop> {
 /// Opens a file that `format` made. It makes a sync, and no write.
 ///
 /// # Errors
-/// `DeviceFailed`; `NotAStore` where the file has no roots of this version; `Damaged` with the least clause that it breaks:
-/// 1 to 5 of its bytes, 5 where kept words are no request's, 6 where a text of the kit is wrong, 7 where a table keeps what
-/// wasn't played or a floor above its turns, and 8 where a record isn't a request that its table could take. Else
-/// `OutOfMemory` alone, and only where a root is taken.
+/// `DeviceFailed`; `NotAStore` where the file has no roots of this version; `Damaged` with the least clause that it
+/// breaks: 1 to 5 of its bytes, 5 where kept words are no request's, 6 where a text of the kit is wrong, 7 where a
+/// table keeps what wasn't played or a floor above its turns, and 8 where a record isn't a request that its table could
+/// take. Else `OutOfMemory` alone, and only where a root is taken.
 pub fn open<D: Disk + Drop>(alloc: Global, disk: D) -> Result<Store<D>, Refused<D>>
-    // The store holds the world for which the file stands; else the file breaks a clause, or the device failed or memory was
-    // wanted. Whatever is answered, the sync was made, unless the device failed.
+    // The store holds the world for which the file stands; else the file breaks a clause, or the device failed or
+    // memory was wanted. Whatever is answered, the sync was made, unless the device failed.
     ensures opened { IfOk result (λ store. D.Honest (disk_of store) → (texts : KitTexts)
         × Between (D.past disk) (D.state disk) (D.past (disk_of store)) (D.state (disk_of store))
         (λ moments. OpenAllows (D.state disk) moments (D.state (disk_of store)) (Ok (texts, (held_of store).tables)))
@@ -73,6 +73,8 @@ pub fn open<D: Disk + Drop>(alloc: Global, disk: D) -> Result<Store<D>, Refused<
     ensures played { IfOk result (λ store. (texts : KitTexts)
         × SpellsKit texts (held_of store).kit × AreTablesOf (held_of store).kit (held_of store).tables) }
 
+    // And each table in memory was played: its game is the play of the commands that it keeps.
+    ensures each { IfOk result (λ store. GamesArePlayed store) }
     ensures whole { IfOk result (λ store. (held_of store).broken ≡ false) }
     ensures honest { IfOk result (λ store. D.Honest (disk_of store) → D.Honest disk) }
     ensures honest_left { IfErr result (λ refused. D.Honest refused.disk → D.Honest disk) }
@@ -98,11 +100,13 @@ pub fn open<D: Disk + Drop>(alloc: Global, disk: D) -> Result<Store<D>, Refused<
 fn find<D: Disk>(alloc: Global, disk: &mut D) -> Result<Found, Fault>
     ensures found { IfOk result (λ found. D.Honest disk.new → IsFound (D.state disk.old).content found) }
     ensures played { IfOk result (λ found. HoldsPlayedTables found.recovered) }
+    ensures each { IfOk result (λ found. ArePlayed found.recovered.tables) }
     ensures goes_on { IfOk result (λ found. D.Honest disk.new → (world : words.World)
         → KeepsFile table_files (D.state disk.old).content world
         → CarriesRead table_files found.opened (D.state disk.new) world) }
-    ensures place { IfOk result (λ found. D.Honest disk.new → GoesBehind (held_by found.opened).root
-        (held_by found.opened).near (held_by found.opened).far (writer.place_of found.opened.writer)) }
+    ensures place { IfOk result (λ found. D.Honest disk.new → GoesBehind (writer.taken_of found.opened.writer).root
+        (lines found.opened.near.records.items) (lines found.opened.far.records.items)
+        (writer.place_of found.opened.writer)) }
     ensures resting { IfOk result (λ found. writer.ticks_left_of found.opened.writer ≡ 0) }
     ensures synced { IfOk result (λ found. D.Honest disk.new
         → WasSynced (D.past disk.old) (D.state disk.old) (D.past disk.new) (D.state disk.new)) }
@@ -119,8 +123,8 @@ fn find<D: Disk>(alloc: Global, disk: &mut D) -> Result<Found, Fault>
     ensures honest { D.Honest disk.new → D.Honest disk.old }
     ensures works { D.Works disk.new → D.Works disk.old }
 {
-    let opened = open_file::<D, Worlds<TableRules>>(alloc, disk)?;
-    let recovered = recover::<TableRules>(alloc, &opened)?;
+    let mut opened = open_file::<D, Worlds<TableRules>>(alloc, disk)?;
+    let recovered = recover::<D, TableRules>(alloc, disk, &mut opened)?;
     let buffer = make_buffer(alloc)?;
     Ok(Found {
         opened,
@@ -142,11 +146,13 @@ fn begin<D: Disk + Drop>(alloc: Global, disk: D, found: Found) -> Store<D>
     ensures kit { (held_of result).kit ≡ found.recovered.tables.kit }
     ensures tables { (held_of result).tables ≡ world_of found.recovered.tables }
     ensures whole { (held_of result).broken ≡ false }
-    ensures carries { (file : List ℕ) (texts : KitTexts) → IsFound file found
+    ensures carries { (texts : KitTexts) → IsFound (D.state disk).content found
         → writer.ticks_left_of found.opened.writer ≡ 0
-        → GoesBehind (held_by found.opened).root (held_by found.opened).near (held_by found.opened).far (writer.place_of found.opened.writer)
+        → GoesBehind (writer.taken_of found.opened.writer).root (lines found.opened.near.records.items)
+        (lines found.opened.far.records.items) (writer.place_of found.opened.writer)
         → CarriesRead table_files found.opened (D.state disk) (in_words texts (world_of found.recovered.tables))
-        → Carries D.state result texts }
+        → ArePlayed found.recovered.tables → Carries D.state result texts }
+    ensures played { ArePlayed found.recovered.tables → GamesArePlayed result }
 {
     let Found {
         opened,

@@ -1,9 +1,9 @@
-//! The recovery of a store's tables from what an opening read of its file: the kit that its texts spell, the commands that
-//! its tables keep, played again from each opening, and behind them its records. What needs the rules of the game is
-//! judged here.
+//! The recovery of a store's tables from what an opening read of its file: the kit that its texts spell, the commands
+//! that its tables keep, played again from each opening, and behind them its records. What needs the rules of the game
+//! is judged here.
 //!
-//! Its promise: the clauses of `recover`. What is given is the world that the file tells, and what is refused breaks the
-//! clause that is told, and none that is lower.
+//! Its promise: the clauses of `recover`. What is given is the world that the file tells, and what is refused breaks
+//! the clause that is told, and none that is lower.
 
 mod fault;
 mod playing;

@@ -6,6 +6,7 @@ ghost use Rattle.rr_disk.specs.Moments.{EachImage};
 ghost use Rattle.rr_game.specs.History.Tables.{IsPlayed, kept_in};
 ghost use Rattle.rr_images.specs.Calls.{TakesNewer};
 ghost use Rattle.rr_kit.specs.Kits.{KitTexts};
+ghost use Rattle.rr_reading.specs.declared.dir.directory.TheConstants.{MOST_TABLES};
 ghost use Rattle.rr_log.specs.Calls.{IsFileFull, LowersFrom, NumbersRoot, TakesRootOf, as_begun, first_left, ticks_due};
 ghost use Rattle.rr_tables.specs.Records.Taking.{table_files};
 ghost use Rattle.rr_tables.specs.Records.Words.{in_words, table_in_words};
@@ -34,7 +35,7 @@ pub struct Store<D: Drop> {
 
 impl<D: Disk + Drop> Store<D> {
     ghost use Rattle.rr_store.specs.Committing.{Commits};
-    ghost use Rattle.rr_store.specs.Holding.{Carries, HasNoneBegun, IsUnchanged, Rests, disk_of, file_of, held_of, last_of, root_of, ticks_left};
+    ghost use Rattle.rr_store.specs.Holding.{Carries, GamesArePlayed, HasNoneBegun, IsUnchanged, Rests, disk_of, file_of, held_of, last_of, root_of, ticks_left};
     ghost use Rattle.rr_store.specs.Ticking.{MakesFew, Steps};
 
     /// The disk on which the file stands, with all that it went through.
@@ -50,17 +51,17 @@ impl<D: Disk + Drop> Store<D> {
         file.into_disk()
     }
 
-    /// Lets a table take a request with this stamp, and keeps it in the file; gives the table's new stamp. From `Ok` on the
-    /// request is safe. Before it a step of a checkpoint is made, where one is under way or due; where the half in use has no
-    /// room meanwhile, the checkpoint is ended first.
+    /// Lets a table take a request with this stamp, and keeps it in the file; gives the table's new stamp. From `Ok` on
+    /// the request is safe. Before it a step of a checkpoint is made, where one is under way or due; where the half in
+    /// use has no room meanwhile, the checkpoint is ended first.
     ///
     /// # Errors
-    /// `OpenAgain` first, where the device failed before. Then what refuses the request: for an opening `StaleStamp` and
-    /// `TooManyTables`; for another request `NoSuchTable`, `StaleStamp`, `TooManyCommands`, and then `TurnNotKept` for one
-    /// that takes the table back or forgets, or what the game refuses. Then `OutOfMemory`, and `FileFull` where the request's
-    /// record takes more than two slots, where its number would be 2^63 - 1 or more, or where the half in use has no room for
-    /// it and a checkpoint finds too few free pages or no number for its root. After `DeviceFailed` the request may be in the
-    /// file or not, and the store is broken.
+    /// `OpenAgain` first, where the device failed before. Then what refuses the request: for an opening `StaleStamp`
+    /// and `TooManyTables`; for another request `NoSuchTable`, `StaleStamp`, `TooManyCommands`, and then `TurnNotKept`
+    /// for one that takes the table back or forgets, or what the game refuses. Then `OutOfMemory`, and `FileFull` where
+    /// the request's record takes more than two slots, where its number would be 2^63 - 1 or more, or where the half in
+    /// use has no room for it and a checkpoint finds too few free pages or no number for its root. After `DeviceFailed`
+    /// the request may be in the file or not, and the store is broken.
     pub fn commit(
         &mut self,
         name: &Name,
@@ -102,7 +103,7 @@ impl<D: Disk + Drop> Store<D> {
         ensures count { MatchResult result
             (λ count. ((held_of self.now).broken ≡ false) × (count ≡ length (held_of self.now).tables))
             (λ fault. ((held_of self.now).broken ≡ true) × (fault ≡ Fault.OpenAgain)) }
-        ensures few { IfOk result (λ count. count ≤ 64) }
+        ensures few { IfOk result (λ count. count ≤ MOST_TABLES) }
     {
         if self.journal.file.is_broken() {
             return Err(Fault::OpenAgain);
@@ -133,7 +134,7 @@ impl<D: Disk + Drop> Store<D> {
         ensures found { MatchResult result
             (λ table. ((held_of self.now).broken ≡ false) × (table_named (held_of self.now).tables name.now ≡ Some (kept_in table.now)))
             (λ fault. LacksTable (held_of self.now) name.now fault) }
-        ensures played { IfOk result (λ table. IsPlayed (held_of self.now).kit table.now) }
+        ensures played { IfOk result (λ table. GamesArePlayed self.now → IsPlayed (held_of self.now).kit table.now) }
     {
         if self.journal.file.is_broken() {
             return Err(Fault::OpenAgain);
@@ -159,13 +160,14 @@ impl<D: Disk + Drop> Store<D> {
         Ok(self.journal.file.last())
     }
 
-    /// Makes one step of a checkpoint: it goes on with the one under way, or begins one where an opening found it begun or at
-    /// least 128 slots of the half in use are used. The first step takes all memory and pages that the later ones need. A
-    /// checkpoint of p pages has p + 4 steps, and p + 3 where an opening found it begun: its first step writes a page then.
+    /// Makes one step of a checkpoint: it goes on with the one under way, or begins one where an opening found it begun
+    /// or at least 128 slots of the half in use are used. The first step takes all memory and pages that the later ones
+    /// need. A checkpoint of p pages has p + 4 steps, and p + 3 where an opening found it begun: its first step writes
+    /// a page then.
     ///
     /// # Errors
-    /// `OpenAgain`; `DeviceFailed`, after which the store is broken; in a first step also `FileFull` and `OutOfMemory`, before
-    /// any device call: then the store goes on, and the next tick begins anew.
+    /// `OpenAgain`; `DeviceFailed`, after which the store is broken; in a first step also `FileFull` and `OutOfMemory`,
+    /// before any device call: then the store goes on, and the next tick begins anew.
     pub fn tick(&mut self) -> Result<Tick, Fault>
         ensures steps { Steps D.Honest D.Works D.state D.past D.fault_count self.old result self.new }
         ensures left { IfOk result (λ tick. LowersFrom (first_left (file_of self.old) (map table_in_words (held_of self.old).tables)) tick
@@ -182,8 +184,8 @@ impl<D: Disk + Drop> Store<D> {
         ensures root { IfOk result (λ tick. D.Honest (disk_of self.new) → (texts : KitTexts) → Carries D.state self.old texts
             → NumbersRoot tick (root_of self.old) (root_of self.new)) }
 
-        // Behind the last step each file that a stop may leave takes a newer root. Its chains spell the world as the checkpoint
-        // began, and only the records since then stand behind it.
+        // Behind the last step each file that a stop may leave takes a newer root. Its chains spell the world as the
+        // checkpoint began, and only the records since then stand behind it.
         ensures renews { IfOk result (λ tick. D.Honest (disk_of self.new) → (texts : KitTexts) → (carries : Carries D.state self.old texts)
             → RenewsAt table_files tick carries.file.carried.layout (D.state (disk_of self.new)) (in_words texts (held_of self.old).tables)) }
         ensures writes { D.write_count (disk_of self.new) ≤ D.write_count (disk_of self.old) + 1 }
@@ -201,8 +203,9 @@ impl<D: Disk + Drop> Store<D> {
         ensures steps { Steps D.Honest D.Works D.state D.past D.fault_count self.old result self.new }
         ensures left { OnOk result (ticks_left self.new ≡ 0) }
 
-        // Then each file that a stop may leave takes a newer root. Its chains spell the world as the checkpoint began, and only
-        // the records since then stand behind it. Where none was begun before, that is what the store holds, and no record.
+        // Then each file that a stop may leave takes a newer root. Its chains spell the world as the checkpoint began,
+        // and only the records since then stand behind it. Where none was begun before, that is what the store holds,
+        // and no record.
         ensures renews { OnOk result (D.Honest (disk_of self.new) → (texts : KitTexts) → (carries : Carries D.state self.old texts)
             → EachImage (D.state (disk_of self.new)) (TakesNewer table_files (as_begun carries.file.carried.layout) (in_words texts (held_of self.old).tables))) }
         ensures whole { OnOk result (HasNoneBegun self.old → D.Honest (disk_of self.new) → (texts : KitTexts) → Carries D.state self.old texts

@@ -48,8 +48,8 @@ fn made_and_opened(alloc: Global) -> Result<(Made, Told), Fail> {
     Ok((made, told(&again)))
 }
 
-// The five ticks are: a page for the table, one for the directory, the gate of the other root, that root, and its gate. Slot 0
-// of the other half has the record that told of the checkpoint.
+// The five ticks are: a page for the table, one for the directory, the gate of the other root, that root, and its gate.
+// Slot 0 of the other half has the record that told of the checkpoint.
 #[test]
 fn a_checkpoint_that_was_begun_is_made(rt: HostRuntime) -> Result<(), Fail> {
     let ends = [

@@ -38,8 +38,8 @@ fn two_tables(store: &Store<MemoryDisk>) -> Result<Told, Fault> {
     ))
 }
 
-// The place of the first row that ends otherwise, what a store tells behind the rows and once it is opened again, and the
-// trade of the kit's diesel.
+// The place of the first row that ends otherwise, what a store tells behind the rows and once it is opened again, and
+// the trade of the kit's diesel.
 type Kept = (Option<usize>, Result<Told, Fault>, Result<Told, Fault>, u16);
 
 fn kept(alloc: Global) -> Result<Kept, Fail> {
@@ -94,8 +94,9 @@ fn back_and_forget_outlast_a_checkpoint(rt: HostRuntime) -> Result<(), Fail> {
     Ok(())
 }
 
-// The calls of an opening of a file with two records: a sync, and reads of both roots, of the front and the bytes of the
-// directory's page and of four texts, of the two records in two parts each, and of the gates behind them in either half.
+// The calls of an opening of a file with two records: a sync, and reads of both roots, of the front and the bytes of
+// the directory's page and of four texts, of the two records in two parts each, and of the gates behind them in either
+// half.
 const OPENING: u64 = 19;
 
 // Whether a store is broken, how a commit and then each call ends, and whether it is broken then.

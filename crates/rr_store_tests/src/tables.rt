@@ -38,8 +38,8 @@ fn take(alloc: Global, tables: &mut Tables, stamp: u64, record: &[u8]) -> Result
     tables.take(alloc, stamp, &name, &request, &mut Standing)
 }
 
-// How many tables and requests there are, the stamps of two tables, the second's turns, and whether it is the last.
-type State = (usize, u64, u64, u64, Option<u64>, bool);
+// How many tables there are, the stamps of two tables, the second's turns, and whether it is the last.
+type State = (usize, u64, u64, Option<u64>, bool);
 
 fn state(tables: &Tables, first: &Name, second: &Name) -> State {
     let turns = match tables.table(second) {
@@ -49,7 +49,6 @@ fn state(tables: &Tables, first: &Name, second: &Name) -> State {
     let last = tables.name(1) == Some(second) && tables.name(2).is_none();
     (
         tables.count(),
-        tables.requests(),
         tables.stamp(first),
         tables.stamp(second),
         turns,
@@ -103,18 +102,18 @@ fn told(alloc: Global, first: &Name, second: &Name) -> Result<(State, Option<usi
 fn tables_take_requests(rt: HostRuntime) -> Result<(), Fail> {
     let first = Name::table(b"t1").ok_or("no name")?;
     let second = Name::table(b"t2").ok_or("no name")?;
-    let none = (0, 0, 0, 0, None, false);
+    let none = (0, 0, 0, None, false);
     let told = told(rt.alloc(), &first, &second)?;
-    assert!(rt; told == (none, None, (2, 3, 2, 1, Some(0), true)));
+    assert!(rt; told == (none, None, (2, 2, 1, Some(0), true)));
     Ok(())
 }
 
-// How many tables and requests are recovered, and whether a checkpoint is to be made anew of other tables.
+// How many tables are recovered, the first one's stamp, and whether a checkpoint is to be made anew of other tables.
 type Found = Result<(usize, u64, bool), recovery::Fault>;
 
 fn recovered(alloc: Global, mut disk: MemoryDisk) -> Result<Found, Fail> {
-    let opened = read(alloc, &mut disk)?;
-    Ok(match recover_tables(alloc, &opened) {
+    let mut opened = read(alloc, &mut disk)?;
+    Ok(match recover_tables(alloc, &mut disk, &mut opened) {
         Ok(found) => Ok(told_of(&found)),
         Err(fault) => Err(fault),
     })
@@ -127,17 +126,18 @@ fn read(alloc: Global, disk: &mut MemoryDisk) -> Result<Opened<Worlds<TableRules
 
 fn recover_tables(
     alloc: Global,
-    opened: &Opened<Worlds<TableRules>>,
+    disk: &mut MemoryDisk,
+    opened: &mut Opened<Worlds<TableRules>>,
 ) -> Result<Recovered, recovery::Fault> {
-    recover::<TableRules>(alloc, opened)
+    recover::<MemoryDisk, TableRules>(alloc, disk, opened)
 }
 
 fn told_of(found: &Recovered) -> (usize, u64, bool) {
-    (
-        found.tables.count(),
-        found.tables.requests(),
-        found.base.is_some(),
-    )
+    let stamp = match found.tables.name(0) {
+        Some(name) => found.tables.stamp(name),
+        None => 0,
+    };
+    (found.tables.count(), stamp, found.base.is_some())
 }
 
 // A new file whose roster has a wrong key.

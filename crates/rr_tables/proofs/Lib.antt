@@ -1,5 +1,6 @@
 pub mod Outcomes
 pub mod WorldLemmas
+pub mod PlayedTables
 pub mod WritableLemmas
 pub mod WordLemmas
 pub mod RecordLemmas

@@ -1,22 +1,19 @@
 -- Tables in memory, in words.
-use Rattle.std.proofs.Common.{◌≡◌, ◌≢◌, ℕ, ◌+◌, zero, suc, ◌<◌, ◌≤◌, false, List, [], ◌∷◌, ◌++◌, length, map, take, get_or, slice_get, Some, option_map, Result, Ok, Err, IfOk, All, bytes_eq, sym, ap, subst, ◌∙◌, arith}
+use Rattle.std.proofs.Common.{◌≡◌, ◌≢◌, ℕ, ◌+◌, zero, suc, ◌<◌, ◌≤◌, false, List, [], ◌∷◌, ◌++◌, length, map, take, slice_get, Some, option_map, Result, Ok, Err, IfOk, All, bytes_eq, sym, ap, subst, ◌∙◌, arith}
 use Rattle.std.specs.List.{AllByRecursion, IsDistinct}
 use Rattle.std.specs.Map.{keys_of}
 use Rattle.std.proofs.lemmas.Bool.{false≢true}
-use Rattle.std.proofs.lemmas.List.{append_assoc, length-map, length-take, map-append, take-map, take_all, take_more}
-use Rattle.std.proofs.lemmas.List.Elements.{All-cons, All-get_or, All-head, All-nil, All-tail}
+use Rattle.std.proofs.lemmas.List.{length-map, length-take, take-map, take_all, take_more}
+use Rattle.std.proofs.lemmas.List.Elements.{All-cons, All-nil}
 use Rattle.std.proofs.lemmas.Option.{get_or_from_slice_get, slice_get-map, slice_get_within}
 use Rattle.std.proofs.lemmas.Map.Keys.{IsDistinct-head, IsDistinct-tail}
 use Rattle.std.proofs.lemmas.Slice.Eq.{bytes_eq-Decides}
-use Rattle.rr_code.specs.declared.command.Command.{Command}
 use Rattle.rr_code.specs.Command.{text}
-use Rattle.rr_reading.specs.Dir.Kept.{IsShort}
 use Rattle.rr_tables.specs.Records.Words.{table_in_words}
 use Rattle.rr_tables.specs.Records.World.{TableState, World}
 use Rattle.rr_checkpoint.specs.declared.plan.table.TableTranscript.{TableTranscript}
-use Rattle.rr_checkpoint.specs.Plan.Transcript.{table_of, with_command}
+use Rattle.rr_checkpoint.specs.Plan.Transcript.{table_of, table_with}
 use Rattle.rr_reading.specs.Worlds.World.{Table}
-use Rattle.rr_tables.specs.InWords.{with_commands}
 use Rattle.rr_tables.specs.Tables.{world_by}
 
 -- names
@@ -47,26 +44,6 @@ pub few_before : (world : World) (place : ℕ) (tables : List Table) → tables 
 few_before world place tables is low =
     let count = ap (λ (ts : List Table). length ts) is in
     omega (arith, count, length-map (take place world) table_in_words, length-take place world, low)
-
--- commands
-
-one_more : (table : Table) (commands : List Command) (c : Command) → with_command (with_commands table commands) (text c) ≡ with_commands table (commands ++ c ∷ [])
-one_more table commands c =
-    let kept = table.kept.commands in
-    let more : (kept ++ map text commands) ++ text c ∷ [] ≡ kept ++ map text (commands ++ c ∷ []) =
-    append_assoc kept (map text commands) (text c ∷ []) ∙ ap (λ (l : List (List ℕ)). kept ++ l) (sym (map-append text commands (c ∷ []))) in
-    λ i. record { name = table.name; kept = record { commands = more i; floor = table.kept.floor; stamp = table.kept.stamp } }
-
--- a table with the words of one command more
-pub next_command : (table old new : Table) (commands : List Command) (index : ℕ) (c : Command) → index < length commands → c ≡ get_or commands index c
-    → old ≡ with_commands table (take index commands) → new ≡ with_command old (text c) → new ≡ with_commands table (take (index + 1) commands)
-next_command table old new commands index c within is so_far added =
-    added ∙ ap (λ (t : Table). with_command t (text c)) so_far ∙ one_more table (take index commands) c
-    ∙ ap (with_commands table) (ap (λ (d : Command). take index commands ++ d ∷ []) is ∙ sym (take_more commands index c within))
-
--- with those of all
-pub all_commands : (table : Table) (commands : List Command) (index : ℕ) → length commands ≤ index → with_commands table (take index commands) ≡ with_commands table commands
-all_commands table commands index past = ap (with_commands table) (take_all index commands past)
 
 -- tables
 
@@ -99,12 +76,10 @@ pub ok_at : {E : Type 0} (r : Result TableTranscript E) (tables : List Table) (p
 ok_at (Ok written) tables place table at is = at ∙ ap (λ (t : Table). Some t) (sym is)
 ok_at (Err e) tables place table at is = tt
 
-All-from_map : {X Y : Type 0} (f : X → Y) (P : Y → Type 0) (xs : List X) → All P (map f xs) → All (λ x. P (f x)) xs
-All-from_map f P [] all = All-nil (λ x. P (f x))
-All-from_map f P (x ∷ xs) all =
-    All-cons (λ y. P (f y)) x xs (All-head P (f x) (map f xs) all) (All-from_map f P xs (All-tail P (f x) (map f xs) all))
-
--- the words of the command at a place are short where all are
-pub short_at : (commands : List Command) (index : ℕ) (c : Command) → index < length commands → c ≡ get_or commands index c → All IsShort (map text commands) → IsShort (text c)
-short_at commands index c within is short =
-    subst (λ (d : Command). IsShort (text d)) (sym is) (All-get_or (λ (d : Command). IsShort (text d)) commands index c within (All-from_map text IsShort commands short))
+-- a table that is written with its name, its stamp, its floor and its commands' words
+pub written_so : {E : Type 0} (r : Result TableTranscript E) (name : List ℕ) (kept : TableState) (stamp floor : ℕ) (words : List (List ℕ)) → stamp ≡ kept.stamp → floor ≡ kept.floor
+    → words ≡ map text kept.commands → IfOk r (λ written. table_of written ≡ table_with name stamp floor words) → IfOk r (λ written. table_of written ≡ table_in_words (name, kept))
+written_so {E} r name kept stamp floor words stamps floors spelled is =
+    let same : table_with name stamp floor words ≡ table_in_words (name, kept) =
+    λ i. record { name = name; kept = record { commands = spelled i; floor = floors i; stamp = stamps i } } in
+    let P : Table → Type 0 = λ t. IfOk r (λ written. table_of written ≡ t) in subst P same is

@@ -1,5 +1,5 @@
 -- Tables in a map, as the tables by name that they stand for.
-use Rattle.std.proofs.Common.{◌≡◌, ℕ, ◌+◌, zero, suc, Bool, true, false, cond, List, [], ◌∷◌, ◌++◌, length, Option, None, Some, option_map, refl, sym, ap, ◌∙◌, bytes_eq, if◌then◌else◌, IfOk, Result, Ok, Err, take, slice_get, arith}
+use Rattle.std.proofs.Common.{◌≡◌, ℕ, ◌+◌, zero, suc, Bool, true, false, cond, List, [], ◌∷◌, ◌++◌, length, Option, None, Some, option_map, refl, sym, ap, ◌∙◌, bytes_eq, if◌then◌else◌, IfOk, Result, Ok, Err, take, slice_get, unwrap_or, arith}
 use Rattle.std.specs.Map.{keys_of}
 use Rattle.std.proofs.lemmas.List.{take_more}
 use Rattle.std.proofs.lemmas.Option.{get_or_from_slice_get, slice_get-map, slice_get_within}
@@ -53,6 +53,20 @@ module _ {T : Type 0} (state : T → TableState) where
   world_set kit name entries t w c same found =
       set_by name entries t w _ same found
       ∙ ap (λ o. insert_entry bytes_eq (world_by state entries) name (state_after kit o c)) (sym (named_by name entries ∙ ap (option_map state) found))
+
+  same_step : (b : Bool) (e : List ℕ × T) (es : List (List ℕ × T)) (t w : T) (name : List ℕ) → state w ≡ state t
+      → cond b (Some e.1) (lookup (bytes_eq name) es) ≡ Some t
+      → (lookup (bytes_eq name) es ≡ Some t → world_by state (set_value (bytes_eq name) es w) ≡ world_by state es)
+      → world_by state (cond b ((e.0, w) ∷ es) (e ∷ set_value (bytes_eq name) es w)) ≡ (e.0, state e.1) ∷ world_by state es
+  same_step true e es t w name same found more =
+      ap (λ s. (e.0, s) ∷ world_by state es) (same ∙ sym (ap (λ (o : Option T). state (unwrap_or o e.1)) found))
+  same_step false e es t w name same found more = ap (λ l. (e.0, state e.1) ∷ l) (more found)
+
+  -- a table that keeps what it kept
+  pub world_same : (name : List ℕ) (entries : List (List ℕ × T)) (t w : T) → state w ≡ state t → lookup (bytes_eq name) entries ≡ Some t
+      → world_by state (set_value (bytes_eq name) entries w) ≡ world_by state entries
+  world_same name [] t w same found = absurd cc
+  world_same name (e ∷ es) t w same found = same_step (bytes_eq name e.0) e es t w name same found (world_same name es t w same)
 
   add_step : (b : Bool) (e : List ℕ × T) (es : List (List ℕ × T)) (w : T) (v : TableState) (name : List ℕ) → cond b (Some e.1) (lookup (bytes_eq name) es) ≡ None
       → (lookup (bytes_eq name) es ≡ None → world_by state (es ++ (name, w) ∷ []) ≡ insert_entry bytes_eq (world_by state es) name v)

@@ -2,5 +2,4 @@ pub mod Writable
 pub mod Tables
 pub mod Changing
 pub mod Taking
-pub mod InWords
 pub mod Records

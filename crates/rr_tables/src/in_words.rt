@@ -1,18 +1,14 @@
 //! The tables in words, for a checkpoint.
-ghost use Rattle.std.specs.Prelude.{◌≡◌, ◌+◌, ◌<◌, ◌≤◌, All, length, map, slice_get, IfOk, IfErr, OnOk, Some};
-ghost use Rattle.rr_code.specs.Command.{text};
-ghost use Rattle.rr_reading.specs.Dir.Kept.{IsShort};
+ghost use Rattle.std.specs.Prelude.{◌≡◌, ◌<◌, ◌≤◌, length, map, slice_get, IfOk, IfErr, Some};
 ghost use Rattle.rr_game.specs.History.Tables.{kept_in};
 ghost use Rattle.rr_tables.specs.Records.Words.{table_in_words};
 ghost use Rattle.rr_checkpoint.specs.Plan.Transcript.{commands_of, table_of};
-ghost use Rattle.rr_tables.specs.InWords.{with_commands};
 ghost use Rattle.rr_tables.specs.Tables.{world_of};
 ghost use Rattle.rr_tables.specs.Writable.{IsWritable};
-ghost use Rattle.rr_reading.specs.declared.dir.directory.TheConstants.{MOST_KEPT};
 
 use crate::Tables;
 use rr_checkpoint::plan::{TableTranscript, Transcript};
-use rr_game::history::{Spelled, Table};
+use rr_game::history::Table;
 use rr_log::TablesInWords;
 use rr_pages::Fault;
 use rr_words::Name;
@@ -40,7 +36,11 @@ impl Tables {
         ensures memory { IfErr result (λ fault. fault ≡ Fault.OutOfMemory) }
     {
         match self.map.get_index(place) {
-            Some((name, table)) => write_table(alloc, name, table),
+            Some((name, table)) => {
+                // its opening is one of its commands
+                let _turns = table.game().turns();
+                write_table(alloc, name, table)
+            }
             None => unreachable!(),
         }
     }
@@ -52,20 +52,6 @@ fn write_table(alloc: Global, name: &Name, table: &Table) -> Result<TableTranscr
     ensures table { IfOk result (λ written. table_of written ≡ table_in_words (name.now, kept_in table.now)) }
     ensures memory { IfErr result (λ fault. fault ≡ Fault.OutOfMemory) }
 {
-    let mut written = TableTranscript::new(alloc, name, table.stamp(), table.floor() as u32);
-    add_commands(&mut written, table.commands())?;
-    Ok(written)
-}
-
-// Adds the words of these commands.
-fn add_commands(written: &mut TableTranscript, commands: &[Spelled]) -> Result<(), Fault>
-    requires few { length (commands_of written.old) + length commands.now ≤ MOST_KEPT }
-    requires short { All IsShort (map text commands.now) }
-    ensures ok { OnOk result (table_of written.new ≡ with_commands (table_of written.old) commands.now) }
-    ensures memory { IfErr result (λ fault. fault ≡ Fault.OutOfMemory) }
-{
-    for command in commands {
-        written.add(command.as_bytes())?;
-    }
-    Ok(())
+    let words = table.commands().words();
+    TableTranscript::of(alloc, name, table.stamp(), table.floor() as u32, words)
 }

@@ -15,12 +15,12 @@ pub trait Journal {
     ghost use Rattle.rr_log.specs.declared.fault.Fault as file;
     ghost use Rattle.rr_tables.specs.Records.World.{World};
 
-    // What keeping a record does: the journal from before, the tables from before the request, the record's bytes, how it
-    // ended, and the journal behind it.
+    // What keeping a record does: the journal from before, the tables from before the request, the record's bytes, how
+    // it ended, and the journal behind it.
     ghost Keeps: { Self → World → List ℕ → Result (Unit {0}) file.Fault → Self → Type 0 };
 
-    /// Keeps the record of what is asked of a table. The tables are those from before the request. After `Ok` the record
-    /// is safe.
+    /// Keeps the record of what is asked of a table. The tables are those from before the request. After `Ok` the
+    /// record is safe.
     fn keep(
         &mut self,
         tables: &Tables,

@@ -1,4 +1,4 @@
-ghost use Rattle.std.specs.Prelude.{◌≡◌, ◌+◌, ◌*◌, ◌<◌, ◌≤◌, length, List, ℕ, IfSome, None, Some, [], ◌∷◌, ◌++◌, IfOk, IfErr, MatchResult, bytes_eq, slice_get, take};
+ghost use Rattle.std.specs.Prelude.{◌≡◌, ◌+◌, ◌*◌, ◌<◌, ◌≤◌, length, List, ℕ, IfSome, None, Some, [], ◌∷◌, ◌++◌, IfOk, IfErr, MatchResult, bytes_eq, slice_get};
 ghost use Rattle.std.specs.Option.{option_copied};
 ghost use Rattle.std.proofs.Props.{props};
 ghost use Rattle.indexmap.specs.IndexMap.{get, index_map_len, spare};
@@ -6,7 +6,6 @@ ghost use Rattle.rr_game.specs.History.Tables.{IsPlayed, kept_in};
 ghost use Rattle.rr_tables.specs.declared.records.fault.Fault.TheVariants as R;
 ghost use Rattle.rr_tables.specs.Writable.{IsWritable};
 ghost use Rattle.rr_reading.specs.declared.dir.directory.TheConstants.{MOST_TABLES};
-ghost use Rattle.rr_turns.specs.declared.limits.TheConstants.{LAST_STAMP};
 
 use crate::Fault;
 use indexmap::IndexMap;
@@ -16,20 +15,19 @@ use rr_reading::dir::MOST_TABLES;
 use rr_words::Name;
 use std::alloc::Global;
 
-/// The tables of a store, in the order of their opening: at most 64, each played by the rules of one kit.
+/// The tables of a store, in the order of their opening: at most 64, and the kit that they are played with.
 #[derive(Drop)]
 pub struct Tables {
     pub(crate) kit: Kit,
     pub(crate) map: IndexMap<Name, Box<Table>>,
     ghost room: { MOST_TABLES ≤ index_map_len map + spare map },
     ghost few: { index_map_len map ≤ MOST_TABLES },
-    ghost played: { (name : List ℕ) → IfSome (get bytes_eq map name) (λ table. IsPlayed kit table.value) } by { Prim.hlevel props },
     ghost writable: { (name : List ℕ) → IfSome (get bytes_eq map name) (λ table. IsWritable (kept_in table.value)) } by { Prim.hlevel props },
 }
 
 impl Tables {
-    ghost use Rattle.rr_tables.specs.Records.World.{names, present_stamp, requests_in, table_named};
-    ghost use Rattle.rr_tables.specs.Tables.{kept_in_box, world_of};
+    ghost use Rattle.rr_tables.specs.Records.World.{names, present_stamp, table_named};
+    ghost use Rattle.rr_tables.specs.Tables.{ArePlayed, kept_in_box, world_of};
 
     /// No table, with room for as many as there may be.
     ///
@@ -38,6 +36,7 @@ impl Tables {
     pub fn new(alloc: Global, kit: Kit) -> Result<Tables, Fault>
         ensures kit { IfOk result (λ tables. tables.kit ≡ kit) }
         ensures empty { IfOk result (λ tables. world_of tables ≡ []) }
+        ensures played { IfOk result ArePlayed }
         ensures memory { IfErr result (λ fault. fault ≡ Fault.Rules R.OutOfMemory) }
     {
         Ok(Tables {
@@ -79,7 +78,7 @@ impl Tables {
         ensures value { MatchResult result
             (λ table. table_named (world_of self.now) name.now ≡ Some (kept_in table.now))
             (λ fault. (fault ≡ Fault.Rules R.NoSuchTable) × (table_named (world_of self.now) name.now ≡ None)) }
-        ensures played { IfOk result (λ table. IsPlayed self.now.kit table.now) }
+        ensures played { IfOk result (λ table. ArePlayed self.now → IsPlayed self.now.kit table.now) }
     {
         match self.map.get(name) {
             Some(table) => Ok(&**table),
@@ -97,37 +96,14 @@ impl Tables {
         }
     }
 
-    /// How many requests all tables have accepted.
-    pub fn requests(&self) -> u64
-        ensures { result ≡ requests_in (world_of self.now) }
-    {
-        let mut requests = 0;
-        for place in 0..self.map.len() {
-            requests += self.stamp_at(place);
-        }
-        requests
-    }
-
-    // The stamp of the table at a place in the order of opening: it has accepted so many requests.
-    fn stamp_at(&self, place: usize) -> u64
-        requires { place < length self.now.map.entries }
-        ensures more { requests_in (take (place + 1) (world_of self.now)) ≡ requests_in (take place (world_of self.now)) + result }
-        ensures few { result ≤ LAST_STAMP }
-    {
-        match self.map.get_index(place) {
-            Some((_, table)) => stamp_of(table),
-            None => unreachable!(),
-        }
-    }
-
-    /// Puts a table that a file tells behind the others, under a name of its own. A checkpoint can write it: its floor is
-    /// below 2^32, and no command that it keeps has more than 65,535 bytes.
+    /// Puts a table that a file tells behind the others, under a name of its own. A checkpoint can write it: its floor
+    /// is below 2^32.
     pub fn put(&mut self, name: Name, table: Box<Table>)
         requires few { length (world_of self.old) < MOST_TABLES }
         requires own_name { table_named (world_of self.old) name ≡ None }
-        requires played { IsPlayed self.old.kit table.value }
         requires writable { IsWritable (kept_in table.value) }
         ensures last { world_of self.new ≡ world_of self.old ++ (name, kept_in_box table) ∷ [] }
+        ensures played { ArePlayed self.old → IsPlayed self.old.kit table.value → ArePlayed self.new }
         ensures kit { self.new.kit ≡ self.old.kit }
     {
         self.add(name, table);
@@ -137,19 +113,11 @@ impl Tables {
     pub(crate) fn add(&mut self, name: Name, table: Box<Table>)
         requires few { index_map_len self.old.map < MOST_TABLES }
         requires absent { get bytes_eq self.old.map name ≡ None }
-        requires played { IsPlayed self.old.kit table.value }
         requires writable { IsWritable (kept_in table.value) }
         ensures last { self.new.map.entries ≡ self.old.map.entries ++ (name, table) ∷ [] }
+        ensures played { ArePlayed self.old → IsPlayed self.old.kit table.value → ArePlayed self.new }
         ensures kit { self.new.kit ≡ self.old.kit }
     {
         self.map.insert(name, table).unwrap();
     }
-}
-
-// The stamp of a table: how many requests it has accepted.
-fn stamp_of(table: &Table) -> u64
-    ensures value { result ≡ (kept_in table.now).stamp }
-    ensures few { result ≤ LAST_STAMP }
-{
-    table.stamp()
 }

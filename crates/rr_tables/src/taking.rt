@@ -1,18 +1,16 @@
 //! Requests: judged, their records kept, and then taken.
-ghost use Rattle.std.specs.Prelude.{◌≡◌, ◌<◌, ℕ, false, All, List, IsTrue, IfOk, IfErr, OnOk, OnErr, MatchOption, MatchResult, None, Some, bytes_eq, map, option_map, option_to_list};
+ghost use Rattle.std.specs.Prelude.{◌≡◌, ◌<◌, ℕ, List, IfOk, IfErr, OnOk, OnErr, MatchOption, MatchResult, None, Some, bytes_eq, option_map};
 ghost use Rattle.indexmap.specs.IndexMap.{get, index_map_len};
-ghost use Rattle.rr_code.specs.Command.{text};
 ghost use Rattle.rr_code.specs.Request.{IsRequest, record_text};
 ghost use Rattle.rr_code.specs.declared.command.Command.{Command as Line};
-ghost use Rattle.rr_reading.specs.Dir.Kept.{IsShort};
 ghost use Rattle.rr_game.specs.History.Changing.{Fits, IsChangeBy, kept_with};
 ghost use Rattle.rr_game.specs.History.Playing.{ends_turn};
-ghost use Rattle.rr_game.specs.History.Tables.{IsPlayed, kept_in};
+ghost use Rattle.rr_game.specs.History.Tables.{HasRoomFor, IsPlayed, kept_in};
 ghost use Rattle.rr_kit.specs.declared.kit.Kit.{Kit as AnyKit};
 ghost use Rattle.rr_tables.specs.Records.World.{judgement_in, opening_verdict, state_after, step_judgement, table_named, world_after};
 ghost use Rattle.rr_tables.specs.declared.records.fault.Fault.TheVariants as R;
-ghost use Rattle.rr_tables.specs.Changing.{IsChangeOf, IsWritableChange};
-ghost use Rattle.rr_tables.specs.Tables.{kept_in_box, world_of};
+ghost use Rattle.rr_tables.specs.Changing.{HasRoomIn, IsChangeOf, IsWritableChange};
+ghost use Rattle.rr_tables.specs.Tables.{AreSame, ArePlayed, kept_in_box, world_of};
 ghost use Rattle.rr_tables.specs.Taking.{MayRefuse, Passed};
 ghost use Rattle.rr_tables.specs.Writable.{IsWritable};
 ghost use Rattle.rr_turns.specs.Judgement.{IsVerdict, MayFind, settled};
@@ -27,18 +25,15 @@ use rr_reading::dir::MOST_TABLES;
 use rr_words::Name;
 use std::alloc::Global;
 
-/// The most bytes of a command's words: a chain holds their number in two bytes.
-const LONGEST_COMMAND: usize = 65_535;
-
 impl Tables {
-    /// Judges a request, has its record kept, and lets it count; gives the table's new stamp. All memory is taken before
-    /// the record is to be kept. A refusal leaves the tables as they were.
+    /// Judges a request, has its record kept, and lets it count; gives the table's new stamp. All memory is taken
+    /// before the record is to be kept. A refusal leaves the tables as they were.
     ///
     /// # Errors
-    /// As faults of the rules, of which the journal learns nothing: for an opening `StaleStamp` and `TooManyTables`; for
-    /// another request `NoSuchTable`, `StaleStamp`, `TooManyCommands`, and then `TurnNotKept` for one that takes the table
-    /// back or forgets, or what the game refuses; then `OutOfMemory`, also for a command of more than 65,535 bytes, which no
-    /// checkpoint could write. As a fault of the file what the journal refuses.
+    /// As faults of the rules, of which the journal learns nothing: for an opening `StaleStamp` and `TooManyTables`;
+    /// for another request `NoSuchTable`, `StaleStamp`, `TooManyCommands`, and then `TurnNotKept` for one that takes
+    /// the table back or forgets, or what the game refuses; then `OutOfMemory`, also for a command of more than 65,535
+    /// bytes, which no table could keep. As a fault of the file what the journal refuses.
     pub fn take<J: Journal>(
         &mut self,
         alloc: Global,
@@ -48,12 +43,14 @@ impl Tables {
         journal: &mut J,
     ) -> Result<u64, Fault>
         requires { IsRequest request.now }
-        ensures verdict { MatchResult result
+        ensures verdict { ArePlayed self.old → MatchResult result
             (λ _. IsVerdict (judgement_in self.old.kit (world_of self.old) stamp name.now request.now) None)
             (MayRefuse (judgement_in self.old.kit (world_of self.old) stamp name.now request.now)) }
         ensures kept { Passed J.Keeps journal.old (world_of self.old) (record_text name.now request.now) journal.new result }
-        ensures world { OnOk result (world_of self.new ≡ world_after self.old.kit (world_of self.old) name.now request.now) }
+        ensures world { OnOk result (ArePlayed self.old
+            → world_of self.new ≡ world_after self.old.kit (world_of self.old) name.now request.now) }
         ensures stamp { IfOk result (λ new. new ≡ (state_after self.old.kit (table_named (world_of self.old) name.now) request.now).stamp) }
+        ensures played { ArePlayed self.old → ArePlayed self.new }
         ensures kit { self.new.kit ≡ self.old.kit }
         ensures err { OnErr result (world_of self.new ≡ world_of self.old) }
     {
@@ -79,6 +76,7 @@ impl Tables {
         ensures kept { Passed J.Keeps journal.old (world_of self.old) (record_text name.now (Request.Play (Command.Open players.now))) journal.new result }
         ensures world { OnOk result (world_of self.new ≡ world_after self.old.kit (world_of self.old) name.now (Request.Play (Command.Open players.now))) }
         ensures stamp { IfOk result (λ new. (new ≡ 1) × (get bytes_eq self.old.map name.now ≡ None)) }
+        ensures played { ArePlayed self.old → ArePlayed self.new }
         ensures kit { self.new.kit ≡ self.old.kit }
         ensures err { OnErr result (world_of self.new ≡ world_of self.old) }
     {
@@ -119,18 +117,56 @@ impl Tables {
         journal: &mut J,
     ) -> Result<u64, Fault>
         requires { IsRequest request.now }
-        ensures verdict { MatchResult result
+        ensures verdict { ArePlayed self.old → MatchResult result
             (λ _. IsVerdict (step_judgement self.old.kit (option_map kept_in_box (get bytes_eq self.old.map name.now)) stamp request.now) None)
             (MayRefuse (step_judgement self.old.kit (option_map kept_in_box (get bytes_eq self.old.map name.now)) stamp request.now)) }
         ensures kept { Passed J.Keeps journal.old (world_of self.old) (record_text name.now request.now) journal.new result }
-        ensures world { OnOk result (world_of self.new ≡ world_after self.old.kit (world_of self.old) name.now request.now) }
+        ensures world { OnOk result (ArePlayed self.old
+            → world_of self.new ≡ world_after self.old.kit (world_of self.old) name.now request.now) }
         ensures stamp { IfOk result (λ new. new ≡ (state_after self.old.kit (option_map kept_in_box (get bytes_eq self.old.map name.now)) request.now).stamp) }
+        ensures played { ArePlayed self.old → ArePlayed self.new }
         ensures kit { self.new.kit ≡ self.old.kit }
         ensures err { OnErr result (world_of self.new ≡ world_of self.old) }
     {
-        let change = self.judge(alloc, stamp, name, request)?;
+        let change = self.prepare(alloc, stamp, name, request)?;
         journal.keep(self, name, request)?;
         Ok(self.change(name, change))
+    }
+
+    // Judges a request to a table that is open, works out what it makes of it, and takes room for that.
+    fn prepare(
+        &mut self,
+        alloc: Global,
+        stamp: u64,
+        name: &Name,
+        request: &Request<Command>,
+    ) -> Result<Change, records::Fault>
+        requires { IsRequest request.now }
+        ensures verdict { ArePlayed self.old → MatchResult result
+            (λ _. IsVerdict (step_judgement self.old.kit (option_map kept_in_box (get bytes_eq self.old.map name.now)) stamp request.now) None)
+            (MayFind (step_judgement self.old.kit (option_map kept_in_box (get bytes_eq self.old.map name.now)) stamp request.now) R.OutOfMemory) }
+        ensures change { IfOk result (λ change. IsChangeOf self.new.kit (get bytes_eq self.new.map name.now) request.now change) }
+        ensures room { IfOk result (HasRoomIn (get bytes_eq self.new.map name.now)) }
+        ensures same { AreSame name.now self.old self.new }
+    {
+        let change = self.judge(alloc, stamp, name, request)?;
+        self.reserve(name, &change)?;
+        Ok(change)
+    }
+
+    // Takes room for what a change adds in the table of this name.
+    fn reserve(&mut self, name: &Name, change: &Change) -> Result<(), records::Fault>
+        requires { (request : AnyRequest Line) × IsChangeOf self.old.kit (get bytes_eq self.old.map name.now) request change.now }
+        ensures room { OnOk result (HasRoomIn (get bytes_eq self.new.map name.now) change.now) }
+        ensures change { (request : AnyRequest Line) → IsChangeOf self.old.kit (get bytes_eq self.old.map name.now) request change.now →
+            IsChangeOf self.new.kit (get bytes_eq self.new.map name.now) request change.now }
+        ensures same { AreSame name.now self.old self.new }
+        ensures memory { IfErr result (λ fault. fault ≡ R.OutOfMemory) }
+    {
+        match self.map.get_mut(name) {
+            Some(table) => make_room(table, change),
+            None => unreachable!(),
+        }
     }
 
     // Judges a request to a table that is open, and works out what it makes of it.
@@ -142,7 +178,7 @@ impl Tables {
         request: &Request<Command>,
     ) -> Result<Change, records::Fault>
         requires { IsRequest request.now }
-        ensures verdict { MatchResult result
+        ensures verdict { ArePlayed self.now → MatchResult result
             (λ _. IsVerdict (step_judgement self.now.kit (option_map kept_in_box (get bytes_eq self.now.map name.now)) stamp request.now) None)
             (MayFind (step_judgement self.now.kit (option_map kept_in_box (get bytes_eq self.now.map name.now)) stamp request.now) R.OutOfMemory) }
         ensures change { IfOk result (λ change. IsChangeOf self.now.kit (get bytes_eq self.now.map name.now) request.now change) }
@@ -153,13 +189,17 @@ impl Tables {
         }
     }
 
-    // Makes a change of the table of this name, that was worked out for it as it is; gives its new stamp.
+    // Makes a change of the table of this name, that was worked out for it as it is, and for which there is room; gives
+    // its new stamp.
     fn change(&mut self, name: &Name, change: Change) -> u64
-        requires { (request : AnyRequest Line) × IsChangeOf self.old.kit (get bytes_eq self.old.map name.now) request change }
+        requires by { (request : AnyRequest Line) × IsChangeOf self.old.kit (get bytes_eq self.old.map name.now) request change }
+        requires room { HasRoomIn (get bytes_eq self.old.map name.now) change }
         ensures world { (request : AnyRequest Line) → IsChangeOf self.old.kit (get bytes_eq self.old.map name.now) request change →
-            world_of self.new ≡ world_after self.old.kit (world_of self.old) name.now request }
+            ArePlayed self.old → world_of self.new ≡ world_after self.old.kit (world_of self.old) name.now request }
         ensures stamp { (request : AnyRequest Line) → IsChangeOf self.old.kit (get bytes_eq self.old.map name.now) request change →
             result ≡ (state_after self.old.kit (option_map kept_in_box (get bytes_eq self.old.map name.now)) request).stamp }
+        ensures played { (request : AnyRequest Line) → IsChangeOf self.old.kit (get bytes_eq self.old.map name.now) request change →
+            ArePlayed self.old → ArePlayed self.new }
         ensures kit { self.new.kit ≡ self.old.kit }
     {
         match self.map.get_mut(name) {
@@ -198,8 +238,7 @@ fn open_table(alloc: Global, players: &Players, kit: &Kit) -> Result<Box<Table>,
     }
 }
 
-// Judges a request to this table, and works out what it makes of it. A command that no chain has room for is told as want
-// of memory.
+// Judges a request to this table, and works out what it makes of it.
 fn judge_at(
     alloc: Global,
     stamp: u64,
@@ -208,38 +247,35 @@ fn judge_at(
     kit: &Kit,
 ) -> Result<Change, records::Fault>
     requires request { IsRequest request.now }
-    requires played { IsPlayed kit.now table.now }
     requires writable { IsWritable (kept_in table.now) }
-    ensures verdict { MatchResult result
+    ensures verdict { IsPlayed kit.now table.now → MatchResult result
         (λ _. IsVerdict (step_judgement kit.now (Some (kept_in table.now)) stamp request.now) None)
         (MayFind (step_judgement kit.now (Some (kept_in table.now)) stamp request.now) R.OutOfMemory) }
     ensures change { IfOk result (λ change. IsWritableChange kit.now table.now request.now change) }
 {
-    rr_game::history::laws::accepted_turns_are_kept();
     let change = table.judge(alloc, stamp, request, kit)?;
-    if adds_long_command(&change) {
-        return Err(records::Fault::OutOfMemory);
-    }
     Ok(change)
 }
 
-// Whether the command that a change adds is too long for a chain.
-fn adds_long_command(change: &Change) -> bool
-    ensures short { result ≡ false → All IsShort (map text (option_to_list change.now.added)) }
-    ensures long { IsTrue result → All IsShort (map text (option_to_list change.now.added)) → ⊥ }
+// Takes room in a table for what a change adds.
+fn make_room(table: &mut Box<Table>, change: &Change) -> Result<(), records::Fault>
+    ensures room { OnOk result (HasRoomFor table.new.value change.now) }
+    ensures kept { kept_in_box table.new ≡ kept_in_box table.old }
+    ensures game { table.new.value.game ≡ table.old.value.game }
+    ensures memory { IfErr result (λ fault. fault ≡ R.OutOfMemory) }
 {
-    match change.added() {
-        Some(command) => command.as_bytes().len() > LONGEST_COMMAND,
-        None => false,
-    }
+    table.reserve(change)?;
+    Ok(())
 }
 
 // Makes a change of a table; gives its new stamp.
 fn make(table: &mut Box<Table>, change: Change) -> u64
-    requires { Fits (kept_in_box table.old) change }
+    requires fits { Fits (kept_in_box table.old) change }
+    requires room { HasRoomFor table.old.value change }
     ensures kept { (kit : AnyKit) (request : AnyRequest Line) → IsChangeBy kit (kept_in_box table.old) request change →
         kept_in_box table.new ≡ kept_after (ends_turn kit) (kept_in_box table.old) request }
-    ensures played { (kit : AnyKit) (request : AnyRequest Line) → IsChangeBy kit (kept_in_box table.old) request change → IsPlayed kit table.new.value }
+    ensures played { (kit : AnyKit) (request : AnyRequest Line) → IsPlayed kit table.old.value →
+        IsChangeBy kit (kept_in_box table.old) request change → IsPlayed kit table.new.value }
     ensures with { kept_in_box table.new ≡ kept_with (kept_in_box table.old) change }
     ensures stamp { result ≡ (kept_in_box table.new).stamp }
 {

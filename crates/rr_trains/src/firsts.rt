@@ -24,8 +24,8 @@ pub fn give_lowest_train(desk: &mut Desk, kind: Kind, from: Place, to: Place) ->
 }
 
 /// What a corporation's new train of the kind brings about, once it is bought. With the first 4 that leaves the bank
-/// all 2s leave the game, with the first 6 all 3s, with the first D all 4s, and with the first 5 all privates close; the
-/// B&O's private closes with the B&O's first train. What has left the game gets no second entry.
+/// all 2s leave the game, with the first 6 all 3s, with the first D all 4s, and with the first 5 all privates close;
+/// the B&O's private closes with the B&O's first train. What has left the game gets no second entry.
 ///
 /// `is_first` says that no train of the kind had left the bank before, and that this one came from there.
 ///

@@ -1,9 +1,14 @@
 -- How the counts at the ends of turns grow, and that they tell the commands of the first turns.
-use Rattle.std.specs.Prelude.{◌≡◌, ℕ, zero, suc, ◌+◌, ◌-◌, ◌≤◌, Bool, true, false, List, [], ◌∷◌, ◌++◌, length, take, get_or, if◌then◌else◌, refl}
-use Rattle.std.proofs.Common.{sym, ◌∙◌, ap, subst, append_assoc, append-nil, arith, length-append}
+use Rattle.std.specs.Prelude.{◌≡◌, ℕ, zero, suc, ◌+◌, ◌-◌, ◌<◌, ◌≤◌, Bool, true, false, List, [], ◌∷◌, ◌++◌, length, take, get_or, if◌then◌else◌, refl}
+use Rattle.std.proofs.Common.{sym, ◌∙◌, ap, subst, append_assoc, append-nil, arith, length-append, inl, inr}
 use Rattle.std.proofs.Math.Seq.{take-nil}
-use Rattle.rr_turns.specs.Turns.{turns_in, next_turns}
-use Rattle.rr_turns.specs.Ends.{ends_in, turn_ends, kept_at, BackKeepsItsCount, BackKeepsItsEnds, EachTurnHasItsEnd, EndsGrowAtTheEnd}
+use Rattle.rr_turns.specs.Turns.{ended_turns, first_turns, turns_in, next_turns}
+use Rattle.std.specs.Prelude.{Option, None, Some, MatchOption, slice_get}
+use Rattle.std.specs.List.{All}
+use Rattle.std.proofs.lemmas.Bool.{cases_lt}
+use Rattle.std.proofs.lemmas.List.Elements.{All-append, All-cons, All-nil, All-weaker}
+use Rattle.std.proofs.lemmas.Option.{get_or_from_slice_get, slice_get-get_or, slice_get_within}
+use Rattle.rr_turns.specs.Ends.{ends_in, turn_ends, kept_at, BackKeepsItsCount, BackKeepsItsEnds, EachTurnHasItsEnd, EndsAreWithinTheCommands, EndsGrowAtTheEnd, TellsOneEndMore, TellsTheCountOfABack, TellsTheEndedTurns, TellsTheEndsOfABack}
 
 one_more : {C : Type 0} (before : List C) (c : C) → length (before ++ c ∷ []) ≡ length before + 1
 one_more before c = length-append before (c ∷ [])
@@ -114,3 +119,57 @@ back_keeps_its_ends C ends [] k = sym (take-nil (k + 1))
 back_keeps_its_ends C ends (opening ∷ cs) k =
     ap (λ (xs : List ℕ). 1 ∷ xs) (ends_in-next_turns ends (opening ∷ []) cs k)
     ∙ ap (λ (n : ℕ). take n (turn_ends ends (opening ∷ cs))) (let e : suc k ≡ k + 1 = omega arith in e)
+
+-- no end keeps more than there are
+one_within : (b : Bool) (n most : ℕ) → n ≤ most → All (λ (count : ℕ). count ≤ most) (if b then n ∷ [] else [])
+one_within true n most h = All-cons (λ (count : ℕ). count ≤ most) n [] h (All-nil (λ (count : ℕ). count ≤ most))
+one_within false n most h = All-nil (λ (count : ℕ). count ≤ most)
+
+ends_in-within : {C : Type 0} (ends : List C → C → Bool) (before cs : List C) → All (λ (count : ℕ). count ≤ length before + length cs) (ends_in ends before cs)
+ends_in-within ends before [] = All-nil (λ (count : ℕ). count ≤ length before + 0)
+ends_in-within ends before (c ∷ cs) =
+    let most : ℕ = length before + length (c ∷ cs) in
+    All-append (λ (count : ℕ). count ≤ most) (if ends before c then (length before + 1) ∷ [] else []) (ends_in ends (before ++ c ∷ []) cs)
+    (one_within (ends before c) (length before + 1) most (omega arith))
+    (All-weaker (λ (count : ℕ). count ≤ length (before ++ c ∷ []) + length cs) (λ (count : ℕ). count ≤ most) (λ count h. omega (arith, h, one_more before c))
+    (ends_in ends (before ++ c ∷ []) cs) (ends_in-within ends (before ++ c ∷ []) cs))
+
+pub ends_within : (C : Type 0) → EndsAreWithinTheCommands C
+ends_within C ends [] = All-nil (λ (count : ℕ). count ≤ 0)
+ends_within C ends (opening ∷ cs) =
+    All-cons (λ (count : ℕ). count ≤ length (opening ∷ cs)) 1 (ends_in ends (opening ∷ []) cs) (omega arith)
+    (All-weaker (λ (count : ℕ). count ≤ length (opening ∷ []) + length cs) (λ (count : ℕ). count ≤ length (opening ∷ cs)) (λ count h. omega (arith, h))
+    (ends_in ends (opening ∷ []) cs) (ends_in-within ends (opening ∷ []) cs))
+
+-- what counts tell of a table
+pub tells_one_more : (C : Type 0) (old : List ℕ) (count : ℕ) (new : List ℕ) → new ≡ old ++ count ∷ [] → TellsOneEndMore C old count new
+tells_one_more C old count new h ends opening others last is so_many ended =
+    h ∙ ap (λ (xs : List ℕ). xs ++ count ∷ []) is
+    ∙ ap (λ (n : ℕ). turn_ends ends (opening ∷ others) ++ n ∷ []) so_many
+    ∙ ap (λ (b : Bool). turn_ends ends (opening ∷ others) ++ (if b then (length (opening ∷ others) + 1) ∷ [] else [])) (sym ended)
+    ∙ sym (ends_grow C ends opening others last)
+
+pub tells_back : (C : Type 0) (old : List ℕ) (k : ℕ) (new : List ℕ) → new ≡ take (k + 1) old → TellsTheEndsOfABack C old k new
+tells_back C old k new h ends commands is = h ∙ ap (take (k + 1)) is ∙ sym (back_keeps_its_ends C ends commands k)
+
+pub tells_turns : (C : Type 0) (counts : List ℕ) (turns : ℕ) → turns + 1 ≡ length counts → TellsTheEndedTurns C counts turns
+tells_turns C counts turns h ends opening others is = omega (arith, h, ap length is, each_turn_has_its_end C ends opening others)
+
+count_at : (counts : List ℕ) (k : ℕ) (r : Option ℕ) → slice_get counts k ≡ r
+    → MatchOption r (length counts ≤ k) (λ count. (k < length counts) × (kept_at counts k ≡ count))
+count_at counts k None e = elim (cases_lt k (length counts)) [
+  | inl within ↦ let found = slice_get-get_or counts k 0 within in absurd cc
+  | inr past ↦ past
+]
+count_at counts k (Some count) e = (slice_get_within counts k count e, get_or_from_slice_get counts k count 0 e)
+
+told_by : {C : Type 0} (ends : List C → C → Bool) (opening : C) (others : List C) (counts : List ℕ) (k : ℕ) (r : Option ℕ) → counts ≡ turn_ends ends (opening ∷ others)
+    → MatchOption r (length counts ≤ k) (λ count. (k < length counts) × (kept_at counts k ≡ count))
+    → MatchOption r (ended_turns ends (opening ∷ others) < k) (λ count. (k ≤ ended_turns ends (opening ∷ others)) × (first_turns ends k (opening ∷ others) ≡ take count (opening ∷ others)))
+told_by {C = C} ends opening others counts k None is h = omega (arith, h, ap length is, each_turn_has_its_end C ends opening others)
+told_by {C = C} ends opening others counts k (Some count) is h =
+    let ended : k ≤ ended_turns ends (opening ∷ others) = omega (arith, h.0, ap length is, each_turn_has_its_end C ends opening others) in
+    (ended, back_keeps_its_count C ends (opening ∷ others) k ended ∙ ap (λ (n : ℕ). take n (opening ∷ others)) (ap (λ (xs : List ℕ). kept_at xs k) (sym is) ∙ h.1))
+
+pub tells_count : (C : Type 0) (counts : List ℕ) (k : ℕ) (r : Option ℕ) → r ≡ slice_get counts k → TellsTheCountOfABack C counts k r
+tells_count C counts k r h ends opening others is = told_by ends opening others counts k r is (count_at counts k r (sym h))

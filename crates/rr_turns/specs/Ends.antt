@@ -1,5 +1,6 @@
 -- How many commands are kept at the end of each turn.
-use Rattle.std.specs.Prelude.{◌≡◌, ℕ, ◌+◌, ◌≤◌, Bool, List, [], ◌∷◌, ◌++◌, length, slice_index, take, if◌then◌else◌}
+use Rattle.std.specs.Prelude.{◌≡◌, ℕ, ◌+◌, ◌≤◌, Bool, List, [], ◌∷◌, ◌++◌, Option, MatchOption, length, slice_index, take, true, ◌<◌, if◌then◌else◌}
+use Rattle.std.specs.List.{All}
 use Rattle.rr_turns.specs.Turns.{ended_turns, first_turns}
 
 -- of these commands, how many are kept, with those before them, at the end of each turn that they end
@@ -41,3 +42,32 @@ abbrev pub BackKeepsItsEnds : Type 0 → Type 0
 BackKeepsItsEnds C =
     (ends : List C → C → Bool) (commands : List C) (k : ℕ)
     → turn_ends ends (first_turns ends k commands) ≡ take (k + 1) (turn_ends ends commands)
+
+-- no end keeps more commands than there are
+abbrev pub EndsAreWithinTheCommands : Type 0 → Type 0
+EndsAreWithinTheCommands C = (ends : List C → C → Bool) (commands : List C) → All (λ count. count ≤ length commands) (turn_ends ends commands)
+
+-- where the old counts are a table's and its next command ends a turn, the new ones are those of the table with it
+abbrev pub TellsOneEndMore : Type 0 → List ℕ → ℕ → List ℕ → Type 0
+TellsOneEndMore C old count new =
+    (ends : List C → C → Bool) (opening : C) (others : List C) (last : C)
+    → old ≡ turn_ends ends (opening ∷ others) → count ≡ length (opening ∷ others) + 1 → ends (opening ∷ others) last ≡ true
+    → new ≡ turn_ends ends (opening ∷ others ++ last ∷ [])
+
+-- where the old counts are a table's, the new ones are those of the table taken back to a turn
+abbrev pub TellsTheEndsOfABack : Type 0 → List ℕ → ℕ → List ℕ → Type 0
+TellsTheEndsOfABack C old k new =
+    (ends : List C → C → Bool) (commands : List C) → old ≡ turn_ends ends commands → new ≡ turn_ends ends (first_turns ends k commands)
+
+-- where the counts are a table's, one is given for each turn that has ended, and a take-back keeps so many commands
+abbrev pub TellsTheCountOfABack : Type 0 → List ℕ → ℕ → Option ℕ → Type 0
+TellsTheCountOfABack C counts k result =
+    (ends : List C → C → Bool) (opening : C) (others : List C) → counts ≡ turn_ends ends (opening ∷ others)
+    → let turns = ended_turns ends (opening ∷ others) in
+    MatchOption result (turns < k) (λ count. (k ≤ turns) × (first_turns ends k (opening ∷ others) ≡ take count (opening ∷ others)))
+
+-- where the counts are a table's, so many of its turns have ended
+abbrev pub TellsTheEndedTurns : Type 0 → List ℕ → ℕ → Type 0
+TellsTheEndedTurns C counts turns =
+    (ends : List C → C → Bool) (opening : C) (others : List C) → counts ≡ turn_ends ends (opening ∷ others)
+    → turns ≡ ended_turns ends (opening ∷ others)

@@ -1,6 +1,11 @@
-//! What always holds of tables that are taken back. The calls do nothing: their contracts hold of all tables.
-ghost use Rattle.rr_turns.specs.Ends.{BackKeepsItsCount, BackKeepsItsEnds, EachTurnHasItsEnd, EndsGrowAtTheEnd};
+//! What always holds of tables that are taken back, and of the counts at the ends of their turns. The calls do no more
+//! than those of `Ends`, most do nothing: their contracts hold of all tables.
+ghost use Rattle.std.specs.Prelude.{◌≡◌, ◌<◌, ◌≤◌, All};
+ghost use Rattle.rr_turns.specs.Ends.{BackKeepsItsCount, BackKeepsItsEnds, EachTurnHasItsEnd, EndsAreWithinTheCommands, EndsGrowAtTheEnd, TellsOneEndMore, TellsTheCountOfABack, TellsTheEndedTurns, TellsTheEndsOfABack};
 ghost use Rattle.rr_turns.specs.Laws.{BackEndsWithItsTurn, BackToThePresentTurn, EndedTurnsStay, FloorsNeverFall, OneFrontEndsWithATurn, StampsNeverFall};
+
+use crate::ends::Ends;
+use crate::limits::{LONGEST_COMMAND, MOST_COMMANDS};
 
 /// Each accepted request raises the stamp by one, a take-back too.
 pub fn stamps_never_fall<C>()
@@ -50,4 +55,45 @@ pub fn each_turn_has_its_end<C>()
 /// A table that is taken back to a turn keeps the counts of the turns up to that one.
 pub fn back_keeps_its_ends<C>()
     ensures { BackKeepsItsEnds C }
+{}
+
+/// No turn's end keeps more commands than the table does.
+pub fn ends_are_within_the_commands<C>()
+    ensures { EndsAreWithinTheCommands C }
+{}
+
+/// Where the counts are a table's and its next command ends a turn, `Ends::add` gives those of the table with it.
+pub fn one_end_more<C>(ends: &mut Ends, count: usize)
+    requires later { All (λ earlier. earlier < count) ends.old }
+    requires most { count ≤ MOST_COMMANDS }
+    ensures { TellsOneEndMore C ends.old count ends.new }
+{
+    ends.add(count);
+}
+
+/// Where the counts are a table's, `Ends::through` gives those of the table taken back.
+pub fn ends_of_a_back<C>(ends: &Ends, turn: usize) -> Ends
+    ensures { TellsTheEndsOfABack C ends.now turn result }
+{
+    ends.through(turn)
+}
+
+/// Where the counts are a table's, `Ends::kept_at` tells how many commands a take-back keeps.
+pub fn count_of_a_back<C>(ends: &Ends, turn: usize) -> Option<usize>
+    ensures { TellsTheCountOfABack C ends.now turn result }
+{
+    ends.kept_at(turn)
+}
+
+/// Where the counts are a table's, `Ends::turns` tells how many of its turns have ended.
+pub fn ended_turns<C>(ends: &Ends) -> usize
+    ensures { TellsTheEndedTurns C ends.now result }
+{
+    ends.turns()
+}
+
+/// The limits in numbers.
+pub fn limits()
+    ensures commands { MOST_COMMANDS ≡ 4096 }
+    ensures words { LONGEST_COMMAND ≡ 65535 }
 {}

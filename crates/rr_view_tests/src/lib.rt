@@ -1,6 +1,6 @@
 //! Tests of the views that follow the entries of a table's book: the auction, the stock chart, the stock rounds, the
-//! board, and the position of them all. Their helpers have no contracts: what the calls promise is proved where they are
-//! defined, and a test compares values as it runs.
+//! board, and the position of them all. Their helpers have no contracts: what the calls promise is proved where they
+//! are defined, and a test compares values as it runs.
 #![tactic(auto)]
 
 #[cfg(test)]

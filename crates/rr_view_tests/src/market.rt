@@ -267,7 +267,9 @@ fn follows_the_marks_of_a_book(rt: HostRuntime) {
             cell: at(2, 7),
         },
     ];
-    market.follow_all(&entries);
+    for entry in &entries {
+        market.follow(entry);
+    }
     check(
         &rt,
         "standing",

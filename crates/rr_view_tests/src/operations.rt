@@ -116,10 +116,8 @@ fn opened(rt: &(impl Abort + AllocGlobal)) -> Table {
 
 fn floated() -> Rounds {
     let mut rounds = Rounds::open(2);
-    rounds.follow_all(&[
-        Entry::Step(Marker::Float(PRR)),
-        Entry::Step(Marker::Float(NYC)),
-    ]);
+    rounds.follow(&Entry::Step(Marker::Float(PRR)));
+    rounds.follow(&Entry::Step(Marker::Float(NYC)));
     rounds
 }
 

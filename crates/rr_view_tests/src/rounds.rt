@@ -80,13 +80,23 @@ fn after(rt: &(impl Abort + AllocGlobal), events: &[Event]) -> Rounds {
     for event in events {
         entries.push(entry(*event)).expect(rt, "memory");
     }
-    followed(&entries)
+    followed(rt, &entries)
 }
 
-fn followed(entries: &[Entry]) -> Rounds {
+fn followed(rt: &impl Abort, entries: &[Entry]) -> Rounds {
     let mut rounds = Rounds::open(3);
-    rounds.follow_all(entries);
+    for entry in entries {
+        follow(rt, &mut rounds, entry);
+    }
     rounds
+}
+
+/// Follows one entry more, at a table of few turns and rounds.
+fn follow(rt: &impl Abort, rounds: &mut Rounds, entry: &Entry) {
+    let parts = rounds.parts();
+    assert!(rt; parts.turns < 1000);
+    assert!(rt; parts.begun < 1000);
+    rounds.follow(entry);
 }
 
 /// Whether a round is under way, and whether it is the first.
@@ -106,7 +116,7 @@ fn counts(rounds: &Rounds) -> (u64, u64) {
 
 /// Whether the seat in turn has traded, and whether its `done` ends the round.
 fn trading(rounds: &Rounds) -> (bool, bool) {
-    (rounds.has_traded(), rounds.ends_with_done())
+    (rounds.parts().traded, rounds.ends_with_done())
 }
 
 fn allows(rounds: &Rounds, corp: Corp, source: ShareSource, in_brown: bool) -> bool {

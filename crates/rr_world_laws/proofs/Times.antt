@@ -83,13 +83,21 @@ module _ {D : Type 0} (Honest Works : D → Type 0) (state : D → DiskState) (p
       subst (λ (b : Bool). Follows (kit s) (tables s) (accepted_of b one.1.pending) (tables t)) (sym tells) held.1,
     )
 
+    -- what is held behind the commit of a line: where the device failed before, what was held
+    held_by : (broken : Bool) → (held_of s.0).broken ≡ broken → (asked : TableRequest) (stamp : ℕ) (result : Result ℕ Fault)
+        → Commits Honest Works state past faults writes syncs s.0 asked.name stamp asked.request t.0 result → HeldBehind (held_of s.0) asked (held_of t.0) result
+    held_by false whole asked stamp result commits = held_behind (held_of s.0) stamp asked (held_of t.0) result (commits.takes (carried whole).played)
+    held_by true was asked stamp result commits =
+        let same = (still Honest Works state past faults writes syncs texts s t line one h was).same_held in
+        subst (HeldBehind (held_of s.0) asked (held_of t.0)) (sym (commits.again.1 was)) (ap (λ (x : Held). x.kit) same, ap (λ (x : Held). x.tables) same)
+
     led_by : CommitsOnce Honest Works state past faults writes syncs s.0 line one.1.pending t.0 t.1 → Led s (accepted_of (tells_acceptance (told t)) one.1.pending) t
     led_by (Makes_none same calm) = (
       ap (λ (x : Store D). (held_of x).kit) same,
       subst (λ (b : Bool). Follows (kit s) (tables s) (accepted_of b one.1.pending) (tables t)) (sym calm) (ap (λ (x : Store D). (held_of x).tables) same),
     )
     led_by (Makes_one asked stamp sheet result asks commits tells) =
-        led_by_commit asked stamp result commits tells (held_behind (held_of s.0) stamp asked (held_of t.0) result commits.takes)
+        led_by_commit asked stamp result commits tells (held_by (held_of s.0).broken refl asked stamp result commits)
 
     line_leads : Led s (accepted_of (tells_acceptance (told t)) one.1.pending) t
     line_leads = led_by one.1.commits

@@ -29,18 +29,19 @@ pub fn whatever_comes_is_sound()
     rr_laws::kits_name_corporations();
 }
 
-/// Whatever calls are made one after another on a new file, with stops and killed programs within them, stops between them, and
-/// openings behind these: what they say is what the law over sessions says, and each world that a stop may leave is sound, and
-/// so is what a store holds that isn't broken.
+/// Whatever calls are made one after another on a new file, with stops and killed programs within them, stops between
+/// them, and openings behind these: what they say is what the law over sessions says, and each world that a stop may
+/// leave is sound, and so is what a store holds that isn't broken.
 pub fn sessions_are_sound<D: Disk>()
     ensures { SessionsAreSound D.Honest D.Works D.state D.past D.fault_count D.write_count D.sync_count }
 {
     whatever_comes_is_sound();
 }
 
-/// A program may end, be killed, or be cut off by a stop of the machine, and another one be started on what it left, whether or
-/// not all of that was synced, with a disk value of whatever type: what both do, one behind the other, is one schedule from the
-/// first tables, and it is safe over all acknowledged requests of both. So it is however many programs ran before.
+/// A program may end, be killed, or be cut off by a stop of the machine, and another one be started on what it left,
+/// whether or not all of that was synced, with a disk value of whatever type: what both do, one behind the other, is
+/// one schedule from the first tables, and it is safe over all acknowledged requests of both. So it is however many
+/// programs ran before.
 pub fn sessions_go_on<D: Disk, E: Disk>()
     ensures two { SessionsGoOn D.Honest D.Works D.state D.past D.fault_count D.write_count D.sync_count
         E.Honest E.Works E.state E.past E.fault_count E.write_count E.sync_count }
@@ -50,8 +51,9 @@ pub fn sessions_go_on<D: Disk, E: Disk>()
     rr_store::laws::sessions_are_safe::<D>();
 }
 
-/// And what is kept stays sound behind a restart: where the first program began on a new file, however many ran before, each
-/// world that a stop may leave of a later one's disk is sound, and so is what its store holds, unless the device failed.
+/// And what is kept stays sound behind a restart: where the first program began on a new file, however many ran before,
+/// each world that a stop may leave of a later one's disk is sound, and so is what its store holds, unless the device
+/// failed.
 pub fn sessions_that_go_on_are_sound<D: Disk, E: Disk>()
     ensures { SoundSessionsGoOn D.Honest D.Works D.state D.past D.fault_count D.write_count D.sync_count
         E.Honest E.Works E.state E.past E.fault_count E.write_count E.sync_count }
@@ -59,11 +61,11 @@ pub fn sessions_that_go_on_are_sound<D: Disk, E: Disk>()
     whatever_comes_is_sound();
 }
 
-/// Whatever lines a moderator answers, over a store that was opened behind whatever was done before: what that made of the
-/// store's calls is a session, one commit for a line at most, and goes on safely with all before it. So it is of all lines,
-/// and wherever a stop cuts them off, or their program is killed: the tables that each image keeps are those of the requests
-/// that were acknowledged before and of the lines that were answered `ok` by then, or these with a request for which the line
-/// then under way asks.
+/// Whatever lines a moderator answers, over a store that was opened behind whatever was done before: what that made of
+/// the store's calls is a session, one commit for a line at most, and goes on safely with all before it. So it is of
+/// all lines, and wherever a stop cuts them off, or their program is killed: the tables that each image keeps are those
+/// of the requests that were acknowledged before and of the lines that were answered `ok` by then, or these with a
+/// request for which the line then under way asks.
 pub fn services_go_on<D: Disk, E: Disk>()
     ensures services { ServicesGoOn D.Honest D.Works D.state D.past D.fault_count D.write_count D.sync_count
         E.Honest E.Works E.state E.past E.fault_count E.write_count E.sync_count }
@@ -74,15 +76,15 @@ pub fn services_go_on<D: Disk, E: Disk>()
     ensures join { SessionsJoin E.Honest E.Works E.state E.past E.fault_count E.write_count E.sync_count }
 {}
 
-/// Whatever lines a moderator answers whose disk carries what it holds: at each moment each file that a stop may leave keeps the
-/// tables of the requests that were accepted by then, or those with the request that is pending of the line under way; and
-/// between two lines just the former, unless the device failed.
+/// Whatever lines a moderator answers whose disk carries what it holds: at each moment each file that a stop may leave
+/// keeps the tables of the requests that were accepted by then, or those with the request that is pending of the line
+/// under way; and between two lines just the former, unless the device failed.
 pub fn services_keep_in_time<D: Disk>()
     ensures { ServicesKeepInTime D.Honest D.Works D.state D.past D.fault_count D.write_count D.sync_count }
 {}
 
-/// Whatever lawful requests led to a world, each of its tables is in order and had no run as best but one that was, with a
-/// kit whose roster names each corporation.
+/// Whatever lawful requests led to a world, each of its tables is in order and had no run as best but one that was,
+/// with a kit whose roster names each corporation.
 pub fn worlds_are_sound()
     ensures { WorldsAreSound }
 {

@@ -1,5 +1,5 @@
 -- What a transcript holds.
-use Rattle.std.specs.Prelude.{ℕ, List, [], ◌∷◌, ◌++◌, map}
+use Rattle.std.specs.Prelude.{ℕ, List, map}
 use Rattle.rr_reading.specs.Dir.Kept.{first_commands}
 use Rattle.rr_checkpoint.specs.declared.plan.transcript.Transcript.{Transcript}
 use Rattle.rr_checkpoint.specs.declared.plan.table.TableTranscript.{TableTranscript}
@@ -18,19 +18,7 @@ table_of table =
 abbrev pub tables_of : Transcript → List Table
 tables_of transcript = map table_of transcript.tables.items
 
--- a table that keeps nothing yet
-abbrev pub without_commands : List ℕ → ℕ → ℕ → Table
-without_commands name stamp floor =
-    record { name = name; kept = record { commands = []; floor = floor; stamp = stamp } }
-
--- the table with one command more, behind the others
-abbrev pub with_command : Table → List ℕ → Table
-with_command table words =
-    record {
-      name = table.name;
-      kept = record {
-        commands = table.kept.commands ++ words ∷ [];
-        floor = table.kept.floor;
-        stamp = table.kept.stamp;
-      };
-    }
+-- the table of this name, stamp and floor that keeps these commands
+abbrev pub table_with : List ℕ → ℕ → ℕ → List (List ℕ) → Table
+table_with name stamp floor commands =
+    record { name = name; kept = record { commands = commands; floor = floor; stamp = stamp } }

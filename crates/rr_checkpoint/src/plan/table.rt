@@ -1,12 +1,12 @@
-ghost use Rattle.std.specs.Prelude.{◌≡◌, ◌^◌, ◌<◌, ◌≤◌, length, OnOk, OnErr, IsOkUnless};
+ghost use Rattle.std.specs.Prelude.{◌≡◌, ◌^◌, ◌<◌, ◌≤◌, IfOk, IsOkUnless};
 ghost use Rattle.std.proofs.Props.{props};
 ghost use Rattle.rr_reading.specs.declared.dir.directory.TheConstants.{MOST_KEPT};
 ghost use Rattle.rr_turns.specs.declared.limits.TheConstants.{LAST_STAMP};
-ghost use Rattle.rr_reading.specs.Dir.Kept.{IsShort, SpellsKept, first_commands};
+ghost use Rattle.rr_reading.specs.Dir.Kept.{SpellsKept, first_commands};
 ghost use Rattle.rr_words.specs.Name.{IsTableName};
 
 use rr_pages::Fault;
-use rr_reading::dir::write_kept;
+use rr_turns::KeptWords;
 use rr_words::Name;
 use std::alloc::Global;
 
@@ -26,42 +26,31 @@ pub struct TableTranscript {
 }
 
 impl TableTranscript {
-    ghost use Rattle.rr_checkpoint.specs.Plan.Transcript.{commands_of, table_of, with_command, without_commands};
+    ghost use Rattle.rr_checkpoint.specs.Plan.Transcript.{table_of, table_with};
 
-    /// A table of this name, stamp and floor, without a command. The stamp is at most 4,000,000,000.
-    pub fn new(alloc: Global, name: &Name, stamp: u64, floor: u32) -> TableTranscript
+    /// The table of this name, stamp and floor that keeps these commands. The stamp is at most 4,000,000,000.
+    ///
+    /// # Errors
+    /// `OutOfMemory`.
+    pub fn of(
+        alloc: Global,
+        name: &Name,
+        stamp: u64,
+        floor: u32,
+        commands: &KeptWords,
+    ) -> Result<TableTranscript, Fault>
         requires { stamp ≤ LAST_STAMP }
-        ensures { table_of result ≡ without_commands name.now stamp floor }
+        ensures table { IfOk result (λ table. table_of table ≡ table_with name.now stamp floor commands.now.commands) }
+        ensures memory { IsOkUnless result Fault.OutOfMemory }
     {
         // Its contract says that it is a table's name.
         let _ = name.as_bytes();
-        TableTranscript {
+        Ok(TableTranscript {
             name: *name,
             stamp,
             floor,
-            kept: 0,
-            bytes: Vec::new(alloc),
-        }
-    }
-
-    /// Adds a command, which the table keeps behind those that were added: its words, fewer than 65,536 bytes, without
-    /// stamp and table. A table keeps at most 4,096 commands.
-    ///
-    /// # Errors
-    /// `OutOfMemory`; then the table is as it was.
-    pub fn add(&mut self, words: &[u8]) -> Result<(), Fault>
-        requires short { IsShort words.now }
-        requires room { length (commands_of self.old) < MOST_KEPT }
-        ensures ok { OnOk result (table_of self.new ≡ with_command (table_of self.old) words.now) }
-        ensures err { OnErr result (table_of self.new ≡ table_of self.old) }
-        ensures memory { IsOkUnless result Fault.OutOfMemory }
-    {
-        match write_kept(words, &mut self.bytes) {
-            Ok(()) => {
-                self.kept += 1;
-                Ok(())
-            }
-            Err(_) => Err(Fault::OutOfMemory),
-        }
+            kept: commands.len() as u32,
+            bytes: commands.as_bytes().to_vec(alloc)?,
+        })
     }
 }

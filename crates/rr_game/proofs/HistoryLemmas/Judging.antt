@@ -14,15 +14,15 @@ use Rattle.rr_game.specs.Laws.{CommandsHaveOneVerdict}
 use Rattle.rr_game.specs.Play.{play, players_of}
 use Rattle.rr_turns.specs.declared.request.Request.{Request}
 use Rattle.rr_turns.specs.declared.request.Request.TheVariants.{Play, Back, Forget}
-use Rattle.rr_turns.specs.Judgement.{HasOneVerdict, IsVerdict, judgement_map}
+use Rattle.rr_turns.specs.Judgement.{HasOneVerdict, IsVerdict, MayFind, judgement_map}
 use Rattle.rr_turns.specs.Kept.{Kept}
-use Rattle.rr_turns.proofs.JudgementLemmas.{behind-is, behind-one, check-refuses, map-is, map-one, settled-is, settled-one}
+use Rattle.rr_turns.proofs.JudgementLemmas.{behind-is, behind-one, check-refuses, lawful-wants, map-is, map-one, settled-is, settled-one}
 use Rattle.rr_game.specs.declared.history.fault.Fault.{Fault}
 use Rattle.rr_game.specs.declared.history.fault.Fault.TheVariants as F
 use Rattle.rr_game.specs.History.Fault.{of_game}
 use Rattle.rr_game.specs.History.Playing.{IsLawfulAfter, game_judgement}
 use Rattle.rr_game.specs.History.Running.{run_verdict}
-use Rattle.rr_game.specs.History.Verdict.{own_judgement, request_judgement, room_verdict, stamp_verdict, turn_verdict}
+use Rattle.rr_game.specs.History.Verdict.{is_kept_turn, own_judgement, request_judgement, room_verdict, stamp_verdict, turn_verdict}
 
 -- a check that passes
 no_check : {F : Type 0} (check first : Option F) → check ≡ None → option_or check first ≡ first
@@ -95,3 +95,13 @@ own_one law kit table (Forget k) = settled-one (turn_verdict kit table k)
 
 pub request_one : CommandsHaveOneVerdict → (kit : Kit) (table : Kept Command) (stamp : ℕ) (request : Request Command) → HasOneVerdict (request_judgement kit table stamp request)
 request_one law kit table stamp request = behind-one (stamp_verdict table stamp) (own_judgement kit table request) (own_one law kit table request)
+
+-- a request for a turn that is kept
+
+pub turn_kept : (kit : Kit) (table : Kept Command) (k : ℕ) → true ≡ is_kept_turn kit table k → turn_verdict kit table k ≡ None
+turn_kept kit table k h = ap (λ (b : Bool). if b then None else Some F.TurnNotKept) (sym h)
+
+pub back_wants : (kit : Kit) (table : Kept Command) (k : ℕ) (fault : Fault) → true ≡ is_kept_turn kit table k → fault ≡ F.OutOfMemory
+    → MayFind (own_judgement kit table (Back k)) F.OutOfMemory fault
+back_wants kit table k fault h same =
+    lawful-wants (own_judgement kit table (Back k)) F.OutOfMemory fault (settled-is (turn_verdict kit table k) None (sym (turn_kept kit table k h))) same

@@ -1,22 +1,24 @@
 -- The play of a table that goes on with one command.
-use Rattle.std.proofs.Common.{◌≡◌, ℕ, ◌+◌, ◌≤◌, Bool, true, false, List, [], ◌∷◌, ◌++◌, length, None, if◌then◌else◌, refl, sym, ap, ◌∙◌, arith}
+use Rattle.std.proofs.Common.{◌≡◌, ◌-◌, Bool, List, [], ◌∷◌, ◌++◌, length, None, if◌then◌else◌, refl, ap, ◌∙◌, arith}
 use Rattle.std.proofs.Math.Logic.{∥∥₁_elim, ∥∥₁_map}
 use mathlib.Core.HLevel.{⊥_prop}
+use Rattle.rr_books.specs.declared.refusal.Refusal.TheVariants as G
 use Rattle.rr_kit.specs.declared.kit.Kit.{Kit}
 use Rattle.rr_code.specs.declared.command.Command.{Command}
 use Rattle.rr_game.specs.declared.game.Game.{Game}
 use Rattle.rr_game.specs.Keeping.{IsGameOf}
 use Rattle.rr_game.specs.Laws.{CommandsHaveOneVerdict}
-use Rattle.rr_game.specs.Play.{play, players_of}
+use Rattle.rr_game.specs.Play.{begins_with_opening, play, players_of}
 use Rattle.rr_turns.specs.Judgement.{MayFind, judgement_map}
-use Rattle.rr_turns.specs.Turns.{ended_turns, turns_in}
+use Rattle.rr_turns.specs.Turns.{ended_turns}
 use Rattle.rr_turns.proofs.JudgementLemmas.{map-is, map-one, only-wanting}
-use Rattle.rr_turns.proofs.TurnLemmas.{ended-push}
 use Rattle.rr_turns.proofs.LawfulLemmas.{lawful-push}
 use Rattle.rr_game.specs.declared.history.fault.Fault.{Fault}
 use Rattle.rr_game.specs.declared.history.fault.Fault.TheVariants as F
 use Rattle.rr_game.specs.History.Fault.{of_game}
-use Rattle.rr_game.specs.History.Playing.{ArePlayed, IsLawfulAfter, IsPlayOf, ends_turn, game_judgement}
+use Rattle.rr_game.specs.History.Playing.{ArePlayed, IsLawfulAfter, IsPlayOf, game_judgement}
+use Rattle.rr_game.specs.Turning.{ends_turn}
+use Rattle.rr_game.proofs.TurnEnds.{turns_told}
 
 -- want of memory it is, if it can be nothing else
 for_memory : (fault : Fault) → ∥ fault ≡ F.OutOfMemory ∥₁ → fault ≡ F.OutOfMemory
@@ -37,36 +39,28 @@ only_memory law kit before c fault lawful found = for_memory fault (∥∥₁_ma
         (map-one of_game (game_judgement kit before c) (law kit (players_of before) (play kit before) c))
         (map-is of_game (game_judgement kit before c) None none) found
 
+-- commands that were played begin with an opening, which wants memory alone
+pub opening_wants : (kit : Kit) (opening : Command) (others : List Command) (fault : Fault) → ∥ ArePlayed kit (opening ∷ others) ∥₁
+    → fault ≡ (if begins_with_opening (opening ∷ []) then F.OutOfMemory else F.Game G.WrongStep) → fault ≡ F.OutOfMemory
+opening_wants kit opening others fault lawful is = for_memory fault (∥∥₁_map lawful by_opening)
+  where
+    by_opening : ArePlayed kit (opening ∷ others) → fault ≡ F.OutOfMemory
+    by_opening both = is ∙ ap (λ (b : Bool). if b then F.OutOfMemory else F.Game G.WrongStep) both.0
+
 plays_on : (kit : Kit) (opening : Command) (others : List Command) (c : Command) → IsLawfulAfter kit (opening ∷ others) c → ArePlayed kit (opening ∷ others)
     → ArePlayed kit (opening ∷ others ++ c ∷ [])
 plays_on kit opening others c lawful both = (both.0, lawful-push (IsLawfulAfter kit) (opening ∷ []) others c both.1 lawful)
 
-pub goes_on : (kit : Kit) (commands : List Command) (c : Command) (old new : Game) (turns : ℕ) (ended : Bool) → IsPlayOf kit commands old turns
-    → IsLawfulAfter kit commands c → IsGameOf kit (commands ++ c ∷ []) new → ended ≡ ends_turn kit commands c
-    → IsPlayOf kit (commands ++ c ∷ []) new (turns + (if ended then 1 else 0))
-goes_on kit [] c old new turns ended play lawful next turn = absurd (∥∥₁_elim play.lawful ⊥_prop (λ none. none))
-goes_on kit (opening ∷ others) c old new turns ended play lawful next turn = record {
+pub goes_on : (kit : Kit) (commands : List Command) (c : Command) (old new : Game) → IsPlayOf kit commands old
+    → IsLawfulAfter kit commands c → IsGameOf kit (commands ++ c ∷ []) new → IsPlayOf kit (commands ++ c ∷ []) new
+goes_on kit [] c old new play lawful next = absurd (∥∥₁_elim play.lawful ⊥_prop (λ none. none))
+goes_on kit (opening ∷ others) c old new play lawful next = record {
   lawful = ∥∥₁_map play.lawful (plays_on kit opening others c lawful);
   played = next;
-  counted =
-      ap (λ n. n + (if ended then 1 else 0)) play.counted
-      ∙ ap (λ (b : Bool). ended_turns (ends_turn kit) (opening ∷ others) + (if b then 1 else 0)) turn
-      ∙ sym (ended-push (ends_turn kit) opening others c);
 }
 
-one_at_most : (b : Bool) (n m : ℕ) → n ≤ m → (if b then 1 else 0) + n ≤ m + 1
-one_at_most true n m h = omega (arith, h)
-one_at_most false n m h = omega (arith, h)
-
-pub few_turns : {C : Type 0} (ends : List C → C → Bool) (before cs : List C) → turns_in ends before cs ≤ length cs
-few_turns ends before [] = omega arith
-few_turns ends before (c ∷ cs) =
-    let all = one_at_most (ends before c) _ _ (few_turns ends (before ++ c ∷ []) cs) in omega (arith, all)
-
--- fewer turns have ended than there are commands
-pub turns-few : (kit : Kit) (commands : List Command) (game : Game) (turns : ℕ) → IsPlayOf kit commands game turns → turns + 1 ≤ length commands
-turns-few kit [] game turns play = absurd (∥∥₁_elim play.lawful ⊥_prop (λ none. none))
-turns-few kit (opening ∷ others) game turns play =
-    let few = few_turns (ends_turn kit) (opening ∷ []) others in
-    let counted = play.counted in
-    omega (arith, few, counted)
+-- as many turns have ended as its game tells
+pub turns_ended : (kit : Kit) (commands : List Command) (game : Game) → IsPlayOf kit commands game → length game.ends - 1 ≡ ended_turns (ends_turn kit) commands
+turns_ended kit commands game play =
+    let told = turns_told kit commands game play.played in
+    omega (arith, told)

@@ -12,7 +12,7 @@ use Rattle.rr_turns.specs.Kept.{IsKeptTurn, Kept, NamesAKeptTurn}
 use Rattle.rr_turns.specs.Turns.{ended_turns}
 use Rattle.rr_game.specs.declared.history.fault.Fault.{Fault}
 use Rattle.rr_game.specs.declared.history.fault.Fault.TheVariants as F
-use Rattle.rr_game.specs.History.Playing.{ends_turn}
+use Rattle.rr_game.specs.Turning.{ends_turn}
 use Rattle.rr_game.specs.History.Verdict.{is_kept_turn, own_judgement, request_judgement, stamp_verdict, turn_verdict}
 
 kept : (b : Bool) (fault : Fault) → (if b then None else Some fault) ≡ None → b ≡ true

@@ -1,5 +1,5 @@
 -- What always holds of the tables of a game.
-use Rattle.std.specs.Prelude.{◌≡◌, ℕ, ◌≤◌, List, [], ◌∷◌, ◌++◌, None}
+use Rattle.std.specs.Prelude.{◌≡◌, ℕ, ◌≤◌, List, [], ◌∷◌, ◌++◌, None, length, take}
 use Rattle.rr_kit.specs.declared.kit.Kit.{Kit}
 use Rattle.rr_code.specs.declared.command.Command.{Command}
 use Rattle.rr_game.specs.Keeping.{IsGameOf}
@@ -7,10 +7,11 @@ use Rattle.rr_turns.specs.declared.request.Request.{Request}
 use Rattle.rr_turns.specs.declared.request.Request.TheVariants.{Back}
 use Rattle.rr_turns.specs.Judgement.{HasOneVerdict, IsVerdict}
 use Rattle.rr_turns.specs.Kept.{Kept, NamesAKeptTurn, kept_after}
+use Rattle.rr_turns.specs.Ends.{kept_at}
 use Rattle.rr_turns.specs.Turns.{EndsWithATurn, first_turns}
 use Rattle.rr_game.specs.declared.history.table.Table.{Table}
-use Rattle.rr_game.specs.History.Playing.{ends_turn}
-use Rattle.rr_game.specs.History.Tables.{IsPlayed, IsTableOf, kept_in}
+use Rattle.rr_game.specs.Turning.{ends_turn}
+use Rattle.rr_game.specs.History.Tables.{IsPlayed, IsTableOf, kept_in, turns_in}
 use Rattle.rr_game.specs.History.Verdict.{request_judgement}
 
 -- a table that accepts one request more is that of all of them
@@ -24,16 +25,23 @@ TablesGoOn =
 -- a table that was taken back to a turn has ended just as many, and its game is that of the first so many turns
 abbrev pub BackGoesToItsTurn : Type 0
 BackGoesToItsTurn =
-    (kit : Kit) (k : ℕ) (old new : Table) → IsPlayed kit old → k ≤ old.turns
+    (kit : Kit) (k : ℕ) (old new : Table) → IsPlayed kit old → k ≤ turns_in old
     → kept_in new ≡ kept_after (ends_turn kit) (kept_in old) (Back k) → IsPlayed kit new
-    → (new.turns ≡ k) × IsGameOf kit (first_turns (ends_turn kit) k old.commands.items) new.game
+    → (turns_in new ≡ k) × IsGameOf kit (first_turns (ends_turn kit) k old.kept.commands) new.game
+
+-- a table that was taken back to a turn keeps as many commands as its game tells of that turn's end
+abbrev pub BackKeepsItsCount : Type 0
+BackKeepsItsCount =
+    (kit : Kit) (k : ℕ) (old new : Table) → IsPlayed kit old → k ≤ turns_in old
+    → kept_in new ≡ kept_after (ends_turn kit) (kept_in old) (Back k)
+    → (length new.kept.commands ≡ kept_at old.game.ends k) × (new.kept.commands ≡ take (kept_at old.game.ends k) old.kept.commands)
 
 -- once a turn has ended and nothing was played behind it, to be taken back to it changes no game
 abbrev pub BackToThePresentTurn : Type 0
 BackToThePresentTurn =
-    (kit : Kit) (old new : Table) → IsPlayed kit old → EndsWithATurn (ends_turn kit) old.commands.items
-    → kept_in new ≡ kept_after (ends_turn kit) (kept_in old) (Back old.turns) → IsPlayed kit new
-    → IsGameOf kit old.commands.items new.game × (new.commands.items ≡ old.commands.items)
+    (kit : Kit) (old new : Table) → IsPlayed kit old → EndsWithATurn (ends_turn kit) old.kept.commands
+    → kept_in new ≡ kept_after (ends_turn kit) (kept_in old) (Back (turns_in old)) → IsPlayed kit new
+    → IsGameOf kit old.kept.commands new.game × (new.kept.commands ≡ old.kept.commands)
 
 -- a request that no check refuses names a kept turn, if it names one: so the floor never falls
 abbrev pub AcceptedTurnsAreKept : Type 0

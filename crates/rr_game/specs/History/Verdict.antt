@@ -12,7 +12,8 @@ use Rattle.rr_turns.specs.Turns.{ended_turns}
 use Rattle.rr_game.specs.declared.history.fault.Fault.{Fault}
 use Rattle.rr_game.specs.declared.history.fault.Fault.TheVariants as F
 use Rattle.rr_game.specs.History.Fault.{of_game}
-use Rattle.rr_game.specs.History.Playing.{ends_turn, game_judgement}
+use Rattle.rr_game.specs.History.Playing.{game_judgement}
+use Rattle.rr_game.specs.Turning.{ends_turn}
 
 -- the turn has ended, and it isn't forgotten
 abbrev pub is_kept_turn : Kit → Kept Command → ℕ → Bool

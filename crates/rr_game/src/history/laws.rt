@@ -1,5 +1,5 @@
 //! What always holds of the tables of a game. The calls do nothing: their contracts hold of all tables.
-ghost use Rattle.rr_game.specs.History.Laws.{AcceptedTurnsAreKept, BackGoesToItsTurn, BackToThePresentTurn, RequestsHaveOneVerdict, TablesGoOn};
+ghost use Rattle.rr_game.specs.History.Laws.{AcceptedTurnsAreKept, BackGoesToItsTurn, BackKeepsItsCount, BackToThePresentTurn, RequestsHaveOneVerdict, TablesGoOn};
 
 /// A table that accepts one request more is that of all of them.
 pub fn tables_go_on()
@@ -9,6 +9,11 @@ pub fn tables_go_on()
 /// A table that was taken back to a turn has the game of its first so many turns.
 pub fn back_goes_to_its_turn()
     ensures { BackGoesToItsTurn }
+{}
+
+/// A table that was taken back to a turn keeps as many commands as its game tells of that turn's end.
+pub fn back_keeps_its_count()
+    ensures { BackKeepsItsCount }
 {}
 
 /// Where a turn has just ended, to be taken back to it changes no game. What was played since a turn's end is dropped.

@@ -1,94 +1,78 @@
-//! The play of a table's first turns, from its kept commands.
-ghost use Rattle.std.specs.Prelude.{◌≡◌, ◌+◌, ◌<◌, ◌≤◌, [], ◌∷◌, true, length, take, IfOk, IsOkUnless};
-ghost use Rattle.rr_turns.specs.declared.limits.TheConstants.{MOST_COMMANDS};
+//! Commands played again, from the opening on.
+ghost use Rattle.std.specs.Prelude.{◌≡◌, ◌≤◌, [], ◌∷◌, length, take, IfOk, IsOkUnless, MatchResult, if◌then◌else◌};
 ghost use Rattle.rr_game.specs.Keeping.{IsGameOf};
 ghost use Rattle.rr_game.specs.Play.{begins_with_opening};
-ghost use Rattle.rr_turns.specs.Turns.{ended_turns, first_turns};
-ghost use Rattle.rr_game.specs.History.Playing.{ArePlayed, IsPlayOf, ends_turn};
+ghost use Rattle.rr_game.specs.History.Playing.{ArePlayed};
 
 use crate::Game;
 use crate::history::fault::Fault;
-use crate::history::playing::{Next, turns_after};
-use crate::history::spelled::Spelled;
+use crate::history::kept::KeptCommands;
+use rr_books::Refusal;
 use rr_code::Command;
 use rr_kit::Kit;
 use std::alloc::Global;
 
-/// The game of a table's first commands.
-#[derive(Clone, Copy, Debug)]
-pub(crate) struct Replayed {
-    pub(crate) game: Game,
-    /// How many commands were played, the opening among them.
-    pub(crate) commands: usize,
-}
-
-/// Plays a table's commands again, from its opening until so many turns have ended.
+/// Plays the first so many commands of a table again.
+///
+/// # Errors
+///
+/// `OutOfMemory`; and what the game refuses, which doesn't come where the commands were played.
 pub(crate) fn replay(
     alloc: Global,
-    commands: &[Spelled],
-    turn: u64,
+    kept: &KeptCommands,
+    count: usize,
     kit: &Kit,
-) -> Result<Replayed, Fault>
-    requires lawful { ∥ ArePlayed kit.now commands.now ∥₁ }
-    requires few { length commands.now ≤ MOST_COMMANDS }
-    requires ended { turn ≤ ended_turns (ends_turn kit.now) commands.now }
-    ensures front { IfOk result (λ replayed.
-        take replayed.commands commands.now ≡ first_turns (ends_turn kit.now) turn commands.now) }
-    ensures played { IfOk result (λ replayed.
-        IsPlayOf kit.now (take replayed.commands commands.now) replayed.game turn) }
-    ensures memory { IsOkUnless result Fault.OutOfMemory }
+) -> Result<Game, Fault>
+    requires some { 1 ≤ count }
+    requires within { count ≤ length kept.now.commands }
+    ensures game { IfOk result (λ game. IsGameOf kit.now (take count kept.now.commands) game) }
+    ensures memory { ∥ ArePlayed kit.now (take count kept.now.commands) ∥₁ → IsOkUnless result Fault.OutOfMemory }
 {
-    match commands {
-        [] => unreachable!(),
-        [opening, others @ ..] => replay_behind(alloc, opening, others, turn, kit),
-    }
-}
-
-fn replay_behind(
-    alloc: Global,
-    opening: &Spelled,
-    others: &[Spelled],
-    turn: u64,
-    kit: &Kit,
-) -> Result<Replayed, Fault>
-    requires lawful { ∥ ArePlayed kit.now (opening.now ∷ others.now) ∥₁ }
-    requires few { length others.now < MOST_COMMANDS }
-    requires ended { turn ≤ ended_turns (ends_turn kit.now) (opening.now ∷ others.now) }
-    ensures front { IfOk result (λ replayed.
-        take replayed.commands (opening.now ∷ others.now)
-        ≡ first_turns (ends_turn kit.now) turn (opening.now ∷ others.now)) }
-    ensures played { IfOk result (λ replayed.
-        IsPlayOf kit.now (take replayed.commands (opening.now ∷ others.now)) replayed.game turn) }
-    ensures memory { IsOkUnless result Fault.OutOfMemory }
-{
-    crate::laws::commands_have_one_verdict();
-    let mut game = opened(opening, kit);
-    let mut turns = 0;
-    for index in 0..others.len() {
-        if turns == turn {
-            return Ok(Replayed {
-                game,
-                commands: index + 1,
-            });
-        }
-        let command = others[index].command();
-        let next = Next::of(alloc, &game, &command, kit)?;
-        game = next.game;
-        turns = turns_after(turns, next.ended);
-    }
-    Ok(Replayed {
-        game,
-        commands: others.len() + 1,
-    })
+    let game = opened(alloc, &kept.command(0), kit)?;
+    play_on(alloc, game, kept, count, kit)
 }
 
 /// The game that an opening begins.
-fn opened(opening: &Spelled, kit: &Kit) -> Game
-    requires { begins_with_opening (opening.now ∷ []) ≡ true }
-    ensures { IsGameOf kit.now (opening.now ∷ []) result }
+///
+/// # Errors
+///
+/// `OutOfMemory` for an opening. Another command opens no table, and comes at the wrong step.
+fn opened(alloc: Global, opening: &Command, kit: &Kit) -> Result<Game, Fault>
+    ensures { MatchResult result
+        (λ game. IsGameOf kit.now (opening.now ∷ []) game)
+        (λ fault. fault ≡ (if begins_with_opening (opening.now ∷ []) then Fault.OutOfMemory else Fault.Game Refusal.WrongStep)) }
 {
-    match opening.command() {
-        Command::Open { players } => Game::open(players, kit),
-        _ => unreachable!(),
+    match opening {
+        Command::Open { players } => Ok(Game::open(alloc, *players, kit)?),
+        _ => Err(Fault::Game(Refusal::WrongStep)),
     }
+}
+
+/// Plays commands of a table behind its opening, with which the game has just begun: the first so many with it.
+///
+/// # Errors
+///
+/// `OutOfMemory`; and what the game refuses, which doesn't come where the commands were played.
+fn play_on(
+    alloc: Global,
+    game: Game,
+    kept: &KeptCommands,
+    count: usize,
+    kit: &Kit,
+) -> Result<Game, Fault>
+    requires opened { IsGameOf kit.now (take 1 kept.now.commands) game }
+    requires some { 1 ≤ count }
+    requires within { count ≤ length kept.now.commands }
+    ensures game { IfOk result (λ new. IsGameOf kit.now (take count kept.now.commands) new) }
+    ensures memory { ∥ ArePlayed kit.now (take count kept.now.commands) ∥₁ → IsOkUnless result Fault.OutOfMemory }
+{
+    crate::laws::commands_have_one_verdict();
+    // A table keeps few enough commands.
+    let _count = kept.len();
+    let mut next = game;
+    for place in 1..count {
+        let command = kept.command(place);
+        next = next.step(alloc, &command, kit)?;
+    }
+    Ok(next)
 }

@@ -12,16 +12,15 @@ use rr_turns::MOST_COMMANDS;
 use std::alloc::Global;
 
 impl Table {
-    /// Whether the corporation may run now, by a request with this stamp: what is asked of a run before its sheet and its
-    /// certificate are looked at. It takes no memory.
+    /// Whether the corporation may run now, by a request with this stamp: what is asked of a run before its sheet and
+    /// its certificate are looked at. It takes no memory.
     ///
     /// # Errors
     ///
     /// `StaleStamp` where the stamp isn't the table's; `TooManyCommands` where the table has its last stamp or keeps
     /// `MOST_COMMANDS` commands; then what the game refuses whatever the sheet.
     pub fn judge_run(&self, alloc: Global, stamp: u64, corp: Corp, kit: &Kit) -> Result<(), Fault>
-        requires { IsPlayed kit.now self.now }
-        ensures { MatchResult result
+        ensures { IsPlayed kit.now self.now → MatchResult result
             (λ _. run_verdict kit.now (kept_in self.now) stamp corp ≡ None)
             (λ fault. run_verdict kit.now (kept_in self.now) stamp corp ≡ Some fault) }
     {
@@ -37,7 +36,7 @@ impl Table {
             (λ _. room_verdict (kept_in self.now) ≡ None)
             (λ fault. room_verdict (kept_in self.now) ≡ Some fault) }
     {
-        if self.commands.len() >= MOST_COMMANDS {
+        if self.kept.len() >= MOST_COMMANDS {
             return Err(Fault::TooManyCommands);
         }
         Ok(())

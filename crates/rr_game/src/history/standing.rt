@@ -2,23 +2,23 @@
 ghost use Rattle.std.specs.Prelude.{◌≡◌, ◌≤◌};
 ghost use Rattle.rr_turns.specs.declared.limits.TheConstants.{LAST_STAMP};
 ghost use Rattle.rr_game.specs.Keeping.{IsGameOf};
-ghost use Rattle.rr_game.specs.History.Playing.{ends_turn};
-ghost use Rattle.rr_game.specs.History.Tables.{IsPlayed, kept_in};
+ghost use Rattle.rr_game.specs.Turning.{ends_turn};
+ghost use Rattle.rr_game.specs.History.Tables.{IsPlayed, kept_in, turns_in};
 ghost use Rattle.rr_kit.specs.declared.kit.Kit.{Kit as AnyKit};
 ghost use Rattle.rr_turns.specs.Turns.{ended_turns};
 
 use crate::Game;
-use crate::history::spelled::Spelled;
+use crate::history::kept::KeptCommands;
 use crate::history::table::Table;
 
 impl Table {
     /// The turns that have ended.
     pub fn turns(&self) -> u64
-        ensures value { result ≡ self.now.turns }
+        ensures value { result ≡ turns_in self.now }
         ensures ended { (kit : AnyKit) → IsPlayed kit self.now →
             result ≡ ended_turns (ends_turn kit) (kept_in self.now).commands }
     {
-        self.turns
+        self.game.turns()
     }
 
     /// The least turn to which the table can be taken back.
@@ -45,10 +45,10 @@ impl Table {
     }
 
     /// The kept commands, the opening first.
-    pub fn commands(&self) -> &[Spelled]
-        ensures { result.now ≡ (kept_in self.now).commands }
+    pub fn commands(&self) -> &KeptCommands
+        ensures { result.now.commands ≡ (kept_in self.now).commands }
     {
-        self.commands.as_slice()
+        &self.kept
     }
 
     /// Goes on with a floor and a stamp that a file tells of the table. The stamp is at most 4,000,000,000.

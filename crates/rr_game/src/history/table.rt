@@ -1,8 +1,9 @@
-ghost use Rattle.std.specs.Prelude.{◌≡◌, ◌+◌, ◌<◌, ◌≤◌, ◌++◌, [], ◌∷◌, None, Some, ◌&&◌, true, nat_le, length, take, vec_capacity, vec_len, option_to_list, IfOk, IfErr, OnOk, OnErr, IsOkUnless, MatchResult};
+ghost use Rattle.std.specs.Prelude.{◌≡◌, ◌+◌, ◌<◌, ◌≤◌, ◌++◌, [], ◌∷◌, None, Some, ◌&&◌, true, nat_le, length, take, option_to_list, unwrap_or, IfOk, IfSome, IsOk, IfErr, OnOk, OnErr, IsOkUnless, MatchResult};
 ghost use Rattle.rr_turns.specs.declared.limits.TheConstants.{LAST_STAMP, MOST_COMMANDS};
 ghost use Rattle.rr_code.specs.Command.{IsCommand};
-ghost use Rattle.rr_game.specs.History.Changing.{Fits, IsChangeBy, kept_with};
-ghost use Rattle.rr_game.specs.History.Playing.{ends_turn};
+ghost use Rattle.rr_game.specs.History.Changing.{Fits, IsChangeBy, KeepsBy, game_after, kept_with};
+ghost use Rattle.rr_game.specs.History.Spelling.{HasRoom};
+ghost use Rattle.rr_game.specs.Turning.{ends_turn};
 ghost use Rattle.rr_game.specs.History.Verdict.{IsNoWantOfMemory, IsOfForm, is_kept_turn, own_judgement, request_judgement, stamp_verdict, turn_verdict};
 ghost use Rattle.rr_turns.specs.Judgement.{IsVerdict, MayFind};
 ghost use Rattle.rr_turns.specs.Kept.{kept_after, kept_of};
@@ -10,7 +11,7 @@ ghost use Rattle.rr_turns.specs.Kept.{kept_after, kept_of};
 use crate::Game;
 use crate::history::change::Change;
 use crate::history::fault::Fault;
-use crate::history::playing::{Next, turns_after};
+use crate::history::kept::KeptCommands;
 use crate::history::replaying::replay;
 use crate::history::spelled::Spelled;
 use rr_code::{Command, Players};
@@ -23,17 +24,16 @@ use std::alloc::Global;
 #[derive(Drop)]
 pub struct Table {
     pub(crate) game: Game,
-    pub(crate) commands: Vec<Spelled>,
-    pub(crate) turns: u64,
+    pub(crate) kept: KeptCommands,
     pub(crate) floor: u64,
     pub(crate) stamp: u64,
-    ghost room: { MOST_COMMANDS ≤ vec_capacity commands },
-    ghost few: { vec_len commands ≤ MOST_COMMANDS },
+    ghost few: { length kept.commands ≤ MOST_COMMANDS },
+    ghost counted: { game.played ≡ length kept.commands },
     ghost last: { stamp ≤ LAST_STAMP },
 }
 
 impl Table {
-    ghost use Rattle.rr_game.specs.History.Tables.{IsPlayed, kept_in};
+    ghost use Rattle.rr_game.specs.History.Tables.{HasRoomFor, IsPlayed, kept_in, turns_in};
     ghost use Rattle.rr_code.specs.declared.command.Command.{Command as Line};
     ghost use Rattle.rr_kit.specs.declared.kit.Kit.{Kit as AnyKit};
     ghost use Rattle.rr_turns.specs.declared.request.Request.{Request as AnyRequest};
@@ -50,12 +50,13 @@ impl Table {
         ensures memory { IsOkUnless result Fault.OutOfMemory }
     {
         let opening = Spelled::of(alloc, &opening_of(players))?;
-        let mut commands = Vec::with_capacity(alloc, MOST_COMMANDS)?;
-        commands.push(opening)?;
+        let mut kept = KeptCommands::new(alloc);
+        kept.reserve(&opening)?;
+        kept.push(&opening);
+        let game = Game::open(alloc, *players, kit)?;
         Ok(Table {
-            game: Game::open(*players, kit),
-            commands,
-            turns: 0,
+            game,
+            kept,
             floor: 0,
             stamp: 1,
         })
@@ -74,18 +75,18 @@ impl Table {
         command: &Command,
         kit: &Kit,
     ) -> Result<(), Fault>
-        requires played { IsPlayed kit.now self.old }
-        requires command { IsCommand command.now }
-        ensures verdict { MatchResult result
+        requires { IsCommand command.now }
+        ensures verdict { IsPlayed kit.now self.old → MatchResult result
             (λ _. IsVerdict (request_judgement kit.now (kept_in self.old) stamp (Request.Play command.now)) None)
             (λ fault. MayFind (request_judgement kit.now (kept_in self.old) stamp (Request.Play command.now)) Fault.OutOfMemory fault) }
         ensures kept { OnOk result (kept_in self.new ≡
             kept_after (ends_turn kit.now) (kept_in self.old) (Request.Play command.now)) }
-        ensures played { IsPlayed kit.now self.new }
+        ensures played { IsPlayed kit.now self.old → IsPlayed kit.now self.new }
         ensures err { OnErr result (self.new ≡ self.old) }
     {
         self.judge_stamp(stamp)?;
         let change = self.judge_command(alloc, command, kit)?;
+        self.reserve(&change)?;
         self.take(change);
         Ok(())
     }
@@ -104,13 +105,12 @@ impl Table {
         turn: u64,
         kit: &Kit,
     ) -> Result<(), Fault>
-        requires { IsPlayed kit.now self.old }
-        ensures verdict { MatchResult result
+        ensures verdict { IsPlayed kit.now self.old → MatchResult result
             (λ _. IsVerdict (request_judgement kit.now (kept_in self.old) stamp (Request.Back turn)) None)
             (λ fault. MayFind (request_judgement kit.now (kept_in self.old) stamp (Request.Back turn)) Fault.OutOfMemory fault) }
-        ensures kept { OnOk result (kept_in self.new ≡
+        ensures kept { OnOk result (IsPlayed kit.now self.old → kept_in self.new ≡
             kept_after (ends_turn kit.now) (kept_in self.old) (Request.Back turn)) }
-        ensures played { IsPlayed kit.now self.new }
+        ensures played { IsPlayed kit.now self.old → IsPlayed kit.now self.new }
         ensures err { OnErr result (self.new ≡ self.old) }
     {
         let change = self.judge(alloc, stamp, &Request::Back(turn), kit)?;
@@ -140,8 +140,8 @@ impl Table {
         Ok(())
     }
 
-    /// Judges a request with this stamp, and works out what it makes of the table, which `take` then does. All memory
-    /// that it needs is taken here.
+    /// Judges a request with this stamp, and works out what it makes of the table, which `take` then does once
+    /// `reserve` took the room for it. All other memory that it needs is taken here.
     ///
     /// # Errors
     ///
@@ -153,13 +153,16 @@ impl Table {
         request: &Request<Command>,
         kit: &Kit,
     ) -> Result<Change, Fault>
-        requires played { IsPlayed kit.now self.now }
-        requires form { IsOfForm request.now }
-        ensures verdict { MatchResult result
+        requires { IsOfForm request.now }
+        ensures verdict { IsPlayed kit.now self.now → MatchResult result
             (λ _. IsVerdict (request_judgement kit.now (kept_in self.now) stamp request.now) None)
             (λ fault. MayFind (request_judgement kit.now (kept_in self.now) stamp request.now) Fault.OutOfMemory fault) }
-        ensures forgetting { IfErr result (λ fault. IsNoWantOfMemory kit.now (kept_in self.now) stamp request.now fault) }
-        ensures change { IfOk result (λ change. IsChangeBy kit.now (kept_in self.now) request.now change) }
+        ensures forgetting { IfErr result (λ fault. IsPlayed kit.now self.now →
+            IsNoWantOfMemory kit.now (kept_in self.now) stamp request.now fault) }
+        ensures change { IfOk result (λ change. IsPlayed kit.now self.now →
+            IsChangeBy kit.now (kept_in self.now) request.now change) }
+        ensures kept { IfOk result (λ change. KeepsBy kit.now (kept_in self.now) (turns_in self.now) request.now change) }
+        ensures fits { IfOk result (λ change. Fits (kept_in self.now) change) }
     {
         self.judge_stamp(stamp)?;
         match request {
@@ -169,23 +172,41 @@ impl Table {
         }
     }
 
-    /// Makes a change that `judge` worked out for the table as it is. It can't fail.
+    /// Takes room for what a change adds, so that `take` wants no memory. What the table keeps stays, and its game. A
+    /// change that adds no command wants no room.
+    ///
+    /// # Errors
+    ///
+    /// `OutOfMemory`; then the table is as it was.
+    pub fn reserve(&mut self, change: &Change) -> Result<(), Fault>
+        ensures room { OnOk result (HasRoomFor self.new change.now) }
+        ensures kept { kept_in self.new ≡ kept_in self.old }
+        ensures game { self.new.game ≡ self.old.game }
+        ensures alone { change.now.added ≡ None → IsOk result }
+        ensures memory { IsOkUnless result Fault.OutOfMemory }
+        ensures err { OnErr result (self.new ≡ self.old) }
+    {
+        if let Some(command) = &change.added {
+            self.kept.reserve(command)?;
+        }
+        Ok(())
+    }
+
+    /// Makes a change that `judge` worked out for the table as it is, and for which `reserve` took room. It can't fail.
     pub fn take(&mut self, change: Change)
-        requires { Fits (kept_in self.old) change }
+        requires fits { Fits (kept_in self.old) change }
+        requires room { HasRoomFor self.old change }
         ensures kept { kept_in self.new ≡ kept_with (kept_in self.old) change }
-        ensures game { self.new.game ≡ change.game }
-        ensures turns { self.new.turns ≡ change.turns }
+        ensures game { self.new.game ≡ game_after self.old.game change }
     {
         let Change {
             stay,
             added,
             game,
-            turns,
             floor,
         } = change;
-        replace_end(&mut self.commands, stay, added);
-        self.game = game;
-        self.turns = turns;
+        replace_end(&mut self.kept, stay, added);
+        replace_game(&mut self.game, game);
         self.floor = floor;
         self.stamp += 1;
     }
@@ -206,47 +227,50 @@ impl Table {
     }
 
     fn judge_command(&self, alloc: Global, command: &Command, kit: &Kit) -> Result<Change, Fault>
-        requires played { IsPlayed kit.now self.now }
         requires command { IsCommand command.now }
         requires stamp { self.now.stamp < LAST_STAMP }
-        ensures verdict { MatchResult result
+        ensures verdict { IsPlayed kit.now self.now → MatchResult result
             (λ _. IsVerdict (own_judgement kit.now (kept_in self.now) (Request.Play command.now)) None)
             (λ fault. MayFind (own_judgement kit.now (kept_in self.now) (Request.Play command.now)) Fault.OutOfMemory fault) }
-        ensures change { IfOk result (λ change.
+        ensures change { IfOk result (λ change. IsPlayed kit.now self.now →
             IsChangeBy kit.now (kept_in self.now) (Request.Play command.now) change) }
+        ensures kept { IfOk result (λ change.
+            KeepsBy kit.now (kept_in self.now) (turns_in self.now) (Request.Play command.now) change) }
+        ensures fits { IfOk result (λ change. Fits (kept_in self.now) change) }
     {
-        let count = self.commands.len();
+        let count = self.kept.len();
         if count >= MOST_COMMANDS {
             return Err(Fault::TooManyCommands);
         }
-        let next = Next::of(alloc, &self.game, command, kit)?;
+        let game = self.game.step(alloc, command, kit)?;
         let added = Spelled::of(alloc, command)?;
         Ok(Change {
             stay: count,
             added: Some(added),
-            game: next.game,
-            turns: turns_after(self.turns, next.ended),
+            game: Some(game),
             floor: self.floor,
         })
     }
 
     fn judge_back(&self, alloc: Global, turn: u64, kit: &Kit) -> Result<Change, Fault>
-        requires played { IsPlayed kit.now self.now }
-        requires stamp { self.now.stamp < LAST_STAMP }
-        ensures verdict { MatchResult result
+        requires { self.now.stamp < LAST_STAMP }
+        ensures verdict { IsPlayed kit.now self.now → MatchResult result
             (λ _. IsVerdict (own_judgement kit.now (kept_in self.now) (Request.Back turn)) None)
             (λ fault. MayFind (own_judgement kit.now (kept_in self.now) (Request.Back turn)) Fault.OutOfMemory fault) }
-        ensures change { IfOk result (λ change. IsChangeBy kit.now (kept_in self.now) (Request.Back turn) change) }
+        ensures change { IfOk result (λ change. IsPlayed kit.now self.now →
+            IsChangeBy kit.now (kept_in self.now) (Request.Back turn) change) }
+        ensures kept { IfOk result (λ change. KeepsBy kit.now (kept_in self.now) (turns_in self.now) (Request.Back turn) change) }
+        ensures fits { IfOk result (λ change. Fits (kept_in self.now) change) }
     {
         if !self.keeps(turn) {
             return Err(Fault::TurnNotKept);
         }
-        let replayed = replay(alloc, self.commands.as_slice(), turn, kit)?;
+        let stay = self.game.played_at(turn).unwrap();
+        let game = replay(alloc, &self.kept, stay, kit)?;
         Ok(Change {
-            stay: replayed.commands,
+            stay,
             added: None,
-            game: replayed.game,
-            turns: turn,
+            game: Some(game),
             floor: self.floor,
         })
     }
@@ -258,29 +282,30 @@ impl Table {
             (λ fault. turn_verdict kit (kept_in self.now) turn ≡ Some fault) }
         ensures change { IfOk result (λ change. (kit : AnyKit) → IsPlayed kit self.now →
             IsChangeBy kit (kept_in self.now) (Request.Forget turn) change) }
-        ensures kept { IfOk result (λ change. (kit : AnyKit) → kept_with (kept_in self.now) change ≡
-            kept_after (ends_turn kit) (kept_in self.now) (Request.Forget turn)) }
+        ensures kept { IfOk result (λ change. (kit : AnyKit) →
+            KeepsBy kit (kept_in self.now) (turns_in self.now) (Request.Forget turn) change) }
+        ensures alone { IfOk result (λ change. change.added ≡ None) }
         ensures fits { IfOk result (λ change. Fits (kept_in self.now) change) }
     {
         if !self.keeps(turn) {
             return Err(Fault::TurnNotKept);
         }
         Ok(Change {
-            stay: self.commands.len(),
+            stay: self.kept.len(),
             added: None,
-            game: self.game,
-            turns: self.turns,
+            game: None,
             floor: turn,
         })
     }
 
     /// The turn has ended, and it isn't forgotten.
+    #[tactic(auto, using(crate::proofs::HistoryLemmas::Plays::turns_ended))]
     fn keeps(&self, turn: u64) -> bool
-        ensures value { result ≡ (nat_le self.now.floor turn && nat_le turn self.now.turns) }
-        ensures ended { result ≡ true → turn ≤ self.now.turns }
+        ensures value { result ≡ (nat_le self.now.floor turn && nat_le turn (turns_in self.now)) }
+        ensures ended { result ≡ true → turn < length self.now.game.ends }
         ensures kept { (kit : AnyKit) → IsPlayed kit self.now → result ≡ is_kept_turn kit (kept_in self.now) turn }
     {
-        self.floor <= turn && turn <= self.turns
+        self.floor <= turn && turn <= self.game.turns()
     }
 }
 
@@ -293,15 +318,23 @@ fn opening_of(players: &Players) -> Command<'static>
     Command::Open { players: *players }
 }
 
-/// Keeps the first so many commands, and one that is added.
-fn replace_end(commands: &mut Vec<Spelled>, stay: usize, added: Option<Spelled>)
-    requires room { MOST_COMMANDS ≤ vec_capacity commands.old }
-    requires few { length (take stay commands.old.items ++ option_to_list added) ≤ MOST_COMMANDS }
-    ensures items { commands.new.items ≡ take stay commands.old.items ++ option_to_list added }
-    ensures room { MOST_COMMANDS ≤ vec_capacity commands.new }
+/// Keeps the first so many commands, and one that is added, for which there is room.
+fn replace_end(kept: &mut KeptCommands, stay: usize, added: Option<Spelled>)
+    requires room { IfSome added (HasRoom kept.old) }
+    requires few { length (take stay kept.old.commands ++ option_to_list added) ≤ MOST_COMMANDS }
+    ensures { kept.new.commands ≡ take stay kept.old.commands ++ option_to_list added }
 {
-    commands.truncate(stay);
+    kept.truncate(stay);
     if let Some(command) = added {
-        commands.push(command).unwrap();
+        kept.push(&command);
+    }
+}
+
+/// Puts another game in the place of one, if there is another.
+fn replace_game(game: &mut Game, other: Option<Game>)
+    ensures { game.new ≡ unwrap_or other game.old }
+{
+    if let Some(other) = other {
+        *game = other;
     }
 }

@@ -9,8 +9,8 @@ use rr_books::{Entry, Marker, Refusal};
 use rr_desk::{Desk, Position, pay_incomes};
 use rr_roster::Roster;
 
-/// What follows by itself on a command of a stock round, where operating rounds have no turns of their own: nothing while
-/// a stock round is under way; else an operating round passes: the privates pay, and the next stock round begins.
+/// What follows by itself on a command of a stock round, where operating rounds have no turns of their own: nothing
+/// while a stock round is under way; else an operating round passes: the privates pay, and the next stock round begins.
 ///
 /// # Errors
 ///

@@ -43,25 +43,25 @@ pub fn money_stays_along_plays()
     rr_books::laws::money_is_kept();
 }
 
-/// From the opening of a table on, the pool never has more than half of a corporation, whatever acts the auction took and
-/// whatever lawful commands of stock rounds followed.
+/// From the opening of a table on, the pool never has more than half of a corporation, whatever acts the auction took
+/// and whatever lawful commands of stock rounds followed.
 pub fn pool_stays_within_half_along_plays()
     ensures { PoolStaysWithinHalfAlongPlays }
 {
     crate::sequence::laws::pool_stays_within_half();
 }
 
-/// At a table of two players or more, whose roster names each corporation, the book is sound from the opening on, whatever
-/// lawful acts the auction takes and whatever lawful commands of stock rounds follow: nobody but the bank has less than
-/// nothing, each certificate has a place of the table, and the pool has at most half of each corporation.
+/// At a table of two players or more, whose roster names each corporation, the book is sound from the opening on,
+/// whatever lawful acts the auction takes and whatever lawful commands of stock rounds follow: nobody but the bank has
+/// less than nothing, each certificate has a place of the table, and the pool has at most half of each corporation.
 pub fn sound_along_plays()
     ensures { SoundAlongPlays }
 {
     crate::sequence::laws::pool_stays_within_half();
 }
 
-/// From the opening of a table on, whatever lawful acts the auction takes, each corporation awaits its par, with no more
-/// than 20% of it at any seat, or is led by its president.
+/// From the opening of a table on, whatever lawful acts the auction takes, each corporation awaits its par, with no
+/// more than 20% of it at any seat, or is led by its president.
 pub fn auction_stays_governed()
     ensures { AuctionStaysGoverned }
 {}
@@ -89,8 +89,8 @@ pub fn presidents_stay_greatest()
     crate::sequence::laws::lawful_sales_move_shares();
 }
 
-/// The auction and the stock rounds name one and the same seat for priority until the first stock round begins, and in it
-/// until the first purchase or sale.
+/// The auction and the stock rounds name one and the same seat for priority until the first stock round begins, and in
+/// it until the first purchase or sale.
 pub fn priority_is_one()
     ensures { PriorityIsOne }
 {}

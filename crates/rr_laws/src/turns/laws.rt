@@ -6,10 +6,10 @@ pub fn lawful_commands_are_of_turns()
     ensures { LawfulCommandsAreOfTurns }
 {}
 
-/// Whatever lawful command of a corporation's turn is played at a table in good order, it stays in good order: what bank,
-/// seats and corporations were paid is what they paid and nobody but the bank has less than nothing, each certificate has a
-/// place of the table, the pool has at most half of each corporation, and each corporation awaits its par or is led by its
-/// president. What the trains have earned in the turn isn't below nothing.
+/// Whatever lawful command of a corporation's turn is played at a table in good order, it stays in good order: what
+/// bank, seats and corporations were paid is what they paid and nobody but the bank has less than nothing, each
+/// certificate has a place of the table, the pool has at most half of each corporation, and each corporation awaits its
+/// par or is led by its president. What the trains have earned in the turn isn't below nothing.
 pub fn turns_keep_good_order()
     ensures { TurnsKeepGoodOrder }
 {}

@@ -1,7 +1,7 @@
 //! Lines, and records of the journal.
 use super::{first_command, first_line, is_line, is_record, is_request_written, player, table};
 use rr_code::{
-    Account, Command, Fault, Line, Owner, Query, Request, TrainHolder, laws, read_record, unstamped,
+    Account, Command, Fault, Line, Owner, Query, Request, TrainHolder, laws, read_record,
 };
 use rr_roster::{Corp, Private};
 use std::process::Abort;
@@ -134,17 +134,6 @@ fn reads_stamped_requests(rt: HostRuntime) {
             request,
         };
         assert!(rt; is_line(text, &line));
-    }
-}
-
-#[test]
-fn drops_the_stamp(rt: HostRuntime) {
-    for (line, record) in [
-        ("9999999999 t1 buy ann", "t1 buy ann"),
-        ("7 t1 back 0", "t1 back 0"),
-        ("tables", ""),
-    ] {
-        assert!(rt; unstamped(line.as_bytes()) == record.as_bytes());
     }
 }
 

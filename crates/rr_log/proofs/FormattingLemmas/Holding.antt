@@ -1,5 +1,5 @@
 -- What the chains of a new file spell.
-use Rattle.std.proofs.Common.{◌≡◌, ℕ, zero, suc, ◌+◌, ◌^◌, ◌<◌, ◌≤◌, Bool, true, false, List, [], ◌∷◌, ◌++◌, length, map, refl, sym, ◌∙◌, ap, subst, arith, length-append}
+use Rattle.std.proofs.Common.{◌≡◌, ℕ, zero, suc, ◌+◌, ◌^◌, ◌<◌, ◌≤◌, Bool, false, List, [], ◌∷◌, ◌++◌, length, map, refl, sym, ◌∙◌, ap, subst, arith, length-append}
 use Rattle.std.proofs.lemmas.List.{length-map}
 use Rattle.std.proofs.lemmas.List.Elements.{All-nil}
 use Rattle.rr_reading.specs.Dir.Directory.{IsDirectory, IsText, IsTable, spelling, spelled_chain}
@@ -21,7 +21,7 @@ use Rattle.rr_images.proofs.Laid.{nothing_laid, one_more_laid, laid_are_free}
 use Rattle.rr_images.proofs.Plans.{made_is_plan}
 use Rattle.rr_pages.specs.declared.chain.FreshPage.{FreshPage}
 use Rattle.rr_pages.specs.declared.root.Root.{Root}
-use Rattle.rr_pages.specs.Laying.{AllStand, head_of, laid, joined, FitEach, FitPages}
+use Rattle.rr_pages.specs.Laying.{AllStand, head_of, laid, joined, FitEach, FitPages, pages_for}
 use Rattle.rr_pages.specs.Writing.{fresh_of, IsLaid}
 use Rattle.rr_pages.proofs.SetLemmas.{empty_has}
 use Rattle.rr_reading.specs.Held.{TextChains}
@@ -216,11 +216,18 @@ module _ (takes : List ℕ → World → World → Type 0) (version : Version) (
 chain_bytes : (chain : ChainRef) → length (spelled_chain chain) ≡ 12
 chain_bytes chain = omega (arith, length-append (spelled_number 8 chain.head) (spelled_number 4 chain.length), length-spelled_number 8 chain.head, length-spelled_number 4 chain.length)
 
-pub directory_few : (version : Version) (kit : KitChains) (bytes : List ℕ) → bytes ≡ spelling version (record { kit = kit; tables = [] }) → length bytes ≤ 65536
-directory_few One kit bytes is =
+directory_bytes : (version : Version) (kit : KitChains) (bytes : List ℕ) → bytes ≡ spelling version (record { kit = kit; tables = [] }) → length bytes ≡ 50
+directory_bytes One kit bytes is =
     let a = spelled_chain kit.chart in
     let b = spelled_chain kit.roster in
     let c = spelled_chain kit.tiles in
     let d = spelled_chain kit.board in
     let t = spelled_number 2 0 ++ [] in
     omega (arith, ap (λ (xs : List ℕ). length xs) is, length-append (a ++ (b ++ (c ++ d))) t, length-append a (b ++ (c ++ d)), length-append b (c ++ d), length-append c d, chain_bytes kit.chart, chain_bytes kit.roster, chain_bytes kit.tiles, chain_bytes kit.board, length-append (spelled_number 2 0) [], length-spelled_number 2 0)
+
+pub directory_few : (version : Version) (kit : KitChains) (bytes : List ℕ) → bytes ≡ spelling version (record { kit = kit; tables = [] }) → length bytes ≤ 65536
+directory_few version kit bytes is = omega (arith, directory_bytes version kit bytes is)
+
+-- and so one page
+pub directory_page : (version : Version) (kit : KitChains) (bytes : List ℕ) → bytes ≡ spelling version (record { kit = kit; tables = [] }) → pages_for (length bytes) ≡ 1
+directory_page version kit bytes is = ap pages_for (directory_bytes version kit bytes is)

@@ -1,11 +1,14 @@
 -- How the bytes of a new file come to stand, write by write.
-use Rattle.std.proofs.Common.{◌≡◌, inl, inr, ℕ, ◌+◌, ◌-◌, ◌*◌, ◌<◌, ◌≤◌, List, [], ◌∷◌, length, map, slice_index, get_or, replicate, refl, ◌∙◌, ap, arith, length-append}
+use Rattle.std.proofs.Common.{◌≡◌, inl, inr, ℕ, zero, suc, ◌+◌, ◌-◌, ◌*◌, ◌<◌, ◌≤◌, List, [], ◌∷◌, ◌++◌, length, map, drop, slice_index, get_or, replicate, refl, sym, ◌∙◌, ap, subst, arith, length-append, length-drop}
+use Rattle.std.specs.List.{flat_map}
 use Rattle.std.proofs.lemmas.Bool.{cases_lt}
-use Rattle.std.proofs.lemmas.List.{get_or_past, get_or_append_left, get_or-append_right, get_or-replicate, length-replicate}
-use Rattle.rr_disk.specs.Disk.{Torn, written}
+use Rattle.std.proofs.lemmas.List.{append_assoc, append-nil, get_or_past, get_or_append_left, get_or-append_right, get_or-drop, get_or-replicate, length-replicate}
+use Rattle.rr_disk.specs.Calls.{Write, Account, after_step, after_steps}
+use Rattle.rr_disk.specs.Disk.{Torn, written, after_write}
 use Rattle.rr_disk.proofs.ImageLemmas.{length-written, written_before, written_inside, written_behind}
 use Rattle.rr_images.specs.Progress.{AreSpare}
 use Rattle.rr_images.proofs.Ticks.{stands_written}
+use Rattle.rr_pages.proofs.JournalLemmas.Appends.{content_written}
 use Rattle.rr_pages.specs.declared.chain.FreshPage.{FreshPage}
 use Rattle.rr_pages.specs.declared.root.Root.{Root}
 use Rattle.rr_pages.specs.Laying.{AllStand}
@@ -14,10 +17,19 @@ use Rattle.rr_pages.specs.Roots.{root_bytes}
 use Rattle.rr_pages.specs.Writing.{fresh_of}
 use Rattle.rr_pages.proofs.Bytes.{at_same}
 use Rattle.rr_pages.proofs.RootSpelling.{length-root}
-use Rattle.rr_log.specs.Formatting.Formatted.{bytes_of, all_bytes, header_zeros, HasNewBytes}
+use Rattle.rr_log.specs.Formatting.Calls.{page_call, zero_calls, zero_page, zeros_from}
+use Rattle.rr_log.specs.Formatting.Formatted.{HasNewBytes}
 use Rattle.rr_log.specs.Formatting.InTurn.{pages_from}
 use Rattle.rr_log.specs.Formatting.NewFile.{page_of}
 use Rattle.rr_log.proofs.FormattingLemmas.Blank.{AreGatesShut}
+use Rattle.rr_log.proofs.FormattingLemmas.Calls.{length-zero_page, zero_page_is}
+
+-- the bytes of pages, one page after another
+abbrev bytes_of : FreshPage → List ℕ
+bytes_of fresh = fresh.bytes.items
+
+abbrev pub all_bytes : List FreshPage → List ℕ
+all_bytes fresh = flat_map bytes_of fresh
 
 -- pages that follow one another
 abbrev tail_of : List ℕ → List ℕ
@@ -64,27 +76,46 @@ header_written file at empty last =
       ];
     }
 
--- and the zeros among them written once more, so that no hole is left
-pub length-zeros : length header_zeros ≡ 4096 * 514 - 4097
-unfolding header_zeros
-length-zeros = length-replicate {A = ℕ} (4096 * 514 - 4097) 0
+-- and zeros among them written once more, so that no hole is left
+zero_in : (zeros : List ℕ) (n : ℕ) → zeros ≡ replicate n 0 → (i : ℕ) → get_or zeros i 0 ≡ 0
+zero_in zeros n same i = elim (cases_lt i n) [
+  | inl inside ↦ ap (λ (bytes : List ℕ). get_or bytes i 0) same ∙ get_or-replicate n i 0 0 inside
+  | inr past ↦ get_or_past zeros i 0 (omega (arith, past, ap (λ (bytes : List ℕ). length bytes) same, length-replicate {A = ℕ} n 0))
+]
 
-pub zeros_are : header_zeros ≡ replicate 2101247 0
-unfolding header_zeros
-zeros_are = refl
+zero_at : (i : ℕ) → get_or zero_page i 0 ≡ 0
+zero_at i = zero_in zero_page 4096 (sym zero_page_is) i
 
-zero_in : (zeros : List ℕ) (n : ℕ) → zeros ≡ replicate n 0 → (i : ℕ) → i < n → get_or zeros i 0 ≡ 0
-zero_in zeros n same i h = ap (λ (bytes : List ℕ). get_or bytes i 0) same ∙ get_or-replicate n i 0 0 h
-
-pub zeros_written : (file : List ℕ) → HasHeader file → HasHeader (written file 4097 header_zeros)
-zeros_written file has =
+pub zeros_written : (file : List ℕ) (at : ℕ) (zeros : List ℕ) → HasHeader file → at + length zeros ≤ 4096 * 514 → ((i : ℕ) → get_or zeros i 0 ≡ 0) → HasHeader (written file at zeros)
+zeros_written file at zeros has within none =
     record {
-      ends = omega (arith, length-written file 4097 header_zeros, length-zeros, has.ends);
-      zeros = λ i h. elim (cases_lt i 4097) [
-        | inl before ↦ written_before file 4097 header_zeros i before ∙ has.zeros i h
-        | inr behind ↦ written_inside file 4097 header_zeros i behind (omega (arith, length-zeros, h)) ∙ zero_in header_zeros 2101247 zeros_are (i - 4097) (omega (arith, behind, h))
+      ends = omega (arith, length-written file at zeros, has.ends, within);
+      zeros = λ i h. elim (cases_lt i at) [
+        | inl before ↦ written_before file at zeros i before ∙ has.zeros i h
+        | inr low ↦ elim (cases_lt i (at + length zeros)) [
+          | inl high ↦ written_inside file at zeros i low high ∙ none (i - at)
+          | inr behind ↦ written_behind file at zeros i behind ∙ has.zeros i h
+        ]
       ];
     }
+
+-- page by page
+zero_pages_there : (page count : ℕ) (old : Account) → page + count ≤ 514 → HasHeader old.state.content → HasHeader (after_steps old (zeros_from page count)).state.content
+unfolding zeros_from
+zero_pages_there page zero old few has = has
+zero_pages_there page (suc count) old few has =
+    let first : HasHeader (after_write old.state (4096 * page) zero_page).content =
+    subst (λ (file : List ℕ). HasHeader file) (sym (content_written old.state (4096 * page) zero_page (omega (arith, length-zero_page))))
+    (zeros_written old.state.content (4096 * page) zero_page has (omega (arith, few, length-zero_page)) zero_at) in
+    zero_pages_there (page + 1) count (after_step old (Write (4096 * page) zero_page)) (omega (arith, few)) first
+
+pub zeros_there : (old : Account) → HasHeader old.state.content → HasHeader (after_steps old zero_calls).state.content
+zeros_there old has =
+    let first : HasHeader (after_write old.state 4097 (drop 1 zero_page)).content =
+    subst (λ (file : List ℕ). HasHeader file) (sym (content_written old.state 4097 (drop 1 zero_page) (omega (arith, length-drop 1 zero_page, length-zero_page))))
+    (zeros_written old.state.content 4097 (drop 1 zero_page) has (omega (arith, length-drop 1 zero_page, length-zero_page))
+    (λ i. get_or-drop 1 zero_page i 0 ∙ zero_at (1 + i))) in
+    zero_pages_there 2 512 (after_step old (Write 4097 (drop 1 zero_page))) (omega arith) first
 
 pub header_shut : (file : List ℕ) → HasHeader file → AreGatesShut file
 header_shut file has =
@@ -96,13 +127,42 @@ pub record HasPages (bytes file : List ℕ) : Type 0 where
   pub zeros : (i : ℕ) → i < 4096 * 514 → slice_index file i ≡ 0
   pub there : StandsAt file (4096 * 514) bytes
 
-pub pages_written : (file bytes : List ℕ) → HasHeader file → HasPages bytes (written file (4096 * 514) bytes)
-pages_written file bytes has =
+no_pages : (file : List ℕ) → HasHeader file → HasPages [] file
+no_pages file has = record { ends = omega (arith, has.ends); zeros = has.zeros; there = λ i h. absurd (omega (arith, h)) }
+
+page_written : (file bytes more : List ℕ) (at : ℕ) → at ≡ 4096 * 514 + length bytes → HasPages bytes file → HasPages (bytes ++ more) (written file at more)
+page_written file bytes more at place has =
     record {
-      ends = omega (arith, length-written file (4096 * 514) bytes, has.ends);
-      zeros = λ i h. written_before file (4096 * 514) bytes i h ∙ has.zeros i h;
-      there = stands_written file (4096 * 514) bytes;
+      ends = omega (arith, length-written file at more, has.ends, place, length-append bytes more);
+      zeros = λ i h. written_before file at more i (omega (arith, h, place)) ∙ has.zeros i h;
+      there = λ i h. elim (cases_lt i (length bytes)) [
+        | inl before ↦
+            written_before file at more (4096 * 514 + i) (omega (arith, before, place))
+            ∙ (has.there i before ∙ sym (get_or_append_left bytes more 0 i before))
+        | inr behind ↦
+            written_inside file at more (4096 * 514 + i) (omega (arith, behind, place)) (omega (arith, h, place, length-append bytes more))
+            ∙ (at_same more (4096 * 514 + i - at) (i - length bytes) (omega (arith, place, behind)) ∙ sym (get_or-append_right bytes more (length bytes) i 0 refl behind))
+      ];
     }
+
+pages_from_there : (page : ℕ) (reached : List ℕ) (bytes : List ℕ) (fresh : List FreshPage) (old : Account) → map page_of fresh ≡ pages_from page (length fresh) → AreSpare reached (map fresh_of fresh)
+    → 4096 * page ≡ 4096 * 514 + length bytes → HasPages bytes old.state.content → HasPages (bytes ++ all_bytes fresh) (after_steps old (map page_call fresh)).state.content
+pages_from_there page reached bytes [] old turn spare place has = subst (λ (all : List ℕ). HasPages all old.state.content) (sym (append-nil bytes)) has
+pages_from_there page reached bytes (x ∷ fresh) old turn spare place has =
+    let here : x.page ≡ page = ap (λ (pages : List ℕ). get_or pages 0 0) turn in
+    let later : map page_of fresh ≡ pages_from (page + 1) (length fresh) = ap tail_of turn in
+    let whole : length (bytes_of x) ≡ 4096 = spare.1 in
+    let first : HasPages (bytes ++ bytes_of x) (after_write old.state (4096 * x.page) (bytes_of x)).content =
+    subst (λ (file : List ℕ). HasPages (bytes ++ bytes_of x) file) (sym (content_written old.state (4096 * x.page) (bytes_of x) (omega (arith, whole))))
+    (page_written old.state.content bytes (bytes_of x) (4096 * x.page) (omega (arith, here, place)) has) in
+    let rest : HasPages ((bytes ++ bytes_of x) ++ all_bytes fresh) (after_steps old (map page_call (x ∷ fresh))).state.content =
+    pages_from_there (page + 1) (x.page ∷ reached) (bytes ++ bytes_of x) fresh (after_step old (page_call x)) later spare.3
+    (omega (arith, place, whole, length-append bytes (bytes_of x))) first in
+    subst (λ (all : List ℕ). HasPages all (after_steps old (map page_call (x ∷ fresh))).state.content) (append_assoc bytes (bytes_of x) (all_bytes fresh)) rest
+
+pub pages_there : (fresh : List FreshPage) (old : Account) → map page_of fresh ≡ pages_from 514 (length fresh) → AreSpare [] (map fresh_of fresh) → HasHeader old.state.content
+    → HasPages (all_bytes fresh) (after_steps old (map page_call fresh)).state.content
+pages_there fresh old turn spare has = pages_from_there 514 [] [] fresh old turn spare (omega arith) (no_pages old.state.content has)
 
 -- then the root behind its shut gate
 pub record HasRoot (root : Root) (bytes file : List ℕ) : Type 0 where

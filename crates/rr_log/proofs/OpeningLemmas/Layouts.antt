@@ -16,6 +16,7 @@ use Rattle.rr_images.proofs.Following.{ReadThere, read_there}
 use Rattle.rr_images.proofs.GoesOn.{goes_opened}
 use Rattle.rr_images.proofs.OneWorld.{IsThere, there_of, one_holding_there, end_of, far_stands, kept_opened, opened_between}
 use Rattle.rr_pages.specs.declared.journal.reading.RunEnd.TheVariants.{Closed, Damaged}
+use Rattle.rr_pages.specs.Journal.Reading.{lines}
 use Rattle.rr_pages.specs.Journal.Run.{Run}
 use Rattle.rr_pages.proofs.JournalLemmas.Runs.{one_run}
 use Rattle.rr_log.specs.declared.opening.opened.Opened.{Opened}
@@ -99,11 +100,11 @@ module _ (codec : Codec) (exact : IsExact codec) (names : NamesChains codec) (fi
       subst (λ (begun : Option ℕ). IsBegunAt begun number (opened_far layout.far)) (sym (goes_same place goes).begun) (begun_opened number layout.far)
 
 -- the writer of an opened file tells that layout
-tells_opened : {C : Type 0} (codec : Codec) (exact : IsExact codec) (names : NamesChains codec) (opened : Opened C) (file : List ℕ) (holds : Holds file (held_by opened)) (layout : Layout codec) (world : codec.World) (keeps : KeepsAt codec layout file world)
-    → GoesBehind (held_by opened).root (held_by opened).near (held_by opened).far (place_of opened.writer)
+tells_opened : {C : Type 0} (codec : Codec) (exact : IsExact codec) (names : NamesChains codec) (opened : Opened C) (file : List ℕ) (holds : Holds file (held_by file opened)) (layout : Layout codec) (world : codec.World) (keeps : KeepsAt codec layout file world)
+    → GoesBehind (taken_of opened.writer).root (lines opened.near.records.items) (lines opened.far.records.items) (place_of opened.writer)
     → Tells (taken_of opened.writer) (place_of opened.writer) (free_of opened.writer) (with_far layout (opened_far layout.far))
 tells_opened codec exact names opened file holds layout world keeps goes =
-    let has = held_by opened in
+    let has = held_by file opened in
     let place = place_of opened.writer in
     let there = goes_same codec exact names file has holds layout world keeps place goes in
     let same = same_taken codec exact names file has holds layout world keeps in
@@ -116,7 +117,7 @@ tells_opened codec exact names opened file holds layout world keeps goes =
     }
 
 -- it carries the world of a file that keeps one
-pub carries_read : {C : Type 0} (codec : Codec) (opened : Opened C) (old new : DiskState) → Holds old.content (held_by opened) → GoesBehind (held_by opened).root (held_by opened).near (held_by opened).far (place_of opened.writer)
+pub carries_read : {C : Type 0} (codec : Codec) (opened : Opened C) (old new : DiskState) → Holds old.content (held_by old.content opened) → GoesBehind (taken_of opened.writer).root (lines opened.near.records.items) (lines opened.far.records.items) (place_of opened.writer)
     → ticks_left_of opened.writer ≡ 0 → new ≡ after_sync old → IsExact codec → NamesChains codec → (world : codec.World) → Keeps codec old.content world → CarriesRead codec opened new world
 carries_read codec opened old new holds goes resting is exact names world keeps =
     let layout : Layout codec = with_far keeps.layout (opened_far keeps.layout.far) in
@@ -131,5 +132,5 @@ carries_read codec opened old new holds goes resting is exact names world keeps 
         between = subst (λ (checkpoint : Option Checkpoint). IsBetween codec layout (after_sync old) (progress_of checkpoint layout.holding) world) (sym none) (opened_between codec keeps.layout old world keeps.kept);
         coming = subst (λ (checkpoint : Option Checkpoint). HasComing (free_of opened.writer) (taken_of opened.writer).root.number checkpoint layout.holding) (sym none) tt;
       };
-      is_read = is_read_as codec exact names old.content (held_by opened) holds layout world kept;
+      is_read = is_read_as codec exact names old.content (held_by old.content opened) holds layout world kept;
     })

@@ -1,7 +1,6 @@
 -- A new file on a device.
-use Rattle.std.specs.Prelude.{◌≡◌, ◌⊎◌, ℕ, ◌+◌, ◌-◌, ◌*◌, ◌<◌, ◌≤◌, false, List, [], ◌∷◌, length, map, replicate, slice_index}
-use Rattle.std.specs.List.{flat_map}
-use Rattle.rr_disk.specs.Disk.{DiskState, after_write, after_sync}
+use Rattle.std.specs.Prelude.{◌≡◌, ◌⊎◌, ℕ, ◌+◌, ◌*◌, ◌<◌, ◌≤◌, false, List, length, map, slice_index}
+use Rattle.rr_disk.specs.Disk.{DiskState}
 use Rattle.rr_disk.specs.Moments.{EachImage}
 use Rattle.rr_images.specs.Codec.{Codec}
 use Rattle.rr_images.specs.Holding.{Holding}
@@ -18,26 +17,6 @@ use Rattle.rr_pages.specs.declared.root.TheConstants.{ROOT_BYTES}
 use Rattle.rr_reading.specs.Worlds.Spelling.{worlds}
 use Rattle.rr_reading.specs.Worlds.World.{World}
 use Rattle.rr_log.specs.Formatting.NewFile.{IsFirstRoot, IsNewFile}
-
--- the bytes of fresh pages, one page after another
-abbrev pub bytes_of : FreshPage → List ℕ
-bytes_of fresh = fresh.bytes.items
-
-abbrev pub all_bytes : List FreshPage → List ℕ
-all_bytes fresh = flat_map bytes_of fresh
-
--- the zeros between the gate of the second root and the data pages
-unfoldable pub header_zeros : List ℕ
-header_zeros = replicate (PAGE_BYTES * FIRST_DATA - (PAGE_BYTES + 1)) 0
-
--- a disk behind the first calls: as many bytes as lie before the data pages, synced, and the zeros among them
-abbrev pub header_state : DiskState → DiskState
-header_state state = after_write (after_sync (after_write state (PAGE_BYTES * FIRST_DATA - 1) (0 ∷ []))) (PAGE_BYTES + 1) header_zeros
-
--- behind the calls before the last gate: then the pages, and the root behind its shut gate, synced
-abbrev pub closed_state : Root → List ℕ → DiskState → DiskState
-closed_state root pages state =
-    after_sync (after_write (after_write (header_state state) (PAGE_BYTES * FIRST_DATA) pages) 1 (root_bytes root))
 
 -- The bytes of a new file: on page 0 an open gate and the root behind it, zeros up to the first data page, and then the
 -- fresh pages, up to the last page that the root counts.

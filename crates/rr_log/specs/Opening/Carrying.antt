@@ -28,4 +28,4 @@ pub record IsReadAs {codec : Codec} (layout : Layout codec) (has : Held) (world 
 -- the writer carries this world, by a layout that is what was read
 pub record CarriesRead {C : Type 0} (codec : Codec) (opened : Opened C) (state : DiskState) (world : codec.World) : Type 0 where
   pub carries : Carries codec opened.writer state world
-  pub is_read : IsReadAs carries.layout (held_by opened) world
+  pub is_read : IsReadAs carries.layout (held_by state.content opened) world

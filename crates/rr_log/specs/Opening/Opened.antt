@@ -1,24 +1,24 @@
 -- What an opening gives of a file.
-use Rattle.std.specs.Prelude.{◌≡◌, ◌⊎◌}
+use Rattle.std.specs.Prelude.{◌≡◌, ◌⊎◌, ℕ, List}
 use Rattle.rr_checkpoint.specs.Writer.{taken_of, free_of}
 use Rattle.rr_reading.specs.Dir.Directory.{directory_of}
 use Rattle.rr_pages.specs.declared.journal.reading.RunEnd.TheVariants.{Damaged}
 use Rattle.rr_pages.specs.Journal.Reading.{lines}
 use Rattle.rr_log.specs.declared.opening.opened.Opened.{Opened}
 use Rattle.rr_pages.specs.FreePages.{present_of}
-use Rattle.rr_reading.specs.Chains.{held, all_held}
-use Rattle.rr_reading.specs.Held.{Held, chains_held}
+use Rattle.rr_reading.specs.Chains.{held}
+use Rattle.rr_reading.specs.Held.{Held, chains_held, tables_in}
 
 -- what it says that the file holds: the root that is taken and the pages that this reaches are the writer's
-abbrev pub held_by : {C : Type 0} → Opened C → Held
-held_by opened =
+abbrev pub held_by : {C : Type 0} → List ℕ → Opened C → Held
+held_by file opened =
     record {
       side = (taken_of opened.writer).side;
       root = (taken_of opened.writer).root;
       directory = directory_of opened.dir;
       chain = held opened.directory;
       texts = chains_held opened.texts;
-      tables = all_held opened.tables.items;
+      tables = tables_in file opened.tables;
       reached = present_of (free_of opened.writer);
       near = lines opened.near.records.items;
       near_end = opened.near.end;
@@ -29,3 +29,7 @@ held_by opened =
 -- the records of a half end in one that is damaged
 abbrev pub HasDamagedRecord : Held → Type 0
 HasDamagedRecord has = (has.near_end ≡ Damaged) ⊎ (has.far_end ≡ Damaged)
+
+-- the same of what was read
+abbrev pub TellsDamagedRecord : {C : Type 0} → Opened C → Type 0
+TellsDamagedRecord opened = (opened.near.end ≡ Damaged) ⊎ (opened.far.end ≡ Damaged)

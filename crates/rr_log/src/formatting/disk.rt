@@ -1,10 +1,10 @@
 ghost use Rattle.std.specs.Prelude.{◌≡◌, ◌+◌, ◌≤◌, length, OnOk, IsErrOf, IsOkUnless};
-ghost use Rattle.rr_disk.specs.Disk.{counted};
+ghost use Rattle.rr_disk.specs.Disk.{counted_by};
 ghost use Rattle.rr_disk.specs.Moments.{EachImage, LeavesOnly};
+ghost use Rattle.rr_log.specs.Formatting.Calls.{data_pages, laying_writes};
 ghost use Rattle.rr_log.specs.Formatting.Formatted.{IsUnused, KeepsNew, KeepsNoneOr};
 ghost use Rattle.rr_log.specs.Formatting.NewFile.{empty_world};
-ghost use Rattle.rr_pages.specs.Faults.{CountsFault};
-ghost use Rattle.rr_pages.specs.Links.{NoVerdict};
+ghost use Rattle.rr_pages.specs.Faults.{CountsFault, NoVerdict};
 ghost use Rattle.rr_reading.specs.Worlds.Spelling.{worlds};
 ghost use Rattle.rr_reading.specs.declared.dir.directory.TheConstants.{MOST_TEXT};
 
@@ -48,9 +48,10 @@ pub fn format<R: Rules, D: Disk>(
     ensures unchanged { IsErrOf result Fault.OutOfMemory → disk.new ≡ disk.old }
     ensures fault { CountsFault (D.fault_count disk.old) (D.fault_count disk.new) result }
     ensures honest { D.Honest disk.new → D.Honest disk.old }
-    ensures all_writes { OnOk result
-        (D.write_count disk.new ≡ counted (counted (counted (counted (counted (D.write_count disk.old)))))) }
-    ensures writes { D.write_count disk.new ≤ D.write_count disk.old + 5 }
+    ensures all_writes { OnOk result (D.write_count disk.new
+        ≡ counted_by (laying_writes (data_pages chart.now roster.now tiles.now board.now)) (D.write_count disk.old)) }
+    ensures writes { D.write_count disk.new
+        ≤ D.write_count disk.old + laying_writes (data_pages chart.now roster.now tiles.now board.now) }
     ensures syncs { D.sync_count disk.new ≤ D.sync_count disk.old + 3 }
 
     // A disk that works doesn't fail here.
@@ -58,6 +59,6 @@ pub fn format<R: Rules, D: Disk>(
     ensures works { D.Works disk.new → D.Works disk.old }
 {
     let file = new_file::<R>(alloc, NEWEST, chart, roster, tiles, board)?;
-    write_new_file::<R, D>(alloc, disk, &file)?;
+    write_new_file::<R, D>(disk, &file)?;
     Ok(())
 }

@@ -1,5 +1,6 @@
 // The four texts of a kit.
-ghost use Rattle.std.specs.Prelude.{◌≡◌, ◌≤◌, [], length, IfOk, IfErr};
+ghost use Rattle.std.specs.Prelude.{◌≡◌, ◌+◌, ◌≤◌, [], length, IfOk, IfErr};
+ghost use Rattle.rr_log.specs.Formatting.Calls.{data_pages};
 ghost use Rattle.rr_log.specs.Formatting.InTurn.{AreInTurn};
 ghost use Rattle.rr_log.specs.Formatting.Kit.{IsKitLaid};
 ghost use Rattle.rr_log.specs.Formatting.NewFile.{empty_world};
@@ -31,6 +32,8 @@ pub(crate) fn lay_kit(
         fresh.new.items (empty_world chart.now roster.now tiles.now board.now) kit) }
     ensures in_turn { IfOk result (λ _. AreInTurn (present_of free.new) (coming_of free.new) (length fresh.new.items)) }
     ensures few { IfOk result (λ _. length fresh.new.items ≤ 68) }
+    ensures pages { IfOk result (λ _. length fresh.new.items + 1
+        ≡ data_pages chart.now roster.now tiles.now board.now) }
     ensures memory { IfErr result (λ fault. fault ≡ Fault.OutOfMemory) }
     ensures present { present_of free.new ≡ present_of free.old }
 {

@@ -1,6 +1,7 @@
 ghost use Rattle.std.specs.Prelude.{◌≡◌, ◌+◌, ◌≤◌, false, [], length, IfOk, IfErr};
 ghost use Rattle.rr_reading.specs.Dir.Directory.{spelling};
 ghost use Rattle.rr_reading.specs.Dir.Version.{version_number};
+ghost use Rattle.rr_log.specs.Formatting.Calls.{data_pages};
 ghost use Rattle.rr_log.specs.Formatting.NewFile.{IsNewFile, empty_world};
 ghost use Rattle.rr_reading.specs.declared.dir.directory.TheConstants.{MOST_TEXT};
 ghost use Rattle.rr_pages.specs.declared.journal.layout.HalfIndex.TheVariants.{First};
@@ -8,7 +9,7 @@ ghost use Rattle.rr_pages.specs.declared.journal.layout.HalfIndex.TheVariants.{F
 use crate::formatting::kit::lay_kit;
 use crate::formatting::text::lay_text;
 use rr_pages::journal::HalfIndex;
-use rr_pages::{FIRST_DATA, Fault, FreePages, FreshPage, PageSet, Root};
+use rr_pages::{FIRST_DATA, Fault, FreePages, FreshPage, ReachedPages, Root};
 use rr_reading::dir::{Dir, KitChains, Version};
 use rr_reading::worlds::Rules;
 use std::alloc::Global;
@@ -40,10 +41,12 @@ pub fn new_file<R: Rules>(
     requires short_board { length board.now ≤ MOST_TEXT }
     ensures holds { IfOk result (λ file. IsNewFile R.takes file.root file.fresh.items
         (empty_world chart.now roster.now tiles.now board.now)) }
+    ensures pages { IfOk result (λ file. length file.fresh.items
+        ≡ data_pages chart.now roster.now tiles.now board.now) }
     ensures version { IfOk result (λ file. file.root.version ≡ version_number version) }
     ensures memory { IfErr result (λ fault. fault ≡ Fault.OutOfMemory) }
 {
-    let mut free = FreePages::new(alloc, PageSet::new(alloc)?)?;
+    let mut free = FreePages::new(alloc, ReachedPages::new(alloc)?)?;
     let mut fresh = Vec::new(alloc);
     let kit = lay_kit(alloc, &mut free, &mut fresh, chart, roster, tiles, board)?;
     let directory = directory_bytes(alloc, version, kit)?;

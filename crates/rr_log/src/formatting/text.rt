@@ -2,6 +2,7 @@
 ghost use Rattle.std.specs.Prelude.{◌≡◌, ◌+◌, ◌≤◌, length, IfOk, IfErr};
 ghost use Rattle.rr_log.specs.Formatting.InTurn.{AreInTurn};
 ghost use Rattle.rr_pages.specs.FreePages.{present_of, coming_of};
+ghost use Rattle.rr_pages.specs.Laying.{pages_for};
 ghost use Rattle.rr_pages.specs.Writing.{IsLaid};
 ghost use Rattle.rr_reading.specs.declared.dir.directory.TheConstants.{MOST_TEXT};
 
@@ -24,6 +25,8 @@ pub(crate) fn lay_text(
     ensures counted { IfOk result (λ chain. chain.length ≡ length text.now) }
     ensures in_turn { IfOk result (λ _. AreInTurn (present_of free.new) (coming_of free.new) (length fresh.new.items)) }
     ensures few { IfOk result (λ _. length fresh.new.items ≤ length fresh.old.items + 17) }
+    ensures pages { IfOk result (λ _. length fresh.new.items
+        ≡ length fresh.old.items + pages_for (length text.now)) }
     ensures memory { IfErr result (λ fault. fault ≡ Fault.OutOfMemory) }
     ensures present { present_of free.new ≡ present_of free.old }
 {

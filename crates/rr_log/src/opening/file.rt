@@ -1,5 +1,5 @@
-ghost use Rattle.std.specs.Prelude.{◌≡◌, ◌<◌, ◌^◌, not, IfOk, IfErr, IsErrOf};
-ghost use Rattle.rr_checkpoint.specs.Writer.{free_of, place_of, ticks_left_of};
+ghost use Rattle.std.specs.Prelude.{◌≡◌, ◌*◌, ◌<◌, ◌≤◌, ◌^◌, ℕ, List, not, IfOk, IfErr, IsErrOf};
+ghost use Rattle.rr_checkpoint.specs.Writer.{free_of, place_of, taken_of, ticks_left_of};
 ghost use Rattle.rr_disk.specs.Disk.{IsImage, counted};
 ghost use Rattle.rr_disk.specs.Moments.{LeavesOnly};
 ghost use Rattle.rr_images.specs.Codec.{IsExact};
@@ -10,9 +10,12 @@ ghost use Rattle.rr_log.specs.Opening.Place.{GoesBehind};
 ghost use Rattle.rr_log.specs.Opening.Syncing.{IsSynced};
 ghost use Rattle.rr_pages.specs.FreePages.{coming_of};
 ghost use Rattle.rr_pages.specs.Journal.Layout.{other_half};
+ghost use Rattle.rr_pages.specs.Journal.Reading.{lines};
 ghost use Rattle.rr_pages.specs.Sets.{IsEmpty};
 ghost use Rattle.rr_reading.specs.Faults.{CountsFault, IsNoVerdict, OnDeviceFault};
 ghost use Rattle.rr_reading.specs.Held.{GoesOn, held_of};
+ghost use Rattle.rr_reading.specs.Lending.Chains.{count_of};
+ghost use Rattle.rr_pages.specs.declared.page.TheConstants.{PAGE_BYTES};
 ghost use Rattle.rr_reading.specs.Laws.{NamesChains, SpellsForms};
 ghost use Rattle.rr_reading.specs.Reading.{Holds, Refuses};
 
@@ -42,14 +45,16 @@ use std::alloc::Global;
 /// `OutOfMemory` alone, and only where a root is taken. After each of them the bytes are as they were.
 pub fn open_file<D: Disk, C: Codec>(alloc: Global, disk: &mut D) -> Result<Opened<C>, Fault>
     // What is given is what the file holds, and the next record goes behind it.
-    ensures holds { IfOk result (λ opened. D.Honest disk.new → Holds (D.state disk.old).content (held_by opened)) }
+    ensures holds { IfOk result (λ opened. D.Honest disk.new → Holds (D.state disk.old).content (held_by (D.state disk.old).content opened)) }
     ensures place { IfOk result (λ opened. D.Honest disk.new
-        → GoesBehind (held_by opened).root (held_by opened).near (held_by opened).far (place_of opened.writer)) }
+        → GoesBehind (taken_of opened.writer).root (lines opened.near.records.items) (lines opened.far.records.items) (place_of opened.writer)) }
     // The near records are in the half that the root names, and the far ones in the other.
-    ensures near { IfOk result (λ opened. GoesOn (held_by opened).root.half opened.near) }
-    ensures far { IfOk result (λ opened. GoesOn (other_half (held_by opened).root.half) opened.far) }
+    ensures near { IfOk result (λ opened. GoesOn (taken_of opened.writer).root.half opened.near) }
+    ensures far { IfOk result (λ opened. GoesOn (other_half (taken_of opened.writer).root.half) opened.far) }
     ensures resting { IfOk result (λ opened. ticks_left_of opened.writer ≡ 0) }
     ensures coming { IfOk result (λ opened. IsEmpty (coming_of (free_of opened.writer))) }
+    // The pages of its tables' chains lie within the file.
+    ensures within { IfOk result (λ opened. PAGE_BYTES * count_of opened.tables.chains ≤ D.file_len disk.old) }
 
     // Where the file is one of ours, the writer carries its world, by a layout that is what was read.
     ensures carries { IfOk result (λ opened. D.Honest disk.new → IsExact C.codec → NamesChains C.codec
@@ -107,13 +112,14 @@ fn sync<D: Disk>(disk: &mut D) -> Result<(), Fault>
 fn begin<C: Codec>(alloc: Global, contents: Contents) -> Result<Opened<C>, Fault>
     requires near { GoesOn contents.taken.root.half contents.near }
     requires far { GoesOn (other_half contents.taken.root.half) contents.far }
-    ensures held { IfOk result (λ opened. held_by opened ≡ held_of contents) }
+    ensures held { IfOk result (λ opened. (file : List ℕ) → held_by file opened ≡ held_of file contents) }
     ensures place { IfOk result (λ opened. contents.taken.root.first < 2 ^ 63
-        → GoesBehind (held_of contents).root (held_of contents).near (held_of contents).far (place_of opened.writer)) }
+        → GoesBehind contents.taken.root (lines contents.near.records.items) (lines contents.far.records.items) (place_of opened.writer)) }
     ensures near { IfOk result (λ opened. GoesOn contents.taken.root.half opened.near) }
     ensures far { IfOk result (λ opened. GoesOn (other_half contents.taken.root.half) opened.far) }
     ensures resting { IfOk result (λ opened. ticks_left_of opened.writer ≡ 0) }
     ensures coming { IfOk result (λ opened. IsEmpty (coming_of (free_of opened.writer))) }
+    ensures pages { IfOk result (λ opened. count_of opened.tables.chains ≡ count_of contents.tables.chains) }
     ensures memory { IfErr result (λ fault. fault ≡ Fault.OutOfMemory) }
 {
     let Contents {

@@ -5,6 +5,7 @@ use rr_pages::ReadChain;
 use rr_pages::journal::{RunEnd, Scanned};
 use rr_reading::KitTexts;
 use rr_reading::dir::Dir;
+use rr_reading::lending::Commands;
 
 /// What an opening gives: what the file holds, and what writes to it.
 #[derive(Drop)]
@@ -16,8 +17,8 @@ pub struct Opened<C> {
     /// The directory's chain.
     pub directory: ReadChain,
     pub texts: KitTexts,
-    /// The chain of each table, in the order of the directory. Its bytes are as many kept commands as that says.
-    pub tables: Vec<ReadChain>,
+    /// The kept commands in the chain of each table, in the order of the directory: as many as that says.
+    pub tables: Commands,
     /// The records in the half that the root names, and why they end.
     pub near: Scanned,
     /// Those in the other half, numbered on.
@@ -26,13 +27,13 @@ pub struct Opened<C> {
 
 impl<C> Opened<C> {
     ghost use Rattle.std.specs.Prelude.{◌↔◌, IsTrue};
-    ghost use Rattle.rr_log.specs.Opening.Opened.{HasDamagedRecord, held_by};
+    ghost use Rattle.rr_log.specs.Opening.Opened.{TellsDamagedRecord};
 
     /// Whether the records of a half end in one that is damaged: it has the expected number, and a length that no
     /// record there may have. Then the file stands for nothing, and is damaged by clause 8, where texts that are
     /// refused and commands that aren't lawful, the records' own before it included, don't come before that.
     pub fn is_damaged(&self) -> bool
-        ensures { IsTrue result ↔ HasDamagedRecord (held_by self.now) }
+        ensures { IsTrue result ↔ TellsDamagedRecord self.now }
     {
         if is_damage(self.near.end) {
             return true;

@@ -168,8 +168,8 @@ impl Operations {
         self.has_run
     }
 
-    /// Whether the bank, which began with the roster's, had less than nothing after some entry. The first set of operating
-    /// rounds that ends then ends the game.
+    /// Whether the bank, which began with the roster's, had less than nothing after some entry. The first set of
+    /// operating rounds that ends then ends the game.
     pub fn bank_owed(&self, roster: &Roster) -> bool
         ensures shown { result ≡ bank_owed roster.now self.now.progress }
         ensures book { (book : Book) → IsOperationsOf book self.now → result ≡ bank_owed roster.now (progress book) }

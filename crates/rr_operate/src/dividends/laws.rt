@@ -2,8 +2,8 @@
 ghost use Rattle.rr_operate.specs.Dividends.DividendLaws.{DividendsMoveTokens, EntriesAreThese, NobodyIsPaidForTheOffering, PaysEachHolder, WithholdingPaysTheCorporation};
 ghost use Rattle.rr_operate.specs.Dividends.WorkedDividends.{WorkedDebt, WorkedDividend, WorkedEdge, WorkedWithholding};
 
-/// A revenue of 100 is paid out where a seat holds 60%, the pool has 20% and the offering 20%; a bank that has 50 owes 30
-/// then.
+/// A revenue of 100 is paid out where a seat holds 60%, the pool has 20% and the offering 20%; a bank that has 50 owes
+/// 30 then.
 pub fn worked_dividends()
     ensures dividend { WorkedDividend }
     ensures debt { WorkedDebt }
@@ -15,14 +15,14 @@ pub fn worked_moves()
     ensures withholding { WorkedWithholding }
 {}
 
-/// What a dividend adds is told by the book before it: the command's words, a payment to each seat in seating order and one
-/// to the corporation for the pool, and the token's mark, where it moves.
+/// What a dividend adds is told by the book before it: the command's words, a payment to each seat in seating order and
+/// one to the corporation for the pool, and the token's mark, where it moves.
 pub fn entries_are_these()
     ensures { EntriesAreThese }
 {}
 
-/// A revenue that is paid out is shared by percents: each seat gains the part of its shares, the corporation that of the
-/// pool's, no other corporation anything, and the bank loses just what these gain, whatever it has.
+/// A revenue that is paid out is shared by percents: each seat gains the part of its shares, the corporation that of
+/// the pool's, no other corporation anything, and the bank loses just what these gain, whatever it has.
 pub fn pays_each_holder()
     ensures { PaysEachHolder }
 {}

@@ -31,9 +31,9 @@ pub fn judge_pay(revenue: Money) -> Result<(), Refusal>
     Err(Refusal::WrongStep)
 }
 
-/// Pays a corporation's revenue out of the bank, whatever that has: to each seat the part of its shares, in seating order,
-/// to the corporation that of the shares in the pool. Nobody is paid for shares in the offering, and payments of 0 are
-/// entries too. The token goes right, at the right edge up, and stays where there is no such cell.
+/// Pays a corporation's revenue out of the bank, whatever that has: to each seat the part of its shares, in seating
+/// order, to the corporation that of the shares in the pool. Nobody is paid for shares in the offering, and payments of
+/// 0 are entries too. The token goes right, at the right edge up, and stays where there is no such cell.
 ///
 /// # Errors
 ///
@@ -51,8 +51,8 @@ pub fn pay_out(desk: &mut Desk, chart: &Chart, corp: Corp, revenue: Money) -> Re
     Ok(())
 }
 
-/// Pays a corporation's revenue, 0 without a run, to the corporation itself. The token goes left, at the left edge down,
-/// and stays where there is no such cell.
+/// Pays a corporation's revenue, 0 without a run, to the corporation itself. The token goes left, at the left edge
+/// down, and stays where there is no such cell.
 ///
 /// # Errors
 ///

@@ -1,10 +1,10 @@
 -- Lemmas on the words of a line.
 use Rattle.std.proofs.Common.{◌≡◌, ◌≢◌, ℕ, ◌+◌, ◌<◌, ◌≤◌, Bool, true, false, not, List, [], ◌∷◌, ◌++◌, length, take, get_or, refl, sym, ap, ◌∙◌, arith, append_assoc, length-append}
-use Rattle.std.specs.List.{list_all, after_first, position_or_len}
-use Rattle.std.proofs.lemmas.List.{take_more, take-take, drop_all, get_or_append_left, get_or_at}
+use Rattle.std.specs.List.{list_all}
+use Rattle.std.proofs.lemmas.List.{take_more, take-take}
 use Rattle.std.proofs.lemmas.List.Splits.{length-slice_split}
-use Rattle.std.proofs.lemmas.List.Sums.{AllPass-from_list_all, position_or_len_is}
-use Rattle.std.proofs.Math.Seq.{drop-append-add, take-append_seam}
+use Rattle.std.proofs.lemmas.List.Sums.{AllPass-from_list_all}
+use Rattle.std.proofs.Math.Seq.{take-append_seam}
 use Rattle.rr_orders.specs.Scan.Writing.{Continues}
 use Rattle.rr_words.specs.Line.{is_space, words_of, line_of, HasNoSpace}
 use Rattle.rr_words.proofs.LineLemmas.{line_of-words_of, words_of-line_of}
@@ -50,21 +50,6 @@ written-more before so_far out head words at item word within is same earlier wr
     ap (λ ws. line_of (head ∷ ws)) (take_more words at item within ∙ ap (λ x. take at words ++ x ∷ []) (sym is))
     ∙ line_of-push head (take at words) item in
     rw (more, written, earlier, same) (append_assoc before (line_of (head ∷ take at words)) (32 ∷ item))
-
--- what stands behind the first space
-pub after_first-space : (first rest : List ℕ) → HasNoSpace first → after_first is_space (first ++ 32 ∷ rest) ≡ rest
-after_first-space first rest none =
-    let cut : position_or_len is_space (first ++ 32 ∷ rest) ≡ length first =
-    position_or_len_is is_space (first ++ 32 ∷ rest) (length first) 0 (omega (arith, length-append first (32 ∷ rest)))
-    (λ k within. rw (get_or_append_left first (32 ∷ rest) 0 k within) (none k 0 within))
-    (λ within. rw (get_or_at first 32 rest 0 (length first) refl) refl) in
-    rw cut (drop-append-add first (32 ∷ rest) 1)
-
-pub after_first-none : (line : List ℕ) → HasNoSpace line → after_first is_space line ≡ []
-after_first-none line none =
-    let cut : position_or_len is_space line ≡ length line =
-    position_or_len_is is_space line (length line) 0 (omega arith) (λ k within. none k 0 within) (λ within. absurd (omega (arith, within))) in
-    rw cut (drop_all (length line + 1) line (omega arith))
 
 -- what was written stays, where more follows what was added
 pub Continues-added : (before added middle after : List ℕ) → middle ≡ before ++ added → Continues middle after → Continues before after

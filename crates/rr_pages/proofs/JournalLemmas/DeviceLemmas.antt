@@ -4,17 +4,20 @@ use Rattle.rr_disk.specs.Calls.{Step, Write, Sync, Account, after_steps, StopsWi
 use Rattle.rr_disk.specs.Disk.{FailedWrite}
 use Rattle.rr_disk.proofs.CallLemmas.{stops_before, stops_behind}
 use Rattle.rr_disk.proofs.FailureLemmas.{whole_failed}
-use Rattle.rr_pages.specs.declared.journal.fault.Fault.{Fault}
-use Rattle.rr_pages.specs.declared.journal.fault.Fault.TheVariants.{HalfFull, Disk, OutOfMemory}
+use Rattle.rr_pages.specs.declared.fault.Fault.{Fault}
+use Rattle.rr_pages.specs.declared.fault.Fault.TheVariants.{FileFull, HalfFull, Damaged, NotAStore, Disk, OutOfMemory}
 use Rattle.rr_pages.specs.declared.journal.half.Half.{Half}
-use Rattle.rr_pages.specs.Journal.Faults.{OnDeviceFault}
+use Rattle.rr_pages.specs.Faults.{OnDeviceFault}
 use Rattle.rr_pages.specs.Journal.Layout.{spelling_behind_gate}
 use Rattle.rr_pages.specs.Journal.Stops.{next_gate, appending}
 
 -- a fact that holds anyway
 pub on_device : {T P : Type 0} (result : Result T Fault) → P → OnDeviceFault result P
 on_device (Ok value) fact = tt
+on_device (Err FileFull) fact = tt
 on_device (Err HalfFull) fact = tt
+on_device (Err (Damaged damage)) fact = tt
+on_device (Err NotAStore) fact = tt
 on_device (Err (Disk fault)) fact = fact
 on_device (Err OutOfMemory) fact = tt
 

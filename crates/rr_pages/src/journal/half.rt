@@ -2,11 +2,12 @@ ghost use Rattle.std.specs.Prelude.{◌≡◌, ◌⊎◌, ◌↔◌, ◌+◌, �
 ghost use Rattle.rr_disk.specs.Calls.{account, after_steps, StopsWithin};
 ghost use Rattle.rr_disk.specs.Disk.{after_write, after_sync, counted};
 ghost use Rattle.rr_disk.specs.Moments.{LeavesOnly};
-ghost use Rattle.rr_pages.specs.Journal.Faults.{CountsFault, OnDeviceFault};
+ghost use Rattle.rr_pages.specs.Faults.{CountsFault, OnDeviceFault, OnlyHalf};
 ghost use Rattle.rr_pages.specs.Journal.Layout.{HasRoom, slots_for, spelling};
 
+use crate::Fault;
+use crate::journal::RecordBuffer;
 use crate::journal::layout::{HalfIndex, fits_slots, gate_place, slots_for};
-use crate::journal::{Fault, RecordBuffer};
 use crate::page::{FIRST_DATA, PAGE_BYTES};
 use rr_disk::{Disk, put};
 
@@ -51,7 +52,7 @@ impl Half {
         ensures full { IsErrOf result Fault.HalfFull ↔ (HasRoom self.old.next_slot (length bytes.now) → ⊥) }
         ensures no_call { IsErrOf result Fault.HalfFull → disk.new ≡ disk.old }
         ensures fault { CountsFault (D.fault_count disk.old) (D.fault_count disk.new) result }
-        ensures no_memory { IsErrOf result Fault.OutOfMemory → ⊥ }
+        ensures only { OnlyHalf result }
 
         // A disk that works doesn't fail here.
         ensures device { OnDeviceFault result (D.Works disk.new → ⊥) }

@@ -1,15 +1,16 @@
 ghost use Rattle.std.specs.Prelude.{◌≡◌, ◌+◌, ◌^◌, ◌<◌, ◌≤◌, List, ℕ, length, IsErrOf, IfOk, OnOk};
 ghost use Rattle.rr_disk.specs.Disk.{IsAt};
-ghost use Rattle.rr_pages.specs.Journal.Faults.{CountsFault, OnDeviceFault};
+ghost use Rattle.rr_pages.specs.Faults.{CountsFault, NoVerdict, OnDeviceFault};
 ghost use Rattle.rr_pages.specs.Journal.Layout.{gate_place};
 ghost use Rattle.rr_pages.specs.Journal.Reading.{lines, Tells, Begins, FitsThere};
 ghost use Rattle.rr_pages.specs.Journal.Run.{HasRecord, Run, slots_of};
 ghost use Rattle.rr_pages.specs.Journal.Stops.{next_gate, IsAtRest, Keeps};
 
+use crate::Fault;
+use crate::journal::Half;
 use crate::journal::layout::{
     HEADER_BYTES, HalfIndex, LAST_SLOT, fits_slots, gate_place, slots_for,
 };
-use crate::journal::{Fault, Half};
 use crate::page::OPEN;
 use byteorder::{BigEndian, ByteOrder};
 use rr_disk::Disk;
@@ -75,7 +76,7 @@ pub fn scan<D: Disk>(
         → Keeps scanned.half (D.state disk.new) first_number (lines scanned.records.items)) }
 
     ensures fault { CountsFault (D.fault_count disk.old) (D.fault_count disk.new) result }
-    ensures never_full { IsErrOf result Fault.HalfFull → ⊥ }
+    ensures err { NoVerdict result }
     ensures memory { IsErrOf result Fault.OutOfMemory → D.Honest disk.new
         → HasRecord (D.state disk.old).content index 0 first_number }
 
@@ -127,7 +128,7 @@ fn read_record<D: Disk>(
     ensures fits { IfOk result (λ found. FitsThere half found) }
 
     ensures fault { CountsFault (D.fault_count disk.old) (D.fault_count disk.new) result }
-    ensures never_full { IsErrOf result Fault.HalfFull → ⊥ }
+    ensures err { NoVerdict result }
     ensures memory { IsErrOf result Fault.OutOfMemory → D.Honest disk.new
         → HasRecord (D.state disk.old).content half.index half.next_slot number }
 
@@ -158,7 +159,7 @@ fn read_bytes<D: Disk>(alloc: Global, disk: &mut D, at: u64, count: usize) -> Re
     ensures count { IfOk result (λ bytes. length bytes.items ≡ count) }
 
     ensures fault { CountsFault (D.fault_count disk.old) (D.fault_count disk.new) result }
-    ensures never_full { IsErrOf result Fault.HalfFull → ⊥ }
+    ensures err { NoVerdict result }
 
     ensures honest { D.Honest disk.new → D.Honest disk.old }
     ensures same_state { D.Honest disk.new → D.state disk.new ≡ D.state disk.old }

@@ -106,6 +106,16 @@ fn are_commands(bytes: &[u8], count: u32) -> bool
     cursor.is_empty()
 }
 
+// The words of the command with which these bytes begin, if they begin with one.
+pub(crate) fn first_command(bytes: &[u8]) -> Option<&[u8]>
+    ensures { MatchOption result
+        ((words rest : List ℕ) → IsShort words → bytes.now ≢ spelled_command words ++ rest)
+        (λ words. IsShort words.now × ((rest : List ℕ) × (bytes.now ≡ spelled_command words.now ++ rest))) }
+{
+    let words = next_command(&mut Cursor::of(bytes))?;
+    Some(words)
+}
+
 fn next_command<'a>(cursor: &mut Cursor<'a>) -> Option<&'a [u8]>
     ensures { MatchOption result
         ((words rest : List ℕ) → IsShort words → cursor.old ≢ spelled_command words ++ rest)

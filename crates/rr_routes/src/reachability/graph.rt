@@ -1,12 +1,14 @@
 ghost use Rattle.std.specs.Prelude.{◌≡◌, [], ◌∷◌, ◌++◌, OnOk, OnErr};
 
+use smallvec::SmallVec;
 use std::alloc::{AllocError, Global};
 use std::marker::Model;
 
 /// The states that may follow one state of a graph. States are numbered from 0.
 #[derive(Debug, Drop)]
 pub struct Followers {
-    states: Vec<usize>,
+    // Where tracks meet, six are room for most.
+    states: SmallVec<usize, 6>,
 }
 
 impl Model for Followers {
@@ -23,7 +25,7 @@ impl Followers {
         ensures { result ≡ [] }
     {
         Followers {
-            states: Vec::new(alloc),
+            states: SmallVec::new(alloc),
         }
     }
 

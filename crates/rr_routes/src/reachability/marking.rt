@@ -3,8 +3,8 @@ ghost use Rattle.rr_routes.specs.Reachability.Places.{AreMarkedItems, marked_of}
 
 use std::alloc::{AllocError, Global};
 
-/// The items that have a mark, in their order. The marks are in the order of the items; an item past their end has none.
-/// Only memory can fail.
+/// The items that have a mark, in their order. The marks are in the order of the items; an item past their end has
+/// none. Only memory can fail.
 pub fn marked_items<T: Copy>(
     alloc: Global,
     items: &[T],
@@ -13,7 +13,7 @@ pub fn marked_items<T: Copy>(
     ensures exact { IfOk result (λ marked. marked.items ≡ marked_of items.now marks.now) }
     ensures members { IfOk result (λ marked. AreMarkedItems items.now marks.now (length items.now) marked.items) }
 {
-    let mut marked = Vec::new(alloc);
+    let mut marked = Vec::with_capacity(alloc, items.len())?;
     for (place, item) in items.iter().enumerate() {
         if !is_marked(marks, place) {
             continue;

@@ -28,7 +28,7 @@ impl Index {
     pub fn with_rows(alloc: Global, count: usize) -> Result<Index, AllocError>
         ensures { IfOk result (λ index. index ≡ nothing_noted count) }
     {
-        let mut rows = Vec::new(alloc);
+        let mut rows = Vec::with_capacity(alloc, count.max(1))?;
         for row in 0..count.max(1) {
             rows.push(Followers::new(alloc))?;
         }

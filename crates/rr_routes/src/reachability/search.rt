@@ -35,7 +35,7 @@ pub fn reached_within(
     ensures reached { IfOk result (λ marks. (state : ℕ) → state < length graph.now → IsMarked marks.items state ↔ IsReachedWithin graph.now allowed.now starts.now state) }
 {
     let mut marks = vec![in alloc; false; graph.len()]?;
-    let mut pending = Vec::new(alloc);
+    let mut pending = Vec::with_capacity(alloc, graph.len())?;
     mark(starts, allowed, &mut marks, &mut pending)?;
     while let Some(state) = pending.pop() {
         mark(graph[state].as_slice(), allowed, &mut marks, &mut pending)?;

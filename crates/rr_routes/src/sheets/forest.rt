@@ -39,7 +39,8 @@ impl Forest {
         }
     }
 
-    /// Puts the word before the words of the trees: a leaf is a tree more, a split takes the first trees as its children.
+    /// Puts the word before the words of the trees: a leaf is a tree more, a split takes the first trees as its
+    /// children.
     ///
     /// # Errors
     /// `CertificateRefused` where there are too few trees for the split, or the number is 0; `OutOfMemory` where the

@@ -12,9 +12,9 @@ use crate::sheets::sheet::kind_of;
 use crate::sheets::word::CertWord;
 use rr_words::number;
 
-/// Whether the text spells a sheet, as `Sheet::read` reads it: the empty text does, and words with one space between each
-/// two, if each is a kind of train, `=`, and the numbers of links with `-` between each two, or `-` alone. It takes no
-/// memory.
+/// Whether the text spells a sheet, as `Sheet::read` reads it: the empty text does, and words with one space between
+/// each two, if each is a kind of train, `=`, and the numbers of links with `-` between each two, or `-` alone. It
+/// takes no memory.
 pub fn is_sheet(text: &[u8]) -> bool
     ensures read { result ≡ is_some (sheet_of text.now) }
     ensures spelled { Decides result (SpellsSomeSheet text.now) }
@@ -25,9 +25,9 @@ pub fn is_sheet(text: &[u8]) -> bool
     are_train_words(text)
 }
 
-/// Whether each word of the text, with one space between each two, has one of the forms of a certificate's words: `s` or
-/// `x` and a number of at most ten digits, `b`, or `f`. The empty text has no word, and so has the form. Whether the words
-/// are a tree isn't asked. It takes no memory.
+/// Whether each word of the text, with one space between each two, has one of the forms of a certificate's words: `s`
+/// or `x` and a number of at most ten digits, `b`, or `f`. The empty text has no word, and so has the form. Whether the
+/// words are a tree isn't asked. It takes no memory.
 pub fn is_certificate(text: &[u8]) -> bool
     ensures read { result ≡ is_some (cert_words_of text.now) }
     ensures form { Decides result (HasForm text.now) }

@@ -1,5 +1,5 @@
-//! What always holds of the texts of sheets and certificates. The functions do nothing: a caller's proof cites what they
-//! ensure.
+//! What always holds of the texts of sheets and certificates. The functions do nothing: a caller's proof cites what
+//! they ensure.
 ghost use Rattle.std.specs.Prelude.{◌≡◌, ◌↔◌, ℕ, List, All, Some, length};
 ghost use Rattle.rr_routes.specs.Certificates.{Accepts};
 ghost use Rattle.rr_routes.specs.Net.{Net};

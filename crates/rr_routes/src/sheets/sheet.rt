@@ -176,9 +176,10 @@ impl Sheet {
         self.words.as_slice()
     }
 
-    /// Reads the words of a sheet, with one space between each two; the empty text is the sheet without words. A word is
-    /// a kind of train, `=`, and the numbers of links with `-` between each two, or `-` alone for no link. A number has at
-    /// most ten digits, and the first of several is not 0. That the links exist and make a route isn't judged here.
+    /// Reads the words of a sheet, with one space between each two; the empty text is the sheet without words. A word
+    /// is a kind of train, `=`, and the numbers of links with `-` between each two, or `-` alone for no link. A number
+    /// has at most ten digits, and the first of several is not 0. That the links exist and make a route isn't judged
+    /// here.
     ///
     /// # Errors
     /// `Malformed` where the text is of another form, `OutOfMemory` where it can't be held.

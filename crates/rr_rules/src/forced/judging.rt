@@ -25,8 +25,9 @@ use std::alloc::Global;
 ///
 /// # Errors
 ///
-/// The first of these that applies. `MustDiscardFirst` where some corporation is over its train limit; `WrongStep` where
-/// the step of the turn doesn't take the command, or it is none of the three. Then for each command in this order:
+/// The first of these that applies. `MustDiscardFirst` where some corporation is over its train limit; `WrongStep`
+/// where the step of the turn doesn't take the command, or it is none of the three. Then for each command in this
+/// order:
 ///
 /// - `force`: `WrongStep` where the corporation needn't own a train (it has one, none is on sale, or it has no route), or
 ///   can pay the price alone; `NotYourTurn` where another corporation is due; `TooLittleCash` where it and its president

@@ -11,12 +11,13 @@ use Rattle.rr_kit.specs.Board.Plan.{has_name}
 use Rattle.rr_network.specs.declared.network.Stop.{Stop}
 use Rattle.rr_network.specs.declared.node.CentreAt.{CentreAt}
 use Rattle.rr_network.specs.declared.node.Hexside.{Hexside}
+use Rattle.rr_network.specs.Keys.{centre_key, hexside_key, name_key}
 use Rattle.rr_network.specs.Node.{same_hexside}
 use Rattle.rr_network.proofs.FacingLemmas.{is_test_of_hexsides}
 use Rattle.rr_routes.specs.Reachability.Index.{noted, noted_at, nothing_noted}
 use Rattle.rr_routes.proofs.ReachabilityLemmas.IndexLemmas.{as_many_rows, none_at, row_of_another, row_of_key, some_rows}
 use Rattle.rr_running.specs.Net.Centres.{places, places_from}
-use Rattle.rr_running.specs.Net.Indexing.{IsIndexOf, centre_key, hex_key, name_key, passes_at, share_row, side_key, stop_key}
+use Rattle.rr_running.specs.Net.Indexing.{IsIndexOf, hex_key, passes_at, share_row, stop_key}
 use Rattle.rr_running.specs.Net.Joining.{centre_place, hex_place, is_stop_at, side_place}
 use Rattle.rr_running.proofs.NetLemmas.TellingLemmas.{same_centre-tells}
 
@@ -113,10 +114,10 @@ pub hex_found : (hexes : List Hex) (index : List (List ℕ)) (name : List ℕ) �
 hex_found hexes index name ix =
     first_noted hex_key (has_name name) hexes index (name_key name) (λ hex e. ap name_key ((bytes_eq-Decides hex.name name).0 e)) ix
 
-pub side_found : (sides : List Hexside) (index : List (List ℕ)) (side : Hexside) → IsIndexOf (map side_key sides) index
-    → unwrap_or (find (passes_at (same_hexside side) sides) (noted_at index (side_key side))) (length sides) ≡ side_place sides side
+pub side_found : (sides : List Hexside) (index : List (List ℕ)) (side : Hexside) → IsIndexOf (map hexside_key sides) index
+    → unwrap_or (find (passes_at (same_hexside side) sides) (noted_at index (hexside_key side))) (length sides) ≡ side_place sides side
 side_found sides index side ix =
-    first_noted side_key (same_hexside side) sides index (side_key side) (λ other e. ap side_key (sym ((is_test_of_hexsides side other).0 e))) ix
+    first_noted hexside_key (same_hexside side) sides index (hexside_key side) (λ other e. ap hexside_key (sym ((is_test_of_hexsides side other).0 e))) ix
 
 pub stop_found : (stops : List Stop) (index : List (List ℕ)) (at : CentreAt) → IsIndexOf (map stop_key stops) index
     → unwrap_or (find (passes_at (is_stop_at at) stops) (noted_at index (centre_key at))) (length stops) ≡ centre_place stops at

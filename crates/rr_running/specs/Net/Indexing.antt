@@ -1,40 +1,18 @@
--- Keys made of names, and the rows of an index in which lists by those keys are noted.
-use Rattle.std.specs.Prelude.{◌≡◌, ℕ, ◌+◌, ◌*◌, ◌<◌, ◌%◌, ◌==◌, ℤ, pos, negsuc, Bool, false, Option, None, Some, List, fold, map, length, slice_get}
+-- The rows of an index in which lists are noted by keys.
+use Rattle.std.specs.Prelude.{◌≡◌, ℕ, ◌<◌, ◌%◌, ◌==◌, Bool, false, Option, None, Some, List, map, length, slice_get}
 use Rattle.rr_kit.specs.declared.board.hex.Hex.{Hex}
 use Rattle.rr_network.specs.declared.network.Stop.{Stop}
-use Rattle.rr_network.specs.declared.node.CentreAt.{CentreAt}
 use Rattle.rr_network.specs.declared.node.Hexside.{Hexside}
+use Rattle.rr_network.specs.Keys.{centre_key, hexside_key, name_key}
 use Rattle.rr_routes.specs.Reachability.Index.{noted_at}
 use Rattle.rr_running.specs.declared.net.indexing.Indices.{Indices}
-use Rattle.rr_running.specs.declared.net.indexing.TheConstants.{NAME_KEYS}
 use Rattle.rr_running.specs.Net.Centres.{places}
-
--- the key of a name with one character more
-abbrev pub next_key : ℕ → ℕ → ℕ
-next_key key character = (31 * key + character) % NAME_KEYS
-
--- a number made of a name
-abbrev pub name_key : List ℕ → ℕ
-name_key name = fold next_key 0 name
 
 abbrev pub hex_key : Hex → ℕ
 hex_key hex = name_key hex.name
 
--- few hexes have eight centres or more
-abbrev pub centre_key : CentreAt → ℕ
-centre_key at = name_key at.hex + at.number % 8
-
 abbrev pub stop_key : Stop → ℕ
 stop_key stop = centre_key stop.at
-
--- a coordinate as a number: those from 0 are the even ones
-abbrev pub folded : ℤ → ℕ
-folded (pos n) = 2 * n
-folded (negsuc n) = 2 * n + 1
-
--- a number made of where a hexside lies
-abbrev pub side_key : Hexside → ℕ
-side_key side = 3 * (1009 * folded side.at.q + folded side.at.r) + side.edge % 3
 
 -- what stands at the place passes
 abbrev pub is_passing : {X : Type 0} → (X → Bool) → Option X → Bool
@@ -56,5 +34,5 @@ pub record IsIndexOf (keys : List ℕ) (index : List (List ℕ)) : Type 0 where
 -- hexes, hexsides and centres are noted by their keys
 pub record AreIndicesOf (board : List Hex) (ends : List Hexside) (centres : List Stop) (indices : Indices) : Type 0 where
   pub hexes : IsIndexOf (map hex_key board) indices.hexes
-  pub sides : IsIndexOf (map side_key ends) indices.sides
+  pub sides : IsIndexOf (map hexside_key ends) indices.sides
   pub stops : IsIndexOf (map stop_key centres) indices.stops

@@ -1,15 +1,12 @@
 //! Where hexes, hexsides and centres stand in their lists, by keys made of their names: so each is found among few.
-ghost use Rattle.std.specs.Prelude.{◌≡◌, ◌<◌, ◌≤◌, map, IfOk};
-ghost use Rattle.rr_running.specs.Net.Indexing.{AreIndicesOf, IsIndexOf, centre_key, folded, hex_key, name_key, side_key, stop_key};
+ghost use Rattle.std.specs.Prelude.{◌≡◌, map, IfOk};
+ghost use Rattle.rr_network.specs.Keys.{hexside_key};
+ghost use Rattle.rr_running.specs.Net.Indexing.{AreIndicesOf, IsIndexOf, hex_key, stop_key};
 
 use rr_kit::board::Hex;
-use rr_network::{CentreAt, Hexside, Stop};
+use rr_network::{Hexside, Stop, centre_key, hexside_key, name_key};
 use rr_routes::reachability::Index;
-use rr_words::HexName;
 use std::alloc::{AllocError, Global};
-
-// Keys of names are below this prime.
-const NAME_KEYS: usize = 1_000_003;
 
 // The places of hexes, hexsides and centres by their keys.
 #[derive(Drop)]
@@ -46,9 +43,9 @@ fn index_of_hexes(alloc: Global, hexes: &[Hex]) -> Result<Index, AllocError>
 }
 
 fn index_of_sides(alloc: Global, sides: &[Hexside]) -> Result<Index, AllocError>
-    ensures { IfOk result (λ index. IsIndexOf (map side_key sides.now) index) }
+    ensures { IfOk result (λ index. IsIndexOf (map hexside_key sides.now) index) }
 {
-    let keys: Vec<usize> = sides.iter().map(|side| side_key(side)).collect(alloc)?;
+    let keys: Vec<usize> = sides.iter().map(|side| hexside_key(side)).collect(alloc)?;
     let index = index_of(alloc, keys.as_slice())?;
     Ok(index)
 }
@@ -73,40 +70,4 @@ fn index_of(alloc: Global, keys: &[usize]) -> Result<Index, AllocError>
         index.note(*key, place)?;
     }
     Ok(index)
-}
-
-pub(crate) fn name_key(name: &HexName) -> usize
-    ensures value { result ≡ name_key name.now }
-    ensures bound { result < NAME_KEYS }
-{
-    let mut key = 0;
-    for character in name.as_bytes() {
-        key = (31 * key + usize::from(*character)) % NAME_KEYS;
-    }
-    key
-}
-
-pub(crate) fn centre_key(at: &CentreAt) -> usize
-    ensures { result ≡ centre_key at.now }
-{
-    name_key(&at.hex) + at.number % 8
-}
-
-pub(crate) fn side_key(side: &Hexside) -> usize
-    ensures { result ≡ side_key side.now }
-{
-    let q = folded(side.at.q);
-    let r = folded(side.at.r);
-    3 * (1009 * q + r) + usize::from(side.edge % 3)
-}
-
-// The coordinate as a number: those from 0 are the even ones.
-fn folded(coordinate: i16) -> usize
-    ensures value { result ≡ folded coordinate }
-    ensures bound { result ≤ 65536 }
-{
-    if coordinate < 0 {
-        return 2 * usize::from(coordinate.unsigned_abs()) - 1;
-    }
-    2 * usize::from(coordinate.unsigned_abs())
 }

@@ -1,13 +1,14 @@
 //! The links of a net: hexes, hexsides and centres are named by places, so that links join where they did.
 ghost use Rattle.std.specs.Prelude.{◌≡◌, ◌++◌, find, map, IfOk, OnOk};
 ghost use Rattle.rr_kit.specs.Board.Plan.{has_name};
-ghost use Rattle.rr_running.specs.Net.Indexing.{AreIndicesOf, IsIndexOf, hex_key, passes_at, side_key, stop_key};
+ghost use Rattle.rr_running.specs.Net.Indexing.{AreIndicesOf, IsIndexOf, hex_key, passes_at, stop_key};
 ghost use Rattle.rr_running.specs.Net.Joining.{centre_place, hex_place, is_stop_at, node_of, placed_link, side_place, sides_in, sides_of};
+ghost use Rattle.rr_network.specs.Keys.{hexside_key};
 ghost use Rattle.rr_network.specs.Node.{same_hexside};
 
-use crate::net::indexing::{Indices, centre_key, indices_of, name_key, side_key};
+use crate::net::indexing::{Indices, indices_of};
 use rr_kit::board::Hex;
-use rr_network::{CentreAt, Hexside, Link, Network, Node, Stop};
+use rr_network::{CentreAt, Hexside, Link, Network, Node, Stop, centre_key, hexside_key, name_key};
 use rr_routes::reachability::Index;
 use rr_routes::{Link as PlacedLink, Node as PlacedNode};
 use rr_words::HexName;
@@ -87,7 +88,7 @@ fn placed_link(
 }
 
 fn node_of(sides: &[Hexside], stops: &[Stop], indices: &Indices, node: &Node) -> PlacedNode
-    requires sides { IsIndexOf (map side_key sides.now) indices.now.sides }
+    requires sides { IsIndexOf (map hexside_key sides.now) indices.now.sides }
     requires stops { IsIndexOf (map stop_key stops.now) indices.now.stops }
     ensures { result ≡ node_of sides.now stops.now node.now }
 {
@@ -124,10 +125,10 @@ fn is_hex_at(hexes: &[Hex], name: &HexName, place: usize) -> bool
 }
 
 fn side_place(sides: &[Hexside], index: &Index, side: &Hexside) -> usize
-    requires { IsIndexOf (map side_key sides.now) index.now }
+    requires { IsIndexOf (map hexside_key sides.now) index.now }
     ensures { result ≡ side_place sides.now side.now }
 {
-    first_side(sides, index.noted_at(side_key(side)), side).unwrap_or(sides.len())
+    first_side(sides, index.noted_at(hexside_key(side)), side).unwrap_or(sides.len())
 }
 
 fn first_side(sides: &[Hexside], places: &[usize], side: &Hexside) -> Option<usize>

@@ -26,8 +26,8 @@ pub fn reaches_are_one()
     ensures lies { NetworksLieOnBoards }
 {}
 
-/// Where no more tokens stand in a city than it has slots, its slots aren't filled for a corporation with a token there:
-/// its routes pass its own cities.
+/// Where no more tokens stand in a city than it has slots, its slots aren't filled for a corporation with a token
+/// there: its routes pass its own cities.
 pub fn own_cities_are_open()
     ensures { OwnCitiesAreOpen }
 {}

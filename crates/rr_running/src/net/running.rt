@@ -23,9 +23,9 @@ use std::alloc::{AllocError, Global};
 ///
 /// All links are in it, the link of number n at place n - 1. Centres have their places among the network's stops. Each
 /// hexside has one number, whichever links end there. Routes don't pass off-board areas, nor cities whose slots are all
-/// filled by tokens of others; a slot kept for a home isn't filled. The phase is that of the greatest train bought: from
-/// the first 5 on an off-board area has its second value. A centre is worth at most 990. The trains keep their order. Only
-/// memory can fail.
+/// filled by tokens of others; a slot kept for a home isn't filled. The phase is that of the greatest train bought:
+/// from the first 5 on an off-board area has its second value. A centre is worth at most 990. The trains keep their
+/// order. Only memory can fail.
 pub fn net_of(
     alloc: Global,
     board: &Board,

@@ -1,5 +1,5 @@
-//! What always holds of the nets of boards, and of nets of few links. The functions do nothing: a caller's proof cites what
-//! they ensure.
+//! What always holds of the nets of boards, and of nets of few links. The functions do nothing: a caller's proof cites
+//! what they ensure.
 ghost use Rattle.std.specs.Prelude.{List};
 ghost use Rattle.rr_search.specs.BestRun.Lengths.{FewLinksFit, NineLinksNeverLack, OnlyLargeTreesLack};
 ghost use Rattle.rr_search.specs.BestRun.Worded.{HasLegal};
@@ -15,9 +15,9 @@ pub fn trains_may_stay()
     ensures { (plan : Plan) (tiles : List Supply) (book : Book) (c : Corp) → (sheet : List TrainWord) × HasLegal (net_now plan tiles book c) sheet }
 {}
 
-/// On a net of at most 966 links and trains together, nine of them trains at most, no best run with its certificate is too
-/// long for a line of 8,000 bytes, whatever its stamp and its table's name. So there the search lacks a run only where the
-/// tree that splits every link has more than 1,024 nodes, and never with one train and at most nine links.
+/// On a net of at most 966 links and trains together, nine of them trains at most, no best run with its certificate is
+/// too long for a line of 8,000 bytes, whatever its stamp and its table's name. So there the search lacks a run only
+/// where the tree that splits every link has more than 1,024 nodes, and never with one train and at most nine links.
 pub fn few_links_fit()
     ensures fit { FewLinksFit }
     ensures large_trees { OnlyLargeTreesLack }

@@ -1,13 +1,20 @@
 -- A table whose kept commands are played again, one after another.
-use Rattle.std.proofs.Common.{◌≡◌, ◌⊎◌, ℕ, ◌+◌, ◌<◌, ◌≤◌, ◌==◌, Bool, true, false, not, nat_le, if◌then◌else◌, List, [], ◌∷◌, ◌++◌, length, None, Some, inl, inr, refl, sym, ap, subst, ◌∙◌, append-nil, append_assoc, length-append, arith}
+use Rattle.std.proofs.Common.{◌≡◌, ◌⊎◌, ◌≢◌, ℕ, zero, suc, ◌+◌, ◌<◌, ◌≤◌, ◌==◌, Bool, true, false, not, nat_le, if◌then◌else◌, List, [], ◌∷◌, ◌++◌, length, None, Some, inl, inr, refl, sym, ap, subst, ◌∙◌, append-nil, append_assoc, length-append, arith}
 use Rattle.std.proofs.lemmas.Bool.Decides.{nat_tests}
+use Rattle.std.proofs.lemmas.List.Elements.{All-append, All-cons, All-nil}
 use Rattle.std.proofs.Math.Logic.{∥∥₁_elim}
 use mathlib.Core.HLevel.{⊥_prop}
 use Rattle.rr_code.specs.declared.command.Command.{Command}
 use Rattle.rr_code.specs.declared.command.Command.TheVariants.{Open}
 use Rattle.rr_code.specs.Command.{SpellsCommand}
-use Rattle.rr_reading.specs.Dir.Kept.{SpellsKept}
+use Rattle.rr_pages.specs.declared.fault.Fault.{Fault as OfPages}
+use Rattle.rr_pages.specs.declared.fault.Fault.TheVariants as pages
+use Rattle.rr_reading.specs.Chains as counting
+use Rattle.rr_reading.specs.Dir.Kept.{IsShort, SpellsKept}
+use Rattle.rr_reading.specs.Lending.Commands.{Begins, IfCut}
 use Rattle.rr_reading.proofs.DirLemmas.KeptLemmas.{one_kept}
+use Rattle.rr_reading.proofs.LendingLemmas.CommandLemmas.{kept_cut}
+use Rattle.rr_reading.proofs.LendingLemmas.FrontLemmas.{CountsFront, counts_all, counts_cut, counts_past, front_more, front_none, front_split, front_whole, kept_nothing, next_word}
 use Rattle.rr_game.proofs.Playing.{opens}
 use Rattle.rr_game.specs.declared.history.fault.Fault as table
 use Rattle.rr_game.specs.declared.history.fault.Fault.TheVariants as H
@@ -27,20 +34,16 @@ use Rattle.rr_turns.proofs.LawfulLemmas.{lawful-at}
 use Rattle.rr_pages.specs.declared.fault.Damage.TheVariants.{Kept as NotPlayed}
 use Rattle.rr_store.specs.declared.recovery.fault.Fault.{Fault}
 use Rattle.rr_store.specs.declared.recovery.fault.Fault.TheVariants as F
-use Rattle.rr_store.specs.Recovery.Fault.{of_table}
-use Rattle.rr_store.specs.Recovery.Kept.{HasPlayed, HasRoom, HoldsPlayed, IsBegunBy, IsRestored, IsUnlawfulAfter, SpellsNoOpening}
+use Rattle.rr_store.specs.Recovery.Fault.{IsOrBreaks, of_chain, of_table}
+use Rattle.rr_store.specs.Recovery.Kept.{AreWorded, HasPlayed, HasRoom, HoldsPlayed, IsBegunBy, IsRestored, IsUnlawfulAfter, SpellsNoOpening}
+use Rattle.rr_store.specs.Recovery.Playing.{BeginsNoTable, No_command, No_opening, First_cut, PlaysNoMore, None_left, Unlawful, Next_cut}
 use Rattle.rr_store.proofs.RecoveryLemmas.WordLemmas.{as_many, cut, one_command, one_list, spell_push}
 
--- of the commands that the bytes hold some were played by a table, and these are left
-pub record IsPlaying (kit : Kit) (bytes : List ℕ) (count : ℕ) (left : List (List ℕ)) (table : Table) : Type 0 where
-  pub all : List (List ℕ)
-  pub kept : SpellsKept bytes all
-  pub counted : length all ≡ count
-  pub front : List (List ℕ)
-  pub split : all ≡ front ++ left
-  pub spelled : SpellCommands front (kept_in table).commands
+-- a table has played the commands with which the bytes begin, and so many of the counted ones are left
+pub record IsPlaying (bytes rest : List ℕ) (left count : ℕ) (table : Table) : Type 0 where
+  pub counts : CountsFront bytes rest left count
+  pub spelled : SpellCommands counts.front (kept_in table).commands
   pub stamped : (kept_in table).stamp ≡ length (kept_in table).commands
-  pub played : IsPlayed kit table
 
 pub begun_by : (kit : Kit) (words : List ℕ) (players : List (List ℕ)) (table : Table) → kept_in table ≡ kept_of (ends_turn kit) (Play (Open players) ∷ []) → IsPlayed kit table
     → SpellsCommand words (Open players) → IsBegunBy kit words table
@@ -54,63 +57,66 @@ begun_by kit words players table same played spells =
       played = played;
     }
 
-pub begins : (kit : Kit) (bytes : List ℕ) (count : ℕ) (all left : List (List ℕ)) (words : List ℕ) (table : Table) → SpellsKept bytes all → length all ≡ count → all ≡ words ∷ left
-    → IsBegunBy kit words table → IsPlaying kit bytes count left table
-begins kit bytes count all left words table kept counted same begun =
+pub begins : (kit : Kit) (bytes rest words : List ℕ) (left count : ℕ) (table : Table) → Begins bytes words rest → left + 1 ≡ count → IsBegunBy kit words table → IsPlaying bytes rest left count table
+begins kit bytes rest words left count table passed one begun =
     record {
-      all = all;
-      kept = kept;
-      counted = counted;
-      front = words ∷ [];
-      split = same;
+      counts = record { front = words ∷ []; spells = front_more bytes [] bytes words rest (front_none bytes) passed; counted = omega (arith, one) };
       spelled = begun.spelled;
       stamped = begun.stamped;
-      played = begun.played;
     }
 
-pub goes_on : (kit : Kit) (bytes : List ℕ) (count : ℕ) (left rest : List (List ℕ)) (words : List ℕ) (old new : Table) → left ≡ words ∷ rest → IsPlaying kit bytes count left old
-    → HasPlayed kit old words new → IsPlaying kit bytes count rest new
-goes_on kit bytes count left rest words old new same so_far more =
+pub goes_on : (kit : Kit) (bytes rest behind words : List ℕ) (left less count : ℕ) (old new : Table) → IsPlaying bytes rest left count old → Begins rest words behind → less + 1 ≡ left → HasPlayed kit old words new
+    → IsPlaying bytes behind less count new
+goes_on kit bytes rest behind words left less count old new so_far passed one more =
     let commands : (kept_in new).commands ≡ (kept_in old).commands ++ more.command ∷ [] = ap (λ (k : Kept Command). k.commands) more.kept in
     let stamp : (kept_in new).stamp ≡ (kept_in old).stamp + 1 = ap (λ (k : Kept Command). k.stamp) more.kept in
     let counted : length (kept_in new).commands ≡ length ((kept_in old).commands ++ more.command ∷ []) = ap length commands in
-    let one = length-append (kept_in old).commands (more.command ∷ []) in
+    let last = length-append (kept_in old).commands (more.command ∷ []) in
     let stamped = so_far.stamped in
     record {
-      all = so_far.all;
-      kept = so_far.kept;
-      counted = so_far.counted;
-      front = so_far.front ++ words ∷ [];
-      split = so_far.split ∙ ap (λ (l : List (List ℕ)). so_far.front ++ l) same ∙ sym (append_assoc so_far.front (words ∷ []) rest);
-      spelled = subst (λ (cs : List Command). SpellCommands (so_far.front ++ words ∷ []) cs) (sym commands)
-          (spell_push so_far.front words (kept_in old).commands more.command so_far.spelled more.spelled);
-      stamped = omega (arith, stamp, counted, one, stamped);
-      played = more.played;
+      counts = record {
+        front = so_far.counts.front ++ words ∷ [];
+        spells = front_more bytes so_far.counts.front rest words behind so_far.counts.spells passed;
+        counted = omega (arith, so_far.counts.counted, one, length-append so_far.counts.front (words ∷ []));
+      };
+      spelled = subst (λ (cs : List Command). SpellCommands (so_far.counts.front ++ words ∷ []) cs) (sym commands)
+          (spell_push so_far.counts.front words (kept_in old).commands more.command so_far.spelled more.spelled);
+      stamped = omega (arith, stamp, counted, last, stamped);
     }
+
+-- the commands were read of words that are short
+pub worded_first : (kit : Kit) (words : List ℕ) (table : Table) → length words ≤ 65535 → IsBegunBy kit words table → AreWorded (kept_in table).commands
+worded_first kit words table short begun = record { words = words ∷ []; short = All-cons IsShort words [] (omega (arith, short)) (All-nil IsShort); spelled = begun.spelled }
+
+pub worded_more : (kit : Kit) (words : List ℕ) (old new : Table) → length words ≤ 65535 → HasPlayed kit old words new → AreWorded (kept_in old).commands → AreWorded (kept_in new).commands
+worded_more kit words old new short more worded =
+    let commands : (kept_in new).commands ≡ (kept_in old).commands ++ more.command ∷ [] = ap (λ (k : Kept Command). k.commands) more.kept in
+    subst (λ (cs : List Command). AreWorded cs) (sym commands)
+    (record {
+      words = worded.words ++ words ∷ [];
+      short = All-append IsShort worded.words (words ∷ []) worded.short (All-cons IsShort words [] (omega (arith, short)) (All-nil IsShort));
+      spelled = spell_push worded.words words (kept_in old).commands more.command worded.spelled more.spelled;
+    })
 
 -- all were played
-pub ends : (kit : Kit) (bytes : List ℕ) (count : ℕ) (left : List (List ℕ)) (table : Table) → left ≡ [] → IsPlaying kit bytes count left table → IsRestored kit bytes count table
-ends kit bytes count left table none so_far =
-    let whole : so_far.all ≡ so_far.front = so_far.split ∙ ap (λ (l : List (List ℕ)). so_far.front ++ l) none ∙ append-nil so_far.front in
+pub ends : (kit : Kit) (bytes rest : List ℕ) (left count : ℕ) (table : Table) → IsPlaying bytes rest left count table → IsPlayed kit table → rest ≡ [] → left ≡ 0 → IsRestored kit bytes count table
+ends kit bytes rest left count table so_far played end none =
     record {
       kept = record {
-        words = so_far.all;
-        kept = so_far.kept;
-        counted = so_far.counted;
-        spelled = subst (λ (ws : List (List ℕ)). SpellCommands ws (kept_in table).commands) (sym whole) so_far.spelled;
+        words = so_far.counts.front;
+        kept = front_whole bytes so_far.counts.front rest so_far.counts.spells end;
+        counted = omega (arith, so_far.counts.counted, none);
+        spelled = so_far.spelled;
       };
-      played = so_far.played;
+      played = played;
     }
 
-room_left : (kit : Kit) (bytes : List ℕ) (count : ℕ) (left rest : List (List ℕ)) (words : List ℕ) (old : Table) → left ≡ words ∷ rest → count ≤ 4096 → IsPlaying kit bytes count left old → HasRoom old
-room_left kit bytes count left rest words old same few so_far =
-    let whole : length so_far.all ≡ length (so_far.front ++ words ∷ rest) =
-    ap length (so_far.split ∙ ap (λ (l : List (List ℕ)). so_far.front ++ l) same) in
-    let counted = so_far.counted in
-    let parts = length-append so_far.front (words ∷ rest) in
-    let many = as_many so_far.front (kept_in old).commands so_far.spelled in
+room_left : (bytes rest : List ℕ) (left count : ℕ) (old : Table) → IsPlaying bytes rest left count old → 0 < left → count ≤ 4096 → HasRoom old
+room_left bytes rest left count old so_far some few =
+    let many = as_many so_far.counts.front (kept_in old).commands so_far.spelled in
+    let counted = so_far.counts.counted in
     let stamped = so_far.stamped in
-    let less : length (kept_in old).commands < 4096 = omega (arith, counted, whole, parts, many, few) in
+    let less : length (kept_in old).commands < 4096 = omega (arith, counted, many, some, few) in
     record { room = less; stamp = omega (arith, less, stamped) }
 
 -- one of them isn't lawful
@@ -131,27 +137,45 @@ unplayed kit front words rest before commands spelled some unlawful all played =
     (λ first. unlawful parts.command parts.spelled
     (lawful_there kit before parts.command parts.behind first (subst (λ (cs : List Command). ArePlayed kit cs) whole played)))
 
+lt_or_none : (n : ℕ) → (0 < n) ⊎ (n ≡ 0)
+lt_or_none zero = inr refl
+lt_or_none (suc n) = inl (omega arith)
+
 -- what the bytes hold is what these words spell
 pub held_words : (kit : Kit) (bytes : List ℕ) (count : ℕ) (all : List (List ℕ)) → SpellsKept bytes all → (holds : HoldsPlayed kit bytes count) → SpellCommands all holds.commands
 held_words kit bytes count all kept holds =
     subst (λ (ws : List (List ℕ)). SpellCommands ws holds.commands) (one_kept bytes holds.kept.words all holds.kept.kept kept) holds.kept.spelled
 
-pub breaks : (kit : Kit) (bytes : List ℕ) (count : ℕ) (left rest : List (List ℕ)) (words : List ℕ) (old : Table) (fault : Fault) → left ≡ words ∷ rest → IsPlaying kit bytes count left old
-    → (fault ≡ F.OutOfMemory) ⊎ ((fault ≡ F.Damaged NotPlayed) × (HasRoom old → IsUnlawfulAfter kit (kept_in old).commands words))
-    → (fault ≡ F.OutOfMemory) ⊎ ((fault ≡ F.Damaged NotPlayed) × (count ≤ 4096 → HoldsPlayed kit bytes count → ⊥))
-breaks kit bytes count left rest words old fault same so_far (inl memory) = inl memory
-breaks kit bytes count left rest words old fault same so_far (inr refused) = inr (
-  refused.0,
-  λ few holds.
-      let whole : so_far.all ≡ so_far.front ++ words ∷ rest = so_far.split ∙ ap (λ (l : List (List ℕ)). so_far.front ++ l) same in
-      let spelled = subst (λ (ws : List (List ℕ)). SpellCommands ws holds.commands) whole (held_words kit bytes count so_far.all so_far.kept holds) in
-      let unlawful = refused.1 (room_left kit bytes count left rest words old same few so_far) in
-      ∥∥₁_elim holds.played ⊥_prop
-      (λ played. unplayed kit so_far.front words rest (kept_in old).commands holds.commands so_far.spelled so_far.played.lawful unlawful spelled played),
-)
+-- what is held, as so many commands
+held_so : (kit : Kit) (bytes : List ℕ) (count : ℕ) → HoldsPlayed kit bytes count → counting.HoldsCommands bytes count
+held_so kit bytes count holds = (holds.kept.words, holds.kept.kept, holds.kept.counted)
+
+unlawful_next : (kit : Kit) (bytes rest words behind : List ℕ) (left count : ℕ) (old : Table) → IsPlaying bytes rest left count old → IsPlayed kit old → 0 < left → Begins rest words behind
+    → (HasRoom old → IsUnlawfulAfter kit (kept_in old).commands words) → count ≤ 4096 → HoldsPlayed kit bytes count → ⊥
+unlawful_next kit bytes rest words behind left count old so_far old_played some passed refused few holds =
+    let split = front_split so_far.counts.front bytes rest holds.kept.words so_far.counts.spells holds.kept.kept in
+    let next = next_word rest words behind split.behind passed split.kept in
+    let whole : holds.kept.words ≡ so_far.counts.front ++ words ∷ next.0 = split.split ∙ ap (λ (l : List (List ℕ)). so_far.counts.front ++ l) next.1 in
+    let spelled = subst (λ (ws : List (List ℕ)). SpellCommands ws holds.commands) whole holds.kept.spelled in
+    let unlawful = refused (room_left bytes rest left count old so_far some few) in
+    ∥∥₁_elim holds.played ⊥_prop
+    (λ played. unplayed kit so_far.counts.front words next.0 (kept_in old).commands holds.commands so_far.spelled old_played.lawful unlawful spelled played)
+
+-- the next command isn't played
+pub breaks : (kit : Kit) (bytes rest : List ℕ) (left count : ℕ) (old : Table) → IsPlaying bytes rest left count old → IsPlayed kit old → PlaysNoMore kit rest old left → count ≤ 4096 → HoldsPlayed kit bytes count → ⊥
+breaks kit bytes rest left count old so_far played (None_left words behind passed none) few holds = counts_past bytes rest behind words left count so_far.counts passed none (held_so kit bytes count holds)
+breaks kit bytes rest left count old so_far played (Next_cut is_cut) few holds = counts_cut bytes rest left count so_far.counts is_cut (held_so kit bytes count holds)
+breaks kit bytes rest left count old so_far played (Unlawful words behind passed refused) few holds =
+    elim (lt_or_none left) [
+      | inl some ↦ unlawful_next kit bytes rest words behind left count old so_far played some passed refused few holds
+      | inr none ↦ counts_past bytes rest behind words left count so_far.counts passed none (held_so kit bytes count holds)
+    ]
+
+-- or there are fewer
+pub ends_early : (kit : Kit) (bytes rest : List ℕ) (left count : ℕ) (old : Table) → IsPlaying bytes rest left count old → rest ≡ [] → left ≢ 0 → HoldsPlayed kit bytes count → ⊥
+ends_early kit bytes rest left count old so_far end some holds = some (counts_all bytes rest left count so_far.counts end (held_so kit bytes count holds))
 
 -- no opening comes first
-
 no_opening : (kit : Kit) (words : List ℕ) (rest : List (List ℕ)) (commands : List Command) → SpellsNoOpening words → SpellCommands (words ∷ rest) commands → ArePlayed kit commands → ⊥
 no_opening kit words rest [] none spelled played = absurd played
 no_opening kit words rest (command ∷ commands) none spelled played =
@@ -159,25 +183,52 @@ no_opening kit words rest (command ∷ commands) none spelled played =
     let same : command ≡ Open opening.players = cc (opening.split) in
     none opening.players (subst (λ (c : Command). SpellsCommand words c) same spelled.0)
 
-pub begins_otherwise : (kit : Kit) (bytes : List ℕ) (count : ℕ) (all rest : List (List ℕ)) (words : List ℕ) (fault : Fault) → SpellsKept bytes all → all ≡ words ∷ rest
-    → (fault ≡ F.OutOfMemory) ⊎ ((fault ≡ F.Damaged NotPlayed) × SpellsNoOpening words)
-    → (fault ≡ F.OutOfMemory) ⊎ ((fault ≡ F.Damaged NotPlayed) × (count ≤ 4096 → HoldsPlayed kit bytes count → ⊥))
-begins_otherwise kit bytes count all rest words fault kept same (inl memory) = inl memory
-begins_otherwise kit bytes count all rest words fault kept same (inr refused) = inr (
-  refused.0,
-  λ few holds.
-      let spelled = subst (λ (ws : List (List ℕ)). SpellCommands ws holds.commands) same (held_words kit bytes count all kept holds) in
-      ∥∥₁_elim holds.played ⊥_prop (λ played. no_opening kit words rest holds.commands refused.1 spelled played),
-)
-
 nothing_spelled : (kit : Kit) (commands : List Command) → SpellCommands [] commands → ArePlayed kit commands → ⊥
 nothing_spelled kit [] spelled played = played
 nothing_spelled kit (command ∷ commands) spelled played = spelled
 
-pub begins_not : (kit : Kit) (bytes : List ℕ) (count : ℕ) (all : List (List ℕ)) → SpellsKept bytes all → all ≡ [] → HoldsPlayed kit bytes count → ⊥
-begins_not kit bytes count all kept none holds =
-    let spelled = subst (λ (ws : List (List ℕ)). SpellCommands ws holds.commands) none (held_words kit bytes count all kept holds) in
+-- no command comes first, or none that opens
+none_first : (kit : Kit) (bytes : List ℕ) (count : ℕ) (words : List (List ℕ)) (holds : HoldsPlayed kit bytes count) → words ≡ holds.kept.words → words ≡ [] → ⊥
+none_first kit bytes count words holds same none =
+    let spelled = subst (λ (ws : List (List ℕ)). SpellCommands ws holds.commands) (sym same ∙ none) holds.kept.spelled in
     ∥∥₁_elim holds.played ⊥_prop (λ played. nothing_spelled kit holds.commands spelled played)
+
+none_counted : (words : List (List ℕ)) → length words ≡ 0 → words ≡ []
+none_counted [] same = refl
+none_counted (first ∷ words) same = absurd (omega (arith, same))
+
+pub begins_none : (kit : Kit) (bytes : List ℕ) (count : ℕ) → count ≡ 0 → HoldsPlayed kit bytes count → ⊥
+begins_none kit bytes count none holds = none_first kit bytes count holds.kept.words holds refl (none_counted holds.kept.words (holds.kept.counted ∙ none))
+
+nothing_kept : (bytes : List ℕ) (words : List (List ℕ)) → bytes ≡ [] → SpellsKept bytes words → words ≡ []
+nothing_kept bytes words end kept = none_counted words (kept_nothing bytes words end kept)
+
+pub begins_otherwise : (kit : Kit) (bytes : List ℕ) (count : ℕ) → BeginsNoTable bytes → HoldsPlayed kit bytes count → ⊥
+begins_otherwise kit bytes count (No_command end) holds = none_first kit bytes count holds.kept.words holds refl (nothing_kept bytes holds.kept.words end holds.kept.kept)
+begins_otherwise kit bytes count (First_cut is_cut) holds = kept_cut bytes holds.kept.words is_cut holds.kept.kept
+begins_otherwise kit bytes count (No_opening words behind passed none) holds =
+    let next = next_word bytes words behind holds.kept.words passed holds.kept.kept in
+    let spelled = subst (λ (ws : List (List ℕ)). SpellCommands ws holds.commands) next.1 holds.kept.spelled in
+    ∥∥₁_elim holds.played ⊥_prop (λ played. no_opening kit words next.0 holds.commands none spelled played)
+
+-- a fault that says less
+pub or_breaks : {P Q : Type 0} (fault : Fault) → (fault ≡ F.OutOfMemory) ⊎ ((fault ≡ F.Damaged NotPlayed) × P) → (P → Q) → IsOrBreaks NotPlayed Q fault
+or_breaks {P} {Q} fault (inl memory) so = subst (λ (f : Fault). IsOrBreaks NotPlayed Q f) (sym memory) tt
+or_breaks {P} {Q} fault (inr refused) so = subst (λ (f : Fault). IsOrBreaks NotPlayed Q f) (sym refused.0) (refl, so refused.1)
+
+pub breaks_so : {P Q : Type 0} (fault : Fault) → IsOrBreaks NotPlayed P fault → (P → Q) → IsOrBreaks NotPlayed Q fault
+breaks_so (F.Damaged damage) is so = (is.0, so is.1)
+breaks_so (F.Disk fault) is so = tt
+breaks_so F.OutOfMemory is so = tt
+
+-- a chain that is cut
+pub cut_breaks : {P Q : Type 0} (fault : OfPages) → IfCut fault P → (P → Q) → IsOrBreaks NotPlayed Q (of_chain fault)
+cut_breaks pages.FileFull is_cut so = tt
+cut_breaks pages.HalfFull is_cut so = tt
+cut_breaks (pages.Damaged damage) is_cut so = (refl, so is_cut.1)
+cut_breaks pages.NotAStore is_cut so = absurd is_cut
+cut_breaks (pages.Disk fault) is_cut so = tt
+cut_breaks pages.OutOfMemory is_cut so = tt
 
 -- a command that a table refuses
 
@@ -212,12 +263,12 @@ told (H.StaleStamp stamp) P h = inr (refl, h (λ e. absurd cc))
 told H.TurnNotKept P h = inr (refl, h (λ e. absurd cc))
 told H.TooManyCommands P h = inr (refl, h (λ e. absurd cc))
 
-pub refused : RequestsHaveOneVerdict → (kit : Kit) (old : Table) (stamp : ℕ) (words : List ℕ) (command : Command) (fault : table.Fault) → SpellsCommand words command
-    → stamp ≡ (kept_in old).stamp → MayFind (request_judgement kit (kept_in old) stamp (Play command)) H.OutOfMemory fault
-    → (of_table fault ≡ F.OutOfMemory) ⊎ ((of_table fault ≡ F.Damaged NotPlayed) × (HasRoom old → IsUnlawfulAfter kit (kept_in old).commands words))
-refused law kit old stamp words command fault spelled same found = told fault _ refused_there
+pub refused : {Q : Type 0} → RequestsHaveOneVerdict → (kit : Kit) (old : Table) (stamp : ℕ) (words : List ℕ) (command : Command) (fault : table.Fault) → SpellsCommand words command
+    → stamp ≡ (kept_in old).stamp → (Q → MayFind (request_judgement kit (kept_in old) stamp (Play command)) H.OutOfMemory fault)
+    → (of_table fault ≡ F.OutOfMemory) ⊎ ((of_table fault ≡ F.Damaged NotPlayed) × (Q → HasRoom old → IsUnlawfulAfter kit (kept_in old).commands words))
+refused {Q} law kit old stamp words command fault spelled same found = told fault _ refused_there
   where
-    refused_there : (fault ≡ H.OutOfMemory → ⊥) → HasRoom old → IsUnlawfulAfter kit (kept_in old).commands words
-    refused_there other room there spells lawful =
+    refused_there : (fault ≡ H.OutOfMemory → ⊥) → Q → HasRoom old → IsUnlawfulAfter kit (kept_in old).commands words
+    refused_there other played room there spells lawful =
         let here = subst (λ (c : Command). IsLawfulAfter kit (kept_in old).commands c) (one_command words there command spells spelled) lawful in
-        other (only_memory law kit old stamp command fault same found room here)
+        other (only_memory law kit old stamp command fault same (found played) room here)

@@ -1,15 +1,12 @@
 -- What a file tells, from what is told of its root's entries and chains.
 use Rattle.std.proofs.Common.{◌≡◌, ◌⊎◌, ℕ, List, ◌++◌, length, inl, inr, sym, ap, subst, ◌∙◌}
-use Rattle.std.proofs.lemmas.List.{length-map}
 use Rattle.std.specs.Prelude.{Option}
 use Rattle.rr_reading.specs.declared.dir.directory.TableEntry.{TableEntry}
 use Rattle.rr_reading.specs.Dir.Directory.{AreTables}
 use Rattle.rr_images.specs.Holding.{HeldChain}
 use Rattle.rr_kit.specs.declared.kit.Kit.{Kit}
 use Rattle.rr_log.specs.Opening.Opened.{HasDamagedRecord}
-use Rattle.rr_pages.specs.declared.reading.ReadChain.{ReadChain}
-use Rattle.rr_reading.specs.Chains.{all_held, held}
-use Rattle.rr_reading.specs.Held.{Held}
+use Rattle.rr_reading.specs.Held.{Held, TextChains}
 use Rattle.rr_reading.specs.Reading.{Holds}
 use Rattle.rr_tables.specs.Records.World.{World}
 use Rattle.rr_checkpoint.specs.declared.plan.kit.KitPages.{KitPages}
@@ -17,17 +14,32 @@ use Rattle.rr_checkpoint.specs.declared.plan.transcript.Transcript.{Transcript}
 use Rattle.rr_checkpoint.specs.Plan.Kit.{AreTextChains}
 use Rattle.rr_tables.specs.declared.tables.Tables.{Tables}
 use Rattle.rr_tables.specs.Tables.{world_of}
+use Rattle.rr_pages.specs.declared.fault.Damage.{Damage}
 use Rattle.rr_pages.specs.declared.fault.Damage.TheVariants as D
 use Rattle.rr_store.specs.declared.recovery.fault.Fault.{Fault}
 use Rattle.rr_store.specs.declared.recovery.fault.Fault.TheVariants as F
-use Rattle.rr_store.specs.Recovery.Base.{IsRightBase, RefusesBase}
+use Rattle.rr_store.specs.Recovery.Base.{HasUnplayed, IsRightBase, RefusesBase}
+use Rattle.rr_store.specs.Recovery.Fault.{IsOfDevice, IsOrBreaks}
 use Rattle.rr_store.specs.Recovery.Recovered.{IsRecoveredFrom}
 use Rattle.rr_store.specs.Recovery.Telling.{HasBadRecord, IsRecovered, Refuses}
 use Rattle.rr_store.specs.Recovery.Replaying.{AreReplayed, BreaksOff, IsTranscriptBefore, Replays}
 use Rattle.rr_store.specs.Recovery.Texts.{NameTexts, texts_in}
+use Rattle.rr_store.specs.Recovery.Told.{EachHas, TellsWords}
 use Rattle.rr_store.proofs.RecoveryLemmas.BaseLemmas.{base_told, base_written, each_chain, tables_limited, texts_named, told_base, told_written, written_told}
 use Rattle.rr_store.proofs.RecoveryLemmas.ReplayLemmas.{StopsAt}
 use Rattle.rr_store.proofs.RecoveryLemmas.TellingLemmas.{played_each}
+
+-- why there are no tables of a root: the device failed, or some table wasn't played
+module _ (entries : List TableEntry) (texts : TextChains) (chains : List HeldChain) where
+  pub device_refuses : (fault : Fault) → IsOfDevice fault → RefusesBase entries texts chains fault
+  device_refuses (F.Damaged damage) none = absurd none
+  device_refuses (F.Disk fault) none = tt
+  device_refuses F.OutOfMemory none = absurd none
+
+  pub kept_refuses : {P : Type 0} (fault : Fault) → IsOrBreaks D.Kept P fault → EachHas TellsWords entries chains → (P → HasUnplayed entries texts chains) → RefusesBase entries texts chains fault
+  kept_refuses (F.Damaged damage) is told so = subst (λ (d : Damage). RefusesBase entries texts chains (F.Damaged d)) (sym is.0) (so is.1)
+  kept_refuses (F.Disk fault) is told so = tt
+  kept_refuses F.OutOfMemory is told so = told
 
 module _ (file : List ℕ) (has : Held) (holds : Holds file has) where
   -- the root is refused, and so is the file
@@ -50,25 +62,26 @@ module _ (file : List ℕ) (has : Held) (holds : Holds file has) where
                 unplayed.unplayed (played_each unplayed.kit has.directory.tables has.tables base (base_told file has holds base there.0 there.1.spells based) played);
           }
       by_fault (F.Damaged _) none = absurd none
+      by_fault (F.Disk fault) failed = tt
       by_fault F.OutOfMemory spelled = let there = told_written file has holds spelled in λ bad. bad there.0 there.1
 
   -- the same of what was read
-  pub refuses_read : (entries : List TableEntry) (read : List ReadChain) (fault : Fault) → entries ≡ has.directory.tables → all_held read ≡ has.tables
-      → (length entries ≡ length read → AreTables entries → RefusesBase entries has.texts (all_held read) fault) → Refuses has fault
+  pub refuses_read : (entries : List TableEntry) (read : List HeldChain) (fault : Fault) → entries ≡ has.directory.tables → read ≡ has.tables
+      → (length entries ≡ length read → AreTables entries → RefusesBase entries has.texts read fault) → Refuses has fault
   refuses_read entries read fault entries_are chains_are refused = refuses_base fault there
     where
       there : length has.directory.tables ≡ length has.tables → AreTables has.directory.tables → RefusesBase has.directory.tables has.texts has.tables fault
       there same are =
-          let many : length entries ≡ length read = ap length entries_are ∙ (same ∙ (sym (ap length chains_are) ∙ length-map read held)) in
+          let many : length entries ≡ length read = ap length entries_are ∙ (same ∙ (sym (ap length chains_are))) in
           let limited = subst (λ (es : List TableEntry). AreTables es) (sym entries_are) are in
           subst (λ (cs : List HeldChain). RefusesBase has.directory.tables has.texts cs fault) chains_are
-          (subst (λ (es : List TableEntry). RefusesBase es has.texts (all_held read) fault) entries_are (refused many limited))
+          (subst (λ (es : List TableEntry). RefusesBase es has.texts read fault) entries_are (refused many limited))
 
-  pub right_read : (entries : List TableEntry) (read : List ReadChain) (kit : Kit) (base : World) → entries ≡ has.directory.tables → all_held read ≡ has.tables
-      → IsRightBase entries has.texts (all_held read) kit base → IsRightBase has.directory.tables has.texts has.tables kit base
+  pub right_read : (entries : List TableEntry) (read : List HeldChain) (kit : Kit) (base : World) → entries ≡ has.directory.tables → read ≡ has.tables
+      → IsRightBase entries has.texts read kit base → IsRightBase has.directory.tables has.texts has.tables kit base
   right_read entries read kit base entries_are chains_are right =
       subst (λ (cs : List HeldChain). IsRightBase has.directory.tables has.texts cs kit base) chains_are
-      (subst (λ (es : List TableEntry). IsRightBase es has.texts (all_held read) kit base) entries_are right)
+      (subst (λ (es : List TableEntry). IsRightBase es has.texts read kit base) entries_are right)
 
   -- a record is refused
   pub bad_record : (kit : Kit) (base : World) → IsRightBase has.directory.tables has.texts has.tables kit base

@@ -2,9 +2,7 @@
 use Rattle.std.proofs.Common.{◌≡◌, ◌≢◌, ◌⊎◌, ℕ, zero, suc, ◌+◌, ◌^◌, ◌<◌, ◌≤◌, Bool, true, false, cond, List, [], ◌∷◌, ◌++◌, All, length, take, get_or, map, Option, None, Some, bytes_eq, inl, inr, refl, sym, ap, subst, ◌∙◌, arith}
 use Rattle.std.proofs.lemmas.List.{get_or-take, length-take-le, map-append, take_all, take_more}
 use Rattle.std.proofs.lemmas.Slice.Eq.{bytes_eq-Decides}
-use Rattle.rr_code.specs.Command.{text}
 use Rattle.rr_code.specs.declared.command.Command.{Command}
-use Rattle.rr_reading.specs.Dir.Kept.{IsShort}
 use Rattle.rr_reading.specs.declared.dir.directory.TableEntry.{TableEntry}
 use Rattle.rr_reading.specs.Dir.Directory.{AreTables, HaveOwnNames, IsTable}
 use Rattle.rr_game.specs.declared.history.table.Table.{Table}
@@ -12,18 +10,13 @@ use Rattle.rr_game.specs.History.Playing.{ends_turn}
 use Rattle.rr_game.specs.History.Tables.{kept_in}
 use Rattle.rr_images.specs.Holding.{HeldChain}
 use Rattle.rr_kit.specs.declared.kit.Kit.{Kit}
-use Rattle.rr_pages.specs.declared.reading.ReadChain.{ReadChain}
-use Rattle.rr_reading.specs.Chains.{all_held, held}
 use Rattle.rr_tables.specs.Records.Played.{ArePlayedTables, IsPlayedTable}
-use Rattle.rr_tables.specs.Records.Words.{SpellCommands}
+use Rattle.rr_tables.specs.Records.Words.{AreCommands, KeepCommands, SpellCommands}
 use Rattle.rr_tables.specs.Records.World.{TableState, World, table_named}
 use Rattle.rr_tables.specs.Writable.{IsWritable}
 use Rattle.rr_turns.specs.Turns.{ended_turns}
-use Rattle.rr_pages.specs.declared.fault.Damage.TheVariants.{Kept as NotPlayed}
-use Rattle.rr_store.specs.declared.recovery.fault.Fault.{Fault}
-use Rattle.rr_store.specs.declared.recovery.fault.Fault.TheVariants as F
-use Rattle.rr_store.specs.Recovery.Kept.{HoldsCommands, TellsPlayed, IsRestored}
-use Rattle.rr_store.specs.Recovery.Restoring.{AreRestored, HasRestored, IsFreeFor}
+use Rattle.rr_store.specs.Recovery.Kept.{AreWorded, TellsPlayed, IsRestored}
+use Rattle.rr_store.specs.Recovery.Restoring.{AreRestored, HasRestored, IsFreeFor, PutsPlayed}
 use Rattle.rr_store.specs.Recovery.Told.{EachHas, TellTables, TellsTable}
 use Rattle.rr_store.proofs.RecoveryLemmas.PlayingLemmas.{held_words}
 use Rattle.rr_store.proofs.RecoveryLemmas.TellingLemmas.{each_at, played_more, told_more}
@@ -82,16 +75,16 @@ others_before entries i entry own within is k d less same =
     (ap (λ (e : TableEntry). e.name) (sym (get_or-take i entries k d below)) ∙ same
     ∙ ap (λ (e : TableEntry). e.name) (is ∙ same_default entries i entry d within))
 
-pub is_free : (entries : List TableEntry) (chains : List ReadChain) (i : ℕ) (entry : TableEntry) (tables : World) → AreTables entries → i < length entries → entry ≡ get_or entries i entry
-    → TellTables (take i entries) (all_held (take i chains)) tables → IsFreeFor tables entry
+pub is_free : (entries : List TableEntry) (chains : List HeldChain) (i : ℕ) (entry : TableEntry) (tables : World) → AreTables entries → i < length entries → entry ≡ get_or entries i entry
+    → TellTables (take i entries) (take i chains) tables → IsFreeFor tables entry
 is_free entries chains i entry tables are within is told =
-    let count = told_count (take i entries) (all_held (take i chains)) tables told in
+    let count = told_count (take i entries) (take i chains) tables told in
     let front = length-take-le i entries (omega (arith, within)) in
     let few = are.few in
     let here : IsTable entry = subst (λ (e : TableEntry). IsTable e) (sym is) (are.each i entry within) in
     record {
       room = omega (arith, count, front, few, within);
-      own_name = told_absent (take i entries) (all_held (take i chains)) tables entry.name (others_before entries i entry are.own_names within is) told;
+      own_name = told_absent (take i entries) (take i chains) tables entry.name (others_before entries i entry are.own_names within is) told;
       stamp = here.stamped;
     }
 
@@ -101,46 +94,39 @@ few_kept entries i entry are within is =
 
 -- one entry more
 
-pub restored_more : (kit now : Kit) (entries : List TableEntry) (chains : List ReadChain) (i : ℕ) (entry : TableEntry) (chain : ReadChain) (bytes : List ℕ) (old new : World) → i < length entries → i < length chains
-    → entry ≡ get_or entries i entry → chain ≡ get_or chains i chain → bytes ≡ chain.bytes.items → now ≡ kit → AreRestored kit (take i entries) (all_held (take i chains)) old
-    → HasRestored now entry bytes old new → AreRestored kit (take (i + 1) entries) (all_held (take (i + 1) chains)) new
+pub restored_more : (kit now : Kit) (entries : List TableEntry) (chains : List HeldChain) (i : ℕ) (entry : TableEntry) (chain : HeldChain) (bytes : List ℕ) (old new : World) → i < length entries → i < length chains
+    → entry ≡ get_or entries i entry → chain ≡ get_or chains i chain → bytes ≡ chain.text → now ≡ kit → AreRestored kit (take i entries) (take i chains) old
+    → HasRestored now entry bytes old new → AreRestored kit (take (i + 1) entries) (take (i + 1) chains) new
 restored_more kit now entries chains i entry chain bytes old new entry_in chain_in entry_is chain_is bytes_are same so_far has =
     let front : take (i + 1) entries ≡ take i entries ++ entry ∷ [] = take_more entries i entry entry_in ∙ ap (λ (e : TableEntry). take i entries ++ e ∷ []) (sym entry_is) in
-    let links : take (i + 1) chains ≡ take i chains ++ chain ∷ [] = take_more chains i chain chain_in ∙ ap (λ (c : ReadChain). take i chains ++ c ∷ []) (sym chain_is) in
-    let texts : all_held (take (i + 1) chains) ≡ all_held (take i chains) ++ held chain ∷ [] = ap all_held links ∙ map-append held (take i chains) (chain ∷ []) in
+    let links : take (i + 1) chains ≡ take i chains ++ chain ∷ [] = take_more chains i chain chain_in ∙ ap (λ (c : HeldChain). take i chains ++ c ∷ []) (sym chain_is) in
     let played_here = subst (λ (k : Kit). IsPlayedTable k has.table.1) same has.played in
     let here = subst (λ (b : List ℕ). TellsTable entry b has.table) bytes_are has.told in
-    let told = told_more (take i entries) (all_held (take i chains)) old entry (held chain) has.table so_far.told here in
+    let told = told_more (take i entries) (take i chains) old entry chain has.table so_far.told here in
     let played = played_more kit old has.table so_far.played played_here in
     record {
-      told = subst (λ (w : World). TellTables (take (i + 1) entries) (all_held (take (i + 1) chains)) w) (sym has.last)
-          (subst (λ (es : List TableEntry). TellTables es (all_held (take (i + 1) chains)) (old ++ has.table ∷ [])) (sym front)
-          (subst (λ (cs : List HeldChain). TellTables (take i entries ++ entry ∷ []) cs (old ++ has.table ∷ [])) (sym texts) told));
+      told = subst (λ (w : World). TellTables (take (i + 1) entries) (take (i + 1) chains) w) (sym has.last)
+          (subst (λ (es : List TableEntry). TellTables es (take (i + 1) chains) (old ++ has.table ∷ [])) (sym front)
+          (subst (λ (cs : List HeldChain). TellTables (take i entries ++ entry ∷ []) cs (old ++ has.table ∷ [])) (sym links) told));
       played = subst (λ (w : World). ArePlayedTables kit w) (sym has.last) played;
     }
 
 -- the next table wasn't played
-pub restored_end : (kit now : Kit) (entries : List TableEntry) (chains : List ReadChain) (i : ℕ) (entry : TableEntry) (chain : ReadChain) (bytes : List ℕ) (old : World) (fault : Fault) → i < length entries
-    → i < length chains → entry ≡ get_or entries i entry → chain ≡ get_or chains i chain → bytes ≡ chain.bytes.items → now ≡ kit → AreRestored kit (take i entries) (all_held (take i chains)) old
-    → (fault ≡ F.OutOfMemory)
-    ⊎ ((fault ≡ F.Damaged NotPlayed) × (IsFreeFor old entry → entry.kept ≤ 4096 → TellsPlayed now entry bytes → ⊥))
-    → (fault ≡ F.OutOfMemory) ⊎ ((fault ≡ F.Damaged NotPlayed) × (AreTables entries → EachHas (TellsPlayed kit) entries (all_held chains) → ⊥))
-restored_end kit now entries chains i entry chain bytes old fault entry_in chain_in entry_is chain_is bytes_are same so_far (inl memory) = inl memory
-restored_end kit now entries chains i entry chain bytes old fault entry_in chain_in entry_is chain_is bytes_are same so_far (inr refused) = inr (
-  refused.0,
-  λ are all.
-      let here = each_at (TellsPlayed kit) entries chains i entry chain entry_in chain_in entry_is chain_is all in
-      refused.1 (is_free entries chains i entry old are entry_in entry_is so_far.told) (few_kept entries i entry are entry_in entry_is)
-      (subst (λ (b : List ℕ). TellsPlayed now entry b) (sym bytes_are) (subst (λ (k : Kit). TellsPlayed k entry chain.bytes.items) (sym same) here)),
-)
+pub restored_end : (kit now : Kit) (entries : List TableEntry) (chains : List HeldChain) (i : ℕ) (entry : TableEntry) (chain : HeldChain) (bytes : List ℕ) (old : World) → i < length entries
+    → i < length chains → entry ≡ get_or entries i entry → chain ≡ get_or chains i chain → bytes ≡ chain.text → now ≡ kit → AreRestored kit (take i entries) (take i chains) old
+    → (IsFreeFor old entry → entry.kept ≤ 4096 → TellsPlayed now entry bytes → ⊥) → AreTables entries → EachHas (TellsPlayed kit) entries chains → ⊥
+restored_end kit now entries chains i entry chain bytes old entry_in chain_in entry_is chain_is bytes_are same so_far refused are all =
+    let here = each_at (TellsPlayed kit) entries chains i entry chain entry_in chain_in entry_is chain_is all in
+    refused (is_free entries chains i entry old are entry_in entry_is so_far.told) (few_kept entries i entry are entry_in entry_is)
+    (subst (λ (b : List ℕ). TellsPlayed now entry b) (sym bytes_are) (subst (λ (k : Kit). TellsPlayed k entry chain.text) (sym same) here))
 
-pub restored_all : (kit : Kit) (entries : List TableEntry) (chains : List ReadChain) (n : ℕ) (tables : World) → length entries ≡ length chains → length entries ≤ n
-    → AreRestored kit (take n entries) (all_held (take n chains)) tables → AreRestored kit entries (all_held chains) tables
+pub restored_all : (kit : Kit) (entries : List TableEntry) (chains : List HeldChain) (n : ℕ) (tables : World) → length entries ≡ length chains → length entries ≤ n
+    → AreRestored kit (take n entries) (take n chains) tables → AreRestored kit entries chains tables
 restored_all kit entries chains n tables same past restored =
     let front = take_all n entries past in
     let back = take_all n chains (omega (arith, same, past)) in
-    subst (λ (es : List TableEntry). AreRestored kit es (all_held chains) tables) front
-    (subst (λ (cs : List ReadChain). AreRestored kit (take n entries) (all_held cs) tables) back restored)
+    subst (λ (es : List TableEntry). AreRestored kit es chains tables) front
+    (subst (λ (cs : List HeldChain). AreRestored kit (take n entries) (cs) tables) back restored)
 
 -- a floor above the turns that ended in what a table keeps
 pub above_turns : (kit : Kit) (entry : TableEntry) (bytes : List ℕ) (table : Table) (floor turns : ℕ) → IsRestored kit bytes entry.kept table → floor ≡ entry.floor
@@ -151,20 +137,30 @@ above_turns kit entry bytes table floor turns restored floor_is counted above th
     let floored = subst (λ (cs : List Command). entry.floor ≤ ended_turns (ends_turn kit) cs) same there.floored in
     omega (arith, floored, counted, above, floor_is)
 
+-- one table more was played
+pub played_put : (kit : Kit) (old new : World) → ArePlayedTables kit old → PutsPlayed kit old new → ArePlayedTables kit new
+played_put kit old new played puts = subst (λ (w : World). ArePlayedTables kit w) (sym puts.last) (played_more kit old puts.table played puts.played)
+
+keep_last : (old : World) (table : List ℕ × TableState) → KeepCommands old → AreCommands table.1.commands → KeepCommands (old ++ table ∷ [])
+keep_last [] table keep last = (last, tt)
+keep_last (first ∷ old) table keep last = (keep.0, keep_last old table keep.1 last)
+
+pub keep_put : (kit : Kit) (old new : World) → KeepCommands old → PutsPlayed kit old new → KeepCommands new
+keep_put kit old new keep puts = subst (λ (w : World). KeepCommands w) (sym puts.last) (keep_last old puts.table keep puts.spelled)
+
+-- words that spell commands are those of commands
+
+words_are_commands : (words : List (List ℕ)) (commands : List Command) → SpellCommands words commands → AreCommands commands
+words_are_commands [] [] spelled = tt
+words_are_commands [] (c ∷ cs) spelled = absurd spelled
+words_are_commands (w ∷ ws) [] spelled = absurd spelled
+words_are_commands (w ∷ ws) (c ∷ cs) spelled = (spelled.0.command, words_are_commands ws cs spelled.1)
+
+pub spelled_behind : (old new : TableState) → AreWorded old.commands → new.commands ≡ old.commands → AreCommands new.commands
+spelled_behind old new worded commands = subst (λ (cs : List Command). AreCommands cs) (sym commands) (words_are_commands worded.words old.commands worded.spelled)
+
 -- what a checkpoint can write of a table that was restored
 
-words_are : (words : List (List ℕ)) (commands : List Command) → SpellCommands words commands → words ≡ map text commands
-words_are [] [] spelled = refl
-words_are [] (c ∷ cs) spelled = absurd spelled
-words_are (w ∷ ws) [] spelled = absurd spelled
-words_are (w ∷ ws) (c ∷ cs) spelled =
-    let more = words_are ws cs spelled.1 in λ i. spelled.0.spelled i ∷ more i
-
-pub is_writable : (bytes : List ℕ) (count floor : ℕ) (old new : TableState) → HoldsCommands bytes count old.commands → new.commands ≡ old.commands → new.floor ≡ floor → floor < 2 ^ 32
-    → IsWritable new
-is_writable bytes count floor old new holds commands floored below =
-    let texts : holds.words ≡ map text new.commands = words_are holds.words old.commands holds.spelled ∙ ap (map text) (sym commands) in
-    record {
-      floored = subst (λ (n : ℕ). n < 2 ^ 32) (sym floored) below;
-      short = subst (λ (ws : List (List ℕ)). All IsShort ws) texts holds.kept.short;
-    }
+pub is_writable : (floor : ℕ) (old new : TableState) → AreWorded old.commands → new.commands ≡ old.commands → new.floor ≡ floor → floor < 2 ^ 32 → IsWritable new
+is_writable floor old new worded commands floored below =
+    record { floored = subst (λ (n : ℕ). n < 2 ^ 32) (sym floored) below }

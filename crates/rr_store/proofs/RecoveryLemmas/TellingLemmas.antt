@@ -1,11 +1,15 @@
 -- What the entries of a directory and their chains tell, table by table.
-use Rattle.std.proofs.Common.{◌≡◌, ◌↔◌, ℕ, zero, suc, ◌<◌, ◌≤◌, List, [], ◌∷◌, ◌++◌, length, drop, get_or, sym, subst, arith}
+use Rattle.std.proofs.Common.{◌≡◌, ◌↔◌, ℕ, zero, suc, ◌+◌, ◌<◌, ◌≤◌, List, [], ◌∷◌, ◌++◌, length, drop, get_or, sym, subst, arith}
+use Rattle.std.proofs.lemmas.List.{drop_more, drop_all}
+use Rattle.rr_pages.specs.declared.reading.FollowedChain.{FollowedChain}
 use Rattle.rr_reading.specs.declared.dir.directory.TableEntry.{TableEntry}
+use Rattle.rr_reading.specs.Chains.{all_held_in}
+use Rattle.rr_reading.specs.Lending.Fitting.{links_at}
+use Rattle.rr_reading.specs.Lending.Pages.{joined}
+use Rattle.rr_reading.proofs.FormLemmas.{drop_held, held_at}
 use Rattle.rr_game.specs.History.Playing.{ends_turn}
 use Rattle.rr_images.specs.Holding.{HeldChain}
 use Rattle.rr_kit.specs.declared.kit.Kit.{Kit}
-use Rattle.rr_pages.specs.declared.reading.ReadChain.{ReadChain}
-use Rattle.rr_reading.specs.Chains.{all_held}
 use Rattle.rr_tables.specs.Records.Played.{ArePlayedTables, IsPlayedTable}
 use Rattle.rr_tables.specs.Records.World.{TableState, World}
 use Rattle.rr_turns.specs.Turns.{ended_turns}
@@ -13,16 +17,35 @@ use Rattle.rr_store.specs.Recovery.Kept.{TellsPlayed}
 use Rattle.rr_store.specs.Recovery.Told.{EachHas, TellTables, TellsTable}
 
 -- that those from one place on have it decides that all have it
-abbrev pub LeftDecide : (TableEntry → List ℕ → Type 0) → List TableEntry → List ReadChain → ℕ → Type 0
-LeftDecide P entries chains n = EachHas P (drop n entries) (all_held (drop n chains)) ↔ EachHas P entries (all_held chains)
+abbrev pub LeftDecide : (TableEntry → List ℕ → Type 0) → List TableEntry → List HeldChain → ℕ → Type 0
+LeftDecide P entries chains n = EachHas P (drop n entries) (drop n chains) ↔ EachHas P entries chains
+
+module _ (P : TableEntry → List ℕ → Type 0) (file : List ℕ) (entries : List TableEntry) (all : List FollowedChain) (n : ℕ) (entry : TableEntry) (entry_in : n < length entries) (chain_in : n < length all) (entry_is : entry ≡ get_or entries n entry) where
+  entries_are : drop n entries ≡ entry ∷ drop (n + 1) entries
+  entries_are = subst (λ (e : TableEntry). drop n entries ≡ e ∷ drop (n + 1) entries) (sym entry_is) (drop_more entries n entry entry_in)
+
+  parted : EachHas P (drop n entries) (drop n (all_held_in file all)) ≡ EachHas P (entry ∷ drop (n + 1) entries) (held_at file all n ∷ drop (n + 1) (all_held_in file all))
+  parted = λ i. EachHas P (entries_are i) (drop_held file all n chain_in i)
+
+  pub left_more : LeftDecide P entries (all_held_in file all) n → P entry (joined file (links_at all n)) → LeftDecide P entries (all_held_in file all) (n + 1)
+  left_more decide here = (
+    λ rest. decide.0 (subst (λ (Q : Type 0). Q) (sym parted) (here, rest)),
+    λ whole. (subst (λ (Q : Type 0). Q) parted (decide.1 whole)).1,
+  )
+
+  pub left_none : LeftDecide P entries (all_held_in file all) n → (P entry (joined file (links_at all n)) → ⊥) → EachHas P entries (all_held_in file all) → ⊥
+  left_none decide none whole = none (subst (λ (Q : Type 0). Q) parted (decide.1 whole)).0
+
+pub all_decided : (P : TableEntry → List ℕ → Type 0) (entries : List TableEntry) (chains : List HeldChain) (n : ℕ) → length entries ≤ n → LeftDecide P entries chains n → EachHas P entries chains
+all_decided P entries chains n past decide = decide.0 (subst (λ (es : List TableEntry). EachHas P es (drop n chains)) (sym (drop_all n entries past)) tt)
 
 -- all have it only if each has it
-pub each_at : (P : TableEntry → List ℕ → Type 0) (entries : List TableEntry) (chains : List ReadChain) (n : ℕ) (entry : TableEntry) (chain : ReadChain) → n < length entries → n < length chains
-    → entry ≡ get_or entries n entry → chain ≡ get_or chains n chain → EachHas P entries (all_held chains) → P entry chain.bytes.items
+pub each_at : (P : TableEntry → List ℕ → Type 0) (entries : List TableEntry) (chains : List HeldChain) (n : ℕ) (entry : TableEntry) (chain : HeldChain) → n < length entries → n < length chains
+    → entry ≡ get_or entries n entry → chain ≡ get_or chains n chain → EachHas P entries chains → P entry chain.text
 each_at P [] chains n entry chain entry_in chain_in entry_is chain_is all = absurd (omega (arith, entry_in))
 each_at P (e ∷ es) [] n entry chain entry_in chain_in entry_is chain_is all = absurd all
 each_at P (e ∷ es) (c ∷ cs) zero entry chain entry_in chain_in entry_is chain_is all =
-    subst (λ (x : TableEntry). P x chain.bytes.items) (sym entry_is) (subst (λ (x : ReadChain). P e x.bytes.items) (sym chain_is) all.0)
+    subst (λ (x : TableEntry). P x chain.text) (sym entry_is) (subst (λ (x : HeldChain). P e x.text) (sym chain_is) all.0)
 each_at P (e ∷ es) (c ∷ cs) (suc n) entry chain entry_in chain_in entry_is chain_is all =
     each_at P es cs n entry chain (omega (arith, entry_in)) (omega (arith, chain_in)) entry_is chain_is all.1
 

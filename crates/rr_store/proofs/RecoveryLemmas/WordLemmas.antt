@@ -1,13 +1,17 @@
 -- The commands that words spell: there is one list of them, and it is cut where the words are; and which words are those of lines.
-use Rattle.std.proofs.Common.{◌≡◌, ◌↔◌, ℕ, suc, List, [], ◌∷◌, ◌++◌, length, inl, refl, sym, ap, subst, ◌∙◌}
+use Rattle.std.proofs.Common.{◌≡◌, ℕ, suc, ◌+◌, List, [], ◌∷◌, ◌++◌, length, inl, refl, sym, ap, subst, ◌∙◌, length-append, arith}
 use Rattle.rr_code.specs.declared.command.Command.{Command}
 use Rattle.rr_code.specs.Command.{SpellsCommand}
 use Rattle.rr_code.proofs.TextLemmas.{command-unique}
 use Rattle.rr_reading.specs.declared.dir.directory.TableEntry.{TableEntry}
-use Rattle.rr_reading.specs.Dir.Kept.{SpellsKept}
-use Rattle.rr_reading.proofs.DirLemmas.KeptLemmas.{one_kept}
+use Rattle.rr_reading.specs.declared.lending.commands.Commands.{Commands}
+use Rattle.rr_reading.specs.Chains as counting
+use Rattle.rr_reading.specs.Lending.Commands.{Begins, IsCut}
+use Rattle.rr_reading.proofs.LendingLemmas.FrontLemmas.{CountsFront, counts_all, counts_cut, counts_past, front_more, front_none, front_split, front_whole, next_word}
 use Rattle.rr_tables.specs.Records.Words.{SpellCommands}
 use Rattle.rr_turns.specs.declared.request.Request.TheVariants.{Play}
+use Rattle.rr_store.specs.declared.recovery.words.Next.{Next}
+use Rattle.rr_store.specs.Recovery.Spelling.{ReadsWords}
 use Rattle.rr_store.specs.Recovery.Told.{AreSpelled, IsSpelled, TellsWords}
 
 pub one_command : (words : List ℕ) (first second : Command) → SpellsCommand words first → SpellsCommand words second → first ≡ second
@@ -73,34 +77,63 @@ cut (w ∷ ws) word back (c ∷ cs) a =
       spelled_behind = more.spelled_behind;
     }
 
--- that the words left are those of lines decides that all are
+-- of the counted commands so many are left, and the words of the others are those of lines
+pub record SpellsSo (bytes rest : List ℕ) (left count : ℕ) : Type 0 where
+  pub counts : CountsFront bytes rest left count
+  pub spelled : AreSpelled counts.front
 
-pub spelled_same : (left all : List (List ℕ)) → left ≡ all → AreSpelled left ↔ AreSpelled all
-spelled_same left all same =
-    let P : List (List ℕ) → Type 0 = λ ws. AreSpelled ws in (subst P same, subst P (sym same))
+pub spells_none : (bytes rest : List ℕ) (count : ℕ) → rest ≡ bytes → SpellsSo bytes rest count count
+spells_none bytes rest count same =
+    subst (λ (bs : List ℕ). SpellsSo bytes bs count count) (sym same) (record { counts = record { front = []; spells = front_none bytes; counted = omega arith }; spelled = tt })
 
-pub spelled_more : (left rest all : List (List ℕ)) (words : List ℕ) → left ≡ words ∷ rest → IsSpelled words → AreSpelled left ↔ AreSpelled all → AreSpelled rest ↔ AreSpelled all
-spelled_more left rest all words same here decides =
-    let P : List (List ℕ) → Type 0 = λ ws. AreSpelled ws in (
-      λ more. decides.0 (subst P (sym same) (here, more)),
-      λ whole. let those : AreSpelled (words ∷ rest) = subst P same (decides.1 whole) in those.1,
-    )
+spelled_last : (front : List (List ℕ)) (words : List ℕ) → AreSpelled front → IsSpelled words → AreSpelled (front ++ words ∷ [])
+spelled_last [] words all last = (last, tt)
+spelled_last (first ∷ front) words all last = (all.0, spelled_last front words all.1 last)
 
-pub spelled_not : (left rest all : List (List ℕ)) (words : List ℕ) → left ≡ words ∷ rest → (IsSpelled words → ⊥) → AreSpelled left ↔ AreSpelled all → AreSpelled all → ⊥
-spelled_not left rest all words same none decides whole =
-    let P : List (List ℕ) → Type 0 = λ ws. AreSpelled ws in
-    let those : AreSpelled (words ∷ rest) = subst P same (decides.1 whole) in none those.0
+spelled_at : (front : List (List ℕ)) (words : List ℕ) (behind : List (List ℕ)) → AreSpelled (front ++ words ∷ behind) → IsSpelled words
+spelled_at [] words behind all = all.0
+spelled_at (first ∷ front) words behind all = spelled_at front words behind all.1
 
-pub spelled_all : (left all : List (List ℕ)) → left ≡ [] → AreSpelled left ↔ AreSpelled all → AreSpelled all
-spelled_all left all none decides =
-    let P : List (List ℕ) → Type 0 = λ ws. AreSpelled ws in decides.0 (subst P (sym none) tt)
+pub spells_more : (bytes rest behind words : List ℕ) (left less count : ℕ) → SpellsSo bytes rest left count → Begins rest words behind → IsSpelled words → less + 1 ≡ left → SpellsSo bytes behind less count
+spells_more bytes rest behind words left less count so passed spelled one =
+    record {
+      counts = record {
+        front = so.counts.front ++ words ∷ [];
+        spells = front_more bytes so.counts.front rest words behind so.counts.spells passed;
+        counted = omega (arith, so.counts.counted, one, length-append so.counts.front (words ∷ []));
+      };
+      spelled = spelled_last so.counts.front words so.spelled spelled;
+    }
 
--- what the bytes of a chain tell is what its words are
-pub tells_spelled : (entry : TableEntry) (bytes : List ℕ) (words : List (List ℕ)) → SpellsKept bytes words → length words ≡ entry.kept → AreSpelled words ↔ TellsWords entry bytes
-tells_spelled entry bytes words kept counted = (
-  λ spelled. record { kept_words = words; kept = kept; counted = counted; spelled = spelled },
-  λ tells. subst (λ (ws : List (List ℕ)). AreSpelled ws) (one_kept bytes tells.kept_words words tells.kept kept) tells.spelled,
-)
+counted_so : (entry : TableEntry) (bytes : List ℕ) → TellsWords entry bytes → counting.HoldsCommands bytes entry.kept
+counted_so entry bytes tells = (tells.kept_words, tells.kept, tells.counted)
+
+module _ (entry : TableEntry) (bytes rest : List ℕ) (left : ℕ) (so : SpellsSo bytes rest left entry.kept) where
+  -- a command too many, or one of other words
+  pub words_past : (words behind : List ℕ) → Begins rest words behind → left ≡ 0 → TellsWords entry bytes → ⊥
+  words_past words behind passed none tells = counts_past bytes rest behind words left entry.kept so.counts passed none (counted_so entry bytes tells)
+
+  pub words_other : (words behind : List ℕ) → Begins rest words behind → (IsSpelled words → ⊥) → TellsWords entry bytes → ⊥
+  words_other words behind passed none tells =
+      let split = front_split so.counts.front bytes rest tells.kept_words so.counts.spells tells.kept in
+      let next = next_word rest words behind split.behind passed split.kept in
+      let whole : tells.kept_words ≡ so.counts.front ++ words ∷ next.0 = split.split ∙ ap (λ (l : List (List ℕ)). so.counts.front ++ l) next.1 in
+      none (spelled_at so.counts.front words next.0 (subst (λ (ws : List (List ℕ)). AreSpelled ws) whole tells.spelled))
+
+  -- the end, or within a command
+  pub words_end : rest ≡ [] → left ≡ 0 → TellsWords entry bytes
+  words_end end none =
+      record { kept_words = so.counts.front; kept = front_whole bytes so.counts.front rest so.counts.spells end; counted = omega (arith, so.counts.counted, none); spelled = so.spelled }
+
+  pub words_all : rest ≡ [] → TellsWords entry bytes → left ≡ 0
+  words_all end tells = counts_all bytes rest left entry.kept so.counts end (counted_so entry bytes tells)
+
+  pub words_cut : IsCut rest → TellsWords entry bytes → ⊥
+  words_cut is_cut tells = counts_cut bytes rest left entry.kept so.counts is_cut (counted_so entry bytes tells)
+
+-- what is read of a file that is the same
+pub reads_along : (now file : List ℕ) (old new : Commands) (next : Next) → now ≡ file → ReadsWords now old next new → ReadsWords file old next new
+reads_along now file old new next same reads = subst (λ (f : List ℕ). ReadsWords f old next new) same reads
 
 -- a command's words are those of a request
 pub commands_spelled : (words : List (List ℕ)) (commands : List Command) → SpellCommands words commands → AreSpelled words

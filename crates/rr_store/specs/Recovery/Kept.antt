@@ -1,10 +1,11 @@
 -- What the chain of a table tells of its kept commands.
-use Rattle.std.specs.Prelude.{◌≡◌, ℕ, ◌<◌, ◌≤◌, List, [], ◌∷◌, length}
+use Rattle.std.specs.Prelude.{◌≡◌, ℕ, ◌<◌, ◌≤◌, List, [], ◌∷◌, All, length}
 use Rattle.rr_code.specs.Command.{SpellsCommand}
 use Rattle.rr_code.specs.declared.command.Command.{Command}
 use Rattle.rr_code.specs.declared.command.Command.TheVariants.{Open}
 use Rattle.rr_reading.specs.declared.dir.directory.TableEntry.{TableEntry}
-use Rattle.rr_reading.specs.Dir.Kept.{SpellsKept}
+use Rattle.rr_reading.specs.Dir.Kept.{IsShort, SpellsKept}
+use Rattle.rr_reading.specs.declared.dir.directory.TheConstants.{MOST_KEPT}
 use Rattle.rr_game.specs.declared.history.table.Table.{Table}
 use Rattle.rr_game.specs.History.Playing.{ArePlayed, IsLawfulAfter, ends_turn}
 use Rattle.rr_game.specs.History.Tables.{IsPlayed, kept_in}
@@ -29,22 +30,28 @@ SpellsNoOpening words = (players : List (List ℕ)) → SpellsCommand words (Ope
 abbrev pub IsUnlawfulAfter : Kit → List Command → List ℕ → Type 0
 IsUnlawfulAfter kit before words = (command : Command) → SpellsCommand words command → IsLawfulAfter kit before command → ⊥
 
+-- commands of words that are short enough to be kept
+pub record AreWorded (commands : List Command) : Type 0 where
+  pub words : List (List ℕ)
+  pub short : All IsShort words
+  pub spelled : SpellCommands words commands
+
 -- a table that an opening with these words begins
 pub record IsBegunBy (kit : Kit) (words : List ℕ) (table : Table) : Type 0 where
   pub spelled : SpellCommands (words ∷ []) (kept_in table).commands
   pub stamped : (kept_in table).stamp ≡ length (kept_in table).commands
   pub played : IsPlayed kit table
 
--- a table that has played the command of these words
+-- a table that has played the command of these words, and was played if it was before
 pub record HasPlayed (kit : Kit) (old : Table) (words : List ℕ) (new : Table) : Type 0 where
   pub command : Command
   pub spelled : SpellsCommand words command
   pub kept : kept_in new ≡ kept_after (ends_turn kit) (kept_in old) (Play command)
-  pub played : IsPlayed kit new
+  pub played : IsPlayed kit old → IsPlayed kit new
 
 -- a table that has room for a command more, and a stamp after its own
 pub record HasRoom (table : Table) : Type 0 where
-  pub room : length (kept_in table).commands < 4096
+  pub room : length (kept_in table).commands < MOST_KEPT
   pub stamp : (kept_in table).stamp < 4000000000
 
 -- the table keeps the commands that the bytes hold, and its game is their play

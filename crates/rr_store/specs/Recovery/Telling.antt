@@ -77,7 +77,9 @@ IsDamage has D.Kept = HasUnplayedTable has
 IsDamage has D.Records = HasBadRecord has
 IsDamage has _ = ⊥
 
--- why no tables are recovered: want of memory may come at any file whose kept words are right
+-- why no tables are recovered: the device may fail at any file, and want of memory may come at one whose kept words are
+-- right
 abbrev pub Refuses : Held → Fault → Type 0
 Refuses has (F.Damaged damage) = IsDamage has damage
+Refuses has (F.Disk fault) = Unit {0}
 Refuses has F.OutOfMemory = HasBadWords has → ⊥

@@ -8,6 +8,9 @@ pub enum Fault {
     /// The file holds what no store of ours holds.
     #[error("damaged {0}")]
     Damaged(Damage),
+    /// A device call failed.
+    #[error("{0}")]
+    Disk(rr_disk::Fault),
     /// Memory was wanted and refused.
     #[error("out of memory")]
     OutOfMemory,

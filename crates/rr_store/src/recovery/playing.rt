@@ -1,39 +1,184 @@
 //! One table: its kept commands are played from the opening.
-ghost use Rattle.std.specs.Prelude.{◌≡◌, ◌⊎◌, ◌≤◌, ℕ, List, IfOk, IfErr, OnOk, MatchOption, MatchResult};
+ghost use Rattle.std.specs.Prelude.{◌≡◌, ◌≢◌, ◌⊎◌, ◌*◌, ◌<◌, ◌≤◌, ℕ, List, [], IsTrue, IfOk, IfErr, OnOk, MatchOption, MatchResult};
+ghost use Rattle.std.specs.Bool.{OnTrue, OnFalse};
 ghost use Rattle.rr_code.specs.Command.{SpellsCommand};
 ghost use Rattle.rr_code.specs.declared.command.Command.{Command as Line};
 ghost use Rattle.rr_game.specs.History.Tables.{IsPlayed, kept_in};
-ghost use Rattle.rr_store.specs.Recovery.Fault.{of_table};
-ghost use Rattle.rr_store.specs.Recovery.Kept.{HasPlayed, HasRoom, HoldsPlayed, IsBegunBy, IsRestored, IsUnlawfulAfter, SpellsNoOpening};
+ghost use Rattle.rr_pages.specs.declared.page.TheConstants.{PAGE_BYTES};
+ghost use Rattle.rr_reading.specs.declared.dir.directory.TheConstants.{MOST_KEPT};
+ghost use Rattle.rr_reading.specs.Lending.Chains.{all_of, count_of};
+ghost use Rattle.rr_reading.specs.Lending.Commands.{bytes_at, rest_of, steps_left_of};
+ghost use Rattle.rr_store.specs.Recovery.Fault.{CountsFault, IsOrBreaks, OnDeviceFault, of_chain, of_table};
+ghost use Rattle.rr_store.specs.Recovery.Kept.{AreWorded, HasPlayed, HasRoom, HoldsPlayed, IsBegunBy, IsRestored, IsUnlawfulAfter, SpellsNoOpening};
+ghost use Rattle.rr_store.specs.Recovery.Playing.{BeginsNoTable, BeginsTable, PlaysNext, PlaysNoMore};
 
 use crate::recovery::Fault;
 use rr_code::{Command, Players};
+use rr_disk::Disk;
 use rr_game::history::Table;
 use rr_kit::Kit;
 use rr_pages::Damage;
-use rr_reading::dir::KeptCommands;
+use rr_reading::lending::Commands;
 use std::alloc::Global;
 
 /// A kept command that its table doesn't take.
 const UNPLAYED: Fault = Fault::Damaged(Damage::Kept);
 
-/// The table that keeps the `count` commands of these bytes. Its stamp is their number.
-pub(crate) fn play_all(alloc: Global, kit: &Kit, bytes: &[u8], count: u32) -> Result<Table, Fault>
-    ensures restored { IfOk result (λ table. IsRestored kit.now bytes.now count table) }
-    ensures refused { IfErr result (λ fault. (fault ≡ Fault.OutOfMemory)
-        ⊎ ((fault ≡ Fault.Damaged Damage.Kept) × (count ≤ 4096 → HoldsPlayed kit.now bytes.now count → ⊥))) }
+/// The table that keeps the `count` commands in the chain at this place. Its stamp is their number.
+pub(crate) fn play_all<D: Disk>(
+    alloc: Global,
+    disk: &mut D,
+    kit: &Kit,
+    chains: &mut Commands,
+    index: usize,
+    count: u32,
+) -> Result<Table, Fault>
+    ensures restored { IfOk result (λ table. D.Honest disk.new
+        → IsRestored kit.now (bytes_at (D.state disk.old).content chains.old index) count table) }
+    ensures played { IfOk result (λ table. IsPlayed kit.now table) }
+    ensures worded { IfOk result (λ table. AreWorded (kept_in table).commands) }
+    ensures refused { IfErr result (IsOrBreaks Damage.Kept (D.Honest disk.new → count ≤ MOST_KEPT
+        → HoldsPlayed kit.now (bytes_at (D.state disk.old).content chains.old index) count → ⊥)) }
+    ensures all { all_of chains.new.chains ≡ all_of chains.old.chains }
+    ensures pages { count_of chains.new.chains ≡ count_of chains.old.chains }
+    ensures fault { CountsFault (D.fault_count disk.old) (D.fault_count disk.new) result }
+    ensures honest { D.Honest disk.new → D.Honest disk.old }
+    ensures same_state { D.Honest disk.new → D.state disk.new ≡ D.state disk.old }
+    ensures same_past { D.Honest disk.new → D.past disk.new ≡ D.past disk.old }
+    ensures writes { D.write_count disk.new ≡ D.write_count disk.old }
+    ensures syncs { D.sync_count disk.new ≡ D.sync_count disk.old }
+    ensures device { OnDeviceFault result (D.Works disk.new → D.file_len disk.old < PAGE_BYTES * count_of chains.old.chains) }
+    ensures works { D.Works disk.new → D.Works disk.old }
+    ensures same_len { D.file_len disk.new ≡ D.file_len disk.old }
 {
-    let Ok(mut kept) = KeptCommands::read(bytes, count) else {
+    if count == 0 {
         return Err(UNPLAYED);
-    };
-    let Some(opening) = kept.next() else {
+    }
+    chains.turn_to(index);
+    let mut table = begin_first(alloc, disk, kit, chains)?;
+    let mut left = count - 1;
+    'commands: loop {
+        let more = play_next(alloc, disk, kit, chains, &mut table, left)?;
+        if !more {
+            return whole(table, left);
+        }
+        left -= 1;
+    }
+}
+
+/// The table, if no command is left.
+fn whole(table: Table, left: u32) -> Result<Table, Fault>
+    ensures { MatchResult result (λ whole. (whole ≡ table) × (left ≡ 0))
+        (λ fault. (fault ≡ Fault.Damaged Damage.Kept) × (left ≢ 0)) }
+{
+    if left > 0 {
         return Err(UNPLAYED);
-    };
-    let mut table = begin(alloc, kit, opening)?;
-    for words in kept {
-        play(alloc, kit, &mut table, words)?;
     }
     Ok(table)
+}
+
+/// The table that the first command of a chain begins.
+fn begin_first<D: Disk>(
+    alloc: Global,
+    disk: &mut D,
+    kit: &Kit,
+    chains: &mut Commands,
+) -> Result<Table, Fault>
+    ensures begun { IfOk result (λ table. D.Honest disk.new → BeginsTable kit.now (D.state disk.old).content chains.old chains.new table) }
+    ensures played { IfOk result (λ table. IsPlayed kit.now table) }
+    ensures worded { IfOk result (λ table. AreWorded (kept_in table).commands) }
+    ensures refused { IfErr result (IsOrBreaks Damage.Kept (D.Honest disk.new
+        → BeginsNoTable (rest_of (D.state disk.old).content chains.old))) }
+    ensures all { all_of chains.new.chains ≡ all_of chains.old.chains }
+    ensures pages { count_of chains.new.chains ≡ count_of chains.old.chains }
+    ensures fault { CountsFault (D.fault_count disk.old) (D.fault_count disk.new) result }
+    ensures honest { D.Honest disk.new → D.Honest disk.old }
+    ensures same_state { D.Honest disk.new → D.state disk.new ≡ D.state disk.old }
+    ensures same_past { D.Honest disk.new → D.past disk.new ≡ D.past disk.old }
+    ensures writes { D.write_count disk.new ≡ D.write_count disk.old }
+    ensures syncs { D.sync_count disk.new ≡ D.sync_count disk.old }
+    ensures device { OnDeviceFault result (D.Works disk.new → D.file_len disk.old < PAGE_BYTES * count_of chains.old.chains) }
+    ensures works { D.Works disk.new → D.Works disk.old }
+    ensures same_len { D.file_len disk.new ≡ D.file_len disk.old }
+{
+    match chains.next(disk) {
+        Ok(Some(words)) => begin(alloc, kit, words),
+        Ok(None) => Err(UNPLAYED),
+        Err(fault) => Err(of_chain(fault)),
+    }
+}
+
+/// Plays the next command of a chain, if there is one. So many may be left in it.
+fn play_next<D: Disk>(
+    alloc: Global,
+    disk: &mut D,
+    kit: &Kit,
+    chains: &mut Commands,
+    table: &mut Table,
+    left: u32,
+) -> Result<bool, Fault>
+    ensures more { IfOk result (λ more. OnTrue more (D.Honest disk.new
+        → PlaysNext kit.now (D.state disk.old).content chains.old table.old chains.new table.new)) }
+    ensures end { IfOk result (λ more. OnFalse more (D.Honest disk.new → rest_of (D.state disk.old).content chains.old ≡ [])) }
+    ensures same { IfOk result (λ more. OnFalse more (table.new ≡ table.old)) }
+    ensures some { IfOk result (λ more. OnTrue more (0 < left)) }
+    ensures fewer { IfOk result (λ more. OnTrue more (steps_left_of chains.new < steps_left_of chains.old)) }
+    ensures played { IfOk result (λ more. IsPlayed kit.now table.old → IsPlayed kit.now table.new) }
+    ensures worded { IfOk result (λ more. AreWorded (kept_in table.old).commands → AreWorded (kept_in table.new).commands) }
+    ensures refused { IfErr result (IsOrBreaks Damage.Kept (IsPlayed kit.now table.old → D.Honest disk.new
+        → PlaysNoMore kit.now (rest_of (D.state disk.old).content chains.old) table.old left)) }
+    ensures all { all_of chains.new.chains ≡ all_of chains.old.chains }
+    ensures pages { count_of chains.new.chains ≡ count_of chains.old.chains }
+    ensures fault { CountsFault (D.fault_count disk.old) (D.fault_count disk.new) result }
+    ensures honest { D.Honest disk.new → D.Honest disk.old }
+    ensures same_state { D.Honest disk.new → D.state disk.new ≡ D.state disk.old }
+    ensures same_past { D.Honest disk.new → D.past disk.new ≡ D.past disk.old }
+    ensures writes { D.write_count disk.new ≡ D.write_count disk.old }
+    ensures syncs { D.sync_count disk.new ≡ D.sync_count disk.old }
+    ensures device { OnDeviceFault result (D.Works disk.new → D.file_len disk.old < PAGE_BYTES * count_of chains.old.chains) }
+    ensures works { D.Works disk.new → D.Works disk.old }
+    ensures same_len { D.file_len disk.new ≡ D.file_len disk.old }
+{
+    match chains.next(disk) {
+        Ok(Some(words)) => play_one(alloc, kit, table, words, left),
+        Ok(None) => Ok(false),
+        Err(fault) => Err(of_chain(fault)),
+    }
+}
+
+/// Plays a command, if one may be left.
+fn play_one(
+    alloc: Global,
+    kit: &Kit,
+    table: &mut Table,
+    words: &[u8],
+    left: u32,
+) -> Result<bool, Fault>
+    ensures more { IfOk result (λ more. IsTrue more) }
+    ensures some { IfOk result (λ more. 0 < left) }
+    ensures played { IfOk result (λ more. HasPlayed kit.now table.old words.now table.new) }
+    ensures refused { IfErr result (λ fault. (fault ≡ Fault.OutOfMemory)
+        ⊎ ((fault ≡ Fault.Damaged Damage.Kept) × ((left ≡ 0) ⊎ (IsPlayed kit.now table.old → HasRoom table.old
+        → IsUnlawfulAfter kit.now (kept_in table.old).commands words.now)))) }
+{
+    if left == 0 {
+        return Err(UNPLAYED);
+    }
+    play(alloc, kit, table, words)?;
+    Ok(true)
+}
+
+/// Why a file is refused where the commands of a chain can't be read.
+fn of_chain(fault: rr_pages::Fault) -> Fault
+    ensures { result ≡ of_chain fault }
+{
+    match fault {
+        rr_pages::Fault::Damaged(_) | rr_pages::Fault::NotAStore => UNPLAYED,
+        rr_pages::Fault::Disk(fault) => Fault::Disk(fault),
+        rr_pages::Fault::FileFull | rr_pages::Fault::HalfFull | rr_pages::Fault::OutOfMemory => {
+            Fault::OutOfMemory
+        }
+    }
 }
 
 /// The table that an opening begins.
@@ -82,11 +227,10 @@ fn opening_players(command: &Command) -> Option<Players>
 
 /// Plays a command more.
 fn play(alloc: Global, kit: &Kit, table: &mut Table, words: &[u8]) -> Result<(), Fault>
-    requires { IsPlayed kit.now table.old }
     ensures played { OnOk result (HasPlayed kit.now table.old words.now table.new) }
     ensures refused { IfErr result (λ fault. (fault ≡ Fault.OutOfMemory)
-        ⊎ ((fault ≡ Fault.Damaged Damage.Kept)
-        × (HasRoom table.old → IsUnlawfulAfter kit.now (kept_in table.old).commands words.now))) }
+        ⊎ ((fault ≡ Fault.Damaged Damage.Kept) × (IsPlayed kit.now table.old → HasRoom table.old
+        → IsUnlawfulAfter kit.now (kept_in table.old).commands words.now))) }
 {
     rr_game::history::laws::requests_have_one_verdict();
     let command = read_command(words)?;

@@ -4,7 +4,7 @@ ghost use Rattle.rr_pages.specs.Journal.Reading.{lines};
 ghost use Rattle.rr_tables.specs.Records.Lines.{IsUnlawful, TakesRecord};
 ghost use Rattle.rr_store.specs.Recovery.Taking.{of_tables};
 ghost use Rattle.rr_store.specs.Recovery.Replaying.{AreReplayed, BreaksOff, IsTranscriptBefore, Replays};
-ghost use Rattle.rr_tables.specs.Tables.{world_of};
+ghost use Rattle.rr_tables.specs.Tables.{ArePlayed, world_of};
 
 use crate::recovery::Fault;
 use rr_checkpoint::plan::Transcript;
@@ -21,11 +21,13 @@ pub(crate) fn replay_halves(
     near: &[Vec<u8>],
     far: &[Vec<u8>],
 ) -> Result<Option<Transcript>, Fault>
-    ensures replayed { IfOk result (λ base. AreReplayed tables.old.kit (world_of tables.old) (lines near.now) (lines far.now) base (world_of tables.new)) }
-    ensures refused { IfErr result (λ fault. (fault ≡ Fault.OutOfMemory)
+    ensures replayed { IfOk result (λ base. ArePlayed tables.old
+        → AreReplayed tables.old.kit (world_of tables.old) (lines near.now) (lines far.now) base (world_of tables.new)) }
+    ensures refused { IfErr result (λ fault. ArePlayed tables.old → (fault ≡ Fault.OutOfMemory)
         ⊎ ((fault ≡ Fault.Damaged Damage.Records)
         × BreaksOff tables.old.kit (world_of tables.old) (lines near.now ++ lines far.now))) }
     ensures kit { tables.new.kit ≡ tables.old.kit }
+    ensures played { ArePlayed tables.old → ArePlayed tables.new }
 {
     replay(alloc, tables, near)?;
     let base = transcript_before(alloc, tables, far)?;
@@ -53,10 +55,12 @@ fn transcript_before(
 
 /// Takes records in turn.
 fn replay(alloc: Global, tables: &mut Tables, records: &[Vec<u8>]) -> Result<(), Fault>
-    ensures replayed { OnOk result (Replays tables.old.kit (world_of tables.old) (lines records.now) (world_of tables.new)) }
-    ensures refused { IfErr result (λ fault. (fault ≡ Fault.OutOfMemory)
+    ensures replayed { OnOk result (ArePlayed tables.old
+        → Replays tables.old.kit (world_of tables.old) (lines records.now) (world_of tables.new)) }
+    ensures refused { IfErr result (λ fault. ArePlayed tables.old → (fault ≡ Fault.OutOfMemory)
         ⊎ ((fault ≡ Fault.Damaged Damage.Records) × BreaksOff tables.old.kit (world_of tables.old) (lines records.now))) }
     ensures kit { tables.new.kit ≡ tables.old.kit }
+    ensures played { ArePlayed tables.old → ArePlayed tables.new }
 {
     for bytes in records {
         replay_record(alloc, tables, bytes)?;
@@ -65,10 +69,12 @@ fn replay(alloc: Global, tables: &mut Tables, records: &[Vec<u8>]) -> Result<(),
 }
 
 fn replay_record(alloc: Global, tables: &mut Tables, bytes: &[u8]) -> Result<(), Fault>
-    ensures taken { OnOk result (TakesRecord tables.old.kit (world_of tables.old) bytes.now (world_of tables.new)) }
-    ensures refused { IfErr result (λ fault. (fault ≡ Fault.OutOfMemory)
+    ensures taken { OnOk result (ArePlayed tables.old
+        → TakesRecord tables.old.kit (world_of tables.old) bytes.now (world_of tables.new)) }
+    ensures refused { IfErr result (λ fault. ArePlayed tables.old → (fault ≡ Fault.OutOfMemory)
         ⊎ ((fault ≡ Fault.Damaged Damage.Records) × IsUnlawful tables.old.kit (world_of tables.old) bytes.now)) }
     ensures kit { tables.new.kit ≡ tables.old.kit }
+    ensures played { ArePlayed tables.old → ArePlayed tables.new }
 {
     rr_game::history::laws::requests_have_one_verdict();
     let (name, request) = read_record(bytes)?;

@@ -1,13 +1,15 @@
-ghost use Rattle.std.specs.Prelude.{◌≡◌, ℕ, List, length, IfOk, IfErr};
+ghost use Rattle.std.specs.Prelude.{◌≡◌, ◌*◌, ◌<◌, ℕ, List, length, IfOk, IfErr};
 ghost use Rattle.rr_reading.specs.Dir.Directory.{AreTables};
 ghost use Rattle.rr_log.specs.Opening.Opened.{held_by};
-ghost use Rattle.rr_reading.specs.Chains.{all_held};
-ghost use Rattle.rr_reading.specs.Held.{chains_held};
+ghost use Rattle.rr_pages.specs.declared.page.TheConstants.{PAGE_BYTES};
+ghost use Rattle.rr_reading.specs.Held.{chains_held, tables_in};
+ghost use Rattle.rr_reading.specs.Lending.Chains.{all_of, count_of};
 ghost use Rattle.rr_reading.specs.Reading.{Holds};
-ghost use Rattle.rr_store.specs.Recovery.Base.{IsRightBase, RefusesBase};
+ghost use Rattle.rr_store.specs.Recovery.Base.{IsPlayedBase, IsRightBase, RefusesBase};
+ghost use Rattle.rr_store.specs.Recovery.Fault.{CountsFault, OnDeviceFault};
 ghost use Rattle.rr_store.specs.Recovery.Recovered.{HoldsPlayedTables, IsRecoveredFrom};
 ghost use Rattle.rr_store.specs.Recovery.Telling.{Refuses};
-ghost use Rattle.rr_tables.specs.Tables.{world_of};
+ghost use Rattle.rr_tables.specs.Tables.{ArePlayed, world_of};
 
 use crate::recovery::Fault;
 use crate::recovery::records::replay_halves;
@@ -15,10 +17,12 @@ use crate::recovery::tables::restore_tables;
 use crate::recovery::texts::{kit_pages, read_kit};
 use crate::recovery::words::tell_words;
 use rr_checkpoint::plan::{KitPages, Transcript};
+use rr_disk::Disk;
 use rr_log::opening::Opened;
-use rr_pages::{Damage, ReadChain};
+use rr_pages::Damage;
 use rr_reading::KitTexts;
 use rr_reading::dir::TableEntry;
+use rr_reading::lending::Commands;
 use rr_reading::worlds::{Rules, Worlds};
 use rr_tables::Tables;
 use std::alloc::Global;
@@ -30,30 +34,56 @@ pub struct Recovered {
     pub tables: Tables,
     /// Where the root holds the texts of the kit.
     pub kit: KitPages,
-    /// The tables from before the records of the half that the root doesn't name, where that has records: a checkpoint was
-    /// begun there, and these are what it is to be made of anew.
+    /// The tables from before the records of the half that the root doesn't name, where that has records: a checkpoint
+    /// was begun there, and these are what it is to be made of anew.
     pub base: Option<Transcript>,
 }
 
-/// Recovers the tables from what an opening read of a file: the commands that each table keeps are played from its opening,
-/// and then the records are taken. A table's floor and stamp are as the file has them.
+/// Recovers the tables from what an opening read of a file: the commands that each table keeps are played from its
+/// opening, and then the records are taken. A table's floor and stamp are as the file has them.
 ///
 /// # Errors
-/// `Damaged` with the least of the clauses 5 to 8 that is broken: `Form` where kept words are no request's and no `best`,
-/// `Kit` where a text of the kit is wrong, `Kept` where what a table keeps isn't an opening and then commands that are
-/// lawful, or its floor is above the turns that ended in them, `Records` where a record has no lawful request at its turn,
-/// or is damaged. Else `OutOfMemory` alone.
-pub fn recover<R: Rules>(alloc: Global, opened: &Opened<Worlds<R>>) -> Result<Recovered, Fault>
-    // The opened file is what some file holds: an opening ensures that where its disk is honest.
-    ensures recovered { IfOk result (λ recovered. (file : List ℕ) → Holds file (held_by opened.now)
-        → IsRecoveredFrom (held_by opened.now) recovered) }
-    ensures refused { IfErr result (λ fault. (file : List ℕ) → Holds file (held_by opened.now)
-        → Refuses (held_by opened.now) fault) }
+/// `Damaged` with the least of the clauses 5 to 8 that is broken: `Form` where kept words are no request's and no
+/// `best`, `Kit` where a text of the kit is wrong, `Kept` where what a table keeps isn't an opening and then commands
+/// that are lawful, or its floor is above the turns that ended in them, `Records` where a record has no lawful request
+/// at its turn, or is damaged. Else `OutOfMemory`, or `Disk` where a read fails.
+pub fn recover<D: Disk, R: Rules>(
+    alloc: Global,
+    disk: &mut D,
+    opened: &mut Opened<Worlds<R>>,
+) -> Result<Recovered, Fault>
+    // The opened file is what the disk holds: an opening ensures that where its disk is honest.
+    ensures recovered { IfOk result (λ recovered. D.Honest disk.new
+        → Holds (D.state disk.old).content (held_by (D.state disk.old).content opened.old)
+        → IsRecoveredFrom (held_by (D.state disk.old).content opened.old) recovered) }
+    ensures refused { IfErr result (λ fault. D.Honest disk.new
+        → Holds (D.state disk.old).content (held_by (D.state disk.old).content opened.old)
+        → Refuses (held_by (D.state disk.old).content opened.old) fault) }
 
-    // Whatever was read, nothing is recovered that the rules don't allow.
+    // Whatever was read, nothing is recovered that the rules don't allow, and each table was played.
     ensures played { IfOk result HoldsPlayedTables }
+    ensures each { IfOk result (λ recovered. ArePlayed recovered.tables) }
+
+    // What was opened stays.
+    ensures same_held { (file : List ℕ) → held_by file opened.new ≡ held_by file opened.old }
+    ensures same_writer { opened.new.writer ≡ opened.old.writer }
+    ensures fault { CountsFault (D.fault_count disk.old) (D.fault_count disk.new) result }
+    ensures honest { D.Honest disk.new → D.Honest disk.old }
+    ensures same_state { D.Honest disk.new → D.state disk.new ≡ D.state disk.old }
+    ensures same_past { D.Honest disk.new → D.past disk.new ≡ D.past disk.old }
+    ensures writes { D.write_count disk.new ≡ D.write_count disk.old }
+    ensures syncs { D.sync_count disk.new ≡ D.sync_count disk.old }
+    ensures device { OnDeviceFault result (D.Works disk.new → D.file_len disk.old < PAGE_BYTES * count_of opened.old.tables.chains) }
+    ensures works { D.Works disk.new → D.Works disk.old }
+    ensures same_len { D.file_len disk.new ≡ D.file_len disk.old }
 {
-    let mut tables = recover_base(alloc, &opened.dir.tables, &opened.texts, &opened.tables)?;
+    let mut tables = recover_base(
+        alloc,
+        disk,
+        &opened.dir.tables,
+        &opened.texts,
+        &mut opened.tables,
+    )?;
     let base = replay_halves(
         alloc,
         &mut tables,
@@ -68,20 +98,37 @@ pub fn recover<R: Rules>(alloc: Global, opened: &Opened<Worlds<R>>) -> Result<Re
 }
 
 /// The tables of the root, before its records.
-fn recover_base(
+fn recover_base<D: Disk>(
     alloc: Global,
+    disk: &mut D,
     entries: &[TableEntry],
     texts: &KitTexts,
-    chains: &[ReadChain],
+    chains: &mut Commands,
 ) -> Result<Tables, Fault>
-    ensures right { IfOk result (λ tables. IsRightBase entries.now (chains_held texts.now) (all_held chains.now) tables.kit (world_of tables)) }
-    ensures refused { IfErr result (λ fault. length entries.now ≡ length chains.now → AreTables entries.now
-        → RefusesBase entries.now (chains_held texts.now) (all_held chains.now) fault) }
+    ensures right { IfOk result (λ tables. D.Honest disk.new → IsRightBase entries.now (chains_held texts.now)
+        (tables_in (D.state disk.old).content chains.old) tables.kit (world_of tables)) }
+    ensures played { IfOk result ArePlayed }
+    ensures base { IfOk result (λ tables. IsPlayedBase (chains_held texts.now) tables.kit (world_of tables)) }
+    ensures refused { IfErr result (λ fault. D.Honest disk.new
+        → length entries.now ≡ length (all_of chains.old.chains) → AreTables entries.now
+        → RefusesBase entries.now (chains_held texts.now) (tables_in (D.state disk.old).content chains.old) fault) }
+    ensures all { all_of chains.new.chains ≡ all_of chains.old.chains }
+    ensures pages { count_of chains.new.chains ≡ count_of chains.old.chains }
+    ensures fault { CountsFault (D.fault_count disk.old) (D.fault_count disk.new) result }
+    ensures honest { D.Honest disk.new → D.Honest disk.old }
+    ensures same_state { D.Honest disk.new → D.state disk.new ≡ D.state disk.old }
+    ensures same_past { D.Honest disk.new → D.past disk.new ≡ D.past disk.old }
+    ensures writes { D.write_count disk.new ≡ D.write_count disk.old }
+    ensures syncs { D.sync_count disk.new ≡ D.sync_count disk.old }
+    ensures device { OnDeviceFault result (D.Works disk.new → D.file_len disk.old < PAGE_BYTES * count_of chains.old.chains) }
+    ensures works { D.Works disk.new → D.Works disk.old }
+    ensures same_len { D.file_len disk.new ≡ D.file_len disk.old }
 {
-    if !tell_words(entries, chains) {
+    let told = tell_words(disk, entries, chains)?;
+    if !told {
         return Err(Fault::Damaged(Damage::Form));
     }
     let kit = read_kit(alloc, texts)?;
-    let tables = restore_tables(alloc, kit, entries, chains)?;
+    let tables = restore_tables(alloc, disk, kit, entries, chains)?;
     Ok(tables)
 }

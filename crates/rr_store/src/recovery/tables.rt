@@ -1,42 +1,65 @@
 //! All tables of a directory, in its order.
-ghost use Rattle.std.specs.Prelude.{◌≡◌, ◌⊎◌, ◌↔◌, ◌≤◌, [], length, IsTrue, IfOk, IfErr, OnOk};
+ghost use Rattle.std.specs.Prelude.{◌≡◌, ◌↔◌, ◌*◌, ◌<◌, ◌≤◌, [], length, IsTrue, IfOk, IfErr, OnOk};
 ghost use Rattle.rr_reading.specs.Dir.Directory.{AreTables};
+ghost use Rattle.rr_reading.specs.declared.dir.directory.TheConstants.{MOST_KEPT};
 ghost use Rattle.rr_game.specs.History.Tables.{IsPlayed, kept_in};
-ghost use Rattle.rr_reading.specs.Chains.{all_held};
+ghost use Rattle.rr_pages.specs.declared.page.TheConstants.{PAGE_BYTES};
+ghost use Rattle.rr_reading.specs.Held.{tables_in};
+ghost use Rattle.rr_reading.specs.Lending.Chains.{all_of, count_of};
+ghost use Rattle.rr_reading.specs.Lending.Commands.{bytes_at};
+ghost use Rattle.rr_store.specs.Recovery.Fault.{CountsFault, IsOrBreaks, OnDeviceFault};
 ghost use Rattle.rr_store.specs.Recovery.Kept.{TellsPlayed};
-ghost use Rattle.rr_store.specs.Recovery.Restoring.{AreRestored, HasRestored, IsFreeFor};
-ghost use Rattle.rr_tables.specs.Records.Played.{IsPlayedTable};
+ghost use Rattle.rr_store.specs.Recovery.Restoring.{AreRestored, HasRestored, IsFreeFor, PutsPlayed};
+ghost use Rattle.rr_tables.specs.Records.Played.{ArePlayedTables, IsPlayedTable};
+ghost use Rattle.rr_tables.specs.Records.Words.{AreCommands, KeepCommands};
 ghost use Rattle.rr_store.specs.Recovery.Told.{EachHas, TellsTable};
-ghost use Rattle.rr_tables.specs.Tables.{world_of};
+ghost use Rattle.rr_tables.specs.Tables.{ArePlayed, world_of};
 ghost use Rattle.rr_tables.specs.Writable.{IsWritable};
 
 use crate::recovery::Fault;
 use crate::recovery::playing::play_all;
+use rr_disk::Disk;
 use rr_game::history::Table;
 use rr_kit::Kit;
-use rr_pages::{Damage, ReadChain};
+use rr_pages::Damage;
 use rr_reading::dir::TableEntry;
+use rr_reading::lending::Commands;
 use rr_tables::{MOST_TABLES, Tables};
 use rr_turns::LAST_STAMP;
 use std::alloc::Global;
 
 /// The tables of these entries, each played from its chain.
-pub(crate) fn restore_tables(
+pub(crate) fn restore_tables<D: Disk>(
     alloc: Global,
+    disk: &mut D,
     kit: Kit,
     entries: &[TableEntry],
-    chains: &[ReadChain],
+    chains: &mut Commands,
 ) -> Result<Tables, Fault>
-    requires { length entries.now ≡ length chains.now }
-    ensures restored { IfOk result (λ tables. AreRestored kit entries.now (all_held chains.now) (world_of tables)) }
+    requires { length entries.now ≡ length (all_of chains.old.chains) }
+    ensures restored { IfOk result (λ tables. D.Honest disk.new
+        → AreRestored kit entries.now (tables_in (D.state disk.old).content chains.old) (world_of tables)) }
     ensures kit { IfOk result (λ tables. tables.kit ≡ kit) }
-    ensures refused { IfErr result (λ fault. (fault ≡ Fault.OutOfMemory)
-        ⊎ ((fault ≡ Fault.Damaged Damage.Kept) × (AreTables entries.now
-        → EachHas (TellsPlayed kit) entries.now (all_held chains.now) → ⊥))) }
+    ensures played { IfOk result ArePlayed }
+    ensures lawful { IfOk result (λ tables. ArePlayedTables kit (world_of tables)) }
+    ensures spelled { IfOk result (λ tables. KeepCommands (world_of tables)) }
+    ensures refused { IfErr result (IsOrBreaks Damage.Kept (D.Honest disk.new → AreTables entries.now
+        → EachHas (TellsPlayed kit) entries.now (tables_in (D.state disk.old).content chains.old) → ⊥)) }
+    ensures all { all_of chains.new.chains ≡ all_of chains.old.chains }
+    ensures pages { count_of chains.new.chains ≡ count_of chains.old.chains }
+    ensures fault { CountsFault (D.fault_count disk.old) (D.fault_count disk.new) result }
+    ensures honest { D.Honest disk.new → D.Honest disk.old }
+    ensures same_state { D.Honest disk.new → D.state disk.new ≡ D.state disk.old }
+    ensures same_past { D.Honest disk.new → D.past disk.new ≡ D.past disk.old }
+    ensures writes { D.write_count disk.new ≡ D.write_count disk.old }
+    ensures syncs { D.sync_count disk.new ≡ D.sync_count disk.old }
+    ensures device { OnDeviceFault result (D.Works disk.new → D.file_len disk.old < PAGE_BYTES * count_of chains.old.chains) }
+    ensures works { D.Works disk.new → D.Works disk.old }
+    ensures same_len { D.file_len disk.new ≡ D.file_len disk.old }
 {
     let mut tables = no_tables(alloc, kit)?;
     for (index, entry) in entries.iter().enumerate() {
-        restore_table(alloc, &mut tables, entry, &chains[index].bytes)?;
+        restore_table(alloc, disk, &mut tables, entry, chains, index)?;
     }
     Ok(tables)
 }
@@ -44,6 +67,7 @@ pub(crate) fn restore_tables(
 fn no_tables(alloc: Global, kit: Kit) -> Result<Tables, Fault>
     ensures none { IfOk result (λ tables. world_of tables ≡ []) }
     ensures kit { IfOk result (λ tables. tables.kit ≡ kit) }
+    ensures played { IfOk result ArePlayed }
     ensures memory { IfErr result (λ fault. fault ≡ Fault.OutOfMemory) }
 {
     match Tables::new(alloc, kit) {
@@ -53,22 +77,38 @@ fn no_tables(alloc: Global, kit: Kit) -> Result<Tables, Fault>
 }
 
 /// Puts the table of an entry behind the others.
-fn restore_table(
+fn restore_table<D: Disk>(
     alloc: Global,
+    disk: &mut D,
     tables: &mut Tables,
     entry: &TableEntry,
-    bytes: &[u8],
+    chains: &mut Commands,
+    index: usize,
 ) -> Result<(), Fault>
-    ensures restored { OnOk result (HasRestored tables.old.kit entry.now bytes.now (world_of tables.old) (world_of tables.new)) }
-    ensures refused { IfErr result (λ fault. (fault ≡ Fault.OutOfMemory)
-        ⊎ ((fault ≡ Fault.Damaged Damage.Kept) × (IsFreeFor (world_of tables.old) entry.now → entry.now.kept ≤ 4096
-        → TellsPlayed tables.old.kit entry.now bytes.now → ⊥))) }
+    ensures restored { OnOk result (D.Honest disk.new → HasRestored tables.old.kit entry.now
+        (bytes_at (D.state disk.old).content chains.old index) (world_of tables.old) (world_of tables.new)) }
+    ensures refused { IfErr result (IsOrBreaks Damage.Kept (D.Honest disk.new → IsFreeFor (world_of tables.old) entry.now
+        → entry.now.kept ≤ MOST_KEPT
+        → TellsPlayed tables.old.kit entry.now (bytes_at (D.state disk.old).content chains.old index) → ⊥)) }
     ensures kit { tables.new.kit ≡ tables.old.kit }
+    ensures played { ArePlayed tables.old → ArePlayed tables.new }
+    ensures more { OnOk result (PutsPlayed tables.old.kit (world_of tables.old) (world_of tables.new)) }
+    ensures all { all_of chains.new.chains ≡ all_of chains.old.chains }
+    ensures pages { count_of chains.new.chains ≡ count_of chains.old.chains }
+    ensures fault { CountsFault (D.fault_count disk.old) (D.fault_count disk.new) result }
+    ensures honest { D.Honest disk.new → D.Honest disk.old }
+    ensures same_state { D.Honest disk.new → D.state disk.new ≡ D.state disk.old }
+    ensures same_past { D.Honest disk.new → D.past disk.new ≡ D.past disk.old }
+    ensures writes { D.write_count disk.new ≡ D.write_count disk.old }
+    ensures syncs { D.sync_count disk.new ≡ D.sync_count disk.old }
+    ensures device { OnDeviceFault result (D.Works disk.new → D.file_len disk.old < PAGE_BYTES * count_of chains.old.chains) }
+    ensures works { D.Works disk.new → D.Works disk.old }
+    ensures same_len { D.file_len disk.new ≡ D.file_len disk.old }
 {
     if !is_free_for(tables, entry) {
         return Err(Fault::Damaged(Damage::Kept));
     }
-    let table = restore(alloc, tables.kit(), entry, bytes)?;
+    let table = restore(alloc, disk, tables.kit(), entry, chains, index)?;
     tables.put(entry.name, table);
     Ok(())
 }
@@ -84,17 +124,36 @@ fn is_free_for(tables: &Tables, entry: &TableEntry) -> bool
 }
 
 /// The table of an entry, in a box: a map moves its values about.
-fn restore(alloc: Global, kit: &Kit, entry: &TableEntry, bytes: &[u8]) -> Result<Box<Table>, Fault>
+fn restore<D: Disk>(
+    alloc: Global,
+    disk: &mut D,
+    kit: &Kit,
+    entry: &TableEntry,
+    chains: &mut Commands,
+    index: usize,
+) -> Result<Box<Table>, Fault>
     requires { entry.now.stamp ≤ 4000000000 }
-    ensures told { IfOk result (λ table. TellsTable entry.now bytes.now (entry.now.name, kept_in table.value)) }
+    ensures told { IfOk result (λ table. D.Honest disk.new → TellsTable entry.now
+        (bytes_at (D.state disk.old).content chains.old index) (entry.now.name, kept_in table.value)) }
     ensures played { IfOk result (λ table. IsPlayed kit.now table.value) }
     ensures floored { IfOk result (λ table. IsPlayedTable kit.now (kept_in table.value)) }
     ensures writable { IfOk result (λ table. IsWritable (kept_in table.value)) }
-    ensures refused { IfErr result (λ fault. (fault ≡ Fault.OutOfMemory)
-        ⊎ ((fault ≡ Fault.Damaged Damage.Kept) × (entry.now.kept ≤ 4096
-        → TellsPlayed kit.now entry.now bytes.now → ⊥))) }
+    ensures spelled { IfOk result (λ table. AreCommands (kept_in table.value).commands) }
+    ensures refused { IfErr result (IsOrBreaks Damage.Kept (D.Honest disk.new → entry.now.kept ≤ MOST_KEPT
+        → TellsPlayed kit.now entry.now (bytes_at (D.state disk.old).content chains.old index) → ⊥)) }
+    ensures all { all_of chains.new.chains ≡ all_of chains.old.chains }
+    ensures pages { count_of chains.new.chains ≡ count_of chains.old.chains }
+    ensures fault { CountsFault (D.fault_count disk.old) (D.fault_count disk.new) result }
+    ensures honest { D.Honest disk.new → D.Honest disk.old }
+    ensures same_state { D.Honest disk.new → D.state disk.new ≡ D.state disk.old }
+    ensures same_past { D.Honest disk.new → D.past disk.new ≡ D.past disk.old }
+    ensures writes { D.write_count disk.new ≡ D.write_count disk.old }
+    ensures syncs { D.sync_count disk.new ≡ D.sync_count disk.old }
+    ensures device { OnDeviceFault result (D.Works disk.new → D.file_len disk.old < PAGE_BYTES * count_of chains.old.chains) }
+    ensures works { D.Works disk.new → D.Works disk.old }
+    ensures same_len { D.file_len disk.new ≡ D.file_len disk.old }
 {
-    let mut table = play_all(alloc, kit, bytes, entry.kept)?;
+    let mut table = play_all(alloc, disk, kit, chains, index, entry.kept)?;
     let floor = u64::from(entry.floor);
     if floor > table.turns() {
         return Err(Fault::Damaged(Damage::Kept));

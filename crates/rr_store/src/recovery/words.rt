@@ -1,53 +1,155 @@
-//! Whether the words of the kept commands are words that lines have behind a table's name. That needs no rule of the game.
-ghost use Rattle.std.specs.Prelude.{◌≡◌, ◌≢◌, ◌⊎◌, ◌↔◌, ℕ, List, [], ◌∷◌, length, IsTrue, MatchOption};
+//! Whether the words of the kept commands are words that lines have behind a table's name. That needs no rule of the
+//! game.
+ghost use Rattle.std.specs.Prelude.{◌≡◌, ◌≢◌, ◌⊎◌, ◌↔◌, ◌*◌, ◌<◌, ℕ, List, [], ◌∷◌, length, IsTrue, IfOk, IfErr, MatchOption};
 ghost use Rattle.rr_code.specs.Command.{SpellsCommand};
 ghost use Rattle.rr_code.specs.declared.command.Command.{Command as Played};
-ghost use Rattle.rr_reading.specs.Chains.{all_held};
-ghost use Rattle.rr_store.specs.Recovery.Told.{AreSpelled, EachHas, IsSpelled, SpellsBest, SpellsRequest, TellsWords};
+ghost use Rattle.rr_pages.specs.declared.page.TheConstants.{PAGE_BYTES};
+ghost use Rattle.rr_reading.specs.Held.{tables_in};
+ghost use Rattle.rr_reading.specs.Lending.Chains.{all_of, count_of};
+ghost use Rattle.rr_reading.specs.Lending.Commands.{bytes_at, steps_left_of};
+ghost use Rattle.rr_store.specs.Recovery.Fault.{CountsFault, IsOfDevice, OnDeviceFault};
+ghost use Rattle.rr_store.specs.Recovery.Spelling.{ReadsWords, TellsSpelled, of_cut};
+ghost use Rattle.rr_store.specs.Recovery.Told.{EachHas, IsSpelled, SpellsBest, SpellsRequest, TellsWords};
 ghost use Rattle.rr_roster.specs.declared.company.Corp.{Corp};
 ghost use Rattle.rr_turns.specs.declared.request.Request.{Request};
 ghost use Rattle.rr_turns.specs.declared.request.Request.TheVariants.{Back, Forget};
 ghost use Rattle.rr_words.specs.Line.{words_of};
 
+use crate::recovery::Fault;
 use rr_code::Command;
+use rr_disk::Disk;
 use rr_orders::scan::{Words, read_corp};
-use rr_pages::ReadChain;
-use rr_reading::dir::{KeptCommands, TableEntry};
+use rr_reading::dir::TableEntry;
+use rr_reading::lending::Commands;
 use rr_words::number;
 
-/// Whether the words of each table's kept commands are a request's, or those of `best`.
-pub(crate) fn tell_words(entries: &[TableEntry], chains: &[ReadChain]) -> bool
-    ensures { IsTrue result ↔ ((length entries.now ≡ length chains.now) × EachHas TellsWords entries.now (all_held chains.now)) }
+// What stands next in a chain.
+#[derive(Clone, Copy)]
+pub(crate) enum Next {
+    // A command whose words a line has.
+    Spelled,
+    // One whose words none has.
+    Unspelled,
+    End,
+    // The chain ends within a command.
+    Cut,
+}
+
+/// Whether the words of each table's kept commands are a request's, or those of `best`. It takes no memory.
+pub(crate) fn tell_words<D: Disk>(
+    disk: &mut D,
+    entries: &[TableEntry],
+    chains: &mut Commands,
+) -> Result<bool, Fault>
+    ensures told { IfOk result (λ told. D.Honest disk.new → (IsTrue told ↔ ((length entries.now ≡ length (all_of chains.old.chains))
+        × EachHas TellsWords entries.now (tables_in (D.state disk.old).content chains.old)))) }
+    ensures as_many { IfOk result (λ told. IsTrue told → length entries.now ≡ length (all_of chains.old.chains)) }
+    ensures only { IfErr result IsOfDevice }
+    ensures all { all_of chains.new.chains ≡ all_of chains.old.chains }
+    ensures pages { count_of chains.new.chains ≡ count_of chains.old.chains }
+    ensures fault { CountsFault (D.fault_count disk.old) (D.fault_count disk.new) result }
+    ensures honest { D.Honest disk.new → D.Honest disk.old }
+    ensures same_state { D.Honest disk.new → D.state disk.new ≡ D.state disk.old }
+    ensures same_past { D.Honest disk.new → D.past disk.new ≡ D.past disk.old }
+    ensures writes { D.write_count disk.new ≡ D.write_count disk.old }
+    ensures syncs { D.sync_count disk.new ≡ D.sync_count disk.old }
+    ensures device { OnDeviceFault result (D.Works disk.new → D.file_len disk.old < PAGE_BYTES * count_of chains.old.chains) }
+    ensures works { D.Works disk.new → D.Works disk.old }
+    ensures same_len { D.file_len disk.new ≡ D.file_len disk.old }
 {
-    if entries.len() != chains.len() {
-        return false;
+    if entries.len() != chains.chain_count() {
+        return Ok(false);
     }
     for (index, entry) in entries.iter().enumerate() {
-        if !tells_words(entry, &chains[index].bytes) {
-            return false;
+        let told = tells_words(disk, entry, chains, index)?;
+        if !told {
+            return Ok(false);
         }
     }
-    true
+    Ok(true)
 }
 
-fn tells_words(entry: &TableEntry, bytes: &[u8]) -> bool
-    ensures { IsTrue result ↔ TellsWords entry.now bytes.now }
+fn tells_words<D: Disk>(
+    disk: &mut D,
+    entry: &TableEntry,
+    chains: &mut Commands,
+    index: usize,
+) -> Result<bool, Fault>
+    ensures told { IfOk result (λ told. D.Honest disk.new
+        → (IsTrue told ↔ TellsWords entry.now (bytes_at (D.state disk.old).content chains.old index))) }
+    ensures only { IfErr result IsOfDevice }
+    ensures all { all_of chains.new.chains ≡ all_of chains.old.chains }
+    ensures pages { count_of chains.new.chains ≡ count_of chains.old.chains }
+    ensures fault { CountsFault (D.fault_count disk.old) (D.fault_count disk.new) result }
+    ensures honest { D.Honest disk.new → D.Honest disk.old }
+    ensures same_state { D.Honest disk.new → D.state disk.new ≡ D.state disk.old }
+    ensures same_past { D.Honest disk.new → D.past disk.new ≡ D.past disk.old }
+    ensures writes { D.write_count disk.new ≡ D.write_count disk.old }
+    ensures syncs { D.sync_count disk.new ≡ D.sync_count disk.old }
+    ensures device { OnDeviceFault result (D.Works disk.new → D.file_len disk.old < PAGE_BYTES * count_of chains.old.chains) }
+    ensures works { D.Works disk.new → D.Works disk.old }
+    ensures same_len { D.file_len disk.new ≡ D.file_len disk.old }
 {
-    match KeptCommands::read(bytes, entry.kept) {
-        Ok(kept) => are_spelled(kept),
-        Err(_) => false,
-    }
-}
-
-fn are_spelled(kept: KeptCommands) -> bool
-    ensures { IsTrue result ↔ AreSpelled kept.entry }
-{
-    for words in kept {
-        if !is_spelled(words) {
-            return false;
+    chains.turn_to(index);
+    let mut left = entry.kept;
+    'commands: loop {
+        let next = read_words(disk, chains)?;
+        match next {
+            Next::Spelled => {
+                if left == 0 {
+                    return Ok(false);
+                }
+                left -= 1;
+            }
+            Next::End => return Ok(left == 0),
+            Next::Unspelled => return Ok(false),
+            Next::Cut => return Ok(false),
         }
     }
-    true
+}
+
+/// Goes on to the next command, if there is one, and looks at its words.
+fn read_words<D: Disk>(disk: &mut D, chains: &mut Commands) -> Result<Next, Fault>
+    ensures reads { IfOk result (λ next. D.Honest disk.new → ReadsWords (D.state disk.old).content chains.old next chains.new) }
+    ensures fewer { IfOk result (λ next. next ≡ Next.Spelled → steps_left_of chains.new < steps_left_of chains.old) }
+    ensures only { IfErr result IsOfDevice }
+    ensures all { all_of chains.new.chains ≡ all_of chains.old.chains }
+    ensures pages { count_of chains.new.chains ≡ count_of chains.old.chains }
+    ensures fault { CountsFault (D.fault_count disk.old) (D.fault_count disk.new) result }
+    ensures honest { D.Honest disk.new → D.Honest disk.old }
+    ensures same_state { D.Honest disk.new → D.state disk.new ≡ D.state disk.old }
+    ensures same_past { D.Honest disk.new → D.past disk.new ≡ D.past disk.old }
+    ensures writes { D.write_count disk.new ≡ D.write_count disk.old }
+    ensures syncs { D.sync_count disk.new ≡ D.sync_count disk.old }
+    ensures device { OnDeviceFault result (D.Works disk.new → D.file_len disk.old < PAGE_BYTES * count_of chains.old.chains) }
+    ensures works { D.Works disk.new → D.Works disk.old }
+    ensures same_len { D.file_len disk.new ≡ D.file_len disk.old }
+{
+    match chains.next(disk) {
+        Ok(Some(words)) => Ok(spelled(words)),
+        Ok(None) => Ok(Next::End),
+        Err(fault) => cut(fault),
+    }
+}
+
+fn spelled(words: &[u8]) -> Next
+    ensures { TellsSpelled words.now result }
+{
+    if is_spelled(words) {
+        Next::Spelled
+    } else {
+        Next::Unspelled
+    }
+}
+
+// A chain that ends within a command is judged by its caller.
+fn cut(fault: rr_pages::Fault) -> Result<Next, Fault>
+    ensures { result ≡ of_cut fault }
+{
+    match fault {
+        rr_pages::Fault::Disk(fault) => Err(Fault::Disk(fault)),
+        _ => Ok(Next::Cut),
+    }
 }
 
 /// Whether the words are those of a request, or of `best`.

@@ -24,8 +24,8 @@ pub fn records_move_on()
     ensures { laws.MoveOn }
 {}
 
-/// Where the tables were played, a request that is lawful at its table has a line that is taken: the text of its record.
-/// And a line that is taken is that of a lawful request at tables that were played.
+/// Where the tables were played, a request that is lawful at its table has a line that is taken: the text of its
+/// record. And a line that is taken is that of a lawful request at tables that were played.
 pub fn lawful_requests_are_taken()
     ensures taken { laws.LawfulAreTaken }
     ensures lawful { laws.TakenAreLawful }
@@ -39,17 +39,17 @@ pub fn records_are_of_requests()
     ensures replayed { laws.RequestsAreReplayed }
 {}
 
-/// A kit's world without a table was played, and records lead from worlds that were played to such worlds: what each table
-/// keeps is an opening and then commands that are lawful, each after those before it.
+/// A kit's world without a table was played, and records lead from worlds that were played to such worlds: what each
+/// table keeps is an opening and then commands that are lawful, each after those before it.
 pub fn played_worlds_stay_played()
     ensures new { laws.NewWorldsArePlayed }
     ensures stay { laws.PlayedStayPlayed }
     ensures replayed { laws.ReplayedArePlayed }
 {}
 
-/// A file that keeps a world that was played, or stands for one, has a root whose world was played: where records follow,
-/// the first of them was taken from such a world, and where none do, the root's world is the file's. So an opening may
-/// refuse a file whose root spells tables that weren't played.
+/// A file that keeps a world that was played, or stands for one, has a root whose world was played: where records
+/// follow, the first of them was taken from such a world, and where none do, the root's world is the file's. So an
+/// opening may refuse a file whose root spells tables that weren't played.
 pub fn played_worlds_have_played_bases()
     ensures replayed { laws.ReplayedWerePlayed }
     ensures read { laws.ReadHavePlayedBases }

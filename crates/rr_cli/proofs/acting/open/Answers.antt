@@ -10,6 +10,7 @@ returns-in-Ok g c = (
     stands = c.in-Ok.ensures.stands;
     carries = c.in-Ok.ensures.carries;
     played = c.in-Ok.ensures.played;
+    each = c.in-Ok.ensures.each;
     whole = c.in-Ok.ensures.whole;
     no_fault = c.in-Ok.ensures.no_fault;
     no_write = c.in-Ok.ensures.writes;

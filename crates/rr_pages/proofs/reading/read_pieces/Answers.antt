@@ -9,7 +9,7 @@ use Rattle.rr_pages.proofs.reading.read_pieces.Goals as goal
 
 pub loop-link-preserved : goal.loop-link-preserved
 loop-link-preserved g c =
-    let blank : Link = record { page = 0; next = 0; used = 0 } in
+    let blank : Link = record { page = 0; used = 0 } in
     let i = c.loop-link.link-index in
     let links = c.args.links.now in
     let link : Link = get_or links i blank in
@@ -38,7 +38,7 @@ returns-in_err-read_piece-clause-device g c =
     let told = err_from_is_err_and c.from_residual.result c.from_residual.ensures.1 in
     let len = g.D.Disk.file_len c.args.disk.now in
     let same : g.D.Disk.file_len c.loop-link.disk ≡ len = c.loop-link.invariant.same_len in
-    let blank : Link = record { page = 0; next = 0; used = 0 } in
+    let blank : Link = record { page = 0; used = 0 } in
     let link : Link = get_or c.args.links.now c.loop-link.link-index blank in
     device_so (Unit {0}) c.from_residual.result c.in_err-read_piece.field-0.0 (told.1 ∙ ap (λ f. Err f) told.2)
     (λ past works. ends_past len c.args.links.now c.loop-link.link-index blank c.loop-link-test.true (subst (λ (n : ℕ). n < 4096 * link.page + 10 + link.used) same (past works)))

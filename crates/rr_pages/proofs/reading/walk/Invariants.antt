@@ -1,5 +1,5 @@
 use Rattle.std.proofs.Common.{◌≡◌, ◌+◌, ◌≤◌, length}
-use Rattle.rr_pages.specs.PageSet.{marks_of}
+use Rattle.rr_pages.specs.ReachedPages.{marks_of}
 use Rattle.rr_pages.specs.Sets.{all_marked}
 use Rattle.rr_pages.specs.Links.{pages_of, AreLinks, AreBelow}
 use Rattle.rr_pages.proofs.SetLemmas.{unmarked}

@@ -1,5 +1,5 @@
 use Rattle.std.proofs.lemmas.Result.{err_from_is_err_and}
-use Rattle.rr_pages.specs.PageSet.{marks_of}
+use Rattle.rr_pages.specs.ReachedPages.{marks_of}
 use Rattle.rr_reading.proofs.Told.{directory_told}
 use Rattle.rr_reading.proofs.directory.read_chain_of.Goals as goal
 

@@ -2,7 +2,7 @@ use Rattle.std.proofs.Common.{ℕ, List, Err, sym, ap, subst}
 use Rattle.std.proofs.lemmas.Result.{err_from_is_err_and}
 use Rattle.rr_reading.specs.Dir.Directory.{Spells, directory_of}
 use Rattle.rr_reading.specs.declared.dir.fault.Fault.{Fault as FormFault}
-use Rattle.rr_pages.specs.PageSet.{marks_of}
+use Rattle.rr_pages.specs.ReachedPages.{marks_of}
 use Rattle.rr_reading.specs.Chains.{held}
 use Rattle.rr_reading.proofs.Told.{form_told}
 use Rattle.rr_reading.proofs.Versions.{none_found, version_known}

@@ -9,14 +9,15 @@ use Rattle.rr_store.proofs.Recovering.{holds_kit, is_base, of_now, texts_same}
 use Rattle.rr_store.proofs.opening.begin.Goals as goal
 
 pub returns-clause-carries : goal.returns-clause-carries
-returns-clause-carries g c = λ file texts found resting place read.
-    let has = held_by c.args.found.opened in
+returns-clause-carries g c = λ texts found resting place read played.
+    let has = held_by (g.D.Disk.state c.args.disk).content c.args.found.opened in
     let recovered = c.args.found.recovered in
     let r = found.recovered in
     let layout = read.carries.layout in
     record {
       right = subst (λ (t : KitTexts). SpellsKit t recovered.tables.kit) (sym (texts_same has recovered r texts layout read.is_read)) r.told.right;
       tables_of_kit = of_now has recovered r;
+      played = played;
       file = subst (λ (d : g.row.D.Denot). Carries Takes c.new-file.result (g.D.Disk.state d) (in_words texts (world_of recovered.tables))) (sym c.new-file.ensures.disk)
           (c.new-file.ensures.carries (g.D.Disk.state c.args.disk) (in_words texts (world_of recovered.tables)) read.carries resting
           (holds_kit has recovered r texts layout read.is_read) (is_base has recovered r texts layout read.is_read _ place.begun));

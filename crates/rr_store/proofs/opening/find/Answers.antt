@@ -1,12 +1,17 @@
+use Rattle.std.proofs.Common.{ℕ, List, sym, subst, arith}
 use Rattle.std.proofs.lemmas.Result.{err_from_is_err_and}
 use Rattle.rr_images.proofs.OneWorld.{kept_stands}
 use Rattle.rr_log.specs.Opening.Opened.{held_by}
+use Rattle.rr_reading.specs.Held.{Held}
 use Rattle.rr_reading.specs.Laws.{NamesChains}
+use Rattle.rr_reading.specs.Reading.{Holds}
+use Rattle.rr_store.specs.Recovery.Recovered.{IsRecoveredFrom}
+use Rattle.rr_store.specs.Recovery.Telling as recovers
 use Rattle.rr_tables.specs.Records.Taking.{table_files}
 use Rattle.rr_tables.specs.Records.Words.{in_words}
 use Rattle.rr_tables.proofs.RecordLemmas.TakingLemmas.{files_are_exact}
 use Rattle.rr_reading.proofs.WorldLemmas.Exact.{forms_spelled}
-use Rattle.rr_store.proofs.Openings.{calm_read, calm_recovered, refuses_read, refuses_recovered, synced_read, synced_recovered, synced_wanting, wants_memory}
+use Rattle.rr_store.proofs.Openings.{calm_read, calm_recovered, carries_along, counts_recovered, device_recovered, goes_along, held_along, refuses_read, refuses_recovered, synced_on, synced_read, synced_recovered, synced_wanting, wants_memory}
 use Rattle.rr_store.proofs.Recovering.{no_damage}
 use Rattle.rr_store.proofs.opening.find.Goals as goal
 
@@ -31,26 +36,44 @@ returns-in_err-opened-clause-refused g c =
 pub returns-in_err-recovered-clause-refused : goal.returns-in_err-recovered-clause-refused
 returns-in_err-recovered-clause-refused g c =
     let p = err_from_is_err_and c.from_residual-in_err-recovered.result c.from_residual-in_err-recovered.ensures.1 in
-    let content = (g.D.Disk.state c.args.disk.now).content in
+    let opened = c.in_ok-opened.opened in
+    let file = (g.D.Disk.state c.args.disk.now).content in
     rw (p.1, p.2) (λ honest.
-    let holds = c.in_ok-opened.ensures.holds honest in
-    refuses_recovered content (held_by c.in_ok-opened.opened) holds c.in_err-recovered.field-0.0 (c.in_err-recovered.ensures.refused content holds))
+    let before = c.in_err-recovered.ensures.honest honest in
+    let holds = c.in_ok-opened.ensures.holds before in
+    refuses_recovered file (held_by file opened) holds c.in_err-recovered.field-0.0
+    (held_along opened (λ has. recovers.Refuses has c.in_err-recovered.field-0.0) (g.D.Disk.state c.open_file.new.disk).content file (c.in_ok-opened.ensures.bytes before) (c.in_err-recovered.ensures.refused honest) holds))
 
 pub returns-in_err-recovered-clause-only : goal.returns-in_err-recovered-clause-only
 returns-in_err-recovered-clause-only g c =
     let p = err_from_is_err_and c.from_residual-in_err-recovered.result c.from_residual-in_err-recovered.ensures.1 in
-    let content = (g.D.Disk.state c.args.disk.now).content in
+    let opened = c.in_ok-opened.opened in
+    let file = (g.D.Disk.state c.args.disk.now).content in
+    let now = (g.D.Disk.state c.open_file.new.disk).content in
     rw (p.1, p.2) (λ honest texts kit tables right of_kit keeps.
-    let holds = c.in_ok-opened.ensures.holds honest in
-    let has = held_by c.in_ok-opened.opened in
-    let read = c.in_ok-opened.ensures.carries honest files_are_exact names_chains (in_words texts tables) keeps in
-    calm_recovered has (no_damage texts kit tables right of_kit has read.carries.layout read.is_read) c.in_err-recovered.field-0.0 (c.in_err-recovered.ensures.refused content holds))
+    let before = c.in_err-recovered.ensures.honest honest in
+    let holds = subst (λ (f : List ℕ). Holds f (held_by f opened)) (sym (c.in_ok-opened.ensures.bytes before)) (c.in_ok-opened.ensures.holds before) in
+    let read = c.in_ok-opened.ensures.carries before files_are_exact names_chains (in_words texts tables) keeps in
+    calm_recovered (held_by now opened) (no_damage texts kit tables right of_kit (held_by now opened) read.carries.layout read.is_read) c.in_err-recovered.field-0.0 (c.in_err-recovered.ensures.refused honest holds))
+
+pub returns-in_err-recovered-clause-device : goal.returns-in_err-recovered-clause-device
+returns-in_err-recovered-clause-device g c =
+    let p = err_from_is_err_and c.from_residual-in_err-recovered.result c.from_residual-in_err-recovered.ensures.1 in
+    let opened = c.in_ok-opened.opened in
+    rw (p.1, p.2)
+    (device_recovered c.in_err-recovered.field-0.0 c.in_err-recovered.ensures.device (λ short works. omega (arith, short works, c.in_ok-opened.ensures.within, c.in_ok-opened.ensures.same_len)))
+
+pub returns-in_err-recovered-clause-fault : goal.returns-in_err-recovered-clause-fault
+returns-in_err-recovered-clause-fault g c =
+    let p = err_from_is_err_and c.from_residual-in_err-recovered.result c.from_residual-in_err-recovered.ensures.1 in
+    rw (p.1, p.2)
+    (counts_recovered (g.D.Disk.fault_count c.args.disk.now) (g.D.Disk.fault_count c.open_file.new.disk) (g.D.Disk.fault_count c.recover.new.disk) c.in_err-recovered.field-0.0 c.in_ok-opened.ensures.fault c.in_err-recovered.ensures.fault)
 
 pub returns-in_err-buffer-clause-refused : goal.returns-in_err-buffer-clause-refused
 returns-in_err-buffer-clause-refused g c =
     let p = err_from_is_err_and c.from_residual-in_err-buffer.result c.from_residual-in_err-buffer.ensures.1 in
     rw (p.1, p.2) (λ honest.
-    wants_memory (g.D.Disk.state c.args.disk.now).content (held_by c.in_ok-opened.opened) (c.in_ok-opened.ensures.holds honest) c.in_err-buffer.field-0.0 c.in_err-buffer.ensures)
+    wants_memory (g.D.Disk.state c.args.disk.now).content (held_by (g.D.Disk.state c.args.disk.now).content c.in_ok-opened.opened) (c.in_ok-opened.ensures.holds (c.recover.ensures.honest honest)) c.in_err-buffer.field-0.0 c.in_err-buffer.ensures)
 
 pub returns-in_err-opened-clause-left : goal.returns-in_err-opened-clause-left
 returns-in_err-opened-clause-left g c =
@@ -65,23 +88,46 @@ pub returns-in_err-recovered-clause-left : goal.returns-in_err-recovered-clause-
 returns-in_err-recovered-clause-left g c =
     let p = err_from_is_err_and c.from_residual-in_err-recovered.result c.from_residual-in_err-recovered.ensures.1 in
     let old = c.args.disk.now in
-    let new = c.open_file.new.disk in
+    let new = c.recover.new.disk in
     rw (p.1, p.2) (λ honest.
-    synced_recovered (g.D.Disk.past old) (g.D.Disk.state old) (g.D.Disk.past new) (g.D.Disk.state new) c.in_err-recovered.field-0.0 (c.in_ok-opened.ensures.synced honest))
+    let was = c.in_ok-opened.ensures.synced (c.recover.ensures.honest honest) in
+    synced_recovered (g.D.Disk.past old) (g.D.Disk.state old) (g.D.Disk.past new) (g.D.Disk.state new) c.in_err-recovered.field-0.0
+    (synced_on (c.recover.ensures.same_past honest) (c.recover.ensures.same_state honest) was))
 
 pub returns-in_err-buffer-clause-left : goal.returns-in_err-buffer-clause-left
 returns-in_err-buffer-clause-left g c =
     let p = err_from_is_err_and c.from_residual-in_err-buffer.result c.from_residual-in_err-buffer.ensures.1 in
     let old = c.args.disk.now in
-    let new = c.open_file.new.disk in
+    let new = c.recover.new.disk in
     rw (p.1, p.2) (λ honest.
-    synced_wanting (g.D.Disk.past old) (g.D.Disk.state old) (g.D.Disk.past new) (g.D.Disk.state new) c.in_err-buffer.field-0.0 c.in_err-buffer.ensures (c.in_ok-opened.ensures.synced honest))
+    let was = c.in_ok-opened.ensures.synced (c.recover.ensures.honest honest) in
+    synced_wanting (g.D.Disk.past old) (g.D.Disk.state old) (g.D.Disk.past new) (g.D.Disk.state new) c.in_err-buffer.field-0.0 c.in_err-buffer.ensures
+    (synced_on (c.recover.ensures.same_past honest) (c.recover.ensures.same_state honest) was))
+
+pub returns-clause-synced : goal.returns-clause-synced
+returns-clause-synced g c = λ honest.
+    synced_on (c.recover.ensures.same_past honest) (c.recover.ensures.same_state honest) (c.in_ok-opened.ensures.synced (c.recover.ensures.honest honest))
 
 pub returns-clause-found : goal.returns-clause-found
 returns-clause-found g c = λ honest.
-    let content = (g.D.Disk.state c.args.disk.now).content in
-    let holds = c.in_ok-opened.ensures.holds honest in
-    record { holds = holds; recovered = c.in_ok-recovered.ensures.recovered content holds }
+    let before = c.recover.ensures.honest honest in
+    let file = (g.D.Disk.state c.args.disk.now).content in
+    let opened = c.in_ok-opened.opened in
+    let recovered = c.in_ok-recovered.recovered in
+    let holds = c.in_ok-opened.ensures.holds before in
+    let is : IsRecoveredFrom (held_by file opened) recovered =
+    held_along opened (λ has. IsRecoveredFrom has recovered) (g.D.Disk.state c.open_file.new.disk).content file (c.in_ok-opened.ensures.bytes before) (c.in_ok-recovered.ensures.recovered honest) holds in
+    let same = sym (c.recover.ensures.same_held file) in
+    record { holds = subst (λ (has : Held). Holds file has) same holds; recovered = subst (λ (has : Held). IsRecoveredFrom has recovered) same is }
 
 pub returns-clause-goes_on : goal.returns-clause-goes_on
-returns-clause-goes_on g c = λ honest world keeps. c.in_ok-opened.ensures.carries honest files_are_exact names_chains world keeps
+returns-clause-goes_on g c = λ honest world keeps.
+    let before = c.recover.ensures.honest honest in
+    carries_along c.in_ok-opened.opened c.recover.new.opened (g.D.Disk.state c.open_file.new.disk) (g.D.Disk.state c.recover.new.disk) world
+    (c.recover.ensures.same_state honest) c.recover.ensures.same_writer (c.recover.ensures.same_held (g.D.Disk.state c.open_file.new.disk).content)
+    (c.in_ok-opened.ensures.carries before files_are_exact names_chains world keeps)
+
+pub returns-clause-place : goal.returns-clause-place
+returns-clause-place g c = λ honest.
+    let file = (g.D.Disk.state c.args.disk.now).content in
+    goes_along c.in_ok-opened.opened c.recover.new.opened file c.recover.ensures.same_writer (c.recover.ensures.same_held file) (c.in_ok-opened.ensures.place (c.recover.ensures.honest honest))

@@ -10,7 +10,7 @@ pub returns-in-Ok-clause-carries : goal.returns-in-Ok-clause-carries
 returns-in-Ok-clause-carries g c =
     carries_store g.D.Disk.Honest g.D.Disk.state g.D.Disk.past c.args.disk c.find.new.disk c.begin.result c.in-Ok.found
     c.begin.ensures.disk c.begin.ensures.kit c.begin.ensures.tables c.in-Ok.ensures.found
-    c.begin.ensures.carries c.in-Ok.ensures.resting c.in-Ok.ensures.place c.in-Ok.ensures.goes_on
+    c.begin.ensures.carries c.in-Ok.ensures.each c.in-Ok.ensures.resting c.in-Ok.ensures.place c.in-Ok.ensures.synced c.in-Ok.ensures.goes_on
 
 pub returns-in-Err-clause-left : goal.returns-in-Err-clause-left
 returns-in-Err-clause-left g c = λ honest.
@@ -19,3 +19,6 @@ returns-in-Err-clause-left g c = λ honest.
 
 pub returns-in-Ok-clause-played : goal.returns-in-Ok-clause-played
 returns-in-Ok-clause-played g c = played_store c.begin.result c.in-Ok.found c.begin.ensures.kit c.begin.ensures.tables c.in-Ok.ensures.played
+
+pub returns-in-Ok-clause-each : goal.returns-in-Ok-clause-each
+returns-in-Ok-clause-each g c = c.begin.ensures.played c.in-Ok.ensures.each

@@ -9,4 +9,4 @@ use Rattle.rr_tables.proofs.taking.open_table.Goals as goal
 pub returns-in-Ok-clause-writable : goal.returns-in-Ok-clause-writable
 returns-in-Ok-clause-writable c =
     subst (λ (table : Table). IsWritable (kept_in table)) (sym c.in-Ok.ensures.ok)
-    (subst (λ (kept : TableState). IsWritable kept) (sym c.in_ok-table.ensures.kept) (writable_opened c.args.players.now c.requires))
+    (subst (λ (kept : TableState). IsWritable kept) (sym c.in_ok-table.ensures.kept) (writable_opened c.args.players.now))

@@ -51,3 +51,15 @@ returns-in_err-take_up-clause-device g c =
     let writer = c.args.self.now in
     c.in_err-take_up.ensures.device honest world carries
     (found_may g.C.Codec.codec carries.layout (free_of writer) writer.file.place.begun c.args.plan (sym c.is_some.ensures ∙ c.if-is_some.true) may))
+
+pub returns-in_err-take_up-clause-stops : goal.returns-in_err-take_up-clause-stops
+returns-in_err-take_up-clause-stops g c = λ honest world carries may.
+    let writer = c.args.self.now in
+    c.in_err-take_up.ensures.stops honest world carries
+    (found_may g.C.Codec.codec carries.layout (free_of writer) writer.file.place.begun c.args.plan (sym c.is_some.ensures ∙ c.if-is_some.true) may)
+
+pub returns-then-is_some-clause-stops : goal.returns-then-is_some-clause-stops
+returns-then-is_some-clause-stops g c = λ honest world carries may.
+    let writer = c.args.self.now in
+    c.in_ok-take_up.ensures.stops honest world carries
+    (found_may g.C.Codec.codec carries.layout (free_of writer) writer.file.place.begun c.args.plan (sym c.is_some.ensures ∙ c.if-is_some.true) may)

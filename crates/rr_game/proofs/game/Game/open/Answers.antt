@@ -7,5 +7,6 @@ returns-clause-game c = record {
   opening = refl;
   played = refl;
   players = refl;
-  standing = opened_at c.args.players c.roster.result.now c.args.kit.now.roster c.open.result c.roster.ensures (c.open.ensures c.args.players (sym (ap length c.as_slice.ensures.value)));
+  standing = opened_at c.args.players c.roster.result.now c.args.kit.now.roster c.in_ok-standing.standing c.roster.ensures (c.in_ok-standing.ensures c.args.players (sym (ap length c.as_slice.ensures.value)));
+  ends = c.opening.ensures;
 }

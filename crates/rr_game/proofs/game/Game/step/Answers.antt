@@ -2,7 +2,7 @@ use Rattle.std.proofs.Common.{refl}
 use Rattle.std.proofs.lemmas.Result.{err_from_is_err_and}
 use Rattle.rr_game.specs.Play.{play, players_of}
 use Rattle.rr_game.proofs.Judging.{command_lawful, command_refused, unnamed, unplayed}
-use Rattle.rr_game.proofs.Playing.{stepped}
+use Rattle.rr_game.proofs.Playing.{stands, stepped}
 use Rattle.rr_game.proofs.game.Game.step.Goals as goal
 
 pub returns-in_err-judge_end-clause-verdict : goal.returns-in_err-judge_end-clause-verdict
@@ -34,5 +34,8 @@ returns-clause-verdict c accepted h =
 
 pub returns-clause-game : goal.returns-clause-game
 returns-clause-game c accepted h =
-    stepped c.args.kit.now accepted c.args.command.now c.in_ok-act.act c.args.self.now _ h c.in_ok-act.ensures.0 refl refl
-    (c.in_ok-taken.ensures.standing _ h.standing)
+    let kit = c.args.kit.now in
+    let standing =
+    stands kit accepted c.args.command.now c.in_ok-act.act c.args.self.now c.in_ok-taken.taken.standing h c.in_ok-act.ensures.0
+    (c.in_ok-taken.ensures.standing _ h.standing) in
+    stepped kit accepted c.args.command.now c.args.self.now _ h refl refl standing (c.ends_after-ends.ensures.ends kit accepted h standing)

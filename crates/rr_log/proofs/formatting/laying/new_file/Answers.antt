@@ -1,4 +1,4 @@
-use Rattle.std.proofs.Common.{◌≡◌, ℕ, Bool, List, length, sym, ◌∙◌, ap, subst, arith}
+use Rattle.std.proofs.Common.{◌≡◌, ℕ, ◌+◌, Bool, List, length, sym, ◌∙◌, ap, subst, arith}
 use Rattle.std.specs.Vec.{vec_len}
 use Rattle.rr_pages.specs.FreePages.{present_of, coming_of}
 use Rattle.rr_pages.specs.Sets.{IsEmpty}
@@ -7,7 +7,7 @@ use Rattle.rr_pages.specs.declared.root.Root.{Root}
 use Rattle.rr_pages.proofs.SetLemmas.{empty_has}
 use Rattle.rr_log.specs.Formatting.InTurn.{AreInTurn}
 use Rattle.rr_log.specs.Formatting.NewFile.{IsNewFile, empty_world}
-use Rattle.rr_log.proofs.FormattingLemmas.Holding.{first_root, is_new_file, directory_few}
+use Rattle.rr_log.proofs.FormattingLemmas.Holding.{first_root, is_new_file, directory_few, directory_page}
 use Rattle.rr_log.proofs.formatting.laying.new_file.Goals as goal
 
 pub lay_text-requires-clause-short : goal.lay_text-requires-clause-short
@@ -35,3 +35,9 @@ returns-clause-holds g c =
     (c.deref.ensures.value ∙ c.in_ok-directory.ensures.bytes) turn
     c.requires.short_chart c.requires.short_roster c.requires.short_tiles c.requires.short_board
     (omega (arith, c.in_ok-chain.ensures.few, c.in_ok-kit.ensures.few)))
+
+pub returns-clause-pages : goal.returns-clause-pages
+returns-clause-pages g c =
+    c.in_ok-chain.ensures.pages
+    ∙ (ap (λ (count : ℕ). length c.lay_kit.new.fresh.items + count) (directory_page c.args.version c.in_ok-kit.kit c.deref.result.now (c.deref.ensures.value ∙ c.in_ok-directory.ensures.bytes))
+    ∙ c.in_ok-kit.ensures.pages)

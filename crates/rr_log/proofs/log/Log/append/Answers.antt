@@ -21,3 +21,12 @@ returns-in-Err-HalfFull-clause-carries g c = λ honest whole old new takes same 
     let log = c.args.self.now in
     let is = c.in-Err-HalfFull.field-0-is in
     same_carries g.R.Rules.takes log g.D.Disk.state old c.append.new.disk c.append.new.self (c.in-Err-HalfFull.ensures.no_call (cc)) (c.in-Err-HalfFull.ensures.same (cc)) carries
+
+pub returns-in-Ok-clause-stops : goal.returns-in-Ok-clause-stops
+returns-in-Ok-clause-stops g c = λ honest old new takes carries. c.in-Ok.ensures.stops honest old new takes carries.carried
+
+pub returns-in-Err-HalfFull-clause-stops : goal.returns-in-Err-HalfFull-clause-stops
+returns-in-Err-HalfFull-clause-stops g c = λ honest old new takes carries. c.in-Err-HalfFull.ensures.stops honest old new takes carries.carried
+
+pub returns-in-Err-Disk-clause-stops : goal.returns-in-Err-Disk-clause-stops
+returns-in-Err-Disk-clause-stops g c = λ honest old new takes carries. c.in-Err-Disk.ensures.stops honest old new takes carries.carried

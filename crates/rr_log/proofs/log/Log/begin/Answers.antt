@@ -1,4 +1,4 @@
-use Rattle.std.proofs.Common.{◌≡◌, ◌⊎◌, ◌≤◌, ◌∙◌, length, sym, ap, subst, arith}
+use Rattle.std.proofs.Common.{◌≡◌, ◌⊎◌, inl, inr, ◌≤◌, ◌∙◌, length, sym, ap, subst, arith}
 use Rattle.rr_checkpoint.specs.declared.place.Place.{Place}
 use Rattle.rr_checkpoint.specs.Checkpoint.{left_behind_first}
 use Rattle.rr_checkpoint.specs.Writer as file
@@ -120,3 +120,6 @@ returns-in-Ok-clause-half g c =
     let new = (file.place_of c.begin.new.self).half in
     subst (λ (half : Half). (new ≡ half) ⊎ (4 ≤ file.ticks_left_of c.begin.new.self)) (ap (λ (place : Place). place.half) c.plan.ensures.unchanged.place)
     (half_behind (place_of c.plan.new.self).begun pages (file.ticks_left_of c.begin.new.self) old new c.in_ok-plan.ensures.some c.in-Ok.ensures.left c.in-Ok.ensures.half)
+
+pub returns-in-Err-clause-unchanged : goal.returns-in-Err-clause-unchanged
+returns-in-Err-clause-unchanged g c = λ want. elim want [ inl is ↦ absurd (cc is) | inr is ↦ absurd (cc is) ]

@@ -24,3 +24,9 @@ returns-in-Ok-clause-renews g c = λ honest world carries. c.in-Ok.ensures.renew
 
 pub returns-in-Err-clause-device : goal.returns-in-Err-clause-device
 returns-in-Err-clause-device g c = λ honest world carries. c.in-Err.ensures.device honest world carries.carried
+
+pub returns-in-Ok-clause-stops : goal.returns-in-Ok-clause-stops
+returns-in-Ok-clause-stops g c = λ honest world carries. c.in-Ok.ensures.stops honest world carries.carried
+
+pub returns-in-Err-clause-stops : goal.returns-in-Err-clause-stops
+returns-in-Err-clause-stops g c = λ honest world carries. c.in-Err.ensures.stops honest world carries.carried

@@ -24,3 +24,12 @@ returns-in-Err-clause-renewed g c = λ whole one honest world carries. absurd (c
 
 pub returns-in-Err-clause-device : goal.returns-in-Err-clause-device
 returns-in-Err-clause-device g c = λ honest world carries. c.in-Err.ensures.device honest world carries.carried
+
+pub returns-in-Ok-clause-stops : goal.returns-in-Ok-clause-stops
+returns-in-Ok-clause-stops g c = λ honest world carries. c.in-Ok.ensures.stops honest world carries.carried
+
+pub returns-in-Ok-clause-renews : goal.returns-in-Ok-clause-renews
+returns-in-Ok-clause-renews g c = λ honest world carries. c.in-Ok.ensures.renews honest world carries.carried
+
+pub returns-in-Err-clause-stops : goal.returns-in-Err-clause-stops
+returns-in-Err-clause-stops g c = λ honest world carries. c.in-Err.ensures.stops honest world carries.carried

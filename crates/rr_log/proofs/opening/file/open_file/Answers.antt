@@ -1,4 +1,4 @@
-use Rattle.std.proofs.Common.{◌≡◌, ℕ, List, Err, not, sym, ◌∙◌, ap, subst}
+use Rattle.std.proofs.Common.{◌≡◌, ℕ, List, [], Err, not, sym, ◌∙◌, ap, subst}
 use Rattle.std.proofs.lemmas.Result.{err_from_is_err_and}
 use Rattle.rr_checkpoint.specs.Writer.{place_of}
 use Rattle.rr_disk.specs.Disk.{DiskState}
@@ -55,10 +55,11 @@ returns-clause-carries g c = λ honest exact names world keeps.
     let new = g.D.Disk.state c.read_file.new.disk in
     let opened = c.in_ok-opened.opened in
     let was = c.in_ok-sync.ensures.synced (c.read_file.ensures.honest honest) in
-    let read : Holds (g.D.Disk.state c.sync.new.disk).content (held_of c.in_ok-contents.contents) = c.in_ok-contents.ensures.read honest in
+    let contents = c.in_ok-contents.contents in
+    let read : Holds (g.D.Disk.state c.sync.new.disk).content (held_of (g.D.Disk.state c.sync.new.disk).content contents) = c.in_ok-contents.ensures.read honest in
     let first_high = read.chains.has_directory.taken.1.sound.first_high in
-    let same : held_by opened ≡ held_of c.in_ok-contents.contents = c.in_ok-opened.ensures.held in
-    let holds = subst (λ (has : Held). Holds old.content has) (sym same) (subst (λ (file : List ℕ). Holds file (held_of c.in_ok-contents.contents)) (ap content was.settled) read) in
+    let same : held_by old.content opened ≡ held_of old.content contents = c.in_ok-opened.ensures.held old.content in
+    let holds = subst (λ (has : Held). Holds old.content has) (sym same) (subst (λ (file : List ℕ). Holds file (held_of file contents)) (ap content was.settled) read) in
     let goes = subst (λ (has : Held). GoesBehind has.root has.near has.far (place_of opened.writer)) (sym same) (c.in_ok-opened.ensures.place first_high) in
     carries_read g.C.Codec.codec opened old new holds goes c.in_ok-opened.ensures.resting (c.read_file.ensures.same_state honest ∙ was.settled) exact names world keeps
 
@@ -80,14 +81,14 @@ returns-in_err-opened-clause-refused g c =
     let p = err_from_is_err_and c.from_residual-in_err-opened.result c.from_residual-in_err-opened.ensures.1 in
     rw (p.1, p.2) (λ honest.
     let was = c.in_ok-sync.ensures.synced (c.read_file.ensures.honest honest) in
-    memory_refuses (g.D.Disk.state c.args.disk.now).content (g.D.Disk.state c.sync.new.disk).content (held_of c.in_ok-contents.contents) _ (ap content was.settled) (c.in_ok-contents.ensures.read honest) c.in_err-opened.ensures.memory)
+    memory_refuses (g.D.Disk.state c.args.disk.now).content (g.D.Disk.state c.sync.new.disk).content (held_of (g.D.Disk.state c.sync.new.disk).content c.in_ok-contents.contents) _ (ap content was.settled) (c.in_ok-contents.ensures.read honest) c.in_err-opened.ensures.memory)
 
 pub returns-clause-near : goal.returns-clause-near
 returns-clause-near g c =
     let opened = c.in_ok-opened.opened in
-    subst (λ (has : Held). GoesOn has.root.half opened.near) (sym c.in_ok-opened.ensures.held) c.in_ok-opened.ensures.near
+    subst (λ (has : Held). GoesOn has.root.half opened.near) (sym (c.in_ok-opened.ensures.held [])) c.in_ok-opened.ensures.near
 
 pub returns-clause-far : goal.returns-clause-far
 returns-clause-far g c =
     let opened = c.in_ok-opened.opened in
-    subst (λ (has : Held). GoesOn (other_half has.root.half) opened.far) (sym c.in_ok-opened.ensures.held) c.in_ok-opened.ensures.far
+    subst (λ (has : Held). GoesOn (other_half has.root.half) opened.far) (sym (c.in_ok-opened.ensures.held [])) c.in_ok-opened.ensures.far

@@ -5,7 +5,7 @@ use Rattle.rr_routes.proofs.reachability.marking.marked_items.Goals as goal
 
 pub loop-place-init : goal.loop-place-init
 loop-place-init g c =
-    let none = c.new-marked.ensures.items in
+    let none = c.in_ok-marked.ensures.items in
     rw none (exact_first c.args.marks.now, marked_first c.args.items.now c.args.marks.now)
 
 pub loop-place-preserved-then-not-is_marked : goal.loop-place-preserved-then-not-is_marked

@@ -5,7 +5,7 @@ use Rattle.rr_routes.proofs.ReachabilityLemmas.SearchLemmas.{under_way_at_first,
 use Rattle.rr_routes.proofs.reachability.search.reached_within.Goals as goal
 
 pub loop-state-init : goal.loop-state-init
-loop-state-init c = under_way_at_first _ _ _ _ _ _ _ (c.in_ok-marks.ensures.items_if_clones_equal (λ y e. search rules)) c.new-pending.ensures.items c.in_ok-mark.ensures
+loop-state-init c = under_way_at_first _ _ _ _ _ _ _ (c.in_ok-marks.ensures.items_if_clones_equal (λ y e. search rules)) c.in_ok-pending.ensures.items c.in_ok-mark.ensures
 
 pub offset_bounds-graph-state : goal.offset_bounds-graph-state
 offset_bounds-graph-state c =

@@ -12,5 +12,5 @@ returns c =
     c.unwrap_or.ensures
     ∙ ap (λ found. unwrap_or found (length c.args.hexes.now)) c.first_hex.ensures
     ∙ ap first c.noted_at.ensures
-    ∙ ap (λ key. first (noted_at c.args.index.now key)) c.name_key.ensures.value
+    ∙ ap (λ key. first (noted_at c.args.index.now key)) c.name_key.ensures
     ∙ hex_found c.args.hexes.now c.args.index.now c.args.name.now c.requires

@@ -12,5 +12,5 @@ returns c =
     c.unwrap_or.ensures
     ∙ ap (λ found. unwrap_or found (length c.args.sides.now)) c.first_side.ensures
     ∙ ap first c.noted_at.ensures
-    ∙ ap (λ key. first (noted_at c.args.index.now key)) c.side_key.ensures
+    ∙ ap (λ key. first (noted_at c.args.index.now key)) c.hexside_key.ensures
     ∙ side_found c.args.sides.now c.args.index.now c.args.side.now c.requires

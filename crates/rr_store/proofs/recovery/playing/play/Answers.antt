@@ -6,3 +6,12 @@ returns-in-Err-clause-refused c =
     rw (c.damage.ensures)
     (refused c.requests_have_one_verdict.ensures c.args.kit.now c.args.table.now c.stamp-stamp.result c.args.words.now c.in_ok-command.command c.in-Err.fault
     c.in_ok-command.ensures c.stamp-stamp.ensures.value c.in-Err.ensures.verdict)
+
+pub returns-in-Ok-clause-played : goal.returns-in-Ok-clause-played
+returns-in-Ok-clause-played c =
+    record {
+      command = c.in_ok-command.command;
+      spelled = c.in_ok-command.ensures;
+      kept = c.in-Ok.ensures.kept;
+      played = c.in-Ok.ensures.played;
+    }

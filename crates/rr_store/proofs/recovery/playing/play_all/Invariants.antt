@@ -1,5 +1,28 @@
+use Rattle.std.proofs.Common.{◌≡◌}
+use Rattle.rr_game.specs.History.Tables.{IsPlayed, kept_in}
+use Rattle.rr_reading.specs.Lending.Chains.{all_of, count_of}
+use Rattle.rr_reading.specs.Lending.Commands.{bytes_at, rest_of, steps_left_of}
+use Rattle.rr_store.specs.Recovery.Kept.{AreWorded}
 use Rattle.rr_store.proofs.RecoveryLemmas.PlayingLemmas.{IsPlaying}
 use Rattle.rr_store.proofs.recovery.playing.play_all.Given as goal
 
-abbrev pub invariant-loop-words : goal.invariant-loop-words
-invariant-loop-words l = IsPlaying l.kit l.fn.bytes l.fn.count l.words-iterator l.table
+abbrev pub invariant-commands : goal.invariant-commands
+invariant-commands g l =
+    record {
+      so_far : g.D.Disk.Honest l.disk → IsPlaying (bytes_at (g.D.Disk.state l.fn.disk).content l.fn.chains l.fn.index) (rest_of (g.D.Disk.state l.fn.disk).content l.chains) l.left l.fn.count l.table;
+      played : IsPlayed l.kit l.table;
+      worded : AreWorded (kept_in l.table).commands;
+      all : all_of l.chains.chains ≡ all_of l.fn.chains.chains;
+      pages : count_of l.chains.chains ≡ count_of l.fn.chains.chains;
+      honest : g.D.Disk.Honest l.disk → g.D.Disk.Honest l.fn.disk;
+      same_state : g.D.Disk.Honest l.disk → g.D.Disk.state l.disk ≡ g.D.Disk.state l.fn.disk;
+      same_past : g.D.Disk.Honest l.disk → g.D.Disk.past l.disk ≡ g.D.Disk.past l.fn.disk;
+      faults : g.D.Disk.fault_count l.disk ≡ g.D.Disk.fault_count l.fn.disk;
+      writes : g.D.Disk.write_count l.disk ≡ g.D.Disk.write_count l.fn.disk;
+      syncs : g.D.Disk.sync_count l.disk ≡ g.D.Disk.sync_count l.fn.disk;
+      works : g.D.Disk.Works l.disk → g.D.Disk.Works l.fn.disk;
+      same_len : g.D.Disk.file_len l.disk ≡ g.D.Disk.file_len l.fn.disk;
+    }
+
+abbrev pub decreases-commands : goal.decreases-commands
+decreases-commands g l = steps_left_of l.chains

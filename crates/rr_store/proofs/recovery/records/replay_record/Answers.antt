@@ -11,6 +11,6 @@ pub returns-in-Err-clause-refused : goal.returns-in-Err-clause-refused
 returns-in-Err-clause-refused c =
     let Keeps : Standing → World → List ℕ → Result (Unit {0}) Fault → Standing → Type 0 = λ old tables bytes result new. (result ≡ Ok tt) × (new ≡ old) in
     rw (c.damage.ensures)
-    (refused_record c.requests_have_one_verdict.ensures c.args.tables.now.kit (world_of c.args.tables.now) c.args.bytes.now c.in_ok-name.name c.in_ok-name.request
+    (λ played. refused_record c.requests_have_one_verdict.ensures c.args.tables.now.kit (world_of c.args.tables.now) c.args.bytes.now c.in_ok-name.name c.in_ok-name.request
     c.in_ok-name.ensures.only c.stamp-stamp.result c.stamp-stamp.ensures Keeps _ c.take.new.journal (world_of c.args.tables.now) (record_text c.in_ok-name.name c.in_ok-name.request) c.in-Err.fault
-    (λ cause kept. absurd (cc (kept.0))) c.in-Err.ensures.verdict c.in-Err.ensures.kept)
+    (λ cause kept. absurd (cc (kept.0))) (c.in-Err.ensures.verdict played) c.in-Err.ensures.kept)

@@ -1,24 +1,36 @@
-use Rattle.std.proofs.Common.{◌≡◌, ◌<◌, ◌^◌, inr, refl, sym, subst, arith}
+use Rattle.std.proofs.Common.{◌≡◌, ◌<◌, ◌^◌, refl, sym, subst, arith}
+use Rattle.std.proofs.lemmas.Result.{err_from_is_err_and}
 use Rattle.rr_game.specs.declared.history.table.Table.{Table}
 use Rattle.rr_game.specs.History.Tables.{kept_in}
+use Rattle.rr_reading.specs.Lending.Commands.{bytes_at}
+use Rattle.rr_tables.specs.Records.Words.{AreCommands}
 use Rattle.rr_tables.specs.Writable.{IsWritable}
-use Rattle.rr_store.proofs.RecoveryLemmas.RestoringLemmas.{above_turns, is_writable}
+use Rattle.rr_store.proofs.RecoveryLemmas.PlayingLemmas.{breaks_so}
+use Rattle.rr_store.proofs.RecoveryLemmas.RestoringLemmas.{above_turns, is_writable, spelled_behind}
 use Rattle.rr_store.proofs.recovery.tables.restore.Goals as goal
 
+pub returns-in_err-table-clause-refused : goal.returns-in_err-table-clause-refused
+returns-in_err-table-clause-refused g c =
+    let p = err_from_is_err_and c.from_residual.result c.from_residual.ensures.1 in
+    rw (p.1, p.2) (breaks_so _ c.in_err-table.ensures.refused (λ none honest few there. none honest few there.holds))
+
 pub returns-clause-writable : goal.returns-clause-writable
-returns-clause-writable c =
+returns-clause-writable g c =
     let below : c.from-floor.result < 2 ^ 32 = omega (arith, c.from-floor.ensures) in
     subst (λ (table : Table). IsWritable (kept_in table)) (sym c.in_ok-table-2.ensures.ok)
-    (is_writable c.args.bytes.now c.args.entry.now.kept c.from-floor.result (kept_in c.in_ok-table.table) (kept_in c.resume.new.self)
-    c.in_ok-table.ensures.restored.kept c.resume.ensures.commands c.resume.ensures.floor below)
+    (is_writable c.from-floor.result (kept_in c.in_ok-table.table) (kept_in c.resume.new.self) c.in_ok-table.ensures.worded c.resume.ensures.commands c.resume.ensures.floor below)
+
+pub returns-clause-spelled : goal.returns-clause-spelled
+returns-clause-spelled g c =
+    subst (λ (table : Table). AreCommands (kept_in table).commands) (sym c.in_ok-table-2.ensures.ok)
+    (spelled_behind (kept_in c.in_ok-table.table) (kept_in c.resume.new.self) c.in_ok-table.ensures.worded c.resume.ensures.commands)
 
 pub returns-then-floor-turns-clause-refused : goal.returns-then-floor-turns-clause-refused
-returns-then-floor-turns-clause-refused c =
+returns-then-floor-turns-clause-refused g c =
     let floor_is : c.from-floor.result ≡ c.args.entry.now.floor = omega (arith, c.from-floor.ensures) in
-    let above : c.turns.result < c.from-floor.result = omega (arith, c.if-floor-turns.true) in
-    inr (
+    let above : c.turns.result < c.from-floor.result = omega (arith, c.if-floor-turns.true) in (
       refl,
-      λ few there.
-          above_turns c.args.kit.now c.args.entry.now c.args.bytes.now c.in_ok-table.table c.from-floor.result c.turns.result c.in_ok-table.ensures.restored floor_is
-          (c.turns.ensures.ended c.args.kit.now c.in_ok-table.ensures.restored.played) above there,
+      λ honest few there.
+          above_turns c.args.kit.now c.args.entry.now (bytes_at (g.D.Disk.state c.args.disk.now).content c.args.chains.now c.args.index) c.in_ok-table.table c.from-floor.result c.turns.result (c.in_ok-table.ensures.restored honest) floor_is
+          (c.turns.ensures.ended c.args.kit.now c.in_ok-table.ensures.played) above there,
     )

@@ -1,11 +1,28 @@
 use Rattle.std.proofs.Common.{◌≡◌, take}
-use Rattle.rr_reading.specs.Chains.{all_held}
-use Rattle.rr_tables.specs.Tables.{world_of}
+use Rattle.rr_reading.specs.Held.{tables_in}
+use Rattle.rr_reading.specs.Lending.Chains.{all_of, count_of}
+use Rattle.rr_tables.specs.Records.Played.{ArePlayedTables}
+use Rattle.rr_tables.specs.Records.Words.{KeepCommands}
+use Rattle.rr_tables.specs.Tables.{ArePlayed, world_of}
 use Rattle.rr_store.specs.Recovery.Restoring.{AreRestored}
 use Rattle.rr_store.proofs.recovery.tables.restore_tables.Given as goal
 
 abbrev pub invariant-loop-index : goal.invariant-loop-index
-invariant-loop-index l = record {
-  so_far : AreRestored l.fn.kit (take l.index l.entries) (all_held (take l.index l.chains)) (world_of l.tables);
-  kit : l.tables.kit ≡ l.fn.kit;
-}
+invariant-loop-index g l =
+    record {
+      so_far : g.D.Disk.Honest l.disk → AreRestored l.fn.kit (take l.index l.entries) (take l.index (tables_in (g.D.Disk.state l.fn.disk).content l.fn.chains)) (world_of l.tables);
+      kit : l.tables.kit ≡ l.fn.kit;
+      played : ArePlayed l.tables;
+      lawful : ArePlayedTables l.fn.kit (world_of l.tables);
+      spelled : KeepCommands (world_of l.tables);
+      all : all_of l.chains.chains ≡ all_of l.fn.chains.chains;
+      pages : count_of l.chains.chains ≡ count_of l.fn.chains.chains;
+      honest : g.D.Disk.Honest l.disk → g.D.Disk.Honest l.fn.disk;
+      same_state : g.D.Disk.Honest l.disk → g.D.Disk.state l.disk ≡ g.D.Disk.state l.fn.disk;
+      same_past : g.D.Disk.Honest l.disk → g.D.Disk.past l.disk ≡ g.D.Disk.past l.fn.disk;
+      faults : g.D.Disk.fault_count l.disk ≡ g.D.Disk.fault_count l.fn.disk;
+      writes : g.D.Disk.write_count l.disk ≡ g.D.Disk.write_count l.fn.disk;
+      syncs : g.D.Disk.sync_count l.disk ≡ g.D.Disk.sync_count l.fn.disk;
+      works : g.D.Disk.Works l.disk → g.D.Disk.Works l.fn.disk;
+      same_len : g.D.Disk.file_len l.disk ≡ g.D.Disk.file_len l.fn.disk;
+    }

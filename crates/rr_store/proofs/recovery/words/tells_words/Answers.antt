@@ -1,9 +1,107 @@
-use Rattle.rr_store.proofs.RecoveryLemmas.WordLemmas.{tells_spelled}
+use Rattle.std.proofs.Common.{◌≡◌, ◌+◌, ◌-◌, ℕ, List, [], ap, ◌∙◌, subst, arith, rules}
+use Rattle.std.proofs.lemmas.Bool.{eqb-true, eq-eqb}
+use Rattle.rr_disk.specs.Disk.{DiskState}
+use Rattle.rr_reading.specs.Lending.Commands.{bytes_at, rest_of}
+use Rattle.rr_store.specs.declared.recovery.words.Next.{Next}
+use Rattle.rr_store.specs.declared.recovery.words.Next.TheVariants.{Spelled, Unspelled, End, Cut}
+use Rattle.rr_store.specs.Recovery.Spelling.{ReadsWords}
+use Rattle.rr_store.proofs.RecoveryLemmas.WordLemmas.{spells_more, spells_none, words_all, words_cut, words_end, words_other, words_past}
 use Rattle.rr_store.proofs.recovery.words.tells_words.Goals as goal
 
-pub returns-in-Ok : goal.returns-in-Ok
-returns-in-Ok c =
-    let same = tells_spelled c.args.entry.now c.args.bytes.now c.in-Ok.kept c.in-Ok.ensures.found.0 c.in-Ok.ensures.found.1 in (
-      λ h. same.0 (c.are_spelled.ensures.0 h),
-      λ h. c.are_spelled.ensures.1 (same.1 h),
+content : DiskState → List ℕ
+content state = state.content
+
+pub commands-init : goal.commands-init
+commands-init g c =
+    let file = (g.D.Disk.state c.args.disk.now).content in
+    record {
+      spells = λ honest. spells_none (bytes_at file c.args.chains.now c.args.index) (rest_of file c.turn_to.new.self) c.args.entry.now.kept (c.turn_to.ensures.rest file);
+      all = c.turn_to.ensures.all;
+      pages = c.turn_to.ensures.pages;
+      honest = search rules;
+      same_state = search rules;
+      same_past = search rules;
+      faults = search rules;
+      writes = search rules;
+      syncs = search rules;
+      works = search rules;
+      same_len = search rules;
+    }
+
+pub returns-then-left-eq0-clause-told : goal.returns-then-left-eq0-clause-told
+unfolding content
+returns-then-left-eq0-clause-told g c = λ honest.
+    let file = (g.D.Disk.state c.args.disk.now).content in
+    let old = c.commands.chains in
+    let before = c.in_ok-next.ensures.honest honest in
+    let next : ReadsWords (g.D.Disk.state c.commands.disk).content old Spelled c.read_words.new.chains =
+    subst (λ (n : Next). ReadsWords (g.D.Disk.state c.commands.disk).content old n c.read_words.new.chains) c.in-Spelled.is (c.in_ok-next.ensures.reads honest) in
+    let passed = subst (λ (f : List ℕ). ReadsWords f old Spelled c.read_words.new.chains) (ap content (c.commands.invariant.same_state before)) next in (
+      λ h. absurd (cc h),
+      λ tells.
+          absurd (words_past c.args.entry.now (bytes_at file c.args.chains.now c.args.index) (rest_of file old) c.commands.left (c.commands.invariant.spells before) passed.0 (rest_of file c.read_words.new.chains) passed.1 c.if-left-eq0.true tells),
     )
+
+pub returns-in-End-clause-told : goal.returns-in-End-clause-told
+unfolding content
+returns-in-End-clause-told g c = λ honest.
+    let file = (g.D.Disk.state c.args.disk.now).content in
+    let old = c.commands.chains in
+    let before = c.in_ok-next.ensures.honest honest in
+    let next : ReadsWords (g.D.Disk.state c.commands.disk).content old End c.read_words.new.chains =
+    subst (λ (n : Next). ReadsWords (g.D.Disk.state c.commands.disk).content old n c.read_words.new.chains) c.in-End.is (c.in_ok-next.ensures.reads honest) in
+    let passed : rest_of file old ≡ [] = subst (λ (f : List ℕ). rest_of f old ≡ []) (ap content (c.commands.invariant.same_state before)) next in (
+      λ h. words_end c.args.entry.now (bytes_at file c.args.chains.now c.args.index) (rest_of file old) c.commands.left (c.commands.invariant.spells before) passed (eqb-true c.commands.left 0 h),
+      λ tells. eq-eqb c.commands.left 0 (words_all c.args.entry.now (bytes_at file c.args.chains.now c.args.index) (rest_of file old) c.commands.left (c.commands.invariant.spells before) passed tells),
+    )
+
+pub returns-in-Unspelled-clause-told : goal.returns-in-Unspelled-clause-told
+unfolding content
+returns-in-Unspelled-clause-told g c = λ honest.
+    let file = (g.D.Disk.state c.args.disk.now).content in
+    let old = c.commands.chains in
+    let before = c.in_ok-next.ensures.honest honest in
+    let next : ReadsWords (g.D.Disk.state c.commands.disk).content old Unspelled c.read_words.new.chains =
+    subst (λ (n : Next). ReadsWords (g.D.Disk.state c.commands.disk).content old n c.read_words.new.chains) c.in-Unspelled.is (c.in_ok-next.ensures.reads honest) in
+    let passed = subst (λ (f : List ℕ). ReadsWords f old Unspelled c.read_words.new.chains) (ap content (c.commands.invariant.same_state before)) next in (
+      λ h. absurd (cc h),
+      λ tells.
+          absurd (words_other c.args.entry.now (bytes_at file c.args.chains.now c.args.index) (rest_of file old) c.commands.left (c.commands.invariant.spells before) passed.0 (rest_of file c.read_words.new.chains) passed.1 passed.2 tells),
+    )
+
+pub returns-in-Cut-clause-told : goal.returns-in-Cut-clause-told
+unfolding content
+returns-in-Cut-clause-told g c = λ honest.
+    let file = (g.D.Disk.state c.args.disk.now).content in
+    let old = c.commands.chains in
+    let before = c.in_ok-next.ensures.honest honest in
+    let next : ReadsWords (g.D.Disk.state c.commands.disk).content old Cut c.read_words.new.chains =
+    subst (λ (n : Next). ReadsWords (g.D.Disk.state c.commands.disk).content old n c.read_words.new.chains) c.in-Cut.is (c.in_ok-next.ensures.reads honest) in
+    let passed = subst (λ (f : List ℕ). ReadsWords f old Cut c.read_words.new.chains) (ap content (c.commands.invariant.same_state before)) next in (
+      λ h. absurd (cc h),
+      λ tells. absurd (words_cut c.args.entry.now (bytes_at file c.args.chains.now c.args.index) (rest_of file old) c.commands.left (c.commands.invariant.spells before) passed tells),
+    )
+
+pub commands-preserved : goal.commands-preserved
+unfolding content
+commands-preserved g c =
+    let file = (g.D.Disk.state c.args.disk.now).content in
+    let old = c.commands.chains in
+    record {
+      spells = λ honest.
+          let before = c.in_ok-next.ensures.honest honest in
+          let next : ReadsWords (g.D.Disk.state c.commands.disk).content old Spelled c.read_words.new.chains =
+          subst (λ (n : Next). ReadsWords (g.D.Disk.state c.commands.disk).content old n c.read_words.new.chains) c.in-Spelled.is (c.in_ok-next.ensures.reads honest) in
+          let passed = subst (λ (f : List ℕ). ReadsWords f old Spelled c.read_words.new.chains) (ap content (c.commands.invariant.same_state before)) next in
+          spells_more (bytes_at file c.args.chains.now c.args.index) (rest_of file old) (rest_of file c.read_words.new.chains) passed.0 c.commands.left (c.commands.left - 1) c.args.entry.now.kept (c.commands.invariant.spells before) passed.1 passed.2 (omega (arith, c.if-left-eq0.false));
+      all = c.in_ok-next.ensures.all ∙ c.commands.invariant.all;
+      pages = c.in_ok-next.ensures.pages ∙ c.commands.invariant.pages;
+      honest = search rules;
+      same_state = search rules;
+      same_past = search rules;
+      faults = search rules;
+      writes = search rules;
+      syncs = search rules;
+      works = search rules;
+      same_len = search rules;
+    }

@@ -9,7 +9,6 @@ add-requires c =
     record {
       few = omega (arith, c.requires.few, counted_by kept_in_box entries);
       absent = absent_by kept_in_box c.args.name entries c.requires.own_name;
-      played = c.requires.played;
       writable = c.requires.writable;
     }
 

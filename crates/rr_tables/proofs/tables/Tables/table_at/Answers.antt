@@ -11,5 +11,5 @@ returns-clause-table c =
     let name = c.in-Some.name.now in
     let there =
     written_at kept_in_box c.args.self.now.map.entries c.args.place (name, c.in-Some.table.now) (sym c.in-Some.ensures.entry)
-    ∙ ap (λ (t : Table). Some (table_in_words (name, kept_in t))) (sym c.deref.ensures) in
+    ∙ ap (λ (t : Table). Some (table_in_words (name, kept_in t))) (sym c.deref-in-Some.ensures) in
     ok_at c.write_table.result (map table_in_words (world_of c.args.self.now)) c.args.place _ there c.write_table.ensures.table

@@ -1,13 +1,17 @@
 use Rattle.rr_tables.specs.Tables.{kept_in_box}
+use Rattle.rr_tables.proofs.Outcomes.{under}
 use Rattle.rr_tables.proofs.WorldLemmas.{named_by, named_stamp, opening_in, step_in}
 use Rattle.rr_tables.proofs.tables.Tables.take.Goals as goal
 
 pub returns-in-Some-clause-verdict : goal.returns-in-Some-clause-verdict
-returns-in-Some-clause-verdict g c =
+returns-in-Some-clause-verdict g c = λ played.
     rw (c.in-Some.ensures, opening_in kept_in_box c.args.name.now c.args.self.now.map.entries c.args.stamp) c.open.ensures.verdict
 
 pub returns-in-Some-clause-world : goal.returns-in-Some-clause-world
-returns-in-Some-clause-world g c = rw c.in-Some.ensures c.open.ensures.world
+returns-in-Some-clause-world g c = rw c.in-Some.ensures (under c.open.result _ _ c.open.ensures.world)
+
+pub returns-in-Some-clause-played : goal.returns-in-Some-clause-played
+returns-in-Some-clause-played g c = c.open.ensures.played
 
 pub returns-in-Some-clause-kept : goal.returns-in-Some-clause-kept
 returns-in-Some-clause-kept g c = rw c.in-Some.ensures c.open.ensures.kept
@@ -18,8 +22,11 @@ returns-in-Some-clause-stamp g c =
     (named_stamp kept_in_box c.args.self.now.kit c.in-Some.players.now _ _ c.open.ensures.stamp)
 
 pub returns-in-None-clause-verdict : goal.returns-in-None-clause-verdict
-returns-in-None-clause-verdict g c =
-    rw (step_in kept_in_box c.args.self.now.kit c.args.name.now c.args.self.now.map.entries c.args.stamp c.args.request.now c.in-None.ensures) c.step.ensures.verdict
+returns-in-None-clause-verdict g c = λ played.
+    rw (step_in kept_in_box c.args.self.now.kit c.args.name.now c.args.self.now.map.entries c.args.stamp c.args.request.now c.in-None.ensures) (c.step.ensures.verdict played)
 
 pub returns-in-None-clause-stamp : goal.returns-in-None-clause-stamp
 returns-in-None-clause-stamp g c = rw (named_by kept_in_box c.args.name.now c.args.self.now.map.entries) c.step.ensures.stamp
+
+pub returns-in-None-clause-played : goal.returns-in-None-clause-played
+returns-in-None-clause-played g c = c.step.ensures.played

@@ -3,6 +3,7 @@ use Rattle.std.proofs.lemmas.Result.{err_from_is_err_and}
 use Rattle.rr_turns.specs.declared.request.Request.TheVariants.{Forget}
 use Rattle.rr_game.specs.History.Tables.{kept_in}
 use Rattle.rr_game.proofs.HistoryLemmas.Judging.{lawful_turn, stamp_refuses, turn_refuses}
+use Rattle.rr_game.proofs.HistoryLemmas.Changes.{made}
 use Rattle.rr_game.proofs.history.table.Table.forget.Goals as goal
 
 pub returns-in_err-judge_stamp-clause-verdict : goal.returns-in_err-judge_stamp-clause-verdict
@@ -21,4 +22,9 @@ returns-clause-verdict c = λ kit h.
     lawful_turn kit (kept_in c.args.self.now) c.args.stamp c.args.turn c.in_ok-judge_stamp.ensures.verdict (c.in_ok-change.ensures.verdict kit h)
 
 pub returns-clause-kept : goal.returns-clause-kept
-returns-clause-kept c = λ kit. c.take.ensures.kept ∙ c.in_ok-change.ensures.kept kit
+returns-clause-kept c = λ kit. c.take.ensures.kept ∙ (c.in_ok-change.ensures.kept kit).1
+
+pub returns-clause-played : goal.returns-clause-played
+returns-clause-played c = λ kit before.
+    (made kit c.args.self.now c.take.new.self (Forget c.args.turn) c.in_ok-change.change before
+    (c.in_ok-change.ensures.change kit before) c.take.ensures.kept c.take.ensures.game).1

@@ -1,47 +1,62 @@
-use Rattle.std.proofs.Common.{◌≡◌, length, arith}
+use Rattle.std.proofs.Common.{◌≡◌, ◌+◌, length, arith}
 use Rattle.std.proofs.lemmas.Result.{err_from_is_err_and}
+use Rattle.rr_books.specs.declared.refusal.Refusal.TheVariants as G
 use Rattle.rr_turns.specs.declared.request.Request.TheVariants.{Play}
-use Rattle.rr_turns.proofs.JudgementLemmas.{lawful-wants}
+use Rattle.rr_turns.specs.Judgement.{judgement_map}
+use Rattle.rr_turns.proofs.JudgementLemmas.{behind-finds, lawful-wants, map-finds}
 use Rattle.rr_game.specs.declared.history.fault.Fault.TheVariants as F
-use Rattle.rr_game.specs.History.Tables.{kept_in}
-use Rattle.rr_game.specs.History.Verdict.{own_judgement}
+use Rattle.rr_game.specs.History.Fault.{of_game}
+use Rattle.rr_game.specs.History.Playing.{game_judgement}
+use Rattle.rr_game.specs.History.Tables.{kept_in, turns_in}
+use Rattle.rr_game.specs.History.Verdict.{own_judgement, room_verdict}
 use Rattle.rr_game.proofs.HistoryLemmas.Judging.{has_room, lawful_with_room}
-use Rattle.rr_game.proofs.HistoryLemmas.Changes.{command_change}
-use Rattle.rr_game.proofs.HistoryLemmas.Plays.{turns-few}
+use Rattle.rr_game.proofs.HistoryLemmas.Changes.{command_change, fits_by, kept_by}
 use Rattle.rr_game.proofs.history.table.Table.judge_command.Goals as goal
 
-pub turns_after-requires : goal.turns_after-requires
-turns_after-requires c =
-    let few = turns-few c.args.kit.now c.args.self.now.commands.items c.args.self.now.game c.args.self.now.turns c.requires.played in
-    let count = c.args.self.now.commands.ok.0 in
-    let room = c.if-count-ge-MOST_COMMANDS.false in
-    let len = c.len-count.ensures in
-    omega (arith, few, count, room, len)
+pub returns-in_err-game-clause-verdict : goal.returns-in_err-game-clause-verdict
+returns-in_err-game-clause-verdict c h =
+    let p = err_from_is_err_and c.from_residual.result c.from_residual.ensures.1 in
+    let table = kept_in c.args.self.now in
+    let all : c.len-count.result ≡ length c.args.self.now.kept.commands = c.len-count.ensures.value in
+    let judged = game_judgement c.args.kit.now table.commands c.args.command.now in
+    rw (p.1, p.2)
+    (behind-finds (room_verdict table) (judgement_map of_game judged) F.OutOfMemory _ (has_room table c.len-count.result all c.if-count-ge-MOST_COMMANDS.false)
+    (map-finds of_game judged G.OutOfMemory _ (c.in_err-game.ensures.verdict c.args.self.now.kept.commands h.played)))
 
 pub returns-in_err-added-clause-verdict : goal.returns-in_err-added-clause-verdict
-returns-in_err-added-clause-verdict c =
+returns-in_err-added-clause-verdict c h =
     let p = err_from_is_err_and c.from_residual-in_err-added.result c.from_residual-in_err-added.ensures.1 in
     let table = kept_in c.args.self.now in
-    let all : c.len-count.result ≡ length c.args.self.now.commands.items = omega (arith, c.len-count.ensures, c.args.self.now.commands.ok.0) in
+    let all : c.len-count.result ≡ length c.args.self.now.kept.commands = c.len-count.ensures.value in
     let lawful = lawful_with_room c.args.kit.now table c.args.command.now (has_room table c.len-count.result all c.if-count-ge-MOST_COMMANDS.false)
-    (c.in_ok-next.ensures.verdict c.args.self.now.commands.items c.requires.played.played) in
+    (c.in_ok-game.ensures.verdict c.args.self.now.kept.commands h.played) in
     rw (p.1, p.2) (lawful-wants (own_judgement c.args.kit.now table (Play c.args.command.now)) F.OutOfMemory _ lawful c.in_err-added.ensures.memory)
 
 pub returns-clause-verdict : goal.returns-clause-verdict
-returns-clause-verdict c =
+returns-clause-verdict c h =
     let table = kept_in c.args.self.now in
-    let all : c.len-count.result ≡ length c.args.self.now.commands.items = omega (arith, c.len-count.ensures, c.args.self.now.commands.ok.0) in
+    let all : c.len-count.result ≡ length c.args.self.now.kept.commands = c.len-count.ensures.value in
     lawful_with_room c.args.kit.now table c.args.command.now (has_room table c.len-count.result all c.if-count-ge-MOST_COMMANDS.false)
-    (c.in_ok-next.ensures.verdict c.args.self.now.commands.items c.requires.played.played)
+    (c.in_ok-game.ensures.verdict c.args.self.now.kept.commands h.played)
 
 pub returns-clause-change : goal.returns-clause-change
-returns-clause-change c =
-    let all : c.len-count.result ≡ length c.args.self.now.commands.items = omega (arith, c.len-count.ensures, c.args.self.now.commands.ok.0) in
-    let play = c.requires.played in
+returns-clause-change c h =
+    let all : c.len-count.result ≡ length c.args.self.now.kept.commands = c.len-count.ensures.value in
     command_change c.args.kit.now (kept_in c.args.self.now) c.args.command.now c.in_ok-added.added
-    c.args.self.now.game c.in_ok-next.next.game c.args.self.now.turns c.turns_after.result c.len-count.result c.in_ok-next.next.ended
-    play c.in_ok-added.ensures.value all c.if-count-ge-MOST_COMMANDS.false c.requires.stamp
-    (c.in_ok-next.ensures.verdict c.args.self.now.commands.items play.played)
-    (c.in_ok-next.ensures.game c.args.self.now.commands.items play.played)
-    (c.in_ok-next.ensures.turn c.args.self.now.commands.items play.played)
-    c.turns_after.ensures
+    c.in_ok-game.game c.len-count.result
+    c.in_ok-added.ensures.value all
+    (c.in_ok-game.ensures.verdict c.args.self.now.kept.commands h.played)
+    (c.in_ok-game.ensures.game c.args.self.now.kept.commands h.played)
+
+pub returns-clause-kept : goal.returns-clause-kept
+returns-clause-kept c =
+    let all : c.len-count.result ≡ length c.args.self.now.kept.commands = c.len-count.ensures.value in
+    kept_by c.args.kit.now (kept_in c.args.self.now) c.args.command.now c.in_ok-added.added c.in_ok-game.game (turns_in c.args.self.now)
+    c.len-count.result c.in_ok-added.ensures.value all
+
+pub returns-clause-fits : goal.returns-clause-fits
+returns-clause-fits c =
+    let table = c.args.self.now in
+    let all : c.len-count.result ≡ length table.kept.commands = c.len-count.ensures.value in
+    let played : c.in_ok-game.game.played ≡ c.len-count.result + 1 = omega (arith, c.in_ok-game.ensures.played, table.counted, c.len-count.ensures) in
+    fits_by (kept_in table) c.in_ok-added.added c.in_ok-game.game c.len-count.result all c.if-count-ge-MOST_COMMANDS.false c.requires.stamp played

@@ -1,0 +1,24 @@
+use Rattle.std.proofs.Common.{◌≡◌}
+use Rattle.rr_reading.specs.Lending.Chains.{all_of, count_of}
+use Rattle.rr_reading.specs.Lending.Commands.{bytes_at, rest_of, steps_left_of}
+use Rattle.rr_reading.proofs.LendingLemmas.FrontLemmas.{CountsFront}
+use Rattle.rr_reading.proofs.forms.holds_commands.Given as goal
+
+abbrev pub invariant-commands : goal.invariant-commands
+invariant-commands g l =
+    record {
+      counts : g.D.Disk.Honest l.disk → CountsFront (bytes_at (g.D.Disk.state l.fn.disk).content l.fn.tables l.fn.index) (rest_of (g.D.Disk.state l.fn.disk).content l.tables) l.left l.fn.count;
+      all : all_of l.tables.chains ≡ all_of l.fn.tables.chains;
+      pages : count_of l.tables.chains ≡ count_of l.fn.tables.chains;
+      honest : g.D.Disk.Honest l.disk → g.D.Disk.Honest l.fn.disk;
+      same_state : g.D.Disk.Honest l.disk → g.D.Disk.state l.disk ≡ g.D.Disk.state l.fn.disk;
+      same_past : g.D.Disk.Honest l.disk → g.D.Disk.past l.disk ≡ g.D.Disk.past l.fn.disk;
+      faults : g.D.Disk.fault_count l.disk ≡ g.D.Disk.fault_count l.fn.disk;
+      writes : g.D.Disk.write_count l.disk ≡ g.D.Disk.write_count l.fn.disk;
+      syncs : g.D.Disk.sync_count l.disk ≡ g.D.Disk.sync_count l.fn.disk;
+      works : g.D.Disk.Works l.disk → g.D.Disk.Works l.fn.disk;
+      same_len : g.D.Disk.file_len l.disk ≡ g.D.Disk.file_len l.fn.disk;
+    }
+
+abbrev pub decreases-commands : goal.decreases-commands
+decreases-commands g l = steps_left_of l.tables

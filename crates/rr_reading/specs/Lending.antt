@@ -1,0 +1,6 @@
+pub mod Chains
+pub mod Commands
+pub mod Fitting
+pub mod Laws
+pub mod PageBuffer
+pub mod Pages
