@@ -1,6 +1,4 @@
-use rr_reading::dir::{
-    ChainRef, Dir, Fault, KeptCommands, KitChains, TableEntry, Version, write_kept,
-};
+use rr_reading::dir::{ChainRef, Dir, Fault, KitChains, TableEntry, Version};
 use rr_words::Name;
 use std::alloc::Global;
 use std::test::Fail;
@@ -61,23 +59,6 @@ fn front(bytes: &[u8], length: usize) -> &[u8] {
     &bytes[..length.min(bytes.len())]
 }
 
-fn write_words(words: &[u8], out: &mut Vec<u8>) -> Result<(), Fault> {
-    if words.len() < 65_536 {
-        write_kept(words, out)?;
-    }
-    Ok(())
-}
-
-// The kept commands, with a line feed behind each.
-fn kept_lines(alloc: Global, bytes: &[u8], count: u32) -> Result<Vec<u8>, Fault> {
-    let mut lines = Vec::new(alloc);
-    for words in KeptCommands::read(bytes, count)? {
-        lines.extend_from_slice(words)?;
-        lines.push(b'\n')?;
-    }
-    Ok(lines)
-}
-
 fn only_table(dir: &Dir) -> Option<TableEntry> {
     match dir.tables.as_slice() {
         [table] => Some(*table),
@@ -133,23 +114,6 @@ fn directories_past_a_limit_are_damaged(rt: HostRuntime) -> Result<(), Fail> {
     let many = [entry(b"a", 3, 2); 65];
     assert!(rt; is_damaged(alloc, &spelled(alloc, kit(3), &many)?));
     Ok(())
-}
-
-// The commands that a table keeps, each with the length of its words before it.
-#[test]
-fn kept_commands_go_both_ways(rt: HostRuntime) {
-    let alloc = rt.alloc();
-    let mut bytes = Vec::new(alloc);
-    write_words(b"open a b", &mut bytes).expect(&rt, "memory");
-    write_words(b"pass a", &mut bytes).expect(&rt, "memory");
-    assert!(rt; bytes.as_slice() == b"\0\x08open a b\0\x06pass a".as_slice());
-    assert!(rt;
-        kept_lines(alloc, &bytes, 2).expect(&rt, "lines").as_slice()
-            == b"open a b\npass a\n".as_slice()
-    );
-    for (length, count) in [(18, 1), (18, 3), (17, 2), (9, 1), (1, 1)] {
-        assert!(rt; kept_lines(alloc, front(&bytes, length), count).is_err());
-    }
 }
 
 #[test]

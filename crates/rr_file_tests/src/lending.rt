@@ -1,7 +1,7 @@
 use crate::calls::{failing_once, in_memory, write};
 use crate::pages::{link, place_of};
 use rr_disk::{Disk, MemoryDisk};
-use rr_pages::{Damage, Fault, ReachedPages, chain_follow};
+use rr_pages::{Damage, Fault, ReachedPages, ReadChain, chain_follow, read_pieces};
 use rr_reading::lending::{Chains, Commands, JoiningBuffer, laws};
 use std::alloc::Global;
 use std::process::Abort;
@@ -36,6 +36,14 @@ fn follow<D: Disk>(alloc: Global, disk: &mut D, stated: Option<u32>) -> Result<C
     let all = vec![in alloc; chain]?;
     let chains = Chains::new(alloc, count, all)?;
     Ok(chains)
+}
+
+// The pages of the chain from page 514 on, and their bytes.
+fn joined(alloc: Global, disk: &mut MemoryDisk) -> Result<ReadChain, Fault> {
+    let mut reached = ReachedPages::new(alloc)?;
+    let chain = chain_follow(alloc, disk, u32::from(PAGES), &mut reached, 514, None)?;
+    let read = read_pieces(alloc, disk, &chain.links)?;
+    Ok(read)
 }
 
 // The pieces of the chain from page 514 on, with a bar behind each.
@@ -121,6 +129,17 @@ fn a_chain_lends_a_piece_a_page(rt: HostRuntime) {
     lay(&mut disk, 515, 0, b"de").expect(&rt, "room");
     let told = pieces(rt.alloc(), &mut disk).expect(&rt, "a chain");
     assert!(rt; told.as_slice() == b"abc||de|".as_slice());
+}
+
+#[test]
+fn the_pieces_of_a_chain_are_joined(rt: HostRuntime) {
+    let mut disk = blank(&rt, rt.alloc());
+    lay(&mut disk, 514, 516, b"abc").expect(&rt, "room");
+    lay(&mut disk, 516, 515, b"").expect(&rt, "room");
+    lay(&mut disk, 515, 0, b"de").expect(&rt, "room");
+    let chain = joined(rt.alloc(), &mut disk).expect(&rt, "a chain");
+    assert!(&rt; chain.pages.as_slice() == [514u32, 516, 515].as_slice());
+    assert!(&rt; chain.bytes.as_slice() == b"abcde".as_slice());
 }
 
 #[test]

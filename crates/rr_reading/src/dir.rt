@@ -15,5 +15,4 @@ mod writing;
 pub use directory::{ChainRef, Dir, KitChains, MOST_KEPT, MOST_TABLES, MOST_TEXT, TableEntry};
 pub use fault::Fault;
 pub(crate) use kept::first_command;
-pub use kept::{KeptCommands, write_kept};
 pub use version::{NEWEST, Version};

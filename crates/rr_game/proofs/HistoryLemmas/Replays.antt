@@ -1,5 +1,5 @@
 -- A table's first commands, played again.
-use Rattle.std.proofs.Common.{◌≡◌, ℕ, zero, suc, ◌+◌, ◌<◌, ◌≤◌, List, [], ◌∷◌, ◌++◌, Some, length, take, drop, sym, ap, subst, ◌∙◌, arith, take-append-drop}
+use Rattle.std.proofs.Common.{◌≡◌, ℕ, zero, suc, ◌+◌, ◌<◌, ◌≤◌, true, List, [], ◌∷◌, ◌++◌, Some, length, take, drop, sym, ap, subst, ◌∙◌, arith, take-append-drop}
 use Rattle.std.specs.Prelude.{slice_get}
 use Rattle.std.proofs.Math.Logic.{∥∥₁_map}
 use Rattle.std.proofs.lemmas.List.{length-take-le, take_more}
@@ -8,13 +8,31 @@ use Rattle.rr_kit.specs.declared.kit.Kit.{Kit}
 use Rattle.rr_code.specs.declared.command.Command.{Command}
 use Rattle.rr_turns.specs.Turns.{AreLawful}
 use Rattle.rr_turns.proofs.LawfulLemmas.{lawful-at, lawful-front}
+use Rattle.rr_game.specs.declared.game.Game.{Game}
 use Rattle.rr_game.specs.History.Playing.{ArePlayed, IsLawfulAfter}
+use Rattle.rr_game.specs.Keeping.{IsGameOf}
+use Rattle.rr_game.specs.Play.{begins_with_opening}
 
 -- the first command alone
 pub first_alone : (commands : List Command) (opening : Command) → slice_get commands 0 ≡ Some opening → take 1 commands ≡ opening ∷ []
 first_alone [] opening here = absurd cc
 first_alone (first ∷ others) opening here =
     ap (λ (c : Command). c ∷ []) (get_or_from_slice_get (first ∷ others) 0 opening opening here)
+
+-- a game that an opening began is that of as many commands as it played
+pub begun_there : (kit : Kit) (commands : List Command) (opening : Command) (game : Game) → slice_get commands 0 ≡ Some opening
+    → IsGameOf kit (opening ∷ []) game → IsGameOf kit (take game.played commands) game
+begun_there kit commands opening game here begun =
+    let P : List Command → Type 0 = λ cs. IsGameOf kit cs game in
+    subst P (sym (ap (λ (n : ℕ). take n commands) begun.played ∙ first_alone commands opening here)) begun
+
+some_begun : (commands : List Command) → begins_with_opening commands ≡ true → 1 ≤ length commands
+some_begun [] begun = absurd cc
+some_begun (_ ∷ others) begun = omega arith
+
+-- a game of commands has played one of them
+pub some_played : (kit : Kit) (commands : List Command) (game : Game) → IsGameOf kit commands game → 1 ≤ game.played
+some_played kit commands game stands = omega (arith, stands.played, some_begun commands stands.opening)
 
 -- one command more
 pub one_more : (commands : List Command) (n : ℕ) (c : Command) → slice_get commands n ≡ Some c → take (n + 1) commands ≡ take n commands ++ c ∷ []

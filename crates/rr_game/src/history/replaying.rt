@@ -48,7 +48,7 @@ fn opened(alloc: Global, opening: &Command, kit: &Kit) -> Result<Game, Fault>
     }
 }
 
-/// Plays commands of a table behind its opening, with which the game has just begun: the first so many with it.
+/// Plays a table's commands on, from a game that has so many of them behind it up to the first so many.
 ///
 /// # Errors
 ///
@@ -60,17 +60,20 @@ fn play_on(
     count: usize,
     kit: &Kit,
 ) -> Result<Game, Fault>
-    requires opened { IsGameOf kit.now (take 1 kept.now.commands) game }
-    requires some { 1 ≤ count }
+    requires order { game.played ≤ count }
     requires within { count ≤ length kept.now.commands }
-    ensures game { IfOk result (λ new. IsGameOf kit.now (take count kept.now.commands) new) }
-    ensures memory { ∥ ArePlayed kit.now (take count kept.now.commands) ∥₁ → IsOkUnless result Fault.OutOfMemory }
+    ensures played { IfOk result (λ new. new.played ≡ count) }
+    ensures game { IfOk result (λ new. IsGameOf kit.now (take game.played kept.now.commands) game →
+        IsGameOf kit.now (take count kept.now.commands) new) }
+    ensures memory { IsGameOf kit.now (take game.played kept.now.commands) game →
+        ∥ ArePlayed kit.now (take count kept.now.commands) ∥₁ → IsOkUnless result Fault.OutOfMemory }
 {
     crate::laws::commands_have_one_verdict();
     // A table keeps few enough commands.
     let _count = kept.len();
+    let start = game.played as usize;
     let mut next = game;
-    for place in 1..count {
+    for place in start..count {
         let command = kept.command(place);
         next = next.step(alloc, &command, kit)?;
     }

@@ -1,7 +1,5 @@
 -- The commands that a table keeps, as its chain holds them.
-use Rattle.std.specs.Prelude.{◌≡◌, ℕ, zero, suc, ◌^◌, ◌<◌, List, [], ◌∷◌, ◌++◌, length, take, drop, All, Option}
-use Rattle.std.specs.Borrow.{Bor}
-use Rattle.std.specs.Iterator.{YieldsFirstRef}
+use Rattle.std.specs.Prelude.{◌≡◌, ℕ, zero, suc, ◌^◌, ◌<◌, List, [], ◌∷◌, ◌++◌, length, take, drop, All}
 use Rattle.std.specs.List.{flat_map}
 use Rattle.byteorder.specs.Endian.{big_number}
 use Rattle.rr_reading.specs.Dir.Number.{spelled_number}
@@ -24,7 +22,3 @@ unfoldable pub first_commands : ℕ → List ℕ → List (List ℕ)
 first_commands zero bytes = []
 first_commands (suc count) bytes =
     let words = big_number 2 bytes in take words (drop 2 bytes) ∷ first_commands count (drop words (drop 2 bytes))
-
--- what a call of `next` does to the commands that are left
-abbrev pub GivesFirst : List (List ℕ) → Option (Bor (List ℕ)) → List (List ℕ) → Type 0
-GivesFirst = YieldsFirstRef (λ commands. commands)

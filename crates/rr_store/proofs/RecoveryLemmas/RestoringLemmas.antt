@@ -11,9 +11,10 @@ use Rattle.rr_game.specs.History.Tables.{kept_in}
 use Rattle.rr_images.specs.Holding.{HeldChain}
 use Rattle.rr_kit.specs.declared.kit.Kit.{Kit}
 use Rattle.rr_tables.specs.Records.Played.{ArePlayedTables, IsPlayedTable}
-use Rattle.rr_tables.specs.Records.Words.{AreCommands, KeepCommands, SpellCommands}
+use Rattle.rr_tables.specs.Records.Words.{AreCommands, KeepCommands}
 use Rattle.rr_tables.specs.Records.World.{TableState, World, table_named}
 use Rattle.rr_tables.specs.Writable.{IsWritable}
+use Rattle.rr_tables.proofs.RecordLemmas.WordLemmas.{spelled_are_commands}
 use Rattle.rr_turns.specs.Turns.{ended_turns}
 use Rattle.rr_store.specs.Recovery.Kept.{AreWorded, TellsPlayed, IsRestored}
 use Rattle.rr_store.specs.Recovery.Restoring.{AreRestored, HasRestored, IsFreeFor, PutsPlayed}
@@ -148,16 +149,8 @@ keep_last (first ∷ old) table keep last = (keep.0, keep_last old table keep.1 
 pub keep_put : (kit : Kit) (old new : World) → KeepCommands old → PutsPlayed kit old new → KeepCommands new
 keep_put kit old new keep puts = subst (λ (w : World). KeepCommands w) (sym puts.last) (keep_last old puts.table keep puts.spelled)
 
--- words that spell commands are those of commands
-
-words_are_commands : (words : List (List ℕ)) (commands : List Command) → SpellCommands words commands → AreCommands commands
-words_are_commands [] [] spelled = tt
-words_are_commands [] (c ∷ cs) spelled = absurd spelled
-words_are_commands (w ∷ ws) [] spelled = absurd spelled
-words_are_commands (w ∷ ws) (c ∷ cs) spelled = (spelled.0.command, words_are_commands ws cs spelled.1)
-
 pub spelled_behind : (old new : TableState) → AreWorded old.commands → new.commands ≡ old.commands → AreCommands new.commands
-spelled_behind old new worded commands = subst (λ (cs : List Command). AreCommands cs) (sym commands) (words_are_commands worded.words old.commands worded.spelled)
+spelled_behind old new worded commands = subst (λ (cs : List Command). AreCommands cs) (sym commands) (spelled_are_commands worded.words old.commands worded.spelled)
 
 -- what a checkpoint can write of a table that was restored
 

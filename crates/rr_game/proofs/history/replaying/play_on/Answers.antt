@@ -1,5 +1,4 @@
-use Rattle.std.proofs.Common.{◌≡◌, ℕ, List, take, sym, subst, arith}
-use Rattle.std.proofs.lemmas.List.{length-take-le}
+use Rattle.std.proofs.Common.{◌≡◌, ℕ, ◌≤◌, List, take, sym, subst, arith}
 use Rattle.std.proofs.lemmas.Result.{err_from_is_err_and}
 use Rattle.rr_books.specs.declared.refusal.Refusal.TheVariants as G
 use Rattle.rr_code.specs.declared.command.Command.{Command}
@@ -8,14 +7,8 @@ use Rattle.rr_game.specs.Keeping.{IsGameOf}
 use Rattle.rr_game.specs.History.Fault.{of_game}
 use Rattle.rr_game.specs.History.Playing.{game_judgement}
 use Rattle.rr_game.proofs.HistoryLemmas.Plays.{only_memory}
-use Rattle.rr_game.proofs.HistoryLemmas.Replays.{lawful_there, one_more}
+use Rattle.rr_game.proofs.HistoryLemmas.Replays.{lawful_there, one_more, some_played}
 use Rattle.rr_game.proofs.history.replaying.play_on.Goals as goal
-
-pub loop-place-init : goal.loop-place-init
-loop-place-init c = record {
-  count = omega (arith, c.requires.opened.played, c.requires.some, c.requires.within, length-take-le 1 c.args.kept.now.commands (omega (arith, c.requires.some, c.requires.within)));
-  stands = c.requires.opened;
-}
 
 pub loop-place-preserved : goal.loop-place-preserved
 loop-place-preserved c =
@@ -24,25 +17,29 @@ loop-place-preserved c =
     record {
       count = omega (arith, c.in_ok-next.ensures.played, c.loop-place.invariant.count);
       stands =
+          λ begun.
           subst Q (sym (one_more c.args.kept.now.commands c.loop-place.place c.command-command.result c.command-command.ensures.value))
-          (c.in_ok-next.ensures.game front c.loop-place.invariant.stands);
+          (c.in_ok-next.ensures.game front (c.loop-place.invariant.stands begun));
     }
 
 pub returns-clause-game : goal.returns-clause-game
-returns-clause-game c =
-    let high = c.loop-place.auto.place-end c.requires.some in
+returns-clause-game c = λ begun.
+    let high = c.loop-place.auto.place-end c.requires.order in
     let same : c.loop-place.place ≡ c.args.count = omega (arith, c.loop-place-test.false, high) in
-    subst (λ (n : ℕ). IsGameOf c.args.kit.now (take n c.args.kept.now.commands) c.loop-place.next) same c.loop-place.invariant.stands
+    subst (λ (n : ℕ). IsGameOf c.args.kit.now (take n c.args.kept.now.commands) c.loop-place.next) same (c.loop-place.invariant.stands begun)
 
 pub returns-in_err-next-clause-memory : goal.returns-in_err-next-clause-memory
-returns-in_err-next-clause-memory c = λ lawful.
+returns-in_err-next-clause-memory c = λ begun. λ lawful.
     let p = err_from_is_err_and c.from_residual.result c.from_residual.ensures.1 in
     let kit = c.args.kit.now in
     let commands = c.args.kept.now.commands in
     let front = take c.loop-place.place commands in
     let command = c.command-command.result in
-    let there = lawful_there kit commands c.args.count c.loop-place.place command c.loop-place.auto.place c.loop-place-test.true c.command-command.ensures.value lawful in
+    let stands = c.loop-place.invariant.stands begun in
+    let some = some_played kit commands c.args.game begun in
+    let behind : 1 ≤ c.loop-place.place = omega (arith, some, c.loop-place.auto.place) in
+    let there = lawful_there kit commands c.args.count c.loop-place.place command behind c.loop-place-test.true c.command-command.ensures.value lawful in
     rw (p.1, p.2)
     (only_memory c.commands_have_one_verdict.ensures kit front command _ there
     (map-finds of_game (game_judgement kit front command) G.OutOfMemory _
-    (c.in_err-next.ensures.verdict front c.loop-place.invariant.stands)))
+    (c.in_err-next.ensures.verdict front stands)))

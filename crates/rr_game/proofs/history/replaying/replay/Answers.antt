@@ -1,16 +1,24 @@
-use Rattle.std.proofs.Common.{List, sym, subst}
+use Rattle.std.proofs.Common.{List, subst, arith}
 use Rattle.std.proofs.lemmas.Result.{err_from_is_err_and}
 use Rattle.rr_code.specs.declared.command.Command.{Command}
-use Rattle.rr_game.specs.Keeping.{IsGameOf}
+use Rattle.rr_game.specs.declared.game.Game.{Game}
 use Rattle.rr_game.specs.History.Playing.{ArePlayed}
 use Rattle.rr_game.proofs.HistoryLemmas.Plays.{opening_wants}
-use Rattle.rr_game.proofs.HistoryLemmas.Replays.{first_alone, opened_whole}
+use Rattle.rr_game.proofs.HistoryLemmas.Replays.{begun_there, opened_whole}
 use Rattle.rr_game.proofs.history.replaying.replay.Goals as goal
 
-pub play_on-requires-clause-opened : goal.play_on-requires-clause-opened
-play_on-requires-clause-opened c =
-    let P : List Command → Type 0 = λ cs. IsGameOf c.args.kit.now cs c.in_ok-game.game in
-    subst P (sym (first_alone c.args.kept.now.commands c.command.result c.command.ensures.value)) c.in_ok-game.ensures
+pub play_on-requires-clause-order : goal.play_on-requires-clause-order
+play_on-requires-clause-order c = omega (arith, c.in_ok-game.ensures.played, c.requires.some)
+
+pub returns-clause-game : goal.returns-clause-game
+returns-clause-game c =
+    let begun = begun_there c.args.kit.now c.args.kept.now.commands c.command.result c.in_ok-game.game c.command.ensures.value c.in_ok-game.ensures in
+    IfOk-weaker c.play_on.result _ _ (λ (new : Game) goes_on. goes_on begun) c.play_on.ensures.game
+
+pub returns-clause-memory : goal.returns-clause-memory
+returns-clause-memory c =
+    c.play_on.ensures.memory
+    (begun_there c.args.kit.now c.args.kept.now.commands c.command.result c.in_ok-game.game c.command.ensures.value c.in_ok-game.ensures)
 
 pub returns-in_err-game-clause-memory : goal.returns-in_err-game-clause-memory
 returns-in_err-game-clause-memory c = λ lawful.
