@@ -36,7 +36,7 @@ returns-in_err-next-clause-memory c = λ begun. λ lawful.
     let front = take c.loop-place.place commands in
     let command = c.command-command.result in
     let stands = c.loop-place.invariant.stands begun in
-    let some = some_played kit commands c.args.game begun in
+    let some = some_played kit (take c.args.game.played commands) c.args.game begun in
     let behind : 1 ≤ c.loop-place.place = omega (arith, some, c.loop-place.auto.place) in
     let there = lawful_there kit commands c.args.count c.loop-place.place command behind c.loop-place-test.true c.command-command.ensures.value lawful in
     rw (p.1, p.2)

@@ -1,5 +1,5 @@
 use Rattle.std.proofs.Common.{List, subst, arith}
-use Rattle.std.proofs.lemmas.Result.{err_from_is_err_and}
+use Rattle.std.proofs.lemmas.Result.{IfOk-weaker, err_from_is_err_and}
 use Rattle.rr_code.specs.declared.command.Command.{Command}
 use Rattle.rr_game.specs.declared.game.Game.{Game}
 use Rattle.rr_game.specs.History.Playing.{ArePlayed}
