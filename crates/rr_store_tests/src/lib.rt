@@ -1,6 +1,7 @@
 //! Tests of the store of a club's tables: what is kept and opened again, refusals, a checkpoint, a device that fails;
-//! below it the tables in memory and their recovery; and the laws on files and worlds. Damaged files, and what every
-//! stop and failure leaves, are tried on the built program by `tools/try-the-file` and `tools/stop-anywhere`.
+//! below it the tables in memory and their recovery; and the laws on files and worlds. What every stop and failure
+//! leaves is tried in `rr_stop_tests`, and on the built program by `tools/stop-anywhere`; damaged files by
+//! `tools/try-the-file`.
 #![tactic(auto)]
 
 #[cfg(test)]
