@@ -1,20 +1,22 @@
 """What `moderate check` owes to a file, judged by docs/FORMATS.md and docs/PLAYING.md ("Damage") without the program.
 
 Of the rules it knows an auction in which the first player buys the first private and then all pass in turn, for which there is
-no end, and the take-back of its turns: each command but the opening is one. Where a file asks for more, its answer is None.
+no end, and the take-back of its turns: each command but the opening is one. Of a snapshot it knows whether its bytes are a
+game's, by game_bytes.py, and which commands play that game where it is told. Where a file asks for more, its answer is None.
 """
 import re
 from dataclasses import dataclass, field
 
+import game_bytes
+from game_bytes import is_player
 from store_file import FIRST_DATA, PAGE, SLOTS, USED, number_at, record_at, records_from, root_at, slots_for
 
 NOT_A_STORE = "no 64 not a store"
 LAST_NUMBER, LAST_STAMP = 2**63 - 1, 4_000_000_000
 MOST_PAGES, MOST_TABLES, MOST_KEPT, MOST_TEXT = 65_536, 64, 4_096, 65_536
-TABLE_NAME, PLAYER = re.compile(rb"[a-z][a-z0-9]{0,15}"), re.compile(rb"[a-z][a-z0-9]{0,11}")
-NUMBER = re.compile(rb"0|[1-9][0-9]*")
-RESERVED = {b"bank", b"offer", b"pool"}
-CORPORATIONS = {b"PRR", b"NYC", b"CPR", b"B&O", b"C&O", b"ERIE", b"NNH", b"B&M"}
+MOST_SNAPSHOTS, MOST_SNAPSHOT = 4_096, 16_384
+TABLE_NAME, NUMBER = re.compile(rb"[a-z][a-z0-9]{0,15}"), re.compile(rb"0|[1-9][0-9]*")
+CORPORATIONS = {b"PRR", b"NYC", b"CPR", b"B&O", b"C&O", b"ERIE", b"NYNH", b"B&M"}
 # What the words of a request are known for: to be none, or to be one that no table takes.
 NO_WORDS, REFUSED = "no words", "refused"
 
@@ -34,6 +36,16 @@ class Entry:
     name: bytes
     stamp: int
     floor: int
+    kept: int
+    head: int
+    length: int
+
+
+@dataclass
+class Snapshot:
+    """What a directory says of a snapshot: the place of its table, and how many of that one's commands are played."""
+
+    table: int
     kept: int
     head: int
     length: int
@@ -80,9 +92,8 @@ class Game:
 def players_of(words):
     """The players of an opening, or None where the words open no table."""
     verb, *players = words.split(b" ")
-    named = all(PLAYER.fullmatch(it) and it not in RESERVED for it in players)
     own_names = 2 <= len(players) == len(set(players)) <= 6
-    return players if verb == b"open" and named and own_names else None
+    return players if verb == b"open" and all(map(is_player, players)) and own_names else None
 
 
 def form_of(words):
@@ -102,7 +113,7 @@ def form_of(words):
     if verb == b"best" and len(more) == 1:
         return REFUSED if more[0] in CORPORATIONS else NO_WORDS
     if verb == b"pass" or verb == b"buy" and len(more) == 1:
-        return "play" if len(more) == 1 and PLAYER.fullmatch(more[0]) and more[0] not in RESERVED else NO_WORDS
+        return "play" if len(more) == 1 and is_player(more[0]) else NO_WORDS
     if not verb.isalpha() or not verb.islower():
         return NO_WORDS
     raise NotKnown
@@ -136,7 +147,7 @@ class Chains:
 
 
 def directory_of(text):
-    """Where a directory says that the kit's texts are, and its tables; or None where it isn't of its form."""
+    """Where a directory says that the kit's texts are, its tables and snapshots; or None where it isn't of its form."""
     if len(text) < 50:
         return None
     texts = [(number_at(text, 12 * place, 8), number_at(text, 12 * place + 8, 4)) for place in range(4)]
@@ -152,7 +163,22 @@ def directory_of(text):
     lawful = all(TABLE_NAME.fullmatch(it.name) and it.stamp <= LAST_STAMP and 1 <= it.kept <= MOST_KEPT for it in tables)
     own_names = len({it.name for it in tables}) == count <= MOST_TABLES
     short = all(length <= MOST_TEXT for _, length in texts)
-    return (texts, tables) if at == len(text) and lawful and own_names and short else None
+    snapshots = snapshots_of(text[at:], tables)
+    return (texts, tables, snapshots) if lawful and own_names and short and snapshots is not None else None
+
+
+def snapshots_of(text, tables):
+    """The snapshots that stand behind a directory's tables, none where it ends; or None where they aren't of their form."""
+    if not text:
+        return []
+    count = number_at(text, 0, 2) if len(text) >= 2 else 0
+    if not 1 <= count <= MOST_SNAPSHOTS or len(text) != 2 + 18 * count:
+        return None
+    fields = ((0, 2), (2, 4), (6, 8), (14, 4))
+    found = [Snapshot(*(number_at(text, 2 + 18 * it + place, size) for place, size in fields)) for it in range(count)]
+    lawful = all(it.table < len(tables) and 1 <= it.kept <= tables[it.table].kept and it.length <= MOST_SNAPSHOT for it in found)
+    places = [(it.table, it.kept) for it in found]
+    return found if lawful and places == sorted(set(places)) else None
 
 
 def commands_of(text, count):
@@ -181,25 +207,32 @@ def root_of(data):
     return max(roots, key=lambda it: it.number)
 
 
-def tables_of(data, root, texts):
+def tables_of(data, root, texts, games):
     """The tables that the chains of the root's directory spell, played."""
     chains = Chains(data, root.pages)
     directory = chains.read(root.directory)
     named = directory_of(directory) if directory is not None else None
     if named is None:
         raise Damaged(min(chains.broken, default=5))
-    of_texts, entries = named
+    of_texts, entries, snapshots = named
     found = [(chains.read(head), length) for head, length in of_texts]
-    found += [(chains.read(it.head), it.length) for it in entries]
+    found += [(chains.read(it.head), it.length) for it in (*entries, *snapshots)]
     kept = [text is not None and commands_of(text, it.kept) for (text, _), it in zip(found[4:], entries)]
     if any(text is not None and len(text) != length for text, length in found) or None in kept:
         chains.broken.add(5)
     if chains.broken:
         raise Damaged(min(chains.broken))
-    # Whether words are a request's is judged of all tables before the texts, and these before what the rules say.
-    if any(NO_WORDS in list(map(form_of, it)) for it in kept):
+    # Whether bytes are a game's, and words a request's, is judged of all tables before the texts, and these before what the
+    # rules say.
+    shown = [(it, text) for it, (text, _) in zip(snapshots, found[4 + len(entries):])]
+    if any(game_bytes.played(text) != it.kept for it, text in shown) or any(NO_WORDS in list(map(form_of, it)) for it in kept):
         raise Damaged(5)
     if [text for text, _ in found[:4]] != texts:
+        raise NotKnown
+    # Whatever game a snapshot shows, no table keeps other words than a command's.
+    if not all(form_of(it) in ("open", "play") for words in kept for it in words):
+        raise Damaged(7)
+    if any(games.get(text) != kept[it.table][:it.kept] for it, text in shown):
         raise NotKnown
     return {entry.name: played(entry, words) for entry, words in zip(entries, kept)}
 
@@ -249,13 +282,14 @@ def take(tables, record):
     return game.take_back(verb, int(turn))
 
 
-def judged(data, texts):
-    """What `check` answers of a file that was made with these texts, or None where this judge doesn't know."""
+def judged(data, texts, games):
+    """What `check` answers of a file that was made with these texts, or None where this judge doesn't know. The bytes of some
+    games are known by the commands that play them."""
     try:
         root = root_of(data) if len(data) >= PAGE * (FIRST_DATA + 1) else None
         if root is None:
             return NOT_A_STORE
-        tables = tables_of(data, root, texts)
+        tables = tables_of(data, root, texts, games)
         records = records_in(data, root.half, root.first)
         if None not in records:
             records += records_in(data, 1 - root.half, root.first + len(records))

@@ -1,6 +1,7 @@
 //! Plays a table's commands, a line each from standard input, and at each position spells the game's plain values, reads
-//! them, and makes the game of them again. Words: the files of the kit's four texts. It prints how many positions there were
-//! of which the game was made again, the most bytes, and the nanoseconds that spelling and that reading took a time.
+//! them, and makes the game of them again. Words: the files of the kit's four texts; without any it does nothing. It
+//! prints how many positions there were of which the game was made again, the most bytes, and the nanoseconds that
+//! spelling and that reading took a time.
 #![tactic(auto)]
 
 use anyhow::{Result, bail};
@@ -8,7 +9,7 @@ use rr_code::Command;
 use rr_game::history::Table;
 use rr_game::{Game, Parts};
 use rr_kit::Kit;
-use rr_spelling::Spell;
+use rr_words::spelling::Spell;
 use std::alloc::{AllocError, Global};
 use std::time::Instant;
 use std::{env, fs};
@@ -90,12 +91,11 @@ fn text(rt: &HostRuntime, words: &[String], place: usize) -> Result<Vec<u8>> {
     }
 }
 
-fn kit(rt: &HostRuntime) -> Result<Kit> {
-    let words: Vec<String> = env::args(rt)?.skip(1).collect(rt.alloc())?;
-    let chart = text(rt, &words, 0)?;
-    let roster = text(rt, &words, 1)?;
-    let tiles = text(rt, &words, 2)?;
-    let board = text(rt, &words, 3)?;
+fn kit(rt: &HostRuntime, words: &[String]) -> Result<Kit> {
+    let chart = text(rt, words, 0)?;
+    let roster = text(rt, words, 1)?;
+    let tiles = text(rt, words, 2)?;
+    let board = text(rt, words, 3)?;
     Ok(Kit::read(rt.alloc(), &chart, &roster, &tiles, &board)?)
 }
 
@@ -112,7 +112,12 @@ fn play(rt: &HostRuntime, kit: &Kit, table: Option<Table>, words: &[u8]) -> Resu
 }
 
 fn main(rt: HostRuntime) -> Result<()> {
-    let kit = kit(&rt)?;
+    let words: Vec<String> = env::args(&rt)?.skip(1).collect(rt.alloc())?;
+    // (so it is run once it is built)
+    if words.is_empty() {
+        return Ok(());
+    }
+    let kit = kit(&rt, &words)?;
     let mut table = None;
     let mut seen = Seen {
         positions: 0,
@@ -125,6 +130,9 @@ fn main(rt: HostRuntime) -> Result<()> {
         seen = see(&rt, played.game(), seen)?;
         table = Some(played);
     }
-    println!(rt; "{} {} {} {}", seen.positions, seen.longest, seen.spelling, seen.reading)?;
+    println!(rt;
+        "{} {} {} {}",
+        seen.positions, seen.longest, seen.spelling, seen.reading
+    )?;
     Ok(())
 }

@@ -27,12 +27,23 @@ class Table:
 
 
 @dataclass
+class Snapshot:
+    """The place of a table, how many of its commands were played, and the bytes of the game."""
+
+    table: int
+    kept: int
+    bytes: bytes
+
+
+@dataclass
 class Store:
-    """What a file says: the root that is taken, the texts, the tables in its chains, and the records of both halves."""
+    """What a file says: the root that is taken, the texts, the tables in its chains and snapshots of their games, and the records
+    of both halves."""
 
     root: Root
     texts: list
     tables: list
+    snapshots: list
     near: list
     far: list
     reached: list = field(default_factory=list)
@@ -120,9 +131,13 @@ def read(data):
         count, head = number_at(directory, at + 12, 4), number_at(directory, at + 16, 8)
         tables.append(Table(name, stamp, floor, kept_in(chain_at(data, head, reached), count)))
         at += 28
+    snapshots = []
+    for at in range(at + 2, len(directory), 18):
+        bytes_of = chain_at(data, number_at(directory, at + 6, 8), reached)
+        snapshots.append(Snapshot(number_at(directory, at, 2), number_at(directory, at + 2, 4), bytes_of))
     near = records_in(data, root.half, root.first)
     far = records_in(data, 1 - root.half, root.first + len(near))
-    return Store(root, texts, tables, near, far, reached)
+    return Store(root, texts, tables, snapshots, near, far, reached)
 
 
 def kept_in(text, count):

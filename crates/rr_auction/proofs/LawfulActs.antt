@@ -9,7 +9,7 @@ use Rattle.std.proofs.lemmas.Int.{ints}
 use Rattle.rr_roster.specs.declared.company.Private.{Private}
 use Rattle.rr_roster.specs.declared.company.Corp.{Corp}
 use Rattle.rr_roster.specs.Terms.{Terms}
-use Rattle.rr_chart.specs.Chart as charts
+use Rattle.rr_roster.specs.Chart.Chart as charts
 use Rattle.rr_books.specs.declared.parties.Seat.{Seat}
 use Rattle.rr_books.specs.declared.parties.Party.TheVariants as P
 use Rattle.rr_books.specs.declared.certificates.Cert.{Cert}

@@ -4,7 +4,7 @@ use Rattle.rr_roster.specs.declared.company.Private.{Private}
 use Rattle.rr_roster.specs.declared.company.Corp.TheVariants as Corp
 use Rattle.rr_roster.specs.declared.company.Corp.{Corp as Company}
 use Rattle.rr_roster.specs.Terms.{Terms}
-use Rattle.rr_chart.specs.Chart as charts
+use Rattle.rr_roster.specs.Chart.Chart as charts
 use Rattle.rr_books.specs.declared.parties.Money.{Money}
 use Rattle.rr_books.specs.declared.parties.Seat.{Seat}
 use Rattle.rr_books.specs.declared.parties.Party.TheVariants as P

@@ -1,5 +1,5 @@
 ghost use Rattle.std.specs.Prelude.{◌≡◌, ◌≤◌, pos, Some, None, MatchResult};
-ghost use Rattle.rr_chart.specs.Chart.{par_place};
+ghost use Rattle.rr_roster.specs.Chart.Chart.{par_place};
 ghost use Rattle.rr_books.specs.Book.{Book};
 ghost use Rattle.rr_books.specs.State.{cash_of, holder_in};
 ghost use Rattle.rr_rounds.specs.Bids.Bids.{tied_on, tied_up};
@@ -9,10 +9,10 @@ ghost use Rattle.rr_auction.specs.Rules.{bid_verdict, bidder_due, is_bo, is_open
 
 use crate::pricing::{least_bid, price};
 use rr_books::{Act, Books, Corp, Party, Private, Refusal, Seat};
-use rr_chart::Chart;
 use rr_desk::Position;
 use rr_market::par_cell;
 use rr_roster::Roster;
+use rr_roster::chart::Chart;
 use rr_rounds::bids::{Bidding, cheapest, is_cheapest, is_unsold, same_private};
 
 // A seat's bid on a private.

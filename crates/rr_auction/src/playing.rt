@@ -12,10 +12,10 @@ use crate::due::brings_incomes;
 use crate::pricing::{cost, for_sale};
 use crate::settling::{sell, settle};
 use rr_books::{Act, Corp, Entry, Marker, Money, Private, Refusal, Seat};
-use rr_chart::Chart;
 use rr_desk::{Desk, pay_incomes};
 use rr_market::par_cell;
 use rr_roster::Roster;
+use rr_roster::chart::Chart;
 
 /// Adds what a command of the auction adds to a table's book: its own step first, and then what it settles. A command
 /// that the auction doesn't take adds what it would add if it did; one that isn't of the auction adds nothing.

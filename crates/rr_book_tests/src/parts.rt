@@ -1,7 +1,7 @@
 //! Books as plain values and as bytes, each worked by hand.
 use crate::opening::{self, check};
 use rr_books::{Books, BooksParts, Cert, Corp, Money, Party, Place, Private, Seat};
-use rr_spelling::{Cursor, Spell};
+use rr_words::spelling::{Cursor, Spell};
 use std::alloc::{AllocError, Global};
 use std::process::Abort;
 

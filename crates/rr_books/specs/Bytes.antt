@@ -1,7 +1,7 @@
 -- Seats and places as bytes.
 use Rattle.std.specs.Prelude.{◌≡◌, ℕ, ◌<◌, ◌^◌, List, [], ◌∷◌, ◌++◌, refl, get_or}
 use Rattle.std.proofs.Common.{ap, arith}
-use Rattle.rr_spelling.specs.Form.{Form, byte_form, form_by}
+use Rattle.rr_words.specs.Spelling.Form.{Form, byte_form, form_by}
 use Rattle.rr_roster.specs.Company.{corp_index}
 use Rattle.rr_roster.specs.Bytes.{corp_one_way}
 use Rattle.rr_books.specs.declared.parties.Seat.{Seat}

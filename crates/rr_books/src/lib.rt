@@ -1,6 +1,6 @@
 //! The books of a table: a list of entries, oldest first, and the running balances and places that stand for it.
 //!
-//! Stands on `rr_spelling` and `rr_roster`. Its promise: `IsStateOf`, the running tables are those of the list of
+//! Stands on `rr_words` and `rr_roster`. Its promise: `IsStateOf`, the running tables are those of the list of
 //! entries, whatever list it is.
 #![tactic(auto)]
 

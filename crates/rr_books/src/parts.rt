@@ -5,7 +5,7 @@ ghost use Rattle.rr_books.specs.Parts.{AreBooks, AreInBounds, IsWithin, books_of
 
 use crate::ledger::Books;
 use crate::parties::Place;
-use rr_spelling::{Cursor, Spell};
+use rr_words::spelling::{Cursor, Spell};
 use std::alloc::AllocError;
 
 /// The most payments of a table, whatever its book is.

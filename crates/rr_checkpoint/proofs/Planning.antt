@@ -1,5 +1,5 @@
 -- That a plan is made for the layout of an open file.
-use Rattle.std.proofs.Common.{◌≡◌, inl, inr, ℕ, ◌+◌, ◌^◌, ◌<◌, ◌≤◌, max, Bool, true, not, List, [], ◌∷◌, ◌++◌, length, map, Option, None, Some, refl, sym, ◌∙◌, ap, subst, arith}
+use Rattle.std.proofs.Common.{◌≡◌, inl, inr, ℕ, ◌+◌, ◌^◌, ◌<◌, ◌≤◌, max, Bool, true, List, [], ◌∷◌, ◌++◌, length, map, Option, None, Some, refl, sym, ◌∙◌, ap, subst, arith}
 use Rattle.std.specs.Option.{unwrap_or}
 use Rattle.std.proofs.lemmas.List.{map-append, length-set}
 use Rattle.rr_disk.specs.Disk.{DiskState}
@@ -139,7 +139,7 @@ module _ {C : Type 0} (codec : Codec) (file : OpenFile C) (state : DiskState) (w
         }
 
     pub may_begin : (plan : Plan) → plan.root ≡ root → plan.fresh.items ≡ more
-        → (may : MayBegin codec layout after plan) × (may.holding.chains ≡ chains_of drafts)
+        → (may : MayBegin codec layout after plan) × (may.holding.chains ≡ chains_of drafts) × (may.holding.directory.text ≡ text)
     may_begin plan root_is fresh_is =
         let here = (carries.between.each state.settled (settled_may_stay state)).spelled in
         let planned = made_is_plan codec layout root one.chain drafts made here.apart here.in_data in
@@ -151,4 +151,5 @@ module _ {C : Type 0} (codec : Codec) (file : OpenFile C) (state : DiskState) (w
             coming = plan_reaches root one.chain drafts (coming_of after) free_now.1;
           },
           refl,
+          one.whole,
         )

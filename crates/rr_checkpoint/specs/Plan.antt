@@ -1,3 +1,4 @@
+pub mod Snapshots
 pub mod Transcript
 pub mod Kit
 pub mod Writing

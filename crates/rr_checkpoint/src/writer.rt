@@ -227,7 +227,7 @@ impl<C: Codec> Writer<C> {
             → AreDrafted carries.layout (free_of self.old) fresh.items drafts
             → IsDirectory C.codec carries.layout NEWEST_VERSION drafts directory.now
             → (may : MayBegin C.codec carries.layout (free_of self.new) plan)
-            × (may.holding.chains ≡ chains_of drafts)) }
+            × (may.holding.chains ≡ chains_of drafts) × (may.holding.directory.text ≡ directory.now)) }
         ensures root { IfOk result (λ plan. plan.root ≡ coming_root_of self.old plan.root.directory plan.fresh.items) }
         ensures laid { IfOk result (λ plan. IsLaid (present_of (free_of self.old)) (coming_of (free_of self.old))
             (coming_of (free_of self.new)) directory.now fresh.items plan.fresh.items plan.root.directory) }

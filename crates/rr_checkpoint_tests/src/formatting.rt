@@ -20,11 +20,11 @@ const ROOM: usize = 1 << 23;
 const ROOT: &[u8] = b"\xa5\0\0\0\0\0\0\0\x01\0\0\0\0\0\0\x02\x06\0\0\0\0\0\0\0\0\x01\
 \0\0\0\0\0\0\x02\x07\0\x01";
 
-// Rules by which no record is lawful. They have no code.
+// Rules by which no record is lawful, and no bytes show a game. They have no code.
 struct NoRecords;
 
 impl Rules for NoRecords {
-    ghost takes = { λ line old new. ⊥ };
+    ghost rules = { record { takes = λ line old new. ⊥; shows = λ world commands bytes. ⊥ } };
 }
 
 // The calls below have almost no contracts, so that what a test does costs its proof little.
@@ -104,8 +104,8 @@ fn a_formatted_disk_is_read_back(rt: HostRuntime) {
     new_files_stand::<NoRecords>();
     worlds_are_exact::<NoRecords>();
     worlds_are_read::<NoRecords>();
-    worlds_are_read_back();
-    checkpoints_spell_worlds();
+    worlds_are_read_back::<NoRecords>();
+    checkpoints_spell_worlds::<NoRecords>();
     let told = (true, 1, [0, 521, 3, 2_125_824]);
     assert!(rt; made(rt.alloc(), false, &[(0, ROOT)]) == Ok(told));
     assert!(rt; made(rt.alloc(), true, &[(0, ROOT)]) == Ok(told));

@@ -8,4 +8,6 @@ mod checkpoint;
 #[cfg(test)]
 mod formatting;
 #[cfg(test)]
+mod plans;
+#[cfg(test)]
 mod reading;

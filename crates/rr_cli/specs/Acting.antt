@@ -12,7 +12,7 @@ use Rattle.rr_store.specs.declared.fault.Fault as store
 use Rattle.rr_store.specs.declared.fault.Fault.TheVariants as T
 use Rattle.rr_store.specs.Allowing.{Between, FormatAllows}
 use Rattle.rr_store.specs.Fault.{CountsFailure, OnDevice}
-use Rattle.rr_store.specs.Files.{AreTablesOf}
+use Rattle.rr_store.specs.Files.{AreTablesOf, StandsFor}
 use Rattle.rr_store.specs.Formatting.{format_writes, RefusesFormat}
 use Rattle.rr_store.specs.Holding.{Carries, GamesArePlayed}
 use Rattle.rr_store.specs.Opening.{IsNoVerdict, OpenAllows, Refuses}
@@ -80,21 +80,23 @@ abbrev pub ending_of : Result (Unit {0}) Fault → Ending
 ending_of (Ok _) = Done
 ending_of (Err fault) = Faulted fault
 
--- Why the tables that are served or told are those of the file: it stands for them, on an honest disk that was synced and not
--- written, and that carries them where the file is one of ours; and of every disk they were played by the rules of a right
--- kit, in memory too, it was synced once and not written, and the device hasn't failed.
+-- Why the tables that are served or told are those of the file: it stands for them, if it stands for a world, on an honest
+-- disk that was synced and not written, and that carries them where the file is one of ours, and then in memory they were
+-- played, too; and of every disk the kit is a right one, it was synced once and not written, and the device hasn't failed.
 pub record Begins {D : Type 0} (Honest Works : D → Type 0) (state : D → DiskState) (past : D → List DiskState) (faults writes syncs : D → ℕ) (old : D) (begun : Moderator D) : Type 0 where
   pub honest : Honest (disk_under begun) → Honest old
   pub works : Works (disk_under begun) → Works old
-  pub opens : Honest (disk_under begun) → Opens (state old).content (held_of begun)
+  pub opens : Honest (disk_under begun) → (texts : KitTexts) (tables : World) → StandsFor (state old).content texts tables
+      → Opens (state old).content (held_of begun)
   pub stands : Honest (disk_under begun) → (texts : KitTexts)
       × Between (past old) (state old) (past (disk_under begun)) (state (disk_under begun))
       (λ moments. OpenAllows (state old) moments (state (disk_under begun)) (Ok (texts, (held_of begun).tables)))
       × SpellsKit texts (held_of begun).kit
   pub carries : Honest (disk_under begun) → (texts : KitTexts)
       → KeepsTables texts (held_of begun).tables (state old).content → Carries state (store_of begun) texts
-  pub played : (texts : KitTexts) × SpellsKit texts (held_of begun).kit × AreTablesOf (held_of begun).kit (held_of begun).tables
-  pub each : GamesArePlayed (store_of begun)
+  pub played : Honest (disk_under begun) → (texts : KitTexts) (tables : World) → StandsFor (state old).content texts tables
+      → GamesArePlayed (store_of begun)
+  pub kit : (texts : KitTexts) × SpellsKit texts (held_of begun).kit
   pub whole : (held_of begun).broken ≡ false
   pub no_fault : faults (disk_under begun) ≡ faults old
   pub no_write : writes (disk_under begun) ≡ writes old
@@ -119,19 +121,20 @@ pub record IsRefusedFile {D : Type 0} (Honest Works : D → Type 0) (state : D �
   pub ends : status ≡ status_of ending
   pub written : IsRefused (of_store fault) writer_old writer_new ending
 
--- What `serve` does with a disk, a reader and a writer, and the status with which it ends: the file is opened, each line is
--- answered so that what it comes to lasts, what is written are the replies to what is read, and whatever a stop leaves
--- stands for what was held then, or for that with the request pending then; it ends with 69 exactly where a read or a write
--- failed; or the file is refused, and the reader isn't read.
+-- What `serve` does with a disk, a reader and a writer, and the status with which it ends: the file is opened; where its tables
+-- were played, each line is answered so that what it comes to lasts, what is written are the replies to what is read, and
+-- whatever a stop leaves stands for what was held then, or for that with the request pending then; it ends with 69 exactly
+-- where a read or a write failed; or the file is refused, and the reader isn't read.
 pub data Serves {D : Type 0} (Honest Works : D → Type 0) (state : D → DiskState) (past : D → List DiskState) (faults writes syncs : D → ℕ) (old new : D)
     (reader_old reader_new : InputState) (writer_old writer_new : OutputState) : ℕ → Type 0 where
   Served : (begun ended : Moderator D) (result : Result (Unit {0}) Fault) (cause : Result (Unit {0}) serve.Fault)
       → Begins Honest Works state past faults writes syncs old begun
       → EndsAs result cause
+      → (GamesArePlayed (store_of begun)
       → (session : Session (SpeaksAndLasts Honest Works state past faults writes syncs) told (told_of begun) (told_of ended) reader_old reader_new writer_old writer_new cause)
-      → (Honest (disk_under ended) → (texts : KitTexts) → Carries state (store_of begun) texts
+      × (Honest (disk_under ended) → (texts : KitTexts) → Carries state (store_of begun) texts
       → LeavesOnly (past (disk_under begun)) (state (disk_under begun)) (past (disk_under ended)) (state (disk_under ended))
-      (StandsAlong Honest Works state past faults writes syncs texts (told_of begun) session.lines session.replies (told_of ended) session.served))
+      (StandsAlong Honest Works state past faults writes syncs texts (told_of begun) session.lines session.replies (told_of ended) session.served)))
       → CountsFailures cause reader_old.failures reader_new.failures writer_old.failures writer_new.failures
       → new ≡ disk_under ended
       → Serves Honest Works state past faults writes syncs old new reader_old reader_new writer_old writer_new (status_of (ending_of result))

@@ -3,7 +3,7 @@ use Rattle.std.proofs.Common.{◌≡◌, ℕ, ◌+◌, ◌<◌, true, false, Lis
 use Rattle.std.specs.List.{AllByRecursion, flat_map, list_all}
 use Rattle.std.proofs.lemmas.Bool.Decides.{nat_tests}
 use Rattle.std.proofs.lemmas.List.{flat_map_more, take_more_set}
-use Rattle.rr_spelling.specs.OneWay.{next_of_row, word_one_way}
+use Rattle.rr_words.specs.Spelling.OneWay.{next_of_row, word_one_way}
 use Rattle.rr_words.specs.Name.{is_player_name, IsPlayerName}
 use Rattle.rr_code.specs.Bytes.{players_one_way, spelled_name, spelled_players}
 use Rattle.rr_code.specs.Players.{ArePlayers, all_different}

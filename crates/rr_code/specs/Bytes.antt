@@ -1,8 +1,8 @@
 -- The players of a table as bytes.
 use Rattle.std.specs.Prelude.{◌≡◌, ℕ, List, [], ◌∷◌, ◌++◌, length, refl}
 use Rattle.std.specs.List.{AllByRecursion, flat_map}
-use Rattle.rr_spelling.specs.Form.{Form}
-use Rattle.rr_spelling.specs.OneWay.{row_one_way, word_one_way}
+use Rattle.rr_words.specs.Spelling.Form.{Form}
+use Rattle.rr_words.specs.Spelling.OneWay.{row_one_way, word_one_way}
 use Rattle.rr_code.specs.Players.{ArePlayers}
 
 -- a name behind its length

@@ -4,8 +4,8 @@ ghost use Rattle.rr_words.specs.Name.{IsPlayerName};
 ghost use Rattle.rr_code.specs.Bytes.{players_form, spelled_name};
 
 use crate::players::{MOST_PLAYERS, Players, all_different};
-use rr_spelling::{Cursor, Spell};
 use rr_words::Name;
+use rr_words::spelling::{Cursor, Spell};
 use std::alloc::AllocError;
 
 impl Spell for Players {

@@ -1,6 +1,6 @@
 //! The lines that the moderator reads: one spelling for each request and each query.
 //!
-//! Stands on `rr_spelling`, `rr_words`, `rr_roster`, `rr_turns` and `rr_orders`. Its promise: `Line::read` and `read_record` read
+//! Stands on `rr_words`, `rr_roster`, `rr_turns` and `rr_orders`. Its promise: `Line::read` and `read_record` read
 //! exactly what is spelled, one text a line (`laws::one_spelling`).
 #![tactic(auto)]
 

@@ -15,3 +15,5 @@ mod lending;
 mod page_set;
 #[cfg(test)]
 mod pages;
+#[cfg(test)]
+mod reading;

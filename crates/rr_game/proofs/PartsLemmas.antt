@@ -15,7 +15,7 @@ parts_make_the_game game sound =
     let G : AreWithin game.played game.ends → Game = λ within. record { players = game.players; standing = game.standing; played = game.played; ends = game.ends; within = within } in
     ap G (one sound.ends game.within)
 
-made_of : (game : Game) (parts : Parts) → parts ≡ parts_of game → (sound : AreParts parts) → game_of parts sound ≡ game
+pub made_of : (game : Game) (parts : Parts) → parts ≡ parts_of game → (sound : AreParts parts) → game_of parts sound ≡ game
 made_of game parts same =
     let P : Parts → Type 0 = λ p. (sound : AreParts p) → game_of p sound ≡ game in
     subst P (sym same) (parts_make_the_game game)

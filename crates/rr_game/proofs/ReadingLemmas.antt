@@ -1,7 +1,7 @@
 -- A game's bytes as they are read: the players, the views, the layout, and the counts, each by itself.
 use Rattle.std.specs.Prelude.{ℤ}
 use Rattle.std.proofs.Common.{◌≡◌, ◌≢◌, ℕ, List, ◌++◌, sym, ◌∙◌, ap, append_assoc}
-use Rattle.rr_spelling.specs.Form.{Form, number_form, pair_form, signed_form}
+use Rattle.rr_words.specs.Spelling.Form.{Form, number_form, pair_form, signed_form}
 use Rattle.rr_turns.specs.Bytes.{ends_form}
 use Rattle.rr_code.specs.Bytes.{players_form}
 use Rattle.rr_books.specs.declared.parts.BooksParts.{BooksParts}

@@ -19,7 +19,7 @@ use Rattle.rr_game.proofs.Playing.{opens}
 
 -- with one command more
 
-ends_push : (kit : Kit) (accepted : List Command) (c : Command) → begins_with_opening accepted ≡ true
+pub ends_push : (kit : Kit) (accepted : List Command) (c : Command) → begins_with_opening accepted ≡ true
     → turn_ends (ends_turn kit) (accepted ++ c ∷ []) ≡ turn_ends (ends_turn kit) accepted ++ (if ends_turn kit accepted c then (length accepted + 1) ∷ [] else [])
 ends_push kit accepted c h =
     let o = opens accepted h in

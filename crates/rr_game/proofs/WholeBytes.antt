@@ -2,7 +2,7 @@
 use Rattle.std.specs.Prelude.{MatchOption}
 use Rattle.std.proofs.Common.{◌≡◌, ◌≢◌, Bool, Option, None, Some, false, List, ℕ, [], ◌++◌, ap, sym, ◌∙◌, IsTrue, ◌↔◌}
 use Rattle.std.proofs.lemmas.List.{append-nil}
-use Rattle.rr_spelling.specs.Form.{Form}
+use Rattle.rr_words.specs.Spelling.Form.{Form}
 
 -- bytes that begin with no value are those of none
 none_at_all : {A : Type 0} (form : Form A) (bytes cursor : List ℕ) → cursor ≡ bytes

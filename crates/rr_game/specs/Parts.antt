@@ -1,7 +1,7 @@
 -- The plain values of a game, and which values a game may have.
 use Rattle.std.specs.Prelude.{◌≡◌, ℕ, List}
 use Rattle.std.proofs.Common.{refl}
-use Rattle.rr_spelling.specs.Form.{Form, form_by, number_form, pair_form}
+use Rattle.rr_words.specs.Spelling.Form.{Form, form_by, number_form, pair_form}
 use Rattle.rr_turns.specs.Bytes.{ends_form}
 use Rattle.rr_code.specs.Bytes.{players_form}
 use Rattle.rr_rules.specs.declared.parts.StandingParts.{StandingParts}

@@ -4,7 +4,7 @@ use Rattle.rr_roster.specs.declared.company.Corp.{Corp}
 use Rattle.rr_roster.specs.declared.company.Private.{Private}
 use Rattle.rr_roster.specs.Company.{corps, privates}
 use Rattle.rr_roster.specs.Terms.{Terms, face_of}
-use Rattle.rr_chart.specs.Chart.{Row}
+use Rattle.rr_roster.specs.Chart.Chart.{Row}
 use Rattle.rr_books.specs.declared.entries.Cell.{Cell}
 use Rattle.rr_books.specs.declared.parties.Seat.{Seat}
 use Rattle.rr_books.specs.declared.certificates.Cert.TheVariants as C

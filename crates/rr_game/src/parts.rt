@@ -12,8 +12,8 @@ use rr_market::operations::OperationsParts;
 use rr_rounds::RoundsParts;
 use rr_rounds::bids::BiddingParts;
 use rr_rules::{Standing, StandingParts};
-use rr_spelling::{Cursor, Spell};
 use rr_turns::Ends;
+use rr_words::spelling::{Cursor, Spell};
 use std::alloc::{AllocError, Global};
 
 /// The plain values of a game.

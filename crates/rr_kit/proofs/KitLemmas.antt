@@ -3,8 +3,8 @@ use Rattle.std.proofs.Common.{ℕ, List, inl, inr}
 use Rattle.std.specs.Str.{IsUtf8}
 use Rattle.std.proofs.lemmas.Str.{IsUtf8-from_ascii}
 use Rattle.rr_words.specs.Text.{IsSmallAscii}
-use Rattle.rr_chart.specs.declared.fault.Fault.TheVariants as H
-use Rattle.rr_chart.specs.Reading as chart
+use Rattle.rr_roster.specs.declared.chart.fault.Fault.TheVariants as H
+use Rattle.rr_roster.specs.Chart.Reading as chart
 use Rattle.rr_tiles.specs.declared.fault.Fault.TheVariants as T
 use Rattle.rr_tiles.specs.Manifest as manifest
 use Rattle.rr_kit.specs.declared.board.fault.Fault.TheVariants as B

@@ -1,5 +1,5 @@
 -- Texts spell one kit.
-use Rattle.rr_chart.proofs.RefusalLemmas.{Spells-unique}
+use Rattle.rr_roster.proofs.ChartLemmas.RefusalLemmas.{Spells-unique}
 use Rattle.rr_roster.proofs.OneRoster.{one_roster}
 use Rattle.rr_tiles.proofs.ManifestLemmas as tiles
 use Rattle.rr_kit.proofs.BoardLemmas.RowLemmas as board

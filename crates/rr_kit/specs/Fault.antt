@@ -1,7 +1,7 @@
 -- The refusals: their numbers, and the refusals of the layers below as refusals of the game.
 use Rattle.std.specs.Prelude.{ℕ}
-use Rattle.rr_chart.specs.declared.fault.Fault as chart
-use Rattle.rr_chart.specs.declared.fault.Fault.TheVariants as H
+use Rattle.rr_roster.specs.declared.chart.fault.Fault as chart
+use Rattle.rr_roster.specs.declared.chart.fault.Fault.TheVariants as H
 use Rattle.rr_roster.specs.declared.fault.Fault as roster
 use Rattle.rr_roster.specs.declared.fault.Fault.TheVariants as R
 use Rattle.rr_roster.specs.Rules.{rule_number}

@@ -2,9 +2,9 @@
 use Rattle.std.specs.Prelude.{◌≡◌, ◌≢◌, ℕ, ◌<◌, ◌≤◌, ◌⊎◌, List, length, Err}
 use Rattle.std.specs.Str.{IsUtf8}
 use Rattle.rr_words.specs.declared.text.TheConstants.{TEXT_BYTES}
-use Rattle.rr_chart.specs.Chart.{Row}
-use Rattle.rr_chart.specs.Reading as chart
-use Rattle.rr_chart.specs.declared.fault.Fault as chart_fault
+use Rattle.rr_roster.specs.Chart.Chart.{Row}
+use Rattle.rr_roster.specs.Chart.Reading as chart
+use Rattle.rr_roster.specs.declared.chart.fault.Fault as chart_fault
 use Rattle.rr_roster.specs.Terms.{Terms}
 use Rattle.rr_roster.specs.Reading as roster
 use Rattle.rr_roster.specs.Reading.{IsAnswer}

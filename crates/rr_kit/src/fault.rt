@@ -43,13 +43,13 @@ impl Fault {
     }
 }
 
-impl From<rr_chart::Fault> for Fault {
+impl From<rr_roster::chart::Fault> for Fault {
     ghost from_gives = { λ fault wrapped. wrapped ≡ of_chart fault };
 
-    fn from(fault: rr_chart::Fault) -> Fault {
+    fn from(fault: rr_roster::chart::Fault) -> Fault {
         match fault {
-            rr_chart::Fault::BadChart { line, word } => Fault::BadChart { line, word },
-            rr_chart::Fault::OutOfMemory => Fault::OutOfMemory,
+            rr_roster::chart::Fault::BadChart { line, word } => Fault::BadChart { line, word },
+            rr_roster::chart::Fault::OutOfMemory => Fault::OutOfMemory,
         }
     }
 }

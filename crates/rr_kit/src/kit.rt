@@ -1,13 +1,13 @@
 ghost use Rattle.std.specs.Prelude.{◌≡◌, MatchResult};
-ghost use Rattle.rr_chart.specs.Reading.{Spells};
+ghost use Rattle.rr_roster.specs.Chart.Reading.{Spells};
 ghost use Rattle.rr_tiles.specs.Manifest as manifest;
 ghost use Rattle.rr_kit.specs.Board.Reading as board;
 ghost use Rattle.rr_kit.specs.Kits.{IsRosterText, RefusesBoard, RefusesChart, RefusesKit, RefusesManifest, RefusesRoster, SpellsKit, texts_of};
 
 use crate::board::Board;
 use crate::fault::Fault;
-use rr_chart::Chart;
 use rr_roster::Roster;
+use rr_roster::chart::Chart;
 use rr_tiles::Manifest;
 use rr_words::text::TEXT_BYTES;
 use std::alloc::Global;

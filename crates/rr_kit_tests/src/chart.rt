@@ -1,6 +1,6 @@
 //! The shipped chart's cells and neighbours, and texts that are no chart.
 use crate::shown::is_shown;
-use rr_chart::{Cell, Chart, Fault, Place, Zone};
+use rr_roster::chart::{Cell, Chart, Fault, Place, Zone};
 use std::alloc::Global;
 
 const SHIPPED: &str = "60y 67 71 76 82 90 100p 112 126 142 160 180 200 225 250 275 300 325 350

@@ -1,5 +1,4 @@
-//! The tests of `rr_spelling`, and of the crates that read a kit: `rr_words`, `rr_roster`, `rr_chart`, `rr_tiles` and
-//! `rr_kit`.
+//! The tests of the crates that read a kit: `rr_words`, `rr_roster`, `rr_tiles` and `rr_kit`.
 #![tactic(auto)]
 
 #[cfg(test)]

@@ -1,7 +1,7 @@
 //! Values and their bytes, each worked by hand.
 use rr_roster::Corp;
-use rr_spelling::{Cursor, Spell, read_counted, write_counted};
 use rr_words::HexName;
+use rr_words::spelling::{Cursor, Spell, read_counted, write_counted};
 use std::alloc::{AllocError, Global};
 
 // The calls below have no contracts and assert nothing, so that what a test does costs its proof little.

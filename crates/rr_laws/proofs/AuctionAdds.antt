@@ -4,8 +4,8 @@ use Rattle.std.specs.List.{list_all}
 use Rattle.rr_roster.specs.declared.company.Private.{Private}
 use Rattle.rr_roster.specs.declared.company.Corp.{Corp}
 use Rattle.rr_roster.specs.Terms.{Terms}
-use Rattle.rr_chart.specs.Chart as charts
-use Rattle.rr_chart.specs.Chart.{par_place}
+use Rattle.rr_roster.specs.Chart.Chart as charts
+use Rattle.rr_roster.specs.Chart.Chart.{par_place}
 use Rattle.rr_books.specs.declared.acts.Act.{Act}
 use Rattle.rr_books.specs.declared.acts.Act.TheVariants as A
 use Rattle.rr_books.specs.declared.certificates.Cert.TheVariants as C

@@ -9,7 +9,7 @@ use Rattle.rr_books.specs.declared.entries.Entry.TheVariants as E
 use Rattle.rr_books.specs.declared.entries.Marker.TheVariants as M
 use Rattle.rr_books.specs.declared.parties.Party.TheVariants as P
 use Rattle.rr_books.specs.declared.parties.Seat.{Seat}
-use Rattle.rr_chart.specs.Chart.{Row}
+use Rattle.rr_roster.specs.Chart.Chart.{Row}
 use Rattle.rr_desk.specs.Effects.{adds}
 use Rattle.rr_shares.specs.Effects.{sale_shares}
 use Rattle.rr_stock.specs.Effects.{pays_seller, proceeds}

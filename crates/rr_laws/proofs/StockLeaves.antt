@@ -4,7 +4,7 @@ use Rattle.std.specs.List.{list_all}
 use Rattle.rr_roster.specs.declared.company.Private.{Private}
 use Rattle.rr_roster.specs.declared.company.Corp.{Corp}
 use Rattle.rr_roster.specs.Terms.{Terms, income_of}
-use Rattle.rr_chart.specs.Chart.{Row, par_place}
+use Rattle.rr_roster.specs.Chart.Chart.{Row, par_place}
 use Rattle.rr_books.specs.declared.parties.Party.{Party}
 use Rattle.rr_books.specs.declared.parties.Party.TheVariants as P
 use Rattle.rr_books.specs.declared.parties.Seat.{Seat}

@@ -1,6 +1,6 @@
 //! How many commands are kept at the ends of turns, each count worked by hand.
-use rr_spelling::{Cursor, Spell};
 use rr_turns::{Ends, MOST_COMMANDS, laws};
+use rr_words::spelling::{Cursor, Spell};
 use std::alloc::{AllocError, Global};
 
 /// The opening's count and these behind it, each of which is greater than the one before.

@@ -1,6 +1,6 @@
 //! The players of a table as bytes.
 use rr_code::{Command, Players};
-use rr_spelling::{Cursor, Spell};
+use rr_words::spelling::{Cursor, Spell};
 use std::alloc::Global;
 use std::process::Abort;
 

@@ -35,29 +35,29 @@ use Rattle.rr_log.specs.declared.fault.Fault.TheVariants as F
 use Rattle.rr_log.specs.Fault.{IsWant, OnDeviceFault, breaks}
 use Rattle.rr_log.specs.declared.log.Log.{Log}
 use Rattle.rr_log.specs.Calls.{IsBegunOn, IsFileFull, MeetsFullFile, NumbersRoot, TakesRootOf, as_begun, layout_behind, tables_due, world_behind}
+use Rattle.rr_log.specs.Lent.{AreLentOf, Lent, lent_in, pages_of}
 use Rattle.rr_log.specs.Carrying.{HasTexts, HaveSameTexts, IsBase, Carries, IsPlanned}
 use Rattle.rr_log.specs.Log.{HasNoRoom, HasNoneBegun, IsPastLast, disk_of, next_number, place_of, root_number, ticks_left}
 use Rattle.rr_checkpoint.specs.declared.plan.transcript.Transcript.{Transcript}
 use Rattle.rr_checkpoint.specs.Plan.Kit.{text_pages}
-use Rattle.rr_checkpoint.specs.Plan.Laying.{needed_pages}
-use Rattle.rr_checkpoint.specs.Plan.Planning.{IsOfLayout, HoldsTexts, world_of}
+use Rattle.rr_checkpoint.specs.Plan.Planning.{IsOfLayout, HoldsAll, HoldsTexts, world_of}
 use Rattle.rr_checkpoint.specs.Plan.Transcript.{tables_of}
 use Rattle.rr_checkpoint.specs.Plan.Writing.{OnlyTakes}
 use Rattle.rr_reading.specs.declared.worlds.rules.Worlds.{Worlds}
 use Rattle.rr_reading.specs.Worlds.Spelling.{worlds}
-use Rattle.rr_reading.specs.Worlds.World.{Table, World}
+use Rattle.rr_reading.specs.Worlds.World.{Snapshot, Table, World, WorldRules}
 
--- the tables that a base has, and where there is none
-pub base_has : (begun : Option ℕ) (base : Option Transcript) (tables : List Table) (transcript : Transcript) → IsBase begun base tables → base ≡ Some transcript → tables_of transcript ≡ tables
-base_has None base tables transcript none is = absurd (let never = sym none ∙ is in cc)
-base_has (Some first) base tables transcript some is =
+-- what a base has, and where there is none
+pub base_has : (rules : WorldRules) (begun : Option ℕ) (base : Option Transcript) (world : World) (transcript : Transcript) → IsBase rules begun base world → base ≡ Some transcript → AreLentOf rules world (lent_in transcript)
+base_has rules None base world transcript none is = absurd (let never = sym none ∙ is in cc)
+base_has rules (Some first) base world transcript some is =
     let joined = sym some.1 ∙ is in
     let same : some.0 ≡ transcript = cc in
-    ap (λ (s : Transcript). tables_of s) (sym same) ∙ some.2
+    subst (λ (s : Transcript). AreLentOf rules world (lent_in s)) same some.2
 
-pub no_base : (begun : Option ℕ) (base : Option Transcript) (tables : List Table) → IsBase begun base tables → base ≡ None → begun ≡ None
-no_base None base tables none is = refl
-no_base (Some first) base tables some is = absurd (let never = sym some.1 ∙ is in cc)
+pub no_base : (rules : WorldRules) (begun : Option ℕ) (base : Option Transcript) (world : World) → IsBase rules begun base world → base ≡ None → begun ≡ None
+no_base rules None base world none is = refl
+no_base rules (Some first) base world some is = absurd (let never = sym some.1 ∙ is in cc)
 
 -- a world of these texts and tables
 pub whole : (texts : TextChains) (world : World) (tables : List Table) → HasTexts texts world → tables ≡ world.tables → world ≡ world_of texts tables
@@ -81,10 +81,10 @@ pub held_in : (texts : TextChains) (old new : Holding) → new ≡ old → Holds
 held_in texts old new same held = subst (λ (h : Holding). HoldsTexts texts h) (sym same) held
 
 -- a log of the same disk and writer
-pub same_carries : {D R : Type 0} (takes : List ℕ → World → World → Type 0) (log : Log D R) (state : D → DiskState) (world : World) (disk : D) (new : Writer (Worlds R)) → disk ≡ log.disk → new ≡ log.writer
-    → Carries takes log (state log.disk) world → Carries takes (record { alloc = log.alloc; disk = disk; writer = new; kit = log.kit; base = log.base; broken = log.broken }) (state disk) world
-same_carries {D} {R} takes log state world disk new is same carries =
-    subst (λ (p : D × Writer (Worlds R)). Carries takes (record { alloc = log.alloc; disk = p.0; writer = p.1; kit = log.kit; base = log.base; broken = log.broken }) (state p.0) world)
+pub same_carries : {D R : Type 0} (rules : WorldRules) (log : Log D R) (state : D → DiskState) (world : World) (disk : D) (new : Writer (Worlds R)) → disk ≡ log.disk → new ≡ log.writer
+    → Carries rules log (state log.disk) world → Carries rules (record { alloc = log.alloc; disk = disk; writer = new; kit = log.kit; base = log.base; broken = log.broken }) (state disk) world
+same_carries {D} {R} rules log state world disk new is same carries =
+    subst (λ (p : D × Writer (Worlds R)). Carries rules (record { alloc = log.alloc; disk = p.0; writer = p.1; kit = log.kit; base = log.base; broken = log.broken }) (state p.0) world)
     (λ i. (sym is i, sym same i)) carries
 
 -- the world behind a record that was refused
@@ -129,10 +129,10 @@ renewed_line codec before now then line world is renewed =
     (line_renews codec before now line world before.far now.far (sym renewed.near) refl renewed.rests renewed.next renewed.base)
 
 -- a record that was refused leaves the layout
-pub renews_refused : {T : Type 0} (takes : List ℕ → World → World → Type 0) (result : Result T Fault) (fault : Fault) → result ≡ Err fault → (layout : Layout (worlds takes)) (line : List ℕ) (old new : World) (state : DiskState)
-    → EachImage state (TakesNewer (worlds takes) layout old) → EachImage state (TakesNewer (worlds takes) (layout_behind result layout line new) (world_behind result old new))
-renews_refused {T} takes result fault is layout line old new state renews =
-    subst (λ (r : Result T Fault). EachImage state (TakesNewer (worlds takes) (layout_behind r layout line new) (world_behind r old new))) (sym is) renews
+pub renews_refused : {T : Type 0} (rules : WorldRules) (result : Result T Fault) (fault : Fault) → result ≡ Err fault → (layout : Layout (worlds rules)) (line : List ℕ) (old new : World) (state : DiskState)
+    → EachImage state (TakesNewer (worlds rules) layout old) → EachImage state (TakesNewer (worlds rules) (layout_behind result layout line new) (world_behind result old new))
+renews_refused {T} rules result fault is layout line old new state renews =
+    subst (λ (r : Result T Fault). EachImage state (TakesNewer (worlds rules) (layout_behind r layout line new) (world_behind r old new))) (sym is) renews
 
 -- a checkpoint that was under way, or that was begun
 abbrev pub newer_under_way : (codec : Codec) (layout : Layout codec) (world : codec.World) (file : List ℕ) → TakesNewer codec layout world file → TakesNewer codec (as_begun layout) world file
@@ -188,9 +188,9 @@ same_disk {D} {R} old new same = ap (λ (log : Log D R). disk_of log) same
 pub same_count : {D R : Type 0} (calls : D → ℕ) (old new : Log D R) (most : ℕ) → new ≡ old → calls (disk_of old) ≤ most → calls (disk_of new) ≤ most
 same_count {D} {R} calls old new most same few = subst (λ (log : Log D R). calls (disk_of log) ≤ most) (sym same) few
 
-module _ {D R : Type 0} (takes : List ℕ → World → World → Type 0) (log : Log D R) (state : DiskState) (world : World) (carries : Carries takes log state world) where
+module _ {D R : Type 0} (rules : WorldRules) (log : Log D R) (state : DiskState) (world : World) (carries : Carries rules log state world) where
   abbrev codec : Codec
-  codec = worlds takes
+  codec = worlds rules
 
   abbrev layout : Layout codec
   layout = carries.carried.layout
@@ -232,33 +232,36 @@ module _ {D R : Type 0} (takes : List ℕ → World → World → Type 0) (log :
         nothing_far = newer.nothing_far;
       }
 
-  -- the tables from before the first record of the other half, as a transcript, are those that a checkpoint writes
-  abbrev pub of_layout : (transcript : Transcript) → tables_of transcript ≡ layout.middle.tables → IsOfLayout takes log.kit transcript layout
-  of_layout transcript same =
+  -- the tables and snapshots from before the first record of the other half, as a transcript, are those that a
+  -- checkpoint writes
+  abbrev pub of_layout : (transcript : Transcript) → AreLentOf rules layout.middle (lent_in transcript) → IsOfLayout rules log.kit transcript layout
+  of_layout transcript are =
       record {
         texts = texts;
         others = carries.kit.held.others;
         held = carries.kit.held.held;
         on_pages = carries.kit.on_pages;
-        world = whole texts layout.middle (tables_of transcript) carries.kit.of_middle same;
+        world = whole texts layout.middle (tables_of transcript) carries.kit.of_middle (sym are.tables);
+        shown = are.shown;
       }
 
   -- without a base it is the world itself
   middle_is : ticks_left log ≡ 0 → log.base ≡ None → layout.middle ≡ world
-  middle_is resting none = base_is_carried codec log.writer.file log.writer.checkpoint state world carries.carried (no_base (place_of log).begun log.base layout.middle.tables (carries.base resting) none)
+  middle_is resting none = base_is_carried codec log.writer.file log.writer.checkpoint state world carries.carried (no_base rules (place_of log).begun log.base layout.middle (carries.base resting) none)
 
-  pub lent_are : ticks_left log ≡ 0 → log.base ≡ None → (tables : List Table) → world.tables ≡ tables → (transcript : Transcript) → tables_of transcript ≡ tables → tables_of transcript ≡ layout.middle.tables
-  lent_are resting none tables lent transcript has = has ∙ (sym lent ∙ ap (λ (w : World). w.tables) (sym (middle_is resting none)))
+  pub lent_are : ticks_left log ≡ 0 → log.base ≡ None → (lent : Lent) → AreLentOf rules world lent → (transcript : Transcript) → lent_in transcript ≡ lent → AreLentOf rules layout.middle (lent_in transcript)
+  lent_are resting none lent are transcript has =
+      subst (λ (l : Lent). AreLentOf rules layout.middle l) (sym has) (subst (λ (w : World). AreLentOf rules w lent) (sym (middle_is resting none)) are)
 
-  pub base_are : ticks_left log ≡ 0 → (base : Transcript) → log.base ≡ Some base → tables_of base ≡ layout.middle.tables
-  base_are resting base is = base_has (place_of log).begun log.base layout.middle.tables base (carries.base resting) is
+  pub base_are : ticks_left log ≡ 0 → (base : Transcript) → log.base ≡ Some base → AreLentOf rules layout.middle (lent_in base)
+  base_are resting base is = base_has rules (place_of log).begun log.base layout.middle base (carries.base resting) is
 
   -- pages taken for a coming root, or given back
   module _ (resting : ticks_left log ≡ 0) (new : Writer (Worlds R)) (only : OnlyTakes codec log.writer new) where
     abbrev then : (carried : file.Carries codec new state world) × (carried.layout ≡ layout)
     then = only.carries state world carries.carried
 
-    abbrev pub taken_carries : Carries takes (record { alloc = log.alloc; disk = log.disk; writer = new; kit = log.kit; base = log.base; broken = log.broken }) state world
+    abbrev pub taken_carries : Carries rules (record { alloc = log.alloc; disk = log.disk; writer = new; kit = log.kit; base = log.base; broken = log.broken }) state world
     taken_carries =
         record {
           carried = then.0;
@@ -272,21 +275,29 @@ module _ {D R : Type 0} (takes : List ℕ → World → World → Type 0) (log :
           coming = λ some. absurd (omega (arith, some, only.resting));
           no_base = λ some. absurd (omega (arith, some, only.resting));
           base = λ none.
-              subst (λ (place : Place). IsBase place.begun log.base then.0.layout.middle.tables) (sym only.place)
-              (subst (λ (l : Layout codec). IsBase (place_of log).begun log.base l.middle.tables) (sym then.1) (carries.base resting));
+              subst (λ (place : Place). IsBase rules place.begun log.base then.0.layout.middle) (sym only.place)
+              (subst (λ (l : Layout codec). IsBase rules (place_of log).begun log.base l.middle) (sym then.1) (carries.base resting));
         }
 
-    pub planned : (plan : Plan) → (may : MayBegin codec layout (file.free_of new) plan) × HoldsTexts texts may.holding
-        → IsPlanned takes (record { alloc = log.alloc; disk = log.disk; writer = new; kit = log.kit; base = log.base; broken = log.broken }) plan state world layout
-    planned plan may =
-        let moved = subst (λ (l : Layout codec). (m : MayBegin codec l (file.free_of new) plan) × HoldsTexts texts m.holding) (sym then.1) may in
-        record { carries = taken_carries; same = then.1; may = moved.0; texts = moved.1 }
+    pub planned : (plan : Plan) (base : Option Transcript) (lent : Lent) (snapshots : List Snapshot) → log.base ≡ base → (tables_due base lent).snapshots ≡ snapshots
+        → (may : MayBegin codec layout (file.free_of new) plan) × HoldsTexts texts may.holding × HoldsAll texts layout.middle snapshots may.holding
+        → IsPlanned rules (record { alloc = log.alloc; disk = log.disk; writer = new; kit = log.kit; base = log.base; broken = log.broken }) plan state world layout (tables_due log.base lent).snapshots
+    planned plan base lent snapshots is due may =
+        let moved = subst (λ (l : Layout codec). (m : MayBegin codec l (file.free_of new) plan) × HoldsTexts texts m.holding × HoldsAll texts layout.middle snapshots m.holding) (sym then.1) may in
+        let same : snapshots ≡ (tables_due log.base lent).snapshots = sym (ap (λ (b : Option Transcript). (tables_due b lent).snapshots) is ∙ due) in
+        record {
+          carries = taken_carries;
+          same = then.1;
+          may = moved.0;
+          texts = moved.1;
+          all = record { texts = texts; all = subst (λ (s : List Snapshot). HoldsAll texts layout.middle s moved.0.holding) same moved.2 };
+        }
 
   module _ (disk : D) (new : Writer (Worlds R)) (after : DiskState) where
     -- the first tick of a checkpoint, whose coming root holds the texts
     abbrev pub begun_carries : (holding : Holding) → HoldsTexts texts holding → 0 < file.ticks_left_of new
         → (then : file.Carries codec new after world) × HoldsAsBegun layout holding then.layout then.holding
-        → Carries takes (record { alloc = log.alloc; disk = disk; writer = new; kit = log.kit; base = None; broken = log.broken }) after world
+        → Carries rules (record { alloc = log.alloc; disk = disk; writer = new; kit = log.kit; base = None; broken = log.broken }) after world
     begun_carries holding holds some then =
         record {
           carried = then.0;
@@ -305,7 +316,7 @@ module _ {D R : Type 0} (takes : List ℕ → World → World → Type 0) (log :
     -- a later one that isn't the last
     more_carries : 0 < ticks_left log → 0 < file.ticks_left_of new
         → (then : file.Carries codec new after world) × HoldsOn layout carries.carried.holding then.layout then.holding
-        → Carries takes (record { alloc = log.alloc; disk = disk; writer = new; kit = log.kit; base = log.base; broken = log.broken }) after world
+        → Carries rules (record { alloc = log.alloc; disk = disk; writer = new; kit = log.kit; base = log.base; broken = log.broken }) after world
     more_carries some left then =
         record {
           carried = then.0;
@@ -324,7 +335,7 @@ module _ {D R : Type 0} (takes : List ℕ → World → World → Type 0) (log :
     -- the last one: nothing stands in the other half, and the base of a root to come is the world
     abbrev pub done_carries : 0 < ticks_left log → file.ticks_left_of new ≡ 0 → (file.place_of new).begun ≡ None
         → (then : file.Carries codec new after world) × (then.layout.holding ≡ carries.carried.holding)
-        → Carries takes (record { alloc = log.alloc; disk = disk; writer = new; kit = log.kit; base = log.base; broken = log.broken }) after world
+        → Carries rules (record { alloc = log.alloc; disk = disk; writer = new; kit = log.kit; base = log.base; broken = log.broken }) after world
     done_carries some none rests then =
         let middle = base_is_carried codec new.file new.checkpoint after world then.0 rests in
         record {
@@ -337,13 +348,13 @@ module _ {D R : Type 0} (takes : List ℕ → World → World → Type 0) (log :
             of_middle = texts_in texts world then.0.layout.middle middle carries.kit.of_world;
           };
           coming = λ left. absurd (omega (arith, left, none));
-          base = λ resting. subst (λ (begun : Option ℕ). IsBase begun log.base then.0.layout.middle.tables) (sym rests) (carries.no_base some);
+          base = λ resting. subst (λ (begun : Option ℕ). IsBase rules begun log.base then.0.layout.middle) (sym rests) (carries.no_base some);
           no_base = λ left. absurd (omega (arith, left, none));
         }
 
     pub ticked_carries : (tick : Tick) → 0 < ticks_left log → Lowers tick (ticks_left log) (file.ticks_left_of new) → RestsAt tick (file.place_of new).begun
         → (then : file.Carries codec new after world) × HoldsAt tick layout carries.carried.holding then.layout then.holding
-        → Carries takes (record { alloc = log.alloc; disk = disk; writer = new; kit = log.kit; base = log.base; broken = log.broken }) after world
+        → Carries rules (record { alloc = log.alloc; disk = disk; writer = new; kit = log.kit; base = log.base; broken = log.broken }) after world
     ticked_carries Idle some lowers rests then = absurd (omega (arith, some, lowers.0))
     ticked_carries More some lowers rests then = more_carries some lowers.1 then
     ticked_carries Done some lowers rests then = done_carries some lowers.1 rests (then.0, then.1.present)
@@ -359,7 +370,7 @@ module _ {D R : Type 0} (takes : List ℕ → World → World → Type 0) (log :
 
     pub last_carries : (tick : Tick) → ticks_left log ≡ 1 → Lowers tick (ticks_left log) (file.ticks_left_of new) → RestsAt tick (file.place_of new).begun
         → (then : file.Carries codec new after world) × HoldsAt tick layout carries.carried.holding then.layout then.holding
-        → (then : Carries takes (record { alloc = log.alloc; disk = disk; writer = new; kit = log.kit; base = log.base; broken = log.broken }) after world) × IsRenewed layout then.carried.layout
+        → (then : Carries rules (record { alloc = log.alloc; disk = disk; writer = new; kit = log.kit; base = log.base; broken = log.broken }) after world) × IsRenewed layout then.carried.layout
     last_carries Idle one lowers rests then = absurd (omega (arith, one, lowers.0))
     last_carries More one lowers rests then = absurd (omega (arith, one, lowers.0, lowers.1))
     last_carries Done one lowers rests then = (done_carries (omega (arith, one)) lowers.1 rests (then.0, then.1.present), then.1.renewed)
@@ -374,14 +385,14 @@ module _ {D R : Type 0} (takes : List ℕ → World → World → Type 0) (log :
           let begun : IsBegunAt (Some first) (layout.root.first + length layout.near) layout.far = subst (λ (b : Option ℕ). IsBegunAt b (layout.root.first + length layout.near) layout.far) before carries.carried.tells.begun in
           texts_in texts layout.middle then.0.layout.middle (then.1.middle begun.0) carries.kit.of_middle
 
-      pub base_behind : (begun : Option ℕ) → (place_of log).begun ≡ begun → IsBase begun log.base layout.middle.tables → IsBase begun log.base then.0.layout.middle.tables
+      pub base_behind : (begun : Option ℕ) → (place_of log).begun ≡ begun → IsBase rules begun log.base layout.middle → IsBase rules begun log.base then.0.layout.middle
       base_behind None before is = is
       base_behind (Some first) before is =
           let begun : IsBegunAt (Some first) (layout.root.first + length layout.near) layout.far = subst (λ (b : Option ℕ). IsBegunAt b (layout.root.first + length layout.near) layout.far) before carries.carried.tells.begun in
-          (is.0, is.1, is.2 ∙ ap (λ (w : World). w.tables) (sym (then.1.middle begun.0)))
+          (is.0, is.1, subst (λ (w : World). AreLentOf rules w (lent_in is.0)) (sym (then.1.middle begun.0)) is.2)
 
       abbrev pub kept_carries : (file.place_of new).begun ≡ (place_of log).begun
-          → Carries takes (record { alloc = log.alloc; disk = disk; writer = new; kit = log.kit; base = log.base; broken = log.broken }) after next
+          → Carries rules (record { alloc = log.alloc; disk = disk; writer = new; kit = log.kit; base = log.base; broken = log.broken }) after next
       kept_carries begun =
           record {
             carried = then.0;
@@ -394,14 +405,14 @@ module _ {D R : Type 0} (takes : List ℕ → World → World → Type 0) (log :
             };
             coming = λ some. held_in texts carries.carried.holding then.0.holding then.1.coming (carries.coming (omega (arith, some, left)));
             base = λ resting.
-                subst (λ (b : Option ℕ). IsBase b log.base then.0.layout.middle.tables) (sym begun) (base_behind (place_of log).begun refl (carries.base (omega (arith, resting, left))));
+                subst (λ (b : Option ℕ). IsBase rules b log.base then.0.layout.middle) (sym begun) (base_behind (place_of log).begun refl (carries.base (omega (arith, resting, left))));
             no_base = λ some. carries.no_base (omega (arith, some, left));
           }
 
 -- the number of a root that renews another comes next
-pub root_next : {D R : Type 0} (takes : List ℕ → World → World → Type 0) (old new : Log D R) (before after : DiskState) (world : World) (carries : Carries takes old before world) (then : Carries takes new after world)
+pub root_next : {D R : Type 0} (rules : WorldRules) (old new : Log D R) (before after : DiskState) (world : World) (carries : Carries rules old before world) (then : Carries rules new after world)
     → IsRenewed carries.carried.layout then.carried.layout → root_number new ≡ root_number old + 1
-root_next takes old new before after world carries then renewed =
+root_next rules old new before after world carries then renewed =
     ap (λ (root : Root). root.number) (sym then.carried.tells.root) ∙ (renewed.next ∙ ap (λ (root : Root). root.number + 1) carries.carried.tells.root)
 
 -- what the first tick of a checkpoint leaves
@@ -433,13 +444,13 @@ none_reached : NoneReached no_pages
 unfolding no_pages
 none_reached = record { empty = all_false 65536; whole = length-replicate {A = Bool} 65536 false }
 
-pub never_full : {D R : Type 0} (log : Log D R) (tables due : List Table) → tables_due log.base tables ≡ due → (IsPastLast (next_number log) ⊎ IsPastLast (root_number log + 1) → ⊥)
-    → ((none : List Bool) → NoneReached none → TooFewFree (present_of (file.free_of log.writer)) (all_marked none (text_pages log.kit)) (needed_pages due) → ⊥) → IsFileFull log tables → ⊥
-never_full log tables due is low fits (inl past) = low (inl past)
-never_full log tables due is low fits (inr (inl past)) = low (inr past)
-never_full log tables due is low fits (inr (inr few)) =
+pub never_full : {D R : Type 0} (log : Log D R) (lent due : Lent) → tables_due log.base lent ≡ due → (IsPastLast (next_number log) ⊎ IsPastLast (root_number log + 1) → ⊥)
+    → ((none : List Bool) → NoneReached none → TooFewFree (present_of (file.free_of log.writer)) (all_marked none (text_pages log.kit)) (pages_of due) → ⊥) → IsFileFull log lent → ⊥
+never_full log lent due is low fits (inl past) = low (inl past)
+never_full log lent due is low fits (inr (inl past)) = low (inr past)
+never_full log lent due is low fits (inr (inr few)) =
     fits no_pages none_reached
-    (subst (λ (ts : List Table). TooFewFree (present_of (file.free_of log.writer)) (all_marked no_pages (text_pages log.kit)) (needed_pages ts)) is (few no_pages none_reached))
+    (subst (λ (l : Lent). TooFewFree (present_of (file.free_of log.writer)) (all_marked no_pages (text_pages log.kit)) (pages_of l)) is (few no_pages none_reached))
 
 -- where the device failed more is so
 pub device_more : {T P Q : Type 0} (result : Result T Fault) → (P → Q) → OnDeviceFault result P → OnDeviceFault result Q
@@ -471,5 +482,5 @@ is_put_off fault full told (inl same) is other = same
 is_put_off fault full told (inr failed) is other = absurd (other (sym is ∙ failed))
 
 -- and a full file that was put off is full behind the record that has no room
-pub full_on : {D R : Type 0} (old new : Log D R) (tables : List Table) (count : ℕ) → new ≡ old → HasNoRoom (place_of old) count → (ticks_left old ≡ 0) × IsFileFull old tables → MeetsFullFile new tables count
-full_on {D} {R} old new tables count same none full = subst (λ (log : Log D R). MeetsFullFile log tables count) (sym same) (inr (none, full.0, full.1))
+pub full_on : {D R : Type 0} (old new : Log D R) (lent : Lent) (count : ℕ) → new ≡ old → HasNoRoom (place_of old) count → (ticks_left old ≡ 0) × IsFileFull old lent → MeetsFullFile new lent count
+full_on {D} {R} old new lent count same none full = subst (λ (log : Log D R). MeetsFullFile log lent count) (sym same) (inr (none, full.0, full.1))

@@ -1,5 +1,5 @@
 -- What the calls on a log do, and when they are refused.
-use Rattle.std.specs.Prelude.{◌≡◌, ◌⊎◌, ℕ, ◌+◌, ◌<◌, ◌≤◌, Bool, List, [], Option, None, Some, Result, Ok, Err}
+use Rattle.std.specs.Prelude.{◌≡◌, ◌⊎◌, ℕ, ◌+◌, ◌<◌, Bool, List, [], Option, None, Some, Result, Ok, Err}
 use Rattle.rr_checkpoint.specs.declared.place.Place.{Place}
 use Rattle.rr_checkpoint.specs.declared.writer.Tick.{Tick}
 use Rattle.rr_checkpoint.specs.declared.writer.Tick.TheVariants.{Idle, More, Done}
@@ -17,9 +17,8 @@ use Rattle.rr_reading.specs.Reading.{NoneReached}
 use Rattle.rr_checkpoint.specs.declared.plan.transcript.Transcript.{Transcript}
 use Rattle.rr_checkpoint.specs.Plan.Kit.{text_pages}
 use Rattle.rr_checkpoint.specs.Checkpoint.{left_behind_first}
-use Rattle.rr_checkpoint.specs.Plan.Laying.{needed_pages}
-use Rattle.rr_checkpoint.specs.Plan.Transcript.{tables_of}
-use Rattle.rr_reading.specs.Worlds.World.{Table, World}
+use Rattle.rr_log.specs.Lent.{Lent, lent_in, pages_of}
+use Rattle.rr_reading.specs.Worlds.World.{World}
 
 -- the world behind a record whose keeping ended so
 abbrev pub world_behind : {T : Type 0} → Result T Fault → World → World → World
@@ -82,37 +81,37 @@ NumbersRoot Idle old new = new ≡ old
 NumbersRoot More old new = new ≡ old
 NumbersRoot Done old new = new ≡ old + 1
 
--- the tables that a checkpoint begun now writes: those from before the first record of the other half, or those that
--- are lent
-abbrev pub tables_due : Option Transcript → List Table → List Table
-tables_due None tables = tables
-tables_due (Some base) tables = tables_of base
+-- the tables and snapshots that a checkpoint begun now writes: those from before the first record of the other half, or
+-- those that are lent
+abbrev pub tables_due : Option Transcript → Lent → Lent
+tables_due None lent = lent
+tables_due (Some base) lent = lent_in base
 
 -- how many ticks the first one leaves of a checkpoint that is begun now: one for each page that it lays, and three
 -- more, or one fewer where an opening found it begun
-abbrev pub first_left : {D R : Type 0} → Log D R → List Table → ℕ
-first_left log tables = left_behind_first (place_of log).begun (needed_pages (tables_due log.base tables))
+abbrev pub first_left : {D R : Type 0} → Log D R → Lent → ℕ
+first_left log lent = left_behind_first (place_of log).begun (pages_of (tables_due log.base lent))
 
 -- how many ticks it has, its first one included
-abbrev pub ticks_due : {D R : Type 0} → Log D R → List Table → ℕ
-ticks_due log tables = first_left log tables + 1
+abbrev pub ticks_due : {D R : Type 0} → Log D R → Lent → ℕ
+ticks_due log lent = first_left log lent + 1
 
--- beside those of the texts fewer pages are free than the chains and the directory of these tables take
-abbrev pub HasTooFewFree : {D R : Type 0} → Log D R → List Table → Type 0
-HasTooFewFree log tables =
+-- beside those of the texts fewer pages are free than the chains and the directory of these tables and snapshots take
+abbrev pub HasTooFewFree : {D R : Type 0} → Log D R → Lent → Type 0
+HasTooFewFree log lent =
     (none : List Bool) → NoneReached none
-    → TooFewFree (present_of (file.free_of log.writer)) (all_marked none (text_pages log.kit)) (needed_pages tables)
+    → TooFewFree (present_of (file.free_of log.writer)) (all_marked none (text_pages log.kit)) (pages_of lent)
 
 -- a checkpoint finds too few pages, or the next record's number or its root's would be past the last
-abbrev pub IsFileFull : {D R : Type 0} → Log D R → List Table → Type 0
-IsFileFull log tables =
-    IsPastLast (next_number log) ⊎ IsPastLast (root_number log + 1) ⊎ HasTooFewFree log (tables_due log.base tables)
+abbrev pub IsFileFull : {D R : Type 0} → Log D R → Lent → Type 0
+IsFileFull log lent =
+    IsPastLast (next_number log) ⊎ IsPastLast (root_number log + 1) ⊎ HasTooFewFree log (tables_due log.base lent)
 
 -- The next record's number would be past the last. Or the half in use has no room for a record of so many bytes, and a
 -- checkpoint, which would make room, finds too few free pages or no number for its root.
-abbrev pub MeetsFullFile : {D R : Type 0} → Log D R → List Table → ℕ → Type 0
-MeetsFullFile log tables count =
-    IsPastLast (next_number log) ⊎ (HasNoRoom (place_of log) count × (ticks_left log ≡ 0) × IsFileFull log tables)
+abbrev pub MeetsFullFile : {D R : Type 0} → Log D R → Lent → ℕ → Type 0
+MeetsFullFile log lent count =
+    IsPastLast (next_number log) ⊎ (HasNoRoom (place_of log) count × (ticks_left log ≡ 0) × IsFileFull log lent)
 
 -- Why a record of so many bytes isn't kept: there is no room for it where it would go, and if a tick was put off for
 -- want of pages or memory, that is told. Or its number would be past the last.

@@ -4,6 +4,7 @@ use Rattle.rr_checkpoint.specs.declared.checkpoint.Plan.{Plan}
 use Rattle.rr_checkpoint.specs.Planning.{MayBegin}
 use Rattle.rr_checkpoint.specs.Writer as file
 use Rattle.rr_disk.specs.Disk.{DiskState}
+use Rattle.rr_images.specs.Holding.{Holding}
 use Rattle.rr_images.specs.Layout.{Layout}
 use Rattle.rr_log.specs.declared.log.Log.{Log}
 use Rattle.rr_log.specs.Log.{place_of, ticks_left}
@@ -11,10 +12,10 @@ use Rattle.rr_reading.specs.Held.{TextChains}
 use Rattle.rr_checkpoint.specs.declared.plan.kit.KitPages.{KitPages}
 use Rattle.rr_checkpoint.specs.declared.plan.transcript.Transcript.{Transcript}
 use Rattle.rr_checkpoint.specs.Plan.Kit.{AreTextChains}
-use Rattle.rr_checkpoint.specs.Plan.Planning.{HoldsTexts}
-use Rattle.rr_checkpoint.specs.Plan.Transcript.{tables_of}
+use Rattle.rr_checkpoint.specs.Plan.Planning.{HoldsAll, HoldsTexts}
+use Rattle.rr_log.specs.Lent.{AreLentOf, lent_in}
 use Rattle.rr_reading.specs.Worlds.Spelling.{worlds}
-use Rattle.rr_reading.specs.Worlds.World.{Table, World}
+use Rattle.rr_reading.specs.Worlds.World.{Snapshot, World, WorldRules}
 
 -- the texts of a world are those of these chains
 pub record HasTexts (texts : TextChains) (world : World) : Type 0 where
@@ -32,7 +33,7 @@ pub record HaveSameTexts (old new : World) : Type 0 where
 
 -- The root of a layout holds the texts of a kit on these pages, and they are the texts of the world, and of the world
 -- before the first record of the other half.
-pub record HoldsKit {takes : List ℕ → World → World → Type 0} (kit : KitPages) (layout : Layout (worlds takes))
+pub record HoldsKit {rules : WorldRules} (kit : KitPages) (layout : Layout (worlds rules))
     (world : World) : Type 0 where
   pub texts : TextChains
   pub held : HoldsTexts texts layout.holding
@@ -40,26 +41,34 @@ pub record HoldsKit {takes : List ℕ → World → World → Type 0} (kit : Kit
   pub of_world : HasTexts texts world
   pub of_middle : HasTexts texts layout.middle
 
--- Where an opening found a checkpoint begun, with its first record in the other half of this number, the tables from
--- before that record are kept; else none are.
-abbrev pub IsBase : Option ℕ → Option Transcript → List Table → Type 0
-IsBase None base tables = base ≡ None
-IsBase (Some first) base tables = (transcript : Transcript) × (base ≡ Some transcript) × (tables_of transcript ≡ tables)
+-- Where an opening found a checkpoint begun, with its first record in the other half of this number, the tables of the
+-- world from before that record are kept, with snapshots of their games there; else none are.
+abbrev pub IsBase : WorldRules → Option ℕ → Option Transcript → World → Type 0
+IsBase rules None base world = base ≡ None
+IsBase rules (Some first) base world =
+    (transcript : Transcript) × (base ≡ Some transcript) × AreLentOf rules world (lent_in transcript)
 
 -- What a log knows carries this world: what writes to its file carries it, the kit's texts are where it says, also in
 -- the root that a checkpoint under way writes, and the tables that such a checkpoint will need are there.
-pub record Carries {D R : Type 0} (takes : List ℕ → World → World → Type 0) (log : Log D R) (state : DiskState)
+pub record Carries {D R : Type 0} (rules : WorldRules) (log : Log D R) (state : DiskState)
     (world : World) : Type 0 where
-  pub carried : file.Carries (worlds takes) log.writer state world
+  pub carried : file.Carries (worlds rules) log.writer state world
   pub kit : HoldsKit log.kit carried.layout world
   pub coming : 0 < ticks_left log → HoldsTexts kit.texts carried.holding
-  pub base : ticks_left log ≡ 0 → IsBase (place_of log).begun log.base carried.layout.middle.tables
+  pub base : ticks_left log ≡ 0 → IsBase rules (place_of log).begun log.base carried.layout.middle
   pub no_base : 0 < ticks_left log → log.base ≡ None
 
--- the plan of a checkpoint is one for the file of this log, of this layout, and keeps the texts where they stand
-pub record IsPlanned {D R : Type 0} (takes : List ℕ → World → World → Type 0) (log : Log D R) (plan : Plan)
-    (state : DiskState) (world : World) (layout : Layout (worlds takes)) : Type 0 where
-  pub carries : Carries takes log state world
+-- a root holds what is written of a world and of these snapshots
+pub record HoldsWorld (world : World) (snapshots : List Snapshot) (holding : Holding) : Type 0 where
+  pub texts : TextChains
+  pub all : HoldsAll texts world snapshots holding
+
+-- The plan of a checkpoint is one for the file of this log, of this layout. It keeps the texts where they stand, and the
+-- coming root holds the world before the first record of the other half, and these snapshots.
+pub record IsPlanned {D R : Type 0} (rules : WorldRules) (log : Log D R) (plan : Plan)
+    (state : DiskState) (world : World) (layout : Layout (worlds rules)) (snapshots : List Snapshot) : Type 0 where
+  pub carries : Carries rules log state world
   pub same : carries.carried.layout ≡ layout
-  pub may : MayBegin (worlds takes) carries.carried.layout (file.free_of log.writer) plan
+  pub may : MayBegin (worlds rules) carries.carried.layout (file.free_of log.writer) plan
   pub texts : HoldsTexts carries.kit.texts may.holding
+  pub all : HoldsWorld layout.middle snapshots may.holding

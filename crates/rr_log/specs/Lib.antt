@@ -1,5 +1,6 @@
 pub mod Fault
 pub mod Log
+pub mod Lent
 pub mod Carrying
 pub mod Calls
 pub mod Opening

@@ -6,6 +6,7 @@ ghost use Rattle.rr_disk.specs.Moments.{EachImage};
 ghost use Rattle.rr_images.specs.Calls.{TakesNewer};
 ghost use Rattle.rr_images.specs.Steps.{with_line};
 ghost use Rattle.rr_log.specs.Fault.{CountsFault, IsWant, OnDeviceFault, ends_broken};
+ghost use Rattle.rr_log.specs.Lent.{AreLentOf, lent_of};
 ghost use Rattle.rr_reading.specs.Worlds.Spelling.{worlds};
 ghost use Rattle.rr_reading.specs.Worlds.World.{World};
 
@@ -20,7 +21,8 @@ impl<D: Disk + Drop, R: Rules> Log<D, R> {
     ghost use Rattle.rr_log.specs.Log.{disk_of, is_broken, next_number, place_of, ticks_left, HasNoRoom, IsDue, IsTooLong};
 
     /// Keeps a record. After `Ok` it is safe. Before it a tick is made, where a checkpoint is under way or is to begin;
-    /// the tables are those of the world before the record. A line has a byte at least.
+    /// the tables are those of the world before the record, and the snapshots show games there. A line has a byte at
+    /// least.
     ///
     /// # Errors
     /// `OpenAgain`, with nothing changed; `DeviceFailed`, after which the record is on the disk or not, and the log is
@@ -32,34 +34,34 @@ impl<D: Disk + Drop, R: Rules> Log<D, R> {
 
         // Whatever a stop leaves at any moment keeps the world from before the record, or the one behind it, and the
         // log carries on the one that the answer tells.
-        ensures stops { D.Honest (disk_of self.new) → (old new : World) → R.takes line.now old new
-            → HaveSameTexts old new → old.tables ≡ T.tables tables.now
-            → Carries R.takes self.old (D.state (disk_of self.old)) old
-            → LeavesEither (worlds R.takes) (D.past (disk_of self.old)) (D.state (disk_of self.old))
+        ensures stops { D.Honest (disk_of self.new) → (old new : World) → R.rules.takes line.now old new
+            → HaveSameTexts old new → AreLentOf R.rules old (lent_of T.TablesInWords tables.now)
+            → Carries R.rules self.old (D.state (disk_of self.old)) old
+            → LeavesEither (worlds R.rules) (D.past (disk_of self.old)) (D.state (disk_of self.old))
             (D.past (disk_of self.new)) (D.state (disk_of self.new)) old new }
         ensures carries { D.Honest (disk_of self.new) → is_broken self.new ≡ false → (old new : World)
-            → R.takes line.now old new → HaveSameTexts old new → old.tables ≡ T.tables tables.now
-            → Carries R.takes self.old (D.state (disk_of self.old)) old
-            → Carries R.takes self.new (D.state (disk_of self.new)) (world_behind result old new) }
+            → R.rules.takes line.now old new → HaveSameTexts old new → AreLentOf R.rules old (lent_of T.TablesInWords tables.now)
+            → Carries R.rules self.old (D.state (disk_of self.old)) old
+            → Carries R.rules self.new (D.state (disk_of self.new)) (world_behind result old new) }
         ensures number { NumberBehind result (next_number self.old) (next_number self.new) }
 
         // How far a checkpoint comes. Where the tick was its last, each file that a stop may leave takes a newer root:
         // its chains spell the world as the checkpoint began, and only the records since then stand behind it, this one
         // too if it is kept.
         ensures renews { is_broken self.new ≡ false → ticks_left self.old ≡ 1 → ticks_left self.new ≡ 0
-            → D.Honest (disk_of self.new) → (old new : World) → R.takes line.now old new → HaveSameTexts old new
-            → (carries : Carries R.takes self.old (D.state (disk_of self.old)) old)
-            → EachImage (D.state (disk_of self.new)) (TakesNewer (worlds R.takes)
+            → D.Honest (disk_of self.new) → (old new : World) → R.rules.takes line.now old new → HaveSameTexts old new
+            → (carries : Carries R.rules self.old (D.state (disk_of self.old)) old)
+            → EachImage (D.state (disk_of self.new)) (TakesNewer (worlds R.rules)
             (layout_behind result carries.carried.layout line.now new) (world_behind result old new)) }
         ensures most { is_broken self.new ≡ false → ticks_left self.old ≡ 0
-            → ticks_left self.new < ticks_due self.old (T.tables tables.now) }
+            → ticks_left self.new < ticks_due self.old (lent_of T.TablesInWords tables.now) }
         ensures left { is_broken self.new ≡ false → next_number self.old + 1 < 2 ^ 63 → 0 < ticks_left self.old
             → ticks_left self.old ≡ ticks_left self.new + 1 }
         ensures comes { IsErrOf result Fault.HalfFull → 0 < ticks_left self.old
             → ticks_left self.old ≡ ticks_left self.new + 1 }
         ensures rests { ticks_left self.old ≡ 0 → (IsDue (place_of self.old) → ⊥) → ticks_left self.new ≡ 0 }
         ensures begins { is_broken self.new ≡ false → ticks_left self.old ≡ 0
-            → (ticks_left self.new ≡ 0) ⊎ (ticks_left self.new ≡ first_left self.old (T.tables tables.now)) }
+            → (ticks_left self.new ≡ 0) ⊎ (ticks_left self.new ≡ first_left self.old (lent_of T.TablesInWords tables.now)) }
         ensures resting { IsErrOf result Fault.HalfFull → ticks_left self.new ≡ 0 → (place_of self.new).begun ≡ None }
         ensures nothing { IfErr result (λ fault. is_broken self.new ≡ false → ticks_left self.old ≡ 0
             → ticks_left self.new ≡ 0 → disk_of self.new ≡ disk_of self.old) }
@@ -73,13 +75,13 @@ impl<D: Disk + Drop, R: Rules> Log<D, R> {
         ensures refused { IfErr result (MayRefuse (place_of self.new) (length line.now)) }
         ensures full { IsErrOf result Fault.HalfFull → HasNoRoom (place_of self.old) (length line.now) }
         ensures full_file { IsErrOf result Fault.FileFull
-            → MeetsFullFile self.new (T.tables tables.now) (length line.now) }
+            → MeetsFullFile self.new (lent_of T.TablesInWords tables.now) (length line.now) }
         ensures long { IsErrOf result Fault.HalfFull → ticks_left self.old ≡ 0 → (place_of self.old).begun ≡ None
             → IsTooLong (length line.now) }
         ensures memory { IsErrOf result Fault.OutOfMemory → (ticks_left self.old ≡ 0) × IsDue (place_of self.old) }
         ensures fault { CountsFault (D.fault_count (disk_of self.old)) (D.fault_count (disk_of self.new)) result }
         ensures device { OnDeviceFault result (D.Honest (disk_of self.new) → (world : World)
-            → Carries R.takes self.old (D.state (disk_of self.old)) world → D.Works (disk_of self.new) → ⊥) }
+            → Carries R.rules self.old (D.state (disk_of self.old)) world → D.Works (disk_of self.new) → ⊥) }
 
         // Two of each are the record's, and one the tick's, where it is one of a checkpoint. Where the half is full
         // only the tick's are made.
@@ -111,15 +113,15 @@ impl<D: Disk + Drop, R: Rules> Log<D, R> {
     fn tick_before<T: TablesInWords>(&mut self, tables: &T) -> Result<Fault, Fault>
         requires { is_broken self.old ≡ false }
         ensures stops { D.Honest (disk_of self.new) → (world : World)
-            → Carries R.takes self.old (D.state (disk_of self.old)) world
-            → LeavesKept (worlds R.takes) (D.past (disk_of self.old)) (D.state (disk_of self.old))
+            → Carries R.rules self.old (D.state (disk_of self.old)) world
+            → LeavesKept (worlds R.rules) (D.past (disk_of self.old)) (D.state (disk_of self.old))
             (D.past (disk_of self.new)) (D.state (disk_of self.new)) world }
         ensures carries { D.Honest (disk_of self.new) → is_broken self.new ≡ false → (world : World)
-            → world.tables ≡ T.tables tables.now → Carries R.takes self.old (D.state (disk_of self.old)) world
-            → Carries R.takes self.new (D.state (disk_of self.new)) world }
+            → AreLentOf R.rules world (lent_of T.TablesInWords tables.now) → Carries R.rules self.old (D.state (disk_of self.old)) world
+            → Carries R.rules self.new (D.state (disk_of self.new)) world }
         ensures renewed { is_broken self.new ≡ false → ticks_left self.old ≡ 1 → D.Honest (disk_of self.new)
-            → (world : World) → (carries : Carries R.takes self.old (D.state (disk_of self.old)) world)
-            → (then : Carries R.takes self.new (D.state (disk_of self.new)) world)
+            → (world : World) → (carries : Carries R.rules self.old (D.state (disk_of self.old)) world)
+            → (then : Carries R.rules self.new (D.state (disk_of self.new)) world)
             × IsRenewed carries.carried.layout then.carried.layout }
         ensures full { IfOk result (λ full. IsWant full ⊎ (full ≡ Fault.HalfFull)) }
         ensures want { IfOk result (λ full. IsWant full → (ticks_left self.old ≡ 0) × IsDue (place_of self.old)) }
@@ -128,11 +130,11 @@ impl<D: Disk + Drop, R: Rules> Log<D, R> {
             → ticks_left self.old ≡ ticks_left self.new + 1 }
         ensures idle { ticks_left self.old ≡ 0 → (IsDue (place_of self.old) → ⊥) → self.new ≡ self.old }
         ensures begins { is_broken self.new ≡ false → ticks_left self.old ≡ 0
-            → (ticks_left self.new ≡ 0) ⊎ (ticks_left self.new ≡ first_left self.old (T.tables tables.now)) }
+            → (ticks_left self.new ≡ 0) ⊎ (ticks_left self.new ≡ first_left self.old (lent_of T.TablesInWords tables.now)) }
         ensures nothing { is_broken self.new ≡ false → ticks_left self.old ≡ 0 → ticks_left self.new ≡ 0
             → disk_of self.new ≡ disk_of self.old }
         ensures most { is_broken self.new ≡ false → ticks_left self.old ≡ 0
-            → ticks_left self.new < ticks_due self.old (T.tables tables.now) }
+            → ticks_left self.new < ticks_due self.old (lent_of T.TablesInWords tables.now) }
         ensures few { IfOk result (λ full. full ≡ Fault.HalfFull → ticks_left self.old ≡ 0
             → (place_of self.old).begun ≡ None → (place_of self.new).half.next_slot < 128) }
         ensures resting { IfOk result (λ full. full ≡ Fault.HalfFull → ticks_left self.new ≡ 0
@@ -140,13 +142,13 @@ impl<D: Disk + Drop, R: Rules> Log<D, R> {
         ensures half { IfOk result (λ full. ((place_of self.new).half ≡ (place_of self.old).half)
             ⊎ (4 ≤ ticks_left self.new)) }
         ensures full_file { IfOk result (λ full. full ≡ Fault.FileFull
-            → (ticks_left self.new ≡ 0) × IsFileFull self.new (T.tables tables.now)) }
+            → (ticks_left self.new ≡ 0) × IsFileFull self.new (lent_of T.TablesInWords tables.now)) }
         ensures number { next_number self.new ≡ next_number self.old }
         ensures slots { (place_of self.new).half.next_slot ≤ (place_of self.old).half.next_slot }
         ensures broken { is_broken self.new ≡ ends_broken result }
         ensures fault { CountsFault (D.fault_count (disk_of self.old)) (D.fault_count (disk_of self.new)) result }
         ensures device { OnDeviceFault result (D.Honest (disk_of self.new) → (world : World)
-            → Carries R.takes self.old (D.state (disk_of self.old)) world → D.Works (disk_of self.new) → ⊥) }
+            → Carries R.rules self.old (D.state (disk_of self.old)) world → D.Works (disk_of self.new) → ⊥) }
         ensures writes { D.write_count (disk_of self.new) ≤ D.write_count (disk_of self.old) + 1 }
         ensures syncs { D.sync_count (disk_of self.new) ≤ D.sync_count (disk_of self.old) + 1 }
         ensures honest { D.Honest (disk_of self.new) → D.Honest (disk_of self.old) }
@@ -164,17 +166,17 @@ impl<D: Disk + Drop, R: Rules> Log<D, R> {
         requires whole { is_broken self.old ≡ false }
         requires number { next_number self.old < 2 ^ 63 }
         requires full { IsWant full ⊎ (full ≡ Fault.HalfFull) }
-        ensures stops { D.Honest (disk_of self.new) → (old new : World) → R.takes line.now old new
-            → Carries R.takes self.old (D.state (disk_of self.old)) old
-            → LeavesEither (worlds R.takes) (D.past (disk_of self.old)) (D.state (disk_of self.old))
+        ensures stops { D.Honest (disk_of self.new) → (old new : World) → R.rules.takes line.now old new
+            → Carries R.rules self.old (D.state (disk_of self.old)) old
+            → LeavesEither (worlds R.rules) (D.past (disk_of self.old)) (D.state (disk_of self.old))
             (D.past (disk_of self.new)) (D.state (disk_of self.new)) old new }
         ensures carries { D.Honest (disk_of self.new) → is_broken self.new ≡ false → (old new : World)
-            → R.takes line.now old new → HaveSameTexts old new
-            → Carries R.takes self.old (D.state (disk_of self.old)) old
-            → Carries R.takes self.new (D.state (disk_of self.new)) (world_behind result old new) }
-        ensures appends { OnOk result (D.Honest (disk_of self.new) → (old new : World) → R.takes line.now old new
-            → HaveSameTexts old new → (carries : Carries R.takes self.old (D.state (disk_of self.old)) old)
-            → (then : Carries R.takes self.new (D.state (disk_of self.new)) new)
+            → R.rules.takes line.now old new → HaveSameTexts old new
+            → Carries R.rules self.old (D.state (disk_of self.old)) old
+            → Carries R.rules self.new (D.state (disk_of self.new)) (world_behind result old new) }
+        ensures appends { OnOk result (D.Honest (disk_of self.new) → (old new : World) → R.rules.takes line.now old new
+            → HaveSameTexts old new → (carries : Carries R.rules self.old (D.state (disk_of self.old)) old)
+            → (then : Carries R.rules self.new (D.state (disk_of self.new)) new)
             × (then.carried.layout ≡ with_line carries.carried.layout line.now new)) }
         ensures number { NumberBehind result (next_number self.old) (next_number self.new) }
         ensures left { ticks_left self.new ≡ ticks_left self.old }

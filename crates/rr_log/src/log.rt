@@ -17,8 +17,8 @@ pub struct Log<D: Drop, R> {
     pub(crate) disk: D,
     pub(crate) writer: Writer<Worlds<R>>,
     pub(crate) kit: KitPages,
-    // Where an opening found a checkpoint begun, and until its plan is made: the tables from before the first record of
-    // the other half.
+    // Where an opening found a checkpoint begun, and until its plan is made: the tables and snapshots from before the
+    // first record of the other half.
     pub(crate) base: Option<Transcript>,
     pub(crate) broken: bool,
 }
@@ -37,10 +37,10 @@ impl<D: Disk + Drop, R: Rules> Log<D, R> {
         base: Option<Transcript>,
     ) -> Log<D, R>
         ensures carries { (state : DiskState) (world : World)
-            → (carries : file.Carries (worlds R.takes) writer state world) → file.ticks_left_of writer ≡ 0
+            → (carries : file.Carries (worlds R.rules) writer state world) → file.ticks_left_of writer ≡ 0
             → HoldsKit kit carries.layout world
-            → IsBase (file.place_of writer).begun base carries.layout.middle.tables
-            → Carries R.takes result state world }
+            → IsBase R.rules (file.place_of writer).begun base carries.layout.middle
+            → Carries R.rules result state world }
         ensures disk { disk_of result ≡ disk }
         ensures writer { writer_of result ≡ writer }
         ensures whole { is_broken result ≡ false }

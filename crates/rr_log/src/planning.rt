@@ -4,14 +4,14 @@ ghost use Rattle.rr_checkpoint.specs.Planning.{MayBegin};
 ghost use Rattle.rr_checkpoint.specs.Writer as file;
 ghost use Rattle.rr_disk.specs.Disk.{DiskState};
 ghost use Rattle.rr_log.specs.Fault.{IsWant};
+ghost use Rattle.rr_log.specs.Lent.{AreLentOf, lent_in, lent_of, pages_of};
 ghost use Rattle.rr_log.specs.Log.{IsPastLast};
 ghost use Rattle.rr_pages.specs.FreePages.{present_of};
 ghost use Rattle.rr_pages.specs.Sets.{TooFewFree, all_marked};
 ghost use Rattle.rr_reading.specs.Reading.{NoneReached};
 ghost use Rattle.rr_checkpoint.specs.Plan.Kit.{text_pages};
-ghost use Rattle.rr_checkpoint.specs.Plan.Laying.{needed_pages};
-ghost use Rattle.rr_checkpoint.specs.Plan.Planning.{IsOfLayout, HoldsTexts};
-ghost use Rattle.rr_checkpoint.specs.Plan.Transcript.{tables_of};
+ghost use Rattle.rr_checkpoint.specs.Plan.Planning.{IsOfLayout, HoldsAll, HoldsTexts};
+ghost use Rattle.rr_checkpoint.specs.Plan.Transcript.{snapshots_of};
 ghost use Rattle.rr_checkpoint.specs.Plan.Writing.{OnlyTakes};
 ghost use Rattle.rr_reading.specs.Worlds.Spelling.{worlds};
 ghost use Rattle.rr_reading.specs.Worlds.World.{World};
@@ -33,7 +33,7 @@ pub(crate) fn is_past_last(number: u64) -> bool
     number >= PAST_LAST
 }
 
-// The plan of a checkpoint that writes the tables of a transcript.
+// The plan of a checkpoint that writes the tables and snapshots of a transcript.
 fn plan_of<R: Rules>(
     alloc: Global,
     writer: &mut Writer<Worlds<R>>,
@@ -44,20 +44,21 @@ fn plan_of<R: Rules>(
     requires root { (file.taken_of writer.old).root.number + 1 < 2 ^ 63 }
     requires number { (file.place_of writer.old).number < 2 ^ 63 }
     ensures plan { IfOk result (λ plan. (state : DiskState) (world : World)
-        → (carries : file.Carries (worlds R.takes) writer.old state world)
-        → (of : IsOfLayout R.takes kit.now transcript.now carries.layout)
-        → (may : MayBegin (worlds R.takes) carries.layout (file.free_of writer.new) plan)
-        × HoldsTexts of.texts may.holding) }
+        → (carries : file.Carries (worlds R.rules) writer.old state world)
+        → (of : IsOfLayout R.rules kit.now transcript.now carries.layout)
+        → (may : MayBegin (worlds R.rules) carries.layout (file.free_of writer.new) plan)
+        × HoldsTexts of.texts may.holding
+        × HoldsAll of.texts carries.layout.middle (snapshots_of transcript.now) may.holding) }
     ensures some { IfOk result (λ plan. 0 < length plan.fresh.items) }
-    ensures count { IfOk result (λ plan. length plan.fresh.items ≡ needed_pages (tables_of transcript.now)) }
+    ensures count { IfOk result (λ plan. length plan.fresh.items ≡ pages_of (lent_in transcript.now)) }
     ensures fits { IfOk result (λ plan. (none : List Bool) → NoneReached none
         → TooFewFree (present_of (file.free_of writer.old)) (all_marked none (text_pages kit.now))
-        (needed_pages (tables_of transcript.now)) → ⊥) }
+        (pages_of (lent_in transcript.now)) → ⊥) }
     ensures full { IsErrOf result Fault.FileFull → (none : List Bool) → NoneReached none
         → TooFewFree (present_of (file.free_of writer.old)) (all_marked none (text_pages kit.now))
-        (needed_pages (tables_of transcript.now)) }
+        (pages_of (lent_in transcript.now)) }
     ensures err { IfErr result IsWant }
-    ensures only { OnlyTakes (worlds R.takes) writer.old writer.new }
+    ensures only { OnlyTakes (worlds R.rules) writer.old writer.new }
 {
     match plan_checkpoint(alloc, writer, kit, transcript) {
         Ok(plan) => Ok(plan),
@@ -71,25 +72,27 @@ impl<D: Disk + Drop, R: Rules> Log<D, R> {
     ghost use Rattle.rr_log.specs.Carrying.{Carries, IsPlanned};
     ghost use Rattle.rr_log.specs.Log.{next_number, place_of, root_number, ticks_left};
 
-    // Makes the plan of the checkpoint that is to begin. Where an opening found one begun, it writes the tables from
-    // before the first record of the other half, and else those that are lent.
+    // Makes the plan of the checkpoint that is to begin. Where an opening found one begun, it writes the tables and
+    // snapshots from before the first record of the other half, and else those that are lent.
     pub(crate) fn plan<T: TablesInWords>(&mut self, tables: &T) -> Result<Plan, Fault>
         requires { ticks_left self.old ≡ 0 }
-        ensures plan { IfOk result (λ plan. (state : DiskState) (world : World) → world.tables ≡ T.tables tables.now
-            → (carries : Carries R.takes self.old state world)
-            → IsPlanned R.takes self.new plan state world carries.carried.layout) }
+        ensures plan { IfOk result (λ plan. (state : DiskState) (world : World) → AreLentOf R.rules world (lent_of T.TablesInWords tables.now)
+            → (carries : Carries R.rules self.old state world)
+            → IsPlanned R.rules self.new plan state world carries.carried.layout
+            (tables_due self.old.base (lent_of T.TablesInWords tables.now)).snapshots) }
         ensures some { IfOk result (λ plan. 0 < length plan.fresh.items) }
         // Where an opening found the checkpoint begun, what is lent doesn't matter.
         ensures found { IfOk result (λ plan. (state : DiskState) (world : World) → ((place_of self.old).begun ≡ None → ⊥)
-            → (carries : Carries R.takes self.old state world)
-            → IsPlanned R.takes self.new plan state world carries.carried.layout) }
+            → (carries : Carries R.rules self.old state world)
+            → IsPlanned R.rules self.new plan state world carries.carried.layout
+            (tables_due self.old.base (lent_of T.TablesInWords tables.now)).snapshots) }
         ensures count { IfOk result (λ plan. length plan.fresh.items
-            ≡ needed_pages (tables_due self.old.base (T.tables tables.now))) }
-        ensures fits { IfOk result (λ plan. IsFileFull self.old (T.tables tables.now) → ⊥) }
-        ensures carries { (state : DiskState) (world : World) → Carries R.takes self.old state world
-            → Carries R.takes self.new state world }
-        ensures full { IsErrOf result Fault.FileFull → IsFileFull self.old (T.tables tables.now) }
-        ensures full_behind { IsErrOf result Fault.FileFull → IsFileFull self.new (T.tables tables.now) }
+            ≡ pages_of (tables_due self.old.base (lent_of T.TablesInWords tables.now))) }
+        ensures fits { IfOk result (λ plan. IsFileFull self.old (lent_of T.TablesInWords tables.now) → ⊥) }
+        ensures carries { (state : DiskState) (world : World) → Carries R.rules self.old state world
+            → Carries R.rules self.new state world }
+        ensures full { IsErrOf result Fault.FileFull → IsFileFull self.old (lent_of T.TablesInWords tables.now) }
+        ensures full_behind { IsErrOf result Fault.FileFull → IsFileFull self.new (lent_of T.TablesInWords tables.now) }
         ensures err { IfErr result IsWant }
         ensures unchanged { IsUnchanged self.old self.new }
     {
@@ -120,9 +123,9 @@ impl<D: Disk + Drop, R: Rules> Log<D, R> {
     }
 }
 
-// The tables that are lent, as a transcript.
+// The tables that are lent, with the snapshots, as a transcript.
 fn lent<T: TablesInWords>(alloc: Global, tables: &T) -> Result<Transcript, Fault>
-    ensures tables { IfOk result (λ transcript. tables_of transcript ≡ T.tables tables.now) }
+    ensures lent { IfOk result (λ transcript. lent_in transcript ≡ lent_of T.TablesInWords tables.now) }
     ensures err { IfErr result (λ fault. fault ≡ Fault.OutOfMemory) }
 {
     match tables.transcript(alloc) {

@@ -6,6 +6,7 @@ ghost use Rattle.rr_checkpoint.specs.Writer.{RenewsAt, Lowers};
 ghost use Rattle.rr_disk.specs.Moments.{EachImage};
 ghost use Rattle.rr_images.specs.Calls.{TakesNewer};
 ghost use Rattle.rr_log.specs.Fault.{CountsFault, IsWant, OnDeviceFault, ends_broken};
+ghost use Rattle.rr_log.specs.Lent.{AreLentOf, lent_of};
 ghost use Rattle.rr_reading.specs.Worlds.Spelling.{worlds};
 ghost use Rattle.rr_reading.specs.Worlds.World.{World};
 
@@ -18,14 +19,15 @@ use rr_reading::worlds::Rules;
 const MANY_SLOTS: u8 = 128;
 
 impl<D: Disk + Drop, R: Rules> Log<D, R> {
-    ghost use Rattle.rr_log.specs.Calls.{IsBegunOn, IsFileFull, IsUnchanged, LowersFrom, NumbersRoot, TakesRootOf, as_begun, first_left, ticks_due};
-    ghost use Rattle.rr_log.specs.Carrying.{Carries};
+    ghost use Rattle.rr_log.specs.Calls.{IsBegunOn, IsFileFull, IsUnchanged, LowersFrom, NumbersRoot, TakesRootOf, as_begun, first_left, tables_due, ticks_due};
+    ghost use Rattle.rr_log.specs.Carrying.{Carries, HoldsWorld};
     ghost use Rattle.rr_log.specs.Log.{disk_of, is_broken, next_number, place_of, root_number, ticks_left, HasNoneBegun, IsDue};
 
     /// Makes one step of a checkpoint: it goes on with the one under way, or begins one where an opening found it begun
-    /// or at least 128 slots of the half in use are used. The tables are those of the world that the log carries: a
-    /// first tick takes them, and all memory that the later ones need. A checkpoint of p pages has p + 4 ticks, and p +
-    /// 3 where an opening found it begun, since its first tick writes the first page then.
+    /// or at least 128 slots of the half in use are used. The tables are those of the world that the log carries, and
+    /// the snapshots show games there: a first tick takes them, and all memory that the later ones need. A checkpoint
+    /// of p pages has p + 4 ticks, and p + 3 where an opening found it begun, since its first tick writes the first
+    /// page then.
     ///
     /// # Errors
     /// `OpenAgain`; `DeviceFailed`, after which the log is broken; in a first tick also `FileFull` and `OutOfMemory`,
@@ -33,44 +35,44 @@ impl<D: Disk + Drop, R: Rules> Log<D, R> {
     pub fn tick<T: TablesInWords>(&mut self, tables: &T) -> Result<Tick, Fault>
         // Whatever a stop leaves at any moment keeps the world, and the log carries it on.
         ensures stops { D.Honest (disk_of self.new) → (world : World)
-            → Carries R.takes self.old (D.state (disk_of self.old)) world
-            → LeavesKept (worlds R.takes) (D.past (disk_of self.old)) (D.state (disk_of self.old))
+            → Carries R.rules self.old (D.state (disk_of self.old)) world
+            → LeavesKept (worlds R.rules) (D.past (disk_of self.old)) (D.state (disk_of self.old))
             (D.past (disk_of self.new)) (D.state (disk_of self.new)) world }
         ensures carries { D.Honest (disk_of self.new) → is_broken self.new ≡ false → (world : World)
-            → world.tables ≡ T.tables tables.now → Carries R.takes self.old (D.state (disk_of self.old)) world
-            → Carries R.takes self.new (D.state (disk_of self.new)) world }
+            → AreLentOf R.rules world (lent_of T.TablesInWords tables.now) → Carries R.rules self.old (D.state (disk_of self.old)) world
+            → Carries R.rules self.new (D.state (disk_of self.new)) world }
         ensures renews { IfOk result (λ tick. D.Honest (disk_of self.new) → (world : World)
-            → (carries : Carries R.takes self.old (D.state (disk_of self.old)) world)
-            → RenewsAt (worlds R.takes) tick carries.carried.layout (D.state (disk_of self.new)) world) }
+            → (carries : Carries R.rules self.old (D.state (disk_of self.old)) world)
+            → RenewsAt (worlds R.rules) tick carries.carried.layout (D.state (disk_of self.new)) world) }
 
         // How far it comes.
         ensures left { IfOk result (λ tick.
-            LowersFrom (first_left self.old (T.tables tables.now)) tick (ticks_left self.old) (ticks_left self.new)) }
+            LowersFrom (first_left self.old (lent_of T.TablesInWords tables.now)) tick (ticks_left self.old) (ticks_left self.new)) }
         ensures most { IfOk result (λ tick. ticks_left self.old ≡ 0
-            → ticks_left self.new < ticks_due self.old (T.tables tables.now)) }
+            → ticks_left self.new < ticks_due self.old (lent_of T.TablesInWords tables.now)) }
         ensures idle { (result ≡ Ok Tick.Idle) ↔ ((is_broken self.old ≡ false) × (ticks_left self.old ≡ 0)
             × (IsDue (place_of self.old) → ⊥)) }
         ensures rests { result ≡ Ok Tick.Idle → self.new ≡ self.old }
         ensures number { next_number self.new ≡ next_number self.old }
         ensures root { IfOk result (λ tick. D.Honest (disk_of self.new) → (world : World)
-            → Carries R.takes self.old (D.state (disk_of self.old)) world
+            → Carries R.rules self.old (D.state (disk_of self.old)) world
             → NumbersRoot tick (root_number self.old) (root_number self.new)) }
         ensures fits { IfOk result (λ tick. ticks_left self.old ≡ 0 → IsDue (place_of self.old)
-            → IsFileFull self.old (T.tables tables.now) → ⊥) }
+            → IsFileFull self.old (lent_of T.TablesInWords tables.now) → ⊥) }
 
         // When each refusal comes, and what it leaves.
         ensures again { IsErrOf result Fault.OpenAgain ↔ IsTrue (is_broken self.old) }
         ensures untouched { IsErrOf result Fault.OpenAgain → self.new ≡ self.old }
         ensures broken { is_broken self.new ≡ ends_broken result }
-        ensures full { IsErrOf result Fault.FileFull → IsFileFull self.old (T.tables tables.now) }
-        ensures full_behind { IsErrOf result Fault.FileFull → IsFileFull self.new (T.tables tables.now) }
+        ensures full { IsErrOf result Fault.FileFull → IsFileFull self.old (lent_of T.TablesInWords tables.now) }
+        ensures full_behind { IsErrOf result Fault.FileFull → IsFileFull self.new (lent_of T.TablesInWords tables.now) }
         ensures first { IfErr result (λ fault. IsWant fault → ticks_left self.old ≡ 0) }
         ensures due { IfErr result (λ fault. IsWant fault → IsDue (place_of self.old)) }
         ensures unchanged { IfErr result (λ fault. IsWant fault → IsUnchanged self.old self.new) }
         ensures room { IsErrOf result Fault.HalfFull → ⊥ }
         ensures fault { CountsFault (D.fault_count (disk_of self.old)) (D.fault_count (disk_of self.new)) result }
         ensures device { OnDeviceFault result (D.Honest (disk_of self.new) → (world : World)
-            → Carries R.takes self.old (D.state (disk_of self.old)) world → D.Works (disk_of self.new) → ⊥) }
+            → Carries R.rules self.old (D.state (disk_of self.old)) world → D.Works (disk_of self.new) → ⊥) }
 
         ensures writes { D.write_count (disk_of self.new) ≤ D.write_count (disk_of self.old) + 1 }
         ensures syncs { D.sync_count (disk_of self.new) ≤ D.sync_count (disk_of self.old) + 1 }
@@ -87,33 +89,33 @@ impl<D: Disk + Drop, R: Rules> Log<D, R> {
     pub(crate) fn step<T: TablesInWords>(&mut self, tables: &T) -> Result<Tick, Fault>
         requires { is_broken self.old ≡ false }
         ensures stops { D.Honest (disk_of self.new) → (world : World)
-            → Carries R.takes self.old (D.state (disk_of self.old)) world
-            → LeavesKept (worlds R.takes) (D.past (disk_of self.old)) (D.state (disk_of self.old))
+            → Carries R.rules self.old (D.state (disk_of self.old)) world
+            → LeavesKept (worlds R.rules) (D.past (disk_of self.old)) (D.state (disk_of self.old))
             (D.past (disk_of self.new)) (D.state (disk_of self.new)) world }
         ensures carries { D.Honest (disk_of self.new) → is_broken self.new ≡ false → (world : World)
-            → world.tables ≡ T.tables tables.now → Carries R.takes self.old (D.state (disk_of self.old)) world
-            → Carries R.takes self.new (D.state (disk_of self.new)) world }
+            → AreLentOf R.rules world (lent_of T.TablesInWords tables.now) → Carries R.rules self.old (D.state (disk_of self.old)) world
+            → Carries R.rules self.new (D.state (disk_of self.new)) world }
         ensures renews { IfOk result (λ tick. D.Honest (disk_of self.new) → (world : World)
-            → (carries : Carries R.takes self.old (D.state (disk_of self.old)) world)
-            → RenewsAt (worlds R.takes) tick carries.carried.layout (D.state (disk_of self.new)) world) }
+            → (carries : Carries R.rules self.old (D.state (disk_of self.old)) world)
+            → RenewsAt (worlds R.rules) tick carries.carried.layout (D.state (disk_of self.new)) world) }
         ensures renewed { is_broken self.new ≡ false → ticks_left self.old ≡ 1 → D.Honest (disk_of self.new)
-            → (world : World) → (carries : Carries R.takes self.old (D.state (disk_of self.old)) world)
-            → (then : Carries R.takes self.new (D.state (disk_of self.new)) world)
+            → (world : World) → (carries : Carries R.rules self.old (D.state (disk_of self.old)) world)
+            → (then : Carries R.rules self.new (D.state (disk_of self.new)) world)
             × IsRenewed carries.carried.layout then.carried.layout }
         ensures left { IfOk result (λ tick.
-            LowersFrom (first_left self.old (T.tables tables.now)) tick (ticks_left self.old) (ticks_left self.new)) }
+            LowersFrom (first_left self.old (lent_of T.TablesInWords tables.now)) tick (ticks_left self.old) (ticks_left self.new)) }
         ensures most { IfOk result (λ tick. ticks_left self.old ≡ 0
-            → ticks_left self.new < ticks_due self.old (T.tables tables.now)) }
+            → ticks_left self.new < ticks_due self.old (lent_of T.TablesInWords tables.now)) }
         ensures nothing { is_broken self.new ≡ false → ticks_left self.old ≡ 0 → ticks_left self.new ≡ 0
             → disk_of self.new ≡ disk_of self.old }
         ensures idle { (result ≡ Ok Tick.Idle) ↔ ((ticks_left self.old ≡ 0) × (IsDue (place_of self.old) → ⊥)) }
         ensures rests { result ≡ Ok Tick.Idle → self.new ≡ self.old }
         ensures number { next_number self.new ≡ next_number self.old }
         ensures root { IfOk result (λ tick. D.Honest (disk_of self.new) → (world : World)
-            → Carries R.takes self.old (D.state (disk_of self.old)) world
+            → Carries R.rules self.old (D.state (disk_of self.old)) world
             → NumbersRoot tick (root_number self.old) (root_number self.new)) }
         ensures fits { IfOk result (λ tick. ticks_left self.old ≡ 0 → IsDue (place_of self.old)
-            → IsFileFull self.old (T.tables tables.now) → ⊥) }
+            → IsFileFull self.old (lent_of T.TablesInWords tables.now) → ⊥) }
         ensures slots { (place_of self.new).half.next_slot ≤ (place_of self.old).half.next_slot }
         ensures few { IfOk result (λ tick. ticks_left self.old ≡ 0 → (place_of self.old).begun ≡ None
             → (place_of self.new).half.next_slot < 128) }
@@ -122,14 +124,14 @@ impl<D: Disk + Drop, R: Rules> Log<D, R> {
             ⊎ (4 ≤ ticks_left self.new)) }
         ensures broken { is_broken self.new ≡ ends_broken result }
         ensures err { IfErr result (λ fault. IsWant fault ⊎ (fault ≡ Fault.DeviceFailed)) }
-        ensures full { IsErrOf result Fault.FileFull → IsFileFull self.old (T.tables tables.now) }
-        ensures full_behind { IsErrOf result Fault.FileFull → IsFileFull self.new (T.tables tables.now) }
+        ensures full { IsErrOf result Fault.FileFull → IsFileFull self.old (lent_of T.TablesInWords tables.now) }
+        ensures full_behind { IsErrOf result Fault.FileFull → IsFileFull self.new (lent_of T.TablesInWords tables.now) }
         ensures first { IfErr result (λ fault. IsWant fault → ticks_left self.old ≡ 0) }
         ensures due { IfErr result (λ fault. IsWant fault → IsDue (place_of self.old)) }
         ensures unchanged { IfErr result (λ fault. IsWant fault → IsUnchanged self.old self.new) }
         ensures fault { CountsFault (D.fault_count (disk_of self.old)) (D.fault_count (disk_of self.new)) result }
         ensures device { OnDeviceFault result (D.Honest (disk_of self.new) → (world : World)
-            → Carries R.takes self.old (D.state (disk_of self.old)) world → D.Works (disk_of self.new) → ⊥) }
+            → Carries R.rules self.old (D.state (disk_of self.old)) world → D.Works (disk_of self.new) → ⊥) }
         ensures writes { D.write_count (disk_of self.new) ≤ D.write_count (disk_of self.old) + 1 }
         ensures syncs { D.sync_count (disk_of self.new) ≤ D.sync_count (disk_of self.old) + 1 }
         ensures honest { D.Honest (disk_of self.new) → D.Honest (disk_of self.old) }
@@ -161,22 +163,22 @@ impl<D: Disk + Drop, R: Rules> Log<D, R> {
         requires whole { is_broken self.old ≡ false }
         requires under_way { 0 < ticks_left self.old }
         ensures stops { D.Honest (disk_of self.new) → (world : World)
-            → Carries R.takes self.old (D.state (disk_of self.old)) world
-            → LeavesKept (worlds R.takes) (D.past (disk_of self.old)) (D.state (disk_of self.old))
+            → Carries R.rules self.old (D.state (disk_of self.old)) world
+            → LeavesKept (worlds R.rules) (D.past (disk_of self.old)) (D.state (disk_of self.old))
             (D.past (disk_of self.new)) (D.state (disk_of self.new)) world }
         ensures carries { D.Honest (disk_of self.new) → is_broken self.new ≡ false → (world : World)
-            → Carries R.takes self.old (D.state (disk_of self.old)) world
-            → Carries R.takes self.new (D.state (disk_of self.new)) world }
+            → Carries R.rules self.old (D.state (disk_of self.old)) world
+            → Carries R.rules self.new (D.state (disk_of self.new)) world }
         ensures renews { IfOk result (λ tick. D.Honest (disk_of self.new) → (world : World)
-            → (carries : Carries R.takes self.old (D.state (disk_of self.old)) world)
-            → RenewsAt (worlds R.takes) tick carries.carried.layout (D.state (disk_of self.new)) world) }
+            → (carries : Carries R.rules self.old (D.state (disk_of self.old)) world)
+            → RenewsAt (worlds R.rules) tick carries.carried.layout (D.state (disk_of self.new)) world) }
         ensures renewed { is_broken self.new ≡ false → ticks_left self.old ≡ 1 → D.Honest (disk_of self.new)
-            → (world : World) → (carries : Carries R.takes self.old (D.state (disk_of self.old)) world)
-            → (then : Carries R.takes self.new (D.state (disk_of self.new)) world)
+            → (world : World) → (carries : Carries R.rules self.old (D.state (disk_of self.old)) world)
+            → (then : Carries R.rules self.new (D.state (disk_of self.new)) world)
             × IsRenewed carries.carried.layout then.carried.layout }
         ensures left { IfOk result (λ tick. Lowers tick (ticks_left self.old) (ticks_left self.new)) }
         ensures root { IfOk result (λ tick. D.Honest (disk_of self.new) → (world : World)
-            → Carries R.takes self.old (D.state (disk_of self.old)) world
+            → Carries R.rules self.old (D.state (disk_of self.old)) world
             → NumbersRoot tick (root_number self.old) (root_number self.new)) }
         ensures resting { IfOk result (λ tick. ticks_left self.new ≡ 0 → (place_of self.new).begun ≡ None) }
         ensures number { next_number self.new ≡ next_number self.old }
@@ -185,7 +187,7 @@ impl<D: Disk + Drop, R: Rules> Log<D, R> {
         ensures err { IfErr result (λ fault. fault ≡ Fault.DeviceFailed) }
         ensures fault { CountsFault (D.fault_count (disk_of self.old)) (D.fault_count (disk_of self.new)) result }
         ensures device { OnDeviceFault result (D.Honest (disk_of self.new) → (world : World)
-            → Carries R.takes self.old (D.state (disk_of self.old)) world → D.Works (disk_of self.new) → ⊥) }
+            → Carries R.rules self.old (D.state (disk_of self.old)) world → D.Works (disk_of self.new) → ⊥) }
         ensures writes { D.write_count (disk_of self.new) ≤ D.write_count (disk_of self.old) + 1 }
         ensures syncs { D.sync_count (disk_of self.new) ≤ D.sync_count (disk_of self.old) + 1 }
         ensures honest { D.Honest (disk_of self.new) → D.Honest (disk_of self.old) }
@@ -205,33 +207,39 @@ impl<D: Disk + Drop, R: Rules> Log<D, R> {
         requires whole { is_broken self.old ≡ false }
         requires resting { ticks_left self.old ≡ 0 }
         ensures stops { D.Honest (disk_of self.new) → (world : World)
-            → Carries R.takes self.old (D.state (disk_of self.old)) world
-            → LeavesKept (worlds R.takes) (D.past (disk_of self.old)) (D.state (disk_of self.old))
+            → Carries R.rules self.old (D.state (disk_of self.old)) world
+            → LeavesKept (worlds R.rules) (D.past (disk_of self.old)) (D.state (disk_of self.old))
             (D.past (disk_of self.new)) (D.state (disk_of self.new)) world }
         ensures carries { D.Honest (disk_of self.new) → is_broken self.new ≡ false → (world : World)
-            → world.tables ≡ T.tables tables.now → Carries R.takes self.old (D.state (disk_of self.old)) world
-            → Carries R.takes self.new (D.state (disk_of self.new)) world }
-        ensures starts { OnOk result (D.Honest (disk_of self.new) → (world : World) → world.tables ≡ T.tables tables.now
-            → (carries : Carries R.takes self.old (D.state (disk_of self.old)) world)
-            → (then : Carries R.takes self.new (D.state (disk_of self.new)) world)
+            → AreLentOf R.rules world (lent_of T.TablesInWords tables.now) → Carries R.rules self.old (D.state (disk_of self.old)) world
+            → Carries R.rules self.new (D.state (disk_of self.new)) world }
+        ensures starts { OnOk result (D.Honest (disk_of self.new) → (world : World) → AreLentOf R.rules world (lent_of T.TablesInWords tables.now)
+            → (carries : Carries R.rules self.old (D.state (disk_of self.old)) world)
+            → (then : Carries R.rules self.new (D.state (disk_of self.new)) world)
             × IsBegunOn carries.carried.layout then.carried.layout) }
-        ensures left { OnOk result (ticks_left self.new ≡ first_left self.old (T.tables tables.now)) }
+        ensures holds { OnOk result (D.Honest (disk_of self.new) → (world : World)
+            → AreLentOf R.rules world (lent_of T.TablesInWords tables.now)
+            → (carries : Carries R.rules self.old (D.state (disk_of self.old)) world)
+            → (then : Carries R.rules self.new (D.state (disk_of self.new)) world)
+            × HoldsWorld carries.carried.layout.middle
+            (tables_due self.old.base (lent_of T.TablesInWords tables.now)).snapshots then.carried.holding) }
+        ensures left { OnOk result (ticks_left self.new ≡ first_left self.old (lent_of T.TablesInWords tables.now)) }
         ensures some { OnOk result (3 ≤ ticks_left self.new) }
-        ensures most { OnOk result (ticks_left self.new < ticks_due self.old (T.tables tables.now)) }
+        ensures most { OnOk result (ticks_left self.new < ticks_due self.old (lent_of T.TablesInWords tables.now)) }
         ensures number { next_number self.new ≡ next_number self.old }
         ensures slots { (place_of self.new).half.next_slot ≤ (place_of self.old).half.next_slot }
         ensures fresh { OnOk result ((place_of self.old).begun ≡ None → (place_of self.new).half.next_slot ≡ 0) }
         ensures half { OnOk result (((place_of self.new).half ≡ (place_of self.old).half) ⊎ (4 ≤ ticks_left self.new)) }
-        ensures fits { OnOk result (IsFileFull self.old (T.tables tables.now) → ⊥) }
+        ensures fits { OnOk result (IsFileFull self.old (lent_of T.TablesInWords tables.now) → ⊥) }
         ensures root { root_number self.new ≡ root_number self.old }
         ensures broken { is_broken self.new ≡ ends_broken result }
         ensures err { IfErr result (λ fault. IsWant fault ⊎ (fault ≡ Fault.DeviceFailed)) }
-        ensures full { IsErrOf result Fault.FileFull → IsFileFull self.old (T.tables tables.now) }
-        ensures full_behind { IsErrOf result Fault.FileFull → IsFileFull self.new (T.tables tables.now) }
+        ensures full { IsErrOf result Fault.FileFull → IsFileFull self.old (lent_of T.TablesInWords tables.now) }
+        ensures full_behind { IsErrOf result Fault.FileFull → IsFileFull self.new (lent_of T.TablesInWords tables.now) }
         ensures unchanged { IfErr result (λ fault. IsWant fault → IsUnchanged self.old self.new) }
         ensures fault { CountsFault (D.fault_count (disk_of self.old)) (D.fault_count (disk_of self.new)) result }
         ensures device { OnDeviceFault result (D.Honest (disk_of self.new) → (world : World)
-            → Carries R.takes self.old (D.state (disk_of self.old)) world → D.Works (disk_of self.new) → ⊥) }
+            → Carries R.rules self.old (D.state (disk_of self.old)) world → D.Works (disk_of self.new) → ⊥) }
         ensures writes { D.write_count (disk_of self.new) ≤ D.write_count (disk_of self.old) + 1 }
         ensures syncs { D.sync_count (disk_of self.new) ≤ D.sync_count (disk_of self.old) + 1 }
         ensures honest { D.Honest (disk_of self.new) → D.Honest (disk_of self.old) }
@@ -251,51 +259,58 @@ impl<D: Disk + Drop, R: Rules> Log<D, R> {
     }
 
     /// Makes a whole checkpoint: begins one where none is under way, and makes all ticks that are left. The tables are
-    /// those of the world that the log carries.
+    /// those of the world that the log carries, and the snapshots show games there.
     ///
     /// # Errors
     /// `OpenAgain`; `DeviceFailed`, after which the log is broken; where it begins one also `FileFull` and
     /// `OutOfMemory`, before any device call: then the log goes on.
     pub fn checkpoint<T: TablesInWords>(&mut self, tables: &T) -> Result<(), Fault>
         // Whatever a stop leaves at any moment keeps the world, and the log carries it on.
-        ensures stops { D.Honest (disk_of self.new) → (world : World) → world.tables ≡ T.tables tables.now
-            → Carries R.takes self.old (D.state (disk_of self.old)) world
-            → LeavesKept (worlds R.takes) (D.past (disk_of self.old)) (D.state (disk_of self.old))
+        ensures stops { D.Honest (disk_of self.new) → (world : World) → AreLentOf R.rules world (lent_of T.TablesInWords tables.now)
+            → Carries R.rules self.old (D.state (disk_of self.old)) world
+            → LeavesKept (worlds R.rules) (D.past (disk_of self.old)) (D.state (disk_of self.old))
             (D.past (disk_of self.new)) (D.state (disk_of self.new)) world }
         ensures carries { D.Honest (disk_of self.new) → is_broken self.new ≡ false → (world : World)
-            → world.tables ≡ T.tables tables.now → Carries R.takes self.old (D.state (disk_of self.old)) world
-            → Carries R.takes self.new (D.state (disk_of self.new)) world }
+            → AreLentOf R.rules world (lent_of T.TablesInWords tables.now) → Carries R.rules self.old (D.state (disk_of self.old)) world
+            → Carries R.rules self.new (D.state (disk_of self.new)) world }
 
         // Then each file that a stop may leave takes a newer root. Its chains spell the world as the checkpoint began,
         // and only the records since then stand behind it. Where none was begun before, that is the world itself, and
         // no record.
-        ensures renews { OnOk result (D.Honest (disk_of self.new) → (world : World) → world.tables ≡ T.tables tables.now
-            → (carries : Carries R.takes self.old (D.state (disk_of self.old)) world)
-            → EachImage (D.state (disk_of self.new)) (TakesNewer (worlds R.takes) (as_begun carries.carried.layout) world)) }
+        ensures renews { OnOk result (D.Honest (disk_of self.new) → (world : World) → AreLentOf R.rules world (lent_of T.TablesInWords tables.now)
+            → (carries : Carries R.rules self.old (D.state (disk_of self.old)) world)
+            → EachImage (D.state (disk_of self.new)) (TakesNewer (worlds R.rules) (as_begun carries.carried.layout) world)) }
         ensures whole { OnOk result (HasNoneBegun (place_of self.old) → D.Honest (disk_of self.new) → (world : World)
-            → world.tables ≡ T.tables tables.now → Carries R.takes self.old (D.state (disk_of self.old)) world
-            → EachImage (D.state (disk_of self.new)) (TakesRootOf (worlds R.takes) (root_number self.old) world)) }
-        ensures root { OnOk result (D.Honest (disk_of self.new) → (world : World) → world.tables ≡ T.tables tables.now
-            → Carries R.takes self.old (D.state (disk_of self.old)) world
+            → AreLentOf R.rules world (lent_of T.TablesInWords tables.now) → Carries R.rules self.old (D.state (disk_of self.old)) world
+            → EachImage (D.state (disk_of self.new)) (TakesRootOf (worlds R.rules) (root_number self.old) world)) }
+        ensures root { OnOk result (D.Honest (disk_of self.new) → (world : World) → AreLentOf R.rules world (lent_of T.TablesInWords tables.now)
+            → Carries R.rules self.old (D.state (disk_of self.old)) world
             → root_number self.new ≡ root_number self.old + 1) }
+        // The root that it writes holds the snapshots too.
+        ensures holds { OnOk result (ticks_left self.old ≡ 0 → D.Honest (disk_of self.new) → (world : World)
+            → AreLentOf R.rules world (lent_of T.TablesInWords tables.now)
+            → (carries : Carries R.rules self.old (D.state (disk_of self.old)) world)
+            → (then : Carries R.rules self.new (D.state (disk_of self.new)) world)
+            × HoldsWorld carries.carried.layout.middle
+            (tables_due self.old.base (lent_of T.TablesInWords tables.now)).snapshots then.carried.layout.holding) }
         ensures left { OnOk result (ticks_left self.new ≡ 0) }
         ensures rests { OnOk result ((place_of self.new).begun ≡ None) }
         ensures half { 0 < ticks_left self.old → (place_of self.new).half ≡ (place_of self.old).half }
         ensures number { next_number self.new ≡ next_number self.old }
-        ensures fits { OnOk result (ticks_left self.old ≡ 0 → IsFileFull self.old (T.tables tables.now) → ⊥) }
+        ensures fits { OnOk result (ticks_left self.old ≡ 0 → IsFileFull self.old (lent_of T.TablesInWords tables.now) → ⊥) }
 
         // When each refusal comes, and what it leaves.
         ensures again { IsErrOf result Fault.OpenAgain ↔ IsTrue (is_broken self.old) }
         ensures untouched { IsErrOf result Fault.OpenAgain → self.new ≡ self.old }
         ensures broken { is_broken self.new ≡ ends_broken result }
-        ensures full { IsErrOf result Fault.FileFull → IsFileFull self.old (T.tables tables.now) }
-        ensures full_behind { IsErrOf result Fault.FileFull → IsFileFull self.new (T.tables tables.now) }
+        ensures full { IsErrOf result Fault.FileFull → IsFileFull self.old (lent_of T.TablesInWords tables.now) }
+        ensures full_behind { IsErrOf result Fault.FileFull → IsFileFull self.new (lent_of T.TablesInWords tables.now) }
         ensures first { IfErr result (λ fault. IsWant fault → ticks_left self.old ≡ 0) }
         ensures unchanged { IfErr result (λ fault. IsWant fault → IsUnchanged self.old self.new) }
         ensures room { IsErrOf result Fault.HalfFull → ⊥ }
         ensures fault { CountsFault (D.fault_count (disk_of self.old)) (D.fault_count (disk_of self.new)) result }
-        ensures device { OnDeviceFault result (D.Honest (disk_of self.new) → (world : World) → world.tables ≡ T.tables tables.now
-            → Carries R.takes self.old (D.state (disk_of self.old)) world → D.Works (disk_of self.new) → ⊥) }
+        ensures device { OnDeviceFault result (D.Honest (disk_of self.new) → (world : World) → AreLentOf R.rules world (lent_of T.TablesInWords tables.now)
+            → Carries R.rules self.old (D.state (disk_of self.old)) world → D.Works (disk_of self.new) → ⊥) }
 
         // A write and a sync at most for each tick that is left, or for each of the checkpoint that begins.
         ensures writes { 0 < ticks_left self.old
@@ -303,9 +318,9 @@ impl<D: Disk + Drop, R: Rules> Log<D, R> {
         ensures syncs { 0 < ticks_left self.old
             → D.sync_count (disk_of self.new) ≤ D.sync_count (disk_of self.old) + ticks_left self.old }
         ensures all_writes { ticks_left self.old ≡ 0 → D.write_count (disk_of self.new)
-            ≤ D.write_count (disk_of self.old) + ticks_due self.old (T.tables tables.now) }
+            ≤ D.write_count (disk_of self.old) + ticks_due self.old (lent_of T.TablesInWords tables.now) }
         ensures all_syncs { ticks_left self.old ≡ 0 → D.sync_count (disk_of self.new)
-            ≤ D.sync_count (disk_of self.old) + ticks_due self.old (T.tables tables.now) }
+            ≤ D.sync_count (disk_of self.old) + ticks_due self.old (lent_of T.TablesInWords tables.now) }
         ensures honest { D.Honest (disk_of self.new) → D.Honest (disk_of self.old) }
         ensures works { D.Works (disk_of self.new) → D.Works (disk_of self.old) }
     {
@@ -325,19 +340,24 @@ impl<D: Disk + Drop, R: Rules> Log<D, R> {
         requires whole { is_broken self.old ≡ false }
         requires under_way { 0 < ticks_left self.old }
         ensures stops { D.Honest (disk_of self.new) → (world : World)
-            → Carries R.takes self.old (D.state (disk_of self.old)) world
-            → LeavesKept (worlds R.takes) (D.past (disk_of self.old)) (D.state (disk_of self.old))
+            → Carries R.rules self.old (D.state (disk_of self.old)) world
+            → LeavesKept (worlds R.rules) (D.past (disk_of self.old)) (D.state (disk_of self.old))
             (D.past (disk_of self.new)) (D.state (disk_of self.new)) world }
         ensures carries { D.Honest (disk_of self.new) → is_broken self.new ≡ false → (world : World)
-            → Carries R.takes self.old (D.state (disk_of self.old)) world
-            → Carries R.takes self.new (D.state (disk_of self.new)) world }
+            → Carries R.rules self.old (D.state (disk_of self.old)) world
+            → Carries R.rules self.new (D.state (disk_of self.new)) world }
         ensures renews { OnOk result (D.Honest (disk_of self.new) → (world : World)
-            → (carries : Carries R.takes self.old (D.state (disk_of self.old)) world)
-            → EachImage (D.state (disk_of self.new)) (TakesNewer (worlds R.takes) carries.carried.layout world)) }
+            → (carries : Carries R.rules self.old (D.state (disk_of self.old)) world)
+            → EachImage (D.state (disk_of self.new)) (TakesNewer (worlds R.rules) carries.carried.layout world)) }
         ensures renewed { OnOk result (D.Honest (disk_of self.new) → (world : World)
-            → (carries : Carries R.takes self.old (D.state (disk_of self.old)) world)
-            → (then : Carries R.takes self.new (D.state (disk_of self.new)) world)
+            → (carries : Carries R.rules self.old (D.state (disk_of self.old)) world)
+            → (then : Carries R.rules self.new (D.state (disk_of self.new)) world)
             × IsRenewed carries.carried.layout then.carried.layout) }
+        // The root that is taken then is the one that was coming.
+        ensures takes { OnOk result (D.Honest (disk_of self.new) → (world : World)
+            → (carries : Carries R.rules self.old (D.state (disk_of self.old)) world)
+            → (then : Carries R.rules self.new (D.state (disk_of self.new)) world)
+            × (then.carried.layout.holding ≡ carries.carried.holding)) }
         ensures left { OnOk result (ticks_left self.new ≡ 0) }
         ensures rests { OnOk result ((place_of self.new).begun ≡ None) }
         ensures number { next_number self.new ≡ next_number self.old }
@@ -346,7 +366,7 @@ impl<D: Disk + Drop, R: Rules> Log<D, R> {
         ensures err { IfErr result (λ fault. fault ≡ Fault.DeviceFailed) }
         ensures fault { CountsFault (D.fault_count (disk_of self.old)) (D.fault_count (disk_of self.new)) result }
         ensures device { OnDeviceFault result (D.Honest (disk_of self.new) → (world : World)
-            → Carries R.takes self.old (D.state (disk_of self.old)) world → D.Works (disk_of self.new) → ⊥) }
+            → Carries R.rules self.old (D.state (disk_of self.old)) world → D.Works (disk_of self.new) → ⊥) }
         ensures writes { D.write_count (disk_of self.new) ≤ D.write_count (disk_of self.old) + ticks_left self.old }
         ensures syncs { D.sync_count (disk_of self.new) ≤ D.sync_count (disk_of self.old) + ticks_left self.old }
         ensures honest { D.Honest (disk_of self.new) → D.Honest (disk_of self.old) }

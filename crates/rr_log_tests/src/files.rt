@@ -74,6 +74,7 @@ pub(crate) fn parts(opened: Opened<Worlds<AnyLine>>) -> (Writer<Worlds<AnyLine>>
         directory: _,
         texts,
         tables: _,
+        snapshots: _,
         near: _,
         far: _,
     } = opened;

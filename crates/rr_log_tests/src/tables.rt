@@ -11,11 +11,11 @@ use rr_words::Name;
 use std::alloc::Global;
 use std::test::Fail;
 
-// Rules by which any line leads from any world to any. They have no code.
+// Rules by which any line leads from any world to any, and no bytes show a game. They have no code.
 pub(crate) struct AnyLine;
 
 impl Rules for AnyLine {
-    ghost takes = { λ line old new. Unit {0} };
+    ghost rules = { record { takes = λ line old new. Unit {0}; shows = λ world commands bytes. ⊥ } };
 }
 
 // A table of stamp 2 and floor 0 that keeps two commands.
@@ -30,6 +30,8 @@ pub(crate) struct OneTable {
 
 impl TablesInWords for OneTable {
     ghost tables = { λ lent. table_with lent.name 2 0 (lent.opening ∷ lent.purchase ∷ []) ∷ [] };
+
+    ghost snapshots = { λ lent. [] };
 
     fn transcript(&self, alloc: Global) -> Result<Transcript, Fault> {
         if self.is_refused {

@@ -2,8 +2,8 @@
 use Rattle.std.proofs.Common.{◌≡◌, ℕ, zero, suc, ◌+◌, Bool, true, false, List, None, Some, refl, sym, ◌∙◌, ap, inl, inr, arith}
 use Rattle.std.specs.Prelude.{is_some, unwrap_or, option_map, if◌then◌else◌}
 use Rattle.std.proofs.lemmas.Bool.{cases_Bool, false≢true, cases_order}
-use Rattle.rr_chart.specs.Chart.{Row, cell_at}
-use Rattle.rr_chart.specs.declared.cell.Place.{Place}
+use Rattle.rr_roster.specs.Chart.Chart.{Row, cell_at}
+use Rattle.rr_roster.specs.declared.chart.cell.Place.{Place}
 use Rattle.rr_books.specs.declared.entries.Cell.{Cell}
 use Rattle.rr_market.specs.Moves.{cell_of, fallen, fallen_by, IsFall}
 

@@ -1,9 +1,9 @@
 -- What a book says of the corporations' tokens on the chart, and what the chart says of a token's cell.
 use Rattle.std.specs.Prelude.{◌≡◌, ◌≢◌, ℕ, ◌+◌, Bool, true, false, is_some, List, Option, None, Some, option_map, option_and_then, unwrap_or, fold, if◌then◌else◌}
 use Rattle.rr_roster.specs.declared.company.Corp.{Corp}
-use Rattle.rr_chart.specs.Chart.{Row, cell_at}
-use Rattle.rr_chart.specs.declared.cell.Place.{Place}
-use Rattle.rr_chart.specs.declared.cell.Zone.{Zone}
+use Rattle.rr_roster.specs.Chart.Chart.{Row, cell_at}
+use Rattle.rr_roster.specs.declared.chart.cell.Place.{Place}
+use Rattle.rr_roster.specs.declared.chart.cell.Zone.{Zone}
 use Rattle.rr_books.specs.declared.entries.Cell.{Cell}
 use Rattle.rr_books.specs.declared.entries.Entry.{Entry}
 use Rattle.rr_books.specs.declared.entries.Entry.TheVariants as E

@@ -3,8 +3,8 @@ use Rattle.std.specs.Prelude.{◌≡◌, ℕ, zero, suc, ◌+◌, ◌≤◌, ◌
 use Rattle.std.specs.Option.{option_or}
 use Rattle.std.proofs.Common.{add-one}
 use Rattle.rr_roster.specs.declared.company.Corp.{Corp}
-use Rattle.rr_chart.specs.Chart.{Row, cell_at, right_of, left_of, up_of, down_of, par_place}
-use Rattle.rr_chart.specs.declared.cell.Place.{Place}
+use Rattle.rr_roster.specs.Chart.Chart.{Row, cell_at, right_of, left_of, up_of, down_of, par_place}
+use Rattle.rr_roster.specs.declared.chart.cell.Place.{Place}
 use Rattle.rr_books.specs.declared.entries.Cell.{Cell}
 use Rattle.rr_books.specs.declared.entries.Entry.TheVariants as E
 use Rattle.rr_books.specs.Book.{Book}

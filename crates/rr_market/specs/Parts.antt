@@ -1,7 +1,7 @@
 -- The plain values of the market, and which values it may have.
 use Rattle.std.specs.Prelude.{◌≡◌, ℕ, List, Option, length}
 use Rattle.std.proofs.Common.{refl}
-use Rattle.rr_spelling.specs.Form.{Form, byte_form, form_by, option_form, pair_form, row_form}
+use Rattle.rr_words.specs.Spelling.Form.{Form, byte_form, form_by, option_form, pair_form, row_form}
 use Rattle.rr_market.specs.declared.market.Token.{Token}
 use Rattle.rr_market.specs.declared.parts.MarketParts.{MarketParts}
 use Rattle.rr_market.specs.Arrivals.{AreRanks}

@@ -1,7 +1,7 @@
 //! The corporations' tokens on the stock chart: their prices and zones, how they move, and the operating order; and how
 //! far the operating rounds have come (`operations`).
 //!
-//! Stands on `rr_chart`, `rr_books` and `rr_rounds`. Its promise: `IsMarketOf`, kept by `follow` for any entry, and the
+//! Stands on `rr_roster`, `rr_books` and `rr_rounds`. Its promise: `IsMarketOf`, kept by `follow` for any entry, and the
 //! moves of a token by the book.
 #![tactic(auto)]
 
@@ -18,4 +18,4 @@ pub use moves::par_cell;
 pub use order::OperatingOrder;
 pub use parts::MarketParts;
 pub use rr_books::{Cell, Corp};
-pub use rr_chart::{Chart, Zone};
+pub use rr_roster::chart::{Chart, Zone};

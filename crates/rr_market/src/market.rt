@@ -1,5 +1,5 @@
 ghost use Rattle.std.specs.Prelude.{◌≡◌, ◌≤◌, ◌<◌, [], ◌∷◌, ◌++◌, None, Some, option_map, option_and_then, unwrap_or, position, ◌+◌, length, IfOk, IfSome, MatchOption, MatchResult, OnErr};
-ghost use Rattle.rr_chart.specs.Chart.{par_place};
+ghost use Rattle.rr_roster.specs.Chart.Chart.{par_place};
 ghost use Rattle.rr_books.specs.Book.{Book};
 ghost use Rattle.rr_market.specs.Marks.{mark_of, first_mark_of, price_at, zone_at, price_of, zone_of, par_of};
 ghost use Rattle.rr_market.specs.Moves.{cell_of, cell_above, cell_after_paying, cell_after_withholding, cell_after_sale, mark_at, par_marks, dividend_marks, withholding_marks, sale_marks, sold_out_marks};
@@ -10,7 +10,7 @@ use crate::arrivals::Arrivals;
 use crate::moves;
 use crate::order::{OperatingOrder, Standing};
 use rr_books::{Cell, Corp, Entry, Refusal};
-use rr_chart::{Chart, Zone};
+use rr_roster::chart::{Chart, Zone};
 use std::marker::Model;
 
 /// A corporation's token on the chart.

@@ -1,10 +1,10 @@
 ghost use Rattle.std.specs.Prelude.{◌≡◌, ◌≤◌, ◌==◌, true, find, is_some, option_map, IfSome, OnSome};
-ghost use Rattle.rr_chart.specs.Chart.{cell_at, par_place};
+ghost use Rattle.rr_roster.specs.Chart.Chart.{cell_at, par_place};
 ghost use Rattle.rr_market.specs.Marks.{place_of};
 ghost use Rattle.rr_market.specs.Moves.{cell_of, cell_right, cell_left, cell_above, cell_below, cell_after_paying, cell_after_withholding, cell_after_sale, fallen, fallen_by};
 
 use rr_books::Cell;
-use rr_chart::{Chart, ParCell, Place};
+use rr_roster::chart::{Chart, ParCell, Place};
 
 // The chart's place of a cell.
 pub(crate) fn place_of(cell: Cell) -> Place

@@ -5,7 +5,7 @@ ghost use Rattle.rr_market.specs.Parts.{AreMarket, market_form, market_of, parts
 use crate::arrivals::Arrivals;
 use crate::market::{Market, Token};
 use rr_books::Cell;
-use rr_spelling::{Cursor, Spell};
+use rr_words::spelling::{Cursor, Spell};
 use std::alloc::AllocError;
 
 /// The plain values of the tokens on the stock chart.

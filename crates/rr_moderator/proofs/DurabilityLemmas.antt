@@ -1,5 +1,5 @@
 -- What answering a line does to the file, from what the store's commit does.
-use Rattle.std.proofs.Common.{◌≡◌, ◌⊎◌, ◌∙◌, ℕ, ◌+◌, ◌≤◌, Bool, false, true, List, Option, None, Some, Result, Ok, Err, inl, inr, refl, sym, ap, subst, length, map, arith}
+use Rattle.std.proofs.Common.{◌≡◌, ◌⊎◌, ◌∙◌, ℕ, ◌+◌, ◌≤◌, Bool, false, true, List, Option, None, Some, Result, Ok, Err, inl, inr, refl, sym, ap, subst, length, arith}
 use Rattle.rr_disk.specs.Disk.{DiskState}
 use Rattle.rr_disk.specs.Moments.{EachImage, LeavesOnly}
 use Rattle.rr_images.specs.Calls.{TakesNewer}
@@ -13,7 +13,7 @@ use Rattle.rr_log.specs.Log as log
 use Rattle.rr_tables.specs.declared.records.rules.TableRules.{TableRules}
 use Rattle.rr_tables.specs.Records.Headline.{KeepsTablesOr}
 use Rattle.rr_tables.specs.Records.Taking.{table_files}
-use Rattle.rr_tables.specs.Records.Words.{in_words, table_in_words}
+use Rattle.rr_tables.specs.Records.Words.{in_words}
 use Rattle.rr_roster.specs.declared.company.Corp.{Corp}
 use Rattle.rr_serve.specs.Serving.{tells_failure}
 use Rattle.rr_store.specs.declared.fault.Fault as store
@@ -22,7 +22,7 @@ use Rattle.rr_store.specs.declared.store.Store.{Store}
 use Rattle.rr_store.specs.Allowing.{BeforeOrAfter}
 use Rattle.rr_store.specs.Committing.{Commits, Spares}
 use Rattle.rr_store.specs.Held.{Held, Takes, Accepted, Refused, Wants, NoRoom, Fails, Again, stamp_after, with_tables}
-use Rattle.rr_store.specs.Holding.{Carries, GamesArePlayed, HasNoRoom, IsFull, IsFullFor, IsUnchanged, disk_of, file_of, held_of, number_of_next, ticks_left}
+use Rattle.rr_store.specs.Holding.{Carries, GamesArePlayed, HasNoRoom, IsFull, IsFullFor, IsUnchanged, disk_of, file_of, held_of, lent_of, number_of_next, ticks_left}
 use Rattle.rr_store.specs.Keeping.{ComesOn, MakesAtMost}
 use Rattle.rr_store.specs.World.{TableRequest, TableState, for_table, judgement_in, state_after, table_named, world_after}
 use Rattle.rr_store.proofs.Standing.{carried_keeps, carried_now, stands_either}
@@ -84,7 +84,7 @@ module _ {D : Type 0} (Honest Works : D → Type 0) (state : D → DiskState) (p
   at_most_two count is = let e : count (disk_of new) ≡ count (disk_of old) = ap count is in omega arith
 
   -- nor any number of such calls
-  within : (count : D → ℕ) → disk_of new ≡ disk_of old → MakesAtMost count (map table_in_words (held_of old).tables) (file_of old) (file_of new)
+  within : (count : D → ℕ) → disk_of new ≡ disk_of old → MakesAtMost count (lent_of old) (file_of old) (file_of new)
   within count is = let few = at_most count is in record { under_way = λ some. omega (arith, few); begun = λ none. omega (arith, few) }
 
   -- what is known of the root behind the last step of a checkpoint, by whether the reply tells of an acceptance
@@ -164,7 +164,7 @@ module _ {D : Type 0} (Honest Works : D → Type 0) (state : D → DiskState) (p
     no_place : Lawful → (at : Store D) → IsFull at name c → HasNoPlace old line at
     no_place lawful at full = record { asked = asked; lawful = gives lawful; full = full }
 
-    cannot_keep : Lawful → (at : Store D) → IsFullFor at name c → CannotKeep old line at
+    cannot_keep : Lawful → (at : Store D) → IsFullFor at (lent_of old) name c → CannotKeep old line at
     cannot_keep lawful at full = record { asked = asked; lawful = gives lawful; full = full }
 
     -- a file that keeps what was held, or that with the lawful request, stands for it
@@ -189,7 +189,7 @@ module _ {D : Type 0} (Honest Works : D → Type 0) (state : D → DiskState) (p
       pub device : tells_failure reply ≡ true → Honest (disk_of new) → (texts : KitTexts) → Carries state old texts → Works (disk_of new) → ⊥
       pub comes_on : tells_acceptance reply ≡ true → (IsFull old name c → ⊥) → ComesOn (file_of old) (file_of new)
       pub makes_room : tells_acceptance reply ≡ true → HasNoRoom old name c → 4 ≤ ticks_left new
-      pub full : tells_full reply ≡ true → IsFullFor new name c
+      pub full : tells_full reply ≡ true → IsFullFor new (lent_of old) name c
 
     reached : (taking : Result ℕ store.Fault) → Lawful → Committed taking → IsToldOf asked (Some asked) taking reply → Ends → Lasting
     reached taking lawful k tells ends =

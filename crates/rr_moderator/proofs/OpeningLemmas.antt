@@ -12,11 +12,10 @@ use Rattle.rr_store.specs.World.{World}
 wants_behind : (past_old : List DiskState) (old : DiskState) (past_new : List DiskState) (new : DiskState) (texts : KitTexts) (tables : World) (fault : store.Fault) → fault ≡ T.OutOfMemory
     → Between past_old old past_new new (λ moments. OpenAllows old moments new (Ok (texts, tables))) → Between past_old old past_new new (λ moments. OpenAllows old moments new (Err fault))
 wants_behind past_old old past_new new texts tables fault wanted opened =
-    let stands = opened.allowed.0.stands in
     record {
       moments = opened.moments;
       passed = opened.passed;
-      allowed = subst (λ (f : store.Fault). OpenAllows old opened.moments new (Err f)) (sym wanted) (opened.allowed.1, (stands.side, stands.root, (stands.stale, stands.taken)));
+      allowed = subst (λ (f : store.Fault). OpenAllows old opened.moments new (Err f)) (sym wanted) (opened.allowed.0, opened.allowed.1);
     }
 
 pub wants_memory : {D : Type 0} (state : D → DiskState) (past : D → List DiskState) (old opened new : D) (texts : KitTexts) (tables : World) (fault : store.Fault) → fault ≡ T.OutOfMemory → new ≡ opened

@@ -1,5 +1,5 @@
 -- What the file has of a moderator's tables, whatever a stop leaves.
-use Rattle.std.specs.Prelude.{◌≡◌, ◌⊎◌, ℕ, ◌+◌, ◌≤◌, ◌||◌, Bool, false, true, List, [], ◌∷◌, Option, None, Some, Result, Ok, Err, nat_eq, codes, map}
+use Rattle.std.specs.Prelude.{◌≡◌, ◌⊎◌, ℕ, ◌+◌, ◌≤◌, ◌||◌, Bool, false, true, List, [], ◌∷◌, Option, None, Some, Result, Ok, Err, nat_eq, codes}
 use Rattle.std.specs.List.{starts_with}
 use Rattle.rr_code.specs.Request.{record_text}
 use Rattle.rr_disk.specs.Disk.{DiskState, counted}
@@ -10,14 +10,14 @@ use Rattle.rr_images.specs.Steps.{with_line}
 use Rattle.rr_kit.specs.Kits.{KitTexts, SpellsKit}
 use Rattle.rr_tables.specs.Records.Headline.{KeepsTablesOr}
 use Rattle.rr_tables.specs.Records.Taking.{table_files}
-use Rattle.rr_tables.specs.Records.Words.{in_words, table_in_words}
+use Rattle.rr_tables.specs.Records.Words.{in_words}
 use Rattle.rr_store.specs.declared.fault.Fault as store
 use Rattle.rr_store.specs.declared.store.Store.{Store}
 use Rattle.rr_store.specs.Allowing.{BeforeOrAfter}
 use Rattle.rr_store.specs.Committing.{Commits}
 use Rattle.rr_store.specs.Files.{StandsFor}
 use Rattle.rr_store.specs.Held.{Held, with_tables}
-use Rattle.rr_store.specs.Holding.{Carries, GamesArePlayed, HasNoRoom, IsFull, IsFullFor, IsUnchanged, Rests, disk_of, file_of, held_of, number_of_next, ticks_left}
+use Rattle.rr_store.specs.Holding.{Carries, GamesArePlayed, HasNoRoom, IsFull, IsFullFor, IsUnchanged, Rests, disk_of, file_of, held_of, lent_of, number_of_next, ticks_left}
 use Rattle.rr_store.specs.Keeping.{ComesOn, MakesAtMost}
 use Rattle.rr_store.specs.World.{TableRequest, state_after, table_named, world_after}
 use Rattle.rr_moderator.specs.Answer.{accepted_text}
@@ -73,11 +73,11 @@ pub record HasNoPlace {D : Type 0} (old : Store D) (line : List ℕ) (store : St
   pub lawful : Gives (held_of old) line asked
   pub full : IsFull store asked.name asked.request
 
--- the line gives a lawful request, which this store can't keep, and for which no checkpoint makes room
+-- the line gives a lawful request, which this store can't keep, and for which no checkpoint of what was lent makes room
 pub record CannotKeep {D : Type 0} (old : Store D) (line : List ℕ) (store : Store D) : Type 0 where
   pub asked : TableRequest
   pub lawful : Gives (held_of old) line asked
-  pub full : IsFullFor store asked.name asked.request
+  pub full : IsFullFor store (lent_of old) asked.name asked.request
 
 -- the half in use has no room for the record of the pending request
 abbrev pub MeetsFullHalf : {D : Type 0} → Store D → Option TableRequest → Type 0
@@ -151,8 +151,8 @@ pub record Lasts {D : Type 0} (Honest Works : D → Type 0) (state : D → DiskS
   pub few_syncs : (HasNoPlace old line old → ⊥) → syncs (disk_of new) ≤ syncs (disk_of old) + 3
   pub own_writes : (HasNoPlace old line old → ⊥) → Rests old → writes (disk_of new) ≤ writes (disk_of old) + 2
   pub own_syncs : (HasNoPlace old line old → ⊥) → Rests old → syncs (disk_of new) ≤ syncs (disk_of old) + 2
-  pub most_writes : MakesAtMost writes (map table_in_words (held_of old).tables) (file_of old) (file_of new)
-  pub most_syncs : MakesAtMost syncs (map table_in_words (held_of old).tables) (file_of old) (file_of new)
+  pub most_writes : MakesAtMost writes (lent_of old) (file_of old) (file_of new)
+  pub most_syncs : MakesAtMost syncs (lent_of old) (file_of old) (file_of new)
   pub comes_on : tells_acceptance reply ≡ true → (HasNoPlace old line old → ⊥) → ComesOn (file_of old) (file_of new)
   pub makes_room : tells_acceptance reply ≡ true → MeetsFullHalf old pending → 4 ≤ ticks_left new
   pub full : tells_full reply ≡ true → CannotKeep old line new

@@ -23,7 +23,7 @@ ghost use Rattle.rr_store.specs.Allowing.{Between};
 ghost use Rattle.rr_store.specs.Committing.{Commits};
 ghost use Rattle.rr_store.specs.Events as calls;
 ghost use Rattle.rr_store.specs.Fault.{CountsFailure, OnDevice};
-ghost use Rattle.rr_store.specs.Files.{AreTablesOf};
+ghost use Rattle.rr_store.specs.Files.{AreTablesOf, StandsFor};
 ghost use Rattle.rr_store.specs.Holding.{Carries, GamesArePlayed, HasNoneBegun, root_of, ticks_left};
 ghost use Rattle.rr_store.specs.Holding as held_in;
 ghost use Rattle.rr_store.specs.Opening.{IsNoVerdict, OpenAllows};
@@ -68,16 +68,17 @@ pub struct Moderator<D: Drop> {
 }
 
 impl<D: Disk + Drop> Moderator<D> {
-    /// Opens a file that `format` made, and plays what was accepted into it again. It makes a sync, and no write.
+    /// Opens a file that `format` made, and plays what was accepted into it again, from the last snapshot of each table,
+    /// which is trusted. It makes a sync, and no write.
     ///
     /// # Errors
     /// `DeviceFailed`; `NotAStore` where the file has no roots of this version; `Damaged` with the least clause that it
     /// breaks; `OutOfMemory`, and only where a root is taken.
     pub fn open(alloc: Global, disk: D) -> Result<Moderator<D>, Refused<D>>
-        // The moderator holds what the file stands for; else the file breaks a clause, or the device failed or memory
-        // was wanted. Whatever is answered, the sync was made, unless the device failed.
-        ensures opened { IfOk result (λ moderator. D.Honest (disk_under moderator)
-            → Opens (D.state disk).content (held_of moderator)) }
+        // The moderator holds what the file stands for, if it stands for a world; else the file breaks a clause, or the
+        // device failed or memory was wanted. Whatever is answered, the sync was made, unless the device failed.
+        ensures opened { IfOk result (λ moderator. D.Honest (disk_under moderator) → (texts : KitTexts) (tables : World)
+            → StandsFor (D.state disk).content texts tables → Opens (D.state disk).content (held_of moderator)) }
         ensures stands { IfOk result (λ moderator. D.Honest (disk_under moderator) → (texts : KitTexts)
             × Between (D.past disk) (D.state disk) (D.past (disk_under moderator)) (D.state (disk_under moderator))
             (λ moments. OpenAllows (D.state disk) moments (D.state (disk_under moderator)) (Ok (texts, (held_of moderator).tables)))
@@ -97,10 +98,12 @@ impl<D: Disk + Drop> Moderator<D> {
         // As a call on the store it is an opening of a session.
         ensures opening { calls.Opens D.Honest D.state D.past disk (as_of_store result) }
 
-        // Of every disk: nothing is held that the rules of a right kit don't allow, and the device hasn't failed.
-        ensures played { IfOk result (λ moderator. (texts : KitTexts)
-            × SpellsKit texts (held_of moderator).kit × AreTablesOf (held_of moderator).kit (held_of moderator).tables) }
-        ensures each { IfOk result (λ moderator. GamesArePlayed (store_of moderator)) }
+        // Where the file stands for a world, each table in memory was played by the rules of the kit.
+        ensures played { IfOk result (λ moderator. D.Honest (disk_under moderator) → (texts : KitTexts) (tables : World)
+            → StandsFor (D.state disk).content texts tables → GamesArePlayed (store_of moderator)) }
+
+        // Of every disk: the kit is a right one, and the device hasn't failed.
+        ensures kit { IfOk result (λ moderator. (texts : KitTexts) × SpellsKit texts (held_of moderator).kit) }
         ensures whole { IfOk result (λ moderator. (held_of moderator).broken ≡ false) }
         ensures honest { IfOk result (λ moderator. D.Honest (disk_under moderator) → D.Honest disk) }
         ensures honest_left { IfErr result (λ refused. D.Honest refused.disk → D.Honest disk) }

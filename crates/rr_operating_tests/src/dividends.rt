@@ -1,7 +1,6 @@
 //! Dividends of PRR, of which the first seat holds 60%, the pool 20% and the offering 20%.
 use crate::fixtures::{A, B, ROSTER, chart, fund, give, mark, position, roster};
 use rr_books::{Act, Cell, Cert, Corp, Entry, Marker, Money, Party, Place, ShareNumber};
-use rr_chart::Chart;
 use rr_desk::{Desk, Position};
 use rr_operate::dividends::laws::{
     dividends_move_tokens, entries_are_these, nobody_is_paid_for_the_offering, pays_each_holder,
@@ -9,6 +8,7 @@ use rr_operate::dividends::laws::{
 };
 use rr_operate::dividends::{judge_pay, pay_out, withhold};
 use rr_roster::Roster;
+use rr_roster::chart::Chart;
 use std::alloc::Global;
 use std::process::Abort;
 

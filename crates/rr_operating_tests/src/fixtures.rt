@@ -3,10 +3,10 @@ ghost use Rattle.std.specs.Prelude.{◌<◌};
 ghost use Rattle.rr_books.specs.State.{party_index};
 
 use rr_books::{Cell, Cert, Corp, Entry, Kind, Marker, Money, Party, Place, Seat, Train};
-use rr_chart::Chart;
 use rr_desk::Position;
 use rr_kit::Kit;
 use rr_roster::Roster;
+use rr_roster::chart::Chart;
 use rr_words::HexName;
 use std::alloc::Global;
 use std::process::Abort;

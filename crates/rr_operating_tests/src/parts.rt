@@ -2,7 +2,7 @@
 use crate::fixtures::{ROSTER, roster};
 use rr_books::Money;
 use rr_rules::{Standing, StandingParts};
-use rr_spelling::{Cursor, Spell};
+use rr_words::spelling::{Cursor, Spell};
 use std::alloc::Global;
 use std::process::Abort;
 

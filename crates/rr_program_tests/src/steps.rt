@@ -95,26 +95,36 @@ fn first_other_row(alloc: Global, rows: &[(u64, u64)]) -> Result<Option<usize>, 
     Ok(None)
 }
 
-// The record of a command is two writes and two syncs. Before those of the 129th to the 134th come the six steps of a
-// checkpoint of two fresh pages, one for the table and one for the directory: a sync, since slot 0 of the other half is
-// shut already; a write for each page; a sync, since the gate of the older root is shut already; the root and a sync;
-// its gate and a sync. The 135th command has its record alone.
+// The record of a command is two writes and two syncs. Before those of the 129th to the 135th come the seven steps of a
+// checkpoint of three fresh pages, for the table, its snapshot and the directory: a sync, since slot 0 of the other half
+// is shut already; a write for each page; a sync, since the gate of the older root is shut already; the root and a sync;
+// its gate and a sync. The 136th command has its record alone.
 #[test]
 fn each_step_of_a_checkpoint_comes_with_a_command(rt: HostRuntime) -> Result<(), Fail> {
-    let rows = [(2, 3), (3, 2), (3, 2), (2, 3), (3, 3), (3, 3), (2, 2)];
+    let rows = [
+        (2, 3),
+        (3, 2),
+        (3, 2),
+        (3, 2),
+        (2, 3),
+        (3, 3),
+        (3, 3),
+        (2, 2),
+    ];
     assert!(rt; first_other_row(rt.alloc(), &rows)?.is_none());
     Ok(())
 }
 
-/// Whether these six commands make 16 writes and 16 syncs: twelve of each for their records, and four for the steps.
-fn are_sixteen_each(alloc: Global) -> Result<bool, Fail> {
+/// Whether these seven commands make 19 writes and 18 syncs: fourteen of each for their records, and the rest for the
+/// steps.
+fn are_for_seven_steps(alloc: Global) -> Result<bool, Fail> {
     let before = calls_for(alloc, DUE)?;
-    let behind = calls_for(alloc, DUE + 6)?;
-    Ok(before.taken && are_between(before, behind, (16, 16)))
+    let behind = calls_for(alloc, DUE + 7)?;
+    Ok(before.taken && are_between(before, behind, (19, 18)))
 }
 
 #[test]
-fn a_checkpoint_of_two_pages_takes_six_commands(rt: HostRuntime) -> Result<(), Fail> {
-    assert!(rt; are_sixteen_each(rt.alloc())?);
+fn a_checkpoint_of_three_pages_takes_seven_commands(rt: HostRuntime) -> Result<(), Fail> {
+    assert!(rt; are_for_seven_steps(rt.alloc())?);
     Ok(())
 }

@@ -4,9 +4,7 @@ use Rattle.std.proofs.lemmas.Bool.{and_from, and_parts}
 use Rattle.std.proofs.lemmas.List.{map-append, take_more, take_all, length-map}
 use Rattle.std.proofs.lemmas.List.Sums.{fold-append}
 use Rattle.rr_reading.specs.declared.dir.directory.ChainRef.{ChainRef}
-use Rattle.rr_reading.specs.declared.dir.directory.KitChains.{KitChains}
-use Rattle.rr_reading.specs.declared.dir.directory.TableEntry.{TableEntry}
-use Rattle.rr_reading.specs.Dir.Heads.{head_of, heads_of}
+use Rattle.rr_reading.specs.Dir.Heads.{head_of}
 use Rattle.rr_images.specs.Following.{AllRead}
 use Rattle.rr_images.specs.Holding.{HeldChain}
 use Rattle.rr_pages.specs.declared.fault.Damage.{Damage}
@@ -180,29 +178,19 @@ pub all_heads : (file : List ℕ) (count : ℕ) (before after : List Bool) (chai
     → AreRead file count before (map head_of chains) after least read
 all_heads file count before after chains n least read past are = subst (λ (cs : List ChainRef). AreRead file count before (map head_of cs) after least read) (take_all n chains past) are
 
--- the chains of tables
-pub tables_heads : (tables : List TableEntry) → map head_of (map (λ (table : TableEntry). table.chain) tables) ≡ map (λ (table : TableEntry). head_of table.chain) tables
-tables_heads [] = refl
-tables_heads (table ∷ tables) = ap (λ (hs : List (ℕ × ℕ)). head_of table.chain ∷ hs) (tables_heads tables)
+-- the chains that entries name are added one after another
+module _ {X : Type 0} (chain_of : X → ChainRef) (before : List ChainRef) (entries : List X) where
+  pub named_all : (chains : List ChainRef) (i : ℕ) → length entries ≤ i → map head_of chains ≡ map head_of before ++ map (λ (x : X). head_of (chain_of x)) (take i entries) → map head_of chains ≡ map head_of before ++ map (λ (x : X). head_of (chain_of x)) entries
+  named_all chains i past so_far = so_far ∙ ap (λ (xs : List X). map head_of before ++ map (λ (x : X). head_of (chain_of x)) xs) (take_all i entries past)
 
-abbrev pub named_by : KitChains → List TableEntry → List ChainRef
-named_by kit tables = kit.chart ∷ kit.roster ∷ kit.tiles ∷ kit.board ∷ map (λ (table : TableEntry). table.chain) tables
-
-pub named_heads : (kit : KitChains) (tables : List TableEntry) (chains : List ChainRef) (n : ℕ) → chains ≡ named_by kit (take n tables) → length tables ≤ n → map head_of chains ≡ heads_of (record { kit = kit; tables = tables })
-named_heads kit tables chains n is past =
-    ap (λ (cs : List ChainRef). map head_of cs) (is ∙ ap (named_by kit) (take_all n tables past))
-    ∙ ap (λ (hs : List (ℕ × ℕ)). head_of kit.chart ∷ head_of kit.roster ∷ head_of kit.tiles ∷ head_of kit.board ∷ hs) (tables_heads tables)
-
-pub named_each : (kit : KitChains) (tables : List TableEntry) (chains : List ChainRef) (n : ℕ) → chains ≡ named_by kit (take n tables) → length tables ≤ n → length chains ≡ length tables + 4
-named_each kit tables chains n is past =
-    let all : chains ≡ named_by kit tables = is ∙ ap (named_by kit) (take_all n tables past) in
-    omega (arith, ap (λ (cs : List ChainRef). length cs) all, length-map tables (λ (table : TableEntry). table.chain))
-
-pub named_more : (kit : KitChains) (tables : List TableEntry) (chains grown : List ChainRef) (n : ℕ) (table : TableEntry) → chains ≡ named_by kit (take n tables) → grown ≡ chains ++ table.chain ∷ [] → n < length tables → table ≡ get_or tables n table
-    → grown ≡ named_by kit (take (n + 1) tables)
-named_more kit tables chains grown n table is pushed within item =
-    let more : map (λ (t : TableEntry). t.chain) (take (n + 1) tables) ≡ map (λ (t : TableEntry). t.chain) (take n tables) ++ table.chain ∷ [] =
-    ap (λ (ts : List TableEntry). map (λ (t : TableEntry). t.chain) ts) (take_more tables n table within)
-    ∙ (map-append (λ (t : TableEntry). t.chain) (take n tables) (get_or tables n table ∷ [])
-    ∙ ap (λ (t : TableEntry). map (λ (u : TableEntry). u.chain) (take n tables) ++ t.chain ∷ []) (sym item)) in
-    pushed ∙ (ap (λ (cs : List ChainRef). cs ++ table.chain ∷ []) is ∙ ap (λ (cs : List ChainRef). kit.chart ∷ kit.roster ∷ kit.tiles ∷ kit.board ∷ cs) (sym more))
+  pub named_each : (chains : List ChainRef) → map head_of chains ≡ map head_of before ++ map (λ (x : X). head_of (chain_of x)) entries → length chains ≡ length before + length entries
+  named_each chains named =
+      let head = λ (x : X). head_of (chain_of x) in
+      omega (
+        arith,
+        ap (λ (hs : List (ℕ × ℕ)). length hs) named,
+        length-append (map head_of before) (map head entries),
+        length-map chains head_of,
+        length-map before head_of,
+        length-map entries head,
+      )

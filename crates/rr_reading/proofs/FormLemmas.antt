@@ -1,7 +1,7 @@
 -- The form of what the tables' chains hold, table by table.
-use Rattle.std.proofs.Common.{◌≡◌, ◌↔◌, ℕ, zero, suc, ◌+◌, ◌<◌, ◌≤◌, true, List, [], ◌∷◌, length, drop, get_or, refl, sym, ap, ◌∙◌, subst, arith}
-use Rattle.std.proofs.lemmas.List.{drop_more, drop_all}
-use Rattle.std.proofs.lemmas.Bool.{and_parts}
+use Rattle.std.proofs.Common.{◌≡◌, ◌↔◌, ℕ, zero, suc, ◌+◌, ◌<◌, ◌≤◌, true, List, [], ◌∷◌, ◌++◌, length, take, drop, get_or, refl, sym, ap, ◌∙◌, subst, arith}
+use Rattle.std.proofs.lemmas.List.{drop_more, drop_all, length-map, length-take-le, map-append, take-append-drop}
+use Rattle.std.proofs.lemmas.Bool.{and_from, and_parts}
 use Rattle.rr_images.specs.Holding.{HeldChain}
 use Rattle.rr_pages.specs.declared.fault.Damage.{Damage}
 use Rattle.rr_pages.specs.declared.fault.Damage.TheVariants.{Form}
@@ -12,10 +12,9 @@ use Rattle.rr_reading.specs.declared.fault.Fault.{Fault}
 use Rattle.rr_reading.specs.declared.fault.Fault.TheVariants as F
 use Rattle.rr_reading.specs.declared.named.FollowedTexts.{FollowedTexts}
 use Rattle.rr_reading.specs.Chains.{all_held_in, held_in, HoldsCommands, AreOfForm}
-use Rattle.rr_reading.specs.Faults.{IsNoVerdict}
 use Rattle.rr_reading.specs.Held.{TextChains, chains_of}
 use Rattle.rr_reading.specs.Reading.{HasRoot, IsDamage, Refuses}
-use Rattle.rr_reading.specs.Texts.{TextsFit, named_after}
+use Rattle.rr_reading.specs.Texts.{TextsFit, named_after, texts_held_in}
 use Rattle.rr_reading.specs.Told.{RefusesForm}
 use Rattle.rr_reading.specs.Lending.Fitting.{each_fits, links_at}
 use Rattle.rr_reading.specs.Lending.Pages.{joined}
@@ -62,7 +61,18 @@ module _ (file : List ℕ) (entries : List TableEntry) (all : List FollowedChain
 pub all_left : (entries : List TableEntry) (chains : List HeldChain) (n : ℕ) → length entries ≤ n → LeftDecide entries chains n → AreOfForm entries chains
 all_left entries chains n past decide = decide.0 (subst (λ (es : List TableEntry). AreOfForm es (drop n chains)) (sym (drop_all n entries past)) tt)
 
--- chains of texts in front of those of tables
+-- what stands behind the chains of tables says nothing of their form
+pub forms_behind : (entries : List TableEntry) (tables more : List HeldChain) → AreOfForm entries tables → AreOfForm entries (tables ++ more)
+forms_behind [] tables more are = tt
+forms_behind (entry ∷ entries) [] more are = absurd are
+forms_behind (entry ∷ entries) (table ∷ tables) more are = (are.0, forms_behind entries tables more are.1)
+
+pub forms_before : (entries : List TableEntry) (tables more : List HeldChain) → length entries ≤ length tables → AreOfForm entries (tables ++ more) → AreOfForm entries tables
+forms_before [] tables more few are = tt
+forms_before (entry ∷ entries) [] more few are = absurd (omega (arith, few))
+forms_before (entry ∷ entries) (table ∷ tables) more few are = (are.0, forms_before entries tables more (omega (arith, few)) are.1)
+
+-- chains of texts in front of the others
 pub record FourFirst (file : List ℕ) (chains : List FollowedChain) : Type 0 where
   pub texts : TextChains
   pub halves : all_held_in file chains ≡ chains_of texts (all_held_in file (drop 4 chains))
@@ -88,6 +98,49 @@ parts_fit count texts tables chains is fit =
     let d = and_parts (all_fit count texts.board.links.items) (each_fits count tables) c.1 in
     record { texts_fit = record { chart = a.0; roster = b.0; tiles = c.0; board = d.0 }; tables_fit = d.1 }
 
+-- of those at a place, before one and behind one
+pub fits_at : (count : ℕ) (chains : List FollowedChain) (n : ℕ) (default : FollowedChain) → each_fits count chains ≡ true → n < length chains → all_fit count (get_or chains n default).links.items ≡ true
+fits_at count [] n default fit within = absurd (omega (arith, within))
+fits_at count (chain ∷ chains) zero default fit within = (and_parts (all_fit count chain.links.items) (each_fits count chains) fit).0
+fits_at count (chain ∷ chains) (suc n) default fit within = fits_at count chains n default (and_parts (all_fit count chain.links.items) (each_fits count chains) fit).1 (omega (arith, within))
+
+pub fits_before : (count : ℕ) (chains : List FollowedChain) (n : ℕ) → each_fits count chains ≡ true → each_fits count (take n chains) ≡ true
+fits_before count chains zero fit = refl
+fits_before count [] (suc n) fit = refl
+fits_before count (chain ∷ chains) (suc n) fit =
+    let parts = and_parts (all_fit count chain.links.items) (each_fits count chains) fit in
+    and_from (all_fit count chain.links.items) (each_fits count (take n chains)) parts.0 (fits_before count chains n parts.1)
+
+pub fits_behind : (count : ℕ) (chains : List FollowedChain) (n : ℕ) → each_fits count chains ≡ true → each_fits count (drop n chains) ≡ true
+fits_behind count chains zero fit = fit
+fits_behind count [] (suc n) fit = refl
+fits_behind count (chain ∷ chains) (suc n) fit = fits_behind count chains n (and_parts (all_fit count chain.links.items) (each_fits count chains) fit).1
+
+-- chains that were parted behind those of tables
+pub held_parted : (file : List ℕ) (chains tables more : List FollowedChain) (n : ℕ) → tables ≡ take n chains → more ≡ drop n chains → all_held_in file chains ≡ all_held_in file tables ++ all_held_in file more
+held_parted file chains tables more n before behind =
+    let all : chains ≡ tables ++ more = sym (take-append-drop n chains) ∙ (λ i. sym before i ++ sym behind i) in
+    ap (all_held_in file) all ∙ map-append (held_in file) tables more
+
+-- of a disk that has later what it had: the chains behind those of tables needn't be of any form
+pub forms_parted : (file now : List ℕ) (entries judged : List TableEntry) (rest tables : List FollowedChain) (n : ℕ) → now ≡ file → judged ≡ entries → tables ≡ take n rest → n ≡ length entries → n ≤ length rest → AreOfForm entries (all_held_in file rest)
+    → AreOfForm judged (all_held_in now tables)
+forms_parted file now entries judged rest tables n same same_entries before few within are =
+    let more = all_held_in file (drop n rest) in
+    let there : AreOfForm entries (all_held_in file tables ++ more) = subst (λ (cs : List HeldChain). AreOfForm entries cs) (held_parted file rest tables (drop n rest) n before refl) are in
+    let long : length tables ≡ n = ap (λ (cs : List FollowedChain). length cs) before ∙ length-take-le n rest within in
+    let here = forms_before entries (all_held_in file tables) more (omega (arith, few, long, length-map tables (held_in file))) there in
+    subst (λ (P : Type 0). P) (λ i. AreOfForm (sym same_entries i) (all_held_in (sym same i) tables)) here
+
+-- all chains that a directory names, by what was read of each part
+pub held_named : (file now : List ℕ) (chains rest tables lent more read : List FollowedChain) (followed : FollowedTexts) (n : ℕ) (texts : TextChains) (snapshots : List HeldChain) → chains ≡ named_after followed rest → tables ≡ take n rest → lent ≡ tables → more ≡ drop n rest → read ≡ more
+    → now ≡ file → texts ≡ texts_held_in file followed → snapshots ≡ all_held_in now read → all_held_in file chains ≡ chains_of texts (all_held_in file lent ++ snapshots)
+held_named file now chains rest tables lent more read followed n texts snapshots named before lent_are behind read_are same texts_are snapshots_are =
+    let of_lent : all_held_in file tables ≡ all_held_in file lent = ap (all_held_in file) (sym lent_are) in
+    let of_read : all_held_in file more ≡ snapshots = (λ i. all_held_in (sym same i) (sym read_are i)) ∙ sym snapshots_are in
+    let others : all_held_in file rest ≡ all_held_in file lent ++ snapshots = held_parted file rest tables more n before behind ∙ (λ i. of_lent i ++ of_read i) in
+    ap (all_held_in file) named ∙ (λ i. chains_of (sym texts_are i) (others i))
+
 -- what is told of the form of tables
 pub refuses_form : (file : List ℕ) (fault : Fault) (P : Type 0) → RefusesForm fault P → ((P → ⊥) → IsDamage file Form) → HasRoot file → Refuses file fault
 refuses_form file (F.Damaged damage) P told damaged has = subst (λ (d : Damage). IsDamage file d) (sym told.0) (damaged told.1)
@@ -95,16 +148,7 @@ refuses_form file F.NotAStore P told damaged has = absurd told
 refuses_form file (F.Disk fault) P told damaged has = tt
 refuses_form file F.OutOfMemory P told damaged has = has
 
--- no verdict says nothing of a form
-pub no_verdict_of : (fault : Fault) (P : Type 0) → IsNoVerdict fault → RefusesForm fault P
-no_verdict_of (F.Damaged damage) P none = absurd none
-no_verdict_of F.NotAStore P none = absurd none
-no_verdict_of (F.Disk fault) P none = tt
-no_verdict_of F.OutOfMemory P none = tt
-
-pub wanting_no_verdict : (fault : Fault) → fault ≡ F.OutOfMemory → IsNoVerdict fault
-wanting_no_verdict fault wanted = subst IsNoVerdict (sym wanted) tt
-
+-- what refuses a form refuses each that needs it
 pub forms_along : (fault : Fault) (P Q : Type 0) → (Q → P) → RefusesForm fault P → RefusesForm fault Q
 forms_along (F.Damaged damage) P Q so told = (told.0, λ q. told.1 (so q))
 forms_along F.NotAStore P Q so told = told

@@ -1,9 +1,10 @@
 -- A file has one answer: each step of a reading leads on in one way, or ends in one.
-use Rattle.std.proofs.Common.{◌≡◌, inl, inr, ℕ, ◌+◌, Bool, false, List, [], ◌∷◌, length, Option, None, Some, sym, ap, ◌∙◌, subst}
+use Rattle.std.proofs.Common.{◌≡◌, inl, inr, ℕ, ◌+◌, Bool, false, List, [], ◌∷◌, ◌++◌, length, Option, None, Some, sym, ap, ◌∙◌, subst}
 use Rattle.std.proofs.lemmas.List.{ext_get_or}
 use Rattle.rr_reading.specs.declared.dir.version.Version.{Version}
 use Rattle.rr_reading.specs.Dir.Directory.{Directory, Spells}
 use Rattle.rr_reading.specs.Dir.Heads.{heads_of}
+use Rattle.rr_reading.proofs.DirLemmas.PieceLemmas.{cut_same}
 use Rattle.rr_reading.proofs.DirLemmas.TableLemmas.{one_directory}
 use Rattle.rr_images.specs.Following.{AllRead}
 use Rattle.rr_images.specs.Holding.{HeldChain}
@@ -131,25 +132,26 @@ module _ (file : List ℕ) where
       is ∙ ((λ i. directory_chain (one.chains i) ∷ one_followed file root.pages (heads_of directory) reached after then named more followed goes i) ∙ sym other_is)
 
   -- what was read of a root and of its chains is what any reading finds
-  pub record SameChains (tables others : List HeldChain) (directory other : Directory) : Type 0 where
-    pub same_tables : tables ≡ others
+  pub record SameChains (first second : List HeldChain) (directory other : Directory) : Type 0 where
+    pub same_others : first ≡ second
     pub same_directory : directory ≡ other
 
-  tables_of : (texts others : TextChains) (tables more : List HeldChain) → chains_of texts tables ≡ chains_of others more → tables ≡ more
-  tables_of texts others tables more same = cc
+  others_of : (texts others : TextChains) (first second : List HeldChain) → chains_of texts first ≡ chains_of others second → first ≡ second
+  others_of texts others first second same = cc
 
-  pub same_chains : (a : HasBadTable file) (side : Bool) (root : Root) (directory : Directory) (chain : HeldChain) (texts : TextChains) (tables : List HeldChain) (reached : List Bool) → HoldsChains file side root directory chain texts tables reached
-      → SameChains a.tables tables a.directory directory
-  same_chains a side root directory chain texts tables reached holds =
+  pub same_chains : (a : HasBadTable file) (side : Bool) (root : Root) (directory : Directory) (chain : HeldChain) (texts : TextChains) (tables snapshots : List HeldChain) (reached : List Bool) → HoldsChains file side root directory chain texts tables snapshots reached
+      → SameChains a.others (tables ++ snapshots) a.directory directory
+  same_chains a side root directory chain texts tables snapshots reached holds =
+      let others = tables ++ snapshots in
       let same = same_root a.side side a.root root a.has_directory.taken holds.has_directory.taken in
       let there : HasDirectory file a.side a.root holds.of_directory chain directory = has_there a.side side a.root root holds.of_directory chain directory same holds.has_directory in
       let one = one_directory_of a.root a.of_directory holds.of_directory a.chain chain a.directory directory a.has_directory.read there.read a.has_directory.form there.form in
-      let goes : AllRead file a.root.pages a.of_directory (heads_of a.directory) reached (chains_of texts tables) =
-      subst (λ (d : Directory). AllRead file a.root.pages a.of_directory (heads_of d) reached (chains_of texts tables)) (sym one.directories)
-      (subst (λ (marks : List Bool). AllRead file a.root.pages marks (heads_of directory) reached (chains_of texts tables)) (sym one.reached)
-      (subst (λ (r : Root). AllRead file r.pages holds.of_directory (heads_of directory) reached (chains_of texts tables)) (sym same.1) holds.whole)) in
-      let all = one_all file a.root.pages (heads_of a.directory) a.of_directory a.reached reached (chains_of a.texts a.tables) (chains_of texts tables) a.whole goes in
-      record { same_tables = tables_of a.texts texts a.tables tables all.1; same_directory = one.directories }
+      let goes : AllRead file a.root.pages a.of_directory (heads_of a.directory) reached (chains_of texts others) =
+      subst (λ (d : Directory). AllRead file a.root.pages a.of_directory (heads_of d) reached (chains_of texts others)) (sym one.directories)
+      (subst (λ (marks : List Bool). AllRead file a.root.pages marks (heads_of directory) reached (chains_of texts others)) (sym one.reached)
+      (subst (λ (r : Root). AllRead file r.pages holds.of_directory (heads_of directory) reached (chains_of texts others)) (sym same.1) holds.whole)) in
+      let all = one_all file a.root.pages (heads_of a.directory) a.of_directory a.reached reached (chains_of a.texts a.others) (chains_of texts others) a.whole goes in
+      record { same_others = others_of a.texts texts a.others others all.1; same_directory = one.directories }
 
   same_texts : (texts others : TextChains) (tables more : List HeldChain) → chains_of texts tables ≡ chains_of others more → texts ≡ others
   same_texts texts others tables more same =
@@ -169,13 +171,16 @@ module _ (file : List ℕ) where
       let form : IsDirectory first.root.version first.chain.text second.directory =
       subst (λ (chain : HeldChain). IsDirectory first.root.version chain.text second.directory) (sym one.1) (subst (λ (r : Root). IsDirectory r.version second.chain.text second.directory) (sym root.1) of_b.form) in
       let directory = one_meaning first.root.version first.chain.text first.directory second.directory of_a.form form in
-      let there : AllRead file first.root.pages a.chains.of_directory (heads_of first.directory) second.reached (chains_of second.texts second.tables) =
-      subst (λ (d : Directory). AllRead file first.root.pages a.chains.of_directory (heads_of d) second.reached (chains_of second.texts second.tables)) (sym directory)
-      (subst (λ (marks : List Bool). AllRead file first.root.pages marks (heads_of second.directory) second.reached (chains_of second.texts second.tables)) (sym one.0)
-      (subst (λ (r : Root). AllRead file r.pages b.chains.of_directory (heads_of second.directory) second.reached (chains_of second.texts second.tables)) (sym root.1) b.chains.whole)) in
-      let all = one_all file first.root.pages (heads_of first.directory) a.chains.of_directory first.reached second.reached (chains_of first.texts first.tables) (chains_of second.texts second.tables) a.chains.whole there in
-      let texts = same_texts first.texts second.texts first.tables second.tables all.1 in
-      let tables = tables_of first.texts second.texts first.tables second.tables all.1 in
+      let of_first = first.tables ++ first.snapshots in
+      let of_second = second.tables ++ second.snapshots in
+      let there : AllRead file first.root.pages a.chains.of_directory (heads_of first.directory) second.reached (chains_of second.texts of_second) =
+      subst (λ (d : Directory). AllRead file first.root.pages a.chains.of_directory (heads_of d) second.reached (chains_of second.texts of_second)) (sym directory)
+      (subst (λ (marks : List Bool). AllRead file first.root.pages marks (heads_of second.directory) second.reached (chains_of second.texts of_second)) (sym one.0)
+      (subst (λ (r : Root). AllRead file r.pages b.chains.of_directory (heads_of second.directory) second.reached (chains_of second.texts of_second)) (sym root.1) b.chains.whole)) in
+      let all = one_all file first.root.pages (heads_of first.directory) a.chains.of_directory first.reached second.reached (chains_of first.texts of_first) (chains_of second.texts of_second) a.chains.whole there in
+      let texts = same_texts first.texts second.texts of_first of_second all.1 in
+      let parts = cut_same first.tables second.tables first.snapshots second.snapshots
+      (a.chains.counted ∙ ap (λ (d : Directory). length d.tables) directory ∙ sym b.chains.counted) (others_of first.texts second.texts of_first of_second all.1) in
       let near = one_run file first.root.half 0 first.root.first first.near second.near first.near_end second.near_end a.near_run
       (subst (λ (r : Root). Run file r.half 0 r.first second.near second.near_end) (sym root.1) b.near_run) in
       let behind : Run file (other_half first.root.half) 0 (first.root.first + length first.near) second.far second.far_end =
@@ -188,7 +193,8 @@ module _ (file : List ℕ) where
         directory = directory i;
         chain = one.1 i;
         texts = texts i;
-        tables = tables i;
+        tables = parts.0 i;
+        snapshots = parts.1 i;
         reached = all.0 i;
         near = sym near.0 i;
         near_end = sym near.1 i;

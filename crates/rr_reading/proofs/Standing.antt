@@ -40,7 +40,7 @@ module _ (codec : Codec) (names : NamesChains codec) (file : List ℕ) where
         chains = holds.chains.whole;
       }
 
-  pub held_stands : (has : Held) (base world : codec.World) → Holds file has → codec.Spells has.root.version has.chain.text (texts_of (chains_of has.texts has.tables)) base
+  pub held_stands : (has : Held) (base world : codec.World) → Holds file has → codec.Spells has.root.version has.chain.text (texts_of (chains_of has.texts (has.tables ++ has.snapshots))) base
       → has.near_end ≢ ends.Damaged → has.far_end ≢ ends.Damaged → Replays codec base (has.near ++ has.far) world → Stands codec file world
   held_stands has base world holds spells near_whole far_whole replayed =
       let taken = holds.chains.has_directory.taken in
@@ -122,7 +122,7 @@ module _ (codec : Codec) (names : NamesChains codec) (file : List ℕ) where
   all_refused forms damage damaged = refused damage damaged.broken (λ bad.
       let has = bad.has_directory in
       Nothing_spelled bad.side bad.root has.taken.0 has.taken.1 (record {
-        holding = record { directory = bad.chain; chains = chains_of bad.texts bad.tables };
+        holding = record { directory = bad.chain; chains = chains_of bad.texts bad.others };
         after = bad.reached;
         read = record {
           none_reached = has.read.before;
@@ -134,5 +134,5 @@ module _ (codec : Codec) (names : NamesChains codec) (file : List ℕ) where
           named = (names bad.root.version bad.chain.text (heads_of bad.directory)).1 (named_chains bad.root.version bad.chain.text bad.directory has.form);
           chains = bad.whole;
         };
-        nothing = λ world spells. bad.formless (forms bad.root.version bad.chain.text bad.directory bad.texts bad.tables world has.form spells);
+        nothing = λ world spells. bad.formless (forms bad.root.version bad.chain.text bad.directory bad.texts bad.others world has.form spells);
       }))

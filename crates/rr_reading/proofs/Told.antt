@@ -1,5 +1,5 @@
 -- What is told of a file is its least damage.
-use Rattle.std.proofs.Common.{◌≡◌, inl, ℕ, ◌≤◌, Bool, List, [], ◌∷◌, fold, Option, None, Some, Err, refl, sym, ap, ◌∙◌, subst, arith}
+use Rattle.std.proofs.Common.{◌≡◌, inl, ℕ, ◌≤◌, Bool, List, [], ◌∷◌, ◌++◌, length, fold, Option, None, Some, Err, refl, sym, ap, ◌∙◌, subst, arith}
 use Rattle.rr_reading.specs.Dir.Directory.{Directory, Spells}
 use Rattle.rr_reading.specs.Dir.Heads.{heads_of}
 use Rattle.rr_reading.specs.declared.dir.fault.Fault.{Fault as FormFault}
@@ -25,6 +25,7 @@ use Rattle.rr_reading.specs.Held.{TextChains, Held, chains_of}
 use Rattle.rr_reading.specs.Reading.{TakesRoot, HasRoot, NoneReached, ReadsDirectory, directory_chain, IsDirectory, HasDirectory, HoldsChains, Holds, AreFound, Directory_alone, With_named, HasFound, IsOfNoForm, Of_directory, Of_length, Of_table, Breaks, IsDamage, Refuses}
 use Rattle.rr_reading.specs.Told.{IsToldBroken}
 use Rattle.rr_reading.proofs.ChainLemmas.{all_right, read_followed}
+use Rattle.rr_reading.proofs.FormLemmas.{forms_behind}
 use Rattle.rr_reading.proofs.Least.{IsAtMost, least_is, least_low, least_none, BreaksBy, breaks_of, AllRight, walk_right, outside_low, twice_low, overfull_low, length_low, one_more, none_of}
 use Rattle.rr_reading.proofs.OneAnswer.{one_empty, whole_broken, one_read, one_found, same_chains, same_root, has_there}
 use Rattle.rr_reading.proofs.DirLemmas.VersionLemmas.{one_version}
@@ -221,13 +222,13 @@ module _ (file : List ℕ) where
     chains_told (Disk fault) told = tt
     chains_told OutOfMemory told = (side, root, has.taken)
 
-    module _ (after : List Bool) (texts : TextChains) (tables : List HeldChain) (read : AllRead file count reached (heads_of directory) after (chains_of texts tables)) where
-      all_read : AllRead file root.pages reached (heads_of directory) after (chains_of texts tables)
-      all_read = subst (λ (n : ℕ). AllRead file n reached (heads_of directory) after (chains_of texts tables)) pages_are read
+    module _ (after : List Bool) (texts : TextChains) (others : List HeldChain) (read : AllRead file count reached (heads_of directory) after (chains_of texts others)) where
+      all_read : AllRead file root.pages reached (heads_of directory) after (chains_of texts others)
+      all_read = subst (λ (n : ℕ). AllRead file n reached (heads_of directory) after (chains_of texts others)) pages_are read
 
-      pub table_told : (AreOfForm directory.tables tables → ⊥) → IsDamage file Form
+      pub table_told : (AreOfForm directory.tables others → ⊥) → IsDamage file Form
       table_told none =
-          let rest = read_followed file root.pages reached (heads_of directory) after (chains_of texts tables) all_read in
+          let rest = read_followed file root.pages reached (heads_of directory) after (chains_of texts others) all_read in
           found_form (directory_chain chain ∷ rest.found) (named_found side root reached after chain directory rest.found has rest.followed)
           (named_least side root reached after chain directory rest.found has rest.followed ∙ rest.unbroken)
           (Of_table (record {
@@ -239,13 +240,15 @@ module _ (file : List ℕ) where
             has_directory = has;
             reached = after;
             texts = texts;
-            tables = tables;
+            others = others;
             whole = all_read;
             formless = none;
           }))
 
-      pub all_held_there : AreOfForm directory.tables tables → HoldsChains file side root directory chain texts tables after
-      all_held_there forms = record { of_directory = reached; has_directory = has; whole = all_read; forms = forms }
+    module _ (after : List Bool) (texts : TextChains) (tables snapshots : List HeldChain) (read : AllRead file count reached (heads_of directory) after (chains_of texts (tables ++ snapshots))) where
+      pub all_held_there : length tables ≡ length directory.tables → AreOfForm directory.tables tables → HoldsChains file side root directory chain texts tables snapshots after
+      all_held_there counted forms =
+          record { of_directory = reached; has_directory = has; whole = all_read after texts (tables ++ snapshots) read; counted = counted; forms = forms }
 
     -- of a disk that has later what it had, and by the heads that were followed
     module _ (now : List ℕ) (heads : List (ℕ × ℕ)) (same : now ≡ file) (heads_are : heads ≡ heads_of directory) where
@@ -253,8 +256,8 @@ module _ (file : List ℕ) where
       told_later fault told =
           chains_told fault (subst (λ (hs : List (ℕ × ℕ)). IsToldBroken file count reached hs fault) heads_are (subst (λ (f : List ℕ). IsToldBroken f count reached heads fault) same told))
 
-      pub read_later : (after : List Bool) (chains tables : List HeldChain) (texts : TextChains) → chains ≡ chains_of texts tables → AllRead now count reached heads after chains → AllRead file count reached (heads_of directory) after (chains_of texts tables)
-      read_later after chains tables texts halves read =
+      pub read_later : (after : List Bool) (chains others : List HeldChain) (texts : TextChains) → chains ≡ chains_of texts others → AllRead now count reached heads after chains → AllRead file count reached (heads_of directory) after (chains_of texts others)
+      read_later after chains others texts halves read =
           subst (λ (cs : List HeldChain). AllRead file count reached (heads_of directory) after cs) halves
           (subst (λ (hs : List (ℕ × ℕ)). AllRead file count reached hs after chains) heads_are (subst (λ (f : List ℕ). AllRead f count reached heads after chains) same read))
 
@@ -263,7 +266,7 @@ module _ (file : List ℕ) where
   held_whole has damage holds =
       let chains = holds.chains in
       let there = chains.has_directory in
-      let rest = read_followed file has.root.pages chains.of_directory (heads_of has.directory) has.reached (chains_of has.texts has.tables) chains.whole in
+      let rest = read_followed file has.root.pages chains.of_directory (heads_of has.directory) has.reached (chains_of has.texts (has.tables ++ has.snapshots)) chains.whole in
       let are = named_found has.side has.root chains.of_directory has.reached has.chain has.directory rest.found there rest.followed in
       let none = named_least has.side has.root chains.of_directory has.reached has.chain has.directory rest.found there rest.followed ∙ rest.unbroken in
       found_whole (directory_chain has.chain ∷ rest.found) are none (formed (directory_chain has.chain ∷ rest.found) are none) damage
@@ -277,8 +280,9 @@ module _ (file : List ℕ) where
           formless has.directory (subst (λ (c : HeldChain). IsDirectory root.version c.text has.directory) (sym one.1) at.form)
       formed found are none (Of_length other) = lengths_right found are none other
       formed found are none (Of_table bad) =
-          let same = same_chains file bad has.side has.root has.directory has.chain has.texts has.tables has.reached holds.chains in
-          bad.formless (subst (λ (d : Directory). AreOfForm d.tables bad.tables) (sym same.same_directory) (subst (λ (ts : List HeldChain). AreOfForm has.directory.tables ts) (sym same.same_tables) holds.chains.forms))
+          let same = same_chains file bad has.side has.root has.directory has.chain has.texts has.tables has.snapshots has.reached holds.chains in
+          let forms = forms_behind has.directory.tables has.tables has.snapshots holds.chains.forms in
+          bad.formless (subst (λ (d : Directory). AreOfForm d.tables bad.others) (sym same.same_directory) (subst (λ (cs : List HeldChain). AreOfForm has.directory.tables cs) (sym same.same_others) forms))
 
   pub held_store : (has : Held) → Holds file has → IsNoStore file → ⊥
   held_store has holds none =

@@ -128,7 +128,7 @@ pub record AreBroken (file : List ℕ) (count : ℕ) (before : List Bool) (heads
 abbrev pub HoldsCommands : List ℕ → ℕ → Type 0
 HoldsCommands bytes count = (commands : List (List ℕ)) × SpellsKept bytes commands × (length commands ≡ count)
 
--- each table's chain holds as many as its entry says
+-- each table's chain, of which come first as many as there are entries, holds as many as its entry says
 abbrev pub AreOfForm : List TableEntry → List HeldChain → Type 0
 AreOfForm [] chains = Unit {0}
 AreOfForm (entry ∷ entries) [] = ⊥

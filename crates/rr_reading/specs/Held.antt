@@ -1,5 +1,5 @@
 -- What an opening reads of a file.
-use Rattle.std.specs.Prelude.{◌≡◌, ℕ, Bool, List, ◌∷◌}
+use Rattle.std.specs.Prelude.{◌≡◌, ℕ, Bool, List, ◌∷◌, ◌++◌, map}
 use Rattle.rr_reading.specs.Dir.Directory.{Directory, directory_of}
 use Rattle.rr_images.specs.Holding.{HeldChain, Holding}
 use Rattle.rr_pages.specs.declared.journal.reading.RunEnd.{RunEnd}
@@ -22,9 +22,10 @@ pub record TextChains : Type 0 where
   pub tiles : HeldChain
   pub board : HeldChain
 
--- the chains that a directory names: the texts', and then the tables' in order of opening
+-- the chains that a directory names: the texts', and then the others: the tables' in order of opening, and the
+-- snapshots'
 abbrev pub chains_of : TextChains → List HeldChain → List HeldChain
-chains_of texts tables = texts.chart ∷ texts.roster ∷ texts.tiles ∷ texts.board ∷ tables
+chains_of texts others = texts.chart ∷ texts.roster ∷ texts.tiles ∷ texts.board ∷ others
 
 abbrev pub chains_held : KitTexts → TextChains
 chains_held texts =
@@ -48,6 +49,7 @@ pub record Held : Type 0 where
   pub chain : HeldChain
   pub texts : TextChains
   pub tables : List HeldChain
+  pub snapshots : List HeldChain
   pub reached : List Bool
   pub near : List (List ℕ)
   pub near_end : RunEnd
@@ -56,7 +58,7 @@ pub record Held : Type 0 where
 
 -- what the root holds
 abbrev pub holding_of : Held → Holding
-holding_of held = record { directory = held.chain; chains = chains_of held.texts held.tables }
+holding_of held = record { directory = held.chain; chains = chains_of held.texts (held.tables ++ held.snapshots) }
 
 -- what was read of a file: the bytes of its tables' chains are those of their pages in the file
 abbrev pub held_of : List ℕ → Contents → Held
@@ -68,6 +70,7 @@ held_of file contents =
       chain = held contents.directory;
       texts = chains_held contents.texts;
       tables = tables_in file contents.tables;
+      snapshots = map held contents.snapshots.items;
       reached = marks_of contents.reached;
       near = lines contents.near.records.items;
       near_end = contents.near.end;

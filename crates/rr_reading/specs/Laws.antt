@@ -47,7 +47,7 @@ module _ (codec : Codec) where
   abbrev pub HeldStands : Type 0
   HeldStands =
       NamesChains → (file : List ℕ) (has : Held) (base world : codec.World) → Holds file has
-      → codec.Spells has.root.version has.chain.text (texts_of (chains_of has.texts has.tables)) base
+      → codec.Spells has.root.version has.chain.text (texts_of (chains_of has.texts (has.tables ++ has.snapshots))) base
       → has.near_end ≢ Damaged → has.far_end ≢ Damaged → Replays codec base (has.near ++ has.far) world
       → Stands codec file world
 
@@ -59,9 +59,9 @@ module _ (codec : Codec) where
   -- a codec that spells nothing where a table's chain isn't of its form
   abbrev pub SpellsForms : Type 0
   SpellsForms =
-      (number : ℕ) (bytes : List ℕ) (directory : Directory) (texts : TextChains) (tables : List HeldChain)
+      (number : ℕ) (bytes : List ℕ) (directory : Directory) (texts : TextChains) (others : List HeldChain)
       → (world : codec.World) → IsDirectory number bytes directory
-      → codec.Spells number bytes (texts_of (chains_of texts tables)) world → AreOfForm directory.tables tables
+      → codec.Spells number bytes (texts_of (chains_of texts others)) world → AreOfForm directory.tables others
 
   -- then a file with any damage is refused
   abbrev pub AllDamagedAreRefused : Type 0

@@ -2,7 +2,7 @@
 -- roots, and then the chains that can be found: their page numbers, pages reached twice, used bytes, and the forms of
 -- the directory and of the tables' chains. Records are read last, and tell no damage here: a kit that is refused and
 -- commands that aren't lawful come before them.
-use Rattle.std.specs.Prelude.{◌≡◌, ℕ, ◌+◌, ◌≤◌, Bool, List, [], ◌∷◌, length, None, Result, Ok, Err}
+use Rattle.std.specs.Prelude.{◌≡◌, ℕ, ◌+◌, ◌≤◌, Bool, List, [], ◌∷◌, ◌++◌, length, None, Result, Ok, Err}
 use Rattle.rr_pages.specs.declared.page.TheConstants.{MOST_PAGES}
 use Rattle.rr_reading.specs.Dir.Directory.{Directory, Spells}
 use Rattle.rr_reading.specs.Dir.Heads.{heads_of}
@@ -72,15 +72,16 @@ pub record HasDirectory (file : List ℕ) (side : Bool) (root : Root) (reached :
 
 -- a root that is taken reaches its directory and the chains that this names, and the tables' chains are of their form
 pub record HoldsChains (file : List ℕ) (side : Bool) (root : Root) (directory : Directory) (chain : HeldChain)
-    (texts : TextChains) (tables : List HeldChain) (reached : List Bool) : Type 0 where
+    (texts : TextChains) (tables snapshots : List HeldChain) (reached : List Bool) : Type 0 where
   pub of_directory : List Bool
   pub has_directory : HasDirectory file side root of_directory chain directory
-  pub whole : AllRead file root.pages of_directory (heads_of directory) reached (chains_of texts tables)
+  pub whole : AllRead file root.pages of_directory (heads_of directory) reached (chains_of texts (tables ++ snapshots))
+  pub counted : length tables ≡ length directory.tables
   pub forms : AreOfForm directory.tables tables
 
 -- the file holds this
 pub record Holds (file : List ℕ) (has : Held) : Type 0 where
-  pub chains : HoldsChains file has.side has.root has.directory has.chain has.texts has.tables has.reached
+  pub chains : HoldsChains file has.side has.root has.directory has.chain has.texts has.tables has.snapshots has.reached
   pub near_run : Run file has.root.half 0 has.root.first has.near has.near_end
   pub far_run : Run file (other_half has.root.half) 0 (has.root.first + length has.near) has.far has.far_end
 
@@ -94,9 +95,9 @@ pub record HasBadTable (file : List ℕ) : Type 0 where
   pub has_directory : HasDirectory file side root of_directory chain directory
   pub reached : List Bool
   pub texts : TextChains
-  pub tables : List HeldChain
-  pub whole : AllRead file root.pages of_directory (heads_of directory) reached (chains_of texts tables)
-  pub formless : AreOfForm directory.tables tables → ⊥
+  pub others : List HeldChain
+  pub whole : AllRead file root.pages of_directory (heads_of directory) reached (chains_of texts others)
+  pub formless : AreOfForm directory.tables others → ⊥
 
 -- All chains that can be found: that of the directory of the root that is taken, and where a directory can be read the
 -- chains that it names.

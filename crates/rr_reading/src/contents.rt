@@ -1,4 +1,4 @@
-ghost use Rattle.std.specs.Prelude.{◌≡◌, ◌+◌, ◌*◌, ◌<◌, ◌≤◌, Bool, true, not, length, drop, IfOk, IfErr};
+ghost use Rattle.std.specs.Prelude.{◌≡◌, ◌+◌, ◌*◌, ◌<◌, ◌≤◌, ◌++◌, Bool, true, not, length, map, drop, IfOk, IfErr};
 ghost use Rattle.rr_pages.specs.Journal.Layout.{other_half};
 ghost use Rattle.rr_reading.specs.Dir.Directory.{directory_of};
 ghost use Rattle.rr_pages.specs.ReachedPages.{marks_of};
@@ -13,14 +13,14 @@ ghost use Rattle.rr_pages.specs.declared.page.TheConstants.{PAGE_BYTES};
 
 use crate::Fault;
 use crate::chains::follow_chains;
-use crate::dir::{Dir, TableEntry};
+use crate::dir::Dir;
 use crate::directory::{FoundDirectory, read_directory};
 use crate::forms::judge_forms;
 use crate::lending::{Chains, Commands, JoiningBuffer};
 use crate::named::{named_chains, take_texts};
 use crate::records::{FoundRecords, read_records};
 use crate::root::{page_count, read_root};
-use crate::texts::read_texts;
+use crate::texts::{read_snapshots, read_texts};
 use rr_disk::Disk;
 use rr_pages::journal::Scanned;
 use rr_pages::{FollowedChain, ReachedPages, ReadChain, Root, Taken};
@@ -45,6 +45,8 @@ pub struct Contents {
     pub texts: KitTexts,
     /// The kept commands in the chain of each table, in the order of the directory: as many as that says.
     pub tables: Commands,
+    /// The bytes of the snapshots, in the order of the directory. Whether they show games isn't judged.
+    pub snapshots: Vec<ReadChain>,
     /// The pages of all these chains.
     pub reached: ReachedPages,
     /// The records in the half that the root names, and why they end.
@@ -60,6 +62,7 @@ struct FoundChains {
     directory: ReadChain,
     texts: KitTexts,
     tables: Commands,
+    snapshots: Vec<ReadChain>,
     reached: ReachedPages,
 }
 
@@ -68,6 +71,7 @@ struct FoundChains {
 struct FoundNamed {
     texts: KitTexts,
     tables: Commands,
+    snapshots: Vec<ReadChain>,
 }
 
 /// Reads a store's file, as far as no rule of the game is needed. It writes nothing, and neither syncs.
@@ -75,8 +79,8 @@ struct FoundNamed {
 /// # Errors
 /// `NotAStore` where the file has fewer than 515 pages, no open root, or an open root of a version that isn't known;
 /// else `Damaged` with the least clause that it breaks: of each open root, and then over all chains that can be found,
-/// those of the directory and, where that can be read, of the texts and tables that it names. A chain that breaks off
-/// is judged as far as it goes. Else `Disk` or `OutOfMemory` alone: `Disk` never where the disk works, and
+/// those of the directory and, where that can be read, of the texts, tables and snapshots that it names. A chain that
+/// breaks off is judged as far as it goes. Else `Disk` or `OutOfMemory` alone: `Disk` never where the disk works, and
 /// `OutOfMemory` only where a root is taken. A record that is damaged is told by the end of its half: texts that are
 /// refused and commands that aren't lawful come before it.
 pub fn read_file<D: Disk>(alloc: Global, disk: &mut D) -> Result<Contents, Fault>
@@ -102,6 +106,7 @@ pub fn read_file<D: Disk>(alloc: Global, disk: &mut D) -> Result<Contents, Fault
         directory,
         texts,
         tables,
+        snapshots,
         reached,
     } = found;
     let FoundRecords { near, far } = records;
@@ -111,6 +116,7 @@ pub fn read_file<D: Disk>(alloc: Global, disk: &mut D) -> Result<Contents, Fault
         directory,
         texts,
         tables,
+        snapshots,
         reached,
         near,
         far,
@@ -121,7 +127,8 @@ pub fn read_file<D: Disk>(alloc: Global, disk: &mut D) -> Result<Contents, Fault
 fn read_found<D: Disk>(alloc: Global, disk: &mut D, root: &Root) -> Result<FoundChains, Fault>
     ensures found { IfOk result (λ found. D.Honest disk.new → (side : Bool) → TakesRoot (D.state disk.old).content side root.now
         → HoldsChains (D.state disk.old).content side root.now (directory_of found.dir) (held found.directory)
-        (chains_held found.texts) (tables_in (D.state disk.old).content found.tables) (marks_of found.reached)) }
+        (chains_held found.texts) (tables_in (D.state disk.old).content found.tables) (map held found.snapshots.items)
+        (marks_of found.reached)) }
     ensures refused { IfErr result (λ fault. D.Honest disk.new → (side : Bool) → TakesRoot (D.state disk.old).content side root.now
         → Refuses (D.state disk.old).content fault) }
     ensures pages { IfOk result (λ found. count_of found.tables.chains ≤ root.now.pages) }
@@ -143,33 +150,41 @@ fn read_found<D: Disk>(alloc: Global, disk: &mut D, root: &Root) -> Result<Found
     let count = page_count(root.pages);
     let named = named_chains(alloc, &dir)?;
     let chains = follow_chains(alloc, disk, count, &mut reached, &named)?;
-    let FoundNamed { texts, tables } = find_named(alloc, disk, count, &dir.tables, chains)?;
+    let FoundNamed {
+        texts,
+        tables,
+        snapshots,
+    } = find_named(alloc, disk, count, &dir, chains)?;
     Ok(FoundChains {
         dir,
         directory: chain,
         texts,
         tables,
+        snapshots,
         reached,
     })
 }
 
-// What is in the chains of the texts and then of the tables with these entries, as they were followed.
+// What is in the chains that a directory names, as they were followed.
 fn find_named<D: Disk>(
     alloc: Global,
     disk: &mut D,
     count: u32,
-    entries: &[TableEntry],
+    dir: &Dir,
     chains: Vec<FollowedChain>,
 ) -> Result<FoundNamed, Fault>
-    requires many { length entries.now + 4 ≡ length chains.items }
+    requires many { length dir.now.tables.items + (length dir.now.snapshots.items + 4) ≡ length chains.items }
     requires fit { each_fits count chains.items ≡ true }
     ensures found { IfOk result (λ found. D.Honest disk.new → all_held_in (D.state disk.old).content chains.items
-        ≡ chains_of (chains_held found.texts) (tables_in (D.state disk.old).content found.tables)) }
+        ≡ chains_of (chains_held found.texts)
+        (tables_in (D.state disk.old).content found.tables ++ map held found.snapshots.items)) }
+    ensures counted { IfOk result (λ found. D.Honest disk.new
+        → length (tables_in (D.state disk.old).content found.tables) ≡ length dir.now.tables.items) }
     ensures forms { IfOk result (λ found. D.Honest disk.new
-        → AreOfForm entries.now (tables_in (D.state disk.old).content found.tables)) }
+        → AreOfForm dir.now.tables.items (tables_in (D.state disk.old).content found.tables)) }
     ensures pages { IfOk result (λ found. count_of found.tables.chains ≡ count) }
     ensures refused { IfErr result (λ fault. D.Honest disk.new
-        → RefusesForm fault (AreOfForm entries.now (all_held_in (D.state disk.old).content (drop 4 chains.items)))) }
+        → RefusesForm fault (AreOfForm dir.now.tables.items (all_held_in (D.state disk.old).content (drop 4 chains.items)))) }
     ensures fault { CountsFault (D.fault_count disk.old) (D.fault_count disk.new) result }
     ensures honest { D.Honest disk.new → D.Honest disk.old }
     ensures same_state { D.Honest disk.new → D.state disk.new ≡ D.state disk.old }
@@ -183,9 +198,15 @@ fn find_named<D: Disk>(
     let mut chains = chains;
     let followed = take_texts(&mut chains);
     let texts = read_texts(alloc, disk, &followed)?;
+    let of_snapshots = chains.split_off(dir.tables.len())?;
     let mut tables = lend(alloc, count, chains)?;
-    judge_forms(disk, entries, &mut tables)?;
-    Ok(FoundNamed { texts, tables })
+    judge_forms(disk, &dir.tables, &mut tables)?;
+    let snapshots = read_snapshots(alloc, disk, &of_snapshots)?;
+    Ok(FoundNamed {
+        texts,
+        tables,
+        snapshots,
+    })
 }
 
 fn lend(alloc: Global, count: u32, chains: Vec<FollowedChain>) -> Result<Commands, Fault>

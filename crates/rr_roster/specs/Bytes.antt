@@ -4,7 +4,7 @@ use Rattle.std.proofs.Common.{ap, sym, ◌∙◌}
 use Rattle.rr_roster.specs.declared.company.Corp.{Corp}
 use Rattle.rr_roster.specs.declared.company.Corp.TheVariants as C
 use Rattle.rr_roster.specs.Company.{corp_index}
-use Rattle.rr_spelling.specs.Form.{Form}
+use Rattle.rr_words.specs.Spelling.Form.{Form}
 
 -- the corporation of a number
 corp_at : ℕ → Corp

@@ -1,10 +1,12 @@
-//! The roster of a kit: the privates, the corporations and the trains of a game, read from a TOML text.
+//! The roster of a kit: the privates, the corporations and the trains of a game, read from a TOML text; and the stock
+//! chart with its prices (`chart`).
 //!
-//! Stands on `rr_spelling` and `toml`. Its promise: `Roster::read` is `IsAnswer`, the roster that the text spells or
+//! Stands on `rr_words` and `toml`. Its promise: `Roster::read` is `IsAnswer`, the roster that the text spells or
 //! the first rule that it breaks.
 #![tactic(auto)]
 
 mod bytes;
+pub mod chart;
 mod company;
 mod document;
 mod fault;

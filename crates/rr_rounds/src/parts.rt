@@ -5,7 +5,7 @@ ghost use Rattle.rr_rounds.specs.Parts.{AreRounds, parts_of, rounds_of, rounds_f
 use crate::purchases::Purchases;
 use crate::rounds::Rounds;
 use rr_books::Seat;
-use rr_spelling::{Cursor, Spell};
+use rr_words::spelling::{Cursor, Spell};
 use std::alloc::AllocError;
 
 /// The most seats that a seat's number can tell apart.

@@ -11,10 +11,10 @@ use rr_auction::laws::{
 };
 use rr_auction::{Due, asked, is_over, judge, open_table, play, turns};
 use rr_books::{Act, Cell, Cert, Corp, Entry, Marker, Money, Party, Place, Private, Refusal, Seat};
-use rr_chart::Chart;
 use rr_desk::Desk;
 use rr_market::Market;
 use rr_roster::Roster;
+use rr_roster::chart::Chart;
 use std::alloc::Global;
 use std::process::Abort;
 

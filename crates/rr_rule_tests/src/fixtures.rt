@@ -1,8 +1,8 @@
 //! What several of the tests share. The helpers have no contract, so that their callers' proofs stay small.
 use rr_books::Seat;
-use rr_chart::Chart;
 use rr_desk::Position;
 use rr_roster::Roster;
+use rr_roster::chart::Chart;
 use std::alloc::Global;
 use std::process::Abort;
 

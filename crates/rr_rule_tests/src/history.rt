@@ -3,8 +3,9 @@ ghost use Rattle.rr_code.specs.Command.{IsCommand};
 
 use crate::fixtures::ROSTER;
 use rr_code::{Command, Players};
-use rr_game::history::{Fault, Request, Table};
+use rr_game::history::{Fault, KeptCommands, Request, Snapshot, Table};
 use rr_kit::Kit;
+use rr_words::spelling::Spell;
 use std::alloc::Global;
 use std::process::Abort;
 
@@ -21,8 +22,12 @@ struct Club {
 
 impl Club {
     fn open(rt: &impl Abort, alloc: Global) -> Club {
+        Club::open_by(rt, alloc, b"open a b c d e f")
+    }
+
+    fn open_by(rt: &impl Abort, alloc: Global, words: &[u8]) -> Club {
         let kit = Kit::read(alloc, CHART, ROSTER.as_bytes(), b"", BOARD).expect(rt, "a kit");
-        let table = opened(rt, alloc, &kit);
+        let table = Table::open(alloc, &players(rt, words), &kit).expect(rt, "a table");
         Club { kit, table }
     }
 
@@ -83,10 +88,6 @@ fn command<'a>(rt: &impl Abort, words: &'a [u8]) -> Command<'a>
     ensures { IsCommand result }
 {
     Command::read(words).expect(rt, "a command")
-}
-
-fn opened(rt: &impl Abort, alloc: Global, kit: &Kit) -> Table {
-    Table::open(alloc, &players(rt, b"open a b c d e f"), kit).expect(rt, "a table")
 }
 
 static NINE_TURNS: [&[u8]; 9] = [
@@ -183,6 +184,8 @@ fn laws_are_called(_rt: HostRuntime) {
     rr_game::history::laws::back_keeps_its_count();
     rr_game::history::laws::back_to_the_present_turn();
     rr_game::history::laws::accepted_turns_are_kept();
+    rr_game::history::laws::back_plays_few();
+    rr_game::history::laws::spacing();
     rr_turns::laws::stamps_never_fall::<u8>();
     rr_turns::laws::floors_never_fall::<u8>();
     rr_turns::laws::back_ends_with_its_turn::<u8>();
@@ -210,4 +213,135 @@ fn has_its_opening_alone(club: &Club) -> bool {
 fn the_opening_is_spelled(rt: HostRuntime) {
     let club = Club::open(&rt, rt.alloc());
     assert!(rt; has_its_opening_alone(&club));
+}
+
+/// A table of a and b that keeps so many commands: the opening, a purchase, and then one pass behind the other, each of
+/// which ends a turn.
+fn club_of_passes(rt: &impl Abort, alloc: Global, count: usize) -> Club {
+    let mut club = Club::open_by(rt, alloc, b"open a b");
+    club.play_all(rt, alloc, &[b"buy a"]);
+    for number in 2..count {
+        let words: &[u8] = if number % 2 == 0 {
+            b"pass b"
+        } else {
+            b"pass a"
+        };
+        club.play(rt, alloc, words).expect(rt, "a lawful command");
+    }
+    club
+}
+
+fn bytes_of(rt: &impl Abort, alloc: Global, club: &Club) -> Vec<u8> {
+    let mut bytes = Vec::new(alloc);
+    let parts = club.table.game().parts();
+    parts.write(&mut bytes).expect(rt, "memory");
+    bytes
+}
+
+/// Whether the table's game is that of a table on which its commands were played anew.
+fn is_as_anew(rt: &impl Abort, alloc: Global, club: &Club) -> bool {
+    let anew = club_of_passes(rt, alloc, club.table.commands().len());
+    bytes_of(rt, alloc, club).as_slice() == bytes_of(rt, alloc, &anew).as_slice()
+}
+
+/// How many snapshots there are, and the counts of the first and the last.
+fn snapshots_of(club: &Club) -> (usize, usize, usize) {
+    let snapshots = club.table.snapshots();
+    let count = snapshots.len();
+    if count == 0 {
+        return (0, 0, 0);
+    }
+    (count, snapshots[0].played(), snapshots[count - 1].played())
+}
+
+#[test]
+fn a_take_back_plays_on_from_a_snapshot(rt: HostRuntime) {
+    let alloc = rt.alloc();
+    let mut club = club_of_passes(&rt, alloc, 133);
+    let mut same = is_as_anew(&rt, alloc, &club);
+    for turn in [131, 127, 126, 64, 63, 62, 5] {
+        club.take_back(alloc, turn).expect(&rt, "a kept turn");
+        same = same && is_as_anew(&rt, alloc, &club);
+    }
+    assert!(rt; same && club.table.commands().len() == 6);
+}
+
+#[test]
+fn a_snapshot_stands_at_each_64th_command(rt: HostRuntime) {
+    let mut club = club_of_passes(&rt, rt.alloc(), 130);
+    let at_130 = snapshots_of(&club);
+    let forgotten = club.forget(127);
+    let behind_it = snapshots_of(&club);
+    assert!(rt; (at_130, forgotten, behind_it) == ((2, 64, 128), Ok(()), (1, 128, 128)));
+}
+
+#[test]
+fn a_take_back_drops_the_snapshots_above(rt: HostRuntime) {
+    let mut club = club_of_passes(&rt, rt.alloc(), 129);
+    let back = club.take_back(rt.alloc(), 126);
+    let at_127 = snapshots_of(&club);
+    let again = club.take_back(rt.alloc(), 62);
+    assert!(rt;
+        (back, at_127, again, snapshots_of(&club)) == (Ok(()), (1, 64, 64), Ok(()), (0, 0, 0))
+    );
+}
+
+/// The words of the first so many commands of a table, kept again.
+fn kept_again(rt: &impl Abort, alloc: Global, club: &Club, count: usize) -> KeptCommands {
+    let mut kept = KeptCommands::new(alloc);
+    for place in 0..count {
+        let words = club.table.commands().words().get(place);
+        let is_command = kept.keep(words.expect(rt, "a command")).expect(rt, "room");
+        assert!(rt; is_command);
+    }
+    kept
+}
+
+/// The table again by the bytes of its last snapshot and the words of the commands before that, as a file has both.
+fn told_again(rt: &impl Abort, alloc: Global, club: &Club) -> Option<Table> {
+    let bytes = club.table.snapshots().last()?.bytes();
+    let snapshot = Snapshot::read(alloc, bytes).expect(rt, "memory")?;
+    let game = snapshot.game(alloc).expect(rt, "memory");
+    let mut kept = kept_again(rt, alloc, club, snapshot.played());
+    kept.keep_snapshot(snapshot).expect(rt, "memory");
+    Table::of_kept(kept, game)
+}
+
+#[test]
+fn a_table_is_told_again_by_its_last_snapshot(rt: HostRuntime) {
+    let alloc = rt.alloc();
+    let club = club_of_passes(&rt, alloc, 130);
+    let table = told_again(&rt, alloc, &club).expect(&rt, "a table");
+    let Club { kit, table: _ } = club;
+    let again = Club { kit, table };
+    assert!(rt; again.counts() == (128, 127, 128) && again.table.floor() == 0);
+    assert!(rt; is_as_anew(&rt, alloc, &again) && snapshots_of(&again) == (1, 128, 128));
+}
+
+#[test]
+fn a_table_is_told_by_a_game_of_its_commands(rt: HostRuntime) {
+    let alloc = rt.alloc();
+    let club = club_of_passes(&rt, alloc, 64);
+    let snapshot = club.table.snapshots().first().expect(&rt, "a snapshot");
+    let game = snapshot.game(alloc).expect(&rt, "memory");
+    let fewer = kept_again(&rt, alloc, &club, 63);
+    assert!(rt; Table::of_kept(fewer, game).is_none());
+}
+
+#[test]
+fn only_words_of_commands_are_kept(rt: HostRuntime) {
+    let mut kept = KeptCommands::new(rt.alloc());
+    let back = kept.keep(b"back 3");
+    let pass = kept.keep(b"pass a");
+    assert!(rt; (back, pass, kept.len(), kept.snapshots().len()) == (Ok(false), Ok(true), 1, 0));
+}
+
+#[test]
+fn other_bytes_are_no_snapshot(rt: HostRuntime) {
+    let alloc = rt.alloc();
+    let club = club_of_passes(&rt, alloc, 64);
+    let snapshot = club.table.snapshots().first().expect(&rt, "a snapshot");
+    let bytes = snapshot.bytes();
+    let cut = Snapshot::read(alloc, &bytes[..bytes.len() - 1]).expect(&rt, "memory");
+    assert!(rt; cut.is_none());
 }

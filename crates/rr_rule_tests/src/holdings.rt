@@ -1,9 +1,9 @@
 //! Rows on a small chart that has each zone.
 use crate::fixtures::{A, B, chart, position};
 use rr_books::{Cell, Cert, Corp, Entry, Marker, Place, Private, Refusal, Seat, ShareNumber};
-use rr_chart::Chart;
 use rr_desk::Position;
 use rr_market::par_cell;
+use rr_roster::chart::Chart;
 use rr_shares::limits::laws::one_share_suffices;
 use rr_shares::limits::{
     certificates_counted, has_lawful_sale, is_over_certificates, is_over_limit, is_over_sixty,

@@ -6,7 +6,7 @@ use crate::fixtures::{A, ROSTER};
 use rr_books::Money;
 use rr_code::Command;
 use rr_game::{Game, Kit, Parts, laws};
-use rr_spelling::Spell;
+use rr_words::spelling::Spell;
 use std::alloc::Global;
 use std::process::Abort;
 

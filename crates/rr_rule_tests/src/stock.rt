@@ -3,10 +3,10 @@ ghost use Rattle.std.specs.Prelude.{◌<◌};
 
 use crate::fixtures::{A, B, ROSTER, chart, position, roster};
 use rr_books::{Act, Cert, Corp, Entry, Marker, Party, Place, Private, Refusal, Seat};
-use rr_chart::Chart;
 use rr_desk::Desk;
 use rr_laws::sequence::go_on;
 use rr_roster::Roster;
+use rr_roster::chart::Chart;
 use rr_stock::laws::{
     lawful_sales_move_shares, one_turn_at_most, pool_stays_within_half, worked_end, worked_float,
     worked_must_sell, worked_par, worked_presidency, worked_sale, worked_second_purchase,

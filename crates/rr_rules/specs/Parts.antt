@@ -1,7 +1,7 @@
 -- The plain values of how a table's game stands, and which values they may be.
 use Rattle.std.specs.Prelude.{ℤ, pos, ◌≤ℤ◌}
 use Rattle.std.proofs.Common.{refl}
-use Rattle.rr_spelling.specs.Form.{Form, form_by, pair_form, signed_form}
+use Rattle.rr_words.specs.Spelling.Form.{Form, form_by, pair_form, signed_form}
 use Rattle.rr_books.specs.declared.parties.Money.{Money}
 use Rattle.rr_desk.specs.declared.position.parts.PositionParts.{PositionParts}
 use Rattle.rr_desk.specs.Position.Parts.{IsPosition, position_form, position_of}

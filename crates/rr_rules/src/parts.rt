@@ -6,7 +6,7 @@ use crate::standing::Standing;
 use rr_books::Money;
 use rr_desk::Position;
 use rr_desk::position::PositionParts;
-use rr_spelling::{Cursor, Spell};
+use rr_words::spelling::{Cursor, Spell};
 use std::alloc::{AllocError, Global};
 
 /// The most that the trains of a corporation earn in a turn, in dollars.

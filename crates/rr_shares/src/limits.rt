@@ -11,6 +11,6 @@ pub use limits::{
     would_be_over_certificates, would_be_over_sixty,
 };
 pub use rr_books::{Corp, Seat, certificate_limit};
-pub use rr_chart::Chart;
 pub use rr_desk::position::Position;
+pub use rr_roster::chart::Chart;
 pub use sales::{has_lawful_sale, judge_sale, judge_sale_in_round, must_sell_first};

@@ -2,7 +2,7 @@
 use Rattle.std.specs.Prelude.{◌≡◌, Bool, true, false, List, [], Option, if◌then◌else◌}
 use Rattle.std.proofs.Common.{sym, ◌∙◌, ap}
 use Rattle.rr_roster.specs.declared.company.Corp.{Corp}
-use Rattle.rr_chart.specs.Chart.{Row}
+use Rattle.rr_roster.specs.Chart.Chart.{Row}
 use Rattle.rr_books.specs.declared.entries.Cell.{Cell}
 use Rattle.rr_books.specs.Book.{Book, holder}
 use Rattle.rr_desk.specs.Effects.{in_turn}

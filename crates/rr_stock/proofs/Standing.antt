@@ -1,7 +1,7 @@
 -- What the rules say of a book, by what runs along with it.
 use Rattle.std.specs.Prelude.{◌≡◌, List, Option, None, Some, Result, MatchResult}
 use Rattle.std.proofs.Common.{ap, subst}
-use Rattle.rr_chart.specs.Chart.{Row}
+use Rattle.rr_roster.specs.Chart.Chart.{Row}
 use Rattle.rr_books.specs.declared.acts.Act.{Act}
 use Rattle.rr_books.specs.Book.{Book}
 use Rattle.rr_desk.specs.Position.Position.{OnTable, IsPositionOf}

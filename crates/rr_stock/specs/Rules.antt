@@ -3,9 +3,9 @@ use Rattle.std.specs.Prelude.{ℕ, ◌*◌, pos, int_lt, Bool, true, false, not,
 use Rattle.std.specs.Option.{option_or}
 use Rattle.rr_roster.specs.declared.company.Private.{Private}
 use Rattle.rr_roster.specs.declared.company.Corp.{Corp}
-use Rattle.rr_chart.specs.Chart.{Row}
-use Rattle.rr_chart.specs.declared.cell.Zone.{Zone}
-use Rattle.rr_chart.specs.declared.cell.Zone.TheVariants as Z
+use Rattle.rr_roster.specs.Chart.Chart.{Row}
+use Rattle.rr_roster.specs.declared.chart.cell.Zone.{Zone}
+use Rattle.rr_roster.specs.declared.chart.cell.Zone.TheVariants as Z
 use Rattle.rr_books.specs.declared.parties.Seat.{Seat}
 use Rattle.rr_books.specs.declared.parties.Party.TheVariants as P
 use Rattle.rr_books.specs.declared.parties.Place.{Place}

@@ -1,7 +1,7 @@
 -- What the rules of a stock round look at.
 use Rattle.std.specs.Prelude.{ℕ, ℤ, List, Option}
 use Rattle.rr_roster.specs.declared.company.Corp.{Corp}
-use Rattle.rr_chart.specs.Chart.{Row}
+use Rattle.rr_roster.specs.Chart.Chart.{Row}
 use Rattle.rr_books.specs.declared.parties.Party.{Party}
 use Rattle.rr_books.specs.Book.{Book, balance}
 use Rattle.rr_books.specs.State.{cash_of}

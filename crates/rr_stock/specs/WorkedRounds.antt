@@ -2,9 +2,9 @@
 use Rattle.std.specs.Prelude.{◌≡◌, ℕ, ℤ, pos, true, false, List, [], ◌∷◌, ◌++◌, Option, None, Some, fold, map, take}
 use Rattle.rr_roster.specs.declared.company.Private.{Private}
 use Rattle.rr_roster.specs.declared.company.Corp.{Corp}
-use Rattle.rr_chart.specs.Chart.{Row}
-use Rattle.rr_chart.specs.declared.cell.Cell as chart
-use Rattle.rr_chart.specs.declared.cell.Zone.TheVariants as Z
+use Rattle.rr_roster.specs.Chart.Chart.{Row}
+use Rattle.rr_roster.specs.declared.chart.cell.Cell as chart
+use Rattle.rr_roster.specs.declared.chart.cell.Zone.TheVariants as Z
 use Rattle.rr_books.specs.declared.parties.Seat.{Seat}
 use Rattle.rr_books.specs.declared.parties.Party.TheVariants as P
 use Rattle.rr_books.specs.declared.parties.Place.{Place}

@@ -9,8 +9,8 @@ use crate::trading::{
     Sale, get_share, give_up_private, pay_seller, settle_corporation, take_presidency,
 };
 use rr_books::{Act, Corp, Entry, Marker, Refusal, Seat, ShareSource};
-use rr_chart::Chart;
 use rr_desk::Desk;
+use rr_roster::chart::Chart;
 use rr_shares::{float_if_due, sell_shares};
 
 /// The seat sets the corporation's par.

@@ -5,8 +5,8 @@ ghost use Rattle.rr_stock.specs.Effects.{ends_if, ends_stock_round, rises, rises
 use crate::reading::{cell_after_rise, is_sold_out, order};
 use crate::trading::mark_if;
 use rr_books::{Corp, Entry, Marker, Refusal};
-use rr_chart::Chart;
 use rr_desk::Desk;
+use rr_roster::chart::Chart;
 
 /// The stock round ends, if it is to: the tokens of what is sold out go up, and an operating round begins.
 pub(crate) fn end_if(desk: &mut Desk, chart: &Chart, ends: bool) -> Result<(), Refusal>

@@ -12,9 +12,9 @@ ghost use Rattle.rr_stock.specs.Small.{HasSeat, HasSmallNumbers};
 
 use crate::reading::{place_of_source, share_price};
 use rr_books::{Act, Books, Cert, Corp, Party, Place, Private, Refusal, Seat, ShareSource};
-use rr_chart::{Chart, Zone};
 use rr_desk::{Position, lowest_share};
 use rr_market::{Market, par_cell};
+use rr_roster::chart::{Chart, Zone};
 use rr_rounds::{Purchases, Rounds};
 use rr_shares::limits::{
     judge_sale_in_round, must_sell_first, would_be_over_certificates, would_be_over_sixty,

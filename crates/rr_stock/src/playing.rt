@@ -5,8 +5,8 @@ ghost use Rattle.rr_stock.specs.Small.{HasSeat, HasSmallNumbers};
 
 use crate::commands::{play_done, play_par, play_purchase, play_sale, play_swap};
 use rr_books::{Act, Refusal};
-use rr_chart::Chart;
 use rr_desk::Desk;
+use rr_roster::chart::Chart;
 
 /// Adds to the desk what a command of a stock round brings about: `par`, `buy` of a share, `sell`, `swap` or `done`.
 /// Any other adds nothing. It doesn't ask whether the command is lawful, which `judge` tells. Where the stock round

@@ -12,9 +12,9 @@ ghost use Rattle.rr_stock.specs.Effects.{is_sold_out};
 ghost use Rattle.rr_stock.specs.Rules.{place_of_source, price_by_source};
 
 use rr_books::{Books, Cell, Corp, Place, ShareSource};
-use rr_chart::Chart;
 use rr_desk::Position;
 use rr_market::OperatingOrder;
+use rr_roster::chart::Chart;
 
 /// The corporation's par, if it has set one.
 pub(crate) fn par(position: &Position, chart: &Chart, corp: Corp) -> Option<u16>

@@ -7,9 +7,9 @@ ghost use Rattle.rr_stock.specs.Effects.{gets_share, gives_up_private, marks, pa
 
 use crate::reading::{cell_after_sale, place_of_source};
 use rr_books::{Cell, Cert, Corp, Entry, Money, Party, Place, Private, Refusal, Seat, ShareSource};
-use rr_chart::Chart;
 use rr_desk::{Desk, dollars, give_lowest_share};
 use rr_market::par_cell;
+use rr_roster::chart::Chart;
 use rr_shares::{float_if_due, settle_presidency};
 
 /// The seat gets the corporation's 20% certificate for twice the par, at which the token is put on the chart.

@@ -1,5 +1,5 @@
 -- What a commit does, from what the tables and the keeping of its record did.
-use Rattle.std.proofs.Common.{◌≡◌, ◌⊎◌, ◌↔◌, ℕ, ◌+◌, ◌≤◌, Bool, false, true, List, [], ◌∷◌, length, map, None, Some, Result, Ok, Err, IsErrOf, IsTrue, option_map, inl, inr, refl, sym, ap, subst, ◌∙◌, arith}
+use Rattle.std.proofs.Common.{◌≡◌, ◌⊎◌, ◌↔◌, ℕ, ◌+◌, ◌≤◌, Bool, false, true, List, [], ◌∷◌, None, Some, Result, Ok, Err, IsErrOf, IsTrue, option_map, inl, inr, refl, sym, ap, subst, ◌∙◌, arith}
 use Rattle.rr_disk.specs.Disk.{DiskState}
 use Rattle.rr_disk.specs.Moments.{EachImage, LeavesOnly}
 use Rattle.rr_images.specs.Calls.{TakesNewer}
@@ -15,16 +15,16 @@ use Rattle.rr_words.specs.Name.{IsTableName}
 use Rattle.rr_log.specs.declared.fault.Fault as log
 use Rattle.rr_log.specs.declared.fault.Fault.TheVariants as L
 use Rattle.rr_log.specs.declared.log.Log.{Log}
-use Rattle.rr_log.specs.Calls.{MeetsFullFile}
-use Rattle.rr_log.specs.Log.{IsTooLong, is_broken, next_number}
+use Rattle.rr_log.specs.Log.{is_broken, next_number}
 use Rattle.rr_log.specs.Log as file
 use Rattle.rr_log.specs.Carrying as carrying
-use Rattle.rr_tables.specs.Records.Taking.{Takes as Takes_line, table_files}
+use Rattle.rr_log.specs.Lent.{Lent}
+use Rattle.rr_tables.specs.Records.Taking.{table_files, table_rules}
 use Rattle.rr_tables.specs.declared.records.fault.Fault as rules
 use Rattle.rr_tables.specs.declared.records.fault.Fault.TheVariants as R
 use Rattle.rr_tables.specs.declared.records.rules.TableRules.{TableRules}
 use Rattle.rr_tables.specs.Records.Headline.{KeepsTables, KeepsTablesOr}
-use Rattle.rr_tables.specs.Records.Words.{in_words, table_in_words}
+use Rattle.rr_tables.specs.Records.Words.{in_words}
 use Rattle.rr_tables.specs.Records.World as ruled
 use Rattle.rr_tables.specs.declared.fault.Fault as table
 use Rattle.rr_tables.specs.declared.fault.Fault.TheVariants.{File, Rules}
@@ -39,10 +39,10 @@ use Rattle.rr_store.specs.Committing.{Commits, NumberBehind, Spares, layout_behi
 use Rattle.rr_store.specs.Fault.{CountsEnd, OnDeviceFault, of_log, of_rules, of_tables}
 use Rattle.rr_store.specs.Files.{AreTablesOf}
 use Rattle.rr_store.specs.Held.{Accepted, Again, Fails, Held, NoRoom, Refused, Takes, Wants, stamp_after, with_tables}
-use Rattle.rr_store.specs.Holding.{Carries, GamesArePlayed, HasNoRoom, IsUnchanged, disk_of, file_of, held_of, number_of_next, ticks_left}
+use Rattle.rr_store.specs.Holding.{Carries, GamesArePlayed, HasNoRoom, IsUnchanged, disk_of, file_of, held_of, lent_of, number_of_next, ticks_left}
 use Rattle.rr_store.specs.Keeping.{Keeping, MakesAtMost}
 use Rattle.rr_store.specs.World.{World, for_table, judgement_in, world_after}
-use Rattle.rr_store.proofs.Standing.{carried_keeps, carried_now, keeps_either, record_leads, stands_either, tables_after}
+use Rattle.rr_store.proofs.Standing.{carried_keeps, carried_lent, carried_now, keeps_either, record_leads, stands_either, tables_after}
 use Rattle.rr_store.proofs.Verdicts.{no_again, no_failure, no_full}
 
 abbrev held : Kit → World → Bool → Held
@@ -113,7 +113,7 @@ module _ {D : Type 0} (Honest Works : D → Type 0) (state : D → DiskState) (p
   Told result = Played → Takes (held_of old) stamp name c (held_of new) result
 
   abbrev KeptBy : Log D TableRules → Kept → Log D TableRules → Type 0
-  KeptBy before kept after = Keeping Honest Works state past faults writes syncs before (map table_in_words tables_now) bytes_of kept after
+  KeptBy before kept after = Keeping Honest Works state past faults writes syncs before (lent_of old) bytes_of kept after
 
   -- all is as it was
   spared : (fault : Fault) → (fault ≡ F.DeviceFailed → ⊥) → (fault ≡ F.FileFull → ⊥) → IsErrOf {T = ℕ} (Err fault) F.OpenAgain ↔ IsTrue (held_of old).broken → PlayedOn
@@ -167,7 +167,7 @@ module _ {D : Type 0} (Honest Works : D → Type 0) (state : D → DiskState) (p
       at_most : (count : D → ℕ) (more : ℕ) → count (disk_of new) ≤ count (disk_of old) + more
       at_most count more = let e : count (disk_of new) ≡ count (disk_of old) = ap count same_disk in omega arith
 
-      within : (count : D → ℕ) → MakesAtMost count (map table_in_words tables_now) (file_of old) (file_of new)
+      within : (count : D → ℕ) → MakesAtMost count (lent_of old) (file_of old) (file_of new)
       within count = let few = at_most count 3 in record { under_way = λ some. omega (arith, few); begun = λ none. omega (arith, few) }
 
       carried : (texts : KitTexts) → Carries state old texts → Carries state new texts
@@ -175,8 +175,8 @@ module _ {D : Type 0} (Honest Works : D → Type 0) (state : D → DiskState) (p
         right = subst (λ (x : Held). SpellsKit texts x.kit) (sym same.same_held) s.right;
         tables_of_kit = subst (λ (x : Held). AreTablesOf x.kit x.tables) (sym same.same_held) s.tables_of_kit;
         played = played_on s.played;
-        file = subst (λ (x : Held). carrying.Carries Takes_line (file_of new) (state (disk_of new)) (in_words texts x.tables)) (sym same.same_held)
-            (subst (λ (f : Log D TableRules). carrying.Carries Takes_line f (state (file.disk_of f)) (in_words texts tables_now)) (sym same.same_file) s.file);
+        file = subst (λ (x : Held). carrying.Carries table_rules (file_of new) (state (disk_of new)) (in_words texts x.tables)) (sym same.same_held)
+            (subst (λ (f : Log D TableRules). carrying.Carries table_rules f (state (file.disk_of f)) (in_words texts tables_now)) (sym same.same_file) s.file);
       }
 
   -- a store whose device failed before
@@ -201,7 +201,7 @@ module _ {D : Type 0} (Honest Works : D → Type 0) (state : D → DiskState) (p
         (λ moments. CommitAllows texts kit_now tables_now stamp (for_table name c) (state (disk_of old)) moments (state (disk_of new)) result)
     passed_by kept result lawful k h texts s ends =
         let is_lawful = lawful_in texts s (lawful s.played) in
-        let stops = k.stops h (in_words texts tables_now) (in_words texts behind) (record_leads texts kit_now tables_now stamp (for_table name c) is_lawful s.tables_of_kit) refl s.file in
+        let stops = k.stops h (in_words texts tables_now) (in_words texts behind) (record_leads texts kit_now tables_now stamp (for_table name c) is_lawful s.tables_of_kit) (carried_lent state old texts s) s.file in
         record {
           moments = stops.since;
           passed = stops.goes_on;
@@ -219,7 +219,7 @@ module _ {D : Type 0} (Honest Works : D → Type 0) (state : D → DiskState) (p
         → LeavesOnly (past (disk_of old)) (state (disk_of old)) (past (disk_of new)) (state (disk_of new)) (KeepsTablesOr texts kit_now tables_now (Some (for_table name c)))
     kept_by kept lawful k h texts s =
         let is_lawful = lawful_in texts s (lawful s.played) in
-        weaker (k.stops h (in_words texts tables_now) (in_words texts behind) (record_leads texts kit_now tables_now stamp (for_table name c) is_lawful s.tables_of_kit) refl s.file)
+        weaker (k.stops h (in_words texts tables_now) (in_words texts behind) (record_leads texts kit_now tables_now stamp (for_table name c) is_lawful s.tables_of_kit) (carried_lent state old texts s) s.file)
         (KeepsTablesOr texts kit_now tables_now (Some (for_table name c))) (keeps_either texts kit_now tables_now stamp (for_table name c) is_lawful s.tables_of_kit)
 
     -- the request was taken
@@ -262,8 +262,8 @@ module _ {D : Type 0} (Honest Works : D → Type 0) (state : D → DiskState) (p
               right = subst (λ (x : Held). SpellsKit texts x.kit) (sym is) s.right;
               tables_of_kit = subst (λ (x : Held). AreTablesOf x.kit x.tables) (sym is) (tables_after texts kit_now tables_now stamp (for_table name c) is_lawful s.tables_of_kit);
               played = played_on s.played;
-              file = subst (λ (x : Held). carrying.Carries Takes_line (file_of new) (state (disk_of new)) (in_words texts x.tables)) (sym is)
-                  (k.carries h k.broken (in_words texts tables_now) (in_words texts behind) (record_leads texts kit_now tables_now stamp (for_table name c) is_lawful s.tables_of_kit) refl s.file);
+              file = subst (λ (x : Held). carrying.Carries table_rules (file_of new) (state (disk_of new)) (in_words texts x.tables)) (sym is)
+                  (k.carries h k.broken (in_words texts tables_now) (in_words texts behind) (record_leads texts kit_now tables_now stamp (for_table name c) is_lawful s.tables_of_kit) (carried_lent state old texts s) s.file);
             }
 
     -- the device failed
@@ -293,7 +293,7 @@ module _ {D : Type 0} (Honest Works : D → Type 0) (state : D → DiskState) (p
           makes_room = tt;
           full = λ is. absurd (cc is);
           device = λ h texts s.
-              k.device h (in_words texts tables_now) (in_words texts behind) (record_leads texts kit_now tables_now stamp (for_table name c) (lawful_in texts s (lawful s.played)) s.tables_of_kit) refl s.file;
+              k.device h (in_words texts tables_now) (in_words texts behind) (record_leads texts kit_now tables_now stamp (for_table name c) (lawful_in texts s (lawful s.played)) s.tables_of_kit) (carried_lent state old texts s) s.file;
         }
 
     -- it wasn't taken, and the file carries on what was held
@@ -304,8 +304,8 @@ module _ {D : Type 0} (Honest Works : D → Type 0) (state : D → DiskState) (p
             right = subst (λ (x : Held). SpellsKit texts x.kit) (sym held_is) s.right;
             tables_of_kit = subst (λ (x : Held). AreTablesOf x.kit x.tables) (sym held_is) s.tables_of_kit;
             played = played_on s.played;
-            file = subst (λ (x : Held). carrying.Carries Takes_line (file_of new) (state (disk_of new)) (in_words texts x.tables)) (sym held_is)
-                (k.carries h whole (in_words texts tables_now) (in_words texts behind) (record_leads texts kit_now tables_now stamp (for_table name c) is_lawful s.tables_of_kit) refl s.file);
+            file = subst (λ (x : Held). carrying.Carries table_rules (file_of new) (state (disk_of new)) (in_words texts x.tables)) (sym held_is)
+                (k.carries h whole (in_words texts tables_now) (in_words texts behind) (record_leads texts kit_now tables_now stamp (for_table name c) is_lawful s.tables_of_kit) (carried_lent state old texts s) s.file);
           }
 
       renews_on : ticks_left old ≡ 1 → ticks_left new ≡ 0 → Honest (disk_of new) → (texts : KitTexts) → (s : Carries state old texts)
@@ -341,7 +341,7 @@ module _ {D : Type 0} (Honest Works : D → Type 0) (state : D → DiskState) (p
           most_syncs = k.most_syncs;
           comes_on = tt;
           makes_room = tt;
-          full = λ is. subst (λ (x : Held). IsTooLong (length bytes_of) ⊎ MeetsFullFile (file_of new) (map table_in_words x.tables) (length bytes_of)) (sym held_is) (k.full refl);
+          full = λ is. k.full refl;
           device = tt;
         }
 
@@ -424,8 +424,8 @@ module _ {D : Type 0} (Honest Works : D → Type 0) (state : D → DiskState) (p
             no_memory (λ played. Wants was (lawful-first (judgement_in kit_now tables_now stamp name c) (lawful played)) same) lawful same k
 
         pub commits_not : (fault : table.Fault) → (Played → MayRefuse (ruled.judgement_in kit_now tables_now stamp name c) fault)
-            → Passed (λ (before : FileJournal D) (tables : World) (bytes : List ℕ) (kept : Kept) (after : FileJournal D). Keeping Honest Works state past faults writes syncs before.file (map table_in_words tables) bytes kept after.file)
-            old.journal tables_now bytes_of new.journal (Err fault)
+            → Passed (λ (before : FileJournal D) (lent : Lent) (bytes : List ℕ) (kept : Kept) (after : FileJournal D). Keeping Honest Works state past faults writes syncs before.file lent bytes kept after.file)
+            old.journal (lent_of old) bytes_of new.journal (Err fault)
             → Done (Err (of_tables fault))
         commits_not (Rules fault) verdict passed = by_rule fault verdict (ap (λ (j : FileJournal D). j.file) passed)
         commits_not (File fault) verdict passed = by_file fault verdict passed

@@ -41,7 +41,7 @@ use Rattle.rr_store.specs.World.{TableRequest, World, for_table, world_after}
 use Rattle.rr_store.proofs.Openings.{syncs_at_most}
 use Rattle.rr_store.proofs.Standing.{carried_now, lawful_now}
 use Rattle.rr_store.proofs.Steps.{ends_so, first_of}
-use Rattle.rr_store.proofs.Worlds.{kept_stand, one_world}
+use Rattle.rr_store.proofs.Worlds.{kept_stand}
 
 -- the moments of a call are those of which its contract tells
 same_moments : (told moments past_old past_new : List DiskState) (old new : DiskState) → new ∷ past_new ≡ told ++ old ∷ past_old → new ∷ past_new ≡ moments ++ old ∷ past_old → told ≡ moments
@@ -207,14 +207,15 @@ module _ {D : Type 0} (Honest Works : D → Type 0) (state : D → DiskState) (p
         → Passes state past disk (disk_behind result) moments → OpenIsEvent state texts tables disk result moments
     open_is_event (Ok store) moments o h passes =
         let told = o.opened h in
-        let same = one_world (state disk).content texts told.0 tables (held_of store).tables mine told.1.allowed.0 in
+        let found = told.1.allowed.2 texts tables mine in
+        let same : (held_of store).tables ≡ tables = ap (λ (read : KitTexts × World). read.1) found.same in
         let told_are = same_moments told.1.moments moments (past disk) (past (disk_of store)) (state disk) (state (disk_of store)) told.1.passed passes in
-        let are : moments ≡ after_sync (state disk) ∷ [] = sym told_are ∙ told.1.allowed.1 in
+        let are : moments ≡ after_sync (state disk) ∷ [] = sym told_are ∙ told.1.allowed.0 in
         let passed : state (disk_of store) ∷ past (disk_of store) ≡ after_sync (state disk) ∷ state disk ∷ past disk =
         subst (λ (m : List DiskState). state (disk_of store) ∷ past (disk_of store) ≡ m ++ state disk ∷ past disk) are passes in
         let honest = o.honest h in
         let each = synced moments honest (inr are) in
-        let stands : StandsFor (state disk).content texts (held_of store).tables = subst (λ (w : World). StandsFor (state disk).content texts w) (sym same.1) mine in
+        let stands : StandsFor (state disk).content texts (held_of store).tables = subst (λ (w : World). StandsFor (state disk).content texts w) (sym same) mine in
         let only : StandsOnlyFor of_tables (world_in texts store) (state disk).content =
         λ other there. images.one_world table_files files_are_exact (state disk).content other (world_in texts store) there stands.stands in
         record {
@@ -225,7 +226,7 @@ module _ {D : Type 0} (Honest Works : D → Type 0) (state : D → DiskState) (p
                 (each_synced (state disk) (λ image. IsImage (state disk) image × StandsOnlyFor of_tables (world_in texts store) image) (stays disk honest, only)),
           );
           cut = λ image of_one. (each, of_one);
-          opened = (o.whole, same.1, o.carries h texts (subst (λ (w : World). KeepsTables texts w (state disk).content) (sym same.1) keeps));
+          opened = (o.whole, same, o.carries h texts (subst (λ (w : World). KeepsTables texts w (state disk).content) (sym same) keeps));
           left = tt;
         }
     open_is_event (Err refused) moments o h passes =

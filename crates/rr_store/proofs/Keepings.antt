@@ -13,16 +13,15 @@ use Rattle.rr_log.specs.declared.fault.Fault.{Fault}
 use Rattle.rr_log.specs.declared.fault.Fault.TheVariants as F
 use Rattle.rr_log.specs.declared.log.Log.{Log}
 use Rattle.rr_checkpoint.specs.Checkpoint.{left_behind_first}
-use Rattle.rr_checkpoint.specs.Plan.Laying.{needed_pages}
 use Rattle.rr_log.specs.Calls.{MayRefuse, MeetsFullFile, NumberBehind, first_left, layout_behind, tables_due, ticks_due, world_behind}
 use Rattle.rr_log.specs.Carrying.{Carries, HaveSameTexts}
 use Rattle.rr_log.specs.Fault.{CountsFault, IsWant, OnDeviceFault, ends_broken}
 use Rattle.rr_log.specs.Log.{HasNoRoom, IsDue, IsPastLast, IsTooLong, disk_of, is_broken, next_number, place_of, ticks_left}
 use Rattle.rr_log.proofs.Carried.{device_more}
 use Rattle.rr_tables.specs.declared.records.rules.TableRules.{TableRules}
-use Rattle.rr_tables.specs.Records.Taking.{Takes, table_files}
+use Rattle.rr_tables.specs.Records.Taking.{Takes, table_files, table_rules}
 use Rattle.rr_kit.specs.Kits.{KitTexts}
-use Rattle.rr_reading.specs.Worlds.World.{Table}
+use Rattle.rr_log.specs.Lent.{AreLentOf, Lent, pages_of}
 use Rattle.rr_reading.specs.Worlds.World as words
 use Rattle.rr_store.specs.Keeping.{ComesOn, IsFull, Keeping, MakesAtMost, told_of}
 
@@ -56,25 +55,25 @@ device_told F.OpenAgain so given = tt
 device_told F.OutOfMemory so given = tt
 
 -- a checkpoint that begins has a page at least
-first_some : (begun : Option ℕ) (left : ℕ) (tables : List Table) → (left ≡ 0) ⊎ (left ≡ left_behind_first begun (needed_pages tables)) → (left ≡ 0) ⊎ (left_behind_first begun 1 ≤ left)
+first_some : (begun : Option ℕ) (left : ℕ) (tables : Lent) → (left ≡ 0) ⊎ (left ≡ left_behind_first begun (pages_of tables)) → (left ≡ 0) ⊎ (left_behind_first begun 1 ≤ left)
 first_some begun left tables (inl none) = inl none
 first_some None left tables (inr is) = inr (omega (arith, is))
 first_some (Some first) left tables (inr is) = inr (omega (arith, is))
 
 module _ {D : Type 0} (Honest Works : D → Type 0) (state : D → DiskState) (past : D → List DiskState) (faults writes syncs : D → ℕ)
-    (tables : List Table) (bytes : List ℕ) where
+    (tables : Lent) (bytes : List ℕ) where
   abbrev Logs : Type 0
   Logs = Log D TableRules
 
   -- what one attempt to keep the record does
   pub record Tried (old : Logs) (result : Kept) (new : Logs) : Type 0 where
-    pub stops : Honest (disk_of new) → (before behind : words.World) → Takes bytes before behind → HaveSameTexts before behind → before.tables ≡ tables
-        → Carries Takes old (state (disk_of old)) before
+    pub stops : Honest (disk_of new) → (before behind : words.World) → Takes bytes before behind → HaveSameTexts before behind → AreLentOf table_rules before tables
+        → Carries table_rules old (state (disk_of old)) before
         → LeavesEither table_files (past (disk_of old)) (state (disk_of old)) (past (disk_of new)) (state (disk_of new)) before behind
-    pub carries : Honest (disk_of new) → is_broken new ≡ false → (before behind : words.World) → Takes bytes before behind → HaveSameTexts before behind → before.tables ≡ tables
-        → Carries Takes old (state (disk_of old)) before → Carries Takes new (state (disk_of new)) (world_behind result before behind)
+    pub carries : Honest (disk_of new) → is_broken new ≡ false → (before behind : words.World) → Takes bytes before behind → HaveSameTexts before behind → AreLentOf table_rules before tables
+        → Carries table_rules old (state (disk_of old)) before → Carries table_rules new (state (disk_of new)) (world_behind result before behind)
     pub renews : is_broken new ≡ false → ticks_left old ≡ 1 → ticks_left new ≡ 0 → Honest (disk_of new) → (before behind : words.World) → Takes bytes before behind → HaveSameTexts before behind
-        → (carries : Carries Takes old (state (disk_of old)) before)
+        → (carries : Carries table_rules old (state (disk_of old)) before)
         → EachImage (state (disk_of new)) (TakesNewer table_files (layout_behind result carries.carried.layout bytes behind) (world_behind result before behind))
     pub nothing : IfErr result (λ fault. is_broken new ≡ false → ticks_left old ≡ 0 → ticks_left new ≡ 0 → disk_of new ≡ disk_of old)
     pub number : NumberBehind result (next_number old) (next_number new)
@@ -92,7 +91,7 @@ module _ {D : Type 0} (Honest Works : D → Type 0) (state : D → DiskState) (p
     pub most : is_broken new ≡ false → ticks_left old ≡ 0 → ticks_left new < ticks_due old tables
     pub rests : ticks_left old ≡ 0 → (IsDue (place_of old) → ⊥) → ticks_left new ≡ 0
     pub begins : is_broken new ≡ false → ticks_left old ≡ 0 → (ticks_left new ≡ 0) ⊎ (ticks_left new ≡ first_left old tables)
-    pub device : OnDeviceFault result (Honest (disk_of new) → (world : words.World) → Carries Takes old (state (disk_of old)) world → Works (disk_of new) → ⊥)
+    pub device : OnDeviceFault result (Honest (disk_of new) → (world : words.World) → Carries table_rules old (state (disk_of old)) world → Works (disk_of new) → ⊥)
     pub fault : CountsFault (faults (disk_of old)) (faults (disk_of new)) result
     pub few_writes : writes (disk_of new) ≤ writes (disk_of old) + 3
     pub few_syncs : syncs (disk_of new) ≤ syncs (disk_of old) + 3
@@ -105,10 +104,10 @@ module _ {D : Type 0} (Honest Works : D → Type 0) (state : D → DiskState) (p
 
   -- what a checkpoint does
   pub record Made (old : Logs) (result : Kept) (new : Logs) : Type 0 where
-    pub stops : Honest (disk_of new) → (world : words.World) → world.tables ≡ tables → Carries Takes old (state (disk_of old)) world
+    pub stops : Honest (disk_of new) → (world : words.World) → AreLentOf table_rules world tables → Carries table_rules old (state (disk_of old)) world
         → LeavesKept table_files (past (disk_of old)) (state (disk_of old)) (past (disk_of new)) (state (disk_of new)) world
-    pub carries : Honest (disk_of new) → is_broken new ≡ false → (world : words.World) → world.tables ≡ tables
-        → Carries Takes old (state (disk_of old)) world → Carries Takes new (state (disk_of new)) world
+    pub carries : Honest (disk_of new) → is_broken new ≡ false → (world : words.World) → AreLentOf table_rules world tables
+        → Carries table_rules old (state (disk_of old)) world → Carries table_rules new (state (disk_of new)) world
     pub number : next_number new ≡ next_number old
     pub again : IsErrOf result F.OpenAgain ↔ IsTrue (is_broken old)
     pub broken : is_broken new ≡ ends_broken result
@@ -123,13 +122,13 @@ module _ {D : Type 0} (Honest Works : D → Type 0) (state : D → DiskState) (p
     pub all_syncs : syncs (disk_of new) ≤ syncs (disk_of old) + ticks_left old
     pub honest : Honest (disk_of new) → Honest (disk_of old)
     pub works : Works (disk_of new) → Works (disk_of old)
-    pub device : OnDeviceFault result (Honest (disk_of new) → (world : words.World) → world.tables ≡ tables → Carries Takes old (state (disk_of old)) world
+    pub device : OnDeviceFault result (Honest (disk_of new) → (world : words.World) → AreLentOf table_rules world tables → Carries table_rules old (state (disk_of old)) world
         → Works (disk_of new) → ⊥)
 
   abbrev pub Done : Logs → Kept → Logs → Type 0
   Done old result new = Keeping Honest Works state past faults writes syncs old tables bytes result new
 
-  kept_now : (log : Logs) (before behind : words.World) → Carries Takes log (state (disk_of log)) before
+  kept_now : (log : Logs) (before behind : words.World) → Carries table_rules log (state (disk_of log)) before
       → LeavesEither table_files (past (disk_of log)) (state (disk_of log)) (past (disk_of log)) (state (disk_of log)) before behind
   kept_now log before behind carries =
       started (past (disk_of log)) (state (disk_of log)) (λ image. Keeps table_files image before ⊎ Keeps table_files image behind)
@@ -265,8 +264,8 @@ module _ {D : Type 0} (Honest Works : D → Type 0) (state : D → DiskState) (p
     has_none : {A : Type 0} → (IsFull old bytes → ⊥) → A
     has_none room = absurd (room (inl (t.full_half refl)))
 
-    carried : Honest (disk_of mid) → (before behind : words.World) → Takes bytes before behind → before.tables ≡ tables
-        → Carries Takes old (state (disk_of old)) before → Carries Takes mid (state (disk_of mid)) before
+    carried : Honest (disk_of mid) → (before behind : words.World) → Takes bytes before behind → AreLentOf table_rules before tables
+        → Carries table_rules old (state (disk_of old)) before → Carries table_rules mid (state (disk_of mid)) before
     carried h before behind takes lent carries = t.carries h t.broken before behind takes (same_texts bytes before behind takes) lent carries
 
     -- one tick, all that are then left, and a second attempt
@@ -326,8 +325,8 @@ module _ {D : Type 0} (Honest Works : D → Type 0) (state : D → DiskState) (p
         same_fault is = (told fault new some m).0 (let same : fault ≡ F.OpenAgain = cc is in same)
 
     module _ (made new : Logs) (m : Made mid (Ok tt) made) where
-      stops_by : (result : Kept) → Tried made result new → Honest (disk_of new) → (before behind : words.World) → Takes bytes before behind → before.tables ≡ tables
-          → Carries Takes old (state (disk_of old)) before
+      stops_by : (result : Kept) → Tried made result new → Honest (disk_of new) → (before behind : words.World) → Takes bytes before behind → AreLentOf table_rules before tables
+          → Carries table_rules old (state (disk_of old)) before
           → LeavesEither table_files (past (disk_of old)) (state (disk_of old)) (past (disk_of new)) (state (disk_of new)) before behind
       stops_by result again h before behind takes lent carries =
           let then = again.honest h in
@@ -337,8 +336,8 @@ module _ {D : Type 0} (Honest Works : D → Type 0) (state : D → DiskState) (p
           (weaker (m.stops then before lent there) (λ image. Keeps table_files image before ⊎ Keeps table_files image behind) (λ image keeps. inl keeps)))
           (again.stops h before behind takes (same_texts bytes before behind takes) lent (m.carries then m.broken before lent there))
 
-      carries_by : (result : Kept) → Tried made result new → Honest (disk_of new) → is_broken new ≡ false → (before behind : words.World) → Takes bytes before behind → before.tables ≡ tables
-          → Carries Takes old (state (disk_of old)) before → Carries Takes new (state (disk_of new)) (world_behind result before behind)
+      carries_by : (result : Kept) → Tried made result new → Honest (disk_of new) → is_broken new ≡ false → (before behind : words.World) → Takes bytes before behind → AreLentOf table_rules before tables
+          → Carries table_rules old (state (disk_of old)) before → Carries table_rules new (state (disk_of new)) (world_behind result before behind)
       carries_by result again h whole before behind takes lent carries =
           let then = again.honest h in
           again.carries h whole before behind takes (same_texts bytes before behind takes) lent
@@ -356,7 +355,7 @@ module _ {D : Type 0} (Honest Works : D → Type 0) (state : D → DiskState) (p
 
       -- and where it is refused behind the last tick the disk is as that left it
       renews_still : (fault : Fault) → Tried made (Err fault) new → is_broken new ≡ false → ticks_left old ≡ 1 → ticks_left new ≡ 0 → Honest (disk_of new) → (before behind : words.World) → Takes bytes before behind
-          → (carries : Carries Takes old (state (disk_of old)) before) → EachImage (state (disk_of new)) (TakesNewer table_files carries.carried.layout before)
+          → (carries : Carries table_rules old (state (disk_of old)) before) → EachImage (state (disk_of new)) (TakesNewer table_files carries.carried.layout before)
       renews_still fault again whole one none h before behind takes carries =
           let left = t.comes refl (omega (arith, one)) in
           let rested : ticks_left mid ≡ 0 = omega (arith, one, left) in

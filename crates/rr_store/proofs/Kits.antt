@@ -2,7 +2,7 @@
 use Rattle.std.proofs.Common.{◌≡◌, ◌≢◌, inl, inr, subst, arith, Err}
 use Rattle.std.proofs.lemmas.Str.{IsUtf8-from_ascii}
 use Rattle.rr_kit.specs.declared.board.fault.Fault.TheVariants as B
-use Rattle.rr_chart.specs.declared.fault.Fault.TheVariants as H
+use Rattle.rr_roster.specs.declared.chart.fault.Fault.TheVariants as H
 use Rattle.rr_kit.specs.declared.fault.Fault.{Fault}
 use Rattle.rr_kit.specs.declared.fault.Fault.TheVariants as F
 use Rattle.rr_kit.specs.declared.kit.Kit.{Kit}

@@ -6,6 +6,7 @@ pub mod Formattings
 pub mod Standing
 pub mod Commits
 pub mod Steps
+pub mod Trusting
 pub mod Recovering
 pub mod Openings
 pub mod Numbers

@@ -19,7 +19,7 @@ use Rattle.rr_reading.specs.declared.fault.Fault.TheVariants as R
 use Rattle.rr_reading.specs.Faults as reading_of
 use Rattle.rr_reading.specs.Held.{Held}
 use Rattle.rr_reading.specs.Reading as reading_says
-use Rattle.rr_reading.specs.Reading.{Holds}
+use Rattle.rr_reading.specs.Reading.{HasRoot, Holds}
 use Rattle.rr_tables.specs.Records.Headline.{KeepsTables}
 use Rattle.rr_tables.specs.Records.Taking.{table_files}
 use Rattle.rr_tables.specs.Records.Words.{in_words}
@@ -27,7 +27,6 @@ use Rattle.rr_pages.specs.Journal.Reading.{lines}
 use Rattle.rr_pages.specs.declared.fault.Damage.{Damage}
 use Rattle.rr_store.specs.declared.recovery.fault.Fault as recovery
 use Rattle.rr_store.specs.declared.recovery.fault.Fault.TheVariants as C
-use Rattle.rr_store.specs.Recovery.Recovered.{HoldsPlayedTables}
 use Rattle.rr_store.specs.Recovery.Telling as recovers
 use Rattle.rr_tables.specs.Tables.{ArePlayed, world_of}
 use Rattle.rr_reading.specs.Worlds.World as words
@@ -38,11 +37,11 @@ use Rattle.rr_store.specs.declared.store.Store.{Store}
 use Rattle.rr_store.specs.Allowing.{Between, Keeps}
 use Rattle.rr_store.specs.Fault.{CountsFailure, OnDevice, of_reading, of_recovery}
 use Rattle.rr_store.specs.Recovery.Fault as recovery_of
-use Rattle.rr_store.specs.Files.{AreTablesOf, StandsFor}
-use Rattle.rr_store.specs.Holding.{Carries, disk_of, held_of}
+use Rattle.rr_store.specs.Files.{StandsFor}
+use Rattle.rr_store.specs.Holding.{Carries, GamesArePlayed, disk_of, held_of}
 use Rattle.rr_store.specs.Opening.{IsFound, IsNoVerdict, IsSyncedFirst, OpenAllows, Refuses, SyncsAtMost, SyncsFirst}
 use Rattle.rr_store.specs.World.{World}
-use Rattle.rr_store.proofs.Recovering.{stands_now}
+use Rattle.rr_store.proofs.Recovering.{only_recovered, recovered_played}
 
 -- refusals of the layers below
 
@@ -117,15 +116,19 @@ carries_along {T} old new before after world same_state same_writer same_held re
 
 -- the moments of an opening
 pub opened_by : (past_old : List DiskState) (old : DiskState) (past_new : List DiskState) (new : DiskState) (texts : KitTexts) (tables : World) → WasSynced past_old old past_new new
-    → StandsFor old.content texts tables → Between past_old old past_new new (λ moments. OpenAllows old moments new (Ok (texts, tables)))
-opened_by past_old old past_new new texts tables was stands =
+    → HasRoot old.content → ((others : KitTexts) (kept : World) → StandsFor old.content others kept → ◌≡◌ {A = KitTexts × World} (texts, tables) (others, kept))
+    → Between past_old old past_new new (λ moments. OpenAllows old moments new (Ok (texts, tables)))
+opened_by past_old old past_new new texts tables was root only =
     record {
       moments = after_sync old ∷ [];
       passed = λ i. was.settled i ∷ was.passed i;
       allowed = (
-        stands,
         refl,
-        subst (λ (state : DiskState). Keeps state texts tables) (sym was.settled) (each_synced old (λ image. StandsFor image texts tables) stands),
+        root,
+        λ others kept stands. record {
+          same = only others kept stands;
+          keeps = subst (λ (state : DiskState). Keeps state others kept) (sym was.settled) (each_synced old (λ image. StandsFor image others kept) stands);
+        },
       );
     }
 
@@ -169,45 +172,42 @@ module _ (past_old : List DiskState) (old : DiskState) (past_new : List DiskStat
 module _ {D : Type 0} (Honest : D → Type 0) (state : D → DiskState) (past : D → List DiskState) (old then : D) (store : Store D) (found : Found)
     (disk_is : disk_of store ≡ then) (kit_is : (held_of store).kit ≡ found.recovered.tables.kit) (tables_are : (held_of store).tables ≡ world_of found.recovered.tables)
     (is_found : Honest then → IsFound (state old).content found) where
-  -- the store holds what the file stands for
+  -- the store holds what the file stands for, if it stands for a world
   pub opened_store : (Honest then → WasSynced (past old) (state old) (past then) (state then)) → Honest (disk_of store)
       → (texts : KitTexts) × Between (past old) (state old) (past (disk_of store)) (state (disk_of store))
       (λ moments. OpenAllows (state old) moments (state (disk_of store)) (Ok (texts, (held_of store).tables))) × SpellsKit texts (held_of store).kit
   opened_store was h =
       let honest = subst Honest disk_is h in
+      let has = held_by (state old).content found.opened in
+      let holds = (is_found honest).holds in
       let r = (is_found honest).recovered in
-      let stands = stands_now (held_by (state old).content found.opened) found.recovered r (state old).content (is_found honest).holds in
-      let opened = opened_by (past old) (state old) (past then) (state then) r.texts (world_of found.recovered.tables) (was honest) stands in
+      let root : HasRoot (state old).content = (has.side, has.root, holds.chains.has_directory.taken) in
+      let opened = opened_by (past old) (state old) (past then) (state then) r.texts (world_of found.recovered.tables) (was honest) root
+      (λ others kept stands. only_recovered (state old).content has found.recovered holds r others kept stands) in
       let of_store = subst (λ (w : World). Between (past old) (state old) (past then) (state then) (λ moments. OpenAllows (state old) moments (state then) (Ok (r.texts, w)))) (sym tables_are) opened in (
         r.texts,
         subst (λ (d : D). Between (past old) (state old) (past d) (state d) (λ moments. OpenAllows (state old) moments (state d) (Ok (r.texts, (held_of store).tables)))) (sym disk_is) of_store,
-        subst (λ (k : Kit). SpellsKit r.texts k) (sym kit_is) r.told.right,
+        subst (λ (k : Kit). SpellsKit r.texts k) (sym kit_is) r.right,
       )
 
-  -- and goes on with a file that keeps it
+  -- and then its tables were played
+  pub played_store : (ArePlayed found.recovered.tables → GamesArePlayed store) → Honest (disk_of store) → (texts : KitTexts) (tables : World)
+      → StandsFor (state old).content texts tables → GamesArePlayed store
+  played_store so h texts tables stands =
+      let f = is_found (subst Honest disk_is h) in
+      so (recovered_played (state old).content (held_by (state old).content found.opened) found.recovered f.holds f.recovered texts tables stands)
+
+  -- and it goes on with a file that keeps it
   pub carries_store : ((texts : KitTexts) → IsFound (state then).content found → writer.ticks_left_of found.opened.writer ≡ 0
       → GoesBehind (writer.taken_of found.opened.writer).root (lines found.opened.near.records.items) (lines found.opened.far.records.items) (writer.place_of found.opened.writer)
-      → CarriesRead table_files found.opened (state then) (in_words texts (world_of found.recovered.tables)) → ArePlayed found.recovered.tables → Carries state store texts)
-      → ArePlayed found.recovered.tables
+      → CarriesRead table_files found.opened (state then) (in_words texts (world_of found.recovered.tables)) → Carries state store texts)
       → writer.ticks_left_of found.opened.writer ≡ 0
       → (Honest then → GoesBehind (writer.taken_of found.opened.writer).root (lines found.opened.near.records.items) (lines found.opened.far.records.items) (writer.place_of found.opened.writer))
       → (Honest then → WasSynced (past old) (state old) (past then) (state then))
       → (Honest then → (world : words.World) → KeepsFile table_files (state old).content world → CarriesRead table_files found.opened (state then) world)
       → Honest (disk_of store) → (texts : KitTexts) → KeepsTables texts (held_of store).tables (state old).content → Carries state store texts
-  carries_store begun played resting place was goes_on h texts keeps =
+  carries_store begun resting place was goes_on h texts keeps =
       let honest = subst Honest disk_is h in
       let here = subst (λ (s : DiskState). IsFound s.content found) (sym (was honest).settled) (is_found honest) in
       begun texts here resting (place honest)
-      (goes_on honest (in_words texts (world_of found.recovered.tables)) (subst (λ (w : World). KeepsTables texts w (state old).content) tables_are keeps)) played
-
--- the store holds tables that were played, where those were that were found
-pub played_store : {D : Type 0} (store : Store D) (found : Found) → (held_of store).kit ≡ found.recovered.tables.kit → (held_of store).tables ≡ world_of found.recovered.tables
-    → HoldsPlayedTables found.recovered → (texts : KitTexts) × SpellsKit texts (held_of store).kit × AreTablesOf (held_of store).kit (held_of store).tables
-played_store store found kit_is tables_are holds =
-    let Spelled : Kit → Type 0 = λ k. SpellsKit holds.texts k in
-    let OfKit : Kit → Type 0 = λ k. AreTablesOf k (world_of found.recovered.tables) in
-    let OfTables : World → Type 0 = λ w. AreTablesOf (held_of store).kit w in (
-      holds.texts,
-      subst Spelled (sym kit_is) holds.right,
-      subst OfTables (sym tables_are) (subst OfKit (sym kit_is) (record { spelled = holds.spelled; played = holds.played })),
-    )
+      (goes_on honest (in_words texts (world_of found.recovered.tables)) (subst (λ (w : World). KeepsTables texts w (state old).content) tables_are keeps))

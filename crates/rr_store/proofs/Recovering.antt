@@ -1,5 +1,5 @@
 -- What a file stands for by what was recovered of it.
-use Rattle.std.proofs.Common.{◌≡◌, ◌⊎◌, ℕ, ◌+◌, List, [], ◌∷◌, ◌++◌, length, map, Option, None, Some, inl, inr, refl, sym, ap, subst, ◌∙◌}
+use Rattle.std.proofs.Common.{◌≡◌, ◌⊎◌, ℕ, ◌+◌, List, [], ◌∷◌, ◌++◌, length, Option, None, Some, inl, inr, refl, sym, ap, subst, ◌∙◌}
 use Rattle.rr_images.specs.Codec.{Replays}
 use Rattle.rr_images.specs.Holding.{HeldChain, Holding, texts_of}
 use Rattle.rr_images.specs.Layout.{Layout}
@@ -15,8 +15,10 @@ use Rattle.rr_reading.specs.Reading.{Holds}
 use Rattle.rr_reading.proofs.Standing.{held_stands}
 use Rattle.rr_tables.specs.Records.Played.{ArePlayedTables, IsPlayedWorld}
 use Rattle.rr_tables.specs.Records.Lines.{TakesRecord}
-use Rattle.rr_tables.specs.Records.Taking.{Takes, table_files}
-use Rattle.rr_tables.specs.Records.Words.{IsInWords, in_words, kit_texts, table_in_words}
+use Rattle.rr_tables.specs.Records.Taking.{Takes, table_files, table_rules}
+use Rattle.rr_log.specs.Lent.{AreLentOf, Lent}
+use Rattle.rr_tables.proofs.RecordLemmas.LentLemmas.{played_are_lent}
+use Rattle.rr_tables.specs.Records.Words.{IsInWords, in_words, kit_texts}
 use Rattle.rr_tables.proofs.RecordLemmas.PlayedLemmas.{played_after, read_have_played_bases, tables_of_played_are_played}
 use Rattle.rr_tables.proofs.RecordLemmas.TakingLemmas.{files_are_exact, unlawful_lead_nowhere}
 use Rattle.rr_tables.proofs.RecordLemmas.WordLemmas.{are_in_words, of_form, one_in_words}
@@ -24,21 +26,23 @@ use Rattle.rr_tables.proofs.RecordLemmas.WorldLemmas.{keep_after}
 use Rattle.rr_pages.specs.declared.fault.Damage.{Damage}
 use Rattle.rr_pages.specs.declared.fault.Damage.TheVariants as D
 use Rattle.rr_store.specs.declared.recovery.recovered.Recovered.{Recovered}
-use Rattle.rr_store.specs.Recovery.Recovered.{IsRecoveredFrom}
-use Rattle.rr_store.specs.Recovery.Telling.{IsBase, IsDamage}
+use Rattle.rr_store.specs.Recovery.Recovered.{IsRecoveredFrom, IsTold}
+use Rattle.rr_store.specs.Recovery.Telling.{HasBadRecord, HasTrueSnapshots, IsDamage}
 use Rattle.rr_store.specs.Recovery.Replaying as recovery
 use Rattle.rr_store.specs.Recovery.Replaying.{BreaksOff, IsTranscriptBefore}
 use Rattle.rr_store.specs.Recovery.Texts.{texts_in}
-use Rattle.rr_store.proofs.RecoveryLemmas.BaseLemmas.{base_written}
+use Rattle.rr_checkpoint.specs.Plan.Kit.{AreTextChains}
 use Rattle.rr_checkpoint.specs.declared.plan.transcript.Transcript.{Transcript}
-use Rattle.rr_tables.specs.Tables.{world_of}
+use Rattle.rr_tables.specs.Tables.{ArePlayed, lent_by, world_of}
+use Rattle.rr_tables.specs.declared.tables.Tables.{Tables}
 use Rattle.rr_reading.specs.Worlds.Spelling.{Spells}
-use Rattle.rr_reading.specs.Worlds.World.{Table}
 use Rattle.rr_reading.specs.Worlds.World as words
 use Rattle.rr_reading.proofs.WorldLemmas.Exact.{one_world}
 use Rattle.rr_store.specs.Files.{AreTablesOf, StandsFor}
 use Rattle.rr_store.specs.World.{World}
 use Rattle.rr_store.proofs.Kits.{right_is_not_wrong}
+use Rattle.rr_store.proofs.Trusting.{is_written, one_written, standing_true, true_snapshots}
+use Rattle.rr_store.proofs.Worlds as standing
 
 -- lines lead from a world to one world
 same_replay : (lines : List (List ℕ)) (old a b : words.World) → Replays table_files old lines a → Replays table_files old lines b → a ≡ b
@@ -58,16 +62,17 @@ replay_texts [] old new same = ap kit_texts (sym same)
 replay_texts (line ∷ lines) old new replays = replay_texts lines replays.0 new replays.2 ∙ replays.1.same_texts
 
 -- the transcript that a file's far records ask for
-base_before : (far : List (List ℕ)) (middle : World) (base : Option Transcript) (begun : Option ℕ) (number : ℕ) (tables : List Table) → begun ≡ begun_at number far
-    → IsTranscriptBefore far middle base → tables ≡ map table_in_words middle → IsLogBase begun base tables
-base_before [] middle base begun number tables is before same = subst (λ (b : Option ℕ). IsLogBase b base tables) (sym is) before
-base_before (line ∷ far) middle None begun number tables is before same = absurd before
-base_before (line ∷ far) middle (Some transcript) begun number tables is before same =
-    subst (λ (b : Option ℕ). IsLogBase b (Some transcript) tables) (sym is) (transcript, refl, before ∙ sym same)
+base_before : (far : List (List ℕ)) (middle : Tables) (base : Option Transcript) (begun : Option ℕ) (number : ℕ) (world : words.World) → begun ≡ begun_at number far
+    → IsTranscriptBefore far middle base → AreLentOf table_rules world (lent_by middle) → IsLogBase table_rules begun base world
+base_before [] middle base begun number world is before lent = subst (λ (b : Option ℕ). IsLogBase table_rules b base world) (sym is) before
+base_before (line ∷ far) middle None begun number world is before lent = absurd before
+base_before (line ∷ far) middle (Some transcript) begun number world is before lent =
+    subst (λ (b : Option ℕ). IsLogBase table_rules b (Some transcript) world) (sym is)
+    (transcript, refl, subst (λ (l : Lent). AreLentOf table_rules world l) (sym before) lent)
 
 -- the texts that chains hold are those of the world that they spell
 pub spelled_texts : (number : ℕ) (bytes : List ℕ) (texts : TextChains) (tables : List HeldChain) (world : words.World)
-    → Spells number bytes (texts_of (chains_of texts tables)) world → kit_texts world ≡ texts_in texts
+    → Spells table_rules number bytes (texts_of (chains_of texts tables)) world → kit_texts world ≡ texts_in texts
 spelled_texts number bytes texts tables world spells =
     let all = spells.of_chains in
     let chart : world.chart ≡ texts.chart.text = cc in
@@ -116,62 +121,69 @@ module _ (texts : KitTexts) (kit : Kit) (right : SpellsKit texts kit) where
       let on = subst (λ (w : words.World). Replays table_files w (broken.next ∷ broken.rest) new) same halves.2 in
       unlawful_lead_nowhere kit broken.mid (in_words texts broken.mid) on.0 broken.next right (are_in_words texts broken.mid front.0.spelled) broken.unlawful on.1
 
--- the world that an opening reads, as what was recovered of it
-module _ (has : Held) (recovered : Recovered) (r : IsRecoveredFrom has recovered) where
+-- the world that an opening reads, as what was recovered of it where its snapshots are true
+module _ (has : Held) (texts : KitTexts) (recovered : Recovered) (r : IsTold has texts recovered) where
   abbrev kit : Kit
   kit = recovered.tables.kit
 
   abbrev now : World
   now = world_of recovered.tables
 
+  abbrev middle : World
+  middle = world_of r.middle
+
   of_base : AreTablesOf kit r.base
   of_base = record { spelled = of_form r.base r.told.world r.told.based; played = r.told.played }
 
-  base_is : r.told.world ≡ in_words r.texts r.base
-  base_is = one_in_words r.base r.told.world (in_words r.texts r.base) r.told.based (are_in_words r.texts r.base of_base.spelled) r.told.of_kit
+  base_is : r.told.world ≡ in_words texts r.base
+  base_is = one_in_words r.base r.told.world (in_words texts r.base) r.told.based (are_in_words texts r.base of_base.spelled) r.told.of_kit
 
-  near_on : AreTablesOf kit r.middle × Replays table_files (in_words r.texts r.base) has.near (in_words r.texts r.middle)
-  near_on = replayed r.texts kit r.told.right has.near r.base r.middle of_base r.told.near
+  near_on : AreTablesOf kit middle × Replays table_files (in_words texts r.base) has.near (in_words texts middle)
+  near_on = replayed texts kit r.told.right has.near r.base middle of_base r.told.near
 
-  far_on : AreTablesOf kit now × Replays table_files (in_words r.texts r.middle) has.far (in_words r.texts now)
-  far_on = replayed r.texts kit r.told.right has.far r.middle now near_on.0 r.told.far
+  far_on : AreTablesOf kit now × Replays table_files (in_words texts middle) has.far (in_words texts now)
+  far_on = replayed texts kit r.told.right has.far middle now near_on.0 r.told.far
 
   pub of_now : AreTablesOf kit now
   of_now = far_on.0
 
   -- the file stands for it
-  pub stands_now : (file : List ℕ) → Holds file has → StandsFor file r.texts now
+  pub stands_now : (file : List ℕ) → Holds file has → StandsFor file texts now
   stands_now file holds =
       record {
         kit = kit;
         right = r.told.right;
         tables_of_kit = of_now;
-        stands = held_stands table_files (λ version bytes heads. (λ named. named, λ named. named)) file has (in_words r.texts r.base) (in_words r.texts now) holds
-            (subst (λ (w : words.World). Spells has.root.version has.chain.text (texts_of (chains_of has.texts has.tables)) w) base_is r.told.spells)
+        stands = held_stands table_files (λ version bytes heads. (λ named. named, λ named. named)) file has (in_words texts r.base) (in_words texts now) holds
+            (subst (λ (w : words.World). Spells table_rules has.root.version has.chain.text (texts_of (chains_of has.texts (has.tables ++ has.snapshots))) w) base_is r.told.spells)
             (λ is. r.told.whole (inl is)) (λ is. r.told.whole (inr is))
-            (replays_on table_files has.near has.far (in_words r.texts r.base) (in_words r.texts r.middle) (in_words r.texts now) near_on.1 far_on.1);
+            (replays_on table_files has.near has.far (in_words texts r.base) (in_words texts middle) (in_words texts now) near_on.1 far_on.1);
       }
 
-  -- and where the file keeps it, what writes to it goes on by a layout of it
-  module _ (texts : KitTexts) (layout : Layout table_files) (is_read : IsReadAs layout has (in_words texts now)) where
-    base_same : layout.base ≡ in_words r.texts r.base
-    base_same = one_world has.root.version has.chain.text (texts_of (chains_of has.texts has.tables)) layout.base r.told.world is_read.spells r.told.spells ∙ base_is
+  -- what the tables before the far records lend is of the world that they are
+  middle_lent : AreLentOf table_rules (in_words texts middle) (lent_by r.middle)
+  middle_lent = played_are_lent texts r.middle (subst (λ (k : Kit). SpellsKit texts k) (sym r.of_kit) r.told.right) near_on.0.spelled r.middle_played
 
-    middle_same : layout.middle ≡ in_words r.texts r.middle
-    middle_same = same_replay has.near (in_words r.texts r.base) layout.middle (in_words r.texts r.middle)
+  -- and where the file keeps it, what writes to it goes on by a layout of it
+  module _ (kept : KitTexts) (layout : Layout table_files) (is_read : IsReadAs layout has (in_words kept now)) where
+    base_same : layout.base ≡ in_words texts r.base
+    base_same = one_world table_rules has.root.version has.chain.text (texts_of (chains_of has.texts (has.tables ++ has.snapshots))) layout.base r.told.world is_read.spells r.told.spells ∙ base_is
+
+    middle_same : layout.middle ≡ in_words texts middle
+    middle_same = same_replay has.near (in_words texts r.base) layout.middle (in_words texts middle)
         (subst (λ (w : words.World). Replays table_files w has.near layout.middle) base_same is_read.leads) near_on.1
 
-    now_same : in_words texts now ≡ in_words r.texts now
-    now_same = same_replay has.far (in_words r.texts r.middle) (in_words texts now) (in_words r.texts now)
-        (subst (λ (w : words.World). Replays table_files w has.far (in_words texts now)) middle_same is_read.leads_on) far_on.1
+    now_same : in_words kept now ≡ in_words texts now
+    now_same = same_replay has.far (in_words texts middle) (in_words kept now) (in_words texts now)
+        (subst (λ (w : words.World). Replays table_files w has.far (in_words kept now)) middle_same is_read.leads_on) far_on.1
 
-    pub texts_same : texts ≡ r.texts
+    pub texts_same : kept ≡ texts
     texts_same = ap kit_texts now_same
 
-    held_texts : texts_in has.texts ≡ r.texts
-    held_texts = sym (spelled_texts has.root.version has.chain.text has.texts has.tables r.told.world r.told.spells) ∙ r.told.of_kit
+    held_texts : texts_in has.texts ≡ texts
+    held_texts = sym (spelled_texts has.root.version has.chain.text has.texts (has.tables ++ has.snapshots) r.told.world r.told.spells) ∙ r.told.of_kit
 
-    texts_of_world : (world : words.World) → kit_texts world ≡ r.texts → HasTexts has.texts world
+    texts_of_world : (world : words.World) → kit_texts world ≡ texts → HasTexts has.texts world
     texts_of_world world same =
         let all = held_texts ∙ sym same in
         record {
@@ -181,18 +193,34 @@ module _ (has : Held) (recovered : Recovered) (r : IsRecoveredFrom has recovered
           of_board = ap (λ (t : KitTexts). t.board) all;
         }
 
-    pub holds_kit : HoldsKit recovered.kit layout (in_words texts now)
-    holds_kit =
+    pub holds_kit : AreTextChains recovered.kit has.texts → HoldsKit recovered.kit layout (in_words kept now)
+    holds_kit on_pages =
         record {
           texts = has.texts;
-          held = record { others = has.tables; held = ap (λ (h : Holding). h.chains) is_read.holding };
-          on_pages = r.on_pages;
-          of_world = texts_of_world (in_words texts now) texts_same;
+          held = record { others = has.tables ++ has.snapshots; held = ap (λ (h : Holding). h.chains) is_read.holding };
+          on_pages = on_pages;
+          of_world = texts_of_world (in_words kept now) texts_same;
           of_middle = texts_of_world layout.middle (ap kit_texts middle_same);
         }
 
-    pub is_base : (begun : Option ℕ) → begun ≡ begun_at (has.root.first + length has.near) has.far → IsLogBase begun recovered.base layout.middle.tables
-    is_base begun is = base_before has.far r.middle recovered.base begun (has.root.first + length has.near) layout.middle.tables is r.before (ap (λ (w : words.World). w.tables) middle_same)
+    pub is_base : (begun : Option ℕ) → begun ≡ begun_at (has.root.first + length has.near) has.far → IsLogBase table_rules begun recovered.base layout.middle
+    is_base begun is =
+        base_before has.far r.middle recovered.base begun (has.root.first + length has.near) layout.middle is r.before
+        (subst (λ (w : words.World). AreLentOf table_rules w (lent_by r.middle)) (sym middle_same) middle_lent)
+
+-- a file that stands for a world has true snapshots, so it stands for what was recovered, and the tables were played
+module _ (file : List ℕ) (has : Held) (recovered : Recovered) (holds : Holds file has) (is : IsRecoveredFrom has recovered)
+    (texts : KitTexts) (tables : World) (stands : StandsFor file texts tables) where
+  told_of : IsTold has is.texts recovered
+  told_of = is.told (standing_true file has holds (in_words texts tables) stands.stands)
+
+  pub only_recovered : ◌≡◌ {A = KitTexts × World} (is.texts, world_of recovered.tables) (texts, tables)
+  only_recovered =
+      let same = standing.one_world file texts is.texts tables (world_of recovered.tables) stands (stands_now has is.texts recovered told_of file holds) in
+      λ i. (same.0 i, same.1 i)
+
+  pub recovered_played : ArePlayed recovered.tables
+  recovered_played = told_of.played
 
 -- a file that keeps tables which were played breaks no clause by the rules of the game
 module _ (texts : KitTexts) (kit : Kit) (tables : World) (right : SpellsKit texts kit) (of_kit : AreTablesOf kit tables)
@@ -202,34 +230,30 @@ module _ (texts : KitTexts) (kit : Kit) (tables : World) (right : SpellsKit text
       read_have_played_bases has.near has.far layout.base layout.middle (in_words texts tables) is_read.leads is_read.leads_on
       (record { kit = kit; right = right; tables = tables; spelled = are_in_words texts tables of_kit.spelled; played = of_kit.played })
 
+  -- its snapshots are true, as it keeps them
+  truth : HasTrueSnapshots has
+  truth = true_snapshots has layout.base is_read.spells
+
   -- the texts stay from the base on
   same_texts : texts_in has.texts ≡ texts
   same_texts =
-      sym (spelled_texts has.root.version has.chain.text has.texts has.tables layout.base is_read.spells)
+      sym (spelled_texts has.root.version has.chain.text has.texts (has.tables ++ has.snapshots) layout.base is_read.spells)
       ∙ sym (replay_texts has.far layout.middle (in_words texts tables) is_read.leads_on ∙ replay_texts has.near layout.base layout.middle is_read.leads)
 
   base_texts : kit_texts layout.base ≡ texts_in has.texts
-  base_texts = spelled_texts has.root.version has.chain.text has.texts has.tables layout.base is_read.spells
+  base_texts = spelled_texts has.root.version has.chain.text has.texts (has.tables ++ has.snapshots) layout.base is_read.spells
 
-  of_one_kit : (other : Kit) (base : World) (world : words.World) → IsBase has base world → SpellsKit (texts_in has.texts) other → ArePlayedTables other base
-  of_one_kit other base world is right_too =
-      let worlds_same = one_world has.root.version has.chain.text (texts_of (chains_of has.texts has.tables)) world layout.base is.spells is_read.spells in
-      let based = subst (λ (w : words.World). IsInWords base w) worlds_same is.based in
-      tables_of_played_are_played other base layout.base (subst (λ (t : KitTexts). SpellsKit t other) (sym base_texts) right_too) based was_played
+  -- another kit that the texts spell is no reason for the tables not to be played
+  of_one_kit : (other : Kit) → SpellsKit (texts_in has.texts) other → ArePlayedTables other was_played.tables
+  of_one_kit other right_too =
+      tables_of_played_are_played other was_played.tables layout.base (subst (λ (t : KitTexts). SpellsKit t other) (sym base_texts) right_too) was_played.spelled was_played
 
-  pub no_damage : (damage : Damage) → IsDamage has damage → ⊥
-  no_damage D.Form bad = bad layout.base (base_written has was_played.tables layout.base (record { spells = is_read.spells; based = was_played.spelled }))
-  no_damage D.Kit bad =
-      right_is_not_wrong texts kit right (subst (λ (t : KitTexts). IsWrongKit t) same_texts bad.wrong)
-  no_damage D.Kept bad =
-      let worlds_same = one_world has.root.version has.chain.text (texts_of (chains_of has.texts has.tables)) layout.base bad.world is_read.spells bad.written.spells in
-      let based = subst (λ (w : words.World). IsInWords was_played.tables w) worlds_same was_played.spelled in
-      bad.unplayed was_played.tables based (of_one_kit bad.kit was_played.tables bad.world (record { spells = bad.written.spells; based = based }) bad.right)
-  no_damage D.Records bad = no_bad bad.bad
+  no_bad_record : HasBadRecord has → ⊥
+  no_bad_record bad = no_bad bad.bad
     where
       base_is : layout.base ≡ in_words (texts_in has.texts) bad.base
       base_is =
-          let worlds_same = one_world has.root.version has.chain.text (texts_of (chains_of has.texts has.tables)) bad.world layout.base bad.is_base.spells is_read.spells in
+          let worlds_same = one_world table_rules has.root.version has.chain.text (texts_of (chains_of has.texts (has.tables ++ has.snapshots))) bad.world layout.base bad.is_base.spells is_read.spells in
           let based = subst (λ (w : words.World). IsInWords bad.base w) worlds_same bad.is_base.based in
           one_in_words bad.base layout.base (in_words (texts_in has.texts) bad.base) based (are_in_words (texts_in has.texts) bad.base (of_form bad.base layout.base based)) base_texts
 
@@ -241,4 +265,14 @@ module _ (texts : KitTexts) (kit : Kit) (tables : World) (right : SpellsKit text
           (replays_on table_files has.near has.far layout.base layout.middle (in_words texts tables) is_read.leads is_read.leads_on))
       no_bad (inr (inl near)) = closed_whole (sym is_read.near_whole ∙ near)
       no_bad (inr (inr far)) = is_read.far_whole far
+
+  pub no_damage : (damage : Damage) → IsDamage has damage → ⊥
+  no_damage D.Form bad = bad layout.base (is_written has was_played.tables layout.base is_read.spells was_played.spelled)
+  no_damage D.Kit bad =
+      right_is_not_wrong texts kit right (subst (λ (t : KitTexts). IsWrongKit t) same_texts bad.wrong)
+  no_damage D.Kept may =
+      let bad = may truth in
+      let same = one_written has layout.base bad.world is_read.spells bad.written in
+      bad.unplayed was_played.tables (subst (λ (w : words.World). IsInWords was_played.tables w) same was_played.spelled) (of_one_kit bad.kit bad.right)
+  no_damage D.Records may = no_bad_record (may truth)
   no_damage _ bad = bad

@@ -2,10 +2,12 @@ pub mod WordLemmas
 pub mod FormLemmas
 pub mod PlayingLemmas
 pub mod LentLemmas
+pub mod KeepingLemmas
+pub mod ShownLemmas
 pub mod TellingLemmas
+pub mod GameLemmas
 pub mod BaseLemmas
 pub mod ReplayLemmas
 pub mod VerdictLemmas
 pub mod RestoringLemmas
-pub mod PlayedLemmas
 pub mod Recovered

@@ -8,12 +8,14 @@ use Rattle.rr_kit.specs.declared.kit.Kit.{Kit}
 use Rattle.rr_kit.specs.Kits.{KitTexts}
 use Rattle.rr_log.specs.declared.log.Log.{Log}
 use Rattle.rr_log.specs.Carrying as file
+use Rattle.rr_log.specs.Lent.{AreLentOf}
 use Rattle.rr_tables.specs.declared.records.rules.TableRules.{TableRules}
 use Rattle.rr_tables.specs.Records.Headline.{KeepsTables, KeepsTablesOr}
-use Rattle.rr_tables.specs.Records.Taking.{Takes, table_files}
+use Rattle.rr_tables.specs.Records.Taking.{Takes, table_files, table_rules}
 use Rattle.rr_tables.specs.Records.Words.{in_words}
 use Rattle.rr_tables.specs.Records.World as rules
 use Rattle.rr_tables.specs.Records.World.{IsLawfulIn}
+use Rattle.rr_tables.proofs.RecordLemmas.LentLemmas.{played_are_lent}
 use Rattle.rr_tables.proofs.RecordLemmas.PlayedLemmas.{played_after}
 use Rattle.rr_tables.proofs.RecordLemmas.TakingLemmas.{lawful_are_taken}
 use Rattle.rr_tables.proofs.RecordLemmas.WordLemmas.{are_in_words}
@@ -24,13 +26,13 @@ use Rattle.rr_store.specs.declared.store.Store.{Store}
 use Rattle.rr_store.specs.Allowing.{BeforeOrAfter, IsLawful, Keeps}
 use Rattle.rr_store.specs.Fault.{of_rules}
 use Rattle.rr_store.specs.Files.{AreTablesOf}
-use Rattle.rr_store.specs.Holding.{Carries, disk_of, file_of, held_of}
+use Rattle.rr_store.specs.Holding.{Carries, disk_of, file_of, held_of, lent_of}
 use Rattle.rr_store.specs.World.{TableRequest, World, present_stamp, table_named, world_after}
 use Rattle.rr_store.proofs.Verdicts.{present}
 use Rattle.rr_store.proofs.Worlds.{kept_stand}
 
 -- whatever a stop leaves of a disk whose file carries a world keeps it
-pub carried_now : {D : Type 0} (log : Log D TableRules) (state : DiskState) (texts : KitTexts) (tables : World) → file.Carries Takes log state (in_words texts tables)
+pub carried_now : {D : Type 0} (log : Log D TableRules) (state : DiskState) (texts : KitTexts) (tables : World) → file.Carries table_rules log state (in_words texts tables)
     → EachImage state (KeepsTables texts tables)
 carried_now log state texts tables carries = carried_kept table_files log.writer.file log.writer.checkpoint state (in_words texts tables) carries.carried
 
@@ -39,6 +41,11 @@ pub carried_keeps : {D : Type 0} (state : D → DiskState) (store : Store D) (te
 carried_keeps state store texts s = λ image is.
     kept_stand texts (held_of store).kit (held_of store).tables s.right s.tables_of_kit image
     (carried_now (file_of store) (state (disk_of store)) texts (held_of store).tables s.file image is)
+
+-- and what is lent of it is of that world
+pub carried_lent : {D : Type 0} (state : D → DiskState) (store : Store D) (texts : KitTexts) → Carries state store texts
+    → AreLentOf table_rules (in_words texts (held_of store).tables) (lent_of store)
+carried_lent state store texts s = played_are_lent texts store.tables s.right s.tables_of_kit.spelled s.played
 
 module _ (texts : KitTexts) (kit : Kit) (tables : World) (stamp : ℕ) (r : TableRequest) (lawful : IsLawful texts kit tables stamp r) (of_kit : AreTablesOf kit tables) where
   by_rules : IsVerdict (rules.judgement_in kit tables stamp r.name r.request) None

@@ -1,5 +1,5 @@
 -- What steps of a checkpoint do, from what the open file does.
-use Rattle.std.proofs.Common.{◌≡◌, ◌↔◌, ℕ, Bool, true, false, List, [], ◌∷◌, ◌++◌, map, Result, Ok, Err, IfErr, IsErrOf, IsTrue, inl, inr, refl, sym, ap, subst, ◌∙◌}
+use Rattle.std.proofs.Common.{◌≡◌, ◌↔◌, ℕ, Bool, true, false, List, [], ◌∷◌, ◌++◌, Result, Ok, Err, IfErr, IsErrOf, IsTrue, inl, inr, refl, sym, ap, subst, ◌∙◌}
 use Rattle.rr_checkpoint.specs.Calls.{LeavesKept}
 use Rattle.rr_disk.specs.Disk.{DiskState}
 use Rattle.rr_disk.specs.Moments.{EachImage, EachImageOf, LeavesOnly}
@@ -15,11 +15,11 @@ use Rattle.rr_log.specs.Fault as log_fault
 use Rattle.rr_log.specs.Log as file
 use Rattle.rr_tables.specs.declared.records.rules.TableRules.{TableRules}
 use Rattle.rr_tables.specs.Records.Headline.{KeepsTables}
-use Rattle.rr_tables.specs.Records.Taking.{Takes, table_files}
-use Rattle.rr_tables.specs.Records.Words.{in_words, table_in_words}
+use Rattle.rr_tables.specs.Records.Taking.{table_files, table_rules}
+use Rattle.rr_tables.specs.Records.Words.{in_words}
 use Rattle.rr_tables.specs.declared.tables.Tables.{Tables}
 use Rattle.rr_tables.specs.Tables.{ArePlayed, world_of}
-use Rattle.rr_reading.specs.Worlds.World.{Table}
+use Rattle.rr_log.specs.Lent.{AreLentOf, Lent}
 use Rattle.rr_reading.specs.Worlds.World as words
 use Rattle.rr_store.specs.declared.fault.Fault.{Fault}
 use Rattle.rr_store.specs.declared.fault.Fault.TheVariants as F
@@ -27,10 +27,10 @@ use Rattle.rr_store.specs.declared.store.Store.{Store}
 use Rattle.rr_store.specs.Allowing.{Between, TickAllows}
 use Rattle.rr_store.specs.Fault.{CountsEnd, OnDeviceFault, of_log}
 use Rattle.rr_store.specs.Files.{AreTablesOf, StandsFor}
-use Rattle.rr_store.specs.Holding.{Carries, disk_of, file_of, held_of}
+use Rattle.rr_store.specs.Holding.{Carries, disk_of, file_of, held_of, lent_of}
 use Rattle.rr_store.specs.Ticking.{RefusesStep, Steps, held_behind}
 use Rattle.rr_store.specs.World.{World}
-use Rattle.rr_store.proofs.Standing.{carried_keeps}
+use Rattle.rr_store.proofs.Standing.{carried_keeps, carried_lent}
 use Rattle.rr_store.proofs.Worlds.{kept_stand}
 
 -- the present state is the last of the moments, or the first one
@@ -56,11 +56,11 @@ device_of T L.OutOfMemory so given = tt
 
 module _ {D : Type 0} (Honest Works : D → Type 0) (state : D → DiskState) (past : D → List DiskState) (faults : D → ℕ) where
   -- what the open file does
-  pub record Stepped {T : Type 0} (old : Log D TableRules) (tables : List Table) (result : Result T log.Fault) (new : Log D TableRules) : Type 0 where
-    pub stops : Honest (file.disk_of new) → (world : words.World) → world.tables ≡ tables → carrying.Carries Takes old (state (file.disk_of old)) world
+  pub record Stepped {T : Type 0} (old : Log D TableRules) (tables : Lent) (result : Result T log.Fault) (new : Log D TableRules) : Type 0 where
+    pub stops : Honest (file.disk_of new) → (world : words.World) → AreLentOf table_rules world tables → carrying.Carries table_rules old (state (file.disk_of old)) world
         → LeavesKept table_files (past (file.disk_of old)) (state (file.disk_of old)) (past (file.disk_of new)) (state (file.disk_of new)) world
-    pub carries : Honest (file.disk_of new) → file.is_broken new ≡ false → (world : words.World) → world.tables ≡ tables
-        → carrying.Carries Takes old (state (file.disk_of old)) world → carrying.Carries Takes new (state (file.disk_of new)) world
+    pub carries : Honest (file.disk_of new) → file.is_broken new ≡ false → (world : words.World) → AreLentOf table_rules world tables
+        → carrying.Carries table_rules old (state (file.disk_of old)) world → carrying.Carries table_rules new (state (file.disk_of new)) world
     pub number : file.next_number new ≡ file.next_number old
     pub again : IsErrOf result L.OpenAgain ↔ IsTrue (file.is_broken old)
     pub untouched : IsErrOf result L.OpenAgain → new ≡ old
@@ -72,8 +72,8 @@ module _ {D : Type 0} (Honest Works : D → Type 0) (state : D → DiskState) (p
     pub fault : CountsFault (faults (file.disk_of old)) (faults (file.disk_of new)) result
     pub honest : Honest (file.disk_of new) → Honest (file.disk_of old)
     pub works : Works (file.disk_of new) → Works (file.disk_of old)
-    pub device : log_fault.OnDeviceFault result (Honest (file.disk_of new) → (world : words.World) → world.tables ≡ tables
-        → carrying.Carries Takes old (state (file.disk_of old)) world → Works (file.disk_of new) → ⊥)
+    pub device : log_fault.OnDeviceFault result (Honest (file.disk_of new) → (world : words.World) → AreLentOf table_rules world tables
+        → carrying.Carries table_rules old (state (file.disk_of old)) world → Works (file.disk_of new) → ⊥)
 
   module _ (old new : Store D) (same : new.tables ≡ old.tables) where
     abbrev tables_now : World
@@ -85,12 +85,12 @@ module _ {D : Type 0} (Honest Works : D → Type 0) (state : D → DiskState) (p
     held_if : (b : Bool) → file.is_broken (file_of new) ≡ b → held_of new ≡ record { kit = (held_of old).kit; tables = tables_now; broken = b }
     held_if b is = λ i. record { kit = (same i).kit; tables = world_of (same i); broken = is i }
 
-    module _ {T : Type 0} (result : Result T log.Fault) (s : Stepped (file_of old) (map table_in_words tables_now) result (file_of new)) where
+    module _ {T : Type 0} (result : Result T log.Fault) (s : Stepped (file_of old) (lent_of old) result (file_of new)) where
       allowed_by : Honest (disk_of new) → (texts : KitTexts) → Carries state old texts
           → Between (past (disk_of old)) (state (disk_of old)) (past (disk_of new)) (state (disk_of new))
           (λ moments. TickAllows texts tables_now (state (disk_of old)) moments (state (disk_of new)))
       allowed_by h texts carries =
-          let stops = s.stops h (in_words texts tables_now) refl carries.file in
+          let stops = s.stops h (in_words texts tables_now) (carried_lent state old texts carries) carries.file in
           let stands = kept_stand texts (held_of old).kit tables_now carries.right carries.tables_of_kit in
           let each = EachImageOf-weaker stops.since (KeepsTables texts tables_now) (λ image. StandsFor image texts tables_now) stands stops.each in
           record {
@@ -106,18 +106,18 @@ module _ {D : Type 0} (Honest Works : D → Type 0) (state : D → DiskState) (p
 
       keeps_by : Honest (disk_of new) → (texts : KitTexts) → Carries state old texts
           → LeavesOnly (past (disk_of old)) (state (disk_of old)) (past (disk_of new)) (state (disk_of new)) (KeepsTables texts tables_now)
-      keeps_by h texts carries = s.stops h (in_words texts tables_now) refl carries.file
+      keeps_by h texts carries = s.stops h (in_words texts tables_now) (carried_lent state old texts carries) carries.file
 
       carries_by : Honest (disk_of new) → (held_of new).broken ≡ false → (texts : KitTexts) → Carries state old texts → Carries state new texts
       carries_by h whole texts carries = record {
         right = subst (λ (t : Tables). SpellsKit texts t.kit) (sym same) carries.right;
         tables_of_kit = subst (λ (t : Tables). AreTablesOf t.kit (world_of t)) (sym same) carries.tables_of_kit;
         played = subst ArePlayed (sym same) carries.played;
-        file = subst (λ (t : Tables). carrying.Carries Takes (file_of new) (state (disk_of new)) (in_words texts (world_of t))) (sym same)
-            (s.carries h whole (in_words texts tables_now) refl carries.file);
+        file = subst (λ (t : Tables). carrying.Carries table_rules (file_of new) (state (disk_of new)) (in_words texts (world_of t))) (sym same)
+            (s.carries h whole (in_words texts tables_now) (carried_lent state old texts carries) carries.file);
       }
 
-    pub steps_done : {T : Type 0} (value : T) → Stepped (file_of old) (map table_in_words tables_now) (Ok value) (file_of new) → StepsTo (Ok value)
+    pub steps_done : {T : Type 0} (value : T) → Stepped (file_of old) (lent_of old) (Ok value) (file_of new) → StepsTo (Ok value)
     steps_done value s =
         record {
           honest = s.honest;
@@ -139,7 +139,7 @@ module _ {D : Type 0} (Honest Works : D → Type 0) (state : D → DiskState) (p
 
     module _ (T : Type 0) where
       abbrev Told : log.Fault → Type 0
-      Told fault = Stepped {T = T} (file_of old) (map table_in_words tables_now) (Err fault) (file_of new)
+      Told fault = Stepped {T = T} (file_of old) (lent_of old) (Err fault) (file_of new)
 
       refused_so : (fault : log.Fault) (s : Told fault) → held_of new ≡ held_behind {T = T} (Err (of_log fault)) (held_of old)
           → (IsErrOf {T = T} (Err (of_log fault)) F.OpenAgain ↔ IsTrue (held_of old).broken) → RefusesStep old new (of_log fault)
@@ -157,7 +157,7 @@ module _ {D : Type 0} (Honest Works : D → Type 0) (state : D → DiskState) (p
             refused = refused;
             counts = counts;
             works = s.works;
-            device = device_of T fault (λ device h texts carries. device h (in_words texts tables_now) refl carries.file) s.device;
+            device = device_of T fault (λ device h texts carries. device h (in_words texts tables_now) (carried_lent state old texts carries) carries.file) s.device;
           }
 
       -- one that isn't told of a broken store is of a whole one

@@ -1,5 +1,5 @@
 -- What a commit does to a store.
-use Rattle.std.specs.Prelude.{◌≡◌, None, ◌⊎◌, ◌↔◌, ℕ, ◌+◌, ◌≤◌, false, List, Some, Result, Ok, Err, IsErrOf, IsTrue, OnOk, map}
+use Rattle.std.specs.Prelude.{◌≡◌, None, ◌⊎◌, ◌↔◌, ℕ, ◌+◌, ◌≤◌, false, List, Some, Result, Ok, Err, IsErrOf, IsTrue, OnOk}
 use Rattle.rr_disk.specs.Disk.{DiskState}
 use Rattle.rr_disk.specs.Moments.{EachImage, LeavesOnly}
 use Rattle.rr_code.specs.declared.command.Command.{Command}
@@ -12,14 +12,14 @@ use Rattle.rr_turns.specs.Judgement.{IsVerdict}
 use Rattle.rr_kit.specs.Kits.{KitTexts}
 use Rattle.rr_tables.specs.Records.Headline.{KeepsTablesOr}
 use Rattle.rr_tables.specs.Records.Taking.{table_files}
-use Rattle.rr_tables.specs.Records.Words.{in_words, table_in_words}
+use Rattle.rr_tables.specs.Records.Words.{in_words}
 use Rattle.rr_store.specs.declared.fault.Fault.{Fault}
 use Rattle.rr_store.specs.declared.fault.Fault.TheVariants as F
 use Rattle.rr_store.specs.declared.store.Store.{Store}
 use Rattle.rr_store.specs.Allowing.{Between, CommitAllows}
 use Rattle.rr_store.specs.Fault.{CountsEnd, OnDeviceFault}
 use Rattle.rr_store.specs.Held.{Takes}
-use Rattle.rr_store.specs.Holding.{Carries, GamesArePlayed, HasNoRoom, IsFull, IsFullFor, IsUnchanged, Rests, disk_of, file_of, held_of, number_of_next, ticks_left}
+use Rattle.rr_store.specs.Holding.{Carries, GamesArePlayed, HasNoRoom, IsFull, IsFullFor, IsUnchanged, Rests, disk_of, file_of, held_of, lent_of, number_of_next, ticks_left}
 use Rattle.rr_store.specs.Keeping.{ComesOn, MakesAtMost}
 use Rattle.rr_store.specs.World.{for_table, judgement_in}
 use Rattle.rr_reading.specs.Worlds.World as words
@@ -85,9 +85,9 @@ pub record Commits {D : Type 0} (Honest Works : D → Type 0) (state : D → Dis
   pub few_syncs : (IsFull old name request → ⊥) → syncs (disk_of new) ≤ syncs (disk_of old) + 3
   pub own_writes : (IsFull old name request → ⊥) → Rests old → writes (disk_of new) ≤ writes (disk_of old) + 2
   pub own_syncs : (IsFull old name request → ⊥) → Rests old → syncs (disk_of new) ≤ syncs (disk_of old) + 2
-  pub most_writes : MakesAtMost writes (map table_in_words (held_of old).tables) (file_of old) (file_of new)
-  pub most_syncs : MakesAtMost syncs (map table_in_words (held_of old).tables) (file_of old) (file_of new)
+  pub most_writes : MakesAtMost writes (lent_of old) (file_of old) (file_of new)
+  pub most_syncs : MakesAtMost syncs (lent_of old) (file_of old) (file_of new)
   pub comes_on : OnOk result ((IsFull old name request → ⊥) → ComesOn (file_of old) (file_of new))
   pub makes_room : OnOk result (HasNoRoom old name request → 4 ≤ ticks_left new)
-  pub full : result ≡ Err F.FileFull → IsFullFor new name request
+  pub full : result ≡ Err F.FileFull → IsFullFor new (lent_of old) name request
   pub device : OnDeviceFault result (Honest (disk_of new) → (texts : KitTexts) → Carries state old texts → Works (disk_of new) → ⊥)

@@ -1,5 +1,5 @@
 -- What a store holds, and what is known of it between two calls.
-use Rattle.std.specs.Prelude.{◌≡◌, ◌⊎◌, ℕ, ◌-◌, List, length, map}
+use Rattle.std.specs.Prelude.{◌≡◌, ◌⊎◌, ℕ, ◌-◌, List, length}
 use Rattle.rr_code.specs.declared.command.Command.{Command}
 use Rattle.rr_code.specs.Request.{record_text}
 use Rattle.rr_disk.specs.Disk.{DiskState}
@@ -9,9 +9,10 @@ use Rattle.rr_log.specs.Calls.{MeetsFullFile}
 use Rattle.rr_log.specs.Carrying as file
 use Rattle.rr_log.specs.Log as log
 use Rattle.rr_tables.specs.declared.records.rules.TableRules.{TableRules}
-use Rattle.rr_tables.specs.Records.Taking.{Takes}
-use Rattle.rr_tables.specs.Records.Words.{in_words, table_in_words}
-use Rattle.rr_tables.specs.Tables.{ArePlayed, world_of}
+use Rattle.rr_tables.specs.Records.Taking.{table_rules}
+use Rattle.rr_tables.specs.Records.Words.{in_words}
+use Rattle.rr_log.specs.Lent.{Lent}
+use Rattle.rr_tables.specs.Tables.{ArePlayed, lent_by, world_of}
 use Rattle.rr_turns.specs.declared.request.Request.{Request}
 use Rattle.rr_store.specs.declared.store.Store.{Store}
 use Rattle.rr_store.specs.Files.{AreTablesOf}
@@ -28,6 +29,10 @@ disk_of store = log.disk_of store.journal.file
 
 abbrev pub held_of : {D : Type 0} → Store D → Held
 held_of store = record { kit = store.tables.kit; tables = world_of store.tables; broken = log.is_broken store.journal.file }
+
+-- what it lends to a checkpoint: its tables in words, and snapshots of their games
+abbrev pub lent_of : {D : Type 0} → Store D → Lent
+lent_of store = lent_by store.tables
 
 -- the number of the next record, and of the last one: 0 in a new file
 abbrev pub number_of_next : {D : Type 0} → Store D → ℕ
@@ -57,11 +62,11 @@ abbrev pub HasNoneBegun : {D : Type 0} → Store D → Type 0
 HasNoneBegun store = log.HasNoneBegun (log.place_of store.journal.file)
 
 -- No checkpoint makes room for the record of this request: it takes more than two slots, or its number would be past the last,
--- or the half in use has no room for it and a checkpoint finds too few free pages or no number for its root.
-abbrev pub IsFullFor : {D : Type 0} → Store D → List ℕ → Request Command → Type 0
-IsFullFor store name request =
+-- or the half in use has no room for it and a checkpoint of what is lent finds too few free pages or no number for its root.
+abbrev pub IsFullFor : {D : Type 0} → Store D → Lent → List ℕ → Request Command → Type 0
+IsFullFor store lent name request =
     log.IsTooLong (length (record_text name request))
-    ⊎ MeetsFullFile (file_of store) (map table_in_words (held_of store).tables) (length (record_text name request))
+    ⊎ MeetsFullFile (file_of store) lent (length (record_text name request))
 
 -- no checkpoint is under way, and none is to begin
 abbrev pub Rests : {D : Type 0} → Store D → Type 0
@@ -77,7 +82,7 @@ pub record Carries {D : Type 0} (state : D → DiskState) (store : Store D) (tex
   pub right : SpellsKit texts (held_of store).kit
   pub tables_of_kit : AreTablesOf (held_of store).kit (held_of store).tables
   pub played : GamesArePlayed store
-  pub file : file.Carries Takes (file_of store) (state (disk_of store)) (in_words texts (held_of store).tables)
+  pub file : file.Carries table_rules (file_of store) (state (disk_of store)) (in_words texts (held_of store).tables)
 
 -- the file, and so the disk, and what is held are as they were
 pub record IsUnchanged {D : Type 0} (old new : Store D) : Type 0 where

@@ -13,8 +13,8 @@ use Rattle.rr_log.specs.Carrying.{Carries}
 use Rattle.rr_log.specs.Fault.{CountsFault, OnDeviceFault, ends_broken}
 use Rattle.rr_log.specs.Log.{HasNoRoom, IsDue, IsPastLast, IsTooLong, disk_of, is_broken, next_number, place_of, ticks_left}
 use Rattle.rr_tables.specs.declared.records.rules.TableRules.{TableRules}
-use Rattle.rr_tables.specs.Records.Taking.{Takes, table_files}
-use Rattle.rr_reading.specs.Worlds.World.{Table}
+use Rattle.rr_tables.specs.Records.Taking.{Takes, table_files, table_rules}
+use Rattle.rr_log.specs.Lent.{AreLentOf, Lent}
 use Rattle.rr_reading.specs.Worlds.World as words
 
 -- the half in use has no room for a record of these bytes, or the record's number would be past the last
@@ -44,11 +44,11 @@ pub record ComesOn {D R : Type 0} (old new : Log D R) : Type 0 where
 -- How many such calls a record takes at most, whatever is to be done to make room for it: one for each step that is left of the
 -- checkpoint under way, or for each that one begun now has, and three more. Two of these are the record's, and one is the next
 -- checkpoint's.
-pub record MakesAtMost {D R : Type 0} (calls : D → ℕ) (tables : List Table) (old new : Log D R) : Type 0 where
+pub record MakesAtMost {D R : Type 0} (calls : D → ℕ) (lent : Lent) (old new : Log D R) : Type 0 where
   pub under_way : 0 < ticks_left old → calls (disk_of new) ≤ calls (disk_of old) + ticks_left old + 3
-  pub begun : ticks_left old ≡ 0 → calls (disk_of new) ≤ calls (disk_of old) + ticks_due old tables + 3
+  pub begun : ticks_left old ≡ 0 → calls (disk_of new) ≤ calls (disk_of old) + ticks_due old lent + 3
 
--- What keeping a record does to an honest disk that carries a world of these tables: a stop at any moment leaves a file that
+-- What keeping a record does to an honest disk that carries a world of which these tables and snapshots are lent: a stop at any moment leaves a file that
 -- keeps this world, or the one to which the record leads; and behind it the file carries the one that the answer tells. Of
 -- every disk: the next record's number is one more behind a record that was kept; the log is broken exactly where the device
 -- failed; a broken one refuses and stays as it is. That a half is full is never told; and that the file is, only where the
@@ -62,32 +62,32 @@ pub record MakesAtMost {D R : Type 0} (calls : D → ℕ) (tables : List Table) 
 -- chains spell the world as the checkpoint began; only the records since then stand behind it. And an honest disk that works, and
 -- carries such a world, is never told to have failed.
 pub record Keeping {D : Type 0} (Honest Works : D → Type 0) (state : D → DiskState) (past : D → List DiskState) (faults writes syncs : D → ℕ)
-    (old : Log D TableRules) (tables : List Table) (bytes : List ℕ) (result : Result (Unit {0}) Fault) (new : Log D TableRules) : Type 0 where
+    (old : Log D TableRules) (lent : Lent) (bytes : List ℕ) (result : Result (Unit {0}) Fault) (new : Log D TableRules) : Type 0 where
   pub honest : Honest (disk_of new) → Honest (disk_of old)
-  pub stops : Honest (disk_of new) → (before behind : words.World) → Takes bytes before behind → before.tables ≡ tables
-      → Carries Takes old (state (disk_of old)) before
+  pub stops : Honest (disk_of new) → (before behind : words.World) → Takes bytes before behind → AreLentOf table_rules before lent
+      → Carries table_rules old (state (disk_of old)) before
       → LeavesEither table_files (past (disk_of old)) (state (disk_of old)) (past (disk_of new)) (state (disk_of new)) before behind
-  pub carries : Honest (disk_of new) → is_broken new ≡ false → (before behind : words.World) → Takes bytes before behind → before.tables ≡ tables
-      → Carries Takes old (state (disk_of old)) before → Carries Takes new (state (disk_of new)) (world_behind result before behind)
+  pub carries : Honest (disk_of new) → is_broken new ≡ false → (before behind : words.World) → Takes bytes before behind → AreLentOf table_rules before lent
+      → Carries table_rules old (state (disk_of old)) before → Carries table_rules new (state (disk_of new)) (world_behind result before behind)
   pub renews : is_broken new ≡ false → ticks_left old ≡ 1 → ticks_left new ≡ 0 → Honest (disk_of new) → (before behind : words.World) → Takes bytes before behind
-      → (carries : Carries Takes old (state (disk_of old)) before)
+      → (carries : Carries table_rules old (state (disk_of old)) before)
       → EachImage (state (disk_of new)) (TakesNewer table_files (layout_behind result carries.carried.layout bytes behind) (world_behind result before behind))
   pub number : NumberBehind result (next_number old) (next_number new)
   pub again : IsErrOf result F.OpenAgain ↔ IsTrue (is_broken old)
   pub untouched : IsErrOf result F.OpenAgain → new ≡ old
   pub broken : is_broken new ≡ ends_broken result
-  pub full : IsErrOf result F.FileFull → IsTooLong (length bytes) ⊎ MeetsFullFile new tables (length bytes)
+  pub full : IsErrOf result F.FileFull → IsTooLong (length bytes) ⊎ MeetsFullFile new lent (length bytes)
   pub room : IsErrOf result F.HalfFull → ⊥
   pub memory : IsErrOf result F.OutOfMemory → (new ≡ old) ⊎ HasNoRoom (place_of new) (length bytes)
   pub counts : CountsFault (faults (disk_of old)) (faults (disk_of new)) result
   pub works : Works (disk_of new) → Works (disk_of old)
-  pub device : OnDeviceFault result (Honest (disk_of new) → (before behind : words.World) → Takes bytes before behind → before.tables ≡ tables
-      → Carries Takes old (state (disk_of old)) before → Works (disk_of new) → ⊥)
+  pub device : OnDeviceFault result (Honest (disk_of new) → (before behind : words.World) → Takes bytes before behind → AreLentOf table_rules before lent
+      → Carries table_rules old (state (disk_of old)) before → Works (disk_of new) → ⊥)
   pub few_writes : (IsFull old bytes → ⊥) → writes (disk_of new) ≤ writes (disk_of old) + 3
   pub few_syncs : (IsFull old bytes → ⊥) → syncs (disk_of new) ≤ syncs (disk_of old) + 3
   pub own_writes : (IsFull old bytes → ⊥) → Rests old → writes (disk_of new) ≤ writes (disk_of old) + 2
   pub own_syncs : (IsFull old bytes → ⊥) → Rests old → syncs (disk_of new) ≤ syncs (disk_of old) + 2
-  pub most_writes : MakesAtMost writes tables old new
-  pub most_syncs : MakesAtMost syncs tables old new
+  pub most_writes : MakesAtMost writes lent old new
+  pub most_syncs : MakesAtMost syncs lent old new
   pub comes_on : OnOk result ((IsFull old bytes → ⊥) → ComesOn old new)
   pub makes_room : OnOk result (HasNoRoom (place_of old) (length bytes) → 4 ≤ ticks_left new)

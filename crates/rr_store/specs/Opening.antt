@@ -24,7 +24,8 @@ use Rattle.rr_store.specs.World.{World}
 abbrev pub BreaksForm : List ℕ → ℕ → Type 0
 BreaksForm file clause = (damage : Damage) × reading.IsDamage file damage × (clause ≡ clause_of damage)
 
--- the bytes break none, and this clause, 5 to 8, is the least that they break by the rules of the game
+-- the bytes break none, and this clause, 5 to 8, is the least that they break by the rules of the game, where the snapshots
+-- show the games that the commands play
 pub record BreaksRules (file : List ℕ) (clause : ℕ) : Type 0 where
   pub has : Held
   pub holds : Holds file has
@@ -56,11 +57,19 @@ abbrev pub SyncsFirst : Fault → DiskState → List DiskState → Type 0
 SyncsFirst F.DeviceFailed old moments = SyncsAtMost old moments
 SyncsFirst _ old moments = moments ≡ after_sync old ∷ []
 
--- What an opening may do, and what it may answer, behind a sync: the texts and the world for which the file stands; or why it
--- stands for none, or that memory was wanted. Or the device failed, at the sync or behind it.
+-- texts and a world were found: the file stands for no others, and keeps standing for them
+pub record IsOnlyWorld (old new : DiskState) (found : KitTexts × World) (texts : KitTexts) (tables : World) : Type 0 where
+  pub same : found ≡ (texts, tables)
+  pub keeps : Keeps new texts tables
+
+-- What an opening may do, and what it may answer, behind a sync: texts and a world, where a root is taken, which are those
+-- for which the file stands if it stands for any (an opening trusts snapshots, and a file whose snapshots show other games
+-- than its commands play stands for none); or why it stands for none, or that memory was wanted. Or the device failed, at
+-- the sync or behind it.
 abbrev pub OpenAllows : DiskState → List DiskState → DiskState → Result (KitTexts × World) Fault → Type 0
 OpenAllows old moments new (Ok found) =
-    StandsFor old.content found.0 found.1 × (moments ≡ after_sync old ∷ []) × Keeps new found.0 found.1
+    (moments ≡ after_sync old ∷ []) × HasRoot old.content
+    × ((texts : KitTexts) (tables : World) → StandsFor old.content texts tables → IsOnlyWorld old new found texts tables)
 OpenAllows old moments new (Err fault) = SyncsFirst fault old moments × Refuses old.content fault
 
 -- what the disk went through then

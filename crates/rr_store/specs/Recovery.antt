@@ -1,5 +1,6 @@
 pub mod Fault
 pub mod Kept
+pub mod Shown
 pub mod Told
 pub mod Playing
 pub mod Spelling

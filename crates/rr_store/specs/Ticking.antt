@@ -1,18 +1,17 @@
 -- What a step of a checkpoint, or a whole one, does to a store.
-use Rattle.std.specs.Prelude.{◌≡◌, ◌↔◌, ℕ, ◌+◌, ◌<◌, ◌≤◌, false, List, map, Result, Ok, Err, IfErr, IsErrOf, IsTrue}
+use Rattle.std.specs.Prelude.{◌≡◌, ◌↔◌, ℕ, ◌+◌, ◌<◌, ◌≤◌, false, List, Result, Ok, Err, IfErr, IsErrOf, IsTrue}
 use Rattle.rr_disk.specs.Disk.{DiskState}
 use Rattle.rr_disk.specs.Moments.{LeavesOnly}
 use Rattle.rr_kit.specs.Kits.{KitTexts}
 use Rattle.rr_log.specs.Calls as log
 use Rattle.rr_tables.specs.Records.Headline.{KeepsTables}
-use Rattle.rr_tables.specs.Records.Words.{table_in_words}
 use Rattle.rr_store.specs.declared.fault.Fault.{Fault}
 use Rattle.rr_store.specs.declared.fault.Fault.TheVariants as F
 use Rattle.rr_store.specs.declared.store.Store.{Store}
 use Rattle.rr_store.specs.Allowing.{Between, TickAllows}
 use Rattle.rr_store.specs.Fault.{CountsEnd, OnDeviceFault}
 use Rattle.rr_store.specs.Held.{Held, with_failure}
-use Rattle.rr_store.specs.Holding.{Carries, GamesArePlayed, IsUnchanged, disk_of, file_of, held_of, number_of_next, ticks_left}
+use Rattle.rr_store.specs.Holding.{Carries, GamesArePlayed, IsUnchanged, disk_of, file_of, held_of, lent_of, number_of_next, ticks_left}
 
 -- what is held behind a call that takes no request: the same, unless the device failed
 abbrev pub held_behind : {T : Type 0} → Result T Fault → Held → Held
@@ -29,7 +28,7 @@ pub record IsSpared {D : Type 0} (old new : Store D) : Type 0 where
 abbrev pub RefusesStep : {D : Type 0} → Store D → Store D → Fault → Type 0
 RefusesStep old new F.DeviceFailed = Unit {0}
 RefusesStep old new F.FileFull =
-    (ticks_left old ≡ 0) × log.IsFileFull (file_of old) (map table_in_words (held_of old).tables) × IsSpared old new
+    (ticks_left old ≡ 0) × log.IsFileFull (file_of old) (lent_of old) × IsSpared old new
 RefusesStep old new F.OutOfMemory = (ticks_left old ≡ 0) × IsSpared old new
 RefusesStep old new F.OpenAgain = IsUnchanged old new
 RefusesStep old new _ = ⊥
@@ -61,4 +60,4 @@ pub record Steps {D T : Type 0} (Honest Works : D → Type 0) (state : D → Dis
 pub record MakesFew {D : Type 0} (calls : D → ℕ) (old new : Store D) : Type 0 where
   pub under_way : 0 < ticks_left old → calls (disk_of new) ≤ calls (disk_of old) + ticks_left old
   pub begun : ticks_left old ≡ 0
-      → calls (disk_of new) ≤ calls (disk_of old) + log.ticks_due (file_of old) (map table_in_words (held_of old).tables)
+      → calls (disk_of new) ≤ calls (disk_of old) + log.ticks_due (file_of old) (lent_of old)

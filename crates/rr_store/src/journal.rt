@@ -15,11 +15,9 @@ pub(crate) struct FileJournal<D: Drop> {
 }
 
 impl<D: Disk + Drop> Journal for FileJournal<D> {
-    ghost use Rattle.std.specs.Prelude.{map};
-    ghost use Rattle.rr_tables.specs.Records.Words.{table_in_words};
     ghost use Rattle.rr_store.specs.Keeping.{Keeping};
 
-    ghost Keeps = { λ old tables bytes result new. Keeping D.Honest D.Works D.state D.past D.fault_count D.write_count D.sync_count old.file (map table_in_words tables) bytes result new.file };
+    ghost Keeps = { λ old lent bytes result new. Keeping D.Honest D.Works D.state D.past D.fault_count D.write_count D.sync_count old.file lent bytes result new.file };
 
     fn keep(
         &mut self,

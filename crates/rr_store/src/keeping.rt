@@ -1,6 +1,7 @@
 //! A record in the open file.
 ghost use Rattle.std.specs.Prelude.{◌≡◌, ◌↔◌, ◌<◌, IsErrOf, IsTrue, OnOk, length};
 ghost use Rattle.rr_code.specs.Request.{record_text};
+ghost use Rattle.rr_log.specs.Lent.{lent_of};
 ghost use Rattle.rr_store.specs.Keeping.{Keeping, told_of};
 
 use rr_code::{Command, Request, write_request};
@@ -17,7 +18,7 @@ pub(crate) fn keep_record<D: Disk + Drop, T: TablesInWords>(
     line: &[u8],
 ) -> Result<(), Fault>
     requires { 0 < length line.now }
-    ensures { Keeping D.Honest D.Works D.state D.past D.fault_count D.write_count D.sync_count file.old (T.tables tables.now) line.now result file.new }
+    ensures { Keeping D.Honest D.Works D.state D.past D.fault_count D.write_count D.sync_count file.old (lent_of T.TablesInWords tables.now) line.now result file.new }
 {
     let kept = file.keep(tables, line);
     if !is_half_full(&kept) {

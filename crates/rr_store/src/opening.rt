@@ -10,7 +10,6 @@ ghost use Rattle.rr_log.specs.Opening.Place.{GoesBehind};
 ghost use Rattle.rr_log.specs.Opening.Syncing.{WasSynced};
 ghost use Rattle.rr_pages.specs.Journal.Reading.{lines};
 ghost use Rattle.rr_tables.specs.Records.Headline.{KeepsTables};
-ghost use Rattle.rr_store.specs.Recovery.Recovered.{HoldsPlayedTables};
 ghost use Rattle.rr_tables.specs.Records.Taking.{table_files};
 ghost use Rattle.rr_tables.specs.Records.World.{World};
 ghost use Rattle.rr_tables.specs.Records.Words.{in_words};
@@ -18,7 +17,7 @@ ghost use Rattle.rr_tables.specs.Tables.{ArePlayed, world_of};
 ghost use Rattle.rr_reading.specs.Worlds.World as words;
 ghost use Rattle.rr_store.specs.Allowing.{Between};
 ghost use Rattle.rr_store.specs.Fault.{CountsEnd, CountsFailure, OnDevice, OnDeviceFault};
-ghost use Rattle.rr_store.specs.Files.{AreTablesOf};
+ghost use Rattle.rr_store.specs.Files.{AreTablesOf, StandsFor};
 ghost use Rattle.rr_store.specs.Holding.{Carries, GamesArePlayed, disk_of, held_of};
 ghost use Rattle.rr_store.specs.Opening.{IsFound, IsNoVerdict, IsSyncedFirst, OpenAllows, Refuses};
 
@@ -42,16 +41,18 @@ pub struct Refused<D: Drop> {
     pub disk: D,
 }
 
-/// Opens a file that `format` made. It makes a sync, and no write.
+/// Opens a file that `format` made. It makes a sync, and no write. The file's snapshots are trusted: the commands before
+/// one aren't judged.
 ///
 /// # Errors
 /// `DeviceFailed`; `NotAStore` where the file has no roots of this version; `Damaged` with the least clause that it
-/// breaks: 1 to 5 of its bytes, 5 where kept words are no request's, 6 where a text of the kit is wrong, 7 where a
-/// table keeps what wasn't played or a floor above its turns, and 8 where a record isn't a request that its table could
-/// take. Else `OutOfMemory` alone, and only where a root is taken.
+/// breaks: 1 to 5 of its bytes, 5 where kept words are no request's or a snapshot is no game, 6 where a text of the kit
+/// is wrong, 7 where a table keeps what wasn't played or a floor above its turns, and 8 where a record isn't a request
+/// that its table could take. Of a file with a snapshot that shows another game than its commands play, either of the
+/// last two may be told. Else `OutOfMemory` alone, and only where a root is taken.
 pub fn open<D: Disk + Drop>(alloc: Global, disk: D) -> Result<Store<D>, Refused<D>>
-    // The store holds the world for which the file stands; else the file breaks a clause, or the device failed or
-    // memory was wanted. Whatever is answered, the sync was made, unless the device failed.
+    // The store holds the world for which the file stands, if it stands for one; else the file breaks a clause, or the
+    // device failed or memory was wanted. Whatever is answered, the sync was made, unless the device failed.
     ensures opened { IfOk result (λ store. D.Honest (disk_of store) → (texts : KitTexts)
         × Between (D.past disk) (D.state disk) (D.past (disk_of store)) (D.state (disk_of store))
         (λ moments. OpenAllows (D.state disk) moments (D.state (disk_of store)) (Ok (texts, (held_of store).tables)))
@@ -69,12 +70,13 @@ pub fn open<D: Disk + Drop>(alloc: Global, disk: D) -> Result<Store<D>, Refused<
         → SpellsKit texts kit → AreTablesOf kit tables
         → KeepsTables texts tables (D.state disk).content → IsNoVerdict refused.fault) }
 
-    // Whatever the disk gave, nothing is held that the rules of a right kit don't allow.
-    ensures played { IfOk result (λ store. (texts : KitTexts)
-        × SpellsKit texts (held_of store).kit × AreTablesOf (held_of store).kit (held_of store).tables) }
+    // Whatever the disk gave, the kit is a right one.
+    ensures kit { IfOk result (λ store. (texts : KitTexts) × SpellsKit texts (held_of store).kit) }
 
-    // And each table in memory was played: its game is the play of the commands that it keeps.
-    ensures each { IfOk result (λ store. GamesArePlayed store) }
+    // And where the file stands for a world, each table in memory was played: its game is the play of the commands that
+    // it keeps.
+    ensures played { IfOk result (λ store. D.Honest (disk_of store) → (texts : KitTexts) (tables : World)
+        → StandsFor (D.state disk).content texts tables → GamesArePlayed store) }
     ensures whole { IfOk result (λ store. (held_of store).broken ≡ false) }
     ensures honest { IfOk result (λ store. D.Honest (disk_of store) → D.Honest disk) }
     ensures honest_left { IfErr result (λ refused. D.Honest refused.disk → D.Honest disk) }
@@ -99,8 +101,7 @@ pub fn open<D: Disk + Drop>(alloc: Global, disk: D) -> Result<Store<D>, Refused<
 /// Reads the file behind a sync, and recovers its tables.
 fn find<D: Disk>(alloc: Global, disk: &mut D) -> Result<Found, Fault>
     ensures found { IfOk result (λ found. D.Honest disk.new → IsFound (D.state disk.old).content found) }
-    ensures played { IfOk result (λ found. HoldsPlayedTables found.recovered) }
-    ensures each { IfOk result (λ found. ArePlayed found.recovered.tables) }
+    ensures kit { IfOk result (λ found. (texts : KitTexts) × SpellsKit texts found.recovered.tables.kit) }
     ensures goes_on { IfOk result (λ found. D.Honest disk.new → (world : words.World)
         → KeepsFile table_files (D.state disk.old).content world
         → CarriesRead table_files found.opened (D.state disk.new) world) }
@@ -151,7 +152,7 @@ fn begin<D: Disk + Drop>(alloc: Global, disk: D, found: Found) -> Store<D>
         → GoesBehind (writer.taken_of found.opened.writer).root (lines found.opened.near.records.items)
         (lines found.opened.far.records.items) (writer.place_of found.opened.writer)
         → CarriesRead table_files found.opened (D.state disk) (in_words texts (world_of found.recovered.tables))
-        → ArePlayed found.recovered.tables → Carries D.state result texts }
+        → Carries D.state result texts }
     ensures played { ArePlayed found.recovered.tables → GamesArePlayed result }
 {
     let Found {
@@ -166,6 +167,7 @@ fn begin<D: Disk + Drop>(alloc: Global, disk: D, found: Found) -> Store<D>
         directory: _,
         texts: _,
         tables: _,
+        snapshots: _,
         near: _,
         far: _,
     } = opened;

@@ -1,4 +1,4 @@
-ghost use Rattle.std.specs.Prelude.{◌≡◌, ◌↔◌, ◌+◌, ◌<◌, ◌≤◌, true, false, IfOk, MatchResult, OnOk, Some, slice_get, length, map};
+ghost use Rattle.std.specs.Prelude.{◌≡◌, ◌↔◌, ◌+◌, ◌<◌, ◌≤◌, true, false, IfOk, MatchResult, OnOk, Some, slice_get, length};
 ghost use Rattle.std.specs.Option.{option_copied};
 ghost use Rattle.rr_checkpoint.specs.Writer.{RenewsAt};
 ghost use Rattle.rr_code.specs.Request.{IsRequest};
@@ -9,7 +9,7 @@ ghost use Rattle.rr_kit.specs.Kits.{KitTexts};
 ghost use Rattle.rr_reading.specs.declared.dir.directory.TheConstants.{MOST_TABLES};
 ghost use Rattle.rr_log.specs.Calls.{IsFileFull, LowersFrom, NumbersRoot, TakesRootOf, as_begun, first_left, ticks_due};
 ghost use Rattle.rr_tables.specs.Records.Taking.{table_files};
-ghost use Rattle.rr_tables.specs.Records.Words.{in_words, table_in_words};
+ghost use Rattle.rr_tables.specs.Records.Words.{in_words};
 ghost use Rattle.rr_store.specs.Held.{LacksTable};
 ghost use Rattle.rr_store.specs.World.{names, table_named};
 ghost use Rattle.rr_words.specs.Name.{IsTableName};
@@ -35,7 +35,7 @@ pub struct Store<D: Drop> {
 
 impl<D: Disk + Drop> Store<D> {
     ghost use Rattle.rr_store.specs.Committing.{Commits};
-    ghost use Rattle.rr_store.specs.Holding.{Carries, GamesArePlayed, HasNoneBegun, IsUnchanged, Rests, disk_of, file_of, held_of, last_of, root_of, ticks_left};
+    ghost use Rattle.rr_store.specs.Holding.{Carries, GamesArePlayed, HasNoneBegun, IsUnchanged, Rests, disk_of, file_of, held_of, lent_of, last_of, root_of, ticks_left};
     ghost use Rattle.rr_store.specs.Ticking.{MakesFew, Steps};
 
     /// The disk on which the file stands, with all that it went through.
@@ -170,16 +170,16 @@ impl<D: Disk + Drop> Store<D> {
     /// before any device call: then the store goes on, and the next tick begins anew.
     pub fn tick(&mut self) -> Result<Tick, Fault>
         ensures steps { Steps D.Honest D.Works D.state D.past D.fault_count self.old result self.new }
-        ensures left { IfOk result (λ tick. LowersFrom (first_left (file_of self.old) (map table_in_words (held_of self.old).tables)) tick
+        ensures left { IfOk result (λ tick. LowersFrom (first_left (file_of self.old) (lent_of self.old)) tick
             (ticks_left self.old) (ticks_left self.new)) }
         ensures most { IfOk result (λ tick. ticks_left self.old ≡ 0
-            → ticks_left self.new < ticks_due (file_of self.old) (map table_in_words (held_of self.old).tables)) }
+            → ticks_left self.new < ticks_due (file_of self.old) (lent_of self.old)) }
         ensures idle { (result ≡ Ok Tick.Idle) ↔ (((held_of self.old).broken ≡ false) × Rests self.old) }
         ensures rests { result ≡ Ok Tick.Idle → IsUnchanged self.old self.new }
 
         // A first step is made only where its checkpoint's pages fit, and its numbers: else the file is full.
         ensures fits { IfOk result (λ tick. ticks_left self.old ≡ 0 → (Rests self.old → ⊥)
-            → IsFileFull (file_of self.old) (map table_in_words (held_of self.old).tables) → ⊥) }
+            → IsFileFull (file_of self.old) (lent_of self.old) → ⊥) }
         // The number of the root that is taken: one more behind the last step, and else the same.
         ensures root { IfOk result (λ tick. D.Honest (disk_of self.new) → (texts : KitTexts) → Carries D.state self.old texts
             → NumbersRoot tick (root_of self.old) (root_of self.new)) }
@@ -213,7 +213,7 @@ impl<D: Disk + Drop> Store<D> {
         ensures root { OnOk result (D.Honest (disk_of self.new) → (texts : KitTexts) → Carries D.state self.old texts
             → root_of self.new ≡ root_of self.old + 1) }
         ensures fits { OnOk result (ticks_left self.old ≡ 0
-            → IsFileFull (file_of self.old) (map table_in_words (held_of self.old).tables) → ⊥) }
+            → IsFileFull (file_of self.old) (lent_of self.old) → ⊥) }
         ensures writes { MakesFew D.write_count self.old self.new }
         ensures syncs { MakesFew D.sync_count self.old self.new }
     {

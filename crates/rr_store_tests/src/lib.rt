@@ -1,5 +1,5 @@
-//! Tests of the store of a club's tables: what is kept and opened again, refusals, a checkpoint, a device that fails;
-//! below it the tables in memory and their recovery; and the laws on files and worlds. What every stop and failure
+//! Tests of the store of a club's tables: what is kept and opened again, refusals, a checkpoint, snapshots, a device that
+//! fails; below it the tables in memory and their recovery; and the laws on files and worlds. What every stop and failure
 //! leaves is tried in `rr_stop_tests`, and on the built program by `tools/stop-anywhere`; damaged files by
 //! `tools/try-the-file`.
 #![tactic(auto)]
@@ -14,5 +14,7 @@ mod faults;
 mod files;
 #[cfg(test)]
 mod laws;
+#[cfg(test)]
+mod snapshots;
 #[cfg(test)]
 mod tables;

@@ -3,4 +3,5 @@ pub mod WorldLemmas
 pub mod PlayedTables
 pub mod WritableLemmas
 pub mod WordLemmas
+pub mod LendingLemmas
 pub mod RecordLemmas

@@ -1,20 +1,20 @@
 -- Tables that were played, one by one.
-use Rattle.std.proofs.Common.{◌≡◌, ℕ, ◌+◌, Bool, true, false, cond, List, Option, Some, IfSome, bytes_eq, refl, sym, ap, subst}
+use Rattle.std.proofs.Common.{◌≡◌, ℕ, ◌+◌, Bool, true, false, cond, List, Option, Some, IfSome, bytes_eq, refl, sym, subst}
 use Rattle.std.specs.Global.{Box}
 use Rattle.indexmap.specs.IndexMap.{get}
 use Rattle.rr_code.specs.declared.command.Command.{Command}
 use Rattle.rr_game.specs.declared.history.table.Table.{Table}
-use Rattle.rr_game.specs.declared.game.Game.{Game}
 use Rattle.rr_game.specs.declared.history.change.Change.{Change}
 use Rattle.rr_game.specs.History.Changing.{Fits, IsChangeBy, kept_with}
-use Rattle.rr_game.specs.History.Playing.{IsPlayOf, ends_turn}
-use Rattle.rr_game.specs.History.Tables.{IsPlayed, kept_in}
+use Rattle.rr_game.specs.History.Playing.{ends_turn}
+use Rattle.rr_game.specs.History.Tables.{HasItsSnapshots, IsPlayed, kept_in}
+use Rattle.rr_game.proofs.HistoryLemmas.Making.{same_shows, stays_played}
 use Rattle.rr_kit.specs.declared.kit.Kit.{Kit}
 use Rattle.rr_turns.specs.declared.request.Request.{Request}
 use Rattle.rr_turns.specs.declared.request.Request.TheVariants.{Play, Back, Forget}
 use Rattle.rr_turns.specs.Kept.{Kept, kept_after}
 use Rattle.rr_tables.specs.Changing.{IsWritableChange}
-use Rattle.rr_tables.specs.Tables.{ArePlayed}
+use Rattle.rr_tables.specs.Tables.{ArePlayed, HaveTheirSnapshots}
 use Rattle.rr_tables.specs.Writable.{IsWritable}
 use Rattle.rr_tables.specs.declared.tables.Tables.{Tables}
 
@@ -22,6 +22,10 @@ use Rattle.rr_tables.specs.declared.tables.Tables.{Tables}
 pub played_at : (tables : Tables) (name : List ℕ) (table : Box Table) → get bytes_eq tables.map name ≡ Some table → ArePlayed tables
     → IsPlayed tables.kit table.value
 played_at tables name table there all = subst (λ (o : Option (Box Table)). IfSome o (λ t. IsPlayed tables.kit t.value)) there (all name)
+
+pub shows_at : (tables : Tables) (name : List ℕ) (table : Box Table) → get bytes_eq tables.map name ≡ Some table → HaveTheirSnapshots tables
+    → HasItsSnapshots table.value
+shows_at tables name table there all = subst (λ (o : Option (Box Table)). IfSome o (λ t. HasItsSnapshots t.value)) there (all name)
 
 -- of a table that is written and the others
 pub if_written : (b : Bool) (t : Box Table) (o : Option (Box Table)) (P : Box Table → Type 0) → P t → IfSome o P → IfSome (cond b (Some t) o) P
@@ -34,18 +38,15 @@ stamp_rises kit old (Play c) = refl
 stamp_rises kit old (Back k) = refl
 stamp_rises kit old (Forget k) = refl
 
--- a table with another room is the same to all that look at what it keeps and at its game
-pub stays_played : (kit : Kit) (old new : Table) → kept_in new ≡ kept_in old → new.game ≡ old.game → IsPlayed kit old → IsPlayed kit new
-stays_played kit old new kept game played =
-    let commands = ap (λ (k : Kept Command). k.commands) kept in
-    subst (λ (g : Game). IsPlayOf kit new.kept.commands g) (sym game) (subst (λ (cs : List Command). IsPlayOf kit cs old.game) (sym commands) played)
-
+-- a table with another room is the same to all that look at what it keeps, at its game and at its snapshots
 pub same_change : (kit : Kit) (old new : Table) (request : Request Command) (change : Change) → kept_in new ≡ kept_in old → new.game ≡ old.game
-    → IsWritableChange kit old request change → IsWritableChange kit new request change
-same_change kit old new request change kept game is =
+    → new.kept.snapshots ≡ old.kept.snapshots → IsWritableChange kit old request change → IsWritableChange kit new request change
+same_change kit old new request change kept game snapshots is =
     record {
       by = λ played.
-          subst (λ (k : Kept Command). IsChangeBy kit k request change) (sym kept) (is.by (stays_played kit new old (sym kept) (sym game) played));
+          subst (λ (k : Kept Command). IsChangeBy kit k request change) (sym kept)
+          (is.by (stays_played kit new old (sym kept) (sym game) (sym snapshots) played));
       fits = subst (λ (k : Kept Command). Fits k change) (sym kept) is.fits;
       writable = subst (λ (k : Kept Command). IsWritable (kept_with k change)) (sym kept) is.writable;
+      shows = same_shows old new request change kept game is.shows;
     }

@@ -3,3 +3,4 @@ pub mod WordLemmas
 pub mod TakingLemmas
 pub mod PlayedLemmas
 pub mod Schedules
+pub mod LentLemmas

@@ -5,17 +5,18 @@ use Rattle.rr_code.specs.declared.command.Command.{Command}
 use Rattle.rr_game.specs.declared.history.change.Change.{Change}
 use Rattle.rr_game.specs.declared.history.table.Table.{Table}
 use Rattle.rr_game.specs.History.Changing.{Fits, IsChangeBy, kept_with}
-use Rattle.rr_game.specs.History.Tables.{HasRoomFor, IsPlayed, kept_in}
+use Rattle.rr_game.specs.History.Tables.{HasRoomFor, IsPlayed, ShowsBy, kept_in}
 use Rattle.rr_kit.specs.declared.kit.Kit.{Kit}
 use Rattle.rr_turns.specs.declared.request.Request.{Request}
 use Rattle.rr_tables.specs.Writable.{IsWritable}
 
--- the change can be made, and a checkpoint can write what the table then keeps; and where the table was played, the change is
--- what this request makes of it
+-- the change can be made, and a checkpoint can write what the table then keeps; it drops and adds the snapshots that this
+-- request does; and where the table was played, the change is what the request makes of it
 pub record IsWritableChange (kit : Kit) (table : Table) (request : Request Command) (change : Change) : Type 0 where
   pub by : IsPlayed kit table → IsChangeBy kit (kept_in table) request change
   pub fits : Fits (kept_in table) change
   pub writable : IsWritable (kept_with (kept_in table) change)
+  pub shows : ShowsBy table request change
 
 -- there is a table, and the change is such a change of it
 abbrev pub IsChangeOf : Kit → Option (Box Table) → Request Command → Change → Type 0

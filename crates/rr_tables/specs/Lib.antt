@@ -1,5 +1,6 @@
 pub mod Writable
 pub mod Tables
+pub mod Lending
 pub mod Changing
 pub mod Taking
 pub mod Records

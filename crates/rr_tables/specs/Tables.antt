@@ -1,9 +1,15 @@
 -- Tables in memory, as the world that they are, and that each was played.
-use Rattle.std.specs.Prelude.{◌≡◌, ℕ, List, IfSome, bytes_eq, map, option_map}
+use Rattle.std.specs.Prelude.{◌≡◌, ℕ, ◌+◌, ◌-◌, Bool, ◌&&◌, nat_le, List, [], ◌∷◌, ◌++◌, Option, None, Some, IfSome, bytes_eq, if◌then◌else◌, length, map, option_map, option_to_list, slice_get}
 use Rattle.std.specs.Global.{Box}
 use Rattle.indexmap.specs.IndexMap.{get}
+use Rattle.rr_game.specs.declared.game.Game.{Game}
 use Rattle.rr_game.specs.declared.history.table.Table.{Table}
-use Rattle.rr_game.specs.History.Tables.{IsPlayed, kept_in}
+use Rattle.rr_game.specs.History.GameBytes.{bytes_of}
+use Rattle.rr_game.specs.History.Tables.{HasItsSnapshots, IsPlayed, kept_in}
+use Rattle.rr_log.specs.Lent.{Lent}
+use Rattle.rr_reading.specs.declared.dir.directory.TheConstants.{MOST_SNAPSHOT_BYTES}
+use Rattle.rr_reading.specs.Worlds.World.{Snapshot}
+use Rattle.rr_tables.specs.Records.Words.{table_in_words}
 use Rattle.rr_tables.specs.Records.World.{TableState, World}
 use Rattle.rr_tables.specs.declared.tables.Tables.{Tables}
 
@@ -19,13 +25,49 @@ world_by state entries = map (λ e. (e.0, state e.1)) entries
 abbrev pub world_of : Tables → World
 world_of tables = world_by kept_in_box tables.map.entries
 
+-- a table has this snapshot, and a file may have it: it is of a command at least, and of no more than the table keeps, and
+-- has no more bytes than it may
+abbrev pub can_be_lent : Table → Game → Bool
+can_be_lent table game =
+    nat_le 1 game.played && nat_le game.played (length table.kept.commands) && nat_le (length (bytes_of game)) MOST_SNAPSHOT_BYTES
+
+-- the snapshot of a table that is lent to a checkpoint: its last, if a file may have that
+abbrev pub if_lent : Table → Option Game → Option Game
+if_lent table None = None
+if_lent table (Some game) = if can_be_lent table game then Some game else None
+
+abbrev pub lent_game : Table → Option Game
+lent_game table = if_lent table (slice_get table.kept.snapshots (length table.kept.snapshots - 1))
+
+-- the snapshots of tables that are lent, of which the first stands at this place
+abbrev pub lent_snapshots : ℕ → List Table → List Snapshot
+lent_snapshots place [] = []
+lent_snapshots place (table ∷ tables) =
+    map (λ (game : Game). record { table = place; kept = game.played; bytes = bytes_of game }) (option_to_list (lent_game table))
+    ++ lent_snapshots (place + 1) tables
+
+-- what is lent to a checkpoint: the tables in words, and of each the last snapshot
+abbrev pub lent_by : Tables → Lent
+lent_by tables =
+    record {
+      tables = map table_in_words (world_of tables);
+      snapshots = lent_snapshots 0 (map (λ e. e.1.value) tables.map.entries);
+    }
+
 -- each was played with the kit: its game is the play of the commands that it keeps
 abbrev pub ArePlayed : Tables → Type 0
 ArePlayed tables = (name : List ℕ) → IfSome (get bytes_eq tables.map name) (λ table. IsPlayed tables.kit table.value)
 
--- the tables keep what they kept, also the one of this name, and were played if they were; their rooms may differ
+-- each has just the snapshots that the rule names
+abbrev pub HaveTheirSnapshots : Tables → Type 0
+HaveTheirSnapshots tables = (name : List ℕ) → IfSome (get bytes_eq tables.map name) (λ table. HasItsSnapshots table.value)
+
+-- the tables keep what they kept, also the one of this name, and lend what they lent; they were played if they were, and
+-- have their snapshots if they had them; their rooms may differ
 pub record AreSame (name : List ℕ) (old new : Tables) : Type 0 where
   pub kit : new.kit ≡ old.kit
   pub world : world_of new ≡ world_of old
+  pub lent : lent_by new ≡ lent_by old
   pub table : option_map kept_in_box (get bytes_eq new.map name) ≡ option_map kept_in_box (get bytes_eq old.map name)
   pub played : ArePlayed old → ArePlayed new
+  pub snapshots : HaveTheirSnapshots old → HaveTheirSnapshots new

@@ -3,7 +3,7 @@ use Rattle.std.specs.Prelude.{◌≡◌, ℕ, List, None, Result, Ok, Err}
 use Rattle.rr_log.specs.declared.fault.Fault as file
 use Rattle.rr_tables.specs.declared.records.fault.Fault as rules
 use Rattle.rr_tables.specs.declared.records.fault.Fault.TheVariants as R
-use Rattle.rr_tables.specs.Records.World.{World}
+use Rattle.rr_log.specs.Lent.{Lent}
 use Rattle.rr_turns.specs.Judgement.{IsVerdict, Judgement, MayFind}
 use Rattle.rr_tables.specs.declared.fault.Fault.{Fault}
 use Rattle.rr_tables.specs.declared.fault.Fault.TheVariants.{File, Rules}
@@ -15,8 +15,8 @@ MayRefuse judgement (File fault) = IsVerdict judgement None
 
 -- What became of a journal in a call that has a record kept: the keeping ended as the call did. It wasn't asked where the
 -- rules refuse.
-abbrev pub Passed : {J : Type 0} → (J → World → List ℕ → Result (Unit {0}) file.Fault → J → Type 0) → J → World → List ℕ → J
+abbrev pub Passed : {J : Type 0} → (J → Lent → List ℕ → Result (Unit {0}) file.Fault → J → Type 0) → J → Lent → List ℕ → J
     → Result ℕ Fault → Type 0
-Passed Keeps old tables bytes new (Ok stamp) = Keeps old tables bytes (Ok tt) new
-Passed Keeps old tables bytes new (Err (File fault)) = Keeps old tables bytes (Err fault) new
-Passed Keeps old tables bytes new (Err (Rules fault)) = new ≡ old
+Passed Keeps old lent bytes new (Ok stamp) = Keeps old lent bytes (Ok tt) new
+Passed Keeps old lent bytes new (Err (File fault)) = Keeps old lent bytes (Err fault) new
+Passed Keeps old lent bytes new (Err (Rules fault)) = new ≡ old

@@ -1,9 +1,9 @@
-//! The tables in words, for a checkpoint.
-ghost use Rattle.std.specs.Prelude.{◌≡◌, ◌<◌, ◌≤◌, length, map, slice_get, IfOk, IfErr, Some};
+//! The tables in words, for a checkpoint, and behind them the snapshots that are lent.
+ghost use Rattle.std.specs.Prelude.{◌≡◌, ◌<◌, ◌≤◌, [], length, map, slice_get, IfOk, IfErr, Some};
 ghost use Rattle.rr_game.specs.History.Tables.{kept_in};
 ghost use Rattle.rr_tables.specs.Records.Words.{table_in_words};
-ghost use Rattle.rr_checkpoint.specs.Plan.Transcript.{commands_of, table_of};
-ghost use Rattle.rr_tables.specs.Tables.{world_of};
+ghost use Rattle.rr_checkpoint.specs.Plan.Transcript.{commands_of, snapshots_of, table_of, tables_of};
+ghost use Rattle.rr_tables.specs.Tables.{lent_by, world_of};
 ghost use Rattle.rr_tables.specs.Writable.{IsWritable};
 
 use crate::Tables;
@@ -15,9 +15,24 @@ use rr_words::Name;
 use std::alloc::Global;
 
 impl TablesInWords for Tables {
-    ghost tables = { λ tables. map table_in_words (world_of tables) };
+    ghost tables = { λ tables. (lent_by tables).tables };
+
+    ghost snapshots = { λ tables. (lent_by tables).snapshots };
 
     fn transcript(&self, alloc: Global) -> Result<Transcript, Fault> {
+        let mut transcript = self.write_tables(alloc)?;
+        self.lend_snapshots(alloc, &mut transcript)?;
+        Ok(transcript)
+    }
+}
+
+impl Tables {
+    // The tables, without snapshots.
+    fn write_tables(&self, alloc: Global) -> Result<Transcript, Fault>
+        ensures tables { IfOk result (λ transcript. tables_of transcript ≡ map table_in_words (world_of self.now)) }
+        ensures snapshots { IfOk result (λ transcript. snapshots_of transcript ≡ []) }
+        ensures memory { IfErr result (λ fault. fault ≡ Fault.OutOfMemory) }
+    {
         let mut transcript = Transcript::new(alloc);
         for place in 0..self.map.len() {
             let table = self.table_at(alloc, place)?;
@@ -25,9 +40,7 @@ impl TablesInWords for Tables {
         }
         Ok(transcript)
     }
-}
 
-impl Tables {
     // The table at a place in the order of opening.
     fn table_at(&self, alloc: Global, place: usize) -> Result<TableTranscript, Fault>
         requires { place < length self.now.map.entries }

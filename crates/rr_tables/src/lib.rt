@@ -1,6 +1,6 @@
 //! The tables of a store in memory: what the rules say of a request, its record kept before it counts, and the tables
-//! in words for a checkpoint. Which records are lawful, and what a file then keeps whatever comes, says `records`. The
-//! crate knows no file: what keeps records is a `Journal`.
+//! in words for a checkpoint, with snapshots of their games. Which records are lawful, which bytes show a game, and
+//! what a file then keeps whatever comes, says `records`. The crate knows no file: what keeps records is a `Journal`.
 //!
 //! Stands on `rr_game` and `rr_log`. Its promises: the clauses of `Tables::take`, and `records::laws::prefix`. A
 //! request is judged by `judgement_in`, what keeps its record is asked once and with the tables from before, and the
@@ -10,6 +10,7 @@
 mod fault;
 mod in_words;
 mod journal;
+mod lending;
 pub mod records;
 mod tables;
 mod taking;

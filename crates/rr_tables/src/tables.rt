@@ -1,8 +1,9 @@
 ghost use Rattle.std.specs.Prelude.{◌≡◌, ◌+◌, ◌*◌, ◌<◌, ◌≤◌, length, List, ℕ, IfSome, None, Some, [], ◌∷◌, ◌++◌, IfOk, IfErr, MatchResult, bytes_eq, slice_get};
 ghost use Rattle.std.specs.Option.{option_copied};
 ghost use Rattle.std.proofs.Props.{props};
-ghost use Rattle.indexmap.specs.IndexMap.{get, index_map_len, spare};
-ghost use Rattle.rr_game.specs.History.Tables.{IsPlayed, kept_in};
+ghost use Rattle.std.proofs.lemmas.Map.Keys.{IsDistinct-prop};
+ghost use Rattle.indexmap.specs.IndexMap.{IsUnique, get, index_map_len, keys, spare};
+ghost use Rattle.rr_game.specs.History.Tables.{HasItsSnapshots, IsPlayed, kept_in};
 ghost use Rattle.rr_tables.specs.declared.records.fault.Fault.TheVariants as R;
 ghost use Rattle.rr_tables.specs.Writable.{IsWritable};
 ghost use Rattle.rr_reading.specs.declared.dir.directory.TheConstants.{MOST_TABLES};
@@ -22,12 +23,13 @@ pub struct Tables {
     pub(crate) map: IndexMap<Name, Box<Table>>,
     ghost room: { MOST_TABLES ≤ index_map_len map + spare map },
     ghost few: { index_map_len map ≤ MOST_TABLES },
+    ghost own_names: { IsUnique bytes_eq map } by { IsDistinct-prop bytes_eq (keys map) },
     ghost writable: { (name : List ℕ) → IfSome (get bytes_eq map name) (λ table. IsWritable (kept_in table.value)) } by { Prim.hlevel props },
 }
 
 impl Tables {
     ghost use Rattle.rr_tables.specs.Records.World.{names, present_stamp, table_named};
-    ghost use Rattle.rr_tables.specs.Tables.{ArePlayed, kept_in_box, world_of};
+    ghost use Rattle.rr_tables.specs.Tables.{ArePlayed, HaveTheirSnapshots, kept_in_box, world_of};
 
     /// No table, with room for as many as there may be.
     ///
@@ -37,6 +39,7 @@ impl Tables {
         ensures kit { IfOk result (λ tables. tables.kit ≡ kit) }
         ensures empty { IfOk result (λ tables. world_of tables ≡ []) }
         ensures played { IfOk result ArePlayed }
+        ensures snapshots { IfOk result HaveTheirSnapshots }
         ensures memory { IfErr result (λ fault. fault ≡ Fault.Rules R.OutOfMemory) }
     {
         Ok(Tables {
@@ -104,6 +107,7 @@ impl Tables {
         requires writable { IsWritable (kept_in table.value) }
         ensures last { world_of self.new ≡ world_of self.old ++ (name, kept_in_box table) ∷ [] }
         ensures played { ArePlayed self.old → IsPlayed self.old.kit table.value → ArePlayed self.new }
+        ensures snapshots { HaveTheirSnapshots self.old → HasItsSnapshots table.value → HaveTheirSnapshots self.new }
         ensures kit { self.new.kit ≡ self.old.kit }
     {
         self.add(name, table);
@@ -116,6 +120,7 @@ impl Tables {
         requires writable { IsWritable (kept_in table.value) }
         ensures last { self.new.map.entries ≡ self.old.map.entries ++ (name, table) ∷ [] }
         ensures played { ArePlayed self.old → IsPlayed self.old.kit table.value → ArePlayed self.new }
+        ensures snapshots { HaveTheirSnapshots self.old → HasItsSnapshots table.value → HaveTheirSnapshots self.new }
         ensures kit { self.new.kit ≡ self.old.kit }
     {
         self.map.insert(name, table).unwrap();

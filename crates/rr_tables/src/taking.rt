@@ -5,12 +5,12 @@ ghost use Rattle.rr_code.specs.Request.{IsRequest, record_text};
 ghost use Rattle.rr_code.specs.declared.command.Command.{Command as Line};
 ghost use Rattle.rr_game.specs.History.Changing.{Fits, IsChangeBy, kept_with};
 ghost use Rattle.rr_game.specs.History.Playing.{ends_turn};
-ghost use Rattle.rr_game.specs.History.Tables.{HasRoomFor, IsPlayed, kept_in};
+ghost use Rattle.rr_game.specs.History.Tables.{HasItsSnapshots, HasRoomFor, IsPlayed, ShowsBy, kept_in};
 ghost use Rattle.rr_kit.specs.declared.kit.Kit.{Kit as AnyKit};
 ghost use Rattle.rr_tables.specs.Records.World.{judgement_in, opening_verdict, state_after, step_judgement, table_named, world_after};
 ghost use Rattle.rr_tables.specs.declared.records.fault.Fault.TheVariants as R;
 ghost use Rattle.rr_tables.specs.Changing.{HasRoomIn, IsChangeOf, IsWritableChange};
-ghost use Rattle.rr_tables.specs.Tables.{AreSame, ArePlayed, kept_in_box, world_of};
+ghost use Rattle.rr_tables.specs.Tables.{AreSame, ArePlayed, HaveTheirSnapshots, kept_in_box, lent_by, world_of};
 ghost use Rattle.rr_tables.specs.Taking.{MayRefuse, Passed};
 ghost use Rattle.rr_tables.specs.Writable.{IsWritable};
 ghost use Rattle.rr_turns.specs.Judgement.{IsVerdict, MayFind, settled};
@@ -46,11 +46,12 @@ impl Tables {
         ensures verdict { ArePlayed self.old → MatchResult result
             (λ _. IsVerdict (judgement_in self.old.kit (world_of self.old) stamp name.now request.now) None)
             (MayRefuse (judgement_in self.old.kit (world_of self.old) stamp name.now request.now)) }
-        ensures kept { Passed J.Keeps journal.old (world_of self.old) (record_text name.now request.now) journal.new result }
+        ensures kept { Passed J.Keeps journal.old (lent_by self.old) (record_text name.now request.now) journal.new result }
         ensures world { OnOk result (ArePlayed self.old
             → world_of self.new ≡ world_after self.old.kit (world_of self.old) name.now request.now) }
         ensures stamp { IfOk result (λ new. new ≡ (state_after self.old.kit (table_named (world_of self.old) name.now) request.now).stamp) }
         ensures played { ArePlayed self.old → ArePlayed self.new }
+        ensures snapshots { ArePlayed self.old → HaveTheirSnapshots self.old → HaveTheirSnapshots self.new }
         ensures kit { self.new.kit ≡ self.old.kit }
         ensures err { OnErr result (world_of self.new ≡ world_of self.old) }
     {
@@ -73,10 +74,11 @@ impl Tables {
         ensures verdict { MatchResult result
             (λ _. IsVerdict (settled (opening_verdict (option_map kept_in_box (get bytes_eq self.old.map name.now)) (index_map_len self.old.map) stamp)) None)
             (MayRefuse (settled (opening_verdict (option_map kept_in_box (get bytes_eq self.old.map name.now)) (index_map_len self.old.map) stamp))) }
-        ensures kept { Passed J.Keeps journal.old (world_of self.old) (record_text name.now (Request.Play (Command.Open players.now))) journal.new result }
+        ensures kept { Passed J.Keeps journal.old (lent_by self.old) (record_text name.now (Request.Play (Command.Open players.now))) journal.new result }
         ensures world { OnOk result (world_of self.new ≡ world_after self.old.kit (world_of self.old) name.now (Request.Play (Command.Open players.now))) }
         ensures stamp { IfOk result (λ new. (new ≡ 1) × (get bytes_eq self.old.map name.now ≡ None)) }
         ensures played { ArePlayed self.old → ArePlayed self.new }
+        ensures snapshots { ArePlayed self.old → HaveTheirSnapshots self.old → HaveTheirSnapshots self.new }
         ensures kit { self.new.kit ≡ self.old.kit }
         ensures err { OnErr result (world_of self.new ≡ world_of self.old) }
     {
@@ -120,11 +122,12 @@ impl Tables {
         ensures verdict { ArePlayed self.old → MatchResult result
             (λ _. IsVerdict (step_judgement self.old.kit (option_map kept_in_box (get bytes_eq self.old.map name.now)) stamp request.now) None)
             (MayRefuse (step_judgement self.old.kit (option_map kept_in_box (get bytes_eq self.old.map name.now)) stamp request.now)) }
-        ensures kept { Passed J.Keeps journal.old (world_of self.old) (record_text name.now request.now) journal.new result }
+        ensures kept { Passed J.Keeps journal.old (lent_by self.old) (record_text name.now request.now) journal.new result }
         ensures world { OnOk result (ArePlayed self.old
             → world_of self.new ≡ world_after self.old.kit (world_of self.old) name.now request.now) }
         ensures stamp { IfOk result (λ new. new ≡ (state_after self.old.kit (option_map kept_in_box (get bytes_eq self.old.map name.now)) request.now).stamp) }
         ensures played { ArePlayed self.old → ArePlayed self.new }
+        ensures snapshots { ArePlayed self.old → HaveTheirSnapshots self.old → HaveTheirSnapshots self.new }
         ensures kit { self.new.kit ≡ self.old.kit }
         ensures err { OnErr result (world_of self.new ≡ world_of self.old) }
     {
@@ -200,6 +203,8 @@ impl Tables {
             result ≡ (state_after self.old.kit (option_map kept_in_box (get bytes_eq self.old.map name.now)) request).stamp }
         ensures played { (request : AnyRequest Line) → IsChangeOf self.old.kit (get bytes_eq self.old.map name.now) request change →
             ArePlayed self.old → ArePlayed self.new }
+        ensures snapshots { (request : AnyRequest Line) → IsChangeOf self.old.kit (get bytes_eq self.old.map name.now) request change →
+            ArePlayed self.old → HaveTheirSnapshots self.old → HaveTheirSnapshots self.new }
         ensures kit { self.new.kit ≡ self.old.kit }
     {
         match self.map.get_mut(name) {
@@ -228,6 +233,7 @@ fn open_table(alloc: Global, players: &Players, kit: &Kit) -> Result<Box<Table>,
     requires { IsRequest (Request.Play (Command.Open players.now)) }
     ensures kept { IfOk result (λ table. kept_in_box table ≡ state_after kit.now None (Request.Play (Command.Open players.now))) }
     ensures played { IfOk result (λ table. IsPlayed kit.now table.value) }
+    ensures snapshots { IfOk result (λ table. HasItsSnapshots table.value) }
     ensures writable { IfOk result (λ table. IsWritable (kept_in table.value)) }
     ensures memory { IfErr result (λ fault. fault ≡ R.OutOfMemory) }
 {
@@ -262,6 +268,7 @@ fn make_room(table: &mut Box<Table>, change: &Change) -> Result<(), records::Fau
     ensures room { OnOk result (HasRoomFor table.new.value change.now) }
     ensures kept { kept_in_box table.new ≡ kept_in_box table.old }
     ensures game { table.new.value.game ≡ table.old.value.game }
+    ensures snapshots { table.new.value.kept.snapshots ≡ table.old.value.kept.snapshots }
     ensures memory { IfErr result (λ fault. fault ≡ R.OutOfMemory) }
 {
     table.reserve(change)?;
@@ -276,6 +283,9 @@ fn make(table: &mut Box<Table>, change: Change) -> u64
         kept_in_box table.new ≡ kept_after (ends_turn kit) (kept_in_box table.old) request }
     ensures played { (kit : AnyKit) (request : AnyRequest Line) → IsPlayed kit table.old.value →
         IsChangeBy kit (kept_in_box table.old) request change → IsPlayed kit table.new.value }
+    ensures snapshots { (kit : AnyKit) (request : AnyRequest Line) → IsPlayed kit table.old.value →
+        IsChangeBy kit (kept_in_box table.old) request change → ShowsBy table.old.value request change →
+        HasItsSnapshots table.old.value → HasItsSnapshots table.new.value }
     ensures with { kept_in_box table.new ≡ kept_with (kept_in_box table.old) change }
     ensures stamp { result ≡ (kept_in_box table.new).stamp }
 {

@@ -7,8 +7,8 @@ use Rattle.std.proofs.lemmas.List.{drop_at, drop_more, take_at, take_more, lengt
 use Rattle.std.proofs.lemmas.List.Concat.{flat_map-append}
 use Rattle.std.proofs.lemmas.List.Elements.{All-head, All-push, All-tail, All-take}
 use Rattle.std.proofs.lemmas.Option.{get_or_from_slice_get, slice_get_within}
-use Rattle.rr_spelling.specs.Number.{spelled_number}
-use Rattle.rr_spelling.proofs.NumberLemmas.{length-spelled_number}
+use Rattle.rr_words.specs.Spelling.Number.{spelled_number}
+use Rattle.rr_words.proofs.SpellingLemmas.NumberLemmas.{length-spelled_number}
 use Rattle.rr_turns.specs.declared.limits.TheConstants.{LONGEST_COMMAND, MOST_COMMANDS}
 use Rattle.rr_turns.specs.Words.{AreOf, IsShort, ends_behind, spelled_command, spelled_commands, words_ending}
 

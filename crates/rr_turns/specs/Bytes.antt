@@ -2,7 +2,7 @@
 use Rattle.std.specs.Prelude.{◌≡◌, ℕ, ◌<◌, ◌^◌, List, ◌++◌}
 use Rattle.std.proofs.Common.{sym, ◌∙◌, ap}
 use Rattle.std.proofs.lemmas.List.Elements.{All-from_get_or, recursion_from_All}
-use Rattle.rr_spelling.specs.Form.{Form, number_form, row_form}
+use Rattle.rr_words.specs.Spelling.Form.{Form, number_form, row_form}
 use Rattle.rr_turns.specs.Counts.{AreEnds, IsSet, counts_of, words_of}
 use Rattle.rr_turns.specs.Sets.{are_set, counts_of-words_of}
 

@@ -3,7 +3,7 @@ use Rattle.std.specs.Prelude.{◌≡◌, ℕ, ◌+◌, ◌-◌, ◌≤◌, List,
 use Rattle.std.specs.Borrow.{Bor}
 use Rattle.std.specs.Iterator.{YieldsFirstRef}
 use Rattle.std.specs.List.{flat_map}
-use Rattle.rr_spelling.specs.Number.{spelled_number}
+use Rattle.rr_words.specs.Spelling.Number.{spelled_number}
 use Rattle.rr_turns.specs.declared.limits.TheConstants.{LONGEST_COMMAND, MOST_COMMANDS}
 
 -- a command's words as the chain has them: how many bytes they are, in two bytes, and the words

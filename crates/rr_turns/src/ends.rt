@@ -6,7 +6,7 @@ ghost use Rattle.rr_turns.specs.Ends.{kept_at};
 
 use crate::limits::MOST_COMMANDS;
 use crate::set::{self, WORDS};
-use rr_spelling::{Cursor, Spell};
+use rr_words::spelling::{Cursor, Spell};
 use std::alloc::AllocError;
 use std::marker::Model;
 

@@ -1,9 +1,9 @@
 //! Rows on the shipped chart, and on one where two cells of one column have the same price.
 use crate::opening::check;
 use rr_books::{Cell, Corp, Entry, Marker, Refusal};
-use rr_chart::{Chart, Zone};
 use rr_market::laws::{arrivals_differ, operating_order_is_in_order, sales_fall};
 use rr_market::{Market, par_cell};
+use rr_roster::chart::{Chart, Zone};
 use std::process::Abort;
 
 const SHIPPED: &str = "60y 67 71 76 82 90 100p 112 126 142 160 180 200 225 250 275 300 325 350

@@ -3,13 +3,13 @@ ghost use Rattle.rr_books.specs.State.{Fits};
 
 use crate::opening::{self, check};
 use rr_books::{Act, Books, Cell, Corp, Entry, Kind, Marker, Money, Party, Place, Train, Words};
-use rr_chart::Chart;
 use rr_market::Market;
 use rr_market::operations::laws::{
     bankruptcies_are_remembered, debts_are_remembered, due_stays, sets_keep_their_length,
     steps_never_go_back, turns_are_of_their_round, turns_come_once, worked_round,
 };
 use rr_market::operations::{Operations, Stage, TurnStep, is_sold, phase, rounds_in_set};
+use rr_roster::chart::Chart;
 use rr_rounds::Rounds;
 use rr_words::HexName;
 use std::process::Abort;

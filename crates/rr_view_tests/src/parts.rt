@@ -9,7 +9,7 @@ use rr_market::operations::{Operations, OperationsParts, Stage, TurnStep};
 use rr_market::{Market, MarketParts, Token};
 use rr_rounds::bids::{Bidding, BiddingParts};
 use rr_rounds::{Purchases, Rounds, RoundsParts};
-use rr_spelling::{Cursor, Spell};
+use rr_words::spelling::{Cursor, Spell};
 use std::process::Abort;
 
 /// The bytes of a value.

@@ -1,6 +1,7 @@
-//! The words of a line and of a text: names, numbers, and how a line and a text are cut into words.
+//! The words of a line and of a text: names, numbers, and how a line and a text are cut into words; and values that bytes
+//! spell in one way (`spelling`).
 //!
-//! Stands on `rr_spelling`. Its promise: each reader (`Name::table`, `Name::player`, `number`) finds exactly what is
+//! Stands on `byteorder`. Its promise: each reader (`Name::table`, `Name::player`, `number`) finds exactly what is
 //! spelled, and `words` and joining are inverse.
 #![tactic(auto)]
 
@@ -9,6 +10,7 @@ pub mod laws;
 pub mod line;
 pub mod name;
 pub mod numeral;
+pub mod spelling;
 pub mod text;
 
 pub use line::{LONGEST_LINE, split_word, words};

@@ -1,25 +1,21 @@
 -- What is right isn't wrong as well: a kit, and a file that stands for a world.
 use Rattle.std.proofs.Common.{◌≡◌, ◌⊎◌, ℕ, List, [], ◌∷◌, ◌++◌, inl, inr, refl, sym, ap, subst, ◌∙◌}
 use Rattle.rr_images.specs.Codec.{Replays}
-use Rattle.rr_images.specs.Holding.{Holding, texts_of}
 use Rattle.rr_images.specs.Layout.{Stands}
 use Rattle.rr_images.specs.Refusing.{Unlawful_record}
-use Rattle.rr_images.proofs.Following.{read_there}
-use Rattle.rr_images.proofs.OneWorld.{IsThere, one_holding_there, there_of}
 use Rattle.rr_images.proofs.Refusing.{stands_is_not_refused}
 use Rattle.rr_kit.specs.declared.kit.Kit.{Kit}
 use Rattle.rr_kit.specs.Kits.{IsWrongKit, KitTexts, SpellsKit}
 use Rattle.rr_log.specs.Opening.Opened.{HasDamagedRecord}
 use Rattle.rr_log.proofs.OpeningLemmas.Refusals.{damaged_record_refused, stands_no_verdict}
-use Rattle.rr_pages.specs.declared.root.Root.{Root}
-use Rattle.rr_pages.proofs.ChoosingLemmas.{one_taken, taken_store}
+use Rattle.rr_pages.proofs.ChoosingLemmas.{taken_store}
 use Rattle.rr_reading.specs.declared.fault.Fault.TheVariants as R
-use Rattle.rr_reading.specs.Held.{Held, chains_of, holding_of}
+use Rattle.rr_reading.specs.Held.{Held, holding_of}
 use Rattle.rr_reading.specs.Laws.{NamesChains}
 use Rattle.rr_reading.specs.Reading.{Holds}
 use Rattle.rr_reading.proofs.Standing.{held_is_read}
 use Rattle.rr_tables.specs.Records.Played.{ArePlayedTables, IsPlayedWorld}
-use Rattle.rr_tables.specs.Records.Taking.{table_files}
+use Rattle.rr_tables.specs.Records.Taking.{table_files, table_rules}
 use Rattle.rr_tables.specs.Records.Words.{IsInWords, in_words, kit_texts}
 use Rattle.rr_tables.specs.Records.World.{World}
 use Rattle.rr_tables.proofs.RecordLemmas.PlayedLemmas.{standing_have_played_bases, tables_of_played_are_played}
@@ -27,17 +23,16 @@ use Rattle.rr_tables.proofs.RecordLemmas.TakingLemmas.{files_are_exact}
 use Rattle.rr_tables.proofs.RecordLemmas.WordLemmas.{are_in_words, of_form, one_in_words}
 use Rattle.rr_pages.specs.declared.fault.Damage.{Damage}
 use Rattle.rr_pages.specs.declared.fault.Damage.TheVariants as D
-use Rattle.rr_store.specs.Recovery.Telling.{HasBadRecord, IsBase, IsDamage}
+use Rattle.rr_store.specs.Recovery.Telling.{HasBadRecord, HasTrueSnapshots, IsDamage, SpellBy}
 use Rattle.rr_store.specs.Recovery.Replaying.{BreaksOff}
 use Rattle.rr_store.specs.Recovery.Texts.{texts_in}
-use Rattle.rr_store.proofs.RecoveryLemmas.BaseLemmas.{base_written}
 use Rattle.rr_store.specs.declared.fault.Fault.TheVariants as S
 use Rattle.rr_store.specs.Files.{AreTablesOf}
 use Rattle.rr_store.proofs.Kits.{right_is_not_wrong}
 use Rattle.rr_store.proofs.Recovering.{broken_off, spelled_texts}
-use Rattle.rr_reading.specs.Worlds.Spelling.{Spells}
+use Rattle.rr_store.proofs.Trusting.{is_written, one_written, standing_spells, true_snapshots}
 use Rattle.rr_reading.specs.Worlds.World as words
-use Rattle.rr_reading.proofs.WorldLemmas.Exact.{forms_spelled, one_world}
+use Rattle.rr_reading.proofs.WorldLemmas.Exact.{forms_spelled}
 use Rattle.rr_world_laws.specs.Worlds.{RightKitsAreNotWrong, StandingFilesOpen}
 
 pub right_kits_are_not_wrong : RightKitsAreNotWrong
@@ -55,23 +50,12 @@ replay_texts (line ∷ lines) old new replays = replay_texts lines replays.0 new
 -- a file that stands for tables of a kit breaks no clause by the rules of the game
 module _ (file : List ℕ) (texts : KitTexts) (kit : Kit) (tables : World) (right : SpellsKit texts kit) (of_kit : AreTablesOf kit tables)
     (stands : Stands table_files file (in_words texts tables)) (has : Held) (holds : Holds file has) where
-  -- what it holds stands
-  same_root : has.root ≡ stands.root
-  same_root =
-      let taken = holds.chains.has_directory.taken in
-      (one_taken file has.side stands.side has.root stands.root taken.0 stands.stale taken.1 stands.taken).1
+  -- what it holds stands, and its snapshots are true
+  spells_base : SpellBy table_rules has stands.base
+  spells_base = standing_spells file has holds (in_words texts tables) stands
 
-  same_holding : holding_of has ≡ stands.holding
-  same_holding =
-      let pages = holds.chains.has_directory.taken.1.sound.pages_high in
-      let there = read_there table_files file has.root (holding_of has) has.reached pages (held_is_read table_files names_chains file has holds) in
-      one_holding_there table_files files_are_exact file has.root (holding_of has) stands.holding there.there
-      (subst (λ (root : Root). IsThere table_files file root stands.holding) (sym same_root) (there_of table_files file stands.root stands.holding stands.base stands.spelled))
-
-  spells_base : Spells has.root.version has.chain.text (texts_of (chains_of has.texts has.tables)) stands.base
-  spells_base =
-      subst (λ (root : Root). Spells root.version has.chain.text (texts_of (chains_of has.texts has.tables)) stands.base) (sym same_root)
-      (subst (λ (holding : Holding). Spells stands.root.version holding.directory.text (texts_of holding.chains) stands.base) (sym same_holding) stands.spelled.spells)
+  truth : HasTrueSnapshots has
+  truth = true_snapshots has stands.base spells_base
 
   was_played : IsPlayedWorld stands.base
   was_played =
@@ -79,19 +63,14 @@ module _ (file : List ℕ) (texts : KitTexts) (kit : Kit) (tables : World) (righ
       (record { kit = kit; right = right; tables = tables; spelled = are_in_words texts tables of_kit.spelled; played = of_kit.played })
 
   base_texts : kit_texts stands.base ≡ texts_in has.texts
-  base_texts = spelled_texts has.root.version has.chain.text has.texts has.tables stands.base spells_base
+  base_texts = spelled_texts has.root.version has.chain.text has.texts (has.tables ++ has.snapshots) stands.base spells_base
 
   same_texts : texts_in has.texts ≡ texts
   same_texts = sym base_texts ∙ sym (replay_texts (stands.near ++ stands.far) stands.base (in_words texts tables) stands.replayed)
 
-  is_based : (base : World) (world : words.World) → IsBase has base world → IsInWords base stands.base
-  is_based base world is =
-      let same = one_world has.root.version has.chain.text (texts_of (chains_of has.texts has.tables)) world stands.base is.spells spells_base in
-      subst (λ (w : words.World). IsInWords base w) same is.based
-
-  all_played : (other : Kit) (base : World) (world : words.World) → IsBase has base world → SpellsKit (texts_in has.texts) other → ArePlayedTables other base
-  all_played other base world is right_too =
-      tables_of_played_are_played other base stands.base (subst (λ (t : KitTexts). SpellsKit t other) (sym base_texts) right_too) (is_based base world is) was_played
+  all_played : (other : Kit) → SpellsKit (texts_in has.texts) other → ArePlayedTables other was_played.tables
+  all_played other right_too =
+      tables_of_played_are_played other was_played.tables stands.base (subst (λ (t : KitTexts). SpellsKit t other) (sym base_texts) right_too) was_played.spelled was_played
 
   all_taken : (bad : HasBadRecord has) → BreaksOff bad.kit bad.base (has.near ++ has.far) ⊎ HasDamagedRecord has → ⊥
   all_taken bad (inl off) =
@@ -99,7 +78,7 @@ module _ (file : List ℕ) (texts : KitTexts) (kit : Kit) (tables : World) (righ
       let spelled = of_form bad.base bad.world bad.is_base.based in
       let same : bad.world ≡ in_words texts_there bad.base =
       one_in_words bad.base bad.world (in_words texts_there bad.base) bad.is_base.based (are_in_words texts_there bad.base spelled)
-      (spelled_texts has.root.version has.chain.text has.texts has.tables bad.world bad.is_base.spells) in
+      (spelled_texts has.root.version has.chain.text has.texts (has.tables ++ has.snapshots) bad.world bad.is_base.spells) in
       let taken = holds.chains.has_directory.taken in
       stands_is_not_refused table_files files_are_exact file (in_words texts tables) stands
       (Unlawful_record has.side has.root taken.0 taken.1 (record {
@@ -122,13 +101,13 @@ module _ (file : List ℕ) (texts : KitTexts) (kit : Kit) (tables : World) (righ
       stands_is_not_refused table_files files_are_exact file (in_words texts tables) stands (damaged_record_refused table_files file has holds damaged)
 
   keeps_rules : (damage : Damage) → IsDamage has damage → ⊥
-  keeps_rules D.Form bad = bad stands.base (base_written has was_played.tables stands.base (record { spells = spells_base; based = was_played.spelled }))
+  keeps_rules D.Form bad = bad stands.base (is_written has was_played.tables stands.base spells_base was_played.spelled)
   keeps_rules D.Kit bad = right_kits_are_not_wrong texts kit right (subst (λ (t : KitTexts). IsWrongKit t) same_texts bad.wrong)
-  keeps_rules D.Kept bad =
-      let same = one_world has.root.version has.chain.text (texts_of (chains_of has.texts has.tables)) stands.base bad.world spells_base bad.written.spells in
-      let based = subst (λ (w : words.World). IsInWords was_played.tables w) same was_played.spelled in
-      bad.unplayed was_played.tables based (all_played bad.kit was_played.tables bad.world (record { spells = bad.written.spells; based = based }) bad.right)
-  keeps_rules D.Records bad = all_taken bad bad.bad
+  keeps_rules D.Kept may =
+      let bad = may truth in
+      let same = one_written has stands.base bad.world spells_base bad.written in
+      bad.unplayed was_played.tables (subst (λ (w : words.World). IsInWords was_played.tables w) same was_played.spelled) (all_played bad.kit bad.right)
+  keeps_rules D.Records may = let bad = may truth in all_taken bad bad.bad
   keeps_rules _ bad = bad
 
 pub standing_files_open : StandingFilesOpen
@@ -136,7 +115,7 @@ standing_files_open file texts tables S.DeviceFailed stands refused = inl refl
 standing_files_open file texts tables S.OutOfMemory stands refused = inr refl
 standing_files_open file texts tables S.NotAStore stands refused = absurd (taken_store file stands.stands.side stands.stands.root stands.stands.stale stands.stands.taken refused)
 standing_files_open file texts tables (S.Damaged clause) stands (inl form) =
-    absurd (stands_no_verdict table_files file (R.Damaged form.0) form.1 files_are_exact names_chains forms_spelled (in_words texts tables) stands.stands)
+    absurd (stands_no_verdict table_files file (R.Damaged form.0) form.1 files_are_exact names_chains (forms_spelled table_rules) (in_words texts tables) stands.stands)
 standing_files_open file texts tables (S.Damaged clause) stands (inr rules) =
     absurd (keeps_rules file texts stands.kit tables stands.right stands.tables_of_kit stands.stands rules.has rules.holds rules.damage rules.broken)
 standing_files_open file texts tables (S.Kit fault) stands refused = absurd refused

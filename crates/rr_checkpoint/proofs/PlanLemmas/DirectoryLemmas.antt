@@ -1,16 +1,17 @@
--- The directory of a transcript's tables.
-use Rattle.std.proofs.Common.{Bool, ◌≡◌, ◌≢◌, ℕ, suc, ◌+◌, ◌^◌, ◌<◌, ◌≤◌, List, [], ◌∷◌, ◌++◌, length, map, refl, sym, ◌∙◌, ap, subst, arith, length-append}
+-- The directory of a transcript's tables and snapshots.
+use Rattle.std.proofs.Common.{Bool, ◌≡◌, ◌≢◌, ℕ, suc, ◌+◌, ◌≤◌, List, [], ◌∷◌, ◌++◌, length, map, refl, sym, ◌∙◌, ap, subst, arith, length-append}
 use Rattle.std.specs.List.{flat_map, All, AllPairs}
 use Rattle.std.proofs.lemmas.List.{length-map}
 use Rattle.std.proofs.lemmas.List.Elements.{All-nil, All-head, All-tail, All-cons}
 use Rattle.std.proofs.lemmas.List.Kept.{AllPairs-cons}
 use Rattle.std.proofs.lemmas.List.Sums.{sum_by-cons}
 use Rattle.rr_reading.specs.declared.dir.directory.KitChains.{KitChains}
+use Rattle.rr_reading.specs.declared.dir.directory.SnapshotEntry.{SnapshotEntry}
 use Rattle.rr_reading.specs.declared.dir.directory.TableEntry.{TableEntry}
 use Rattle.rr_reading.specs.declared.dir.version.TheConstants.{NEWEST}
-use Rattle.rr_reading.specs.Dir.Directory.{IsTable, AreTables, HaveOwnNames, spelling, spelled_kit, spelled_table, spelled_name, spelled_state}
-use Rattle.rr_reading.specs.Dir.Number.{spelled_number}
-use Rattle.rr_reading.proofs.DirLemmas.NumberLemmas.{length-spelled_number}
+use Rattle.rr_reading.specs.Dir.Directory.{IsTable, AreTables, HaveOwnNames, spelling, spelled_kit, spelled_snapshots, spelled_table, spelled_tables, spelled_name, spelled_state}
+use Rattle.rr_words.specs.Spelling.Number.{spelled_number}
+use Rattle.rr_words.proofs.SpellingLemmas.NumberLemmas.{length-spelled_number}
 use Rattle.rr_reading.proofs.DirLemmas.KeptLemmas.{length-first_commands}
 use Rattle.rr_reading.proofs.DirLemmas.TableLemmas.{length-spelled_kit, length-spelled_state}
 use Rattle.rr_checkpoint.proofs.Planning.{places_all}
@@ -19,47 +20,52 @@ use Rattle.rr_images.specs.Laws.{OneLaid}
 use Rattle.rr_images.specs.Plans.{LaidChain, laid_as, laid_pages, AllFit}
 use Rattle.rr_images.proofs.Laid.{one_more_laid}
 use Rattle.rr_pages.specs.declared.chain.FreshPage.{FreshPage}
-use Rattle.rr_pages.specs.Laying.{head_of, joined, pages_for, FitEach}
+use Rattle.rr_pages.specs.Laying.{joined, pages_for, FitEach}
 use Rattle.rr_pages.specs.Sets.{TakesFree, TooFewFree}
 use Rattle.rr_pages.specs.Writing.{fresh_of, IsLaid}
 use Rattle.rr_checkpoint.specs.declared.plan.table.TableTranscript.{TableTranscript}
-use Rattle.rr_checkpoint.specs.Plan.Laying.{directory_length, needed_pages, AreTablesLaid}
+use Rattle.rr_checkpoint.specs.Plan.Laying.{directory_length, needed_pages, tables_length, AreChainsLaid}
 use Rattle.rr_checkpoint.specs.Plan.Transcript.{commands_of, table_of}
-use Rattle.rr_reading.specs.Worlds.Spelling.{entry_for, entries_for}
-use Rattle.rr_reading.specs.Worlds.World.{Table, text_for, AreShort}
-use Rattle.rr_checkpoint.proofs.PlanLemmas.LaidTables.{fresh_count, too_few_behind}
+use Rattle.rr_reading.specs.Worlds.Spelling.{entry_for, entries_for, snapshot_entries}
+use Rattle.rr_reading.specs.Worlds.World.{Snapshot, Table, text_for, AreShort}
+use Rattle.rr_checkpoint.proofs.PlanLemmas.LaidTables.{fresh_count, head_under, too_few_behind}
+use Rattle.rr_checkpoint.proofs.PlanLemmas.LaidSnapshots.{bytes_of}
+use Rattle.rr_checkpoint.proofs.PlanLemmas.SnapshotLemmas.{entries_long, snapshots_counted}
 use Rattle.rr_checkpoint.proofs.PlanLemmas.TableLemmas.{spelled_few}
 
 -- each entry is as long as its name asks
-tables_length : (chains : List HeldChain) (tables : List Table) → texts_of chains ≡ map text_for tables → length (flat_map spelled_table (entries_for chains tables)) + 50 ≡ directory_length tables
-tables_length [] [] same = omega arith
-tables_length [] (table ∷ tables) same = absurd (cc)
-tables_length (chain ∷ chains) [] same = absurd (cc)
-tables_length (chain ∷ chains) (table ∷ tables) same =
+tables_counted : (chains : List HeldChain) (tables : List Table) → texts_of chains ≡ map text_for tables → length (flat_map spelled_table (entries_for chains tables)) ≡ tables_length tables
+tables_counted [] [] same = omega arith
+tables_counted [] (table ∷ tables) same = absurd (cc)
+tables_counted (chain ∷ chains) [] same = absurd (cc)
+tables_counted (chain ∷ chains) (table ∷ tables) same =
     let rest : texts_of chains ≡ map text_for tables = cc in
     let entry = entry_for chain table in
     omega (
       arith,
-      tables_length chains tables rest,
+      tables_counted chains tables rest,
       sum_by-cons (λ (t : Table). 29 + length t.name) table tables,
       length-append (spelled_table entry) (flat_map spelled_table (entries_for chains tables)),
       length-append (spelled_name entry.name) (spelled_state entry),
       length-spelled_state entry,
     )
 
-pub directory_counted : (kit : KitChains) (chains : List HeldChain) (tables : List Table) (entries : List TableEntry) (bytes : List ℕ) → texts_of chains ≡ map text_for tables → entries ≡ entries_for chains tables
-    → bytes ≡ spelling NEWEST (record { kit = kit; tables = entries }) → length bytes ≡ directory_length tables
-directory_counted kit chains tables entries bytes same named is =
+directory_counted : (kit : KitChains) (chains more : List HeldChain) (tables : List Table) (snapshots : List Snapshot) (entries : List TableEntry) (others : List SnapshotEntry) (bytes : List ℕ) → texts_of chains ≡ map text_for tables → texts_of more ≡ map bytes_of snapshots
+    → entries ≡ entries_for chains tables → others ≡ snapshot_entries more snapshots → bytes ≡ spelling NEWEST (record { kit = kit; tables = entries; snapshots = others }) → length bytes ≡ directory_length tables snapshots
+directory_counted kit chains more tables snapshots entries others bytes same texts named others_named is =
     let there = entries_for chains tables in
-    let all : bytes ≡ spelled_kit kit ++ (spelled_number 2 (length there) ++ flat_map spelled_table there) = is ∙ ap (λ (es : List TableEntry). spelling NEWEST (record { kit = kit; tables = es })) named in
+    let behind = snapshot_entries more snapshots in
+    let all : bytes ≡ spelled_kit kit ++ (spelled_tables there ++ spelled_snapshots behind) = is ∙ (λ i. spelling NEWEST (record { kit = kit; tables = named i; snapshots = others_named i })) in
     omega (
       arith,
       ap (λ (xs : List ℕ). length xs) all,
-      length-append (spelled_kit kit) (spelled_number 2 (length there) ++ flat_map spelled_table there),
+      length-append (spelled_kit kit) (spelled_tables there ++ spelled_snapshots behind),
+      length-append (spelled_tables there) (spelled_snapshots behind),
       length-append (spelled_number 2 (length there)) (flat_map spelled_table there),
       length-spelled_kit kit,
       length-spelled_number 2 (length there),
-      tables_length chains tables same,
+      tables_counted chains tables same,
+      snapshots_counted more snapshots texts,
     )
 
 -- there are no more entries than tables
@@ -72,12 +78,6 @@ entries_few (chain ∷ chains) (table ∷ tables) = omega (arith, entries_few ch
 pub all_short : (parts : List TableTranscript) → AreShort (map table_of parts)
 all_short [] = tt
 all_short (part ∷ parts) = (part.spelled.short, all_short parts)
-
--- the first page of a chain that was laid
-pub head_under : (pages : List ℕ) (pieces : List (List ℕ)) → FitEach pages pieces → head_of pages < 2 ^ 64
-head_under [] pieces fit = omega arith
-head_under (page ∷ pages) [] fit = absurd fit
-head_under (page ∷ pages) (piece ∷ pieces) fit = omega (arith, fit.1)
 
 -- what the directory says of a table is of its form
 entry_fits : (chain : LaidChain) (part : TableTranscript) → joined chain.pieces ≡ text_for (table_of part) → FitEach chain.pages chain.pieces → 1 ≤ part.kept → IsTable (entry_for (laid_as chain) (table_of part))
@@ -132,36 +132,52 @@ are_tables chains parts same fit some own few =
       few = omega (arith, few, entries_few (map laid_as chains) (map table_of parts), length-map parts table_of);
     }
 
--- as many entries as tables, and where too few pages are free for their directory
-pub entries_within : (present coming after : List Bool) (fresh : List FreshPage) (parts : List TableTranscript) (entries : List TableEntry) → AreTablesLaid present coming after fresh (map table_of parts) entries → length parts ≤ 64 → length entries ≤ 64
-entries_within present coming after fresh parts entries laid few =
+-- as many entries as tables and snapshots, and where too few pages are free for their directory
+pub entries_within : (present coming after : List Bool) (fresh : List FreshPage) (parts : List TableTranscript) (snapshots : List Snapshot) (entries : List TableEntry) (others : List SnapshotEntry) → AreChainsLaid present coming after fresh (map table_of parts) snapshots entries others → length parts ≤ 64
+    → length entries ≤ 64
+entries_within present coming after fresh parts snapshots entries others laid few =
     omega (arith, few, ap (λ (es : List TableEntry). length es) laid.named, entries_few (map laid_as laid.laid) (map table_of parts), length-map parts table_of)
 
-pub too_few_all : (present coming between : List Bool) (fresh : List FreshPage) (tables : List Table) (entries : List TableEntry) (kit : KitChains) (bytes : List ℕ) → AreTablesLaid present coming between fresh tables entries
-    → bytes ≡ spelling NEWEST (record { kit = kit; tables = entries }) → TooFewFree present between (pages_for (length bytes)) → TooFewFree present coming (needed_pages tables)
-too_few_all present coming between fresh tables entries kit bytes laid is few =
-    let counted = directory_counted kit (map laid_as laid.laid) tables entries bytes laid.texts laid.named is in
-    too_few_behind present coming between (laid_pages laid.laid) (pages_for (length bytes)) (needed_pages tables) laid.in_turn.taken few
-    (omega (arith, laid.counted, ap pages_for counted))
+pub others_within : (present coming after : List Bool) (fresh : List FreshPage) (tables : List Table) (snapshots : List Snapshot) (entries : List TableEntry) (others : List SnapshotEntry) → AreChainsLaid present coming after fresh tables snapshots entries others → length snapshots ≤ 4096
+    → length others ≤ 4096
+others_within present coming after fresh tables snapshots entries others laid few =
+    omega (arith, few, ap (λ (es : List SnapshotEntry). length es) laid.others_named, entries_long (map laid_as laid.more) snapshots laid.bytes)
 
--- a plan of these tables and their directory has just the fresh pages that they take
-pub fresh_counted : (present coming between : List Bool) (fresh more : List FreshPage) (tables : List Table) (entries : List TableEntry) (kit : KitChains) (bytes : List ℕ) → AreTablesLaid present coming between fresh tables entries
-    → bytes ≡ spelling NEWEST (record { kit = kit; tables = entries }) → length more ≡ length fresh + pages_for (length bytes) → length more ≡ needed_pages tables
-fresh_counted present coming between fresh more tables entries kit bytes laid is count =
-    let counted = directory_counted kit (map laid_as laid.laid) tables entries bytes laid.texts laid.named is in
-    omega (arith, laid.counted, fresh_count present coming between fresh laid.laid laid.in_turn, count, ap pages_for counted)
+module _ (present coming between : List Bool) (fresh : List FreshPage) (tables : List Table) (snapshots : List Snapshot) (entries : List TableEntry) (others : List SnapshotEntry) (kit : KitChains) (bytes : List ℕ) (laid : AreChainsLaid present coming between fresh tables snapshots entries others)
+    (is : bytes ≡ spelling NEWEST (record { kit = kit; tables = entries; snapshots = others })) where
+  abbrev chains : List LaidChain
+  chains = laid.laid ++ laid.more
 
--- The pages of the tables and then those of their directory are taken one after another, and they are all that is
+  counted : length bytes ≡ directory_length tables snapshots
+  counted = directory_counted kit (map laid_as laid.laid) (map laid_as laid.more) tables snapshots entries others bytes laid.texts laid.bytes laid.named laid.others_named is
+
+  pub too_few_all : TooFewFree present between (pages_for (length bytes)) → TooFewFree present coming (needed_pages tables snapshots)
+  too_few_all few =
+      too_few_behind present coming between (laid_pages chains) (pages_for (length bytes)) (needed_pages tables snapshots) laid.in_turn.taken few
+      (omega (arith, laid.counted, ap pages_for counted))
+
+  -- a plan of them has just the fresh pages that they take
+  pub fresh_counted : (more : List FreshPage) → length more ≡ length fresh + pages_for (length bytes) → length more ≡ needed_pages tables snapshots
+  fresh_counted more count = omega (arith, laid.counted, fresh_count present coming between fresh chains laid.in_turn, count, ap pages_for counted)
+
+-- The pages of the chains and then those of the directory are taken one after another, and they are all that is
 -- written.
 pages_laid : (fresh : List FreshPage) → map (λ (page : FreshPage). page.page) fresh ≡ map (λ (one : ℕ × List ℕ). one.0) (map fresh_of fresh)
 pages_laid [] = refl
 pages_laid (page ∷ fresh) = ap (λ (pages : List ℕ). page.page ∷ pages) (pages_laid fresh)
 
-pub takes_fresh : (present coming between after : List Bool) (fresh more : List FreshPage) (tables : List Table) (entries : List TableEntry) (bytes : List ℕ) (head : ℕ) → AreTablesLaid present coming between fresh tables entries
+pub takes_fresh : (present coming between after : List Bool) (fresh more : List FreshPage) (tables : List Table) (snapshots : List Snapshot) (entries : List TableEntry) (others : List SnapshotEntry) (bytes : List ℕ) (head : ℕ) → AreChainsLaid present coming between fresh tables snapshots entries others
     → IsLaid present between after bytes fresh more head → TakesFree present coming (map (λ (page : FreshPage). page.page) more) after
-takes_fresh present coming between after fresh more tables entries bytes head laid is =
-    let one : OneLaid present coming after more laid.laid bytes head = one_more_laid present coming between after fresh more laid.laid bytes head laid.in_turn is in
-    let chains = laid.laid ++ one.chain ∷ [] in
-    let pages : map (λ (page : FreshPage). page.page) more ≡ laid_pages chains =
-    pages_laid more ∙ (ap (λ (all : List (ℕ × List ℕ)). map (λ (one : ℕ × List ℕ). one.0) all) one.laid.to_write ∙ places_all chains one.laid.fit) in
+takes_fresh present coming between after fresh more tables snapshots entries others bytes head laid is =
+    let before = laid.laid ++ laid.more in
+    let one : OneLaid present coming after more before bytes head = one_more_laid present coming between after fresh more before bytes head laid.in_turn is in
+    let all = before ++ one.chain ∷ [] in
+    let pages : map (λ (page : FreshPage). page.page) more ≡ laid_pages all =
+    pages_laid more ∙ (ap (λ (written : List (ℕ × List ℕ)). map (λ (one : ℕ × List ℕ). one.0) written) one.laid.to_write ∙ places_all all one.laid.fit) in
     subst (λ (taken : List ℕ). TakesFree present coming taken after) (sym pages) one.laid.taken
+
+-- the same, told otherwise
+pub chains_same : (present other coming start after : List Bool) (fresh : List FreshPage) (tables : List Table) (snapshots : List Snapshot) (entries : List TableEntry) (others : List SnapshotEntry) → present ≡ other → coming ≡ start → AreChainsLaid present coming after fresh tables snapshots entries others
+    → AreChainsLaid other start after fresh tables snapshots entries others
+chains_same present other coming start after fresh tables snapshots entries others p q laid =
+    subst (λ (ms : List Bool). AreChainsLaid other ms after fresh tables snapshots entries others) q (subst (λ (ms : List Bool). AreChainsLaid ms coming after fresh tables snapshots entries others) p laid)

@@ -1,5 +1,5 @@
 -- Chains of tables that are laid one after another.
-use Rattle.std.proofs.Common.{◌≡◌, inl, inr, ℕ, suc, ◌+◌, ◌*◌, ◌<◌, ◌≤◌, Bool, List, [], ◌∷◌, ◌++◌, length, map, take, get_or, refl, sym, ◌∙◌, ap, subst, arith, length-append}
+use Rattle.std.proofs.Common.{◌≡◌, inl, inr, ℕ, suc, ◌+◌, ◌^◌, ◌<◌, ◌≤◌, Bool, List, [], ◌∷◌, ◌++◌, length, map, take, get_or, refl, sym, ◌∙◌, ap, subst, arith, length-append}
 use Rattle.std.proofs.lemmas.List.{length-map, map_more, map-append, take-map}
 use Rattle.std.proofs.lemmas.List.Sums.{sum_by_push, sum_by-take-le}
 use Rattle.std.proofs.lemmas.Bool.{cases_lt}
@@ -32,6 +32,12 @@ laid_length present coming after bytes old new head is =
 pub some_laid : (present coming after : List Bool) (bytes : List ℕ) (old new : List FreshPage) (head : ℕ) → IsLaid present coming after bytes old new head → 0 < length new
 some_laid present coming after bytes old new head is = omega (arith, laid_length present coming after bytes old new head is, is.fit.some)
 
+-- the first page of a chain that was laid
+pub head_under : (pages : List ℕ) (pieces : List (List ℕ)) → FitEach pages pieces → head_of pages < 2 ^ 64
+head_under [] pieces fit = omega arith
+head_under (page ∷ pages) [] fit = absurd fit
+head_under (page ∷ pages) (piece ∷ pieces) fit = omega (arith, fit.1)
+
 -- how many all chains take
 all_count : (chains : List LaidChain) → AllFit chains → length (all_laid chains) ≡ length (laid_pages chains)
 all_count [] fit = refl
@@ -42,7 +48,7 @@ pub fresh_count : (present coming after : List Bool) (fresh : List FreshPage) (c
 fresh_count present coming after fresh chains are =
     sym (length-map fresh fresh_of) ∙ (ap (λ (xs : List (ℕ × List ℕ)). length xs) are.to_write ∙ all_count chains are.fit)
 
-texts_last : (chains : List LaidChain) (chain : LaidChain) → texts_of (map laid_as (chains ++ chain ∷ [])) ≡ texts_of (map laid_as chains) ++ joined chain.pieces ∷ []
+pub texts_last : (chains : List LaidChain) (chain : LaidChain) → texts_of (map laid_as (chains ++ chain ∷ [])) ≡ texts_of (map laid_as chains) ++ joined chain.pieces ∷ []
 texts_last [] chain = refl
 texts_last (first ∷ chains) chain = ap (λ (texts : List (List ℕ)). joined first.pieces ∷ texts) (texts_last chains chain)
 

@@ -1,18 +1,19 @@
 -- That the plan of a transcript is one for its layout.
 use Rattle.std.proofs.Common.{◌≡◌, inl, inr, ℕ, ◌<◌, Bool, List, [], ◌∷◌, ◌++◌, length, map, refl, sym, ◌∙◌, ap, subst, arith}
-use Rattle.std.proofs.lemmas.List.{append-nil, append_assoc}
+use Rattle.std.proofs.lemmas.List.{append-nil, append_assoc, length-map}
 use Rattle.rr_checkpoint.specs.Planning.{AreDrafted, MayBegin}
 use Rattle.rr_checkpoint.specs.Planning as planning
 use Rattle.rr_checkpoint.specs.declared.checkpoint.Plan.{Plan}
 use Rattle.rr_reading.specs.declared.dir.directory.ChainRef.{ChainRef}
+use Rattle.rr_reading.specs.declared.dir.directory.SnapshotEntry.{SnapshotEntry}
 use Rattle.rr_reading.specs.declared.dir.directory.TableEntry.{TableEntry}
 use Rattle.rr_reading.specs.declared.dir.version.TheConstants.{NEWEST}
-use Rattle.rr_reading.specs.Dir.Directory.{IsDirectory, IsKit, IsText, spelling}
+use Rattle.rr_reading.specs.Dir.Directory.{AreSnapshots, IsDirectory, IsKit, IsText, spelling}
 use Rattle.rr_reading.specs.Dir.Heads.{Heads, head_of}
 use Rattle.rr_reading.specs.Dir.Heads as named
 use Rattle.rr_images.specs.Holding.{HeldChain, heads_of, texts_of, pages_of, reached_of, AreSome}
 use Rattle.rr_images.specs.Layout.{Layout, KeepsAt}
-use Rattle.rr_images.specs.Plans.{LaidChain, Draft, Fresh, laid_as, kept_of, chains_of, AreLaid}
+use Rattle.rr_images.specs.Plans.{LaidChain, Draft, Fresh, laid_as, kept_of, chains_of, fresh_chains, AllFit, AreLaid}
 use Rattle.rr_pages.specs.declared.chain.FreshPage.{FreshPage}
 use Rattle.rr_pages.specs.declared.free_pages.FreePages.{FreePages}
 use Rattle.rr_pages.specs.declared.root.TheConstants.{NEWEST_VERSION}
@@ -27,23 +28,47 @@ use Rattle.rr_reading.specs.Reading.{NoneReached}
 use Rattle.rr_checkpoint.specs.declared.plan.kit.KitPages.{KitPages}
 use Rattle.rr_checkpoint.specs.declared.plan.transcript.Transcript.{Transcript}
 use Rattle.rr_checkpoint.specs.Plan.Kit.{kit_chains, text_pages, AreTextChains}
-use Rattle.rr_checkpoint.specs.Plan.Laying.{AreTablesLaid}
-use Rattle.rr_checkpoint.specs.Plan.Planning.{world_of, IsOfLayout, HoldsTexts}
-use Rattle.rr_checkpoint.specs.Plan.Transcript.{tables_of}
+use Rattle.rr_checkpoint.specs.Plan.Laying.{AreChainsLaid}
+use Rattle.rr_checkpoint.specs.Plan.Planning.{world_of, IsOfLayout, HoldsAll, HoldsTexts}
+use Rattle.rr_checkpoint.specs.Plan.Snapshots.{snapshot_of}
+use Rattle.rr_checkpoint.specs.Plan.Transcript.{snapshots_of, tables_of}
 use Rattle.rr_checkpoint.proofs.PlanLemmas.DirectoryLemmas.{all_short, are_tables}
 use Rattle.rr_checkpoint.proofs.PlanLemmas.Frames.{same_marks}
+use Rattle.rr_checkpoint.proofs.PlanLemmas.SnapshotLemmas.{are_snapshots}
 use Rattle.rr_reading.specs.Worlds.Laws.{IsCheckpointOf}
-use Rattle.rr_reading.specs.Worlds.Spelling.{Spells, worlds, ref_of, directory_for, bytes_for, drafts_for}
-use Rattle.rr_reading.specs.Worlds.World.{World}
+use Rattle.rr_reading.specs.Worlds.Spelling.{HoldTexts, Spells, TableChains, all_of, worlds, ref_of, entries_for, snapshot_entries, directory_for, bytes_for, drafts_for, table_chains}
+use Rattle.rr_reading.specs.Worlds.World.{AreShown, Snapshot, World, WorldRules}
 use Rattle.rr_reading.proofs.WorldLemmas.Drafts.{checkpoints_spell}
 
 -- none of the laid chains is kept
-none_kept : (laid : List LaidChain) → kept_of (map (λ (chain : LaidChain). Fresh chain) laid) ≡ []
-none_kept [] = refl
-none_kept (chain ∷ laid) = none_kept laid
+abbrev as_fresh : List LaidChain → List Draft
+as_fresh laid = map (λ (chain : LaidChain). Fresh chain) laid
 
-four_kept : (texts : TextChains) (laid : List LaidChain) → kept_of (drafts_for texts laid) ≡ held.chains_of texts []
-four_kept texts laid = ap (λ (chains : List HeldChain). held.chains_of texts chains) (none_kept laid)
+all_fresh : (laid : List LaidChain) → fresh_chains (as_fresh laid) ≡ laid
+all_fresh [] = refl
+all_fresh (chain ∷ laid) = ap (λ (chains : List LaidChain). chain ∷ chains) (all_fresh laid)
+
+all_drafted : (laid : List LaidChain) → chains_of (as_fresh laid) ≡ map laid_as laid
+all_drafted [] = refl
+all_drafted (chain ∷ laid) = ap (λ (chains : List HeldChain). laid_as chain ∷ chains) (all_drafted laid)
+
+drafted_first : (laid : List LaidChain) (more : List Draft) → chains_of (as_fresh laid ++ more) ≡ map laid_as laid ++ chains_of more
+drafted_first [] more = refl
+drafted_first (chain ∷ laid) more = ap (λ (chains : List HeldChain). laid_as chain ∷ chains) (drafted_first laid more)
+
+drafted_all : (texts : TextChains) (laid : List LaidChain) (more : List Draft) → chains_of (drafts_for texts laid more) ≡ held.chains_of texts (all_of (table_chains laid more))
+drafted_all texts laid more = ap (λ (chains : List HeldChain). held.chains_of texts chains) (drafted_first laid more)
+
+none_fresh : (laid : List LaidChain) → kept_of (as_fresh laid) ≡ []
+none_fresh [] = refl
+none_fresh (chain ∷ laid) = none_fresh laid
+
+none_kept : (laid more : List LaidChain) → kept_of (as_fresh laid ++ as_fresh more) ≡ []
+none_kept [] more = none_fresh more
+none_kept (chain ∷ laid) more = none_kept laid more
+
+four_kept : (texts : TextChains) (laid more : List LaidChain) → kept_of (drafts_for texts laid (as_fresh more)) ≡ held.chains_of texts []
+four_kept texts laid more = ap (λ (chains : List HeldChain). held.chains_of texts chains) (none_kept laid more)
 
 -- the pages of the texts
 four_pages : (kit : KitPages) (texts : TextChains) → AreTextChains kit texts → pages_of (held.chains_of texts []) ≡ text_pages kit
@@ -72,11 +97,18 @@ text_of chain ref is same =
     let long : length chain.text ≡ ref.length = ap (λ (h : ℕ × ℕ). h.1) same in
     record { page = omega (arith, page, is.page); short = omega (arith, long, is.short) }
 
+-- chains of which each fits
+fit_apart : (chains more : List LaidChain) → AllFit (chains ++ more) → AllFit chains × AllFit more
+fit_apart [] more fit = (tt, fit)
+fit_apart (chain ∷ chains) more fit =
+    let rest = fit_apart chains more fit.1 in
+    ((fit.0, rest.0), rest.1)
+
 -- two empty sets of all pages are one
 pub one_start : (first second : List Bool) (pages : List ℕ) → IsEmpty first → length first ≡ 65536 → NoneReached second → all_marked first pages ≡ all_marked second pages
 one_start first second pages none whole reached = ap (λ (marks : List Bool). all_marked marks pages) (same_marks first second [] (whole ∙ sym reached.whole) (empty_has first none) (empty_has second reached.empty))
 
-module _ (takes : List ℕ → World → World → Type 0) (layout : Layout (worlds takes)) (kit : KitPages) (transcript : Transcript) (of : IsOfLayout takes kit transcript layout) (file : List ℕ) (world : World) (keeps : KeepsAt (worlds takes) layout file world) where
+module _ (rules : WorldRules) (layout : Layout (worlds rules)) (kit : KitPages) (transcript : Transcript) (of : IsOfLayout rules kit transcript layout) (file : List ℕ) (world : World) (keeps : KeepsAt (worlds rules) layout file world) where
   abbrev texts : TextChains
   texts = of.texts
 
@@ -109,58 +141,83 @@ module _ (takes : List ℕ → World → World → Type 0) (layout : Layout (wor
       let under = in_data_under layout.root.pages page (reached_of layout.holding) keeps.spelled.in_data (in_back page layout.holding.directory.pages (pages_of layout.holding.chains) there) in
       omega (arith, under, keeps.taken.sound.pages_high)
 
-  module _ (coming : List Bool) (free : FreePages) (fresh : List FreshPage) (entries : List TableEntry) (bytes : List ℕ) (none : IsEmpty coming) (full : length coming ≡ 65536)
-      (laid : AreTablesLaid (present_of free) (all_marked coming (text_pages kit)) (coming_of free) fresh (tables_of transcript) entries) (is : bytes ≡ spelling NEWEST (record { kit = kit_chains kit; tables = entries })) where
-    abbrev chains : List HeldChain
-    chains = map laid_as laid.laid
+  module _ (coming : List Bool) (free : FreePages) (fresh : List FreshPage) (entries : List TableEntry) (others : List SnapshotEntry) (bytes : List ℕ) (none : IsEmpty coming) (full : length coming ≡ 65536)
+      (laid : AreChainsLaid (present_of free) (all_marked coming (text_pages kit)) (coming_of free) fresh (tables_of transcript) (snapshots_of transcript) entries others) (is : bytes ≡ spelling NEWEST (record { kit = kit_chains kit; tables = entries; snapshots = others })) where
+    abbrev snapshots : List Snapshot
+    snapshots = snapshots_of transcript
+
+    abbrev chains : TableChains
+    chains = table_chains laid.laid (as_fresh laid.more)
 
     abbrev drafts : List Draft
-    drafts = drafts_for of.texts laid.laid
+    drafts = drafts_for of.texts laid.laid (as_fresh laid.more)
 
-    is_directory : IsDirectory (directory_for texts chains whole)
+    -- behind the tables' chains come the snapshots'
+    behind : chains.snapshots ≡ map laid_as laid.more
+    behind = all_drafted laid.more
+
+    others_are : others ≡ snapshot_entries chains.snapshots snapshots
+    others_are = laid.others_named ∙ ap (λ (held : List HeldChain). snapshot_entries held snapshots) (sym behind)
+
+    is_directory : IsDirectory (directory_for texts chains whole snapshots)
     is_directory =
+        let tables = entries_for chains.tables whole.tables in
+        let fit = fit_apart laid.laid laid.more laid.in_turn.fit in
         record {
           is_kit = is_kit;
-          are_tables = are_tables laid.laid transcript.tables.items laid.texts laid.in_turn.fit transcript.some_kept transcript.own_names transcript.few;
+          are_tables = are_tables laid.laid transcript.tables.items laid.texts fit.0 transcript.some_kept transcript.own_names transcript.few;
+          are_snapshots = subst (λ (held : List HeldChain). AreSnapshots tables (snapshot_entries held snapshots)) (sym behind)
+              (are_snapshots chains.tables transcript.tables.items laid.more snapshots laid.texts laid.bytes fit.1 transcript.counted transcript.rising (omega (arith, transcript.few_snapshots, length-map transcript.snapshots.items snapshot_of)));
         }
 
-    checkpoint : IsCheckpointOf NEWEST texts laid.laid whole (bytes_for NEWEST texts chains whole)
-    checkpoint =
-        checkpoints_spell NEWEST texts laid.laid whole (record { of_chart = refl; of_roster = refl; of_tiles = refl; of_board = refl; of_tables = laid.texts }) (all_short transcript.tables.items) is_directory
+    all_held : HoldTexts texts chains whole snapshots
+    all_held = record { of_chart = refl; of_roster = refl; of_tiles = refl; of_board = refl; of_tables = laid.texts; of_snapshots = ap (λ (held : List HeldChain). texts_of held) behind ∙ laid.bytes }
 
-    bytes_are : bytes ≡ bytes_for NEWEST texts chains whole
+    checkpoint : IsCheckpointOf rules NEWEST texts laid.laid (as_fresh laid.more) whole (bytes_for NEWEST texts chains whole snapshots)
+    checkpoint =
+        checkpoints_spell rules NEWEST texts laid.laid (as_fresh laid.more) whole snapshots all_held (all_short transcript.tables.items) (subst (λ (there : World). AreShown rules there snapshots) of.world of.shown) is_directory
+
+    bytes_are : bytes ≡ bytes_for NEWEST texts chains whole snapshots
     bytes_are =
         is ∙ (λ i. spelling NEWEST
         (record {
           kit = record { chart = of.on_pages.of_chart.named i; roster = of.on_pages.of_roster.named i; tiles = of.on_pages.of_tiles.named i; board = of.on_pages.of_board.named i };
           tables = laid.named i;
+          snapshots = others_are i;
         }))
 
     drafted : AreDrafted layout free fresh drafts
     drafted =
-        let kept : pages_of (kept_of drafts) ≡ text_pages kit = ap (λ (cs : List HeldChain). pages_of cs) (four_kept texts laid.laid) ∙ four_pages kit texts of.on_pages in
+        let kept : pages_of (kept_of drafts) ≡ text_pages kit = ap (λ (cs : List HeldChain). pages_of cs) (four_kept texts laid.laid laid.more) ∙ four_pages kit texts of.on_pages in
         record {
-          kept = subst (λ (all : List HeldChain). AreSome (kept_of drafts) all) (sym of.held) (checkpoint.kept of.others);
+          kept = subst (λ (all : List HeldChain). AreSome (kept_of drafts) all) (sym of.held) (checkpoint.kept of.others (subst (λ (chains : List HeldChain). AreSome chains of.others) (sym (none_fresh laid.more)) tt));
           marks = all_marked coming (text_pages kit);
           kept_pages = subst (λ (pages : List ℕ). Has (all_marked coming (text_pages kit)) pages) (sym kept) (has_all coming [] (text_pages kit) full text_under (empty_has coming none));
-          laid = subst (λ (written : List LaidChain). AreLaid (present_of free) (all_marked coming (text_pages kit)) (coming_of free) fresh written) (sym checkpoint.fresh) laid.in_turn;
+          laid = subst (λ (written : List LaidChain). AreLaid (present_of free) (all_marked coming (text_pages kit)) (coming_of free) fresh written) (sym (checkpoint.fresh ∙ ap (λ (chains : List LaidChain). laid.laid ++ chains) (all_fresh laid.more))) laid.in_turn;
         }
 
-    directory_is : planning.IsDirectory (worlds takes) layout NEWEST_VERSION drafts bytes
+    directory_is : planning.IsDirectory (worlds rules) layout NEWEST_VERSION drafts bytes
     directory_is =
         record {
           named = subst (λ (text : List ℕ). Heads 1 text (heads_of (chains_of drafts))) (sym bytes_are) checkpoint.named;
-          spells = subst (λ (world : World). Spells 1 bytes (texts_of (chains_of drafts)) world) (sym of.world) (subst (λ (text : List ℕ). Spells 1 text (texts_of (chains_of drafts)) whole) (sym bytes_are) checkpoint.spells);
+          spells = subst (λ (world : World). Spells rules 1 bytes (texts_of (chains_of drafts)) world) (sym of.world) (subst (λ (text : List ℕ). Spells rules 1 text (texts_of (chains_of drafts)) whole) (sym bytes_are) checkpoint.spells);
         }
 
     -- what the writer plans of them
-    pub planned : (same : Layout (worlds takes)) (after : FreePages) (plan : Plan) → same ≡ layout
-        → ((others : List Draft) → AreDrafted same free fresh others → planning.IsDirectory (worlds takes) same NEWEST_VERSION others bytes
-        → (may : MayBegin (worlds takes) same after plan) × (may.holding.chains ≡ chains_of others))
-        → (may : MayBegin (worlds takes) layout after plan) × HoldsTexts texts may.holding
+    pub planned : (same : Layout (worlds rules)) (after : FreePages) (plan : Plan) → same ≡ layout
+        → ((all : List Draft) → AreDrafted same free fresh all → planning.IsDirectory (worlds rules) same NEWEST_VERSION all bytes
+        → (may : MayBegin (worlds rules) same after plan) × (may.holding.chains ≡ chains_of all) × (may.holding.directory.text ≡ bytes))
+        → (may : MayBegin (worlds rules) layout after plan) × HoldsTexts texts may.holding × HoldsAll texts layout.middle snapshots may.holding
     planned same after plan is plans =
         let made =
-        plans drafts (subst (λ (l : Layout (worlds takes)). AreDrafted l free fresh drafts) (sym is) drafted)
-        (subst (λ (l : Layout (worlds takes)). planning.IsDirectory (worlds takes) l NEWEST_VERSION drafts bytes) (sym is) directory_is) in
-        let holds : HoldsTexts texts made.0.holding = record { others = chains_of (map (λ (chain : LaidChain). Fresh chain) laid.laid); held = made.1 } in
-        subst (λ (l : Layout (worlds takes)). (may : MayBegin (worlds takes) l after plan) × HoldsTexts texts may.holding) is (made.0, holds)
+        plans drafts (subst (λ (l : Layout (worlds rules)). AreDrafted l free fresh drafts) (sym is) drafted)
+        (subst (λ (l : Layout (worlds rules)). planning.IsDirectory (worlds rules) l NEWEST_VERSION drafts bytes) (sym is) directory_is) in
+        let holds : HoldsTexts texts made.0.holding = record { others = chains_of (as_fresh laid.laid ++ as_fresh laid.more); held = made.1 } in
+        let all : HoldsAll texts layout.middle snapshots made.0.holding =
+        record {
+          chains = chains;
+          named = made.1 ∙ drafted_all texts laid.laid (as_fresh laid.more);
+          written = made.2 ∙ (bytes_are ∙ ap (λ (there : World). bytes_for NEWEST texts chains there snapshots) (sym of.world));
+          held = subst (λ (there : World). HoldTexts texts chains there snapshots) (sym of.world) all_held;
+        } in
+        subst (λ (l : Layout (worlds rules)). (may : MayBegin (worlds rules) l after plan) × HoldsTexts texts may.holding × HoldsAll texts layout.middle snapshots may.holding) is (made.0, holds, all)

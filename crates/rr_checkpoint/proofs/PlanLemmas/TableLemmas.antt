@@ -7,9 +7,9 @@ use Rattle.rr_turns.specs.Words as words
 use Rattle.rr_turns.specs.Words.{spelled_commands}
 use Rattle.rr_turns.proofs.WordsLemmas.{short-is, spelled_commands-is}
 use Rattle.rr_reading.specs.Dir.Kept.{IsShort, SpellsKept, spelled_command, first_commands}
-use Rattle.rr_reading.specs.Dir.Number.{spelled_number}
+use Rattle.rr_words.specs.Spelling.Number.{spelled_number}
 use Rattle.rr_reading.proofs.DirLemmas.KeptLemmas.{kept-first, length-first_commands}
-use Rattle.rr_reading.proofs.DirLemmas.NumberLemmas.{length-spelled_number}
+use Rattle.rr_words.proofs.SpellingLemmas.NumberLemmas.{length-spelled_number}
 use Rattle.rr_checkpoint.specs.declared.plan.table.TableTranscript.{TableTranscript}
 use Rattle.rr_checkpoint.specs.Plan.Transcript.{commands_of, table_of}
 use Rattle.rr_reading.specs.Worlds.World.{text_for}

@@ -16,7 +16,7 @@ use rr_reading::worlds::{Rules, Worlds};
 pub(crate) fn keep_texts<R: Rules>(writer: &mut Writer<Worlds<R>>, kit: &KitPages)
     requires { ticks_left_of writer.old ≡ 0 }
     ensures coming { coming_of (free_of writer.new) ≡ all_marked (coming_of (free_of writer.old)) (text_pages kit.now) }
-    ensures only { OnlyTakes (worlds R.takes) writer.old writer.new }
+    ensures only { OnlyTakes (worlds R.rules) writer.old writer.new }
 {
     keep_pages(writer, &kit.chart.pages);
     keep_pages(writer, &kit.roster.pages);
@@ -27,7 +27,7 @@ pub(crate) fn keep_texts<R: Rules>(writer: &mut Writer<Worlds<R>>, kit: &KitPage
 fn keep_pages<R: Rules>(writer: &mut Writer<Worlds<R>>, pages: &[u32])
     requires { ticks_left_of writer.old ≡ 0 }
     ensures coming { coming_of (free_of writer.new) ≡ all_marked (coming_of (free_of writer.old)) pages.now }
-    ensures only { OnlyTakes (worlds R.takes) writer.old writer.new }
+    ensures only { OnlyTakes (worlds R.rules) writer.old writer.new }
 {
     for page in pages {
         keep_page(writer, *page);
@@ -38,7 +38,7 @@ fn keep_pages<R: Rules>(writer: &mut Writer<Worlds<R>>, pages: &[u32])
 fn keep_page<R: Rules>(writer: &mut Writer<Worlds<R>>, page: u32)
     requires { ticks_left_of writer.old ≡ 0 }
     ensures coming { coming_of (free_of writer.new) ≡ marked (coming_of (free_of writer.old)) page }
-    ensures only { OnlyTakes (worlds R.takes) writer.old writer.new }
+    ensures only { OnlyTakes (worlds R.rules) writer.old writer.new }
 {
     if page < MOST_PAGES {
         writer.keep(page);

@@ -1,36 +1,36 @@
 ghost use Rattle.std.specs.Prelude.{◌≡◌, ◌⊎◌, ℕ, ◌+◌, ◌^◌, ◌<◌, ◌≤◌, Bool, List, length, IfOk, IfErr, IsErrOf, OnErr};
 ghost use Rattle.rr_checkpoint.specs.Planning.{MayBegin, coming_root_of};
 ghost use Rattle.rr_checkpoint.specs.Writer.{Carries, free_of, place_of, taken_of, ticks_left_of};
-ghost use Rattle.rr_reading.specs.Dir.Directory.{spelling};
+ghost use Rattle.rr_reading.specs.Dir.Directory.{directory_of, spelling};
 ghost use Rattle.rr_disk.specs.Disk.{DiskState};
 ghost use Rattle.rr_pages.specs.FreePages.{present_of, coming_of};
 ghost use Rattle.rr_pages.specs.Sets.{IsEmpty, TakesFree, TooFewFree, all_marked};
 ghost use Rattle.rr_reading.specs.Reading.{NoneReached};
 ghost use Rattle.rr_checkpoint.specs.Plan.Kit.{text_pages};
 ghost use Rattle.rr_checkpoint.specs.Plan.Laying.{fresh_pages, needed_pages};
-ghost use Rattle.rr_checkpoint.specs.Plan.Planning.{IsOfLayout, HoldsTexts};
-ghost use Rattle.rr_checkpoint.specs.Plan.Transcript.{tables_of};
+ghost use Rattle.rr_checkpoint.specs.Plan.Planning.{IsOfLayout, HoldsAll, HoldsTexts};
+ghost use Rattle.rr_checkpoint.specs.Plan.Transcript.{snapshots_of, tables_of};
 ghost use Rattle.rr_checkpoint.specs.Plan.Writing.{OnlyTakes};
 ghost use Rattle.rr_reading.specs.Worlds.Spelling.{worlds};
 ghost use Rattle.rr_reading.specs.Worlds.World.{World};
-ghost use Rattle.rr_reading.specs.declared.dir.directory.TheConstants.{MOST_TABLES};
+ghost use Rattle.rr_reading.specs.declared.dir.directory.TheConstants.{MOST_SNAPSHOTS, MOST_TABLES};
 
 use crate::plan::keeping::keep_texts;
-use crate::plan::laying::lay_tables;
+use crate::plan::laying::lay_chains;
 use crate::plan::{KitPages, Transcript};
 use crate::{Plan, Writer};
 use rr_pages::Fault;
-use rr_reading::dir::{Dir, KitChains, NEWEST, TableEntry, Version};
+use rr_reading::dir::{Dir, NEWEST, Version};
 use rr_reading::worlds::{Rules, Worlds};
 use std::alloc::Global;
 
-/// Makes the plan of a checkpoint: the coming root keeps the texts of the kit where they stand, and holds the tables of
-/// the transcript. Its fresh pages are those that the tables and their directory take, and no others. No checkpoint is
-/// under way, and pages that were taken for one are given back first.
+/// Makes the plan of a checkpoint: the coming root keeps the texts of the kit where they stand, and holds the tables and
+/// the snapshots of the transcript. Its fresh pages are those that these and their directory take, and no others. No
+/// checkpoint is under way, and pages that were taken for one are given back first.
 ///
 /// # Errors
-/// `FileFull` where fewer pages are free, beside those of the texts, than the tables and the directory take, and no
-/// plan is made then; else `OutOfMemory` alone. Then the pages that were taken are given back.
+/// `FileFull` where fewer pages are free, beside those of the texts, than the tables, the snapshots and the directory
+/// take, and no plan is made then; else `OutOfMemory` alone. Then the pages that were taken are given back.
 pub fn plan_checkpoint<R: Rules>(
     alloc: Global,
     writer: &mut Writer<Worlds<R>>,
@@ -42,24 +42,25 @@ pub fn plan_checkpoint<R: Rules>(
     requires number { (place_of writer.old).number < 2 ^ 63 }
 
     ensures plan { IfOk result (λ plan. (state : DiskState) (world : World)
-        → (carries : Carries (worlds R.takes) writer.old state world)
-        → (of : IsOfLayout R.takes kit.now transcript.now carries.layout)
-        → (may : MayBegin (worlds R.takes) carries.layout (free_of writer.new) plan) × HoldsTexts of.texts may.holding) }
+        → (carries : Carries (worlds R.rules) writer.old state world)
+        → (of : IsOfLayout R.rules kit.now transcript.now carries.layout)
+        → (may : MayBegin (worlds R.rules) carries.layout (free_of writer.new) plan) × HoldsTexts of.texts may.holding
+        × HoldsAll of.texts carries.layout.middle (snapshots_of transcript.now) may.holding) }
     ensures root { IfOk result (λ plan. plan.root ≡ coming_root_of writer.old plan.root.directory plan.fresh.items) }
     ensures some { IfOk result (λ plan. 0 < length plan.fresh.items) }
-    ensures count { IfOk result (λ plan. length plan.fresh.items ≡ needed_pages (tables_of transcript.now)) }
+    ensures count { IfOk result (λ plan. length plan.fresh.items ≡ needed_pages (tables_of transcript.now) (snapshots_of transcript.now)) }
     ensures laid { IfOk result (λ plan. (none : List Bool) → NoneReached none
         → TakesFree (present_of (free_of writer.old)) (all_marked none (text_pages kit.now)) (fresh_pages plan)
         (coming_of (free_of writer.new))) }
     ensures fits { IfOk result (λ plan. (none : List Bool) → NoneReached none
         → TooFewFree (present_of (free_of writer.old)) (all_marked none (text_pages kit.now))
-        (needed_pages (tables_of transcript.now)) → ⊥) }
+        (needed_pages (tables_of transcript.now) (snapshots_of transcript.now)) → ⊥) }
     ensures full { IsErrOf result Fault.FileFull → (none : List Bool) → NoneReached none
         → TooFewFree (present_of (free_of writer.old)) (all_marked none (text_pages kit.now))
-        (needed_pages (tables_of transcript.now)) }
+        (needed_pages (tables_of transcript.now) (snapshots_of transcript.now)) }
     ensures err { IfErr result (λ fault. (fault ≡ Fault.FileFull) ⊎ (fault ≡ Fault.OutOfMemory)) }
     ensures given_back { OnErr result (IsEmpty (coming_of (free_of writer.new))) }
-    ensures only { OnlyTakes (worlds R.takes) writer.old writer.new }
+    ensures only { OnlyTakes (worlds R.rules) writer.old writer.new }
 {
     writer.abandon();
     match make_plan(alloc, writer, kit, transcript) {
@@ -83,40 +84,36 @@ fn make_plan<R: Rules>(
     requires number { (place_of writer.old).number < 2 ^ 63 }
     requires nothing { IsEmpty (coming_of (free_of writer.old)) }
     ensures plan { IfOk result (λ plan. (state : DiskState) (world : World)
-        → (carries : Carries (worlds R.takes) writer.old state world)
-        → (of : IsOfLayout R.takes kit.now transcript.now carries.layout)
-        → (may : MayBegin (worlds R.takes) carries.layout (free_of writer.new) plan) × HoldsTexts of.texts may.holding) }
+        → (carries : Carries (worlds R.rules) writer.old state world)
+        → (of : IsOfLayout R.rules kit.now transcript.now carries.layout)
+        → (may : MayBegin (worlds R.rules) carries.layout (free_of writer.new) plan) × HoldsTexts of.texts may.holding
+        × HoldsAll of.texts carries.layout.middle (snapshots_of transcript.now) may.holding) }
     ensures root { IfOk result (λ plan. plan.root ≡ coming_root_of writer.old plan.root.directory plan.fresh.items) }
     ensures some { IfOk result (λ plan. 0 < length plan.fresh.items) }
-    ensures count { IfOk result (λ plan. length plan.fresh.items ≡ needed_pages (tables_of transcript.now)) }
+    ensures count { IfOk result (λ plan. length plan.fresh.items ≡ needed_pages (tables_of transcript.now) (snapshots_of transcript.now)) }
     ensures laid { IfOk result (λ plan. TakesFree (present_of (free_of writer.old))
         (all_marked (coming_of (free_of writer.old)) (text_pages kit.now)) (fresh_pages plan)
         (coming_of (free_of writer.new))) }
     ensures full { IsErrOf result Fault.FileFull → TooFewFree (present_of (free_of writer.old))
-        (all_marked (coming_of (free_of writer.old)) (text_pages kit.now)) (needed_pages (tables_of transcript.now)) }
+        (all_marked (coming_of (free_of writer.old)) (text_pages kit.now)) (needed_pages (tables_of transcript.now) (snapshots_of transcript.now)) }
     ensures err { IfErr result (λ fault. (fault ≡ Fault.FileFull) ⊎ (fault ≡ Fault.OutOfMemory)) }
-    ensures only { OnlyTakes (worlds R.takes) writer.old writer.new }
+    ensures only { OnlyTakes (worlds R.rules) writer.old writer.new }
 {
     keep_texts(writer, kit);
     let mut fresh = Vec::new(alloc);
-    let entries = lay_tables(alloc, writer, &mut fresh, &transcript.tables)?;
-    let directory = directory_bytes(alloc, NEWEST, kit.chains(), entries)?;
+    let dir = lay_chains(alloc, writer, &mut fresh, kit, transcript)?;
+    let directory = directory_bytes(alloc, NEWEST, &dir)?;
     let plan = writer.plan(alloc, fresh, &directory)?;
     Ok(plan)
 }
 
-// The bytes of a directory of this version.
-fn directory_bytes(
-    alloc: Global,
-    version: Version,
-    kit: KitChains,
-    tables: Vec<TableEntry>,
-) -> Result<Vec<u8>, Fault>
-    requires { length tables.items ≤ MOST_TABLES }
-    ensures bytes { IfOk result (λ bytes. bytes.items ≡ spelling version (record { kit = kit; tables = tables.items })) }
+// The bytes of a directory in the form of this version.
+fn directory_bytes(alloc: Global, version: Version, dir: &Dir) -> Result<Vec<u8>, Fault>
+    requires tables { length dir.now.tables.items ≤ MOST_TABLES }
+    requires snapshots { length dir.now.snapshots.items ≤ MOST_SNAPSHOTS }
+    ensures bytes { IfOk result (λ bytes. bytes.items ≡ spelling version (directory_of dir.now)) }
     ensures memory { IfErr result (λ fault. fault ≡ Fault.OutOfMemory) }
 {
-    let dir = Dir { kit, tables };
     let mut bytes = Vec::new(alloc);
     if dir.write(version, &mut bytes).is_err() {
         return Err(Fault::OutOfMemory);

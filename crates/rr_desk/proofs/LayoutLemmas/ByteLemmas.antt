@@ -2,9 +2,9 @@
 use Rattle.std.specs.List.{AllByRecursion, flat_map}
 use Rattle.std.proofs.Common.{◌≡◌, ℕ, ◌-◌, ◌<◌, List, [], ◌++◌, length, take, drop, replicate, sym, ap, ◌∙◌, subst, arith, length-take-le}
 use Rattle.std.proofs.lemmas.List.{drop-replicate}
-use Rattle.rr_spelling.specs.Form.{Form, IsTaken}
-use Rattle.rr_spelling.specs.Number.{spelled_number}
-use Rattle.rr_spelling.specs.OneWay.{counted_one_way}
+use Rattle.rr_words.specs.Spelling.Form.{Form, IsTaken}
+use Rattle.rr_words.specs.Spelling.Number.{spelled_number}
+use Rattle.rr_words.specs.Spelling.OneWay.{counted_one_way}
 use Rattle.rr_desk.specs.Layout.Slots.{IsFilled, length-take-filled}
 
 -- slots that had nothing have the filler behind those that were taken

@@ -1,6 +1,6 @@
 -- The bytes of what was put on a board.
 use Rattle.std.proofs.Common.{refl, lit<}
-use Rattle.rr_spelling.specs.Form.{Form, byte_form, counted_form, form_by, number_form, pair_form, word_form}
+use Rattle.rr_words.specs.Spelling.Form.{Form, byte_form, counted_form, form_by, number_form, pair_form, word_form}
 use Rattle.rr_roster.specs.Bytes.{corp_form}
 use Rattle.rr_words.specs.Name.{IsHexName}
 use Rattle.rr_desk.specs.declared.layout.layout.Lay.{Lay}

@@ -1,7 +1,7 @@
 -- The plain values of a position, and which values it may have.
 use Rattle.std.specs.Prelude.{ℕ, ◌≤◌}
 use Rattle.std.proofs.Common.{refl}
-use Rattle.rr_spelling.specs.Form.{Form, form_by, number_form, pair_form}
+use Rattle.rr_words.specs.Spelling.Form.{Form, form_by, number_form, pair_form}
 use Rattle.rr_books.specs.declared.parts.BooksParts.{BooksParts}
 use Rattle.rr_books.specs.Parts.{AreBooks, books_form, books_of}
 use Rattle.rr_books.specs.Parts.{parts_of as books_parts}

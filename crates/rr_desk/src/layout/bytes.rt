@@ -3,8 +3,8 @@ ghost use Rattle.rr_desk.specs.Layout.Bytes.{lay_form, layout_form, station_form
 
 use crate::layout::layout::{Lay, Layout, Station};
 use rr_roster::Corp;
-use rr_spelling::{Cursor, Spell, read_counted, write_counted};
 use rr_words::HexName;
+use rr_words::spelling::{Cursor, Spell, read_counted, write_counted};
 use std::alloc::AllocError;
 
 type LayRow = (HexName, (u16, u8));

@@ -9,7 +9,7 @@ use rr_market::operations::{Operations, OperationsParts};
 use rr_market::{Market, MarketParts};
 use rr_rounds::bids::{Bidding, BiddingParts};
 use rr_rounds::{Rounds, RoundsParts};
-use rr_spelling::{Cursor, Spell};
+use rr_words::spelling::{Cursor, Spell};
 use std::alloc::AllocError;
 
 /// The plain values of all that runs along with a table's book.

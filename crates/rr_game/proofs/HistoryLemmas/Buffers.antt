@@ -1,17 +1,11 @@
 -- The commands that a buffer of words keeps.
-use Rattle.std.proofs.Common.{◌≡◌, ℕ, List, [], ◌∷◌, ◌++◌, All, Result, Ok, Err, OnErr, map, ap, ◌∙◌}
+use Rattle.std.proofs.Common.{◌≡◌, ℕ, List, [], ◌∷◌, ◌++◌, All, map, ap, ◌∙◌}
 use Rattle.std.proofs.lemmas.List.{map-append}
 use Rattle.std.proofs.lemmas.List.Elements.{All-head, All-push, All-tail}
 use Rattle.rr_code.specs.Command.{IsCommand, text}
 use Rattle.rr_code.specs.declared.command.Command.{Command}
-use Rattle.rr_turns.specs.Words.{Buffer}
-use Rattle.rr_game.specs.History.Spelling.{CommandBuffer, IsSpelled, buffer_of, command_in}
+use Rattle.rr_game.specs.History.Spelling.{IsSpelled, command_in}
 use Rattle.rr_game.proofs.HistoryLemmas.Spellings.{read-text, spells-text}
-
--- words that stay where a call is refused
-pub refused_same : {A E : Type 0} (r : Result A E) (old new : Buffer) (kept : CommandBuffer) → OnErr r (new ≡ old) → buffer_of old ≡ kept → OnErr r (buffer_of new ≡ kept)
-refused_same (Ok x) old new kept same seen = tt
-refused_same (Err e) old new kept same seen = ap buffer_of same ∙ seen
 
 -- with the words of one command more
 pub spelled_push : (words : List (List ℕ)) (last : List ℕ) (c : Command) → All IsSpelled words → IsCommand c → last ≡ text c → All IsSpelled (words ++ last ∷ [])

@@ -17,6 +17,8 @@ use Rattle.rr_game.specs.declared.history.fault.Fault.{Fault}
 use Rattle.rr_game.specs.declared.history.fault.Fault.TheVariants as F
 use Rattle.rr_game.specs.History.Fault.{of_game}
 use Rattle.rr_game.specs.History.Playing.{ArePlayed, IsLawfulAfter, IsPlayOf, game_judgement}
+use Rattle.rr_game.specs.History.Tables.{IsPlayed, turns_in}
+use Rattle.rr_game.specs.declared.history.table.Table.{Table}
 use Rattle.rr_game.specs.Turning.{ends_turn}
 use Rattle.rr_game.proofs.TurnEnds.{turns_told}
 
@@ -60,7 +62,10 @@ goes_on kit (opening ∷ others) c old new play lawful next = record {
 }
 
 -- as many turns have ended as its game tells
-pub turns_ended : (kit : Kit) (commands : List Command) (game : Game) → IsPlayOf kit commands game → length game.ends - 1 ≡ ended_turns (ends_turn kit) commands
-turns_ended kit commands game play =
-    let told = turns_told kit commands game play.played in
+pub turns_ended : (kit : Kit) (commands : List Command) (game : Game) → IsGameOf kit commands game → length game.ends - 1 ≡ ended_turns (ends_turn kit) commands
+turns_ended kit commands game stands =
+    let told = turns_told kit commands game stands in
     omega (arith, told)
+
+pub turns_played : (kit : Kit) (table : Table) → IsPlayed kit table → turns_in table ≡ ended_turns (ends_turn kit) table.kept.commands
+turns_played kit table played = turns_ended kit table.kept.commands table.game played.played

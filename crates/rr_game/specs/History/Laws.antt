@@ -1,5 +1,6 @@
 -- What always holds of the tables of a game.
-use Rattle.std.specs.Prelude.{◌≡◌, ℕ, ◌≤◌, List, [], ◌∷◌, ◌++◌, None, length, take}
+use Rattle.std.specs.Prelude.{◌≡◌, ℕ, ◌+◌, ◌<◌, ◌≤◌, List, [], ◌∷◌, ◌++◌, Option, None, length, take}
+use Rattle.std.specs.Option.{option_map_or}
 use Rattle.rr_kit.specs.declared.kit.Kit.{Kit}
 use Rattle.rr_code.specs.declared.command.Command.{Command}
 use Rattle.rr_game.specs.Keeping.{IsGameOf}
@@ -9,9 +10,12 @@ use Rattle.rr_turns.specs.Judgement.{HasOneVerdict, IsVerdict}
 use Rattle.rr_turns.specs.Kept.{Kept, NamesAKeptTurn, kept_after}
 use Rattle.rr_turns.specs.Ends.{kept_at}
 use Rattle.rr_turns.specs.Turns.{EndsWithATurn, first_turns}
+use Rattle.rr_game.specs.declared.game.Game.{Game}
+use Rattle.rr_game.specs.declared.history.snapshots.TheConstants.{SNAPSHOT_SPACING}
 use Rattle.rr_game.specs.declared.history.table.Table.{Table}
 use Rattle.rr_game.specs.Turning.{ends_turn}
-use Rattle.rr_game.specs.History.Tables.{IsPlayed, IsTableOf, kept_in, turns_in}
+use Rattle.rr_game.specs.History.Snapshots.{IsNearest}
+use Rattle.rr_game.specs.History.Tables.{HasItsSnapshots, IsPlayed, IsTableOf, kept_in, turns_in}
 use Rattle.rr_game.specs.History.Verdict.{request_judgement}
 
 -- a table that accepts one request more is that of all of them
@@ -54,3 +58,11 @@ abbrev pub RequestsHaveOneVerdict : Type 0
 RequestsHaveOneVerdict =
     (kit : Kit) (table : Kept Command) (stamp : ℕ) (request : Request Command)
     → HasOneVerdict (request_judgement kit table stamp request)
+
+-- from the nearest snapshot, or from the opening where there is none, fewer commands than the spacing are played to the end of a
+-- turn that isn't forgotten
+abbrev pub BackPlaysFew : Type 0
+BackPlaysFew =
+    (kit : Kit) (k : ℕ) (table : Table) (nearest : Option Game) → IsPlayed kit table → HasItsSnapshots table
+    → table.floor ≤ k → k ≤ turns_in table → IsNearest (kept_at table.game.ends k) table.kept.snapshots nearest
+    → kept_at table.game.ends k < option_map_or (λ (game : Game). game.played) nearest 0 + SNAPSHOT_SPACING

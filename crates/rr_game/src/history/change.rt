@@ -1,4 +1,5 @@
 use crate::Game;
+use crate::history::snapshots::Snapshot;
 use crate::history::spelled::Spelled;
 
 /// What a request makes of its table, worked out beforehand: nothing refuses it any more, nor want of memory once the
@@ -7,8 +8,12 @@ use crate::history::spelled::Spelled;
 pub struct Change {
     /// How many of the kept commands stay.
     pub(crate) stay: usize,
+    /// The least count of which a snapshot stays, if there is one; none stays of more commands than stay.
+    pub(crate) least: usize,
     /// The command that is kept behind them.
     pub(crate) added: Option<Spelled>,
+    /// The snapshot that is kept of the game behind it.
+    pub(crate) snapshot: Option<Snapshot>,
     /// The play of the commands that are kept then, unless the request leaves the game as it is.
     pub(crate) game: Option<Game>,
     pub(crate) floor: u64,

@@ -1,5 +1,8 @@
 //! What always holds of the tables of a game. The calls do nothing: their contracts hold of all tables.
-ghost use Rattle.rr_game.specs.History.Laws.{AcceptedTurnsAreKept, BackGoesToItsTurn, BackKeepsItsCount, BackToThePresentTurn, RequestsHaveOneVerdict, TablesGoOn};
+ghost use Rattle.std.specs.Prelude.{◌≡◌};
+ghost use Rattle.rr_game.specs.History.Laws.{AcceptedTurnsAreKept, BackGoesToItsTurn, BackKeepsItsCount, BackPlaysFew, BackToThePresentTurn, RequestsHaveOneVerdict, TablesGoOn};
+
+use crate::history::snapshots::SNAPSHOT_SPACING;
 
 /// A table that accepts one request more is that of all of them.
 pub fn tables_go_on()
@@ -32,3 +35,13 @@ pub fn requests_have_one_verdict()
 {
     crate::laws::commands_have_one_verdict();
 }
+
+/// A table that has its snapshots is taken back by fewer commands than stand between two of them.
+pub fn back_plays_few()
+    ensures { BackPlaysFew }
+{}
+
+/// How many commands stand between two snapshots, in numbers.
+pub fn spacing()
+    ensures { SNAPSHOT_SPACING ≡ 64 }
+{}

@@ -1,4 +1,4 @@
-//! Commands played again, from the opening on.
+//! Commands played again, from the opening or from a snapshot on.
 ghost use Rattle.std.specs.Prelude.{◌≡◌, ◌≤◌, [], ◌∷◌, length, take, IfOk, IsOkUnless, MatchResult, if◌then◌else◌};
 ghost use Rattle.rr_game.specs.Keeping.{IsGameOf};
 ghost use Rattle.rr_game.specs.Play.{begins_with_opening};
@@ -25,6 +25,7 @@ pub(crate) fn replay(
 ) -> Result<Game, Fault>
     requires some { 1 ≤ count }
     requires within { count ≤ length kept.now.commands }
+    ensures played { IfOk result (λ new. new.played ≡ count) }
     ensures game { IfOk result (λ game. IsGameOf kit.now (take count kept.now.commands) game) }
     ensures memory { ∥ ArePlayed kit.now (take count kept.now.commands) ∥₁ → IsOkUnless result Fault.OutOfMemory }
 {
@@ -53,7 +54,7 @@ fn opened(alloc: Global, opening: &Command, kit: &Kit) -> Result<Game, Fault>
 /// # Errors
 ///
 /// `OutOfMemory`; and what the game refuses, which doesn't come where the commands were played.
-fn play_on(
+pub(crate) fn play_on(
     alloc: Global,
     game: Game,
     kept: &KeptCommands,

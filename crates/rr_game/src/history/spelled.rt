@@ -78,8 +78,8 @@ fn written(alloc: Global, command: &Command) -> Result<Vec<u8>, Fault>
     }
 }
 
-// Whether a table can keep the words.
-fn is_short(words: &[u8]) -> bool
+/// Whether a table can keep the words.
+pub(crate) fn is_short(words: &[u8]) -> bool
     ensures { IsTrue result ↔ IsShort words.now }
 {
     words.len() <= LONGEST_COMMAND

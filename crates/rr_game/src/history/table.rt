@@ -1,7 +1,8 @@
 ghost use Rattle.std.specs.Prelude.{◌≡◌, ◌+◌, ◌<◌, ◌≤◌, ◌++◌, [], ◌∷◌, None, Some, ◌&&◌, true, nat_le, length, take, option_to_list, unwrap_or, IfOk, IfSome, IsOk, IfErr, OnOk, OnErr, IsOkUnless, MatchResult};
 ghost use Rattle.rr_turns.specs.declared.limits.TheConstants.{LAST_STAMP, MOST_COMMANDS};
 ghost use Rattle.rr_code.specs.Command.{IsCommand};
-ghost use Rattle.rr_game.specs.History.Changing.{Fits, IsChangeBy, KeepsBy, game_after, kept_with};
+ghost use Rattle.rr_game.specs.History.Changing.{Fits, IsChangeBy, KeepsBy, game_after, kept_with, snapshots_after};
+ghost use Rattle.rr_game.specs.Keeping.{IsGameOf};
 ghost use Rattle.rr_game.specs.History.Spelling.{HasRoom};
 ghost use Rattle.rr_game.specs.Turning.{ends_turn};
 ghost use Rattle.rr_game.specs.History.Verdict.{IsNoWantOfMemory, IsOfForm, is_kept_turn, own_judgement, request_judgement, stamp_verdict, turn_verdict};
@@ -12,15 +13,16 @@ use crate::Game;
 use crate::history::change::Change;
 use crate::history::fault::Fault;
 use crate::history::kept::KeptCommands;
-use crate::history::replaying::replay;
+use crate::history::replaying::{play_on, replay};
+use crate::history::snapshots::{Snapshot, least_named, nearest};
 use crate::history::spelled::Spelled;
 use rr_code::{Command, Players};
 use rr_kit::Kit;
 use rr_turns::{LAST_STAMP, MOST_COMMANDS, Request};
 use std::alloc::Global;
 
-/// A table: the commands that it keeps, the least turn to which it can be taken back, its stamp, and the game that its
-/// commands make. The kit is lent to each call: the one with which the table opened, always.
+/// A table: the commands that it keeps, the least turn to which it can be taken back, its stamp, the game that its
+/// commands make, and snapshots of that game. The kit is lent to each call: the one with which the table opened, always.
 #[derive(Drop)]
 pub struct Table {
     pub(crate) game: Game,
@@ -33,7 +35,7 @@ pub struct Table {
 }
 
 impl Table {
-    ghost use Rattle.rr_game.specs.History.Tables.{HasRoomFor, IsPlayed, kept_in, turns_in};
+    ghost use Rattle.rr_game.specs.History.Tables.{HasItsSnapshots, HasRoomFor, IsPlayed, ShowsBy, kept_in, turns_in};
     ghost use Rattle.rr_code.specs.declared.command.Command.{Command as Line};
     ghost use Rattle.rr_kit.specs.declared.kit.Kit.{Kit as AnyKit};
     ghost use Rattle.rr_turns.specs.declared.request.Request.{Request as AnyRequest};
@@ -47,12 +49,13 @@ impl Table {
         ensures kept { IfOk result (λ table. kept_in table ≡
             kept_of (ends_turn kit.now) (Request.Play (Command.Open players.now) ∷ [])) }
         ensures played { IfOk result (λ table. IsPlayed kit.now table) }
+        ensures named { IfOk result HasItsSnapshots }
         ensures memory { IsOkUnless result Fault.OutOfMemory }
     {
         let opening = Spelled::of(alloc, &opening_of(players))?;
         let mut kept = KeptCommands::new(alloc);
         kept.reserve(&opening)?;
-        kept.push(&opening);
+        kept.push(&opening, None);
         let game = Game::open(alloc, *players, kit)?;
         Ok(Table {
             game,
@@ -82,6 +85,7 @@ impl Table {
         ensures kept { OnOk result (kept_in self.new ≡
             kept_after (ends_turn kit.now) (kept_in self.old) (Request.Play command.now)) }
         ensures played { IsPlayed kit.now self.old → IsPlayed kit.now self.new }
+        ensures named { IsPlayed kit.now self.old → HasItsSnapshots self.old → HasItsSnapshots self.new }
         ensures err { OnErr result (self.new ≡ self.old) }
     {
         self.judge_stamp(stamp)?;
@@ -92,7 +96,7 @@ impl Table {
     }
 
     /// Takes the table back to the end of a turn: what was played since is dropped, also where that is a part of the
-    /// turn after. The commands that are kept are played again from the opening. A refusal leaves the table as it is.
+    /// turn after. The game is played on from the nearest snapshot, or from the opening. A refusal leaves the table as it is.
     ///
     /// # Errors
     ///
@@ -111,6 +115,7 @@ impl Table {
         ensures kept { OnOk result (IsPlayed kit.now self.old → kept_in self.new ≡
             kept_after (ends_turn kit.now) (kept_in self.old) (Request.Back turn)) }
         ensures played { IsPlayed kit.now self.old → IsPlayed kit.now self.new }
+        ensures named { IsPlayed kit.now self.old → HasItsSnapshots self.old → HasItsSnapshots self.new }
         ensures err { OnErr result (self.new ≡ self.old) }
     {
         let change = self.judge(alloc, stamp, &Request::Back(turn), kit)?;
@@ -132,6 +137,7 @@ impl Table {
         ensures kept { OnOk result ((kit : AnyKit) → kept_in self.new ≡
             kept_after (ends_turn kit) (kept_in self.old) (Request.Forget turn)) }
         ensures played { (kit : AnyKit) → IsPlayed kit self.old → IsPlayed kit self.new }
+        ensures named { (kit : AnyKit) → IsPlayed kit self.old → HasItsSnapshots self.old → HasItsSnapshots self.new }
         ensures err { OnErr result (self.new ≡ self.old) }
     {
         self.judge_stamp(stamp)?;
@@ -162,6 +168,7 @@ impl Table {
         ensures change { IfOk result (λ change. IsPlayed kit.now self.now →
             IsChangeBy kit.now (kept_in self.now) request.now change) }
         ensures kept { IfOk result (λ change. KeepsBy kit.now (kept_in self.now) (turns_in self.now) request.now change) }
+        ensures shows { IfOk result (λ change. ShowsBy self.now request.now change) }
         ensures fits { IfOk result (λ change. Fits (kept_in self.now) change) }
     {
         self.judge_stamp(stamp)?;
@@ -173,7 +180,7 @@ impl Table {
     }
 
     /// Takes room for what a change adds, so that `take` wants no memory. What the table keeps stays, and its game. A
-    /// change that adds no command wants no room.
+    /// change that adds no command wants no room, and one that does room for a snapshot, too.
     ///
     /// # Errors
     ///
@@ -182,6 +189,8 @@ impl Table {
         ensures room { OnOk result (HasRoomFor self.new change.now) }
         ensures kept { kept_in self.new ≡ kept_in self.old }
         ensures game { self.new.game ≡ self.old.game }
+        ensures snapshots { self.new.kept.snapshots ≡ self.old.kept.snapshots }
+        ensures played { (kit : AnyKit) → IsPlayed kit self.old → IsPlayed kit self.new }
         ensures alone { change.now.added ≡ None → IsOk result }
         ensures memory { IsOkUnless result Fault.OutOfMemory }
         ensures err { OnErr result (self.new ≡ self.old) }
@@ -198,14 +207,23 @@ impl Table {
         requires room { HasRoomFor self.old change }
         ensures kept { kept_in self.new ≡ kept_with (kept_in self.old) change }
         ensures game { self.new.game ≡ game_after self.old.game change }
+        ensures snapshots { self.new.kept.snapshots ≡ snapshots_after self.old.kept.snapshots change }
+        ensures played { (kit : AnyKit) (request : AnyRequest Line) → IsPlayed kit self.old →
+            IsChangeBy kit (kept_in self.old) request change → IsPlayed kit self.new }
+        ensures named { (kit : AnyKit) (request : AnyRequest Line) → IsPlayed kit self.old →
+            IsChangeBy kit (kept_in self.old) request change → ShowsBy self.old request change →
+            HasItsSnapshots self.old → HasItsSnapshots self.new }
     {
         let Change {
             stay,
+            least,
             added,
+            snapshot,
             game,
             floor,
         } = change;
-        replace_end(&mut self.kept, stay, added);
+        self.kept.keep_snapshots(least, stay);
+        replace_end(&mut self.kept, stay, added, snapshot);
         replace_game(&mut self.game, game);
         self.floor = floor;
         self.stamp += 1;
@@ -236,6 +254,7 @@ impl Table {
             IsChangeBy kit.now (kept_in self.now) (Request.Play command.now) change) }
         ensures kept { IfOk result (λ change.
             KeepsBy kit.now (kept_in self.now) (turns_in self.now) (Request.Play command.now) change) }
+        ensures shows { IfOk result (λ change. ShowsBy self.now (Request.Play command.now) change) }
         ensures fits { IfOk result (λ change. Fits (kept_in self.now) change) }
     {
         let count = self.kept.len();
@@ -244,9 +263,12 @@ impl Table {
         }
         let game = self.game.step(alloc, command, kit)?;
         let added = Spelled::of(alloc, command)?;
+        let snapshot = Snapshot::if_due(alloc, &game)?;
         Ok(Change {
             stay: count,
+            least: 0,
             added: Some(added),
+            snapshot,
             game: Some(game),
             floor: self.floor,
         })
@@ -260,19 +282,40 @@ impl Table {
         ensures change { IfOk result (λ change. IsPlayed kit.now self.now →
             IsChangeBy kit.now (kept_in self.now) (Request.Back turn) change) }
         ensures kept { IfOk result (λ change. KeepsBy kit.now (kept_in self.now) (turns_in self.now) (Request.Back turn) change) }
+        ensures shows { IfOk result (λ change. ShowsBy self.now (Request.Back turn) change) }
         ensures fits { IfOk result (λ change. Fits (kept_in self.now) change) }
     {
         if !self.keeps(turn) {
             return Err(Fault::TurnNotKept);
         }
         let stay = self.game.played_at(turn).unwrap();
-        let game = replay(alloc, &self.kept, stay, kit)?;
+        let game = self.game_at(alloc, stay, kit)?;
         Ok(Change {
             stay,
+            least: 0,
             added: None,
+            snapshot: None,
             game: Some(game),
             floor: self.floor,
         })
+    }
+
+    // The game of the first so many commands: played on from the nearest snapshot, or from the opening where there is none.
+    fn game_at(&self, alloc: Global, count: usize, kit: &Kit) -> Result<Game, Fault>
+        requires some { 1 ≤ count }
+        requires within { count ≤ length self.now.kept.commands }
+        ensures played { IfOk result (λ game. game.played ≡ count) }
+        ensures game { IfOk result (λ game. IsPlayed kit.now self.now →
+            IsGameOf kit.now (take count self.now.kept.commands) game) }
+        ensures memory { IsPlayed kit.now self.now → IsOkUnless result Fault.OutOfMemory }
+    {
+        match nearest(self.kept.snapshots(), count) {
+            Some(snapshot) => {
+                let game = snapshot.game(alloc)?;
+                play_on(alloc, game, &self.kept, count, kit)
+            }
+            None => replay(alloc, &self.kept, count, kit),
+        }
     }
 
     fn judge_forget(&self, turn: u64) -> Result<Change, Fault>
@@ -284,22 +327,26 @@ impl Table {
             IsChangeBy kit (kept_in self.now) (Request.Forget turn) change) }
         ensures kept { IfOk result (λ change. (kit : AnyKit) →
             KeepsBy kit (kept_in self.now) (turns_in self.now) (Request.Forget turn) change) }
+        ensures shows { IfOk result (λ change. ShowsBy self.now (Request.Forget turn) change) }
         ensures alone { IfOk result (λ change. change.added ≡ None) }
         ensures fits { IfOk result (λ change. Fits (kept_in self.now) change) }
     {
         if !self.keeps(turn) {
             return Err(Fault::TurnNotKept);
         }
+        let count = self.game.played_at(turn).unwrap();
         Ok(Change {
             stay: self.kept.len(),
+            least: least_named(count),
             added: None,
+            snapshot: None,
             game: None,
             floor: turn,
         })
     }
 
     /// The turn has ended, and it isn't forgotten.
-    #[tactic(auto, using(crate::proofs::HistoryLemmas::Plays::turns_ended))]
+    #[tactic(auto, using(crate::proofs::HistoryLemmas::Plays::turns_played))]
     fn keeps(&self, turn: u64) -> bool
         ensures value { result ≡ (nat_le self.now.floor turn && nat_le turn (turns_in self.now)) }
         ensures ended { result ≡ true → turn < length self.now.game.ends }
@@ -318,15 +365,22 @@ fn opening_of(players: &Players) -> Command<'static>
     Command::Open { players: *players }
 }
 
-/// Keeps the first so many commands, and one that is added, for which there is room.
-fn replace_end(kept: &mut KeptCommands, stay: usize, added: Option<Spelled>)
+/// Keeps the first so many commands, and one that is added with its snapshot, for which there is room.
+fn replace_end(
+    kept: &mut KeptCommands,
+    stay: usize,
+    added: Option<Spelled>,
+    snapshot: Option<Snapshot>,
+)
     requires room { IfSome added (HasRoom kept.old) }
     requires few { length (take stay kept.old.commands ++ option_to_list added) ≤ MOST_COMMANDS }
-    ensures { kept.new.commands ≡ take stay kept.old.commands ++ option_to_list added }
+    requires alone { added ≡ None → snapshot ≡ None }
+    ensures commands { kept.new.commands ≡ take stay kept.old.commands ++ option_to_list added }
+    ensures snapshots { kept.new.snapshots ≡ kept.old.snapshots ++ option_to_list snapshot }
 {
     kept.truncate(stay);
     if let Some(command) = added {
-        kept.push(&command);
+        kept.push(&command, snapshot);
     }
 }
 

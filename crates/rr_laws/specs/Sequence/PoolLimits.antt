@@ -1,7 +1,7 @@
 -- How much of each corporation the pool has.
 use Rattle.std.specs.Prelude.{◌≡◌, ◌++◌, List, None}
 use Rattle.rr_roster.specs.Terms.{Terms}
-use Rattle.rr_chart.specs.Chart.{Row}
+use Rattle.rr_roster.specs.Chart.Chart.{Row}
 use Rattle.rr_books.specs.declared.acts.Act.{Act}
 use Rattle.rr_books.specs.Book.{Book}
 use Rattle.rr_laws.specs.Sequence.Sequence.{entries_of}

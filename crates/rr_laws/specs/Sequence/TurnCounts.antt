@@ -1,7 +1,7 @@
 -- How many turns end and how many stock rounds begin by one command.
 use Rattle.std.specs.Prelude.{◌≤◌, List, count_by}
 use Rattle.rr_roster.specs.Terms.{Terms}
-use Rattle.rr_chart.specs.Chart.{Row}
+use Rattle.rr_roster.specs.Chart.Chart.{Row}
 use Rattle.rr_books.specs.declared.acts.Act.{Act}
 use Rattle.rr_books.specs.Book.{Book}
 use Rattle.rr_rounds.specs.Round.{begins_stock_round, ends_turn}

@@ -1,7 +1,7 @@
 -- What a lawful command of a stock round adds with what follows on it, told as one effect.
 use Rattle.std.specs.Prelude.{◌≡◌, Bool, List, [], ◌∷◌, None, if◌then◌else◌}
 use Rattle.rr_roster.specs.Terms.{Terms}
-use Rattle.rr_chart.specs.Chart.{Row}
+use Rattle.rr_roster.specs.Chart.Chart.{Row}
 use Rattle.rr_books.specs.declared.parties.Seat.{Seat}
 use Rattle.rr_books.specs.declared.entries.Entry.TheVariants as E
 use Rattle.rr_books.specs.declared.entries.Marker.TheVariants as M

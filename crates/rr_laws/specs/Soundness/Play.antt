@@ -1,7 +1,7 @@
 -- Plays from the opening of a table on: the auction, and then stock rounds.
 use Rattle.std.specs.Prelude.{ℕ, ◌≤◌, List, length}
 use Rattle.rr_roster.specs.Terms.{IsOrder, Terms, order_of}
-use Rattle.rr_chart.specs.Chart.{Row}
+use Rattle.rr_roster.specs.Chart.Chart.{Row}
 use Rattle.rr_books.specs.declared.acts.Act.{Act}
 use Rattle.rr_books.specs.Book.{Book}
 use Rattle.rr_auction.specs.Opening.{opened}

@@ -2,9 +2,9 @@
 use Rattle.std.proofs.Common.{◌≡◌, ℕ, zero, suc, ◌+◌, ◌^◌, ◌<◌, ◌≤◌, Bool, false, List, [], ◌∷◌, ◌++◌, length, map, refl, sym, ◌∙◌, ap, subst, arith, length-append}
 use Rattle.std.proofs.lemmas.List.{length-map}
 use Rattle.std.proofs.lemmas.List.Elements.{All-nil}
-use Rattle.rr_reading.specs.Dir.Directory.{IsDirectory, IsText, IsTable, spelling, spelled_chain}
-use Rattle.rr_reading.specs.Dir.Number.{spelled_number}
-use Rattle.rr_reading.proofs.DirLemmas.NumberLemmas.{length-spelled_number}
+use Rattle.rr_reading.specs.Dir.Directory.{IsDirectory, IsSnapshot, IsText, IsTable, spelling, spelled_chain}
+use Rattle.rr_words.specs.Spelling.Number.{spelled_number}
+use Rattle.rr_words.proofs.SpellingLemmas.NumberLemmas.{length-spelled_number}
 use Rattle.rr_reading.specs.declared.dir.directory.ChainRef.{ChainRef}
 use Rattle.rr_reading.specs.declared.dir.directory.KitChains.{KitChains}
 use Rattle.rr_pages.specs.Roots.{IsKnownVersion}
@@ -25,8 +25,8 @@ use Rattle.rr_pages.specs.Laying.{AllStand, head_of, laid, joined, FitEach, FitP
 use Rattle.rr_pages.specs.Writing.{fresh_of, IsLaid}
 use Rattle.rr_pages.proofs.SetLemmas.{empty_has}
 use Rattle.rr_reading.specs.Held.{TextChains}
-use Rattle.rr_reading.specs.Worlds.Spelling.{Spells, worlds, ref_of, directory_for, bytes_for, HoldTexts}
-use Rattle.rr_reading.specs.Worlds.World.{World}
+use Rattle.rr_reading.specs.Worlds.Spelling.{HoldTexts, Spells, TableChains, bytes_for, directory_for, ref_of, worlds}
+use Rattle.rr_reading.specs.Worlds.World.{IsShown, Snapshot, World, WorldRules}
 use Rattle.rr_reading.proofs.WorldLemmas.ReadBack.{read_back}
 use Rattle.rr_log.specs.Formatting.InTurn.{pages_from, AreInTurn}
 use Rattle.rr_log.specs.Formatting.Kit.{IsRefTo, IsKitLaid}
@@ -107,9 +107,13 @@ counted_up : (page n : ℕ) → 1 ≤ n → pages_up_to (pages_from page n) ≡ 
 counted_up page zero some = absurd (omega (arith, some))
 counted_up page (suc n) some = up_to page n
 
+-- there is no table, and so no snapshot
+abbrev no_chains : TableChains
+no_chains = record { tables = []; snapshots = [] }
+
 -- what stands before the first root: nothing
-abbrev before : (takes : List ℕ → World → World → Type 0) → World → Layout (worlds takes)
-before takes world =
+abbrev before : (rules : WorldRules) → World → Layout (worlds rules)
+before rules world =
     formatted false (record { number = 0; directory = 0; half = Second; first = 1; pages = 0; version = 1 })
     (record { directory = record { pages = []; text = [] }; chains = [] }) world
 
@@ -121,11 +125,11 @@ version_known : (version : Version) → IsKnownVersion (version_number version)
 unfolding IsKnownVersion
 version_known One = refl
 
-module _ (takes : List ℕ → World → World → Type 0) (version : Version) (present coming between after : List Bool) (fresh more : List FreshPage)
+module _ (rules : WorldRules) (version : Version) (present coming between after : List Bool) (fresh more : List FreshPage)
     (chart roster tiles board bytes : List ℕ) (kit : KitChains) (head : ℕ)
     (is_kit : IsKitLaid present coming between fresh (empty_world chart roster tiles board) kit)
     (is : IsLaid present between after bytes fresh more head)
-    (spelled : bytes ≡ spelling version (record { kit = kit; tables = [] })) (turn : AreInTurn present coming 0)
+    (spelled : bytes ≡ spelling version (record { kit = kit; tables = []; snapshots = [] })) (turn : AreInTurn present coming 0)
     (chart_short : length chart ≤ 65536) (roster_short : length roster ≤ 65536) (tiles_short : length tiles ≤ 65536)
     (board_short : length board ≤ 65536) (few : length more ≤ 1000) where
   abbrev world : World
@@ -140,13 +144,13 @@ module _ (takes : List ℕ → World → World → Type 0) (version : Version) (
   last : OneLaid present coming after more kit_chains bytes head
   last = one_more_laid present coming between after fresh more kit_chains bytes head is_kit.laid is
 
-  same_kit : kit ≡ (directory_for texts [] world).kit
+  same_kit : kit ≡ (directory_for texts no_chains world []).kit
   same_kit = λ i. record { chart = is_kit.to_chart.named i; roster = is_kit.to_roster.named i; tiles = is_kit.to_tiles.named i; board = is_kit.to_board.named i }
 
-  same_bytes : joined last.chain.pieces ≡ bytes_for version texts [] world
-  same_bytes = last.whole ∙ (spelled ∙ ap (λ (k : KitChains). spelling version (record { kit = k; tables = [] })) same_kit)
+  same_bytes : joined last.chain.pieces ≡ bytes_for version texts no_chains world []
+  same_bytes = last.whole ∙ (spelled ∙ ap (λ (k : KitChains). spelling version (record { kit = k; tables = []; snapshots = [] })) same_kit)
 
-  is_directory : IsDirectory (directory_for texts [] world)
+  is_directory : IsDirectory (directory_for texts no_chains world [])
   is_directory =
       let fit = is_kit.laid.fit in
       record {
@@ -157,11 +161,12 @@ module _ (takes : List ℕ → World → World → Type 0) (version : Version) (
           is_board = is_text is_kit.board board fit.1.1.1.0 is_kit.to_board.whole board_short;
         };
         are_tables = record { each = All-nil IsTable; own_names = λ i j d order within. absurd (omega (arith, within)); few = omega arith };
+        are_snapshots = record { each = All-nil (IsSnapshot []); rising = λ i j d order within. absurd (omega (arith, within)); few = omega arith };
       }
 
-  holds_texts : HoldTexts texts [] world
+  holds_texts : HoldTexts texts no_chains world []
   holds_texts =
-      record { of_chart = is_kit.to_chart.whole; of_roster = is_kit.to_roster.whole; of_tiles = is_kit.to_tiles.whole; of_board = is_kit.to_board.whole; of_tables = refl }
+      record { of_chart = is_kit.to_chart.whole; of_roster = is_kit.to_roster.whole; of_tiles = is_kit.to_tiles.whole; of_board = is_kit.to_board.whole; of_tables = refl; of_snapshots = refl }
 
   abbrev chains : List LaidChain
   chains = kit_chains ++ last.chain ∷ []
@@ -176,10 +181,10 @@ module _ (takes : List ℕ → World → World → Type 0) (version : Version) (
   some_pages : 1 ≤ length more
   some_pages = omega (arith, laid_length present between after bytes fresh more head is, is.fit.some)
 
-  is_made : IsMade (worlds takes) (before takes world) (first_root version head (length more)) last.chain
+  is_made : IsMade (worlds rules) (before rules world) (first_root version head (length more)) last.chain
       (Fresh is_kit.chart ∷ Fresh is_kit.roster ∷ Fresh is_kit.tiles ∷ Fresh is_kit.board ∷ [])
   is_made =
-      let read = read_back version texts [] world holds_texts tt is_directory in
+      let read = read_back rules version texts no_chains world [] holds_texts tt (All-nil (λ (snapshot : Snapshot). IsShown rules world snapshot.table snapshot.kept snapshot.bytes)) is_directory in
       let up : pages_up_to (laid_pages chains) ≡ 514 + length more = ap (λ (pages : List ℕ). pages_up_to pages) laid_turn ∙ counted_up 514 (length more) some_pages in
       record {
         next = record { number = omega arith; half = refl; first = refl };
@@ -195,13 +200,13 @@ module _ (takes : List ℕ → World → World → Type 0) (version : Version) (
         free = (laid_are_free present coming after [] [] more chains turn.marks (empty_has present turn.no_root) turn.taken last.laid).0;
         kept = tt;
         named = subst (λ (b : List ℕ). Heads (version_number version) b (heads_of (laid_as is_kit.chart ∷ laid_as is_kit.roster ∷ laid_as is_kit.tiles ∷ laid_as is_kit.board ∷ []))) (sym same_bytes) read.named;
-        spells = subst (λ (b : List ℕ). Spells (version_number version) b (texts_of (laid_as is_kit.chart ∷ laid_as is_kit.roster ∷ laid_as is_kit.tiles ∷ laid_as is_kit.board ∷ [])) world) (sym same_bytes) read.spells;
+        spells = subst (λ (b : List ℕ). Spells rules (version_number version) b (texts_of (laid_as is_kit.chart ∷ laid_as is_kit.roster ∷ laid_as is_kit.tiles ∷ laid_as is_kit.board ∷ [])) world) (sym same_bytes) read.spells;
       }
 
-  pub is_new_file : IsNewFile takes (first_root version head (length more)) more world
+  pub is_new_file : IsNewFile rules (first_root version head (length more)) more world
   is_new_file =
       let drafts = Fresh is_kit.chart ∷ Fresh is_kit.roster ∷ Fresh is_kit.tiles ∷ Fresh is_kit.board ∷ [] in
-      let plan = made_is_plan (worlds takes) (before takes world) (first_root version head (length more)) last.chain drafts is_made tt tt in
+      let plan = made_is_plan (worlds rules) (before rules world) (first_root version head (length more)) last.chain drafts is_made tt tt in
       record {
         holding = (plan_made (first_root version head (length more)) last.chain drafts).holding;
         first_root = record { number = refl; half = refl; first = refl; version = version_known version };
@@ -216,18 +221,19 @@ module _ (takes : List ℕ → World → World → Type 0) (version : Version) (
 chain_bytes : (chain : ChainRef) → length (spelled_chain chain) ≡ 12
 chain_bytes chain = omega (arith, length-append (spelled_number 8 chain.head) (spelled_number 4 chain.length), length-spelled_number 8 chain.head, length-spelled_number 4 chain.length)
 
-directory_bytes : (version : Version) (kit : KitChains) (bytes : List ℕ) → bytes ≡ spelling version (record { kit = kit; tables = [] }) → length bytes ≡ 50
+directory_bytes : (version : Version) (kit : KitChains) (bytes : List ℕ) → bytes ≡ spelling version (record { kit = kit; tables = []; snapshots = [] }) → length bytes ≡ 50
 directory_bytes One kit bytes is =
     let a = spelled_chain kit.chart in
     let b = spelled_chain kit.roster in
     let c = spelled_chain kit.tiles in
     let d = spelled_chain kit.board in
-    let t = spelled_number 2 0 ++ [] in
-    omega (arith, ap (λ (xs : List ℕ). length xs) is, length-append (a ++ (b ++ (c ++ d))) t, length-append a (b ++ (c ++ d)), length-append b (c ++ d), length-append c d, chain_bytes kit.chart, chain_bytes kit.roster, chain_bytes kit.tiles, chain_bytes kit.board, length-append (spelled_number 2 0) [], length-spelled_number 2 0)
+    let n = spelled_number 2 0 ++ [] in
+    let t = n ++ [] in
+    omega (arith, ap (λ (xs : List ℕ). length xs) is, length-append (a ++ (b ++ (c ++ d))) t, length-append a (b ++ (c ++ d)), length-append b (c ++ d), length-append c d, chain_bytes kit.chart, chain_bytes kit.roster, chain_bytes kit.tiles, chain_bytes kit.board, length-append n [], length-append (spelled_number 2 0) [], length-spelled_number 2 0)
 
-pub directory_few : (version : Version) (kit : KitChains) (bytes : List ℕ) → bytes ≡ spelling version (record { kit = kit; tables = [] }) → length bytes ≤ 65536
+pub directory_few : (version : Version) (kit : KitChains) (bytes : List ℕ) → bytes ≡ spelling version (record { kit = kit; tables = []; snapshots = [] }) → length bytes ≤ 65536
 directory_few version kit bytes is = omega (arith, directory_bytes version kit bytes is)
 
 -- and so one page
-pub directory_page : (version : Version) (kit : KitChains) (bytes : List ℕ) → bytes ≡ spelling version (record { kit = kit; tables = [] }) → pages_for (length bytes) ≡ 1
+pub directory_page : (version : Version) (kit : KitChains) (bytes : List ℕ) → bytes ≡ spelling version (record { kit = kit; tables = []; snapshots = [] }) → pages_for (length bytes) ≡ 1
 directory_page version kit bytes is = ap pages_for (directory_bytes version kit bytes is)

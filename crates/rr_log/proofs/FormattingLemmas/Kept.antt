@@ -1,5 +1,5 @@
 -- A new file that stands whole keeps its world.
-use Rattle.std.proofs.Common.{ℕ, ◌*◌, ◌<◌, Bool, true, false, not, List, [], ◌∷◌, ◌++◌, arith}
+use Rattle.std.proofs.Common.{ℕ, ◌*◌, ◌<◌, false, List, [], ◌∷◌, ◌++◌, arith}
 use Rattle.rr_images.specs.Holding.{pages_of}
 use Rattle.rr_images.specs.Layout.{Spelled}
 use Rattle.rr_images.proofs.OneWorld.{formatted_keep}
@@ -12,7 +12,7 @@ use Rattle.rr_pages.specs.Roots.{Shut, IsSound, IsTaken, FitsFields}
 use Rattle.rr_pages.proofs.RootSpelling.{root_stands}
 use Rattle.rr_pages.proofs.Versions.{known_fits}
 use Rattle.rr_reading.specs.Worlds.Spelling.{worlds}
-use Rattle.rr_reading.specs.Worlds.World.{World}
+use Rattle.rr_reading.specs.Worlds.World.{World, WorldRules}
 use Rattle.rr_log.specs.Formatting.Formatted.{HasNewBytes, IsFormatted}
 use Rattle.rr_log.specs.Formatting.NewFile.{IsNewFile}
 use Rattle.rr_pages.specs.declared.journal.layout.HalfIndex.TheVariants.{First, Second}
@@ -29,10 +29,10 @@ module _ (root : Root) (fresh : List FreshPage) (file : List ℕ) (has : HasNewB
   half_shut First open_gate = omega (arith, has.zeros (4096 * 2) (omega arith) (omega arith), open_gate)
   half_shut Second open_gate = omega (arith, has.zeros (4096 * 258) (omega arith) (omega arith), open_gate)
 
-  pub new_file_kept : (takes : List ℕ → World → World → Type 0) (world : World) → (is : IsNewFile takes root fresh world) → IsFormatted takes root fresh is.holding world file
-  new_file_kept takes world is =
+  pub new_file_kept : (rules : WorldRules) (world : World) → (is : IsNewFile rules root fresh world) → IsFormatted rules root fresh is.holding world file
+  new_file_kept rules world is =
       let sound : IsSound file root = is.sound file (omega (arith, has.ends)) in
-      let spelled : Spelled (worlds takes) file root is.holding world = is.spells file has.pages in
+      let spelled : Spelled (worlds rules) file root is.holding world = is.spells file has.pages in
       let directory : root.directory < root.pages =
       first_under file root.directory root.pages is.holding.directory.pages is.holding.directory.text (pages_of is.holding.chains) spelled.directory spelled.in_data in
       let fits : FitsFields root =
@@ -52,5 +52,5 @@ module _ (root : Root) (fresh : List FreshPage) (file : List ℕ) (has : HasNewB
       } in
       record {
         bytes = has;
-        kept = formatted_keep (worlds takes) file false root is.holding world taken spelled (half_shut root.half) (half_shut (other_half root.half));
+        kept = formatted_keep (worlds rules) file false root is.holding world taken spelled (half_shut root.half) (half_shut (other_half root.half));
       }

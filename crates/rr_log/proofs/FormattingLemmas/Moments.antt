@@ -20,7 +20,7 @@ use Rattle.rr_pages.specs.declared.chain.FreshPage.{FreshPage}
 use Rattle.rr_pages.specs.declared.root.Root.{Root}
 use Rattle.rr_pages.proofs.RootSpelling.{length-root}
 use Rattle.rr_reading.specs.Worlds.Spelling.{worlds}
-use Rattle.rr_reading.specs.Worlds.World.{World}
+use Rattle.rr_reading.specs.Worlds.World.{World, WorldRules}
 use Rattle.rr_log.specs.Formatting.Calls.{header_calls, zero_calls, zero_page, zeros_from, page_call, root_calls, closing}
 use Rattle.rr_log.specs.Formatting.Formatted.{IsFormatted, IsNoneOrFormatted, KeepsNew, KeepsNoneOr, IsUnused, NewFilesStand}
 use Rattle.rr_log.specs.Formatting.NewFile.{IsNewFile}
@@ -98,12 +98,12 @@ spare_whole reached (x ∷ fresh) spare = All-cons (λ (page : FreshPage). lengt
 pub new_keeps : (codec : Codec) (version : ℕ) (world : codec.World) (file : List ℕ) → KeepsNew codec version world file → Keeps codec file world
 new_keeps codec version world file new = record { layout = formatted false new.root new.holding world; kept = new.kept }
 
-module _ (takes : List ℕ → World → World → Type 0) (root : Root) (fresh : List FreshPage) (world : World) (is : IsNewFile takes root fresh world) where
+module _ (rules : WorldRules) (root : Root) (fresh : List FreshPage) (world : World) (is : IsNewFile rules root fresh world) where
   -- whichever the new file is, what stands whole keeps its world
-  pub formatted_keeps : (version : ℕ) → root.version ≡ version → (image : List ℕ) → IsFormatted takes root fresh is.holding world image → KeepsNew (worlds takes) version world image
+  pub formatted_keeps : (version : ℕ) → root.version ≡ version → (image : List ℕ) → IsFormatted rules root fresh is.holding world image → KeepsNew (worlds rules) version world image
   formatted_keeps version is_version image whole = record { root = root; first = is.first_root; version_is = is_version; holding = is.holding; kept = whole.kept; ends = whole.bytes.ends }
 
-  pub none_or_keeps : (version : ℕ) → root.version ≡ version → (image : List ℕ) → IsNoneOrFormatted takes root fresh is.holding world image → KeepsNoneOr (worlds takes) version world image
+  pub none_or_keeps : (version : ℕ) → root.version ≡ version → (image : List ℕ) → IsNoneOrFormatted rules root fresh is.holding world image → KeepsNoneOr (worlds rules) version world image
   none_or_keeps version is_version image (inl none) = inl none
   none_or_keeps version is_version image (inr whole) = inr (formatted_keeps version is_version image whole)
 
@@ -112,8 +112,8 @@ module _ (takes : List ℕ → World → World → Type 0) (root : Root) (fresh 
   whole_pages = spare_whole [] fresh is.spare
 
   -- before the last gate a stop leaves no store
-  pub none_left : {past past_new : List DiskState} {old new : DiskState} → LeavesOnly past old past_new new IsNoStore → LeavesOnly past old past_new new (IsNoneOrFormatted takes root fresh is.holding world)
-  none_left leaves = weaker leaves (IsNoneOrFormatted takes root fresh is.holding world) (λ image none. inl none)
+  pub none_left : {past past_new : List DiskState} {old new : DiskState} → LeavesOnly past old past_new new IsNoStore → LeavesOnly past old past_new new (IsNoneOrFormatted rules root fresh is.holding world)
+  none_left leaves = weaker leaves (IsNoneOrFormatted rules root fresh is.holding world) (λ image none. inl none)
 
   module _ (old : Account) (empty : length old.state.content ≡ 0) where
     -- the file behind the pages, and behind the root
@@ -140,42 +140,42 @@ module _ (takes : List ℕ → World → World → Type 0) (root : Root) (fresh 
         (pages_there fresh (after_steps mid zero_calls) is.in_turn is.spare (zeros_there mid (header_there old empty))))
 
     -- the file with its gate torn: open or not
-    gate_torn : (image : List ℕ) → Torn 0 1 rooted.content image → IsNoneOrFormatted takes root fresh is.holding world image
+    gate_torn : (image : List ℕ) → Torn 0 1 rooted.content image → IsNoneOrFormatted rules root fresh is.holding world image
     gate_torn image torn =
         let second : slice_index image 4096 ≡ 0 = torn.same 4096 (omega (arith, root_there.ends)) (inr (omega arith)) ∙ root_there.zeros 4096 (omega arith) (omega arith) in
         elim (cases_eq (slice_index image 0) 0xa5) [
-          | inl open_gate ↦ inr (new_file_kept root fresh image (gate_opened rooted.content image root fresh is.in_turn is.count is.spare root_there torn open_gate) takes world is)
+          | inl open_gate ↦ inr (new_file_kept root fresh image (gate_opened rooted.content image root fresh is.in_turn is.count is.spare root_there torn open_gate) rules world is)
           | inr shut ↦ inl (Both_shut shut (λ open_gate. absurd (omega (arith, second, open_gate))))
         ]
 
     pub gate_left : {past_new : List DiskState} {new : DiskState} (past : List DiskState) (before : DiskState) → before ≡ (after_steps old (closing root fresh)).state → LeavesOnly past before past_new new (TornFrom before 0 1)
-        → LeavesOnly past before past_new new (IsNoneOrFormatted takes root fresh is.holding world)
+        → LeavesOnly past before past_new new (IsNoneOrFormatted rules root fresh is.holding world)
     gate_left past before same leaves =
-        weaker leaves (IsNoneOrFormatted takes root fresh is.holding world)
+        weaker leaves (IsNoneOrFormatted rules root fresh is.holding world)
         (λ image torn.
         let from : TornFrom (after_sync rooted) 0 1 image = subst (λ (state : DiskState). TornFrom state 0 1 image) (closed_state before same) torn in
         gate_torn image (subst (λ (file : List ℕ). Torn 0 1 file image) (only_content_of rooted from.earlier from.was) from.torn))
 
     -- behind the last call
-    pub formatted_each : (before new : DiskState) → before ≡ (after_steps old (closing root fresh)).state → new ≡ after_sync (after_write before 0 (0xa5 ∷ [])) → EachImage new (IsFormatted takes root fresh is.holding world)
+    pub formatted_each : (before new : DiskState) → before ≡ (after_steps old (closing root fresh)).state → new ≡ after_sync (after_write before 0 (0xa5 ∷ [])) → EachImage new (IsFormatted rules root fresh is.holding world)
     formatted_each before new same opened =
         let file = written rooted.content 0 (0xa5 ∷ []) in
         let open_gate : slice_index file 0 ≡ 0xa5 = stands_written rooted.content 0 (0xa5 ∷ []) 0 (omega arith) in
-        let whole = new_file_kept root fresh file (gate_opened rooted.content file root fresh is.in_turn is.count is.spare root_there (torn_whole rooted.content 0 (0xa5 ∷ [])) open_gate) takes world is in
-        subst (λ (state : DiskState). EachImage state (IsFormatted takes root fresh is.holding world))
+        let whole = new_file_kept root fresh file (gate_opened rooted.content file root fresh is.in_turn is.count is.spare root_there (torn_whole rooted.content 0 (0xa5 ∷ [])) open_gate) rules world is in
+        subst (λ (state : DiskState). EachImage state (IsFormatted rules root fresh is.holding world))
         (sym (opened ∙ ap (λ (state : DiskState). after_sync (after_write state 0 (0xa5 ∷ []))) (closed_state before same)))
-        (each_synced (after_write (after_sync rooted) 0 (0xa5 ∷ [])) (IsFormatted takes root fresh is.holding world) whole)
+        (each_synced (after_write (after_sync rooted) 0 (0xa5 ∷ [])) (IsFormatted rules root fresh is.holding world) whole)
 
     -- so on an empty disk the file comes to stand
-    stands_behind : (file : List ℕ) × IsFormatted takes root fresh is.holding world file
+    stands_behind : (file : List ℕ) × IsFormatted rules root fresh is.holding world file
     stands_behind =
         let before = (after_steps old (closing root fresh)).state in
         let opened = after_write before 0 (0xa5 ∷ []) in
         (opened.content, formatted_each before (after_sync opened) refl refl opened.content (synced_may_stay opened))
 
-pub new_files_stand : (takes : List ℕ → World → World → Type 0) → NewFilesStand takes
-new_files_stand takes root fresh world is =
-    stands_behind takes root fresh world is (record { past = []; state = record { content = []; settled = []; ranges = [] }; writes = 0; syncs = 0 }) refl
+pub new_files_stand : (rules : WorldRules) → NewFilesStand rules
+new_files_stand rules root fresh world is =
+    stands_behind rules root fresh world is (record { past = []; state = record { content = []; settled = []; ranges = [] }; writes = 0; syncs = 0 }) refl
 
 -- an empty disk on which nothing waits for a sync is unused
 pub unused_at_rest : (state : DiskState) → state.ranges ≡ [] → length state.content ≡ 0 → IsImage state state.content → IsUnused state

@@ -1,5 +1,5 @@
 -- What is read of a file that keeps a world is its layout, and an opening goes on with it.
-use Rattle.std.proofs.Common.{◌≡◌, ◌≢◌, ℕ, ◌+◌, not, List, [], ◌∷◌, length, Option, refl, sym, ◌∙◌, subst}
+use Rattle.std.proofs.Common.{◌≡◌, ◌≢◌, ℕ, ◌+◌, List, [], ◌∷◌, ◌++◌, length, Option, refl, sym, ◌∙◌, subst}
 use Rattle.rr_checkpoint.specs.declared.place.Place.{Place}
 use Rattle.rr_checkpoint.specs.declared.checkpoint.Checkpoint.{Checkpoint}
 use Rattle.rr_checkpoint.specs.Checkpoint.{progress_of}
@@ -82,7 +82,7 @@ module _ (codec : Codec) (exact : IsExact codec) (names : NamesChains codec) (fi
         holding = sym same_holding;
         near = sym same_near.0;
         far = sym same_far.0;
-        spells = subst (λ (root : Root). codec.Spells root.version has.chain.text (texts_of (chains_of has.texts has.tables)) layout.base) (sym same_taken.1)
+        spells = subst (λ (root : Root). codec.Spells root.version has.chain.text (texts_of (chains_of has.texts (has.tables ++ has.snapshots))) layout.base) (sym same_taken.1)
             (subst (λ (holding : Holding). codec.Spells layout.root.version holding.directory.text (texts_of holding.chains) layout.base) (sym same_holding) keeps.spelled.spells);
         leads = subst (λ (lines : List (List ℕ)). Replays codec layout.base lines layout.middle) (sym same_near.0) keeps.near_replayed;
         leads_on = subst (λ (lines : List (List ℕ)). Replays codec layout.middle lines world) (sym same_far.0) keeps.far_replayed;

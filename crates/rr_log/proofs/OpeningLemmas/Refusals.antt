@@ -1,5 +1,5 @@
 -- Why a file isn't opened.
-use Rattle.std.proofs.Common.{◌≡◌, inl, inr, ℕ, ◌+◌, not, List, length, refl, sym, subst}
+use Rattle.std.proofs.Common.{◌≡◌, inl, inr, ℕ, ◌+◌, List, length, refl, sym, subst}
 use Rattle.rr_images.specs.Codec.{Codec, IsExact}
 use Rattle.rr_images.specs.Layout.{Stands}
 use Rattle.rr_images.specs.Refusing.{IsRefused, No_store, Damaged_record, Near, Far}

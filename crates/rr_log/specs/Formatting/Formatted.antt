@@ -15,7 +15,7 @@ use Rattle.rr_pages.specs.declared.page.TheConstants.{PAGE_BYTES, FIRST_DATA}
 use Rattle.rr_pages.specs.declared.root.Root.{Root}
 use Rattle.rr_pages.specs.declared.root.TheConstants.{ROOT_BYTES}
 use Rattle.rr_reading.specs.Worlds.Spelling.{worlds}
-use Rattle.rr_reading.specs.Worlds.World.{World}
+use Rattle.rr_reading.specs.Worlds.World.{World, WorldRules}
 use Rattle.rr_log.specs.Formatting.NewFile.{IsFirstRoot, IsNewFile}
 
 -- The bytes of a new file: on page 0 an open gate and the root behind it, zeros up to the first data page, and then the
@@ -28,16 +28,16 @@ pub record HasNewBytes (root : Root) (fresh : List FreshPage) (file : List ℕ) 
   pub ends : length file ≡ PAGE_BYTES * root.pages  -- to the last page
 
 -- The new file stands whole, and keeps its world, without a record and with no checkpoint begun.
-pub record IsFormatted (takes : List ℕ → World → World → Type 0) (root : Root) (fresh : List FreshPage)
+pub record IsFormatted (rules : WorldRules) (root : Root) (fresh : List FreshPage)
     (holding : Holding) (world : World) (file : List ℕ) : Type 0 where
   pub bytes : HasNewBytes root fresh file
-  pub kept : KeepsAt (worlds takes) (formatted false root holding world) file world
+  pub kept : KeepsAt (worlds rules) (formatted false root holding world) file world
 
 -- A file that a stop may leave while a new one is written: no store yet, or the whole new file.
-abbrev pub IsNoneOrFormatted : (List ℕ → World → World → Type 0) → Root → List FreshPage → Holding → World → List ℕ
+abbrev pub IsNoneOrFormatted : WorldRules → Root → List FreshPage → Holding → World → List ℕ
     → Type 0
-IsNoneOrFormatted takes root fresh holding world file =
-    IsNoStore file ⊎ IsFormatted takes root fresh holding world file
+IsNoneOrFormatted rules root fresh holding world file =
+    IsNoStore file ⊎ IsFormatted rules root fresh holding world file
 
 -- The file is a new one of this version that keeps this world: on page 0 it has the first root, whose number is 1, and
 -- the first record will have number 1 and go into the first half. No record stands there yet, no checkpoint is begun,
@@ -60,7 +60,7 @@ pub record IsUnused (state : DiskState) : Type 0 where
   pub none : EachImage state IsNoStore
 
 -- each new file may stand on a device
-abbrev pub NewFilesStand : (List ℕ → World → World → Type 0) → Type 0
-NewFilesStand takes =
-    (root : Root) (fresh : List FreshPage) (world : World) → (is : IsNewFile takes root fresh world)
-    → (file : List ℕ) × IsFormatted takes root fresh is.holding world file
+abbrev pub NewFilesStand : WorldRules → Type 0
+NewFilesStand rules =
+    (root : Root) (fresh : List FreshPage) (world : World) → (is : IsNewFile rules root fresh world)
+    → (file : List ℕ) × IsFormatted rules root fresh is.holding world file

@@ -1,5 +1,5 @@
 -- What a new file holds.
-use Rattle.std.specs.Prelude.{◌≡◌, ℕ, ◌+◌, ◌*◌, ◌≤◌, false, List, [], length, map}
+use Rattle.std.specs.Prelude.{◌≡◌, ℕ, ◌+◌, ◌*◌, ◌≤◌, List, [], length, map}
 use Rattle.rr_images.specs.Holding.{Holding}
 use Rattle.rr_images.specs.Layout.{Spelled}
 use Rattle.rr_images.specs.Progress.{AreSpare}
@@ -10,7 +10,7 @@ use Rattle.rr_pages.specs.declared.chain.FreshPage.{FreshPage}
 use Rattle.rr_pages.specs.declared.page.TheConstants.{PAGE_BYTES, FIRST_DATA}
 use Rattle.rr_pages.specs.declared.root.Root.{Root}
 use Rattle.rr_reading.specs.Worlds.Spelling.{worlds}
-use Rattle.rr_reading.specs.Worlds.World.{World}
+use Rattle.rr_reading.specs.Worlds.World.{World, WorldRules}
 use Rattle.rr_log.specs.Formatting.InTurn.{pages_from}
 use Rattle.rr_pages.specs.declared.journal.layout.HalfIndex.TheVariants.{First}
 
@@ -31,7 +31,7 @@ pub record IsFirstRoot (root : Root) : Type 0 where
 
 -- The pages, of 4,096 bytes each, follow one another from the first data page to the last page of the root, and
 -- wherever they stand, they spell the world.
-pub record IsNewFile (takes : List ℕ → World → World → Type 0) (root : Root) (fresh : List FreshPage)
+pub record IsNewFile (rules : WorldRules) (root : Root) (fresh : List FreshPage)
     (world : World) : Type 0 where
   pub holding : Holding
   pub first_root : IsFirstRoot root
@@ -40,4 +40,4 @@ pub record IsNewFile (takes : List ℕ → World → World → Type 0) (root : R
   pub spare : AreSpare [] (map fresh_of fresh)
   pub sound : (file : List ℕ) → PAGE_BYTES * root.pages ≤ length file → IsSound file root
   pub spells : (file : List ℕ) → AllStand file (map fresh_of fresh)
-      → Spelled (worlds takes) file root holding world
+      → Spelled (worlds rules) file root holding world

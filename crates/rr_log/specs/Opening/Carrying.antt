@@ -1,5 +1,5 @@
 -- What an opened file carries.
-use Rattle.std.specs.Prelude.{◌≡◌, ◌≢◌}
+use Rattle.std.specs.Prelude.{◌≡◌, ◌≢◌, ◌++◌}
 use Rattle.rr_checkpoint.specs.Writer.{Carries}
 use Rattle.rr_disk.specs.Disk.{DiskState}
 use Rattle.rr_images.specs.Codec.{Codec, Replays}
@@ -19,7 +19,7 @@ pub record IsReadAs {codec : Codec} (layout : Layout codec) (has : Held) (world 
   pub holding : layout.holding ≡ holding_of has
   pub near : layout.near ≡ has.near
   pub far : far_lines layout.far ≡ has.far
-  pub spells : codec.Spells has.root.version has.chain.text (texts_of (chains_of has.texts has.tables)) layout.base
+  pub spells : codec.Spells has.root.version has.chain.text (texts_of (chains_of has.texts (has.tables ++ has.snapshots))) layout.base
   pub leads : Replays codec layout.base has.near layout.middle
   pub leads_on : Replays codec layout.middle has.far world
   pub near_whole : has.near_end ≡ Closed

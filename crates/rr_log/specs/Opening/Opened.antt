@@ -1,5 +1,5 @@
 -- What an opening gives of a file.
-use Rattle.std.specs.Prelude.{◌≡◌, ◌⊎◌, ℕ, List}
+use Rattle.std.specs.Prelude.{◌≡◌, ◌⊎◌, ℕ, List, map}
 use Rattle.rr_checkpoint.specs.Writer.{taken_of, free_of}
 use Rattle.rr_reading.specs.Dir.Directory.{directory_of}
 use Rattle.rr_pages.specs.declared.journal.reading.RunEnd.TheVariants.{Damaged}
@@ -19,6 +19,7 @@ held_by file opened =
       chain = held opened.directory;
       texts = chains_held opened.texts;
       tables = tables_in file opened.tables;
+      snapshots = map held opened.snapshots.items;
       reached = present_of (free_of opened.writer);
       near = lines opened.near.records.items;
       near_end = opened.near.end;

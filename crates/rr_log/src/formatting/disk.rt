@@ -39,10 +39,10 @@ pub fn format<R: Rules, D: Disk>(
     // Whatever a stop leaves from now on, and whatever it left since the call began.
     ensures each { OnOk result (D.Honest disk.new → length (D.state disk.old).content ≡ 0
         → EachImage (D.state disk.new)
-        (KeepsNew (worlds R.takes) NEWEST_VERSION (empty_world chart.now roster.now tiles.now board.now))) }
+        (KeepsNew (worlds R.rules) NEWEST_VERSION (empty_world chart.now roster.now tiles.now board.now))) }
     ensures any_moment { D.Honest disk.new → IsUnused (D.state disk.old)
         → LeavesOnly (D.past disk.old) (D.state disk.old) (D.past disk.new) (D.state disk.new)
-        (KeepsNoneOr (worlds R.takes) NEWEST_VERSION (empty_world chart.now roster.now tiles.now board.now)) }
+        (KeepsNoneOr (worlds R.rules) NEWEST_VERSION (empty_world chart.now roster.now tiles.now board.now)) }
 
     ensures only { NoVerdict result }
     ensures unchanged { IsErrOf result Fault.OutOfMemory → disk.new ≡ disk.old }

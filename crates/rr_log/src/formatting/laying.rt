@@ -39,7 +39,7 @@ pub fn new_file<R: Rules>(
     requires short_roster { length roster.now ≤ MOST_TEXT }
     requires short_tiles { length tiles.now ≤ MOST_TEXT }
     requires short_board { length board.now ≤ MOST_TEXT }
-    ensures holds { IfOk result (λ file. IsNewFile R.takes file.root file.fresh.items
+    ensures holds { IfOk result (λ file. IsNewFile R.rules file.root file.fresh.items
         (empty_world chart.now roster.now tiles.now board.now)) }
     ensures pages { IfOk result (λ file. length file.fresh.items
         ≡ data_pages chart.now roster.now tiles.now board.now) }
@@ -57,14 +57,15 @@ pub fn new_file<R: Rules>(
     })
 }
 
-// The bytes of a directory of this version without tables.
+// The bytes of a directory of this version without tables, and so without snapshots.
 fn directory_bytes(alloc: Global, version: Version, kit: KitChains) -> Result<Vec<u8>, Fault>
-    ensures bytes { IfOk result (λ bytes. bytes.items ≡ spelling version (record { kit = kit; tables = [] })) }
+    ensures bytes { IfOk result (λ bytes. bytes.items ≡ spelling version (record { kit = kit; tables = []; snapshots = [] })) }
     ensures memory { IfErr result (λ fault. fault ≡ Fault.OutOfMemory) }
 {
     let dir = Dir {
         kit,
         tables: Vec::new(alloc),
+        snapshots: Vec::new(alloc),
     };
     let mut bytes = Vec::new(alloc);
     if dir.write(version, &mut bytes).is_err() {

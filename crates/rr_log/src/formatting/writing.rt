@@ -32,12 +32,12 @@ pub fn write_new_file<R: Rules, D: Disk>(disk: &mut D, file: &NewFile) -> Result
 
     // Whatever a stop leaves from now on, and whatever it left since the call began.
     ensures each { OnOk result (D.Honest disk.new → length (D.state disk.old).content ≡ 0
-        → (world : World) (is : IsNewFile R.takes file.now.root file.now.fresh.items world)
-        → EachImage (D.state disk.new) (IsFormatted R.takes file.now.root file.now.fresh.items is.holding world)) }
+        → (world : World) (is : IsNewFile R.rules file.now.root file.now.fresh.items world)
+        → EachImage (D.state disk.new) (IsFormatted R.rules file.now.root file.now.fresh.items is.holding world)) }
     ensures any_moment { D.Honest disk.new → IsUnused (D.state disk.old)
-        → (world : World) (is : IsNewFile R.takes file.now.root file.now.fresh.items world)
+        → (world : World) (is : IsNewFile R.rules file.now.root file.now.fresh.items world)
         → LeavesOnly (D.past disk.old) (D.state disk.old) (D.past disk.new) (D.state disk.new)
-        (IsNoneOrFormatted R.takes file.now.root file.now.fresh.items is.holding world) }
+        (IsNoneOrFormatted R.rules file.now.root file.now.fresh.items is.holding world) }
 
     // The device calls are these in turn, a write for each page, and none is made behind one that fails.
     ensures calls { OnOk result (D.Honest disk.new → account D.Disk disk.new
@@ -54,7 +54,7 @@ pub fn write_new_file<R: Rules, D: Disk>(disk: &mut D, file: &NewFile) -> Result
 
     // A disk that works doesn't fail here.
     ensures device { OnErr result (D.Works disk.new → (world : World)
-        → IsNewFile R.takes file.now.root file.now.fresh.items world → ⊥) }
+        → IsNewFile R.rules file.now.root file.now.fresh.items world → ⊥) }
     ensures works { D.Works disk.new → D.Works disk.old }
 {
     write_closed(disk, file)?;

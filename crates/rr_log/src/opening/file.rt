@@ -128,6 +128,7 @@ fn begin<C: Codec>(alloc: Global, contents: Contents) -> Result<Opened<C>, Fault
         directory,
         texts,
         tables,
+        snapshots,
         reached,
         near,
         far,
@@ -141,6 +142,7 @@ fn begin<C: Codec>(alloc: Global, contents: Contents) -> Result<Opened<C>, Fault
         directory,
         texts,
         tables,
+        snapshots,
         near,
         far,
     })

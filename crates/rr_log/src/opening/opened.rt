@@ -19,6 +19,8 @@ pub struct Opened<C> {
     pub texts: KitTexts,
     /// The kept commands in the chain of each table, in the order of the directory: as many as that says.
     pub tables: Commands,
+    /// The bytes of the snapshots, in the order of the directory. Whether they show games isn't judged.
+    pub snapshots: Vec<ReadChain>,
     /// The records in the half that the root names, and why they end.
     pub near: Scanned,
     /// Those in the other half, numbered on.

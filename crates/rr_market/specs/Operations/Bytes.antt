@@ -1,7 +1,7 @@
 -- Stages and steps of a turn as bytes.
 use Rattle.std.specs.Prelude.{◌≡◌, ℕ, List, [], ◌∷◌, ◌++◌, refl, get_or}
 use Rattle.std.proofs.Common.{ap, sym, ◌∙◌}
-use Rattle.rr_spelling.specs.Form.{Form}
+use Rattle.rr_words.specs.Spelling.Form.{Form}
 use Rattle.rr_market.specs.declared.operations.turn.Stage.{Stage}
 use Rattle.rr_market.specs.declared.operations.turn.Stage.TheVariants as G
 use Rattle.rr_market.specs.declared.operations.turn.TurnStep.{TurnStep}

@@ -2,7 +2,7 @@
 use Rattle.std.specs.Prelude.{◌≡◌, Bool, true, false, not, ◌&&◌, List, [], ◌∷◌, Option, None, find, if◌then◌else◌}
 use Rattle.std.specs.List.{list_any}
 use Rattle.rr_roster.specs.declared.company.Corp.{Corp}
-use Rattle.rr_chart.specs.Chart.{Row}
+use Rattle.rr_roster.specs.Chart.Chart.{Row}
 use Rattle.rr_books.specs.declared.entries.Entry.{Entry}
 use Rattle.rr_books.specs.declared.entries.Entry.TheVariants as E
 use Rattle.rr_books.specs.declared.entries.Marker.TheVariants as M

@@ -1,7 +1,7 @@
 -- The plain values of operating rounds, and which values they may have.
 use Rattle.std.specs.Prelude.{ℕ, ℤ, Bool, List}
 use Rattle.std.proofs.Common.{refl}
-use Rattle.rr_spelling.specs.Form.{Form, bool_form, byte_form, form_by, number_form, pair_form, row_form, signed_form}
+use Rattle.rr_words.specs.Spelling.Form.{Form, bool_form, byte_form, form_by, number_form, pair_form, row_form, signed_form}
 use Rattle.rr_rounds.specs.declared.parts.RoundsParts.{RoundsParts}
 use Rattle.rr_rounds.specs.Parts.{AreRounds, rounds_form, rounds_of}
 use Rattle.rr_rounds.specs.Parts.{parts_of as rounds_parts}

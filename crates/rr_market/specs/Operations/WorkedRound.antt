@@ -2,9 +2,9 @@
 use Rattle.std.specs.Prelude.{◌≡◌, ℕ, pos, negsuc, true, false, List, [], ◌∷◌, ◌++◌, Option, None, Some}
 use Rattle.rr_roster.specs.declared.company.Corp.{Corp}
 use Rattle.rr_roster.specs.declared.company.Kind.TheVariants as K
-use Rattle.rr_chart.specs.Chart.{Row}
-use Rattle.rr_chart.specs.declared.cell.Cell.{Cell}
-use Rattle.rr_chart.specs.declared.cell.Zone.TheVariants as Z
+use Rattle.rr_roster.specs.Chart.Chart.{Row}
+use Rattle.rr_roster.specs.declared.chart.cell.Cell.{Cell}
+use Rattle.rr_roster.specs.declared.chart.cell.Zone.TheVariants as Z
 use Rattle.rr_books.specs.declared.parties.Party.TheVariants as P
 use Rattle.rr_books.specs.declared.parties.Place.TheVariants as L
 use Rattle.rr_books.specs.declared.entries.Entry.{Entry}

@@ -2,7 +2,7 @@
 ghost use Rattle.rr_market.specs.Operations.Bytes.{stage_form, step_form};
 
 use crate::operations::turn::{Stage, TurnStep};
-use rr_spelling::{Cursor, Spell};
+use rr_words::spelling::{Cursor, Spell};
 use std::alloc::AllocError;
 
 impl Spell for Stage {

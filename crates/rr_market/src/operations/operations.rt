@@ -15,8 +15,8 @@ use crate::Market;
 use crate::operations::phases::{phase, rounds_in_set};
 use crate::operations::turn::{Stage, TurnStep};
 use rr_books::{Act, Books, Corp, Entry, Kind, Marker, Party, starting_money};
-use rr_chart::Chart;
 use rr_roster::Roster;
+use rr_roster::chart::Chart;
 use rr_rounds::Rounds;
 use std::marker::Model;
 

@@ -7,7 +7,7 @@ use crate::operations::operations::Operations;
 use crate::operations::turn::{Stage, TurnStep};
 use crate::parts::MarketParts;
 use rr_rounds::{Rounds, RoundsParts};
-use rr_spelling::{Cursor, Spell};
+use rr_words::spelling::{Cursor, Spell};
 use std::alloc::AllocError;
 
 /// The plain values of how far the operating rounds of a table have come.

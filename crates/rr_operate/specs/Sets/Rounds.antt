@@ -1,7 +1,7 @@
 -- Operating rounds, one after another.
 use Rattle.std.specs.Prelude.{Bool, not, ◌&&◌, is_some, List, [], ◌∷◌, if◌then◌else◌}
 use Rattle.rr_roster.specs.Terms.{Terms}
-use Rattle.rr_chart.specs.Chart.{Row}
+use Rattle.rr_roster.specs.Chart.Chart.{Row}
 use Rattle.rr_books.specs.declared.entries.Entry.TheVariants as E
 use Rattle.rr_books.specs.declared.entries.Marker.TheVariants as M
 use Rattle.rr_books.specs.Book.{Book}

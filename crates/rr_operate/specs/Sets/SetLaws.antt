@@ -1,7 +1,7 @@
 -- What a round without a turn comes to.
 use Rattle.std.specs.Prelude.{◌≡◌, ◌+◌, ◌≤◌, true, false, List, ◌++◌}
 use Rattle.rr_roster.specs.Terms.{Terms}
-use Rattle.rr_chart.specs.Chart.{Row}
+use Rattle.rr_roster.specs.Chart.Chart.{Row}
 use Rattle.rr_books.specs.Book.{Book}
 use Rattle.rr_market.specs.Operations.Progress.{bank_owed, has_more_rounds, progress}
 use Rattle.rr_operate.specs.Sets.Rounds.{passes_rounds, round_is_over}

@@ -3,7 +3,7 @@ use Rattle.std.specs.Prelude.{Bool, List, [], ◌==◌, Option, None, Some, find
 use Rattle.std.specs.List.{list_any}
 use Rattle.rr_roster.specs.declared.company.Corp.{Corp}
 use Rattle.rr_roster.specs.Company.{corp_index}
-use Rattle.rr_chart.specs.Chart.{Row}
+use Rattle.rr_roster.specs.Chart.Chart.{Row}
 use Rattle.rr_books.specs.declared.entries.Entry.TheVariants as E
 use Rattle.rr_kit.specs.declared.board.hex.Home.{Home}
 use Rattle.rr_desk.specs.Effects.{Effect, adds, in_turn}

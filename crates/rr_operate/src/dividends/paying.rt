@@ -9,8 +9,8 @@ ghost use Rattle.rr_operate.specs.Dividends.Dividends.{marks, part, pay_verdict,
 ghost use Rattle.rr_books.specs.declared.refusal.Refusal.TheVariants as B;
 
 use rr_books::{Act, Cell, Corp, Entry, Marker, Money, Party, Place, Refusal, Seat};
-use rr_chart::Chart;
 use rr_desk::{Desk, Position};
+use rr_roster::chart::Chart;
 
 /// The greatest revenue that is paid or kept: more than all trains can earn.
 pub const MOST_REVENUE: i64 = 10_000_000_000;

@@ -4,9 +4,10 @@ use Rattle.std.specs.List.{flat_map, All}
 use Rattle.std.proofs.lemmas.List.{append-nil, take_at, drop_at}
 use Rattle.std.proofs.lemmas.List.Elements.{All-head, All-tail}
 use Rattle.byteorder.specs.Endian.{big_number}
-use Rattle.rr_reading.specs.Dir.Number.{spelled_number}
+use Rattle.rr_words.specs.Spelling.Number.{spelled_number}
 use Rattle.rr_reading.specs.Dir.Kept.{IsShort, SpellsKept, first_commands, spelled_command}
-use Rattle.rr_reading.proofs.DirLemmas.NumberLemmas.{length-spelled_number, big_number-spelled, cut_number}
+use Rattle.rr_words.proofs.SpellingLemmas.NumberLemmas.{length-spelled_number}
+use Rattle.rr_reading.proofs.DirLemmas.NumberLemmas.{big_number-spelled, cut_number}
 use Rattle.rr_reading.proofs.DirLemmas.PieceLemmas.{cut_same, one_list}
 
 pub cut_command : (v w : List ℕ) (r s : List ℕ) → IsShort v → IsShort w → spelled_command v ++ r ≡ spelled_command w ++ s → (v ≡ w) × (r ≡ s)

@@ -1,34 +1,22 @@
--- The bytes of chains, kits, tables and directories tell what they spell.
-use Rattle.std.proofs.Common.{◌≡◌, ◌≢◌, ℕ, ◌+◌, ◌<◌, ◌≤◌, List, [], ◌∷◌, ◌++◌, length, drop, get_or, length-drop, refl, sym, ap, ◌∙◌, subst, arith, length-append, append_assoc}
+-- The bytes of kits, tables and directories tell what they spell.
+use Rattle.std.proofs.Common.{◌≡◌, ◌≢◌, ℕ, ◌+◌, ◌<◌, ◌≤◌, List, [], ◌∷◌, ◌++◌, length, get_or, refl, sym, ap, ◌∙◌, subst, arith, length-append, append_assoc}
 use Rattle.std.specs.List.{flat_map, All, Any}
-use Rattle.std.proofs.lemmas.List.{append-nil, drop_all, flat_map_more, get_or_append_left, get_or_at, get_or_default}
-use Rattle.std.proofs.lemmas.List.Elements.{All-nil, All-push, All-head, All-drop}
+use Rattle.std.proofs.lemmas.List.{flat_map_more, get_or_append_left, get_or_at, get_or_default}
+use Rattle.std.proofs.lemmas.List.Elements.{All-nil, All-push}
 use Rattle.std.proofs.lemmas.List.Quantifiers.{all_pairs_push}
-use Rattle.rr_reading.specs.declared.dir.directory.ChainRef.{ChainRef}
 use Rattle.rr_reading.specs.declared.dir.directory.KitChains.{KitChains}
 use Rattle.rr_reading.specs.declared.dir.directory.TableEntry.{TableEntry}
 use Rattle.rr_reading.specs.declared.dir.version.Version.{Version}
 use Rattle.rr_reading.specs.declared.dir.version.Version.TheVariants.{One}
-use Rattle.rr_reading.specs.Dir.Number.{spelled_number}
-use Rattle.rr_reading.specs.Dir.Directory.{Directory, Spells, spelled_chain, spelled_kit, spelled_name, spelled_state, spelled_table, spelled_tables, HasChains, FitsBytes, HaveOwnNames, IsChain, IsText, IsKit, IsTable, AreTables, BeginsTables}
+use Rattle.rr_words.specs.Spelling.Number.{spelled_number}
+use Rattle.rr_reading.specs.Dir.Directory.{Directory, Spells, spelled_chain, spelled_kit, spelled_name, spelled_snapshots, spelled_state, spelled_table, spelled_tables, HasChains, FitsBytes, HaveOwnNames, IsKit, IsTable, AreTables, AreSnapshots, BeginsTables}
 use Rattle.rr_reading.specs.Dir.Heads.{Heads, heads_of}
-use Rattle.rr_reading.proofs.DirLemmas.NumberLemmas.{length-spelled_number, cut_number}
-use Rattle.rr_reading.proofs.DirLemmas.PieceLemmas.{cut_same, front_of, same_front, one_list}
+use Rattle.rr_words.proofs.SpellingLemmas.NumberLemmas.{length-spelled_number}
+use Rattle.rr_reading.proofs.DirLemmas.ChainRefLemmas.{IsChain-text, cut_chain, length-spelled_chain}
+use Rattle.rr_reading.proofs.DirLemmas.NumberLemmas.{cut_number}
+use Rattle.rr_reading.proofs.DirLemmas.PieceLemmas.{IsNext, cut_list, cut_same, next_of}
+use Rattle.rr_reading.proofs.DirLemmas.SnapshotLemmas.{one_snapshots}
 use Rattle.rr_reading.proofs.DirLemmas.VersionLemmas.{one_version}
-
-pub length-spelled_chain : (c : ChainRef) → length (spelled_chain c) ≡ 12
-length-spelled_chain c = omega (arith, length-append (spelled_number 8 c.head) (spelled_number 4 c.length), length-spelled_number 8 c.head, length-spelled_number 4 c.length)
-
-pub cut_chain : (c d : ChainRef) (r s : List ℕ) → IsChain c → IsChain d → spelled_chain c ++ r ≡ spelled_chain d ++ s → (c ≡ d) × (r ≡ s)
-cut_chain c d r s is_c is_d same =
-    let there : spelled_number 8 c.head ++ (spelled_number 4 c.length ++ r) ≡ spelled_number 8 d.head ++ (spelled_number 4 d.length ++ s) =
-    sym (append_assoc (spelled_number 8 c.head) (spelled_number 4 c.length) r) ∙ same ∙ append_assoc (spelled_number 8 d.head) (spelled_number 4 d.length) s in
-    let head = cut_number 8 c.head d.head _ _ (omega (arith, is_c.page)) (omega (arith, is_d.page)) there in
-    let long = cut_number 4 c.length d.length r s (omega (arith, is_c.long)) (omega (arith, is_d.long)) head.1 in
-    (λ i. record { head = head.0 i; length = long.0 i }, long.1)
-
-pub IsChain-text : (c : ChainRef) → IsText c → IsChain c
-IsChain-text c is = record { page = is.page; long = omega (arith, is.short) }
 
 pub HasChains-kit : (k : KitChains) → IsKit k → HasChains k
 HasChains-kit k is = record { is_chart = IsChain-text k.chart is.is_chart; is_roster = IsChain-text k.roster is.is_roster; is_tiles = IsChain-text k.tiles is.is_tiles; is_board = IsChain-text k.board is.is_board }
@@ -114,19 +102,22 @@ cut_table t u r s is_t is_u same =
     let name = cut_name t.name u.name _ _ there in
     cut_state t u r s name.0 (FitsBytes-table t is_t) (FitsBytes-table u is_u) name.1
 
-some_table : (t : TableEntry) → 1 ≤ length (spelled_table t)
-some_table t = omega (arith, length-append (spelled_name t.name) (spelled_state t))
-
-pub one_tables : (ts us : List TableEntry) → AreTables ts → AreTables us → spelled_tables ts ≡ spelled_tables us → ts ≡ us
-one_tables ts us are_ts are_us same =
-    let count = cut_number 2 (length ts) (length us) (flat_map spelled_table ts) (flat_map spelled_table us) (omega (arith, are_ts.few)) (omega (arith, are_us.few)) same in
-    one_list spelled_table IsTable cut_table some_table ts us are_ts.each are_us.each count.1
+pub cut_tables : (ts us : List TableEntry) (r s : List ℕ) → AreTables ts → AreTables us → spelled_tables ts ++ r ≡ spelled_tables us ++ s → (ts ≡ us) × (r ≡ s)
+cut_tables ts us r s are_ts are_us same =
+    let there : spelled_number 2 (length ts) ++ (flat_map spelled_table ts ++ r) ≡ spelled_number 2 (length us) ++ (flat_map spelled_table us ++ s) =
+    sym (append_assoc (spelled_number 2 (length ts)) (flat_map spelled_table ts) r) ∙ same ∙ append_assoc (spelled_number 2 (length us)) (flat_map spelled_table us) s in
+    let count = cut_number 2 (length ts) (length us) (flat_map spelled_table ts ++ r) (flat_map spelled_table us ++ s) (omega (arith, are_ts.few)) (omega (arith, are_us.few)) there in
+    cut_list spelled_table IsTable cut_table ts us r s are_ts.each are_us.each count.0 count.1
 
 pub one_directory : (version : Version) (bytes : List ℕ) (d e : Directory) → Spells version bytes d → Spells version bytes e → d ≡ e
 one_directory One bytes d e first second =
-    let kit = cut_kit d.kit e.kit (spelled_tables d.tables) (spelled_tables e.tables) (HasChains-kit d.kit first.is_directory.is_kit) (HasChains-kit e.kit second.is_directory.is_kit) (sym first.spelled ∙ second.spelled) in
-    let tables = one_tables d.tables e.tables first.is_directory.are_tables second.is_directory.are_tables kit.1 in
-    λ i. record { kit = kit.0 i; tables = tables i }
+    let is_d = first.is_directory in
+    let is_e = second.is_directory in
+    let kit = cut_kit d.kit e.kit (spelled_tables d.tables ++ spelled_snapshots d.snapshots) (spelled_tables e.tables ++ spelled_snapshots e.snapshots) (HasChains-kit d.kit is_d.is_kit) (HasChains-kit e.kit is_e.is_kit) (sym first.spelled ∙ second.spelled) in
+    let tables = cut_tables d.tables e.tables (spelled_snapshots d.snapshots) (spelled_snapshots e.snapshots) is_d.are_tables is_e.are_tables kit.1 in
+    let are : AreSnapshots d.tables e.snapshots = subst (λ (ts : List TableEntry). AreSnapshots ts e.snapshots) (sym tables.0) is_e.are_snapshots in
+    let snapshots = one_snapshots d.tables is_d.are_tables d.snapshots e.snapshots is_d.are_snapshots are tables.1 in
+    λ i. record { kit = kit.0 i; tables = tables.0 i; snapshots = snapshots i }
 
 pub one_heads : (number : ℕ) (bytes : List ℕ) (a b : List (ℕ × ℕ)) → Heads number bytes a → Heads number bytes b → a ≡ b
 one_heads number bytes a b first second =
@@ -174,50 +165,26 @@ tables_begun bytes mid (first ∷ tables) i count rest table new few read so_far
 
 -- of some tables so many were read, and more are left
 module _ (bytes : List ℕ) (tables : List TableEntry) (i count : ℕ) (rest : List ℕ) (so_far : ReadsTables bytes tables i rest) (more : i < count) (all : List TableEntry) (r : List ℕ) (are : AreTables all) (counted : length all ≡ count) (spelled : bytes ≡ flat_map spelled_table all ++ r) where
-  same : flat_map spelled_table tables ++ rest ≡ flat_map spelled_table all ++ r
-  same = sym so_far.spelled ∙ spelled
-
-  fits : length tables ≤ length all
-  fits = omega (arith, so_far.counted, more, counted)
-
-  left : rest ≡ flat_map spelled_table (drop (length tables) all) ++ r
-  left = front_of spelled_table IsTable cut_table tables all rest r so_far.each are.each fits same
-
-  front : all ≡ tables ++ drop (length tables) all
-  front = same_front spelled_table IsTable cut_table tables all rest r so_far.each are.each fits same
-
-  some_left : drop (length tables) all ≡ [] → ⊥
-  some_left none = absurd (omega (arith, ap length none, length-drop (length tables) all, so_far.counted, more, counted))
-
-  begins : (first : TableEntry) (others : List TableEntry) → drop (length tables) all ≡ first ∷ others → rest ≡ spelled_table first ++ (flat_map spelled_table others ++ r)
-  begins first others is = left ∙ ap (λ (ts : List TableEntry). flat_map spelled_table ts ++ r) is ∙ append_assoc (spelled_table first) (flat_map spelled_table others) r
-
-  is_first : (first : TableEntry) (others : List TableEntry) → drop (length tables) all ≡ first ∷ others → IsTable first
-  is_first first others is = All-head IsTable first others (subst (All IsTable) is (All-drop IsTable (length tables) all are.each))
+  left : IsNext spelled_table IsTable tables all rest r
+  left = next_of spelled_table IsTable cut_table tables all rest r so_far.each are.each (omega (arith, so_far.counted, more, counted)) (sym so_far.spelled ∙ spelled)
 
   -- then one stands there
   pub tables_damaged : ((table : TableEntry) (new : List ℕ) → IsTable table → rest ≢ spelled_table table ++ new) → ⊥
-  tables_damaged none = next (drop (length tables) all) refl
-    where
-      next : (ts : List TableEntry) → drop (length tables) all ≡ ts → ⊥
-      next [] is = some_left is
-      next (first ∷ others) is = none first (flat_map spelled_table others ++ r) (is_first first others is) (begins first others is)
+  tables_damaged none = none left.next (flat_map spelled_table left.others ++ r) left.is left.begins
 
   -- and it has a name of its own
   pub tables_twice : (table : TableEntry) (new : List ℕ) → IsTable table → rest ≡ spelled_table table ++ new → Any (λ (other : TableEntry). other.name ≡ table.name) tables → ⊥
-  tables_twice table new is_table read named = next (drop (length tables) all) refl
-    where
-      next : (ts : List TableEntry) → drop (length tables) all ≡ ts → ⊥
-      next [] is = some_left is
-      next (first ∷ others) is =
-          let one = (cut_table table first new (flat_map spelled_table others ++ r) is_table (is_first first others is) (sym read ∙ begins first others is)).0 in
-          let k = named.0 in
-          let x = named.1 in
-          let whole : all ≡ tables ++ first ∷ others = front ∙ ap (λ (ts : List TableEntry). tables ++ ts) is in
-          let there : get_or all k x ≡ x = ap (λ (ts : List TableEntry). get_or ts k x) whole ∙ get_or_append_left tables (first ∷ others) x k named.2 ∙ named.3 in
-          let here : get_or all (length tables) x ≡ first = ap (λ (ts : List TableEntry). get_or ts (length tables) x) whole ∙ get_or_at tables first others x (length tables) refl in
-          are.own_names k (length tables) x named.2 (omega (arith, so_far.counted, more, counted))
-          (ap (λ (t : TableEntry). t.name) there ∙ named.4 ∙ ap (λ (t : TableEntry). t.name) one ∙ sym (ap (λ (t : TableEntry). t.name) here))
+  tables_twice table new is_table read named =
+      let first = left.next in
+      let others = left.others in
+      let whole = left.whole in
+      let one = (cut_table table first new (flat_map spelled_table others ++ r) is_table left.is (sym read ∙ left.begins)).0 in
+      let k = named.0 in
+      let x = named.1 in
+      let there : get_or all k x ≡ x = ap (λ (ts : List TableEntry). get_or ts k x) whole ∙ get_or_append_left tables (first ∷ others) x k named.2 ∙ named.3 in
+      let here : get_or all (length tables) x ≡ first = ap (λ (ts : List TableEntry). get_or ts (length tables) x) whole ∙ get_or_at tables first others x (length tables) refl in
+      are.own_names k (length tables) x named.2 (omega (arith, so_far.counted, more, counted))
+      (ap (λ (t : TableEntry). t.name) there ∙ named.4 ∙ ap (λ (t : TableEntry). t.name) one ∙ sym (ap (λ (t : TableEntry). t.name) here))
 
 -- the count stands before the tables
 pub counted_tables : (bytes : List ℕ) (count : ℕ) (rest : List ℕ) (all : List TableEntry) (r : List ℕ) → count ≤ 64 → bytes ≡ spelled_number 2 count ++ rest → AreTables all → bytes ≡ spelled_tables all ++ r → (length all ≡ count) × (rest ≡ flat_map spelled_table all ++ r)
@@ -225,10 +192,19 @@ counted_tables bytes count rest all r few read are spelled =
     let cut = cut_number 2 (length all) count (flat_map spelled_table all ++ r) rest (omega (arith, are.few)) (omega (arith, few)) (sym (append_assoc (spelled_number 2 (length all)) (flat_map spelled_table all) r) ∙ sym spelled ∙ read) in
     (cut.0, sym cut.1)
 
--- nothing stands behind all tables
-pub tables_end : (ts us : List TableEntry) (rest : List ℕ) → AreTables ts → AreTables us → spelled_tables ts ++ rest ≡ spelled_tables us → rest ≡ []
-tables_end ts us rest are_ts are_us same =
-    let there : spelled_number 2 (length ts) ++ (flat_map spelled_table ts ++ rest) ≡ spelled_tables us = sym (append_assoc (spelled_number 2 (length ts)) (flat_map spelled_table ts) rest) ∙ same in
-    let cut = cut_number 2 (length ts) (length us) (flat_map spelled_table ts ++ rest) (flat_map spelled_table us) (omega (arith, are_ts.few)) (omega (arith, are_us.few)) there in
-    front_of spelled_table IsTable cut_table ts us rest [] are_ts.each are_us.each (omega (arith, cut.0)) (cut.1 ∙ sym (append-nil (flat_map spelled_table us)))
-    ∙ ap (λ (xs : List TableEntry). flat_map spelled_table xs ++ []) (drop_all (length ts) us (omega (arith, cut.0)))
+-- some that stand in front of other bytes begin there
+pub tables_begin : (bytes rest : List ℕ) (tables : List TableEntry) → AreTables tables → bytes ≡ spelled_tables tables ++ rest → 1 ≤ length tables → BeginsTables bytes
+tables_begin bytes rest [] are read some = absurd (omega (arith, some))
+tables_begin bytes rest (first ∷ tables) are read some =
+    let count = length (first ∷ tables) in
+    record {
+      count = count;
+      some = some;
+      few = are.few;
+      table = first;
+      is_table = are.each 0 first (omega arith);
+      rest = flat_map spelled_table tables ++ rest;
+      spelled =
+          read ∙ append_assoc (spelled_number 2 count) (flat_map spelled_table (first ∷ tables)) rest
+          ∙ ap (λ (xs : List ℕ). spelled_number 2 count ++ xs) (append_assoc (spelled_table first) (flat_map spelled_table tables) rest);
+    }

@@ -8,12 +8,13 @@ use Rattle.std.specs.Prelude.{IfOk, IfErr}
 use Rattle.rr_pages.specs.declared.fault.Fault.{Fault}
 use Rattle.rr_pages.specs.declared.fault.Fault.TheVariants.{FileFull, HalfFull, Damaged, NotAStore, Disk, OutOfMemory}
 use Rattle.rr_reading.specs.Dir.Kept.{IsShort, SpellsKept, spelled_command}
-use Rattle.rr_reading.specs.Dir.Number.{spelled_number}
+use Rattle.rr_words.specs.Spelling.Number.{spelled_number}
 use Rattle.rr_reading.specs.Lending.Commands.{Begins, BeginsNone, IfCut, IsCut}
 use Rattle.rr_reading.specs.Lending.PageBuffer.{piece_in}
 use Rattle.rr_reading.specs.declared.lending.page_buffer.PageBuffer.{PageBuffer}
 use Rattle.rr_reading.proofs.DirLemmas.KeptLemmas.{cut_command}
-use Rattle.rr_reading.proofs.DirLemmas.NumberLemmas.{length-spelled_number, cut_number}
+use Rattle.rr_words.proofs.SpellingLemmas.NumberLemmas.{length-spelled_number}
+use Rattle.rr_reading.proofs.DirLemmas.NumberLemmas.{cut_number}
 
 -- a page lends so many bytes at most
 pub few : (buffer : PageBuffer) → length (piece_in buffer) ≤ 4086

@@ -1,24 +1,26 @@
 -- What a directory says, and its bytes. Numbers are big-endian.
-use Rattle.std.specs.Prelude.{◌≡◌, ◌≢◌, ℕ, ◌^◌, ◌<◌, ◌≤◌, List, ◌∷◌, ◌++◌, length, All, AllPairs}
+use Rattle.std.specs.Prelude.{◌≡◌, ◌≢◌, ◌⊎◌, ℕ, ◌^◌, ◌<◌, ◌≤◌, List, [], ◌∷◌, ◌++◌, length, slice_get, Some, All, AllPairs}
 use Rattle.std.specs.List.{flat_map}
 use Rattle.rr_turns.specs.declared.limits.TheConstants.{LAST_STAMP}
-use Rattle.rr_reading.specs.declared.dir.directory.TheConstants.{MOST_KEPT, MOST_TABLES, MOST_TEXT}
+use Rattle.rr_reading.specs.declared.dir.directory.TheConstants.{MOST_KEPT, MOST_SNAPSHOTS, MOST_SNAPSHOT_BYTES, MOST_TABLES, MOST_TEXT}
 use Rattle.rr_words.specs.Name.{IsTableName}
 use Rattle.rr_reading.specs.declared.dir.directory.ChainRef.{ChainRef}
 use Rattle.rr_reading.specs.declared.dir.directory.KitChains.{KitChains}
+use Rattle.rr_reading.specs.declared.dir.directory.SnapshotEntry.{SnapshotEntry}
 use Rattle.rr_reading.specs.declared.dir.directory.TableEntry.{TableEntry}
 use Rattle.rr_reading.specs.declared.dir.directory.Dir.{Dir}
 use Rattle.rr_reading.specs.declared.dir.version.Version.{Version}
 use Rattle.rr_reading.specs.declared.dir.version.Version.TheVariants.{One}
-use Rattle.rr_reading.specs.Dir.Number.{spelled_number}
+use Rattle.rr_words.specs.Spelling.Number.{spelled_number}
 
--- where the kit stands, and the tables in order of opening
+-- where the kit stands, the tables in order of opening, and the snapshots of their games, by table and rising
 pub record Directory : Type 0 where
   pub kit : KitChains
   pub tables : List TableEntry
+  pub snapshots : List SnapshotEntry
 
 abbrev pub directory_of : Dir → Directory
-directory_of dir = record { kit = dir.kit; tables = dir.tables.items }
+directory_of dir = record { kit = dir.kit; tables = dir.tables.items; snapshots = dir.snapshots.items }
 
 -- a chain's head and length
 abbrev pub spelled_chain : ChainRef → List ℕ
@@ -44,9 +46,21 @@ spelled_table table = spelled_name table.name ++ spelled_state table
 abbrev pub spelled_tables : List TableEntry → List ℕ
 spelled_tables tables = spelled_number 2 (length tables) ++ flat_map spelled_table tables
 
+-- a snapshot: the place of its table, how many of its kept commands were played, and its chain
+abbrev pub spelled_snapshot : SnapshotEntry → List ℕ
+spelled_snapshot snapshot =
+    spelled_number 2 snapshot.table ++ (spelled_number 4 snapshot.kept ++ spelled_chain snapshot.chain)
+
+-- how many snapshots there are, and each of them. That there is none is told by the end alone
+abbrev pub spelled_snapshots : List SnapshotEntry → List ℕ
+spelled_snapshots [] = []
+spelled_snapshots (first ∷ others) =
+    spelled_number 2 (length (first ∷ others)) ++ flat_map spelled_snapshot (first ∷ others)
+
 -- the bytes of a directory in the form of a version
 abbrev pub spelling : Version → Directory → List ℕ
-spelling One directory = spelled_kit directory.kit ++ spelled_tables directory.tables
+spelling One directory =
+    spelled_kit directory.kit ++ (spelled_tables directory.tables ++ spelled_snapshots directory.snapshots)
 
 -- a page is a number of eight bytes, and a chain's length one of four
 pub record IsChain (chain : ChainRef) : Type 0 where
@@ -95,9 +109,29 @@ pub record AreTables (tables : List TableEntry) : Type 0 where
   pub own_names : HaveOwnNames tables
   pub few : length tables ≤ MOST_TABLES
 
+-- it is of one of the tables, which keeps at least as many commands, and has no more bytes than it may
+pub record IsSnapshot (tables : List TableEntry) (snapshot : SnapshotEntry) : Type 0 where
+  pub table : TableEntry
+  pub of_table : slice_get tables snapshot.table ≡ Some table
+  pub some_kept : 1 ≤ snapshot.kept
+  pub within : snapshot.kept ≤ table.kept
+  pub page : snapshot.chain.head < 2 ^ 64
+  pub short : snapshot.chain.length ≤ MOST_SNAPSHOT_BYTES
+
+-- it is of an earlier table, or of fewer commands of the same
+abbrev pub ComesBefore : SnapshotEntry → SnapshotEntry → Type 0
+ComesBefore snapshot other =
+    (snapshot.table < other.table) ⊎ ((snapshot.table ≡ other.table) × (snapshot.kept < other.kept))
+
+pub record AreSnapshots (tables : List TableEntry) (snapshots : List SnapshotEntry) : Type 0 where
+  pub each : All (IsSnapshot tables) snapshots
+  pub rising : AllPairs ComesBefore snapshots
+  pub few : length snapshots ≤ MOST_SNAPSHOTS
+
 pub record IsDirectory (directory : Directory) : Type 0 where
   pub is_kit : IsKit directory.kit
   pub are_tables : AreTables directory.tables
+  pub are_snapshots : AreSnapshots directory.tables directory.snapshots
 
 -- the bytes begin with how many tables there are, at least one and no more than a store holds, and the first of them
 pub record BeginsTables (bytes : List ℕ) : Type 0 where

@@ -1,6 +1,7 @@
 -- The chains that a directory names.
-use Rattle.std.specs.Prelude.{◌≡◌, ℕ, List, ◌∷◌, map}
+use Rattle.std.specs.Prelude.{◌≡◌, ℕ, List, ◌∷◌, ◌++◌, map}
 use Rattle.rr_reading.specs.declared.dir.directory.ChainRef.{ChainRef}
+use Rattle.rr_reading.specs.declared.dir.directory.SnapshotEntry.{SnapshotEntry}
 use Rattle.rr_reading.specs.declared.dir.directory.TableEntry.{TableEntry}
 use Rattle.rr_reading.specs.declared.dir.version.Version.{Version}
 use Rattle.rr_reading.specs.Dir.Directory.{Directory, Spells}
@@ -10,11 +11,17 @@ use Rattle.rr_reading.specs.Dir.Version.{version_number}
 abbrev pub head_of : ChainRef → ℕ × ℕ
 head_of chain = (chain.head, chain.length)
 
--- of the kit's four chains, and then of each table's
+-- of each table's, and then of each snapshot's
+abbrev pub heads_of_tables : List TableEntry → List SnapshotEntry → List (ℕ × ℕ)
+heads_of_tables tables snapshots =
+    map (λ (table : TableEntry). head_of table.chain) tables
+    ++ map (λ (snapshot : SnapshotEntry). head_of snapshot.chain) snapshots
+
+-- of the kit's four chains, and then of those
 abbrev pub heads_of : Directory → List (ℕ × ℕ)
 heads_of directory =
     head_of directory.kit.chart ∷ head_of directory.kit.roster ∷ head_of directory.kit.tiles ∷ head_of directory.kit.board
-    ∷ map (λ (table : TableEntry). head_of table.chain) directory.tables
+    ∷ heads_of_tables directory.tables directory.snapshots
 
 -- these bytes, in a file of this version, are a directory that names these chains
 pub record Heads (number : ℕ) (bytes : List ℕ) (heads : List (ℕ × ℕ)) : Type 0 where

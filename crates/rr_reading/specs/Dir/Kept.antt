@@ -2,7 +2,7 @@
 use Rattle.std.specs.Prelude.{◌≡◌, ℕ, zero, suc, ◌^◌, ◌<◌, List, [], ◌∷◌, ◌++◌, length, take, drop, All}
 use Rattle.std.specs.List.{flat_map}
 use Rattle.byteorder.specs.Endian.{big_number}
-use Rattle.rr_reading.specs.Dir.Number.{spelled_number}
+use Rattle.rr_words.specs.Spelling.Number.{spelled_number}
 
 -- a command: how many bytes its words have, and the words
 abbrev pub spelled_command : List ℕ → List ℕ

@@ -1,7 +1,7 @@
 ghost use Rattle.std.specs.Prelude.{◌≡◌, ◌≢◌, ℕ, List, ◌++◌, MatchOption};
 ghost use Rattle.rr_reading.specs.Dir.Kept.{IsShort, spelled_command};
 
-use crate::dir::cursor::Cursor;
+use rr_words::spelling::Cursor;
 
 // The words of the command with which these bytes begin, if they begin with one.
 pub(crate) fn first_command(bytes: &[u8]) -> Option<&[u8]>

@@ -7,7 +7,9 @@ ghost use Rattle.rr_reading.specs.Dir.Kept.{SpellsKept};
 ghost use Rattle.rr_reading.specs.Dir.Version.{version_number};
 ghost use Rattle.rr_reading.specs.declared.dir.version.Version.{Version};
 
-use crate::dir::directory::{MOST_KEPT, MOST_TABLES, MOST_TEXT};
+use crate::dir::directory::{
+    MOST_KEPT, MOST_SNAPSHOT_BYTES, MOST_SNAPSHOTS, MOST_TABLES, MOST_TEXT,
+};
 use crate::dir::version::NEWEST;
 use rr_pages::NEWEST_VERSION;
 use rr_turns::LAST_STAMP;
@@ -27,10 +29,12 @@ pub fn newest_version()
 {}
 
 /// The limits of a directory: 64 tables, each of which keeps 4,096 commands at most and has a stamp up to
-/// 4,000,000,000, and texts of 65,536 bytes.
+/// 4,000,000,000, texts of 65,536 bytes, and 4,096 snapshots of 16,384 bytes.
 pub fn limits()
     ensures tables { MOST_TABLES ≡ 64 }
     ensures kept { MOST_KEPT ≡ 4096 }
     ensures stamp { LAST_STAMP ≡ 4000000000 }
     ensures text { MOST_TEXT ≡ 65536 }
+    ensures snapshots { MOST_SNAPSHOTS ≡ 4096 }
+    ensures snapshot { MOST_SNAPSHOT_BYTES ≡ 16384 }
 {}

@@ -1,19 +1,22 @@
 //! How the parts of a directory are read.
-ghost use Rattle.std.specs.Prelude.{◌≡◌, ◌≢◌, ℕ, List, ◌<◌, ◌≤◌, ◌++◌, ◌↔◌, length, Any, IsTrue, MatchOption, IfOk, IsErrOf};
+ghost use Rattle.std.specs.Prelude.{◌≡◌, ◌≢◌, ℕ, List, ◌<◌, ◌≤◌, ◌^◌, ◌++◌, ◌↔◌, length, All, AllPairs, Any, IsTrue, MatchOption, IfOk, IsErrOf};
+ghost use Rattle.std.specs.List.{flat_map};
 ghost use Rattle.rr_words.specs.Name.{IsTableName};
-ghost use Rattle.rr_reading.specs.Dir.Directory.{Directory, BeginsDirectory, BeginsTables, Spells, directory_of, spelled_chain, spelled_kit, spelled_name, spelled_state, spelled_table, spelled_tables, HasChains, FitsBytes, IsChain, IsKit, IsTable, AreTables};
-ghost use Rattle.rr_reading.specs.Dir.Number.{spelled_number};
+ghost use Rattle.rr_reading.specs.Dir.Directory.{Directory, BeginsDirectory, BeginsTables, Spells, directory_of, spelled_chain, spelled_kit, spelled_name, spelled_state, spelled_table, spelled_tables, HasChains, FitsBytes, IsChain, IsKit, IsTable, AreTables, IsSnapshot, AreSnapshots, ComesBefore, spelled_snapshot, spelled_snapshots};
+ghost use Rattle.rr_words.specs.Spelling.Number.{spelled_number};
 ghost use Rattle.rr_reading.specs.declared.dir.directory.KitChains.{KitChains as OfKit};
+ghost use Rattle.rr_reading.specs.declared.dir.directory.SnapshotEntry.{SnapshotEntry as OfSnapshot};
 ghost use Rattle.rr_reading.specs.declared.dir.directory.TableEntry.{TableEntry as OfTable};
 ghost use Rattle.rr_reading.specs.declared.dir.version.Version.TheVariants.{One};
 
-use crate::dir::cursor::Cursor;
 use crate::dir::directory::{
-    ChainRef, Dir, KitChains, MOST_KEPT, MOST_TABLES, MOST_TEXT, TableEntry,
+    ChainRef, Dir, KitChains, MOST_KEPT, MOST_SNAPSHOT_BYTES, MOST_SNAPSHOTS, MOST_TABLES,
+    MOST_TEXT, SnapshotEntry, TableEntry,
 };
 use crate::dir::fault::Fault;
 use rr_turns::LAST_STAMP;
 use rr_words::Name;
+use rr_words::spelling::Cursor;
 use std::alloc::Global;
 
 // A directory that ends with the bytes.
@@ -26,10 +29,135 @@ pub(crate) fn read_last(alloc: Global, cursor: &mut Cursor) -> Result<Dir, Fault
         return Err(Fault::Damaged);
     };
     let tables = next_tables(alloc, cursor)?;
+    let snapshots = last_snapshots(alloc, cursor, &tables)?;
+    Ok(Dir {
+        kit,
+        tables,
+        snapshots,
+    })
+}
+
+// The snapshots of these tables, with which the bytes end: none, where they end already.
+fn last_snapshots(
+    alloc: Global,
+    cursor: &mut Cursor,
+    tables: &[TableEntry],
+) -> Result<Vec<SnapshotEntry>, Fault>
+    requires { AreTables tables.now }
+    ensures found { IfOk result (λ snapshots. AreSnapshots tables.now snapshots.items × (cursor.old ≡ spelled_snapshots snapshots.items)) }
+    ensures damaged { IsErrOf result Fault.Damaged
+        → (snapshots : List OfSnapshot) → AreSnapshots tables.now snapshots → cursor.old ≢ spelled_snapshots snapshots }
+    ensures memory { IsErrOf result Fault.OutOfMemory → 1 ≤ length tables.now }
+{
+    if cursor.is_empty() {
+        return Ok(Vec::new(alloc));
+    }
+    let Some(number) = next_snapshot_count(cursor) else {
+        return Err(Fault::Damaged);
+    };
+    let snapshots = next_snapshots(alloc, cursor, tables, number)?;
     if !cursor.is_empty() {
         return Err(Fault::Damaged);
     }
-    Ok(Dir { kit, tables })
+    Ok(snapshots)
+}
+
+// So many snapshots of these tables, each behind the one before it.
+fn next_snapshots(
+    alloc: Global,
+    cursor: &mut Cursor,
+    tables: &[TableEntry],
+    number: u16,
+) -> Result<Vec<SnapshotEntry>, Fault>
+    requires { AreTables tables.now }
+    ensures found { IfOk result (λ snapshots. (length snapshots.items ≡ number) × All (IsSnapshot tables.now) snapshots.items
+        × AllPairs ComesBefore snapshots.items × (cursor.old ≡ flat_map spelled_snapshot snapshots.items ++ cursor.new)) }
+    ensures damaged { IsErrOf result Fault.Damaged
+        → (snapshots : List OfSnapshot) (rest : List ℕ) → length snapshots ≡ number → All (IsSnapshot tables.now) snapshots
+        → AllPairs ComesBefore snapshots → cursor.old ≢ flat_map spelled_snapshot snapshots ++ rest }
+    ensures memory { IsErrOf result Fault.OutOfMemory → 1 ≤ length tables.now }
+{
+    let mut snapshots: Vec<SnapshotEntry> = Vec::new(alloc);
+    for _ in 0..number {
+        let Some(snapshot) = next_snapshot(cursor, tables) else {
+            return Err(Fault::Damaged);
+        };
+        if !comes_behind(&snapshots, &snapshot) {
+            return Err(Fault::Damaged);
+        }
+        snapshots.push(snapshot)?;
+    }
+    Ok(snapshots)
+}
+
+// A number of snapshots is at least one.
+fn next_snapshot_count(cursor: &mut Cursor) -> Option<u16>
+    ensures { MatchOption result
+        ((number : ℕ) (rest : List ℕ) → 1 ≤ number → number ≤ MOST_SNAPSHOTS → cursor.old ≢ spelled_number 2 number ++ rest)
+        (λ number. (1 ≤ number) × (number ≤ MOST_SNAPSHOTS) × (cursor.old ≡ spelled_number 2 number ++ cursor.new)) }
+{
+    let number = cursor.u16()?;
+    if number != 0 && usize::from(number) <= MOST_SNAPSHOTS {
+        Some(number)
+    } else {
+        None
+    }
+}
+
+// Whether it may stand behind these, which rise: behind the last of them.
+fn comes_behind(snapshots: &[SnapshotEntry], snapshot: &SnapshotEntry) -> bool
+    ensures { AllPairs ComesBefore snapshots.now → (IsTrue result ↔ All (λ other. ComesBefore other snapshot.now) snapshots.now) }
+{
+    match snapshots.last() {
+        None => true,
+        Some(last) => comes_before(last, snapshot),
+    }
+}
+
+fn comes_before(snapshot: &SnapshotEntry, other: &SnapshotEntry) -> bool
+    ensures { IsTrue result ↔ ComesBefore snapshot.now other.now }
+{
+    if snapshot.table == other.table {
+        snapshot.kept < other.kept
+    } else {
+        snapshot.table < other.table
+    }
+}
+
+fn next_snapshot(cursor: &mut Cursor, tables: &[TableEntry]) -> Option<SnapshotEntry>
+    requires { AreTables tables.now }
+    ensures { MatchOption result
+        ((snapshot : OfSnapshot) (rest : List ℕ) → IsSnapshot tables.now snapshot → cursor.old ≢ spelled_snapshot snapshot ++ rest)
+        (λ snapshot. IsSnapshot tables.now snapshot × (cursor.old ≡ spelled_snapshot snapshot ++ cursor.new)) }
+{
+    let snapshot = next_snapshot_entry(cursor)?;
+    let table = tables.get(usize::from(snapshot.table))?;
+    if fits_table(&snapshot, table) {
+        Some(snapshot)
+    } else {
+        None
+    }
+}
+
+// Whether its table keeps as many commands as it plays, and it has no more bytes than it may.
+fn fits_table(snapshot: &SnapshotEntry, table: &TableEntry) -> bool
+    ensures { IsTrue result ↔ ((1 ≤ snapshot.now.kept) × (snapshot.now.kept ≤ table.now.kept) × (snapshot.now.chain.length ≤ MOST_SNAPSHOT_BYTES)) }
+{
+    1 <= snapshot.kept
+        && snapshot.kept <= table.kept
+        && snapshot.chain.length <= MOST_SNAPSHOT_BYTES
+}
+
+fn next_snapshot_entry(cursor: &mut Cursor) -> Option<SnapshotEntry>
+    ensures { MatchOption result
+        (length cursor.old < 18)
+        (λ snapshot. (snapshot.table < 2 ^ 16) × (snapshot.kept < 2 ^ 32) × IsChain snapshot.chain
+        × (cursor.old ≡ spelled_snapshot snapshot ++ cursor.new)) }
+{
+    let table = cursor.u16()?;
+    let kept = cursor.u32()?;
+    let chain = next_chain(cursor)?;
+    Some(SnapshotEntry { table, kept, chain })
 }
 
 fn next_kit(cursor: &mut Cursor) -> Option<KitChains>

@@ -1,22 +1,49 @@
 //! How the parts of a directory are written.
-ghost use Rattle.std.specs.Prelude.{◌≡◌, ◌++◌, ◌<◌, ◌^◌, OnOk, vec_len};
-ghost use Rattle.rr_reading.specs.Dir.Directory.{directory_of, spelling, spelled_chain, spelled_kit, spelled_table};
-ghost use Rattle.rr_reading.specs.Dir.Number.{Continues, spelled_number};
+ghost use Rattle.std.specs.Prelude.{◌≡◌, ◌++◌, ◌<◌, ◌^◌, length, OnOk, vec_len};
+ghost use Rattle.rr_reading.specs.Dir.Directory.{directory_of, spelling, spelled_chain, spelled_kit, spelled_snapshot, spelled_snapshots, spelled_table, spelled_tables};
+ghost use Rattle.rr_reading.specs.Dir.Number.{Continues};
+ghost use Rattle.rr_words.specs.Spelling.Number.{spelled_number};
 ghost use Rattle.rr_reading.specs.declared.dir.version.Version.TheVariants.{One};
 
-use crate::dir::directory::{ChainRef, Dir, KitChains, TableEntry};
+use crate::dir::directory::{ChainRef, Dir, KitChains, SnapshotEntry, TableEntry};
 use crate::dir::fault::Fault;
 use byteorder::{BigEndian, ByteOrder};
 
 pub(crate) fn write_dir(dir: &Dir, out: &mut Vec<u8>) -> Result<(), Fault>
-    requires { vec_len dir.now.tables < 2 ^ 16 }
+    requires tables { vec_len dir.now.tables < 2 ^ 16 }
+    requires snapshots { vec_len dir.now.snapshots < 2 ^ 16 }
     ensures ok { OnOk result (out.new.items ≡ out.old.items ++ spelling One (directory_of dir.now)) }
     ensures kept { Continues out.old.items out.new.items }
 {
     write_kit(&dir.kit, out)?;
-    write_u16(dir.tables.len() as u16, out)?;
-    for table in &dir.tables {
+    write_tables(&dir.tables, out)?;
+    write_snapshots(&dir.snapshots, out)
+}
+
+fn write_tables(tables: &[TableEntry], out: &mut Vec<u8>) -> Result<(), Fault>
+    requires { length tables.now < 2 ^ 16 }
+    ensures ok { OnOk result (out.new.items ≡ out.old.items ++ spelled_tables tables.now) }
+    ensures kept { Continues out.old.items out.new.items }
+{
+    write_u16(tables.len() as u16, out)?;
+    for table in tables {
         write_table(table, out)?;
+    }
+    Ok(())
+}
+
+// That there is none is told by the directory's end.
+fn write_snapshots(snapshots: &[SnapshotEntry], out: &mut Vec<u8>) -> Result<(), Fault>
+    requires { length snapshots.now < 2 ^ 16 }
+    ensures ok { OnOk result (out.new.items ≡ out.old.items ++ spelled_snapshots snapshots.now) }
+    ensures kept { Continues out.old.items out.new.items }
+{
+    if snapshots.is_empty() {
+        return Ok(());
+    }
+    write_u16(snapshots.len() as u16, out)?;
+    for snapshot in snapshots {
+        write_snapshot(snapshot, out)?;
     }
     Ok(())
 }
@@ -44,6 +71,15 @@ fn write_table(table: &TableEntry, out: &mut Vec<u8>) -> Result<(), Fault>
     write_u32(table.kept, out)?;
     write_chain(table.chain, out)?;
     Ok(())
+}
+
+fn write_snapshot(snapshot: &SnapshotEntry, out: &mut Vec<u8>) -> Result<(), Fault>
+    ensures ok { OnOk result (out.new.items ≡ out.old.items ++ spelled_snapshot snapshot.now) }
+    ensures kept { Continues out.old.items out.new.items }
+{
+    write_u16(snapshot.table, out)?;
+    write_u32(snapshot.kept, out)?;
+    write_chain(snapshot.chain, out)
 }
 
 fn write_chain(chain: ChainRef, out: &mut Vec<u8>) -> Result<(), Fault>

@@ -1,5 +1,5 @@
 ghost use Rattle.std.specs.Prelude.{◌≡◌, ◌+◌, ◌≤◌, ◌++◌, length, take, IfOk};
-ghost use Rattle.rr_reading.specs.Dir.Number.{spelled_number};
+ghost use Rattle.rr_words.specs.Spelling.Number.{spelled_number};
 ghost use Rattle.rr_reading.specs.declared.lending.joining.TheConstants.{MOST_WORDS};
 
 use crate::lending::page_buffer::zeros;

@@ -1,14 +1,14 @@
-ghost use Rattle.std.specs.Prelude.{ℕ, List};
 ghost use Rattle.rr_reading.specs.Worlds.Spelling.{worlds};
-ghost use Rattle.rr_reading.specs.Worlds.World.{World};
+ghost use Rattle.rr_reading.specs.Worlds.World.{WorldRules};
 
 use rr_images::Codec;
 use std::marker::PhantomData;
 
-/// Which lines of records are lawful in a world, and to which world they lead. It has no code.
+/// Which lines of records are lawful in a world, and to which world they lead; and which bytes show a game. It has no
+/// code.
 pub trait Rules {
-    /// A line, the world before it and the world behind it.
-    ghost takes: { List ℕ → World → World → Type 0 };
+    /// The lines, and the bytes.
+    ghost rules: { WorldRules };
 }
 
 /// Files of worlds under these rules. It has no code.
@@ -17,5 +17,5 @@ pub struct Worlds<R> {
 }
 
 impl<R: Rules> Codec for Worlds<R> {
-    ghost codec = { worlds R.takes };
+    ghost codec = { worlds R.rules };
 }

@@ -1,7 +1,7 @@
 -- The plain values of an auction, and which values it may have.
 use Rattle.std.specs.Prelude.{ℕ, ◌≤◌, List, Option, All}
 use Rattle.std.proofs.Common.{refl}
-use Rattle.rr_spelling.specs.Form.{Form, number_form, option_form, pair_form, row_form, form_by}
+use Rattle.rr_words.specs.Spelling.Form.{Form, number_form, option_form, pair_form, row_form, form_by}
 use Rattle.rr_books.specs.Bytes.{seat_form}
 use Rattle.rr_books.specs.declared.parties.Seat.{Seat}
 use Rattle.rr_rounds.specs.declared.bids.parts.BiddingParts.{BiddingParts}

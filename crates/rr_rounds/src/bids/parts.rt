@@ -4,7 +4,7 @@ ghost use Rattle.rr_rounds.specs.Bids.Parts.{AreInBounds, IsBidding, bidding_of,
 
 use crate::bids::bidding::Bidding;
 use rr_books::Seat;
-use rr_spelling::{Cursor, Spell};
+use rr_words::spelling::{Cursor, Spell};
 use std::alloc::AllocError;
 
 /// The most commands of an auction, whatever its book is.

@@ -1,9 +1,9 @@
 -- A president that sells shares for a train, and one that is bankrupt, worked.
 use Rattle.std.specs.Prelude.{◌≡◌, ℕ, false, List, [], ◌∷◌, ◌++◌, Option, None, Some, map}
 use Rattle.rr_roster.specs.declared.company.Corp.{Corp}
-use Rattle.rr_chart.specs.Chart.{Row}
-use Rattle.rr_chart.specs.declared.cell.Cell as chart
-use Rattle.rr_chart.specs.declared.cell.Zone.TheVariants as Z
+use Rattle.rr_roster.specs.Chart.Chart.{Row}
+use Rattle.rr_roster.specs.declared.chart.cell.Cell as chart
+use Rattle.rr_roster.specs.declared.chart.cell.Zone.TheVariants as Z
 use Rattle.rr_books.specs.declared.parties.Party.TheVariants as P
 use Rattle.rr_books.specs.declared.parties.Place.{Place}
 use Rattle.rr_books.specs.declared.parties.Place.TheVariants as L

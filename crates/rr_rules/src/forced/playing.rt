@@ -12,9 +12,9 @@ ghost use Rattle.rr_rules.specs.Forced.Small.{IsSmall};
 
 use crate::forced::needs::{Need, cheapest_need};
 use rr_books::{Act, Corp, Entry, Marker, Money, Party, Place, Refusal, Seat, TrainSource};
-use rr_chart::Chart;
 use rr_desk::{Desk, dollars};
 use rr_roster::Roster;
+use rr_roster::chart::Chart;
 use rr_shares::sell_shares;
 use rr_stock::{Sale, pay_seller, proceeds};
 use rr_trains::{first_train, give_lowest_train};

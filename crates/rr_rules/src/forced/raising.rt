@@ -7,8 +7,8 @@ ghost use Rattle.rr_rules.specs.Forced.Sales.{can_raise, changes_president, is_s
 
 use crate::forced::needs::Need;
 use rr_books::{Books, Corp, Refusal, Seat};
-use rr_chart::Chart;
 use rr_desk::Position;
+use rr_roster::chart::Chart;
 use rr_shares::handover_after_sale;
 use rr_shares::limits::judge_sale;
 

@@ -2,7 +2,7 @@
 use Rattle.std.specs.Prelude.{◌≡◌, List}
 use Rattle.std.proofs.Common.{sym, ap}
 use Rattle.rr_roster.specs.declared.company.Corp.{Corp}
-use Rattle.rr_chart.specs.Chart.{Row}
+use Rattle.rr_roster.specs.Chart.Chart.{Row}
 use Rattle.rr_books.specs.Book.{Book}
 use Rattle.rr_books.specs.ShareLaws.{holder-of_state}
 use Rattle.rr_market.specs.Marks.{price_at, zone_at}

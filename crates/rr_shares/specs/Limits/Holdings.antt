@@ -1,8 +1,8 @@
 -- What the rules on holdings look at: who holds each certificate, and where each corporation's shares stand.
 use Rattle.std.specs.Prelude.{ℕ, List, Option}
 use Rattle.rr_roster.specs.declared.company.Corp.{Corp}
-use Rattle.rr_chart.specs.Chart.{Row}
-use Rattle.rr_chart.specs.declared.cell.Zone.{Zone}
+use Rattle.rr_roster.specs.Chart.Chart.{Row}
+use Rattle.rr_roster.specs.declared.chart.cell.Zone.{Zone}
 use Rattle.rr_books.specs.declared.parties.Seat.{Seat}
 use Rattle.rr_books.specs.declared.parties.Place.TheVariants as L
 use Rattle.rr_books.specs.Book.{Book, players, holder}

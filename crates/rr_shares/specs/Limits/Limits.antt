@@ -3,8 +3,8 @@ use Rattle.std.specs.Prelude.{ℕ, ◌+◌, Bool, true, false, not, nat_lt, Opti
 use Rattle.std.specs.List.{list_any}
 use Rattle.rr_roster.specs.declared.company.Corp.{Corp}
 use Rattle.rr_roster.specs.Company.{corps}
-use Rattle.rr_chart.specs.declared.cell.Zone.{Zone}
-use Rattle.rr_chart.specs.declared.cell.Zone.TheVariants as Z
+use Rattle.rr_roster.specs.declared.chart.cell.Zone.{Zone}
+use Rattle.rr_roster.specs.declared.chart.cell.Zone.TheVariants as Z
 use Rattle.rr_books.specs.declared.parties.Seat.{Seat}
 use Rattle.rr_books.specs.declared.parties.Place.TheVariants as L
 use Rattle.rr_books.specs.declared.certificates.Cert.TheVariants as C

@@ -7,8 +7,8 @@ ghost use Rattle.rr_shares.specs.Limits.Holdings.{holdings_of, holdings_in};
 ghost use Rattle.rr_shares.specs.Limits.Limits.{is_coloured, is_unlimited, privates_held, counted_of, certificates_counted, is_over_certificates, would_be_over_certificates, is_over_sixty, would_be_over_sixty, is_over_sixty_of_any, is_over_limit};
 
 use rr_books::{Books, Cert, Corp, Place, Private, Seat, certificate_limit};
-use rr_chart::{Chart, Zone};
 use rr_desk::Position;
+use rr_roster::chart::{Chart, Zone};
 
 /// How many of the seat's certificates count against the certificate limit: its open privates, and its certificates of
 /// each corporation whose token isn't in a coloured zone.

@@ -11,8 +11,8 @@ ghost use Rattle.rr_shares.specs.Limits.Sales.{is_successor, has_successor, leav
 
 use crate::limits::limits::is_over_limit;
 use rr_books::{Books, Cert, Corp, Place, Refusal, Seat};
-use rr_chart::Chart;
 use rr_desk::Position;
+use rr_roster::chart::Chart;
 
 /// Whether the seat may sell `count` 10% shares of the corporation, in whatever round.
 ///

@@ -9,9 +9,9 @@ use crate::stopping::lines::{Line, all_lines, name_at};
 use crate::stopping::schedule::{Event, Schedule, whole_schedule};
 use crate::stopping::worlds::{Side, World};
 use rr_disk::{Disk, MemoryDisk};
-use rr_spelling::Spell;
 use rr_store::{Fault, Store, Table, Texts};
 use rr_words::Name;
+use rr_words::spelling::Spell;
 use std::alloc::Global;
 
 // A track that the first table lays between the two cities.

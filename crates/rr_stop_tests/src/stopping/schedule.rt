@@ -6,8 +6,11 @@ use std::alloc::{AllocError, Global};
 /// A checkpoint begins where so many slots of the half in use are used.
 const DUE: usize = 128;
 
-/// The steps of a checkpoint of four pages: one for each of three tables, and one for the directory.
+/// The steps of a checkpoint of four pages: one for each of three tables, and one for the directory. The second table has
+/// a snapshot from its 64th command on: then there are five pages.
 const STEPS: usize = 8;
+
+const STEPS_WITH_SNAPSHOT: usize = 9;
 
 /// The bytes of a slot or a page, and of a root behind its gate.
 const PAGE: usize = 4096;
@@ -38,7 +41,8 @@ pub(crate) struct Schedule {
     pub(crate) calls: Vec<Call>,
     /// How many checkpoints were begun.
     pub(crate) begun: usize,
-    /// How many steps are left of the one under way.
+    /// How many steps the last of them has, and how many of these are left.
+    steps: usize,
     left: usize,
     /// How many slots of the half in use are used.
     used: usize,
@@ -68,7 +72,8 @@ impl Schedule {
         match behind {
             0 => self.put(1),
             1 => self.put(ROOT),
-            2 | 7 => self.shut(),
+            2 => self.shut(),
+            _ if behind.saturating_add(1) == self.steps => self.shut(),
             _ => {
                 self.calls.push(Call::Write(PAGE))?;
                 Ok(())
@@ -79,8 +84,9 @@ impl Schedule {
     // A step of a checkpoint, where one is under way or due.
     fn step(&mut self) -> Result<(), AllocError> {
         if self.left == 0 && self.used >= DUE {
+            self.steps = steps_behind(self.begun);
+            self.left = self.steps;
             self.begun = self.begun.saturating_add(1);
-            self.left = STEPS;
             self.used = 0;
         }
         let Some(behind) = self.left.checked_sub(1) else {
@@ -122,13 +128,22 @@ impl Schedule {
     }
 }
 
+// How many steps a checkpoint has behind so many others: the first one begins before the second table has a snapshot.
+fn steps_behind(begun: usize) -> usize {
+    if begun == 0 {
+        STEPS
+    } else {
+        STEPS_WITH_SNAPSHOT
+    }
+}
+
 // How many ticks are called for behind the command at this place: so the first checkpoint is made by ticks and commits
 // in turn, the second one by ticks alone, and the third one by commits.
 fn ticks_behind(place: usize) -> usize {
     if place < 200 {
         return 1;
     }
-    if place == 255 { STEPS } else { 0 }
+    if place == 255 { STEPS_WITH_SNAPSHOT } else { 0 }
 }
 
 fn go_through(schedule: &mut Schedule, place: usize) -> Result<(), AllocError> {
@@ -145,6 +160,7 @@ pub(crate) fn whole_schedule(alloc: Global) -> Result<Schedule, Wrong> {
         events: Vec::new(alloc),
         calls: Vec::new(alloc),
         begun: 0,
+        steps: 0,
         left: 0,
         used: 0,
     };

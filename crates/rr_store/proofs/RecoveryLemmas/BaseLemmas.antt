@@ -1,13 +1,16 @@
 -- What a reading of a file says of its base: the directory names the chains, and what these tell is what they spell.
-use Rattle.std.proofs.Common.{◌≡◌, ℕ, suc, List, [], ◌∷◌, length, map, refl, sym, ap, subst, ◌∙◌, arith}
+use Rattle.std.proofs.Common.{◌≡◌, ℕ, suc, All, List, [], ◌∷◌, ◌++◌, length, map, take, drop, refl, sym, ap, subst, ◌∙◌, arith, length-append}
+use Rattle.std.proofs.lemmas.List.{drop_at, length-map, take_at}
+use Rattle.rr_kit.specs.declared.kit.Kit.{Kit}
+use Rattle.rr_kit.specs.Kits.{SpellsKit}
 use Rattle.rr_reading.specs.declared.dir.directory.ChainRef.{ChainRef}
+use Rattle.rr_reading.specs.declared.dir.directory.SnapshotEntry.{SnapshotEntry}
 use Rattle.rr_reading.specs.declared.dir.directory.TableEntry.{TableEntry}
 use Rattle.rr_reading.specs.declared.dir.version.Version.{Version}
-use Rattle.rr_reading.specs.Dir.Directory.{AreTables, Directory}
+use Rattle.rr_reading.specs.Dir.Directory.{AreTables, Directory, IsSnapshot}
 use Rattle.rr_reading.specs.Dir.Directory as dir
 use Rattle.rr_reading.specs.Dir.Heads as named
 use Rattle.rr_reading.proofs.DirLemmas.TableLemmas.{one_directory, one_heads}
-use Rattle.rr_images.specs.Codec.{Codec}
 use Rattle.rr_images.specs.Holding.{HeldChain, heads_of, texts_of}
 use Rattle.rr_images.proofs.Following.{read_there}
 use Rattle.rr_pages.specs.Laying.{head_of}
@@ -15,15 +18,19 @@ use Rattle.rr_reading.specs.Held.{Held, chains_of, holding_of}
 use Rattle.rr_reading.specs.Laws.{NamesChains}
 use Rattle.rr_reading.specs.Reading.{Holds, IsDirectory}
 use Rattle.rr_reading.proofs.Standing.{held_is_read}
+use Rattle.rr_tables.specs.Records.Taking.{table_files, table_rules}
 use Rattle.rr_tables.specs.Records.Words.{AreInWords, IsInWords, IsTableInWords, kit_texts}
 use Rattle.rr_tables.specs.Records.World.{TableState, World}
-use Rattle.rr_reading.specs.Worlds.Spelling.{Spells, SpellsTable, SpellsTables, ref_of, worlds}
-use Rattle.rr_reading.specs.Worlds.World.{Table}
+use Rattle.rr_reading.specs.Worlds.Spelling.{ShowGames, SpellsTable, SpellsTables, ref_of}
+use Rattle.rr_reading.specs.Worlds.World.{Table, WorldRules}
 use Rattle.rr_reading.specs.Worlds.World as words
 use Rattle.rr_reading.proofs.DirLemmas.VersionLemmas.{one_version}
-use Rattle.rr_store.specs.Recovery.Telling.{IsBase, IsWritten}
+use Rattle.rr_store.specs.Recovery.Base.{HasWords, IsWellFormed, Named, ShowsThem}
+use Rattle.rr_store.specs.Recovery.Shown.{SpellsItsGame, shown_in}
+use Rattle.rr_store.specs.Recovery.Telling.{IsBase, IsWorded, IsWritten, SpellBy, any_bytes, any_game}
 use Rattle.rr_store.specs.Recovery.Texts.{NameTexts, texts_in}
 use Rattle.rr_store.specs.Recovery.Told.{EachHas, KeepSpelled, TellTables, TellsTable, TellsWords}
+use Rattle.rr_store.proofs.RecoveryLemmas.GameLemmas.{EachSnapshot, ShownBy, SpellsIt, bytes_shown, each_game, each_games, each_more, each_of, game_each, game_shown, games_each, show_plays, shown_game, spells_less}
 use Rattle.rr_store.proofs.RecoveryLemmas.WordLemmas.{commands_spelled}
 
 -- tables that are told are spelled, and what is spelled is told
@@ -124,11 +131,7 @@ keep_spelled [] (w ∷ ws) are = absurd are
 keep_spelled (table ∷ tables) [] are = absurd are
 keep_spelled (table ∷ tables) (w ∷ ws) are = (commands_spelled w.kept.commands table.1.commands are.0.spelled, keep_spelled tables ws are.1)
 
--- files whose records aren't judged
-abbrev unjudged : Codec
-unjudged = worlds (λ line old new. ⊥)
-
-names_chains : NamesChains unjudged
+names_chains : NamesChains table_files
 names_chains = λ version bytes heads. (λ names. names, λ names. names)
 
 ref_is : (ref : ChainRef) (chain : HeldChain) → named.head_of ref ≡ (head_of chain.pages, length chain.text) → ref ≡ ref_of chain
@@ -137,24 +140,44 @@ ref_is ref chain same =
     let long : ref.length ≡ length chain.text = ap (λ (h : ℕ × ℕ). h.1) same in
     λ i. record { head = head i; length = long i }
 
-as_many_chains : (entries : List TableEntry) (chains : List HeldChain) → map (λ (entry : TableEntry). named.head_of entry.chain) entries ≡ heads_of chains → length entries ≡ length chains
-as_many_chains [] [] same = refl
-as_many_chains [] (chain ∷ chains) same = absurd (cc)
-as_many_chains (entry ∷ entries) [] same = absurd (cc)
-as_many_chains (entry ∷ entries) (chain ∷ chains) same =
-    let rest : map (λ (e : TableEntry). named.head_of e.chain) entries ≡ heads_of chains = cc in ap suc (as_many_chains entries chains rest)
+as_many_heads : (chains : List HeldChain) → length (heads_of chains) ≡ length chains
+as_many_heads [] = refl
+as_many_heads (chain ∷ chains) = ap suc (as_many_heads chains)
+
+texts_both : (front behind : List HeldChain) → texts_of (front ++ behind) ≡ texts_of front ++ texts_of behind
+texts_both [] behind = refl
+texts_both (chain ∷ front) behind = ap (λ (texts : List (List ℕ)). chain.text ∷ texts) (texts_both front behind)
+
+as_many_texts : (chains : List HeldChain) → length (texts_of chains) ≡ length chains
+as_many_texts [] = refl
+as_many_texts (chain ∷ chains) = ap suc (as_many_texts chains)
+
+-- tables take as many texts as there are entries
+as_many_spelled : (entries : List TableEntry) (texts : List (List ℕ)) (tables : List Table) → SpellsTables entries texts tables → length texts ≡ length entries
+as_many_spelled [] texts tables spells = ap (λ (ts : List (List ℕ)). length ts) spells.0
+as_many_spelled (entry ∷ entries) texts tables spells =
+    ap (λ (ts : List (List ℕ)). length ts) spells.4 ∙ ap suc (as_many_spelled entries spells.2 spells.3 spells.7)
+
+-- the entries and chains that a root names
+abbrev pub named_of : Held → Named
+named_of has = record {
+  entries = has.directory.tables;
+  chains = has.tables;
+  snapshot_entries = has.directory.snapshots;
+  snapshot_chains = has.snapshots;
+}
 
 module _ (file : List ℕ) (has : Held) (holds : Holds file has) where
   form : IsDirectory has.root.version has.chain.text has.directory
   form = holds.chains.has_directory.form
 
-  heads_are : named.heads_of has.directory ≡ heads_of (chains_of has.texts has.tables)
+  heads_are : named.heads_of has.directory ≡ heads_of (chains_of has.texts (has.tables ++ has.snapshots))
   heads_are =
       let by_form : named.Heads has.root.version has.chain.text (named.heads_of has.directory) =
       record { version = form.version; numbered = form.numbered; directory = has.directory; spelled = form.spelled; named = refl } in
-      let read = held_is_read unjudged names_chains file has holds in
-      let there = read_there unjudged file has.root (holding_of has) has.reached holds.chains.has_directory.taken.1.sound.pages_high read in
-      one_heads has.root.version has.chain.text (named.heads_of has.directory) (heads_of (chains_of has.texts has.tables)) by_form there.there.named
+      let read = held_is_read table_files names_chains file has holds in
+      let there = read_there table_files file has.root (holding_of has) has.reached holds.chains.has_directory.taken.1.sound.pages_high read in
+      one_heads has.root.version has.chain.text (named.heads_of has.directory) (heads_of (chains_of has.texts (has.tables ++ has.snapshots))) by_form there.there.named
 
   pub texts_named : NameTexts has.directory.kit has.texts
   texts_named =
@@ -171,37 +194,84 @@ module _ (file : List ℕ) (has : Held) (holds : Holds file has) where
       }
 
   pub each_chain : length has.directory.tables ≡ length has.tables
-  each_chain =
+  each_chain = sym holds.chains.counted
+
+  -- and as many snapshots as entries of such
+  each_snapshot : length has.directory.snapshots ≡ length has.snapshots
+  each_snapshot =
       let all = heads_are in
-      let rest : map (λ (entry : TableEntry). named.head_of entry.chain) has.directory.tables ≡ heads_of has.tables = cc in
-      as_many_chains has.directory.tables has.tables rest
+      let tables = map (λ (entry : TableEntry). named.head_of entry.chain) has.directory.tables in
+      let snapshots = map (λ (entry : SnapshotEntry). named.head_of entry.chain) has.directory.snapshots in
+      let rest : tables ++ snapshots ≡ heads_of (has.tables ++ has.snapshots) = cc in
+      omega (
+        arith,
+        ap (λ (heads : List (ℕ × ℕ)). length heads) rest,
+        as_many_heads (has.tables ++ has.snapshots),
+        length-append tables snapshots,
+        length-append has.tables has.snapshots,
+        length-map has.directory.tables (λ (entry : TableEntry). named.head_of entry.chain),
+        length-map has.directory.snapshots (λ (entry : SnapshotEntry). named.head_of entry.chain),
+        each_chain,
+      )
 
   pub tables_limited : AreTables has.directory.tables
   tables_limited = form.spelled.is_directory.are_tables
 
-  abbrev SpelledBy : words.World → Type 0
-  SpelledBy world = Spells has.root.version has.chain.text (texts_of (chains_of has.texts has.tables)) world
+  snapshots_limited : All (IsSnapshot has.directory.tables) has.directory.snapshots
+  snapshots_limited = form.spelled.is_directory.are_snapshots.each
 
-  tables_spelled : (world : words.World) → SpelledBy world → SpellsTables has.directory.tables (texts_of has.tables) world.tables
-  tables_spelled world spells =
-      let there : dir.Spells form.version has.chain.text spells.directory =
-      subst (λ (v : Version). dir.Spells v has.chain.text spells.directory) (one_version spells.version form.version (spells.numbered ∙ sym form.numbered)) spells.spelled in
-      let same = one_directory form.version has.chain.text has.directory spells.directory form.spelled there in
-      let of_tables : spells.of_tables ≡ texts_of has.tables = cc (spells.of_chains) in
-      let here = subst (λ (d : Directory). SpellsTables d.tables spells.of_tables world.tables) (sym same) spells.tables in
-      subst (λ (ts : List (List ℕ)). SpellsTables has.directory.tables ts world.tables) of_tables here
+  -- a world that the chains spell, by any rules
+  module _ (rules : WorldRules) (world : words.World) (spells : SpellBy rules has world) where
+    -- the directory that spells it is the one that was read
+    one_spelled : has.directory ≡ spells.directory
+    one_spelled =
+        let there : dir.Spells form.version has.chain.text spells.directory =
+        subst (λ (v : Version). dir.Spells v has.chain.text spells.directory) (one_version spells.version form.version (spells.numbered ∙ sym form.numbered)) spells.spelled in
+        one_directory form.version has.chain.text has.directory spells.directory form.spelled there
 
-  pub base_told : (base : World) (world : words.World) → SpelledBy world → IsInWords base world → TellTables has.directory.tables has.tables base
-  base_told base world spells based = spelled_told has.directory.tables has.tables base world.tables (tables_spelled world spells) based
+    -- and the texts of its tables are those of the tables' chains
+    texts_parted : (texts_of has.tables ≡ spells.of_tables) × (texts_of has.snapshots ≡ spells.of_snapshots)
+    texts_parted =
+        let behind : texts_of (has.tables ++ has.snapshots) ≡ spells.of_tables ++ spells.of_snapshots = cc (spells.of_chains) in
+        let whole = sym (texts_both has.tables has.snapshots) ∙ behind in
+        let as_many : length has.directory.tables ≡ length spells.directory.tables = ap (λ (d : Directory). length d.tables) one_spelled in
+        let here : length (texts_of has.tables) ≡ length has.tables = as_many_texts has.tables in
+        let there : length spells.of_tables ≡ length has.tables = as_many_spelled spells.directory.tables spells.of_tables world.tables spells.tables ∙ (sym as_many ∙ each_chain) in
+        let front = sym (take_at (texts_of has.tables) (texts_of has.snapshots) (length has.tables) here)
+        ∙ (ap (λ (ts : List (List ℕ)). take (length has.tables) ts) whole ∙ take_at spells.of_tables spells.of_snapshots (length has.tables) there) in
+        let back = sym (drop_at (texts_of has.tables) (texts_of has.snapshots) (length has.tables) here)
+        ∙ (ap (λ (ts : List (List ℕ)). drop (length has.tables) ts) whole ∙ drop_at spells.of_tables spells.of_snapshots (length has.tables) there) in
+        (front, back)
 
-  pub written_told : (world : words.World) → IsWritten has world → EachHas TellsWords has.directory.tables has.tables
-  written_told world is = words_told has.directory.tables has.tables world.tables (tables_spelled world is.spells) is.kept
+    pub tables_spelled : SpellsTables has.directory.tables (texts_of has.tables) world.tables
+    tables_spelled =
+        let spelled = subst (λ (d : Directory). SpellsTables d.tables spells.of_tables world.tables) (sym one_spelled) spells.tables in
+        subst (λ (ts : List (List ℕ)). SpellsTables has.directory.tables ts world.tables) (sym texts_parted.0) spelled
 
-  -- the world of these tables in words, with the texts
-  pub record IsToldBase (base : World) : Type 0 where
-    pub world : words.World
-    pub is_base : IsBase has base world
-    pub texts : kit_texts world ≡ texts_in has.texts
+    snapshots_spelled : EachSnapshot (ShownBy rules world) has.directory.snapshots has.snapshots
+    snapshots_spelled =
+        let shown = subst (λ (d : Directory). ShowGames rules world d.snapshots spells.of_snapshots) (sym one_spelled) spells.snapshots in
+        games_each rules world has.directory.snapshots has.snapshots (subst (λ (ts : List (List ℕ)). ShowGames rules world has.directory.snapshots ts) (sym texts_parted.1) shown)
+
+    pub base_told : (base : World) → IsInWords base world → TellTables has.directory.tables has.tables base
+    base_told base based = spelled_told has.directory.tables has.tables base world.tables tables_spelled based
+
+  -- where the rules of tables show each snapshot, it is the play of its table's commands
+  pub snapshots_play : (kit : Kit) (base : World) (world : words.World) → SpellBy table_rules has world → IsInWords base world → SpellsKit (kit_texts world) kit → ShowsThem kit (named_of has) base
+  snapshots_play kit base world spells based right =
+      show_plays has.directory.tables (texts_of has.tables) world (tables_spelled table_rules world spells) kit base has.directory.snapshots has.snapshots right based snapshots_limited
+      (snapshots_spelled table_rules world spells)
+
+  -- a written world is well formed
+  pub written_formed : (world : words.World) → IsWritten has world → IsWellFormed (named_of has)
+  written_formed world is =
+      let tables = tables_spelled any_game world is.spells in
+      record {
+        words = words_told has.directory.tables has.tables world.tables tables is.kept;
+        games = each_game has.directory.snapshots has.snapshots
+            (each_more (IsSnapshot has.directory.tables) (ShownBy any_game world) SpellsIt (shown_game has.directory.tables (texts_of has.tables) world tables)
+            has.directory.snapshots has.snapshots snapshots_limited (snapshots_spelled any_game world is.spells));
+      }
 
   -- the world in words of these tables
   abbrev world_with : List Table → words.World
@@ -213,31 +283,70 @@ module _ (file : List ℕ) (has : Held) (holds : Holds file has) where
     tables = tables;
   }
 
-  spelled_with : (tables : List Table) → SpellsTables has.directory.tables (texts_of has.tables) tables → SpelledBy (world_with tables)
-  spelled_with tables spells = record {
+  spelled_with : (rules : WorldRules) (tables : List Table) → SpellsTables has.directory.tables (texts_of has.tables) tables
+      → EachSnapshot (ShownBy rules (world_with tables)) has.directory.snapshots has.snapshots → SpellBy rules has (world_with tables)
+  spelled_with rules tables spells shown = record {
     version = form.version;
     numbered = form.numbered;
     directory = has.directory;
     spelled = form.spelled;
     of_tables = texts_of has.tables;
-    of_chains = refl;
+    of_snapshots = texts_of has.snapshots;
+    of_chains = ap (λ (texts : List (List ℕ)). has.texts.chart.text ∷ has.texts.roster.text ∷ has.texts.tiles.text ∷ has.texts.board.text ∷ texts) (texts_both has.tables has.snapshots);
     tables = spells;
+    snapshots = each_games rules (world_with tables) has.directory.snapshots has.snapshots shown;
   }
 
-  pub told_base : (base : World) → TellTables has.directory.tables has.tables base → IsToldBase base
-  told_base base told =
+  -- nothing is asked of the bytes of snapshots
+  pub words_worded : HasWords (named_of has) → (world : words.World) × IsWorded has world
+  words_worded told =
+      let all = told_words has.directory.tables has.tables each_chain told in
+      let each = each_of (IsSnapshot has.directory.tables) has.directory.snapshots has.snapshots each_snapshot snapshots_limited in
+      let shown = each_more (IsSnapshot has.directory.tables) (λ entry bytes. IsSnapshot has.directory.tables entry) (ShownBy any_bytes (world_with all.written))
+      (λ entry bytes is also. bytes_shown has.directory.tables (texts_of has.tables) (world_with all.written) all.spells entry bytes is)
+      has.directory.snapshots has.snapshots snapshots_limited each in
+      (world_with all.written, record { spells = spelled_with any_bytes all.written all.spells shown; kept = all.kept })
+
+  -- each is a game
+  written_with : (tables : List Table) → SpellsTables has.directory.tables (texts_of has.tables) tables → KeepSpelled tables → All SpellsItsGame (shown_in has.directory.snapshots has.snapshots)
+      → IsWritten has (world_with tables)
+  written_with tables spells kept games =
+      let shown = each_more (IsSnapshot has.directory.tables) SpellsIt (ShownBy any_game (world_with tables)) (game_shown has.directory.tables (texts_of has.tables) (world_with tables) spells)
+      has.directory.snapshots has.snapshots snapshots_limited (game_each has.directory.snapshots has.snapshots each_snapshot games) in
+      record { spells = spelled_with any_game tables spells shown; kept = kept }
+
+  -- a world in words with the texts, and one of these tables
+  pub record IsFormedWorld : Type 0 where
+    pub world : words.World
+    pub written : IsWritten has world
+    pub texts : kit_texts world ≡ texts_in has.texts
+
+  pub record IsToldBase (base : World) : Type 0 where
+    pub world : words.World
+    pub written : IsWritten has world
+    pub based : IsInWords base world
+    pub texts : kit_texts world ≡ texts_in has.texts
+
+  pub formed_written : IsWellFormed (named_of has) → IsFormedWorld
+  formed_written formed =
+      let all = told_words has.directory.tables has.tables each_chain formed.words in
+      record { world = world_with all.written; written = written_with all.written all.spells all.kept formed.games; texts = refl }
+
+  pub told_base : (base : World) → IsWellFormed (named_of has) → TellTables has.directory.tables has.tables base → IsToldBase base
+  told_base base formed told =
       let all = told_spelled has.directory.tables has.tables base told in
       record {
         world = world_with all.written;
-        is_base = record { spells = spelled_with all.written all.spells; based = all.are };
+        written = written_with all.written all.spells (keep_spelled base all.written all.are) formed.games;
+        based = all.are;
         texts = refl;
       }
 
-  pub told_written : EachHas TellsWords has.directory.tables has.tables → (world : words.World) × IsWritten has world
-  told_written told =
-      let all = told_words has.directory.tables has.tables each_chain told in
-      (world_with all.written, record { spells = spelled_with all.written all.spells; kept = all.kept })
-
--- a world of tables is written
+-- a world of tables is written: a snapshot that shows the play of commands is a game
 pub base_written : (has : Held) (base : World) (world : words.World) → IsBase has base world → IsWritten has world
-base_written has base world is = record { spells = is.spells; kept = keep_spelled base world.tables is.based }
+base_written has base world is =
+    record {
+      spells = spells_less table_rules any_game has.root.version has.chain.text (texts_of (chains_of has.texts (has.tables ++ has.snapshots))) world
+          (λ written bytes shown. (shown.game, shown.spelled)) is.spells;
+      kept = keep_spelled base world.tables is.based;
+    }

@@ -1,5 +1,5 @@
 -- A table whose kept commands are played again, one after another.
-use Rattle.std.proofs.Common.{◌≡◌, ◌⊎◌, ◌≢◌, ℕ, zero, suc, ◌+◌, ◌<◌, ◌≤◌, ◌==◌, Bool, true, false, not, nat_le, if◌then◌else◌, List, [], ◌∷◌, ◌++◌, length, None, Some, inl, inr, refl, sym, ap, subst, ◌∙◌, append-nil, append_assoc, length-append, arith}
+use Rattle.std.proofs.Common.{◌≡◌, ◌⊎◌, ◌≢◌, ℕ, zero, suc, ◌+◌, ◌<◌, ◌≤◌, ◌==◌, Bool, true, false, not, nat_le, if◌then◌else◌, List, [], ◌∷◌, ◌++◌, length, None, Some, inl, inr, refl, sym, ap, subst, ◌∙◌, append_assoc, length-append, arith}
 use Rattle.std.proofs.lemmas.Bool.Decides.{nat_tests}
 use Rattle.std.proofs.lemmas.List.Elements.{All-append, All-cons, All-nil}
 use Rattle.std.proofs.Math.Logic.{∥∥₁_elim}
@@ -12,15 +12,14 @@ use Rattle.rr_pages.specs.declared.fault.Fault.TheVariants as pages
 use Rattle.rr_reading.specs.Chains as counting
 use Rattle.rr_reading.specs.Dir.Kept.{IsShort, SpellsKept}
 use Rattle.rr_reading.specs.Lending.Commands.{Begins, IfCut}
-use Rattle.rr_reading.proofs.DirLemmas.KeptLemmas.{one_kept}
 use Rattle.rr_reading.proofs.LendingLemmas.CommandLemmas.{kept_cut}
-use Rattle.rr_reading.proofs.LendingLemmas.FrontLemmas.{CountsFront, counts_all, counts_cut, counts_past, front_more, front_none, front_split, front_whole, kept_nothing, next_word}
+use Rattle.rr_reading.proofs.LendingLemmas.FrontLemmas.{CountsFront, SpellsFront, counts_all, counts_cut, counts_past, front_more, front_none, front_split, front_whole, kept_nothing, next_word}
 use Rattle.rr_game.proofs.Playing.{opens}
 use Rattle.rr_game.specs.declared.history.fault.Fault as table
 use Rattle.rr_game.specs.declared.history.fault.Fault.TheVariants as H
 use Rattle.rr_game.specs.declared.history.table.Table.{Table}
 use Rattle.rr_game.specs.History.Laws.{RequestsHaveOneVerdict}
-use Rattle.rr_game.specs.History.Playing.{ArePlayed, IsLawfulAfter, ends_turn}
+use Rattle.rr_game.specs.History.Playing.{ArePlayed, IsLawfulAfter}
 use Rattle.rr_game.specs.History.Tables.{IsPlayed, kept_in}
 use Rattle.rr_game.specs.History.Verdict.{request_judgement, stamp_verdict}
 use Rattle.rr_game.proofs.HistoryLemmas.Judging.{has_room, lawful_behind_stamp, lawful_with_room}
@@ -28,16 +27,22 @@ use Rattle.rr_kit.specs.declared.kit.Kit.{Kit}
 use Rattle.rr_tables.specs.Records.Words.{SpellCommands}
 use Rattle.rr_turns.specs.declared.request.Request.TheVariants.{Play}
 use Rattle.rr_turns.specs.Judgement.{MayFind}
-use Rattle.rr_turns.specs.Kept.{Kept, kept_of}
+use Rattle.rr_turns.specs.Kept.{Kept}
 use Rattle.rr_turns.proofs.JudgementLemmas.{only-wanting}
 use Rattle.rr_turns.proofs.LawfulLemmas.{lawful-at}
 use Rattle.rr_pages.specs.declared.fault.Damage.TheVariants.{Kept as NotPlayed}
 use Rattle.rr_store.specs.declared.recovery.fault.Fault.{Fault}
 use Rattle.rr_store.specs.declared.recovery.fault.Fault.TheVariants as F
 use Rattle.rr_store.specs.Recovery.Fault.{IsOrBreaks, of_chain, of_table}
-use Rattle.rr_store.specs.Recovery.Kept.{AreWorded, HasPlayed, HasRoom, HoldsPlayed, IsBegunBy, IsRestored, IsUnlawfulAfter, SpellsNoOpening}
-use Rattle.rr_store.specs.Recovery.Playing.{BeginsNoTable, No_command, No_opening, First_cut, PlaysNoMore, None_left, Unlawful, Next_cut}
+use Rattle.rr_store.specs.Recovery.Kept.{AreWorded, HasPlayed, HasRoom, HoldsCommands, IsBegunBy, IsUnlawfulAfter, SpellsNoOpening}
+use Rattle.rr_store.specs.Recovery.Playing.{BeginsNoTable, No_command, No_opening, First_cut, IsFrontOf, KeepsFront, PlaysNoMore, None_left, Unlawful, Next_cut}
 use Rattle.rr_store.proofs.RecoveryLemmas.WordLemmas.{as_many, cut, one_command, one_list, spell_push}
+
+-- the bytes hold commands that were played: an opening and then commands that are lawful, each after those before it
+pub record HoldsPlayed (kit : Kit) (bytes : List ℕ) (count : ℕ) : Type 0 where
+  pub commands : List Command
+  pub kept : HoldsCommands bytes count commands
+  pub played : ∥ ArePlayed kit commands ∥₁
 
 -- a table has played the commands with which the bytes begin, and so many of the counted ones are left
 pub record IsPlaying (bytes rest : List ℕ) (left count : ℕ) (table : Table) : Type 0 where
@@ -45,25 +50,53 @@ pub record IsPlaying (bytes rest : List ℕ) (left count : ℕ) (table : Table) 
   pub spelled : SpellCommands counts.front (kept_in table).commands
   pub stamped : (kept_in table).stamp ≡ length (kept_in table).commands
 
-pub begun_by : (kit : Kit) (words : List ℕ) (players : List (List ℕ)) (table : Table) → kept_in table ≡ kept_of (ends_turn kit) (Play (Open players) ∷ []) → IsPlayed kit table
-    → SpellsCommand words (Open players) → IsBegunBy kit words table
-begun_by kit words players table same played spells =
-    let commands : (kept_in table).commands ≡ Open players ∷ [] = ap (λ (k : Kept Command). k.commands) same in
-    let stamp : (kept_in table).stamp ≡ 1 = ap (λ (k : Kept Command). k.stamp) same in
-    let count : length (kept_in table).commands ≡ 1 = ap length commands in
+-- a table begins behind the front of the bytes
+pub begins : (kit : Kit) (bytes rest words : List ℕ) (table : Table) → Begins bytes words rest → IsBegunBy kit words table → KeepsFront bytes (kept_in table).commands rest
+begins kit bytes rest words table passed begun =
+    let one = front_more bytes [] bytes words rest (front_none bytes) passed in
+    record { words = words ∷ []; short = one.short; split = one.spelled; spelled = begun.spelled }
+
+pub spells_front : (bytes rest : List ℕ) (commands : List Command) (keeps : KeepsFront bytes commands rest) → SpellsFront bytes keeps.words rest
+spells_front bytes rest commands keeps = record { short = keeps.short; spelled = keeps.split }
+
+pub starts : (bytes rest : List ℕ) (left count : ℕ) (table : Table) → KeepsFront bytes (kept_in table).commands rest → (kept_in table).stamp ≡ length (kept_in table).commands
+    → length (kept_in table).commands + left ≡ count → IsPlaying bytes rest left count table
+starts bytes rest left count table keeps stamped all =
     record {
-      spelled = subst (λ (cs : List Command). SpellCommands (words ∷ []) cs) (sym commands) (spells, tt);
-      stamped = stamp ∙ sym count;
-      played = played;
+      counts = record {
+        front = keeps.words;
+        spells = spells_front bytes rest (kept_in table).commands keeps;
+        counted = omega (arith, as_many keeps.words (kept_in table).commands keeps.spelled, all);
+      };
+      spelled = keeps.spelled;
+      stamped = stamped;
     }
 
-pub begins : (kit : Kit) (bytes rest words : List ℕ) (left count : ℕ) (table : Table) → Begins bytes words rest → left + 1 ≡ count → IsBegunBy kit words table → IsPlaying bytes rest left count table
-begins kit bytes rest words left count table passed one begun =
-    record {
-      counts = record { front = words ∷ []; spells = front_more bytes [] bytes words rest (front_none bytes) passed; counted = omega (arith, one) };
-      spelled = begun.spelled;
-      stamped = begun.stamped;
-    }
+-- what the bytes hold begins with the commands at their front
+first_ones : (words behind : List (List ℕ)) (front commands : List Command) → SpellCommands words front → SpellCommands (words ++ behind) commands → IsFrontOf front commands
+first_ones [] behind [] commands spelled all = (commands, refl)
+first_ones [] behind (c ∷ cs) commands spelled all = absurd spelled
+first_ones (w ∷ ws) behind [] commands spelled all = absurd spelled
+first_ones (w ∷ ws) behind (c ∷ cs) [] spelled all = absurd all
+first_ones (w ∷ ws) behind (c ∷ cs) (d ∷ ds) spelled all =
+    let here = one_command w d c all.0 spelled.0 in
+    let more = first_ones ws behind cs ds spelled.1 all.1 in (more.0, λ i. here i ∷ more.1 i)
+
+pub front_before : (first second commands : List Command) → IsFrontOf first second → IsFrontOf second commands → IsFrontOf first commands
+front_before first second commands one two =
+    (one.0 ++ two.0, two.1 ∙ ap (λ (cs : List Command). cs ++ two.0) one.1 ∙ append_assoc first one.0 two.0)
+
+pub held_front : (bytes rest : List ℕ) (count : ℕ) (words : List (List ℕ)) (front commands : List Command) → SpellsFront bytes words rest → SpellCommands words front → HoldsCommands bytes count commands
+    → IsFrontOf front commands
+held_front bytes rest count words front commands spells spelled holds =
+    let split = front_split words bytes rest holds.words spells holds.kept in
+    first_ones words split.behind front commands spelled (subst (λ (ws : List (List ℕ)). SpellCommands ws commands) split.split holds.spelled)
+
+-- they aren't more than it holds
+pub too_many : (bytes rest : List ℕ) (count : ℕ) (front commands : List Command) → KeepsFront bytes front rest → count < length front → HoldsCommands bytes count commands → ⊥
+too_many bytes rest count front commands keeps past holds =
+    let split = front_split keeps.words bytes rest holds.words (spells_front bytes rest front keeps) holds.kept in
+    omega (arith, as_many keeps.words front keeps.spelled, ap length split.split, length-append keeps.words split.behind, holds.counted, past)
 
 pub goes_on : (kit : Kit) (bytes rest behind words : List ℕ) (left less count : ℕ) (old new : Table) → IsPlaying bytes rest left count old → Begins rest words behind → less + 1 ≡ left → HasPlayed kit old words new
     → IsPlaying bytes behind less count new
@@ -99,16 +132,13 @@ worded_more kit words old new short more worded =
     })
 
 -- all were played
-pub ends : (kit : Kit) (bytes rest : List ℕ) (left count : ℕ) (table : Table) → IsPlaying bytes rest left count table → IsPlayed kit table → rest ≡ [] → left ≡ 0 → IsRestored kit bytes count table
-ends kit bytes rest left count table so_far played end none =
+pub ends : (bytes rest : List ℕ) (left count : ℕ) (table : Table) → IsPlaying bytes rest left count table → rest ≡ [] → left ≡ 0 → HoldsCommands bytes count (kept_in table).commands
+ends bytes rest left count table so_far end none =
     record {
-      kept = record {
-        words = so_far.counts.front;
-        kept = front_whole bytes so_far.counts.front rest so_far.counts.spells end;
-        counted = omega (arith, so_far.counts.counted, none);
-        spelled = so_far.spelled;
-      };
-      played = played;
+      words = so_far.counts.front;
+      kept = front_whole bytes so_far.counts.front rest so_far.counts.spells end;
+      counted = omega (arith, so_far.counts.counted, none);
+      spelled = so_far.spelled;
     }
 
 room_left : (bytes rest : List ℕ) (left count : ℕ) (old : Table) → IsPlaying bytes rest left count old → 0 < left → count ≤ 4096 → HasRoom old
@@ -140,11 +170,6 @@ unplayed kit front words rest before commands spelled some unlawful all played =
 lt_or_none : (n : ℕ) → (0 < n) ⊎ (n ≡ 0)
 lt_or_none zero = inr refl
 lt_or_none (suc n) = inl (omega arith)
-
--- what the bytes hold is what these words spell
-pub held_words : (kit : Kit) (bytes : List ℕ) (count : ℕ) (all : List (List ℕ)) → SpellsKept bytes all → (holds : HoldsPlayed kit bytes count) → SpellCommands all holds.commands
-held_words kit bytes count all kept holds =
-    subst (λ (ws : List (List ℕ)). SpellCommands ws holds.commands) (one_kept bytes holds.kept.words all holds.kept.kept kept) holds.kept.spelled
 
 -- what is held, as so many commands
 held_so : (kit : Kit) (bytes : List ℕ) (count : ℕ) → HoldsPlayed kit bytes count → counting.HoldsCommands bytes count
@@ -196,9 +221,6 @@ none_first kit bytes count words holds same none =
 none_counted : (words : List (List ℕ)) → length words ≡ 0 → words ≡ []
 none_counted [] same = refl
 none_counted (first ∷ words) same = absurd (omega (arith, same))
-
-pub begins_none : (kit : Kit) (bytes : List ℕ) (count : ℕ) → count ≡ 0 → HoldsPlayed kit bytes count → ⊥
-begins_none kit bytes count none holds = none_first kit bytes count holds.kept.words holds refl (none_counted holds.kept.words (holds.kept.counted ∙ none))
 
 nothing_kept : (bytes : List ℕ) (words : List (List ℕ)) → bytes ≡ [] → SpellsKept bytes words → words ≡ []
 nothing_kept bytes words end kept = none_counted words (kept_nothing bytes words end kept)

@@ -1,148 +1,168 @@
 -- What a file tells, from what is told of its root's entries and chains.
-use Rattle.std.proofs.Common.{◌≡◌, ◌⊎◌, ℕ, List, ◌++◌, length, inl, inr, sym, ap, subst, ◌∙◌}
+use Rattle.std.proofs.Common.{◌≡◌, ◌⊎◌, ℕ, List, ◌++◌, length, inl, inr, sym, subst, ◌∙◌}
 use Rattle.std.specs.Prelude.{Option}
-use Rattle.rr_reading.specs.declared.dir.directory.TableEntry.{TableEntry}
 use Rattle.rr_reading.specs.Dir.Directory.{AreTables}
-use Rattle.rr_images.specs.Holding.{HeldChain}
 use Rattle.rr_kit.specs.declared.kit.Kit.{Kit}
+use Rattle.rr_kit.specs.Kits.{IsWrongKit, KitTexts, SpellsKit}
 use Rattle.rr_log.specs.Opening.Opened.{HasDamagedRecord}
 use Rattle.rr_reading.specs.Held.{Held, TextChains}
 use Rattle.rr_reading.specs.Reading.{Holds}
+use Rattle.rr_tables.specs.Records.Played.{ArePlayedTables}
+use Rattle.rr_tables.specs.Records.Taking.{table_rules}
 use Rattle.rr_tables.specs.Records.World.{World}
 use Rattle.rr_checkpoint.specs.declared.plan.kit.KitPages.{KitPages}
 use Rattle.rr_checkpoint.specs.declared.plan.transcript.Transcript.{Transcript}
 use Rattle.rr_checkpoint.specs.Plan.Kit.{AreTextChains}
 use Rattle.rr_tables.specs.declared.tables.Tables.{Tables}
-use Rattle.rr_tables.specs.Tables.{world_of}
+use Rattle.rr_tables.specs.Tables.{ArePlayed, world_of}
 use Rattle.rr_pages.specs.declared.fault.Damage.{Damage}
 use Rattle.rr_pages.specs.declared.fault.Damage.TheVariants as D
 use Rattle.rr_store.specs.declared.recovery.fault.Fault.{Fault}
 use Rattle.rr_store.specs.declared.recovery.fault.Fault.TheVariants as F
-use Rattle.rr_store.specs.Recovery.Base.{HasUnplayed, IsRightBase, RefusesBase}
+use Rattle.rr_store.specs.Recovery.Base.{HasUnplayed, HasWords, IsRightBase, IsWellFormed, Named, RefusesBase, ShowsThem}
 use Rattle.rr_store.specs.Recovery.Fault.{IsOfDevice, IsOrBreaks}
-use Rattle.rr_store.specs.Recovery.Recovered.{IsRecoveredFrom}
-use Rattle.rr_store.specs.Recovery.Telling.{HasBadRecord, IsRecovered, Refuses}
+use Rattle.rr_store.specs.Recovery.Recovered.{IsRecoveredFrom, IsTold}
+use Rattle.rr_store.specs.Recovery.Telling.{HasBadRecord, HasTrueSnapshots, IsRecovered, Refuses}
 use Rattle.rr_store.specs.Recovery.Replaying.{AreReplayed, BreaksOff, IsTranscriptBefore, Replays}
 use Rattle.rr_store.specs.Recovery.Texts.{NameTexts, texts_in}
-use Rattle.rr_store.specs.Recovery.Told.{EachHas, TellsWords}
-use Rattle.rr_store.proofs.RecoveryLemmas.BaseLemmas.{base_told, base_written, each_chain, tables_limited, texts_named, told_base, told_written, written_told}
+use Rattle.rr_store.specs.Recovery.Told.{TellTables}
+use Rattle.rr_store.proofs.RecoveryLemmas.BaseLemmas.{base_told, each_chain, formed_written, named_of, snapshots_play, tables_limited, texts_named, told_base, words_worded, written_formed}
 use Rattle.rr_store.proofs.RecoveryLemmas.ReplayLemmas.{StopsAt}
-use Rattle.rr_store.proofs.RecoveryLemmas.TellingLemmas.{played_each}
 
 -- why there are no tables of a root: the device failed, or some table wasn't played
-module _ (entries : List TableEntry) (texts : TextChains) (chains : List HeldChain) where
-  pub device_refuses : (fault : Fault) → IsOfDevice fault → RefusesBase entries texts chains fault
+module _ (named : Named) (texts : TextChains) where
+  pub device_refuses : (fault : Fault) → IsOfDevice fault → RefusesBase named texts fault
   device_refuses (F.Damaged damage) none = absurd none
   device_refuses (F.Disk fault) none = tt
   device_refuses F.OutOfMemory none = absurd none
 
-  pub kept_refuses : {P : Type 0} (fault : Fault) → IsOrBreaks D.Kept P fault → EachHas TellsWords entries chains → (P → HasUnplayed entries texts chains) → RefusesBase entries texts chains fault
-  kept_refuses (F.Damaged damage) is told so = subst (λ (d : Damage). RefusesBase entries texts chains (F.Damaged d)) (sym is.0) (so is.1)
+  pub memory_refuses : (fault : Fault) → fault ≡ F.OutOfMemory → HasWords named → RefusesBase named texts fault
+  memory_refuses fault memory told = subst (λ (f : Fault). RefusesBase named texts f) (sym memory) told
+
+  pub kit_refuses : (fault : Fault) → (fault ≡ F.OutOfMemory) ⊎ ((fault ≡ F.Damaged D.Kit) × IsWrongKit (texts_in texts)) → IsWellFormed named → RefusesBase named texts fault
+  kit_refuses fault (inl memory) formed = memory_refuses fault memory formed.words
+  kit_refuses fault (inr wrong) formed =
+      let no_kit : RefusesBase named texts (F.Damaged D.Kit) = record { formed = formed; wrong = wrong.1 } in subst (λ (f : Fault). RefusesBase named texts f) (sym wrong.0) no_kit
+
+  pub kept_refuses : {P : Type 0} (fault : Fault) → IsOrBreaks D.Kept P fault → HasWords named → (P → HasUnplayed named texts) → RefusesBase named texts fault
+  kept_refuses (F.Damaged damage) is told so = subst (λ (d : Damage). RefusesBase named texts (F.Damaged d)) (sym is.0) (so is.1)
   kept_refuses (F.Disk fault) is told so = tt
   kept_refuses F.OutOfMemory is told so = told
 
+-- what is so of the tables before the records, if each snapshot shows their play
+abbrev pub PlaysThem : Named → Tables → Type 0
+PlaysThem named tables = ShowsThem tables.kit named (world_of tables) → ArePlayed tables × ArePlayedTables tables.kit (world_of tables)
+
 module _ (file : List ℕ) (has : Held) (holds : Holds file has) where
+  -- snapshots that show the play of a world in words show that of its tables
+  shows_them : (kit : Kit) (base : World) → SpellsKit (texts_in has.texts) kit → HasTrueSnapshots has → IsWellFormed (named_of has) → TellTables has.directory.tables has.tables base
+      → ShowsThem kit (named_of has) base
+  shows_them kit base right true formed told =
+      let there = told_base file has holds base formed told in
+      snapshots_play file has holds kit base there.world (true there.world there.written) there.based (subst (λ (t : KitTexts). SpellsKit t kit) (sym there.texts) right)
+
   -- the root is refused, and so is the file
-  pub refuses_base : (fault : Fault) → (length has.directory.tables ≡ length has.tables → AreTables has.directory.tables → RefusesBase has.directory.tables has.texts has.tables fault)
-      → Refuses has fault
+  pub refuses_base : (fault : Fault) → (length has.directory.tables ≡ length has.tables → AreTables has.directory.tables → RefusesBase (named_of has) has.texts fault) → Refuses has fault
   refuses_base fault refused = by_fault fault (refused (each_chain file has holds) (tables_limited file has holds))
     where
-      by_fault : (fault : Fault) → RefusesBase has.directory.tables has.texts has.tables fault → Refuses has fault
-      by_fault (F.Damaged D.Form) no_words = λ world is. no_words (written_told file has holds world is)
+      by_fault : (fault : Fault) → RefusesBase (named_of has) has.texts fault → Refuses has fault
+      by_fault (F.Damaged D.Form) formless = λ world is. formless (written_formed file has holds world is)
       by_fault (F.Damaged D.Kit) no_kit =
-          let there = told_written file has holds no_kit.spelled in record { world = there.0; written = there.1; wrong = no_kit.wrong }
-      by_fault (F.Damaged D.Kept) unplayed =
-          let there = told_written file has holds unplayed.spelled in
+          let there = formed_written file has holds no_kit.formed in record { world = there.world; written = there.written; wrong = no_kit.wrong }
+      by_fault (F.Damaged D.Kept) unplayed = λ true.
+          let there = formed_written file has holds unplayed.formed in
           record {
-            world = there.0;
-            written = there.1;
+            world = there.world;
+            written = there.written;
             kit = unplayed.kit;
             right = unplayed.right;
             unplayed = λ base based played.
-                unplayed.unplayed (played_each unplayed.kit has.directory.tables has.tables base (base_told file has holds base there.0 there.1.spells based) played);
+                let told = base_told file has holds table_rules there.world (true there.world there.written) base based in
+                unplayed.unplayed base told (shows_them unplayed.kit base unplayed.right true unplayed.formed told) played;
           }
-      by_fault (F.Damaged _) none = absurd none
+      by_fault (F.Damaged _) never = absurd never
       by_fault (F.Disk fault) failed = tt
-      by_fault F.OutOfMemory spelled = let there = told_written file has holds spelled in λ bad. bad there.0 there.1
+      by_fault F.OutOfMemory told = let there = words_worded file has holds told in λ bad. bad there.0 there.1
 
   -- the same of what was read
-  pub refuses_read : (entries : List TableEntry) (read : List HeldChain) (fault : Fault) → entries ≡ has.directory.tables → read ≡ has.tables
-      → (length entries ≡ length read → AreTables entries → RefusesBase entries has.texts read fault) → Refuses has fault
-  refuses_read entries read fault entries_are chains_are refused = refuses_base fault there
-    where
-      there : length has.directory.tables ≡ length has.tables → AreTables has.directory.tables → RefusesBase has.directory.tables has.texts has.tables fault
-      there same are =
-          let many : length entries ≡ length read = ap length entries_are ∙ (same ∙ (sym (ap length chains_are))) in
-          let limited = subst (λ (es : List TableEntry). AreTables es) (sym entries_are) are in
-          subst (λ (cs : List HeldChain). RefusesBase has.directory.tables has.texts cs fault) chains_are
-          (subst (λ (es : List TableEntry). RefusesBase es has.texts read fault) entries_are (refused many limited))
+  pub refuses_read : (named : Named) (fault : Fault) → named ≡ named_of has → (length named.entries ≡ length named.chains → AreTables named.entries → RefusesBase named has.texts fault)
+      → Refuses has fault
+  refuses_read named fault same refused =
+      refuses_base fault (subst (λ (n : Named). length n.entries ≡ length n.chains → AreTables n.entries → RefusesBase n has.texts fault) same refused)
 
-  pub right_read : (entries : List TableEntry) (read : List HeldChain) (kit : Kit) (base : World) → entries ≡ has.directory.tables → read ≡ has.tables
-      → IsRightBase entries has.texts read kit base → IsRightBase has.directory.tables has.texts has.tables kit base
-  right_read entries read kit base entries_are chains_are right =
-      subst (λ (cs : List HeldChain). IsRightBase has.directory.tables has.texts cs kit base) chains_are
-      (subst (λ (es : List TableEntry). IsRightBase es has.texts read kit base) entries_are right)
+  module _ (old : Tables) (right : IsRightBase (named_of has) has.texts old.kit (world_of old)) where
+    -- tables before the records that were played, if the snapshots are true
+    pub base_played : PlaysThem (named_of has) old → HasTrueSnapshots has → ArePlayed old × ArePlayedTables old.kit (world_of old)
+    base_played plays true = plays (shows_them old.kit (world_of old) right.right true right.formed right.told)
 
-  -- a record is refused
-  pub bad_record : (kit : Kit) (base : World) → IsRightBase has.directory.tables has.texts has.tables kit base
-      → BreaksOff kit base (has.near ++ has.far) ⊎ HasDamagedRecord has → HasBadRecord has
-  bad_record kit base right bad =
-      let told = told_base file has holds base right.told in
-      record {
-        base = base;
-        world = told.world;
-        is_base = told.is_base;
-        kit = kit;
-        right = right.right;
-        played = right.played;
-        bad = bad;
-      }
+    -- a record is refused
+    pub bad_record : PlaysThem (named_of has) old → (ArePlayed old → BreaksOff old.kit (world_of old) (has.near ++ has.far) ⊎ HasDamagedRecord has) → HasTrueSnapshots has → HasBadRecord has
+    bad_record plays bad true =
+        let there = told_base file has holds (world_of old) right.formed right.told in
+        let played = base_played plays true in
+        record {
+          base = world_of old;
+          world = there.world;
+          is_base = record { spells = true there.world there.written; based = there.based };
+          kit = old.kit;
+          right = right.right;
+          played = played.1;
+          bad = bad played.0;
+        }
 
-  pub refuses_memory : (kit : Kit) (base : World) (fault : Fault) → IsRightBase has.directory.tables has.texts has.tables kit base → fault ≡ F.OutOfMemory → Refuses has fault
-  refuses_memory kit base fault right memory =
-      let told = told_base file has holds base right.told in
-      let some : Refuses has F.OutOfMemory = λ bad. bad told.world (base_written has base told.world told.is_base) in
-      subst (λ (f : Fault). Refuses has f) (sym memory) some
+    pub refuses_memory : (fault : Fault) → fault ≡ F.OutOfMemory → Refuses has fault
+    refuses_memory fault memory =
+        let there = words_worded file has holds right.formed.words in
+        let some : Refuses has F.OutOfMemory = λ bad. bad there.0 there.1 in
+        subst (λ (f : Fault). Refuses has f) (sym memory) some
 
-  pub refuses_records : (kit : Kit) (base : World) (near far : List (List ℕ)) (fault : Fault) → near ≡ has.near → far ≡ has.far
-      → IsRightBase has.directory.tables has.texts has.tables kit base → StopsAt kit base (near ++ far) fault → Refuses has fault
-  refuses_records kit base near far fault near_is far_is right (inl memory) = refuses_memory kit base fault right memory
-  refuses_records kit base near far fault near_is far_is right (inr breaks) =
-      let lines : near ++ far ≡ has.near ++ has.far = λ i. near_is i ++ far_is i in
-      let there = subst (λ (l : List (List ℕ)). BreaksOff kit base l) lines breaks.1 in
-      subst (λ (f : Fault). Refuses has f) (sym breaks.0) (bad_record kit base right (inl there))
+    pub refuses_records : (near far : List (List ℕ)) (fault : Fault) → near ≡ has.near → far ≡ has.far → PlaysThem (named_of has) old
+        → StopsAt (ArePlayed old) old.kit (world_of old) (near ++ far) fault → Refuses has fault
+    refuses_records near far fault near_is far_is plays (inl memory) = refuses_memory fault memory
+    refuses_records near far fault near_is far_is plays (inr breaks) =
+        let lines : near ++ far ≡ has.near ++ has.far = λ i. near_is i ++ far_is i in
+        let there : ArePlayed old → BreaksOff old.kit (world_of old) (has.near ++ has.far) ⊎ HasDamagedRecord has =
+        λ played. inl (subst (λ (l : List (List ℕ)). BreaksOff old.kit (world_of old) l) lines (breaks.1 played)) in
+        subst (λ (f : Fault). Refuses has f) (sym breaks.0) (bad_record plays there)
 
-  -- all is right
-  pub is_recovered : (kit now : Kit) (base middle tables : World) → IsRightBase has.directory.tables has.texts has.tables kit base → Replays kit base has.near middle
-      → Replays kit middle has.far tables → now ≡ kit → (HasDamagedRecord has → ⊥) → IsRecovered has (texts_in has.texts) now base middle tables
-  is_recovered kit now base middle tables right near far same whole =
-      let first = told_base file has holds base right.told in
-      let P : Kit → Type 0 = λ k. IsRecovered has (texts_in has.texts) k base middle tables in
-      subst P (sym same)
-      (record {
-        world = first.world;
-        spells = first.is_base.spells;
-        of_kit = first.texts;
-        right = right.right;
-        based = first.is_base.based;
-        played = right.played;
-        near = near;
-        far = far;
-        whole = whole;
-      })
+    -- all is right
+    module _ (new : Tables) (pages : KitPages) (transcript : Option Transcript) (near far : List (List ℕ)) (near_is : near ≡ has.near) (far_is : far ≡ has.far) (same : new.kit ≡ old.kit)
+        (plays : PlaysThem (named_of has) old) (replayed : ArePlayed old → AreReplayed old.kit (world_of old) near far transcript (world_of new)) (stays : ArePlayed old → ArePlayed new)
+        (whole : HasDamagedRecord has → ⊥) where
+      is_told : HasTrueSnapshots has → IsTold has (texts_in has.texts) (record { tables = new; kit = pages; base = transcript })
+      is_told true =
+          let there = told_base file has holds (world_of old) right.formed right.told in
+          let played = base_played plays true in
+          let both = replayed played.0 in
+          let first = subst (λ (l : List (List ℕ)). Replays old.kit (world_of old) l (world_of both.middle)) near_is both.replays_near in
+          let second = subst (λ (l : List (List ℕ)). Replays old.kit (world_of both.middle) l (world_of new)) far_is both.replays_far in
+          let recovered : IsRecovered has (texts_in has.texts) old.kit (world_of old) (world_of both.middle) (world_of new) =
+          record {
+            world = there.world;
+            spells = true there.world there.written;
+            of_kit = there.texts;
+            right = right.right;
+            based = there.based;
+            played = played.1;
+            near = first;
+            far = second;
+            whole = whole;
+          } in
+          record {
+            base = world_of old;
+            middle = both.middle;
+            told = subst (λ (k : Kit). IsRecovered has (texts_in has.texts) k (world_of old) (world_of both.middle) (world_of new)) (sym same) recovered;
+            of_kit = both.of_kit ∙ sym same;
+            middle_played = both.played;
+            before = subst (λ (l : List (List ℕ)). IsTranscriptBefore l both.middle transcript) far_is both.before;
+            played = stays played.0;
+          }
 
-  pub recovered_from : (old new : Tables) (pages : KitPages) (transcript : Option Transcript) (near far : List (List ℕ)) → near ≡ has.near → far ≡ has.far
-      → IsRightBase has.directory.tables has.texts has.tables old.kit (world_of old) → AreReplayed old.kit (world_of old) near far transcript (world_of new) → new.kit ≡ old.kit
-      → (HasDamagedRecord has → ⊥) → (NameTexts has.directory.kit has.texts → AreTextChains pages has.texts)
-      → IsRecoveredFrom has (record { tables = new; kit = pages; base = transcript })
-  recovered_from old new pages transcript near far near_is far_is right replayed same whole on_pages =
-      let first = subst (λ (l : List (List ℕ)). Replays old.kit (world_of old) l replayed.middle) near_is replayed.replays_near in
-      let second = subst (λ (l : List (List ℕ)). Replays old.kit replayed.middle l (world_of new)) far_is replayed.replays_far in
-      record {
-        texts = texts_in has.texts;
-        base = world_of old;
-        middle = replayed.middle;
-        told = is_recovered old.kit new.kit (world_of old) replayed.middle (world_of new) right first second same whole;
-        on_pages = on_pages (texts_named file has holds);
-        before = subst (λ (l : List (List ℕ)). IsTranscriptBefore l replayed.middle transcript) far_is replayed.before;
-      }
+      pub recovered_from : (NameTexts has.directory.kit has.texts → AreTextChains pages has.texts) → IsRecoveredFrom has (record { tables = new; kit = pages; base = transcript })
+      recovered_from on_pages =
+          record {
+            texts = texts_in has.texts;
+            right = subst (λ (k : Kit). SpellsKit (texts_in has.texts) k) (sym same) right.right;
+            on_pages = on_pages (texts_named file has holds);
+            told = is_told;
+          }

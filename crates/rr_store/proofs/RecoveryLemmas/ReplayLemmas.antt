@@ -1,11 +1,14 @@
 -- Records that are played again, one after another.
-use Rattle.std.proofs.Common.{◌≡◌, ◌⊎◌, ℕ, ◌+◌, ◌<◌, List, [], ◌∷◌, ◌++◌, length, map, take, drop, get_or, Option, inl, inr, refl, sym, ap, subst, ◌∙◌, add-one, append_assoc, take-append-drop}
+use Rattle.std.proofs.Common.{◌≡◌, ◌⊎◌, ℕ, ◌+◌, ◌<◌, List, [], ◌∷◌, ◌++◌, length, map, take, drop, get_or, Option, Some, inl, inr, refl, sym, ap, subst, ◌∙◌, add-one, append_assoc, take-append-drop}
 use Rattle.std.proofs.lemmas.List.{map-append, take_more}
 use Rattle.std.proofs.Math.Seq.{drop-cons}
 use Rattle.rr_kit.specs.declared.kit.Kit.{Kit}
 use Rattle.rr_tables.specs.Records.Lines.{IsUnlawful, TakesRecord}
 use Rattle.rr_tables.specs.Records.World.{World}
+use Rattle.rr_tables.specs.Tables.{ArePlayed, lent_by, world_of}
+use Rattle.rr_tables.specs.declared.tables.Tables.{Tables}
 use Rattle.rr_checkpoint.specs.declared.plan.transcript.Transcript.{Transcript}
+use Rattle.rr_checkpoint.specs.Plan.Transcript.{snapshots_of, tables_of}
 use Rattle.rr_pages.specs.declared.fault.Damage.TheVariants.{Records}
 use Rattle.rr_store.specs.declared.recovery.fault.Fault.{Fault}
 use Rattle.rr_store.specs.declared.recovery.fault.Fault.TheVariants as F
@@ -49,26 +52,38 @@ far_breaks kit old mid near far before breaks =
       unlawful = breaks.unlawful;
     }
 
--- a record of a half isn't taken
-abbrev pub StopsAt : Kit → World → List (List ℕ) → Fault → Type 0
-StopsAt kit old lines fault = (fault ≡ F.OutOfMemory) ⊎ ((fault ≡ F.Damaged Records) × BreaksOff kit old lines)
+-- there are lines, and the transcript has what the tables lend
+pub transcript_is : (lines : List (List ℕ)) (tables : Tables) (transcript : Transcript) → (lines ≡ [] → ⊥) → tables_of transcript ≡ (lent_by tables).tables
+    → snapshots_of transcript ≡ (lent_by tables).snapshots → IsTranscriptBefore lines tables (Some transcript)
+transcript_is [] tables transcript some p q = absurd (some refl)
+transcript_is (line ∷ lines) tables transcript some p q = λ i. record { tables = p i; snapshots = q i }
 
-pub near_stops : (kit : Kit) (old : World) (near far : List (List ℕ)) (fault : Fault) → StopsAt kit old near fault → StopsAt kit old (near ++ far) fault
+-- a record of a half isn't taken, and has no lawful request where the tables before it were played
+abbrev pub StopsAt : Type 0 → Kit → World → List (List ℕ) → Fault → Type 0
+StopsAt played kit old lines fault = (fault ≡ F.OutOfMemory) ⊎ ((fault ≡ F.Damaged Records) × (played → BreaksOff kit old lines))
+
+pub near_stops : {P : Type 0} (kit : Kit) (old : World) (near far : List (List ℕ)) (fault : Fault) → StopsAt P kit old near fault → StopsAt P kit old (near ++ far) fault
 near_stops kit old near far fault (inl memory) = inl memory
-near_stops kit old near far fault (inr stops) = inr (stops.0, near_breaks kit old near far stops.1)
+near_stops kit old near far fault (inr stops) = inr (stops.0, λ played. near_breaks kit old near far (stops.1 played))
 
-pub far_stops : (kit now : Kit) (old mid : World) (near far : List (List ℕ)) (fault : Fault) → now ≡ kit → Replays kit old near mid → StopsAt now mid far fault → StopsAt kit old (near ++ far) fault
-far_stops kit now old mid near far fault same before (inl memory) = inl memory
-far_stops kit now old mid near far fault same before (inr stops) =
-    inr (stops.0, far_breaks kit old mid near far before (subst (λ (k : Kit). BreaksOff k mid far) same stops.1))
+pub far_stops : {P Q : Type 0} (kit now : Kit) (old mid : World) (near far : List (List ℕ)) (fault : Fault) → now ≡ kit → (P → Q) → (P → Replays kit old near mid)
+    → StopsAt Q now mid far fault → StopsAt P kit old (near ++ far) fault
+far_stops kit now old mid near far fault same stays before (inl memory) = inl memory
+far_stops kit now old mid near far fault same stays before (inr stops) =
+    inr (
+      stops.0,
+      λ played. far_breaks kit old mid near far (before played) (subst (λ (k : Kit). BreaksOff k mid far) same (stops.1 (stays played))),
+    )
 
-pub both_replayed : (kit now : Kit) (old mid new : World) (near far : List (List ℕ)) (base : Option Transcript) → now ≡ kit → Replays kit old near mid → Replays now mid far new
-    → IsTranscriptBefore far mid base → AreReplayed kit old near far base new
-both_replayed kit now old mid new near far base same first second before =
+pub both_replayed : (kit : Kit) (old : World) (mid : Tables) (new : World) (near far : List (List ℕ)) (base : Option Transcript) → mid.kit ≡ kit → ArePlayed mid → Replays kit old near (world_of mid)
+    → Replays mid.kit (world_of mid) far new → IsTranscriptBefore far mid base → AreReplayed kit old near far base new
+both_replayed kit old mid new near far base same played first second before =
     record {
       middle = mid;
+      of_kit = same;
+      played = played;
       replays_near = first;
-      replays_far = subst (λ (k : Kit). Replays k mid far new) same second;
+      replays_far = subst (λ (k : Kit). Replays k (world_of mid) far new) same second;
       before = before;
     }
 
@@ -106,9 +121,8 @@ module _ {X : Type 0} (f : X → List ℕ) (xs : List X) (i : ℕ) (d : X) (with
         unlawful = unlawful;
       }
 
-  pub replays_end : (kit now : Kit) (old mid : World) (bytes : List ℕ) (fault : Fault) → bytes ≡ f (get_or xs i d) → now ≡ kit
-      → Replays kit old (map f (take i xs)) mid → (fault ≡ F.OutOfMemory) ⊎ ((fault ≡ F.Damaged Records) × IsUnlawful now mid bytes)
-      → (fault ≡ F.OutOfMemory) ⊎ ((fault ≡ F.Damaged Records) × BreaksOff kit old (map f xs))
-  replays_end kit now old mid bytes fault same kept so_far (inl memory) = inl memory
-  replays_end kit now old mid bytes fault same kept so_far (inr refused) =
-      inr (refused.0, breaks_off kit old mid bytes same so_far (subst (λ r. IsUnlawful r mid bytes) kept refused.1))
+  pub replays_end : {P Q : Type 0} (kit now : Kit) (old mid : World) (bytes : List ℕ) (fault : Fault) → bytes ≡ f (get_or xs i d) → now ≡ kit → (P → Q)
+      → (P → Replays kit old (map f (take i xs)) mid) → (fault ≡ F.OutOfMemory) ⊎ ((fault ≡ F.Damaged Records) × (Q → IsUnlawful now mid bytes)) → StopsAt P kit old (map f xs) fault
+  replays_end kit now old mid bytes fault same kept stays so_far (inl memory) = inl memory
+  replays_end kit now old mid bytes fault same kept stays so_far (inr refused) =
+      inr (refused.0, λ played. breaks_off kit old mid bytes same (so_far played) (subst (λ r. IsUnlawful r mid bytes) kept (refused.1 (stays played))))

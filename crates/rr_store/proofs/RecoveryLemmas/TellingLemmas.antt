@@ -7,13 +7,10 @@ use Rattle.rr_reading.specs.Chains.{all_held_in}
 use Rattle.rr_reading.specs.Lending.Fitting.{links_at}
 use Rattle.rr_reading.specs.Lending.Pages.{joined}
 use Rattle.rr_reading.proofs.FormLemmas.{drop_held, held_at}
-use Rattle.rr_game.specs.History.Playing.{ends_turn}
 use Rattle.rr_images.specs.Holding.{HeldChain}
 use Rattle.rr_kit.specs.declared.kit.Kit.{Kit}
 use Rattle.rr_tables.specs.Records.Played.{ArePlayedTables, IsPlayedTable}
 use Rattle.rr_tables.specs.Records.World.{TableState, World}
-use Rattle.rr_turns.specs.Turns.{ended_turns}
-use Rattle.rr_store.specs.Recovery.Kept.{TellsPlayed}
 use Rattle.rr_store.specs.Recovery.Told.{EachHas, TellTables, TellsTable}
 
 -- that those from one place on have it decides that all have it
@@ -48,19 +45,6 @@ each_at P (e ∷ es) (c ∷ cs) zero entry chain entry_in chain_in entry_is chai
     subst (λ (x : TableEntry). P x chain.text) (sym entry_is) (subst (λ (x : HeldChain). P e x.text) (sym chain_is) all.0)
 each_at P (e ∷ es) (c ∷ cs) (suc n) entry chain entry_in chain_in entry_is chain_is all =
     each_at P es cs n entry chain (omega (arith, entry_in)) (omega (arith, chain_in)) entry_is chain_is all.1
-
--- tables that are told and were played
-pub played_each : (kit : Kit) (entries : List TableEntry) (chains : List HeldChain) (tables : World) → TellTables entries chains tables → ArePlayedTables kit tables
-    → EachHas (TellsPlayed kit) entries chains
-played_each kit [] chains tables told played = tt
-played_each kit (entry ∷ entries) [] tables told played = absurd told
-played_each kit (entry ∷ entries) (chain ∷ chains) [] told played = absurd told
-played_each kit (entry ∷ entries) (chain ∷ chains) (table ∷ tables) told played =
-    let floor : entry.floor ≤ table.1.floor = omega (arith, told.0.floored) in
-    let floored : entry.floor ≤ ended_turns (ends_turn kit) table.1.commands = omega (arith, floor, played.0.floored) in (
-      record { holds = record { commands = table.1.commands; kept = told.0.kept; played = played.0.lawful }; floored = floored },
-      played_each kit entries chains tables told.1 played.1,
-    )
 
 -- one table more
 pub told_more : (entries : List TableEntry) (chains : List HeldChain) (tables : World) (entry : TableEntry) (chain : HeldChain) (table : List ℕ × TableState)

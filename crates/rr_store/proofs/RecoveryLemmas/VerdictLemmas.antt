@@ -8,6 +8,7 @@ use Rattle.rr_game.specs.History.Laws.{RequestsHaveOneVerdict}
 use Rattle.rr_game.specs.History.Verdict.{request_judgement}
 use Rattle.rr_kit.specs.declared.kit.Kit.{Kit}
 use Rattle.rr_log.specs.declared.fault.Fault as file
+use Rattle.rr_log.specs.Lent.{Lent}
 use Rattle.rr_tables.specs.declared.records.fault.Fault as rules
 use Rattle.rr_tables.specs.declared.records.fault.Fault.TheVariants as R
 use Rattle.rr_tables.specs.Records.Fault.{of_table}
@@ -60,16 +61,16 @@ module _ (law : RequestsHaveOneVerdict) (kit : Kit) (world : World) (bytes name 
   by_rules fault other (inl refused) = unlawful fault refused
   by_rules fault other (inr wants) = absurd (other wants.1)
 
-  -- where what keeps the record doesn't refuse, the rules do, or memory is wanted
-  pub refused_record : {J : Type 0} (Keeps : J → World → List ℕ → Result (Unit {0}) file.Fault → J → Type 0) (old new : J) (tables_then : World) (line : List ℕ) (fault : tables.Fault)
-      → ((cause : file.Fault) → Keeps old tables_then line (Err cause) new → ⊥) → MayRefuse (judgement_in kit world stamp name request) fault
-      → Passed Keeps old tables_then line new (Err fault)
-      → (of_tables fault ≡ F.OutOfMemory) ⊎ ((of_tables fault ≡ F.Damaged Records) × IsUnlawful kit world bytes)
-  refused_record Keeps old new then line (T.Rules R.OutOfMemory) never found passed = inl refl
-  refused_record Keeps old new then line (T.Rules (R.Game cause)) never found passed = inr (refl, by_rules (R.Game cause) (λ e. absurd cc) found)
-  refused_record Keeps old new then line (T.Rules (R.StaleStamp now)) never found passed = inr (refl, by_rules (R.StaleStamp now) (λ e. absurd cc) found)
-  refused_record Keeps old new then line (T.Rules R.TurnNotKept) never found passed = inr (refl, by_rules R.TurnNotKept (λ e. absurd cc) found)
-  refused_record Keeps old new then line (T.Rules R.TooManyCommands) never found passed = inr (refl, by_rules R.TooManyCommands (λ e. absurd cc) found)
-  refused_record Keeps old new then line (T.Rules R.TooManyTables) never found passed = inr (refl, by_rules R.TooManyTables (λ e. absurd cc) found)
-  refused_record Keeps old new then line (T.Rules R.NoSuchTable) never found passed = inr (refl, by_rules R.NoSuchTable (λ e. absurd cc) found)
-  refused_record Keeps old new then line (T.File cause) never found passed = absurd (never cause passed)
+  -- where what keeps the record doesn't refuse, the rules do if the tables were played, or memory is wanted
+  module _ {J P : Type 0} (Keeps : J → Lent → List ℕ → Result (Unit {0}) file.Fault → J → Type 0) (old new : J) (lent : Lent) (line : List ℕ)
+      (never : (cause : file.Fault) → Keeps old lent line (Err cause) new → ⊥) where
+    pub refused_record : (fault : tables.Fault) → (P → MayRefuse (judgement_in kit world stamp name request) fault) → Passed Keeps old lent line new (Err fault)
+        → (of_tables fault ≡ F.OutOfMemory) ⊎ ((of_tables fault ≡ F.Damaged Records) × (P → IsUnlawful kit world bytes))
+    refused_record (T.Rules R.OutOfMemory) found passed = inl refl
+    refused_record (T.Rules (R.Game cause)) found passed = inr (refl, λ played. by_rules (R.Game cause) (λ e. absurd cc) (found played))
+    refused_record (T.Rules (R.StaleStamp now)) found passed = inr (refl, λ played. by_rules (R.StaleStamp now) (λ e. absurd cc) (found played))
+    refused_record (T.Rules R.TurnNotKept) found passed = inr (refl, λ played. by_rules R.TurnNotKept (λ e. absurd cc) (found played))
+    refused_record (T.Rules R.TooManyCommands) found passed = inr (refl, λ played. by_rules R.TooManyCommands (λ e. absurd cc) (found played))
+    refused_record (T.Rules R.TooManyTables) found passed = inr (refl, λ played. by_rules R.TooManyTables (λ e. absurd cc) (found played))
+    refused_record (T.Rules R.NoSuchTable) found passed = inr (refl, λ played. by_rules R.NoSuchTable (λ e. absurd cc) (found played))
+    refused_record (T.File cause) found passed = absurd (never cause passed)

@@ -1,49 +1,79 @@
--- The tables of a root before its records, by its directory's entries and its chains.
-use Rattle.std.specs.Prelude.{List}
+-- The tables of a root before its records, by its directory's entries, its chains and its snapshots.
+use Rattle.std.specs.Prelude.{ℕ, All, List, map}
+use Rattle.rr_reading.specs.Chains.{held}
+use Rattle.rr_reading.specs.Held.{tables_in}
+use Rattle.rr_reading.specs.declared.lending.commands.Commands.{Commands}
+use Rattle.rr_store.specs.declared.recovery.shown.Snapshots.{Snapshots}
+use Rattle.rr_reading.specs.declared.dir.directory.SnapshotEntry.{SnapshotEntry}
 use Rattle.rr_reading.specs.declared.dir.directory.TableEntry.{TableEntry}
 use Rattle.rr_images.specs.Holding.{HeldChain}
 use Rattle.rr_kit.specs.declared.kit.Kit.{Kit}
 use Rattle.rr_kit.specs.Kits.{IsWrongKit, SpellsKit}
 use Rattle.rr_reading.specs.Held.{TextChains}
 use Rattle.rr_tables.specs.Records.Played.{ArePlayedTables}
-use Rattle.rr_tables.specs.Records.Words.{KeepCommands}
 use Rattle.rr_tables.specs.Records.World.{World}
 use Rattle.rr_pages.specs.declared.fault.Damage.TheVariants as D
 use Rattle.rr_store.specs.declared.recovery.fault.Fault.{Fault}
 use Rattle.rr_store.specs.declared.recovery.fault.Fault.TheVariants as F
-use Rattle.rr_store.specs.Recovery.Kept.{TellsPlayed}
+use Rattle.rr_store.specs.Recovery.Shown.{ShowPlays, SpellsItsGame, shown_in}
 use Rattle.rr_store.specs.Recovery.Texts.{texts_in}
 use Rattle.rr_store.specs.Recovery.Told.{EachHas, TellTables, TellsWords}
 
--- the kit that the texts spell, and the tables that the chains tell, played with it
-pub record IsRightBase (entries : List TableEntry) (texts : TextChains) (chains : List HeldChain) (kit : Kit) (tables : World) : Type 0 where
-  pub right : SpellsKit (texts_in texts) kit
-  pub told : TellTables entries chains tables
-  pub played : ArePlayedTables kit tables
+-- what a root names: its tables and snapshots, and their chains
+pub record Named : Type 0 where
+  pub entries : List TableEntry
+  pub chains : List HeldChain
+  pub snapshot_entries : List SnapshotEntry
+  pub snapshot_chains : List HeldChain
 
--- the kit that the texts spell, and tables of commands, played with it
-pub record IsPlayedBase (texts : TextChains) (kit : Kit) (tables : World) : Type 0 where
-  pub right : SpellsKit (texts_in texts) kit
-  pub spelled : KeepCommands tables
-  pub played : ArePlayedTables kit tables
+-- the kept words are those of lines
+abbrev pub HasWords : Named → Type 0
+HasWords named = EachHas TellsWords named.entries named.chains
 
--- the kept words are those of lines, and the texts spell no kit
-pub record HasNoKit (entries : List TableEntry) (texts : TextChains) (chains : List HeldChain) : Type 0 where
-  pub spelled : EachHas TellsWords entries chains
+-- and each snapshot is a game that has played as many commands as it tells
+pub record IsWellFormed (named : Named) : Type 0 where
+  pub words : HasWords named
+  pub games : All SpellsItsGame (shown_in named.snapshot_entries named.snapshot_chains)
+
+-- each snapshot shows the play of the commands of its table among these
+abbrev pub ShowsThem : Kit → Named → World → Type 0
+ShowsThem kit named tables = ShowPlays kit named.snapshot_entries named.snapshot_chains 0 tables
+
+-- the kit that the texts spell, and the tables that the chains tell
+pub record IsRightBase (named : Named) (texts : TextChains) (kit : Kit) (tables : World) : Type 0 where
+  pub formed : IsWellFormed named
+  pub right : SpellsKit (texts_in texts) kit
+  pub told : TellTables named.entries named.chains tables
+
+-- all is of its form, and the texts spell no kit
+pub record HasNoKit (named : Named) (texts : TextChains) : Type 0 where
+  pub formed : IsWellFormed named
   pub wrong : IsWrongKit (texts_in texts)
 
--- the kept words are those of lines, the texts spell a kit, and some table wasn't played
-pub record HasUnplayed (entries : List TableEntry) (texts : TextChains) (chains : List HeldChain) : Type 0 where
-  pub spelled : EachHas TellsWords entries chains
+-- all is of its form, the texts spell a kit, and tables that the chains tell weren't played where the snapshots show them
+pub record HasUnplayed (named : Named) (texts : TextChains) : Type 0 where
+  pub formed : IsWellFormed named
   pub kit : Kit
   pub right : SpellsKit (texts_in texts) kit
-  pub unplayed : EachHas (TellsPlayed kit) entries chains → ⊥
+  pub unplayed : (tables : World) → TellTables named.entries named.chains tables → ShowsThem kit named tables
+      → ArePlayedTables kit tables → ⊥
 
--- why there are no such tables. The device may fail at any; the words are read without memory, so that is wanted behind right ones alone
-abbrev pub RefusesBase : List TableEntry → TextChains → List HeldChain → Fault → Type 0
-RefusesBase entries texts chains (F.Damaged D.Form) = EachHas TellsWords entries chains → ⊥
-RefusesBase entries texts chains (F.Damaged D.Kit) = HasNoKit entries texts chains
-RefusesBase entries texts chains (F.Damaged D.Kept) = HasUnplayed entries texts chains
-RefusesBase entries texts chains (F.Damaged _) = ⊥
-RefusesBase entries texts chains (F.Disk fault) = Unit {0}
-RefusesBase entries texts chains F.OutOfMemory = EachHas TellsWords entries chains
+-- Why there are no such tables. The device may fail at any; the words are read without memory, so that is wanted behind
+-- right ones alone.
+abbrev pub RefusesBase : Named → TextChains → Fault → Type 0
+RefusesBase named texts (F.Damaged D.Form) = IsWellFormed named → ⊥
+RefusesBase named texts (F.Damaged D.Kit) = HasNoKit named texts
+RefusesBase named texts (F.Damaged D.Kept) = HasUnplayed named texts
+RefusesBase named texts (F.Damaged _) = ⊥
+RefusesBase named texts (F.Disk fault) = Unit {0}
+RefusesBase named texts F.OutOfMemory = HasWords named
+
+-- what was read of a root
+abbrev pub named_by : List ℕ → List TableEntry → Commands → Snapshots → Named
+named_by file entries chains snapshots =
+    record {
+      entries = entries;
+      chains = tables_in file chains;
+      snapshot_entries = snapshots.entries.now;
+      snapshot_chains = map held snapshots.chains.now;
+    }

@@ -1,19 +1,17 @@
 -- What the chain of a table tells of its kept commands.
-use Rattle.std.specs.Prelude.{◌≡◌, ℕ, ◌<◌, ◌≤◌, List, [], ◌∷◌, All, length}
+use Rattle.std.specs.Prelude.{◌≡◌, ℕ, ◌<◌, List, [], ◌∷◌, All, length}
 use Rattle.rr_code.specs.Command.{SpellsCommand}
 use Rattle.rr_code.specs.declared.command.Command.{Command}
 use Rattle.rr_code.specs.declared.command.Command.TheVariants.{Open}
-use Rattle.rr_reading.specs.declared.dir.directory.TableEntry.{TableEntry}
 use Rattle.rr_reading.specs.Dir.Kept.{IsShort, SpellsKept}
 use Rattle.rr_reading.specs.declared.dir.directory.TheConstants.{MOST_KEPT}
 use Rattle.rr_game.specs.declared.history.table.Table.{Table}
-use Rattle.rr_game.specs.History.Playing.{ArePlayed, IsLawfulAfter, ends_turn}
+use Rattle.rr_game.specs.History.Playing.{IsLawfulAfter, ends_turn}
 use Rattle.rr_game.specs.History.Tables.{IsPlayed, kept_in}
 use Rattle.rr_kit.specs.declared.kit.Kit.{Kit}
 use Rattle.rr_tables.specs.Records.Words.{SpellCommands}
 use Rattle.rr_turns.specs.declared.request.Request.TheVariants.{Play}
 use Rattle.rr_turns.specs.Kept.{kept_after}
-use Rattle.rr_turns.specs.Turns.{ended_turns}
 
 -- the bytes of a chain are so many kept commands, whose words spell these
 pub record HoldsCommands (bytes : List ℕ) (count : ℕ) (commands : List Command) : Type 0 where
@@ -53,20 +51,3 @@ pub record HasPlayed (kit : Kit) (old : Table) (words : List ℕ) (new : Table) 
 pub record HasRoom (table : Table) : Type 0 where
   pub room : length (kept_in table).commands < MOST_KEPT
   pub stamp : (kept_in table).stamp < 4000000000
-
--- the table keeps the commands that the bytes hold, and its game is their play
-pub record IsRestored (kit : Kit) (bytes : List ℕ) (count : ℕ) (table : Table) : Type 0 where
-  pub kept : HoldsCommands bytes count (kept_in table).commands
-  pub played : IsPlayed kit table
-
--- the bytes hold commands that were played: an opening and then commands that are lawful, each after those before it
-pub record HoldsPlayed (kit : Kit) (bytes : List ℕ) (count : ℕ) : Type 0 where
-  pub commands : List Command
-  pub kept : HoldsCommands bytes count commands
-  pub played : ∥ ArePlayed kit commands ∥₁
-
--- an entry and its bytes tell a table that was played: the bytes hold commands that were, and the entry's floor isn't above
--- the turns that ended in them
-pub record TellsPlayed (kit : Kit) (entry : TableEntry) (bytes : List ℕ) : Type 0 where
-  pub holds : HoldsPlayed kit bytes entry.kept
-  pub floored : entry.floor ≤ ended_turns (ends_turn kit) holds.commands

@@ -1,29 +1,30 @@
 -- What is recovered of a file.
+use Rattle.std.specs.Prelude.{◌≡◌}
 use Rattle.rr_kit.specs.Kits.{KitTexts, SpellsKit}
 use Rattle.rr_reading.specs.Held.{Held}
-use Rattle.rr_tables.specs.Records.Played.{ArePlayedTables}
-use Rattle.rr_tables.specs.Records.Words.{KeepCommands}
-use Rattle.rr_tables.specs.Records.World.{World}
 use Rattle.rr_checkpoint.specs.Plan.Kit.{AreTextChains}
-use Rattle.rr_tables.specs.Tables.{world_of}
+use Rattle.rr_tables.specs.Records.World.{World}
+use Rattle.rr_tables.specs.Tables.{ArePlayed, world_of}
+use Rattle.rr_tables.specs.declared.tables.Tables.{Tables}
 use Rattle.rr_store.specs.declared.recovery.recovered.Recovered.{Recovered}
-use Rattle.rr_store.specs.Recovery.Telling.{IsRecovered}
+use Rattle.rr_store.specs.Recovery.Telling.{HasTrueSnapshots, IsRecovered}
 use Rattle.rr_store.specs.Recovery.Replaying.{IsTranscriptBefore}
 
--- The tables are the world that the file tells, with its kit; the texts of the kit stand where the root has them; and there
--- is a transcript just where the other half has records: of the world before these.
+-- The tables are the world that the file tells, with its kit, and were played; and there is a transcript just where the
+-- other half has records: of the tables before these, which were played, too.
+pub record IsTold (has : Held) (texts : KitTexts) (recovered : Recovered) : Type 0 where
+  pub base : World
+  pub middle : Tables
+  pub told : IsRecovered has texts recovered.tables.kit base (world_of middle) (world_of recovered.tables)
+  pub of_kit : middle.kit ≡ recovered.tables.kit
+  pub middle_played : ArePlayed middle
+  pub before : IsTranscriptBefore has.far middle recovered.base
+  pub played : ArePlayed recovered.tables
+
+-- The kit is that of the file's texts, which stand where the root has them; and where each snapshot shows the game that the
+-- commands before it play, the tables are those that the file tells.
 pub record IsRecoveredFrom (has : Held) (recovered : Recovered) : Type 0 where
   pub texts : KitTexts
-  pub base : World
-  pub middle : World
-  pub told : IsRecovered has texts recovered.tables.kit base middle (world_of recovered.tables)
-  pub on_pages : AreTextChains recovered.kit has.texts
-  pub before : IsTranscriptBefore has.far middle recovered.base
-
--- Texts spell the kit, and by its rules the tables were played: what each keeps is an opening and then commands that are
--- lawful, each after those before it, and its floor isn't above the turns that ended in them.
-pub record HoldsPlayedTables (recovered : Recovered) : Type 0 where
-  pub texts : KitTexts
   pub right : SpellsKit texts recovered.tables.kit
-  pub spelled : KeepCommands (world_of recovered.tables)
-  pub played : ArePlayedTables recovered.tables.kit (world_of recovered.tables)
+  pub on_pages : AreTextChains recovered.kit has.texts
+  pub told : HasTrueSnapshots has → IsTold has texts recovered

@@ -1,11 +1,12 @@
 -- The tables to which the records of a file lead.
-use Rattle.std.specs.Prelude.{◌≡◌, ℕ, List, [], ◌∷◌, ◌++◌, map, Option, None, Some}
+use Rattle.std.specs.Prelude.{◌≡◌, ℕ, List, [], ◌∷◌, ◌++◌, Option, None, Some}
 use Rattle.rr_kit.specs.declared.kit.Kit.{Kit}
 use Rattle.rr_tables.specs.Records.Lines.{IsUnlawful, TakesRecord}
-use Rattle.rr_tables.specs.Records.Words.{table_in_words}
 use Rattle.rr_tables.specs.Records.World.{World}
+use Rattle.rr_tables.specs.Tables.{ArePlayed, lent_by, world_of}
+use Rattle.rr_tables.specs.declared.tables.Tables.{Tables}
 use Rattle.rr_checkpoint.specs.declared.plan.transcript.Transcript.{Transcript}
-use Rattle.rr_checkpoint.specs.Plan.Transcript.{tables_of}
+use Rattle.rr_log.specs.Lent.{lent_in}
 
 -- the records are taken in turn
 abbrev pub Replays : Kit → World → List (List ℕ) → World → Type 0
@@ -22,15 +23,17 @@ pub record BreaksOff (kit : Kit) (old : World) (lines : List (List ℕ)) : Type 
   pub before : Replays kit old front mid
   pub unlawful : IsUnlawful kit mid next
 
--- there is a transcript just where there are lines behind these tables, and it is of these
-abbrev pub IsTranscriptBefore : List (List ℕ) → World → Option Transcript → Type 0
+-- there is a transcript just where there are lines behind these tables, and it is what they lend
+abbrev pub IsTranscriptBefore : List (List ℕ) → Tables → Option Transcript → Type 0
 IsTranscriptBefore [] tables base = base ≡ None
 IsTranscriptBefore (line ∷ lines) tables None = ⊥
-IsTranscriptBefore (line ∷ lines) tables (Some transcript) = tables_of transcript ≡ map table_in_words tables
+IsTranscriptBefore (line ∷ lines) tables (Some transcript) = lent_in transcript ≡ lent_by tables
 
--- the near records are taken and then the far ones, and between them the transcript was made
+-- the near records are taken and then the far ones, and between them the transcript was made of tables that were played
 pub record AreReplayed (kit : Kit) (old : World) (near far : List (List ℕ)) (base : Option Transcript) (new : World) : Type 0 where
-  pub middle : World
-  pub replays_near : Replays kit old near middle
-  pub replays_far : Replays kit middle far new
+  pub middle : Tables
+  pub of_kit : middle.kit ≡ kit
+  pub played : ArePlayed middle
+  pub replays_near : Replays kit old near (world_of middle)
+  pub replays_far : Replays kit (world_of middle) far new
   pub before : IsTranscriptBefore far middle base

@@ -1,21 +1,25 @@
-//! One table: its kept commands are played from the opening.
-ghost use Rattle.std.specs.Prelude.{◌≡◌, ◌≢◌, ◌⊎◌, ◌*◌, ◌<◌, ◌≤◌, ℕ, List, [], IsTrue, IfOk, IfErr, OnOk, MatchOption, MatchResult};
+//! One table: its kept commands are kept again up to its last snapshot, and played from there, or from the opening.
+ghost use Rattle.std.specs.Prelude.{◌≡◌, ◌≢◌, ◌⊎◌, ◌+◌, ◌*◌, ◌<◌, ◌≤◌, ℕ, List, [], ◌∷◌, ◌++◌, All, length, IsTrue, IfOk, IfErr, OnOk, MatchOption, MatchResult};
 ghost use Rattle.std.specs.Bool.{OnTrue, OnFalse};
 ghost use Rattle.rr_code.specs.Command.{SpellsCommand};
 ghost use Rattle.rr_code.specs.declared.command.Command.{Command as Line};
+ghost use Rattle.rr_game.specs.History.Playing.{ArePlayed};
 ghost use Rattle.rr_game.specs.History.Tables.{IsPlayed, kept_in};
 ghost use Rattle.rr_pages.specs.declared.page.TheConstants.{PAGE_BYTES};
 ghost use Rattle.rr_reading.specs.declared.dir.directory.TheConstants.{MOST_KEPT};
 ghost use Rattle.rr_reading.specs.Lending.Chains.{all_of, count_of};
 ghost use Rattle.rr_reading.specs.Lending.Commands.{bytes_at, rest_of, steps_left_of};
 ghost use Rattle.rr_store.specs.Recovery.Fault.{CountsFault, IsOrBreaks, OnDeviceFault, of_chain, of_table};
-ghost use Rattle.rr_store.specs.Recovery.Kept.{AreWorded, HasPlayed, HasRoom, HoldsPlayed, IsBegunBy, IsRestored, IsUnlawfulAfter, SpellsNoOpening};
-ghost use Rattle.rr_store.specs.Recovery.Playing.{BeginsNoTable, BeginsTable, PlaysNext, PlaysNoMore};
+ghost use Rattle.rr_store.specs.Recovery.Kept.{AreWorded, HasPlayed, HasRoom, HoldsCommands, IsBegunBy, IsUnlawfulAfter, SpellsNoOpening};
+ghost use Rattle.rr_store.specs.Recovery.Playing.{BeginsNoTable, BeginsTable, IsFrontOf, KeepsFront, KeepsNext, KeepsNoMore, PlaysNext, PlaysNoMore, Recalls};
+ghost use Rattle.rr_store.specs.Recovery.Shown.{IsPlayWithin, ShowsPlayOf, shown_of};
 
 use crate::recovery::Fault;
+use crate::recovery::shown::{Snapshots, last_game, snapshots_at};
 use rr_code::{Command, Players};
 use rr_disk::Disk;
-use rr_game::history::Table;
+use rr_game::Game;
+use rr_game::history::{KeptCommands, Table};
 use rr_kit::Kit;
 use rr_pages::Damage;
 use rr_reading::lending::Commands;
@@ -24,7 +28,8 @@ use std::alloc::Global;
 /// A kept command that its table doesn't take.
 const UNPLAYED: Fault = Fault::Damaged(Damage::Kept);
 
-/// The table that keeps the `count` commands in the chain at this place. Its stamp is their number.
+/// The table that keeps the `count` commands in the chain at this place, played on from its last snapshot. Its stamp is
+/// their number.
 pub(crate) fn play_all<D: Disk>(
     alloc: Global,
     disk: &mut D,
@@ -32,13 +37,18 @@ pub(crate) fn play_all<D: Disk>(
     chains: &mut Commands,
     index: usize,
     count: u32,
+    snapshots: Snapshots,
 ) -> Result<Table, Fault>
     ensures restored { IfOk result (λ table. D.Honest disk.new
-        → IsRestored kit.now (bytes_at (D.state disk.old).content chains.old index) count table) }
-    ensures played { IfOk result (λ table. IsPlayed kit.now table) }
+        → HoldsCommands (bytes_at (D.state disk.old).content chains.old index) count (kept_in table).commands) }
+    // Where each of its snapshots shows the play of the commands before it, the table was played.
+    ensures played { IfOk result (λ table.
+        All (ShowsPlayOf kit.now (kept_in table).commands) (shown_of index snapshots.entry) → IsPlayed kit.now table) }
     ensures worded { IfOk result (λ table. AreWorded (kept_in table).commands) }
     ensures refused { IfErr result (IsOrBreaks Damage.Kept (D.Honest disk.new → count ≤ MOST_KEPT
-        → HoldsPlayed kit.now (bytes_at (D.state disk.old).content chains.old index) count → ⊥)) }
+        → (commands : List Line) → HoldsCommands (bytes_at (D.state disk.old).content chains.old index) count commands
+        → All (ShowsPlayOf kit.now commands) (shown_of index snapshots.entry)
+        → ∥ ArePlayed kit.now commands ∥₁ → ⊥)) }
     ensures all { all_of chains.new.chains ≡ all_of chains.old.chains }
     ensures pages { count_of chains.new.chains ≡ count_of chains.old.chains }
     ensures fault { CountsFault (D.fault_count disk.old) (D.fault_count disk.new) result }
@@ -51,12 +61,14 @@ pub(crate) fn play_all<D: Disk>(
     ensures works { D.Works disk.new → D.Works disk.old }
     ensures same_len { D.file_len disk.new ≡ D.file_len disk.old }
 {
-    if count == 0 {
+    let kept = snapshots_at(alloc, index, snapshots.entries, snapshots.chains)?;
+    chains.turn_to(index);
+    let mut table = begin_at(alloc, disk, kit, chains, kept)?;
+    let done = table.commands().len();
+    if done > count as usize {
         return Err(UNPLAYED);
     }
-    chains.turn_to(index);
-    let mut table = begin_first(alloc, disk, kit, chains)?;
-    let mut left = count - 1;
+    let mut left = count as usize - done;
     'commands: loop {
         let more = play_next(alloc, disk, kit, chains, &mut table, left)?;
         if !more {
@@ -67,7 +79,7 @@ pub(crate) fn play_all<D: Disk>(
 }
 
 /// The table, if no command is left.
-fn whole(table: Table, left: u32) -> Result<Table, Fault>
+fn whole(table: Table, left: usize) -> Result<Table, Fault>
     ensures { MatchResult result (λ whole. (whole ≡ table) × (left ≡ 0))
         (λ fault. (fault ≡ Fault.Damaged Damage.Kept) × (left ≢ 0)) }
 {
@@ -75,6 +87,163 @@ fn whole(table: Table, left: u32) -> Result<Table, Fault>
         return Err(UNPLAYED);
     }
     Ok(table)
+}
+
+/// The table at the last of the kept snapshots, or behind its opening where there is none.
+fn begin_at<D: Disk>(
+    alloc: Global,
+    disk: &mut D,
+    kit: &Kit,
+    chains: &mut Commands,
+    kept: KeptCommands,
+) -> Result<Table, Fault>
+    requires { kept.commands ≡ [] }
+    ensures front { IfOk result (λ table. D.Honest disk.new
+        → KeepsFront (rest_of (D.state disk.old).content chains.old) (kept_in table).commands
+        (rest_of (D.state disk.old).content chains.new)) }
+    ensures stamped { IfOk result (λ table. D.Honest disk.new
+        → (kept_in table).stamp ≡ length (kept_in table).commands) }
+    ensures played { IfOk result (λ table. (commands : List Line) → IsFrontOf (kept_in table).commands commands
+        → All (IsPlayWithin kit.now commands) kept.snapshots → IsPlayed kit.now table) }
+    ensures worded { IfOk result (λ table. AreWorded (kept_in table).commands) }
+    ensures refused { IfErr result (IsOrBreaks Damage.Kept (D.Honest disk.new → (count : ℕ) → count ≤ MOST_KEPT
+        → (commands : List Line) → HoldsCommands (rest_of (D.state disk.old).content chains.old) count commands
+        → All (IsPlayWithin kit.now commands) kept.snapshots → ∥ ArePlayed kit.now commands ∥₁ → ⊥)) }
+    ensures all { all_of chains.new.chains ≡ all_of chains.old.chains }
+    ensures pages { count_of chains.new.chains ≡ count_of chains.old.chains }
+    ensures fault { CountsFault (D.fault_count disk.old) (D.fault_count disk.new) result }
+    ensures honest { D.Honest disk.new → D.Honest disk.old }
+    ensures same_state { D.Honest disk.new → D.state disk.new ≡ D.state disk.old }
+    ensures same_past { D.Honest disk.new → D.past disk.new ≡ D.past disk.old }
+    ensures writes { D.write_count disk.new ≡ D.write_count disk.old }
+    ensures syncs { D.sync_count disk.new ≡ D.sync_count disk.old }
+    ensures device { OnDeviceFault result (D.Works disk.new → D.file_len disk.old < PAGE_BYTES * count_of chains.old.chains) }
+    ensures works { D.Works disk.new → D.Works disk.old }
+    ensures same_len { D.file_len disk.new ≡ D.file_len disk.old }
+{
+    let last = last_game(alloc, kept.snapshots())?;
+    match last {
+        Some(game) => recall(disk, chains, kept, game),
+        None => begin_first(alloc, disk, kit, chains),
+    }
+}
+
+/// The table at this game, behind as many commands as that has played.
+fn recall<D: Disk>(
+    disk: &mut D,
+    chains: &mut Commands,
+    kept: KeptCommands,
+    game: Game,
+) -> Result<Table, Fault>
+    requires { kept.commands ≡ [] }
+    ensures front { IfOk result (λ table. D.Honest disk.new
+        → KeepsFront (rest_of (D.state disk.old).content chains.old) (kept_in table).commands
+        (rest_of (D.state disk.old).content chains.new)) }
+    ensures recalled { IfOk result (λ table. Recalls game kept.snapshots table) }
+    ensures worded { IfOk result (λ table. AreWorded (kept_in table).commands) }
+    ensures refused { IfErr result (IsOrBreaks Damage.Kept (D.Honest disk.new → (count : ℕ) → count ≤ MOST_KEPT
+        → (commands : List Line) → HoldsCommands (rest_of (D.state disk.old).content chains.old) count commands
+        → game.played ≤ count → ⊥)) }
+    ensures all { all_of chains.new.chains ≡ all_of chains.old.chains }
+    ensures pages { count_of chains.new.chains ≡ count_of chains.old.chains }
+    ensures fault { CountsFault (D.fault_count disk.old) (D.fault_count disk.new) result }
+    ensures honest { D.Honest disk.new → D.Honest disk.old }
+    ensures same_state { D.Honest disk.new → D.state disk.new ≡ D.state disk.old }
+    ensures same_past { D.Honest disk.new → D.past disk.new ≡ D.past disk.old }
+    ensures writes { D.write_count disk.new ≡ D.write_count disk.old }
+    ensures syncs { D.sync_count disk.new ≡ D.sync_count disk.old }
+    ensures device { OnDeviceFault result (D.Works disk.new → D.file_len disk.old < PAGE_BYTES * count_of chains.old.chains) }
+    ensures works { D.Works disk.new → D.Works disk.old }
+    ensures same_len { D.file_len disk.new ≡ D.file_len disk.old }
+{
+    let mut kept = kept;
+    keep_first(disk, chains, &mut kept, game.played())?;
+    match Table::of_kept(kept, game) {
+        Some(table) => Ok(table),
+        None => unreachable!(),
+    }
+}
+
+/// Keeps so many commands of a chain. They aren't judged.
+fn keep_first<D: Disk>(
+    disk: &mut D,
+    chains: &mut Commands,
+    kept: &mut KeptCommands,
+    count: u32,
+) -> Result<(), Fault>
+    requires { kept.old.commands ≡ [] }
+    ensures front { OnOk result (D.Honest disk.new
+        → KeepsFront (rest_of (D.state disk.old).content chains.old) kept.new.commands
+        (rest_of (D.state disk.old).content chains.new)) }
+    ensures counted { OnOk result (length kept.new.commands ≡ count) }
+    ensures worded { OnOk result (AreWorded kept.new.commands) }
+    ensures refused { IfErr result (IsOrBreaks Damage.Kept (D.Honest disk.new → (total : ℕ) → total ≤ MOST_KEPT
+        → (commands : List Line) → HoldsCommands (rest_of (D.state disk.old).content chains.old) total commands
+        → count ≤ total → ⊥)) }
+    ensures snapshots { kept.new.snapshots ≡ kept.old.snapshots }
+    ensures all { all_of chains.new.chains ≡ all_of chains.old.chains }
+    ensures pages { count_of chains.new.chains ≡ count_of chains.old.chains }
+    ensures fault { CountsFault (D.fault_count disk.old) (D.fault_count disk.new) result }
+    ensures honest { D.Honest disk.new → D.Honest disk.old }
+    ensures same_state { D.Honest disk.new → D.state disk.new ≡ D.state disk.old }
+    ensures same_past { D.Honest disk.new → D.past disk.new ≡ D.past disk.old }
+    ensures writes { D.write_count disk.new ≡ D.write_count disk.old }
+    ensures syncs { D.sync_count disk.new ≡ D.sync_count disk.old }
+    ensures device { OnDeviceFault result (D.Works disk.new → D.file_len disk.old < PAGE_BYTES * count_of chains.old.chains) }
+    ensures works { D.Works disk.new → D.Works disk.old }
+    ensures same_len { D.file_len disk.new ≡ D.file_len disk.old }
+{
+    for _done in 0..count {
+        keep_next(disk, chains, kept)?;
+    }
+    Ok(())
+}
+
+/// Keeps the next command of a chain.
+fn keep_next<D: Disk>(
+    disk: &mut D,
+    chains: &mut Commands,
+    kept: &mut KeptCommands,
+) -> Result<(), Fault>
+    ensures next { OnOk result (D.Honest disk.new
+        → KeepsNext (D.state disk.old).content chains.old kept.old.commands chains.new kept.new.commands) }
+    ensures counted { OnOk result (length kept.new.commands ≡ length kept.old.commands + 1) }
+    ensures worded { OnOk result (AreWorded kept.old.commands → AreWorded kept.new.commands) }
+    ensures refused { IfErr result (IsOrBreaks Damage.Kept (D.Honest disk.new
+        → length kept.old.commands < MOST_KEPT → KeepsNoMore (rest_of (D.state disk.old).content chains.old))) }
+    ensures snapshots { kept.new.snapshots ≡ kept.old.snapshots }
+    ensures all { all_of chains.new.chains ≡ all_of chains.old.chains }
+    ensures pages { count_of chains.new.chains ≡ count_of chains.old.chains }
+    ensures fault { CountsFault (D.fault_count disk.old) (D.fault_count disk.new) result }
+    ensures honest { D.Honest disk.new → D.Honest disk.old }
+    ensures same_state { D.Honest disk.new → D.state disk.new ≡ D.state disk.old }
+    ensures same_past { D.Honest disk.new → D.past disk.new ≡ D.past disk.old }
+    ensures writes { D.write_count disk.new ≡ D.write_count disk.old }
+    ensures syncs { D.sync_count disk.new ≡ D.sync_count disk.old }
+    ensures device { OnDeviceFault result (D.Works disk.new → D.file_len disk.old < PAGE_BYTES * count_of chains.old.chains) }
+    ensures works { D.Works disk.new → D.Works disk.old }
+    ensures same_len { D.file_len disk.new ≡ D.file_len disk.old }
+{
+    match chains.next(disk) {
+        Ok(Some(words)) => keep_command(kept, words),
+        Ok(None) => Err(UNPLAYED),
+        Err(fault) => Err(of_chain(fault)),
+    }
+}
+
+fn keep_command(kept: &mut KeptCommands, words: &[u8]) -> Result<(), Fault>
+    ensures kept { OnOk result ((command : Line) × SpellsCommand words.now command
+        × (kept.new.commands ≡ kept.old.commands ++ command ∷ [])) }
+    ensures refused { IfErr result (λ fault. (fault ≡ Fault.OutOfMemory)
+        ⊎ ((fault ≡ Fault.Damaged Damage.Kept) × (length kept.old.commands < MOST_KEPT
+        → (command : Line) → SpellsCommand words.now command → ⊥))) }
+    ensures snapshots { kept.new.snapshots ≡ kept.old.snapshots }
+{
+    match kept.keep(words) {
+        Ok(true) => Ok(()),
+        Ok(false) => Err(UNPLAYED),
+        Err(fault) => Err(damage(fault)),
+    }
 }
 
 /// The table that the first command of a chain begins.
@@ -115,7 +284,7 @@ fn play_next<D: Disk>(
     kit: &Kit,
     chains: &mut Commands,
     table: &mut Table,
-    left: u32,
+    left: usize,
 ) -> Result<bool, Fault>
     ensures more { IfOk result (λ more. OnTrue more (D.Honest disk.new
         → PlaysNext kit.now (D.state disk.old).content chains.old table.old chains.new table.new)) }
@@ -124,6 +293,7 @@ fn play_next<D: Disk>(
     ensures some { IfOk result (λ more. OnTrue more (0 < left)) }
     ensures fewer { IfOk result (λ more. OnTrue more (steps_left_of chains.new < steps_left_of chains.old)) }
     ensures played { IfOk result (λ more. IsPlayed kit.now table.old → IsPlayed kit.now table.new) }
+    ensures front { IfOk result (λ more. IsFrontOf (kept_in table.old).commands (kept_in table.new).commands) }
     ensures worded { IfOk result (λ more. AreWorded (kept_in table.old).commands → AreWorded (kept_in table.new).commands) }
     ensures refused { IfErr result (IsOrBreaks Damage.Kept (IsPlayed kit.now table.old → D.Honest disk.new
         → PlaysNoMore kit.now (rest_of (D.state disk.old).content chains.old) table.old left)) }
@@ -152,7 +322,7 @@ fn play_one(
     kit: &Kit,
     table: &mut Table,
     words: &[u8],
-    left: u32,
+    left: usize,
 ) -> Result<bool, Fault>
     ensures more { IfOk result (λ more. IsTrue more) }
     ensures some { IfOk result (λ more. 0 < left) }

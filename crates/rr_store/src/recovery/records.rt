@@ -23,9 +23,9 @@ pub(crate) fn replay_halves(
 ) -> Result<Option<Transcript>, Fault>
     ensures replayed { IfOk result (λ base. ArePlayed tables.old
         → AreReplayed tables.old.kit (world_of tables.old) (lines near.now) (lines far.now) base (world_of tables.new)) }
-    ensures refused { IfErr result (λ fault. ArePlayed tables.old → (fault ≡ Fault.OutOfMemory)
-        ⊎ ((fault ≡ Fault.Damaged Damage.Records)
-        × BreaksOff tables.old.kit (world_of tables.old) (lines near.now ++ lines far.now))) }
+    ensures refused { IfErr result (λ fault. (fault ≡ Fault.OutOfMemory)
+        ⊎ ((fault ≡ Fault.Damaged Damage.Records) × (ArePlayed tables.old
+        → BreaksOff tables.old.kit (world_of tables.old) (lines near.now ++ lines far.now)))) }
     ensures kit { tables.new.kit ≡ tables.old.kit }
     ensures played { ArePlayed tables.old → ArePlayed tables.new }
 {
@@ -41,7 +41,7 @@ fn transcript_before(
     tables: &Tables,
     far: &[Vec<u8>],
 ) -> Result<Option<Transcript>, Fault>
-    ensures base { IfOk result (IsTranscriptBefore (lines far.now) (world_of tables.now)) }
+    ensures base { IfOk result (IsTranscriptBefore (lines far.now) tables.now) }
     ensures memory { IfErr result (λ fault. fault ≡ Fault.OutOfMemory) }
 {
     if far.is_empty() {
@@ -57,8 +57,9 @@ fn transcript_before(
 fn replay(alloc: Global, tables: &mut Tables, records: &[Vec<u8>]) -> Result<(), Fault>
     ensures replayed { OnOk result (ArePlayed tables.old
         → Replays tables.old.kit (world_of tables.old) (lines records.now) (world_of tables.new)) }
-    ensures refused { IfErr result (λ fault. ArePlayed tables.old → (fault ≡ Fault.OutOfMemory)
-        ⊎ ((fault ≡ Fault.Damaged Damage.Records) × BreaksOff tables.old.kit (world_of tables.old) (lines records.now))) }
+    ensures refused { IfErr result (λ fault. (fault ≡ Fault.OutOfMemory)
+        ⊎ ((fault ≡ Fault.Damaged Damage.Records) × (ArePlayed tables.old
+        → BreaksOff tables.old.kit (world_of tables.old) (lines records.now)))) }
     ensures kit { tables.new.kit ≡ tables.old.kit }
     ensures played { ArePlayed tables.old → ArePlayed tables.new }
 {
@@ -71,8 +72,9 @@ fn replay(alloc: Global, tables: &mut Tables, records: &[Vec<u8>]) -> Result<(),
 fn replay_record(alloc: Global, tables: &mut Tables, bytes: &[u8]) -> Result<(), Fault>
     ensures taken { OnOk result (ArePlayed tables.old
         → TakesRecord tables.old.kit (world_of tables.old) bytes.now (world_of tables.new)) }
-    ensures refused { IfErr result (λ fault. ArePlayed tables.old → (fault ≡ Fault.OutOfMemory)
-        ⊎ ((fault ≡ Fault.Damaged Damage.Records) × IsUnlawful tables.old.kit (world_of tables.old) bytes.now)) }
+    ensures refused { IfErr result (λ fault. (fault ≡ Fault.OutOfMemory)
+        ⊎ ((fault ≡ Fault.Damaged Damage.Records) × (ArePlayed tables.old
+        → IsUnlawful tables.old.kit (world_of tables.old) bytes.now))) }
     ensures kit { tables.new.kit ≡ tables.old.kit }
     ensures played { ArePlayed tables.old → ArePlayed tables.new }
 {

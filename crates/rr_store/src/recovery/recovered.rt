@@ -1,18 +1,24 @@
 ghost use Rattle.std.specs.Prelude.{◌≡◌, ◌*◌, ◌<◌, ℕ, List, length, IfOk, IfErr};
+ghost use Rattle.rr_kit.specs.Kits.{KitTexts as AnyTexts, SpellsKit};
 ghost use Rattle.rr_reading.specs.Dir.Directory.{AreTables};
 ghost use Rattle.rr_log.specs.Opening.Opened.{held_by};
 ghost use Rattle.rr_pages.specs.declared.page.TheConstants.{PAGE_BYTES};
-ghost use Rattle.rr_reading.specs.Held.{chains_held, tables_in};
+ghost use Rattle.rr_reading.specs.Held.{chains_held};
 ghost use Rattle.rr_reading.specs.Lending.Chains.{all_of, count_of};
 ghost use Rattle.rr_reading.specs.Reading.{Holds};
-ghost use Rattle.rr_store.specs.Recovery.Base.{IsPlayedBase, IsRightBase, RefusesBase};
+ghost use Rattle.rr_store.specs.Recovery.Base.{IsRightBase, RefusesBase, named_by};
 ghost use Rattle.rr_store.specs.Recovery.Fault.{CountsFault, OnDeviceFault};
-ghost use Rattle.rr_store.specs.Recovery.Recovered.{HoldsPlayedTables, IsRecoveredFrom};
+ghost use Rattle.rr_store.specs.Recovery.Recovered.{IsRecoveredFrom};
+ghost use Rattle.rr_store.specs.Recovery.Shown.{AreShown};
 ghost use Rattle.rr_store.specs.Recovery.Telling.{Refuses};
+ghost use Rattle.rr_store.specs.Recovery.Texts.{texts_in};
+ghost use Rattle.rr_tables.specs.Records.Played.{ArePlayedTables};
+ghost use Rattle.rr_tables.specs.Records.Words.{KeepCommands};
 ghost use Rattle.rr_tables.specs.Tables.{ArePlayed, world_of};
 
 use crate::recovery::Fault;
 use crate::recovery::records::replay_halves;
+use crate::recovery::shown::{Snapshots, tell_games};
 use crate::recovery::tables::restore_tables;
 use crate::recovery::texts::{kit_pages, read_kit};
 use crate::recovery::words::tell_words;
@@ -39,14 +45,17 @@ pub struct Recovered {
     pub base: Option<Transcript>,
 }
 
-/// Recovers the tables from what an opening read of a file: the commands that each table keeps are played from its
-/// opening, and then the records are taken. A table's floor and stamp are as the file has them.
+/// Recovers the tables from what an opening read of a file: the commands that each table keeps are played from its last
+/// snapshot, or from its opening where it has none, and then the records are taken. Snapshots are trusted: the commands
+/// before one are read as commands, and aren't judged. A table's floor and stamp are as the file has them.
 ///
 /// # Errors
 /// `Damaged` with the least of the clauses 5 to 8 that is broken: `Form` where kept words are no request's and no
-/// `best`, `Kit` where a text of the kit is wrong, `Kept` where what a table keeps isn't an opening and then commands
-/// that are lawful, or its floor is above the turns that ended in them, `Records` where a record has no lawful request
-/// at its turn, or is damaged. Else `OutOfMemory`, or `Disk` where a read fails.
+/// `best`, or a snapshot is no game that has played as many commands as it tells, `Kit` where a text of the kit is
+/// wrong, `Kept` where what a table keeps isn't an opening and then commands that are lawful, or its floor is above the
+/// turns that ended in them, `Records` where a record has no lawful request at its turn, or is damaged. Of a file with a
+/// snapshot that shows another game than its commands play, either of the last two may be told. Else `OutOfMemory`, or
+/// `Disk` where a read fails.
 pub fn recover<D: Disk, R: Rules>(
     alloc: Global,
     disk: &mut D,
@@ -60,9 +69,8 @@ pub fn recover<D: Disk, R: Rules>(
         → Holds (D.state disk.old).content (held_by (D.state disk.old).content opened.old)
         → Refuses (held_by (D.state disk.old).content opened.old) fault) }
 
-    // Whatever was read, nothing is recovered that the rules don't allow, and each table was played.
-    ensures played { IfOk result HoldsPlayedTables }
-    ensures each { IfOk result (λ recovered. ArePlayed recovered.tables) }
+    // Whatever was read, the kit is a right one.
+    ensures kit { IfOk result (λ recovered. (texts : AnyTexts) × SpellsKit texts recovered.tables.kit) }
 
     // What was opened stays.
     ensures same_held { (file : List ℕ) → held_by file opened.new ≡ held_by file opened.old }
@@ -77,12 +85,17 @@ pub fn recover<D: Disk, R: Rules>(
     ensures works { D.Works disk.new → D.Works disk.old }
     ensures same_len { D.file_len disk.new ≡ D.file_len disk.old }
 {
+    let snapshots = Snapshots {
+        entries: &opened.dir.snapshots,
+        chains: &opened.snapshots,
+    };
     let mut tables = recover_base(
         alloc,
         disk,
         &opened.dir.tables,
         &opened.texts,
         &mut opened.tables,
+        snapshots,
     )?;
     let base = replay_halves(
         alloc,
@@ -104,14 +117,20 @@ fn recover_base<D: Disk>(
     entries: &[TableEntry],
     texts: &KitTexts,
     chains: &mut Commands,
+    snapshots: Snapshots,
 ) -> Result<Tables, Fault>
-    ensures right { IfOk result (λ tables. D.Honest disk.new → IsRightBase entries.now (chains_held texts.now)
-        (tables_in (D.state disk.old).content chains.old) tables.kit (world_of tables)) }
-    ensures played { IfOk result ArePlayed }
-    ensures base { IfOk result (λ tables. IsPlayedBase (chains_held texts.now) tables.kit (world_of tables)) }
+    ensures right { IfOk result (λ tables. D.Honest disk.new
+        → IsRightBase (named_by (D.state disk.old).content entries.now chains.old snapshots.entry)
+        (chains_held texts.now) tables.kit (world_of tables)) }
+    // Where each snapshot shows the play of the commands before it, each table was played.
+    ensures played { IfOk result (λ tables. AreShown tables.kit snapshots.entry (world_of tables)
+        → ArePlayed tables × ArePlayedTables tables.kit (world_of tables)) }
+    ensures kit { IfOk result (λ tables. SpellsKit (texts_in (chains_held texts.now)) tables.kit) }
+    ensures spelled { IfOk result (λ tables. KeepCommands (world_of tables)) }
     ensures refused { IfErr result (λ fault. D.Honest disk.new
         → length entries.now ≡ length (all_of chains.old.chains) → AreTables entries.now
-        → RefusesBase entries.now (chains_held texts.now) (tables_in (D.state disk.old).content chains.old) fault) }
+        → RefusesBase (named_by (D.state disk.old).content entries.now chains.old snapshots.entry)
+        (chains_held texts.now) fault) }
     ensures all { all_of chains.new.chains ≡ all_of chains.old.chains }
     ensures pages { count_of chains.new.chains ≡ count_of chains.old.chains }
     ensures fault { CountsFault (D.fault_count disk.old) (D.fault_count disk.new) result }
@@ -128,7 +147,11 @@ fn recover_base<D: Disk>(
     if !told {
         return Err(Fault::Damaged(Damage::Form));
     }
+    let games = tell_games(alloc, snapshots)?;
+    if !games {
+        return Err(Fault::Damaged(Damage::Form));
+    }
     let kit = read_kit(alloc, texts)?;
-    let tables = restore_tables(alloc, disk, kit, entries, chains)?;
+    let tables = restore_tables(alloc, disk, kit, entries, chains, snapshots)?;
     Ok(tables)
 }

@@ -1,23 +1,25 @@
 //! All tables of a directory, in its order.
-ghost use Rattle.std.specs.Prelude.{◌≡◌, ◌↔◌, ◌*◌, ◌<◌, ◌≤◌, [], length, IsTrue, IfOk, IfErr, OnOk};
-ghost use Rattle.rr_reading.specs.Dir.Directory.{AreTables};
-ghost use Rattle.rr_reading.specs.declared.dir.directory.TheConstants.{MOST_KEPT};
+ghost use Rattle.std.specs.Prelude.{◌≡◌, ◌↔◌, ◌*◌, ◌<◌, ◌≤◌, [], All, length, IsTrue, IfOk, IfErr, OnOk};
 ghost use Rattle.rr_game.specs.History.Tables.{IsPlayed, kept_in};
 ghost use Rattle.rr_pages.specs.declared.page.TheConstants.{PAGE_BYTES};
+ghost use Rattle.rr_reading.specs.Dir.Directory.{AreTables};
+ghost use Rattle.rr_reading.specs.declared.dir.directory.TheConstants.{MOST_KEPT};
 ghost use Rattle.rr_reading.specs.Held.{tables_in};
 ghost use Rattle.rr_reading.specs.Lending.Chains.{all_of, count_of};
 ghost use Rattle.rr_reading.specs.Lending.Commands.{bytes_at};
 ghost use Rattle.rr_store.specs.Recovery.Fault.{CountsFault, IsOrBreaks, OnDeviceFault};
-ghost use Rattle.rr_store.specs.Recovery.Kept.{TellsPlayed};
-ghost use Rattle.rr_store.specs.Recovery.Restoring.{AreRestored, HasRestored, IsFreeFor, PutsPlayed};
+ghost use Rattle.rr_store.specs.Recovery.Restoring.{IsFreeFor, Puts};
+ghost use Rattle.rr_store.specs.Recovery.Shown.{AreShown, ShowsPlayOf, shown_of};
+ghost use Rattle.rr_store.specs.Recovery.Told.{TellTables, TellsTable};
 ghost use Rattle.rr_tables.specs.Records.Played.{ArePlayedTables, IsPlayedTable};
 ghost use Rattle.rr_tables.specs.Records.Words.{AreCommands, KeepCommands};
-ghost use Rattle.rr_store.specs.Recovery.Told.{EachHas, TellsTable};
+ghost use Rattle.rr_tables.specs.Records.World.{TableState, World};
 ghost use Rattle.rr_tables.specs.Tables.{ArePlayed, world_of};
 ghost use Rattle.rr_tables.specs.Writable.{IsWritable};
 
 use crate::recovery::Fault;
 use crate::recovery::playing::play_all;
+use crate::recovery::shown::Snapshots;
 use rr_disk::Disk;
 use rr_game::history::Table;
 use rr_kit::Kit;
@@ -35,16 +37,19 @@ pub(crate) fn restore_tables<D: Disk>(
     kit: Kit,
     entries: &[TableEntry],
     chains: &mut Commands,
+    snapshots: Snapshots,
 ) -> Result<Tables, Fault>
     requires { length entries.now ≡ length (all_of chains.old.chains) }
-    ensures restored { IfOk result (λ tables. D.Honest disk.new
-        → AreRestored kit entries.now (tables_in (D.state disk.old).content chains.old) (world_of tables)) }
+    ensures told { IfOk result (λ tables. D.Honest disk.new
+        → TellTables entries.now (tables_in (D.state disk.old).content chains.old) (world_of tables)) }
     ensures kit { IfOk result (λ tables. tables.kit ≡ kit) }
-    ensures played { IfOk result ArePlayed }
-    ensures lawful { IfOk result (λ tables. ArePlayedTables kit (world_of tables)) }
+    // Where each snapshot shows the play of the commands before it, each table was played.
+    ensures played { IfOk result (λ tables. AreShown kit snapshots.entry (world_of tables)
+        → ArePlayed tables × ArePlayedTables kit (world_of tables)) }
     ensures spelled { IfOk result (λ tables. KeepCommands (world_of tables)) }
     ensures refused { IfErr result (IsOrBreaks Damage.Kept (D.Honest disk.new → AreTables entries.now
-        → EachHas (TellsPlayed kit) entries.now (tables_in (D.state disk.old).content chains.old) → ⊥)) }
+        → (tables : World) → TellTables entries.now (tables_in (D.state disk.old).content chains.old) tables
+        → AreShown kit snapshots.entry tables → ArePlayedTables kit tables → ⊥)) }
     ensures all { all_of chains.new.chains ≡ all_of chains.old.chains }
     ensures pages { count_of chains.new.chains ≡ count_of chains.old.chains }
     ensures fault { CountsFault (D.fault_count disk.old) (D.fault_count disk.new) result }
@@ -59,7 +64,7 @@ pub(crate) fn restore_tables<D: Disk>(
 {
     let mut tables = no_tables(alloc, kit)?;
     for (index, entry) in entries.iter().enumerate() {
-        restore_table(alloc, disk, &mut tables, entry, chains, index)?;
+        restore_table(alloc, disk, &mut tables, entry, chains, index, snapshots)?;
     }
     Ok(tables)
 }
@@ -84,15 +89,19 @@ fn restore_table<D: Disk>(
     entry: &TableEntry,
     chains: &mut Commands,
     index: usize,
+    snapshots: Snapshots,
 ) -> Result<(), Fault>
-    ensures restored { OnOk result (D.Honest disk.new → HasRestored tables.old.kit entry.now
-        (bytes_at (D.state disk.old).content chains.old index) (world_of tables.old) (world_of tables.new)) }
-    ensures refused { IfErr result (IsOrBreaks Damage.Kept (D.Honest disk.new → IsFreeFor (world_of tables.old) entry.now
-        → entry.now.kept ≤ MOST_KEPT
-        → TellsPlayed tables.old.kit entry.now (bytes_at (D.state disk.old).content chains.old index) → ⊥)) }
+    ensures put { OnOk result ((state : TableState) × Puts entry.now (world_of tables.old) state (world_of tables.new)
+        × (D.Honest disk.new
+        → TellsTable entry.now (bytes_at (D.state disk.old).content chains.old index) (entry.now.name, state))
+        × (All (ShowsPlayOf tables.old.kit state.commands) (shown_of index snapshots.entry)
+        → IsPlayedTable tables.old.kit state × (ArePlayed tables.old → ArePlayed tables.new))) }
+    ensures refused { IfErr result (IsOrBreaks Damage.Kept (D.Honest disk.new
+        → IsFreeFor (world_of tables.old) entry.now → entry.now.kept ≤ MOST_KEPT → (state : TableState)
+        → TellsTable entry.now (bytes_at (D.state disk.old).content chains.old index) (entry.now.name, state)
+        → All (ShowsPlayOf tables.old.kit state.commands) (shown_of index snapshots.entry)
+        → IsPlayedTable tables.old.kit state → ⊥)) }
     ensures kit { tables.new.kit ≡ tables.old.kit }
-    ensures played { ArePlayed tables.old → ArePlayed tables.new }
-    ensures more { OnOk result (PutsPlayed tables.old.kit (world_of tables.old) (world_of tables.new)) }
     ensures all { all_of chains.new.chains ≡ all_of chains.old.chains }
     ensures pages { count_of chains.new.chains ≡ count_of chains.old.chains }
     ensures fault { CountsFault (D.fault_count disk.old) (D.fault_count disk.new) result }
@@ -108,7 +117,7 @@ fn restore_table<D: Disk>(
     if !is_free_for(tables, entry) {
         return Err(Fault::Damaged(Damage::Kept));
     }
-    let table = restore(alloc, disk, tables.kit(), entry, chains, index)?;
+    let table = restore(alloc, disk, tables.kit(), entry, chains, index, snapshots)?;
     tables.put(entry.name, table);
     Ok(())
 }
@@ -131,16 +140,21 @@ fn restore<D: Disk>(
     entry: &TableEntry,
     chains: &mut Commands,
     index: usize,
+    snapshots: Snapshots,
 ) -> Result<Box<Table>, Fault>
     requires { entry.now.stamp ≤ 4000000000 }
     ensures told { IfOk result (λ table. D.Honest disk.new → TellsTable entry.now
         (bytes_at (D.state disk.old).content chains.old index) (entry.now.name, kept_in table.value)) }
-    ensures played { IfOk result (λ table. IsPlayed kit.now table.value) }
-    ensures floored { IfOk result (λ table. IsPlayedTable kit.now (kept_in table.value)) }
+    ensures played { IfOk result (λ table.
+        All (ShowsPlayOf kit.now (kept_in table.value).commands) (shown_of index snapshots.entry)
+        → IsPlayed kit.now table.value × IsPlayedTable kit.now (kept_in table.value)) }
     ensures writable { IfOk result (λ table. IsWritable (kept_in table.value)) }
     ensures spelled { IfOk result (λ table. AreCommands (kept_in table.value).commands) }
     ensures refused { IfErr result (IsOrBreaks Damage.Kept (D.Honest disk.new → entry.now.kept ≤ MOST_KEPT
-        → TellsPlayed kit.now entry.now (bytes_at (D.state disk.old).content chains.old index) → ⊥)) }
+        → (state : TableState)
+        → TellsTable entry.now (bytes_at (D.state disk.old).content chains.old index) (entry.now.name, state)
+        → All (ShowsPlayOf kit.now state.commands) (shown_of index snapshots.entry)
+        → IsPlayedTable kit.now state → ⊥)) }
     ensures all { all_of chains.new.chains ≡ all_of chains.old.chains }
     ensures pages { count_of chains.new.chains ≡ count_of chains.old.chains }
     ensures fault { CountsFault (D.fault_count disk.old) (D.fault_count disk.new) result }
@@ -153,7 +167,7 @@ fn restore<D: Disk>(
     ensures works { D.Works disk.new → D.Works disk.old }
     ensures same_len { D.file_len disk.new ≡ D.file_len disk.old }
 {
-    let mut table = play_all(alloc, disk, kit, chains, index, entry.kept)?;
+    let mut table = play_all(alloc, disk, kit, chains, index, entry.kept, snapshots)?;
     let floor = u64::from(entry.floor);
     if floor > table.turns() {
         return Err(Fault::Damaged(Damage::Kept));

@@ -12,7 +12,7 @@ use Rattle.rr_reading.specs.Worlds.World as words
 use Rattle.rr_reading.proofs.WorldLemmas.Exact.{are_exact}
 use Rattle.rr_tables.specs.Records.Laws.{FilesAreExact, LawfulAreTaken, LeadToOneWorld, MoveOn, RecordsAreOfRequests, RequestsAreReplayed, TakenAreLawful, UnlawfulLeadNowhere}
 use Rattle.rr_tables.specs.Records.Lines.{TakesRecord, record_judgement}
-use Rattle.rr_tables.specs.Records.Taking.{Takes}
+use Rattle.rr_tables.specs.Records.Taking.{Takes, table_rules}
 use Rattle.rr_tables.specs.Records.Words.{IsInWords, in_words, kit_texts}
 use Rattle.rr_tables.specs.Records.World.{Follows, World, for_table, requests_in, world_after}
 use Rattle.rr_tables.proofs.RecordLemmas.PlayedLemmas.{played_after, taken_were_played, tables_of_played_are_played}
@@ -40,7 +40,7 @@ lead_to_one_world line old first second a b =
     one_in_words a.after first second a.becomes (subst (λ (w : World). IsInWords w second) (sym after) b.becomes) (a.same_texts ∙ sym b.same_texts)
 
 pub files_are_exact : FilesAreExact
-files_are_exact = are_exact Takes lead_to_one_world
+files_are_exact = are_exact table_rules lead_to_one_world
 
 pub move_on : MoveOn
 move_on line world takes =

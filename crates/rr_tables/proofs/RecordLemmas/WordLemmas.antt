@@ -12,7 +12,7 @@ use Rattle.rr_tables.specs.Records.World.{TableState, World}
 
 -- commands
 
-one_of_words : (bytes : List (List ℕ)) (first second : List Command) → SpellCommands bytes first → SpellCommands bytes second → first ≡ second
+pub one_of_words : (bytes : List (List ℕ)) (first second : List Command) → SpellCommands bytes first → SpellCommands bytes second → first ≡ second
 one_of_words [] [] [] a b = refl
 one_of_words [] [] (d ∷ ds) a b = absurd b
 one_of_words [] (c ∷ cs) ds a b = absurd a
@@ -40,7 +40,7 @@ spelled_are_commands [] (c ∷ cs) a = absurd a
 spelled_are_commands (w ∷ ws) [] a = absurd a
 spelled_are_commands (w ∷ ws) (c ∷ cs) a = (a.0.command, spelled_are_commands ws cs a.1)
 
-commands_are_spelled : (commands : List Command) → AreCommands commands → SpellCommands (map text commands) commands
+pub commands_are_spelled : (commands : List Command) → AreCommands commands → SpellCommands (map text commands) commands
 commands_are_spelled [] all = tt
 commands_are_spelled (c ∷ cs) all = (record { command = all.0; spelled = refl }, commands_are_spelled cs all.1)
 

@@ -1,5 +1,6 @@
 //! What always holds of records, and of worlds and their words. The functions do nothing: a caller's proof cites what
 //! they ensure.
+ghost use Rattle.rr_tables.specs.Lending.{PlayedTablesAreLent};
 ghost use Rattle.rr_tables.specs.Records.Headline as headline;
 ghost use Rattle.rr_tables.specs.Records.Laws as laws;
 ghost use Rattle.rr_tables.specs.Records.Schedules.{of_tables};
@@ -56,6 +57,12 @@ pub fn played_worlds_have_played_bases()
     ensures kept { laws.KeptHavePlayedBases }
     ensures standing { laws.StandingHavePlayedBases }
     ensures tables { laws.TablesOfPlayedArePlayed }
+{}
+
+/// Tables that were played with a kit lend to a checkpoint the world in words that they are, with texts of this kit,
+/// and snapshots whose bytes show the games of its tables.
+pub fn played_tables_are_lent()
+    ensures { PlayedTablesAreLent }
 {}
 
 /// Requests for tables, their worlds and their files are such that the law over schedules speaks of them: what is kept

@@ -1,5 +1,5 @@
 use Rattle.std.proofs.Common.{arith}
-use Rattle.rr_spelling.specs.OneWay.{word_or_none}
+use Rattle.rr_words.specs.Spelling.OneWay.{word_or_none}
 use Rattle.rr_words.specs.Name.{IsPlayerName}
 use Rattle.rr_code.proofs.bytes.read_name.Goals as goal
 

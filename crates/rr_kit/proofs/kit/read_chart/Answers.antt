@@ -1,5 +1,5 @@
 use Rattle.std.proofs.Common.{refl}
-use Rattle.rr_chart.specs.declared.fault.Fault.TheVariants as H
+use Rattle.rr_roster.specs.declared.chart.fault.Fault.TheVariants as H
 use Rattle.rr_kit.proofs.KitLemmas.{no_chart}
 use Rattle.rr_kit.proofs.kit.read_chart.Goals as goal
 

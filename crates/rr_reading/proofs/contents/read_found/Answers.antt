@@ -1,7 +1,6 @@
-use Rattle.std.proofs.Common.{◌≡◌, ◌≤◌, ℕ, List, drop, map, length, sym, ◌∙◌, ap, subst, arith}
+use Rattle.std.proofs.Common.{◌≡◌, ◌≤◌, ℕ, List, ◌++◌, drop, map, length, sym, ◌∙◌, ap, subst, arith}
 use Rattle.std.proofs.lemmas.Result.{err_from_is_err_and}
 use Rattle.rr_reading.specs.declared.dir.directory.ChainRef.{ChainRef}
-use Rattle.rr_reading.specs.declared.dir.directory.TableEntry.{TableEntry}
 use Rattle.rr_reading.specs.Dir.Directory.{directory_of}
 use Rattle.rr_reading.specs.Dir.Heads.{head_of}
 use Rattle.rr_disk.specs.Disk.{DiskState}
@@ -42,7 +41,6 @@ find_named-requires-clause-many g c =
       c.in_ok-chains.ensures.each,
       ap (λ (chains : List ChainRef). length chains) c.deref.ensures.value,
       c.in_ok-named.ensures.each,
-      ap (λ (entries : List TableEntry). length entries) c.deref-2.ensures.value,
     )
 
 pub returns-in_err-texts-clause-refused : goal.returns-in_err-texts-clause-refused
@@ -69,11 +67,11 @@ returns-in_err-texts-clause-refused g c =
     (ap (λ (cs : List ChainRef). map head_of cs) c.deref.ensures.value ∙ c.in_ok-named.ensures.heads)
     (marks_of c.follow_chains.new.reached) (all_held_in file_named chains) (all_held_in file (drop 4 chains)) four.texts
     (ap (λ (f : List ℕ). all_held_in f chains) same ∙ four.halves) (c.in_ok-chains.ensures.whole second) in
-    refuses_form file _ (AreOfForm c.deref-2.result.now (all_held_in file_found (drop 4 chains))) (c.in_err-texts.ensures.refused honest)
+    refuses_form file _ (AreOfForm found.dir.tables.items (all_held_in file_found (drop 4 chains))) (c.in_err-texts.ensures.refused honest)
     (λ none. table_told file side c.args.root.now (marks_of found.reached) (held found.chain) (directory_of found.dir) has
     c.page_count-count.result c.page_count-count.ensures.same
     (marks_of c.follow_chains.new.reached) four.texts (all_held_in file (drop 4 chains)) read
-    (λ forms. none (subst (λ (P : Type 0). P) (λ i. AreOfForm (sym c.deref-2.ensures.value i) (all_held_in (sym same_found i) (drop 4 chains))) forms)))
+    (λ forms. none (subst (λ (f : List ℕ). AreOfForm found.dir.tables.items (all_held_in f (drop 4 chains))) (sym same_found) forms)))
     (side, c.args.root.now, taken))
 
 pub returns-clause-found : goal.returns-clause-found
@@ -90,17 +88,19 @@ returns-clause-found g c = λ honest side taken.
     let has = c.in_ok-dir.ensures.found first side taken in
     let same : file_named ≡ file = ap content (c.in_ok-dir.ensures.same_state first) in
     let same_found : file_found ≡ file = ap content (c.in_ok-chains.ensures.same_state second) ∙ same in
-    let halves : all_held_in file_named chains ≡ chains_of (chains_held named.texts) (tables_in file named.tables) =
-    ap (λ (f : List ℕ). all_held_in f chains) (same ∙ sym same_found) ∙ c.in_ok-texts.ensures.found honest ∙ ap (λ (f : List ℕ). chains_of (chains_held named.texts) (tables_in f named.tables)) same_found in
+    let snapshots = map held named.snapshots.items in
+    let halves : all_held_in file_named chains ≡ chains_of (chains_held named.texts) (tables_in file named.tables ++ snapshots) =
+    ap (λ (f : List ℕ). all_held_in f chains) (same ∙ sym same_found) ∙ c.in_ok-texts.ensures.found honest ∙ ap (λ (f : List ℕ). chains_of (chains_held named.texts) (tables_in f named.tables ++ snapshots)) same_found in
     let read = read_later file side c.args.root.now (marks_of found.reached) (held found.chain) (directory_of found.dir) has
     c.page_count-count.result c.page_count-count.ensures.same
     file_named (map head_of c.deref.result.now) same
     (ap (λ (cs : List ChainRef). map head_of cs) c.deref.ensures.value ∙ c.in_ok-named.ensures.heads)
-    (marks_of c.follow_chains.new.reached) (all_held_in file_named chains) (tables_in file named.tables) (chains_held named.texts) halves (c.in_ok-chains.ensures.whole second) in
+    (marks_of c.follow_chains.new.reached) (all_held_in file_named chains) (tables_in file named.tables ++ snapshots) (chains_held named.texts) halves (c.in_ok-chains.ensures.whole second) in
     all_held_there file side c.args.root.now (marks_of found.reached) (held found.chain) (directory_of found.dir) has
     c.page_count-count.result c.page_count-count.ensures.same
-    (marks_of c.follow_chains.new.reached) (chains_held named.texts) (tables_in file named.tables) read
-    (subst (λ (P : Type 0). P) (λ i. AreOfForm (c.deref-2.ensures.value i) (tables_in (same_found i) named.tables)) (c.in_ok-texts.ensures.forms honest))
+    (marks_of c.follow_chains.new.reached) (chains_held named.texts) (tables_in file named.tables) snapshots read
+    (subst (λ (f : List ℕ). length (tables_in f named.tables) ≡ length found.dir.tables.items) same_found (c.in_ok-texts.ensures.counted honest))
+    (subst (λ (f : List ℕ). AreOfForm found.dir.tables.items (tables_in f named.tables)) same_found (c.in_ok-texts.ensures.forms honest))
 
 pub returns-in_err-named-clause-refused : goal.returns-in_err-named-clause-refused
 returns-in_err-named-clause-refused g c =

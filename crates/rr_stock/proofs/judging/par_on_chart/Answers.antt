@@ -1,8 +1,8 @@
 use Rattle.std.proofs.Common.{◌≡◌, ◌∙◌, Option, None, Some, ap, is_some, refl}
 use Rattle.std.specs.Prelude.{option_map}
 use Rattle.rr_books.specs.declared.entries.Cell.{Cell}
-use Rattle.rr_chart.specs.Chart.{par_place}
-use Rattle.rr_chart.specs.declared.cell.Place.{Place}
+use Rattle.rr_roster.specs.Chart.Chart.{par_place}
+use Rattle.rr_roster.specs.declared.chart.cell.Place.{Place}
 use Rattle.rr_market.specs.Moves.{cell_of}
 use Rattle.rr_stock.proofs.judging.par_on_chart.Goals as goal
 

@@ -1,5 +1,5 @@
 use Rattle.std.specs.Prelude.{refl}
-use Rattle.rr_chart.specs.Chart.{pars_in, pars_of}
+use Rattle.rr_roster.specs.Chart.Chart.{pars_in, pars_of}
 use Rattle.rr_books.specs.Book.{balance, holder, players}
 use Rattle.rr_books.specs.Shares.{counted, share}
 use Rattle.rr_market.specs.Marks.{arrival, first_mark_of, mark_of}

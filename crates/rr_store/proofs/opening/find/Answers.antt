@@ -7,7 +7,7 @@ use Rattle.rr_reading.specs.Laws.{NamesChains}
 use Rattle.rr_reading.specs.Reading.{Holds}
 use Rattle.rr_store.specs.Recovery.Recovered.{IsRecoveredFrom}
 use Rattle.rr_store.specs.Recovery.Telling as recovers
-use Rattle.rr_tables.specs.Records.Taking.{table_files}
+use Rattle.rr_tables.specs.Records.Taking.{table_files, table_rules}
 use Rattle.rr_tables.specs.Records.Words.{in_words}
 use Rattle.rr_tables.proofs.RecordLemmas.TakingLemmas.{files_are_exact}
 use Rattle.rr_reading.proofs.WorldLemmas.Exact.{forms_spelled}
@@ -23,7 +23,7 @@ returns-in_err-opened-clause-only g c =
     let p = err_from_is_err_and c.from_residual.result c.from_residual.ensures.1 in
     let content = (g.D.Disk.state c.args.disk.now).content in
     rw (p.1, p.2) (λ honest texts kit tables right of_kit keeps.
-    calm_read c.in_err-opened.field-0.0 (c.in_err-opened.ensures.only honest files_are_exact names_chains forms_spelled (in_words texts tables)
+    calm_read c.in_err-opened.field-0.0 (c.in_err-opened.ensures.only honest files_are_exact names_chains (forms_spelled table_rules) (in_words texts tables)
     (kept_stands table_files keeps.layout content (in_words texts tables) keeps.kept)))
 
 pub returns-in_err-opened-clause-refused : goal.returns-in_err-opened-clause-refused

@@ -11,4 +11,5 @@ returns-clause-change c =
       fits = c.in_ok-change.ensures.fits;
       writable = writable_changed c.args.kit.now (kept_in table) (turns_in table) c.args.request.now c.in_ok-change.change
           c.in_ok-change.ensures.kept (omega (arith, table.few, table.counted, table.game.within.few)) c.requires.writable;
+      shows = c.in_ok-change.ensures.shows;
     }

@@ -10,5 +10,5 @@ abbrev pub invariant-loop-page : goal.invariant-loop-page
 invariant-loop-page g l =
     record {
       coming : coming_of (free_of l.writer) ≡ all_marked (coming_of (free_of l.fn.writer)) (take l.page-index l.pages);
-      only : OnlyTakes (worlds g.R.Rules.takes) l.fn.writer l.writer;
+      only : OnlyTakes (worlds g.R.Rules.rules) l.fn.writer l.writer;
     }

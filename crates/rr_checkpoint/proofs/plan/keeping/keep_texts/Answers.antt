@@ -22,7 +22,7 @@ returns-clause-coming g c =
 
 pub returns-clause-only : goal.returns-clause-only
 returns-clause-only g c =
-    let codec = worlds g.R.Rules.takes in
+    let codec = worlds g.R.Rules.rules in
     let w0 = c.args.writer.now in
     let w1 = c.keep_pages.new.writer in
     let w2 = c.keep_pages-2.new.writer in

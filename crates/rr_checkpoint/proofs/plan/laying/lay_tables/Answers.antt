@@ -21,7 +21,7 @@ loop-table-init g c =
     let writer = c.args.writer.now in
     record {
       laid = none_laid (present_of (free_of writer)) (coming_of (free_of writer)) c.args.fresh.now.items c.new-entries.result.items c.requires.nothing c.new-entries.ensures.items;
-      only = stays (worlds g.R.Rules.takes) writer c.requires.resting;
+      only = stays (worlds g.R.Rules.rules) writer c.requires.resting;
     }
 
 pub returns-in_err-entry-clause-full : goal.returns-in_err-entry-clause-full
@@ -36,10 +36,10 @@ returns-in_err-entry-clause-full g c = λ full.
     (too_few_same (present_of (free_of now)) (present_of (free_of writer)) (coming_of (free_of now)) (coming_of (free_of now)) (pages_for count) c.loop-table.invariant.only.present refl (c.in_err-entry.ensures.full (ap wrapped is)))
 
 pub returns-in_err-entry-clause-only : goal.returns-in_err-entry-clause-only
-returns-in_err-entry-clause-only g c = onward (worlds g.R.Rules.takes) c.args.writer.now c.loop-table.writer c.lay_table.new.writer c.loop-table.invariant.only c.lay_table.ensures.only
+returns-in_err-entry-clause-only g c = onward (worlds g.R.Rules.rules) c.args.writer.now c.loop-table.writer c.lay_table.new.writer c.loop-table.invariant.only c.lay_table.ensures.only
 
 pub returns-in_err-push-clause-only : goal.returns-in_err-push-clause-only
-returns-in_err-push-clause-only g c = onward (worlds g.R.Rules.takes) c.args.writer.now c.loop-table.writer c.lay_table.new.writer c.loop-table.invariant.only c.lay_table.ensures.only
+returns-in_err-push-clause-only g c = onward (worlds g.R.Rules.rules) c.args.writer.now c.loop-table.writer c.lay_table.new.writer c.loop-table.invariant.only c.lay_table.ensures.only
 
 pub loop-table-preserved : goal.loop-table-preserved
 loop-table-preserved g c =
@@ -49,5 +49,5 @@ loop-table-preserved g c =
     record {
       laid = next_laid (present_of (free_of writer)) (present_of (free_of now)) (coming_of (free_of writer)) (coming_of (free_of now)) (coming_of (free_of next)) c.loop-table.fresh.items c.lay_table.new.fresh.items c.args.tables.now c.loop-table.table-index c.table-item.result c.loop-table.entries.items c.push.new.self.items c.in_ok-entry.entry
           (omega (arith, c.loop-table-test.true)) c.table-item.is c.loop-table.invariant.only.present c.loop-table.invariant.laid c.in_ok-entry.ensures.laid c.in_ok-entry.ensures.entry c.in_ok-entry.ensures.count c.in_ok-push.ensures.items;
-      only = onward (worlds g.R.Rules.takes) writer now next c.loop-table.invariant.only c.lay_table.ensures.only;
+      only = onward (worlds g.R.Rules.rules) writer now next c.loop-table.invariant.only c.lay_table.ensures.only;
     }

@@ -11,5 +11,5 @@ abbrev pub invariant-loop-table : goal.invariant-loop-table
 invariant-loop-table g l =
     record {
       laid : AreTablesLaid (present_of (free_of l.fn.writer)) (coming_of (free_of l.fn.writer)) (coming_of (free_of l.writer)) l.fresh.items (map table_of (take l.table-index l.tables)) l.entries.items;
-      only : OnlyTakes (worlds g.R.Rules.takes) l.fn.writer l.writer;
+      only : OnlyTakes (worlds g.R.Rules.rules) l.fn.writer l.writer;
     }

@@ -1,4 +1,5 @@
-use Rattle.std.proofs.Common.{◌≡◌, Bool, List, length, map, Result, Err, refl, sym, ◌∙◌, ap, subst}
+use Rattle.std.proofs.Common.{◌≡◌, Bool, List, length, Result, Err, refl, sym, ◌∙◌, ap, subst, arith}
+use Rattle.std.proofs.lemmas.List.{length-map}
 use Rattle.std.proofs.lemmas.Result.{err_from_is_err_and}
 use Rattle.rr_checkpoint.specs.Writer.{free_of}
 use Rattle.rr_checkpoint.specs.declared.checkpoint.Plan.{Plan}
@@ -11,13 +12,13 @@ use Rattle.rr_pages.specs.declared.fault.Fault.TheVariants.{FileFull}
 use Rattle.rr_pages.specs.FreePages.{present_of, coming_of}
 use Rattle.rr_pages.specs.Laying.{pages_for}
 use Rattle.rr_pages.specs.Sets.{TakesFree, all_marked}
-use Rattle.rr_checkpoint.specs.declared.plan.table.TableTranscript.{TableTranscript}
 use Rattle.rr_checkpoint.specs.Plan.Kit.{kit_chains, text_pages}
 use Rattle.rr_checkpoint.specs.Plan.Laying.{fresh_pages}
-use Rattle.rr_checkpoint.specs.Plan.Transcript.{table_of, tables_of}
-use Rattle.rr_checkpoint.proofs.PlanLemmas.DirectoryLemmas.{entries_within, fresh_counted, takes_fresh, too_few_all}
+use Rattle.rr_checkpoint.specs.Plan.Snapshots.{snapshot_of}
+use Rattle.rr_checkpoint.specs.Plan.Transcript.{snapshots_of, tables_of}
+use Rattle.rr_checkpoint.proofs.PlanLemmas.DirectoryLemmas.{chains_same, entries_within, fresh_counted, others_within, takes_fresh, too_few_all}
 use Rattle.rr_checkpoint.proofs.PlanLemmas.Frames.{onward, same_root}
-use Rattle.rr_checkpoint.proofs.PlanLemmas.LaidTables.{laid_same, some_laid, too_few_same}
+use Rattle.rr_checkpoint.proofs.PlanLemmas.LaidTables.{some_laid, too_few_same}
 use Rattle.rr_checkpoint.proofs.PlanLemmas.Plans.{planned}
 use Rattle.rr_reading.specs.Worlds.Spelling.{worlds}
 use Rattle.rr_checkpoint.proofs.plan.planning.make_plan.Goals as goal
@@ -25,39 +26,44 @@ use Rattle.rr_checkpoint.proofs.plan.planning.make_plan.Goals as goal
 abbrev wrapped : Fault → Result Plan Fault
 wrapped fault = Err fault
 
-pub returns-in_err-entries-clause-only : goal.returns-in_err-entries-clause-only
-returns-in_err-entries-clause-only g c = onward (worlds g.R.Rules.takes) c.args.writer.now c.keep_texts.new.writer c.lay_tables.new.writer c.keep_texts.ensures.only c.lay_tables.ensures.only
+pub returns-in_err-dir-clause-only : goal.returns-in_err-dir-clause-only
+returns-in_err-dir-clause-only g c = onward (worlds g.R.Rules.rules) c.args.writer.now c.keep_texts.new.writer c.lay_chains.new.writer c.keep_texts.ensures.only c.lay_chains.ensures.only
 
-pub directory_bytes-requires : goal.directory_bytes-requires
-directory_bytes-requires g c =
+pub directory_bytes-requires-clause-tables : goal.directory_bytes-requires-clause-tables
+directory_bytes-requires-clause-tables g c =
     let kept = c.keep_texts.new.writer in
-    let laid = c.lay_tables.new.writer in
     let transcript = c.args.transcript.now in
-    entries_within (present_of (free_of kept)) (coming_of (free_of kept)) (coming_of (free_of laid)) c.lay_tables.new.fresh.items transcript.tables.items c.in_ok-entries.entries.items
-    (laid_same (present_of (free_of kept)) (present_of (free_of kept)) (coming_of (free_of kept)) (coming_of (free_of kept)) (coming_of (free_of laid)) c.lay_tables.new.fresh.items (map table_of c.deref.result.now) (tables_of transcript) c.in_ok-entries.entries.items
-    refl refl (ap (λ (parts : List TableTranscript). map table_of parts) c.deref.ensures.value) c.in_ok-entries.ensures.laid) transcript.few
+    entries_within (present_of (free_of kept)) (coming_of (free_of kept)) (coming_of (free_of c.lay_chains.new.writer)) c.lay_chains.new.fresh.items transcript.tables.items (snapshots_of transcript) c.in_ok-dir.dir.tables.items c.in_ok-dir.dir.snapshots.items
+    c.in_ok-dir.ensures.laid transcript.few
+
+pub directory_bytes-requires-clause-snapshots : goal.directory_bytes-requires-clause-snapshots
+directory_bytes-requires-clause-snapshots g c =
+    let kept = c.keep_texts.new.writer in
+    let transcript = c.args.transcript.now in
+    others_within (present_of (free_of kept)) (coming_of (free_of kept)) (coming_of (free_of c.lay_chains.new.writer)) c.lay_chains.new.fresh.items (tables_of transcript) (snapshots_of transcript) c.in_ok-dir.dir.tables.items c.in_ok-dir.dir.snapshots.items
+    c.in_ok-dir.ensures.laid (omega (arith, transcript.few_snapshots, length-map transcript.snapshots.items snapshot_of))
 
 pub returns-in_err-directory-clause-only : goal.returns-in_err-directory-clause-only
-returns-in_err-directory-clause-only g c = onward (worlds g.R.Rules.takes) c.args.writer.now c.keep_texts.new.writer c.lay_tables.new.writer c.keep_texts.ensures.only c.lay_tables.ensures.only
+returns-in_err-directory-clause-only g c = onward (worlds g.R.Rules.rules) c.args.writer.now c.keep_texts.new.writer c.lay_chains.new.writer c.keep_texts.ensures.only c.lay_chains.ensures.only
 
 pub returns-in_err-plan-clause-only : goal.returns-in_err-plan-clause-only
 returns-in_err-plan-clause-only g c =
-    let codec = worlds g.R.Rules.takes in
+    let codec = worlds g.R.Rules.rules in
     let kept = c.keep_texts.new.writer in
-    let laid = c.lay_tables.new.writer in
+    let laid = c.lay_chains.new.writer in
     let new = c.plan.new.self in
     onward codec c.args.writer.now kept new c.keep_texts.ensures.only
-    (onward codec kept laid new c.lay_tables.ensures.only
+    (onward codec kept laid new c.lay_chains.ensures.only
     (record { resting = c.plan.ensures.resting; taken = c.plan.ensures.taken; place = c.plan.ensures.place; present = c.plan.ensures.present; carries = c.plan.ensures.carries }))
 
 pub returns-clause-only : goal.returns-clause-only
 returns-clause-only g c =
-    let codec = worlds g.R.Rules.takes in
+    let codec = worlds g.R.Rules.rules in
     let kept = c.keep_texts.new.writer in
-    let laid = c.lay_tables.new.writer in
+    let laid = c.lay_chains.new.writer in
     let new = c.plan.new.self in
     onward codec c.args.writer.now kept new c.keep_texts.ensures.only
-    (onward codec kept laid new c.lay_tables.ensures.only
+    (onward codec kept laid new c.lay_chains.ensures.only
     (record { resting = c.plan.ensures.resting; taken = c.plan.ensures.taken; place = c.plan.ensures.place; present = c.plan.ensures.present; carries = c.plan.ensures.carries }))
 
 pub returns-in_err-plan-clause-full : goal.returns-in_err-plan-clause-full
@@ -66,80 +72,79 @@ returns-in_err-plan-clause-full g c = λ full.
     let is : c.in_err-plan.field-0.0 ≡ FileFull = cc (p.1, p.2, full) in
     let writer = c.args.writer.now in
     let kept = c.keep_texts.new.writer in
-    let laid = c.lay_tables.new.writer in
+    let laid = c.lay_chains.new.writer in
     let kit = c.args.kit.now in
-    let entries = c.in_ok-entries.entries.items in
+    let transcript = c.args.transcript.now in
+    let dir = c.in_ok-dir.dir in
     let start = all_marked (coming_of (free_of writer)) (text_pages kit) in
-    let bytes : c.deref-2.result.now ≡ spelling NEWEST (record { kit = kit_chains kit; tables = entries }) =
-    c.deref-2.ensures.value ∙ (c.in_ok-directory.ensures.bytes ∙ ap (λ (chains : KitChains). spelling NEWEST (record { kit = chains; tables = entries })) c.chains.ensures) in
-    too_few_all (present_of (free_of writer)) start (coming_of (free_of laid)) c.lay_tables.new.fresh.items (tables_of c.args.transcript.now) entries (kit_chains kit) c.deref-2.result.now
-    (laid_same (present_of (free_of kept)) (present_of (free_of writer)) (coming_of (free_of kept)) start (coming_of (free_of laid)) c.lay_tables.new.fresh.items (map table_of c.deref.result.now) (tables_of c.args.transcript.now) entries
-    c.keep_texts.ensures.only.present c.keep_texts.ensures.coming (ap (λ (parts : List TableTranscript). map table_of parts) c.deref.ensures.value) c.in_ok-entries.ensures.laid)
+    let bytes : c.deref.result.now ≡ spelling NEWEST (record { kit = kit_chains kit; tables = dir.tables.items; snapshots = dir.snapshots.items }) =
+    c.deref.ensures.value ∙ (c.in_ok-directory.ensures.bytes ∙ ap (λ (chains : KitChains). spelling NEWEST (record { kit = chains; tables = dir.tables.items; snapshots = dir.snapshots.items })) c.in_ok-dir.ensures.kit) in
+    too_few_all (present_of (free_of writer)) start (coming_of (free_of laid)) c.lay_chains.new.fresh.items (tables_of transcript) (snapshots_of transcript) dir.tables.items dir.snapshots.items (kit_chains kit) c.deref.result.now
+    (chains_same (present_of (free_of kept)) (present_of (free_of writer)) (coming_of (free_of kept)) start (coming_of (free_of laid)) c.lay_chains.new.fresh.items (tables_of transcript) (snapshots_of transcript) dir.tables.items dir.snapshots.items
+    c.keep_texts.ensures.only.present c.keep_texts.ensures.coming c.in_ok-dir.ensures.laid)
     bytes
-    (too_few_same (present_of (free_of laid)) (present_of (free_of writer)) (coming_of (free_of laid)) (coming_of (free_of laid)) (pages_for (length c.deref-2.result.now)) (c.lay_tables.ensures.only.present ∙ c.keep_texts.ensures.only.present) refl (c.in_err-plan.ensures.full (ap wrapped is)))
+    (too_few_same (present_of (free_of laid)) (present_of (free_of writer)) (coming_of (free_of laid)) (coming_of (free_of laid)) (pages_for (length c.deref.result.now)) (c.lay_chains.ensures.only.present ∙ c.keep_texts.ensures.only.present) refl (c.in_err-plan.ensures.full (ap wrapped is)))
 
 pub returns-clause-plan : goal.returns-clause-plan
 returns-clause-plan g c = λ state world carries of.
-    let takes = g.R.Rules.takes in
-    let codec = worlds takes in
+    let rules = g.R.Rules.rules in
+    let codec = worlds rules in
     let writer = c.args.writer.now in
     let kept = c.keep_texts.new.writer in
-    let laid = c.lay_tables.new.writer in
+    let laid = c.lay_chains.new.writer in
     let kit = c.args.kit.now in
     let transcript = c.args.transcript.now in
-    let entries = c.in_ok-entries.entries.items in
+    let dir = c.in_ok-dir.dir in
     let start = all_marked (coming_of (free_of writer)) (text_pages kit) in
-    let bytes : c.deref-2.result.now ≡ spelling NEWEST (record { kit = kit_chains kit; tables = entries }) =
-    c.deref-2.ensures.value ∙ (c.in_ok-directory.ensures.bytes ∙ ap (λ (chains : KitChains). spelling NEWEST (record { kit = chains; tables = entries })) c.chains.ensures) in
-    let only = onward codec writer kept laid c.keep_texts.ensures.only c.lay_tables.ensures.only in
+    let bytes : c.deref.result.now ≡ spelling NEWEST (record { kit = kit_chains kit; tables = dir.tables.items; snapshots = dir.snapshots.items }) =
+    c.deref.ensures.value ∙ (c.in_ok-directory.ensures.bytes ∙ ap (λ (chains : KitChains). spelling NEWEST (record { kit = chains; tables = dir.tables.items; snapshots = dir.snapshots.items })) c.in_ok-dir.ensures.kit) in
+    let only = onward codec writer kept laid c.keep_texts.ensures.only c.lay_chains.ensures.only in
     let then = only.carries state world carries in
     let keeps = carries.between.each state.settled (settled_may_stay state) in
-    planned takes carries.layout kit transcript of state.settled world keeps (coming_of (free_of writer)) (free_of laid) c.lay_tables.new.fresh.items entries c.deref-2.result.now c.requires.nothing writer.file.free.coming.whole
-    (laid_same (present_of (free_of kept)) (present_of (free_of laid)) (coming_of (free_of kept)) start (coming_of (free_of laid)) c.lay_tables.new.fresh.items (map table_of c.deref.result.now) (tables_of transcript) entries
-    (sym c.lay_tables.ensures.only.present) c.keep_texts.ensures.coming (ap (λ (parts : List TableTranscript). map table_of parts) c.deref.ensures.value) c.in_ok-entries.ensures.laid)
+    planned rules carries.layout kit transcript of state.settled world keeps (coming_of (free_of writer)) (free_of laid) c.lay_chains.new.fresh.items dir.tables.items dir.snapshots.items c.deref.result.now c.requires.nothing writer.file.free.coming.whole
+    (chains_same (present_of (free_of kept)) (present_of (free_of laid)) (coming_of (free_of kept)) start (coming_of (free_of laid)) c.lay_chains.new.fresh.items (tables_of transcript) (snapshots_of transcript) dir.tables.items dir.snapshots.items
+    (sym c.lay_chains.ensures.only.present) c.keep_texts.ensures.coming c.in_ok-dir.ensures.laid)
     bytes then.0.layout (free_of c.plan.new.self) c.in_ok-plan.plan then.1 (c.in_ok-plan.ensures.plan state world then.0)
 
 pub returns-clause-root : goal.returns-clause-root
 returns-clause-root g c =
-    let codec = worlds g.R.Rules.takes in
+    let codec = worlds g.R.Rules.rules in
     let plan = c.in_ok-plan.plan in
     let writer = c.args.writer.now in
     let kept = c.keep_texts.new.writer in
-    let laid = c.lay_tables.new.writer in
-    c.in_ok-plan.ensures.root ∙ same_root codec writer laid plan.root.directory plan.fresh.items (onward codec writer kept laid c.keep_texts.ensures.only c.lay_tables.ensures.only)
+    let laid = c.lay_chains.new.writer in
+    c.in_ok-plan.ensures.root ∙ same_root codec writer laid plan.root.directory plan.fresh.items (onward codec writer kept laid c.keep_texts.ensures.only c.lay_chains.ensures.only)
 
 pub returns-clause-some : goal.returns-clause-some
 returns-clause-some g c =
-    let laid = c.lay_tables.new.writer in
-    some_laid (present_of (free_of laid)) (coming_of (free_of laid)) (coming_of (free_of c.plan.new.self)) c.deref-2.result.now c.lay_tables.new.fresh.items c.in_ok-plan.plan.fresh.items c.in_ok-plan.plan.root.directory c.in_ok-plan.ensures.laid
+    let laid = c.lay_chains.new.writer in
+    some_laid (present_of (free_of laid)) (coming_of (free_of laid)) (coming_of (free_of c.plan.new.self)) c.deref.result.now c.lay_chains.new.fresh.items c.in_ok-plan.plan.fresh.items c.in_ok-plan.plan.root.directory c.in_ok-plan.ensures.laid
 
 pub returns-clause-count : goal.returns-clause-count
 returns-clause-count g c =
     let kept = c.keep_texts.new.writer in
-    let laid = c.lay_tables.new.writer in
+    let laid = c.lay_chains.new.writer in
     let kit = c.args.kit.now in
     let transcript = c.args.transcript.now in
-    let entries = c.in_ok-entries.entries.items in
+    let dir = c.in_ok-dir.dir in
     let plan = c.in_ok-plan.plan in
-    let bytes : c.deref-2.result.now ≡ spelling NEWEST (record { kit = kit_chains kit; tables = entries }) =
-    c.deref-2.ensures.value ∙ (c.in_ok-directory.ensures.bytes ∙ ap (λ (chains : KitChains). spelling NEWEST (record { kit = chains; tables = entries })) c.chains.ensures) in
-    fresh_counted (present_of (free_of laid)) (coming_of (free_of kept)) (coming_of (free_of laid)) c.lay_tables.new.fresh.items plan.fresh.items (tables_of transcript) entries (kit_chains kit) c.deref-2.result.now
-    (laid_same (present_of (free_of kept)) (present_of (free_of laid)) (coming_of (free_of kept)) (coming_of (free_of kept)) (coming_of (free_of laid)) c.lay_tables.new.fresh.items (map table_of c.deref.result.now) (tables_of transcript) entries
-    (sym c.lay_tables.ensures.only.present) refl (ap (λ (parts : List TableTranscript). map table_of parts) c.deref.ensures.value) c.in_ok-entries.ensures.laid)
-    bytes c.in_ok-plan.ensures.count
+    let bytes : c.deref.result.now ≡ spelling NEWEST (record { kit = kit_chains kit; tables = dir.tables.items; snapshots = dir.snapshots.items }) =
+    c.deref.ensures.value ∙ (c.in_ok-directory.ensures.bytes ∙ ap (λ (chains : KitChains). spelling NEWEST (record { kit = chains; tables = dir.tables.items; snapshots = dir.snapshots.items })) c.in_ok-dir.ensures.kit) in
+    fresh_counted (present_of (free_of kept)) (coming_of (free_of kept)) (coming_of (free_of laid)) c.lay_chains.new.fresh.items (tables_of transcript) (snapshots_of transcript) dir.tables.items dir.snapshots.items (kit_chains kit) c.deref.result.now
+    c.in_ok-dir.ensures.laid bytes plan.fresh.items c.in_ok-plan.ensures.count
 
 pub returns-clause-laid : goal.returns-clause-laid
 returns-clause-laid g c =
     let writer = c.args.writer.now in
     let kept = c.keep_texts.new.writer in
-    let laid = c.lay_tables.new.writer in
-    let entries = c.in_ok-entries.entries.items in
-    let tables = tables_of c.args.transcript.now in
+    let laid = c.lay_chains.new.writer in
+    let transcript = c.args.transcript.now in
+    let dir = c.in_ok-dir.dir in
     let plan = c.in_ok-plan.plan in
     let start = all_marked (coming_of (free_of writer)) (text_pages c.args.kit.now) in
-    let present : present_of (free_of laid) ≡ present_of (free_of writer) = c.lay_tables.ensures.only.present ∙ c.keep_texts.ensures.only.present in
+    let present : present_of (free_of laid) ≡ present_of (free_of writer) = c.lay_chains.ensures.only.present ∙ c.keep_texts.ensures.only.present in
     subst (λ (reached : List Bool). TakesFree reached start (fresh_pages plan) (coming_of (free_of c.plan.new.self))) present
-    (takes_fresh (present_of (free_of laid)) start (coming_of (free_of laid)) (coming_of (free_of c.plan.new.self)) c.lay_tables.new.fresh.items plan.fresh.items tables entries c.deref-2.result.now plan.root.directory
-    (laid_same (present_of (free_of kept)) (present_of (free_of laid)) (coming_of (free_of kept)) start (coming_of (free_of laid)) c.lay_tables.new.fresh.items (map table_of c.deref.result.now) tables entries
-    (sym c.lay_tables.ensures.only.present) c.keep_texts.ensures.coming (ap (λ (parts : List TableTranscript). map table_of parts) c.deref.ensures.value) c.in_ok-entries.ensures.laid)
+    (takes_fresh (present_of (free_of laid)) start (coming_of (free_of laid)) (coming_of (free_of c.plan.new.self)) c.lay_chains.new.fresh.items plan.fresh.items (tables_of transcript) (snapshots_of transcript) dir.tables.items dir.snapshots.items c.deref.result.now plan.root.directory
+    (chains_same (present_of (free_of kept)) (present_of (free_of laid)) (coming_of (free_of kept)) start (coming_of (free_of laid)) c.lay_chains.new.fresh.items (tables_of transcript) (snapshots_of transcript) dir.tables.items dir.snapshots.items
+    (sym c.lay_chains.ensures.only.present) c.keep_texts.ensures.coming c.in_ok-dir.ensures.laid)
     c.in_ok-plan.ensures.laid)

@@ -12,9 +12,9 @@ pub returns : goal.returns
 returns c = λ kit k old new h ended kept played.
     let same : new.kept.commands ≡ first_turns (ends_turn kit) k old.kept.commands = ap (λ (t : Kept Command). t.commands) kept in
     let P : ℕ → Type 0 = λ n. k ≤ n in
-    let there = subst P (turns_ended kit old.kept.commands old.game h) ended in
+    let there = subst P (turns_ended kit old.kept.commands old.game h.played) ended in
     let P2 : List Command → Type 0 = λ cs. IsGameOf kit cs new.game in (
-      turns_ended kit new.kept.commands new.game played ∙ ap (ended_turns (ends_turn kit)) same
+      turns_ended kit new.kept.commands new.game played.played ∙ ap (ended_turns (ends_turn kit)) same
           ∙ back-turns (ends_turn kit) old.kept.commands k there,
       subst P2 same played.played,
     )

@@ -10,7 +10,7 @@ use Rattle.rr_game.proofs.history.laws.back_keeps_its_count.Goals as goal
 pub returns : goal.returns
 returns c = λ kit k old new h ended kept.
     let P : ℕ → Type 0 = λ n. k ≤ n in
-    let there = subst P (turns_ended kit old.kept.commands old.game h) ended in
+    let there = subst P (turns_ended kit old.kept.commands old.game h.played) ended in
     let count = kept_at old.game.ends k in
     let same : new.kept.commands ≡ take count old.kept.commands =
     ap (λ (t : Kept Command). t.commands) kept ∙ front_told kit old.kept.commands old.game k h.played there in

@@ -12,7 +12,7 @@ pub returns : goal.returns
 returns c = λ kit old new h ended kept played.
     let same : new.kept.commands ≡ old.kept.commands =
     ap (λ (t : Kept Command). t.commands) kept
-    ∙ ap (λ n. first_turns (ends_turn kit) n old.kept.commands) (turns_ended kit old.kept.commands old.game h)
+    ∙ ap (λ n. first_turns (ends_turn kit) n old.kept.commands) (turns_ended kit old.kept.commands old.game h.played)
     ∙ present (ends_turn kit) old.kept.commands ended in
     let P : List Command → Type 0 = λ cs. IsGameOf kit cs new.game in
     (subst P same played.played, same)

@@ -11,27 +11,27 @@ pub returns-in_err-file-clause-any_moment : goal.returns-in_err-file-clause-any_
 returns-in_err-file-clause-any_moment g c = λ honest unused.
     let disk = c.args.disk.now in
     started (g.D.Disk.past disk) (g.D.Disk.state disk)
-    (KeepsNoneOr (worlds g.R.Rules.takes) NEWEST_VERSION (empty_world c.args.chart.now c.args.roster.now c.args.tiles.now c.args.board.now)) (λ image was. inl (unused.none image was))
+    (KeepsNoneOr (worlds g.R.Rules.rules) NEWEST_VERSION (empty_world c.args.chart.now c.args.roster.now c.args.tiles.now c.args.board.now)) (λ image was. inl (unused.none image was))
 
 pub returns-in_err-write_new_file-clause-any_moment : goal.returns-in_err-write_new_file-clause-any_moment
 returns-in_err-write_new_file-clause-any_moment g c = λ honest unused.
-    let takes = g.R.Rules.takes in
+    let rules = g.R.Rules.rules in
     let world = empty_world c.args.chart.now c.args.roster.now c.args.tiles.now c.args.board.now in
     let file = c.in_ok-file.file in
     let is = c.in_ok-file.ensures.holds in
-    weaker (c.in_err-write_new_file.ensures.any_moment honest unused world is) (KeepsNoneOr (worlds takes) NEWEST_VERSION world) (none_or_keeps takes file.root file.fresh.items world is NEWEST_VERSION c.in_ok-file.ensures.version)
+    weaker (c.in_err-write_new_file.ensures.any_moment honest unused world is) (KeepsNoneOr (worlds rules) NEWEST_VERSION world) (none_or_keeps rules file.root file.fresh.items world is NEWEST_VERSION c.in_ok-file.ensures.version)
 
 pub returns-clause-each : goal.returns-clause-each
 returns-clause-each g c = λ honest empty image was.
     let world = empty_world c.args.chart.now c.args.roster.now c.args.tiles.now c.args.board.now in
     let file = c.in_ok-file.file in
     let is = c.in_ok-file.ensures.holds in
-    formatted_keeps g.R.Rules.takes file.root file.fresh.items world is NEWEST_VERSION c.in_ok-file.ensures.version image (c.in_ok-write_new_file.ensures.each honest empty world is image was)
+    formatted_keeps g.R.Rules.rules file.root file.fresh.items world is NEWEST_VERSION c.in_ok-file.ensures.version image (c.in_ok-write_new_file.ensures.each honest empty world is image was)
 
 pub returns-clause-any_moment : goal.returns-clause-any_moment
 returns-clause-any_moment g c = λ honest unused.
-    let takes = g.R.Rules.takes in
+    let rules = g.R.Rules.rules in
     let world = empty_world c.args.chart.now c.args.roster.now c.args.tiles.now c.args.board.now in
     let file = c.in_ok-file.file in
     let is = c.in_ok-file.ensures.holds in
-    weaker (c.in_ok-write_new_file.ensures.any_moment honest unused world is) (KeepsNoneOr (worlds takes) NEWEST_VERSION world) (none_or_keeps takes file.root file.fresh.items world is NEWEST_VERSION c.in_ok-file.ensures.version)
+    weaker (c.in_ok-write_new_file.ensures.any_moment honest unused world is) (KeepsNoneOr (worlds rules) NEWEST_VERSION world) (none_or_keeps rules file.root file.fresh.items world is NEWEST_VERSION c.in_ok-file.ensures.version)

@@ -27,8 +27,8 @@ returns-clause-holds g c =
       marks = c.in_ok-free.free.coming.whole;
     } in
     let counted : vec_len c.lay_text.new.fresh ≡ length more = omega (arith, c.lay_text.new.fresh.ok) in
-    subst (λ (root : Root). IsNewFile g.R.Rules.takes root more world) (sym (c.first_root.ensures ∙ ap (λ (count : ℕ). first_root c.args.version head count) (c.len.ensures ∙ counted)))
-    (is_new_file g.R.Rules.takes c.args.version present coming (coming_of c.lay_kit.new.free) (coming_of c.lay_text.new.free) c.lay_kit.new.fresh.items more
+    subst (λ (root : Root). IsNewFile g.R.Rules.rules root more world) (sym (c.first_root.ensures ∙ ap (λ (count : ℕ). first_root c.args.version head count) (c.len.ensures ∙ counted)))
+    (is_new_file g.R.Rules.rules c.args.version present coming (coming_of c.lay_kit.new.free) (coming_of c.lay_text.new.free) c.lay_kit.new.fresh.items more
     c.args.chart.now c.args.roster.now c.args.tiles.now c.args.board.now c.deref.result.now c.in_ok-kit.kit head
     c.in_ok-kit.ensures.laid
     (subst (λ (marks : List Bool). IsLaid marks (coming_of c.lay_kit.new.free) (coming_of c.lay_text.new.free) c.deref.result.now c.lay_kit.new.fresh.items more head) c.in_ok-kit.ensures.present c.in_ok-chain.ensures.laid)

@@ -12,7 +12,7 @@ returns-in_err-write_closed-clause-any_moment g c = λ honest unused world is.
     let root = c.args.file.now.root in
     let fresh = c.args.file.now.fresh.items in
     let stays = g.met.D.Disk.content_may_stay c.args.disk.now (c.in_err-write_closed.ensures.honest honest) in
-    none_left g.R.Rules.takes root fresh world is
+    none_left g.R.Rules.rules root fresh world is
     (closing_stopped (account g.D.Disk c.args.disk.now) unused.empty root fresh is.spare (record { stays = stays; each = unused.none }) (account g.D.Disk c.write_closed.new.disk) (c.in_err-write_closed.ensures.stops honest))
 
 pub returns-in_err-write_closed-clause-stops : goal.returns-in_err-write_closed-clause-stops
@@ -25,7 +25,7 @@ returns-in_err-write_closed-clause-stops g c =
 pub returns-in_err-write_closed-clause-device : goal.returns-in_err-write_closed-clause-device
 returns-in_err-write_closed-clause-device g c =
     on_err c.from_residual.result
-    (λ works world is. c.in_err-write_closed.ensures.refused works (whole_pages g.R.Rules.takes c.args.file.now.root c.args.file.now.fresh.items world is))
+    (λ works world is. c.in_err-write_closed.ensures.refused works (whole_pages g.R.Rules.rules c.args.file.now.root c.args.file.now.fresh.items world is))
 
 pub returns-in_err-open-clause-any_moment : goal.returns-in_err-open-clause-any_moment
 returns-in_err-open-clause-any_moment g c = λ honest unused world is.
@@ -36,8 +36,8 @@ returns-in_err-open-clause-any_moment g c = λ honest unused world is.
     let closed = c.in_err-open.ensures.honest honest in
     let calls = c.in_ok-write_closed.ensures.calls closed in
     let stays = g.met.D.Disk.content_may_stay disk (c.in_ok-write_closed.ensures.honest closed) in
-    joins (none_left g.R.Rules.takes root fresh world is (closing_left old unused.empty root fresh is.spare (record { stays = stays; each = unused.none }) (account g.D.Disk c.write_closed.new.disk) calls))
-    (gate_left g.R.Rules.takes root fresh world is old unused.empty (g.D.Disk.past c.write_closed.new.disk) (g.D.Disk.state c.write_closed.new.disk) (ap (λ (account : Account). account.state) calls) (c.in_err-open.ensures.any_moment honest))
+    joins (none_left g.R.Rules.rules root fresh world is (closing_left old unused.empty root fresh is.spare (record { stays = stays; each = unused.none }) (account g.D.Disk c.write_closed.new.disk) calls))
+    (gate_left g.R.Rules.rules root fresh world is old unused.empty (g.D.Disk.past c.write_closed.new.disk) (g.D.Disk.state c.write_closed.new.disk) (ap (λ (account : Account). account.state) calls) (c.in_err-open.ensures.any_moment honest))
 
 pub returns-in_err-open-clause-stops : goal.returns-in_err-open-clause-stops
 returns-in_err-open-clause-stops g c =
@@ -60,13 +60,13 @@ returns-clause-any_moment g c = λ honest unused world is.
     let closed = c.in_ok-open.ensures.honest honest in
     let calls = c.in_ok-write_closed.ensures.calls closed in
     let stays = g.met.D.Disk.content_may_stay disk (c.in_ok-write_closed.ensures.honest closed) in
-    joins (none_left g.R.Rules.takes root fresh world is (closing_left old unused.empty root fresh is.spare (record { stays = stays; each = unused.none }) (account g.D.Disk c.write_closed.new.disk) calls))
-    (gate_left g.R.Rules.takes root fresh world is old unused.empty (g.D.Disk.past c.write_closed.new.disk) (g.D.Disk.state c.write_closed.new.disk) (ap (λ (account : Account). account.state) calls) (c.in_ok-open.ensures.any_moment honest))
+    joins (none_left g.R.Rules.rules root fresh world is (closing_left old unused.empty root fresh is.spare (record { stays = stays; each = unused.none }) (account g.D.Disk c.write_closed.new.disk) calls))
+    (gate_left g.R.Rules.rules root fresh world is old unused.empty (g.D.Disk.past c.write_closed.new.disk) (g.D.Disk.state c.write_closed.new.disk) (ap (λ (account : Account). account.state) calls) (c.in_ok-open.ensures.any_moment honest))
 
 pub returns-clause-each : goal.returns-clause-each
 returns-clause-each g c = λ honest empty world is.
     let closed = c.in_ok-open.ensures.honest honest in
-    formatted_each g.R.Rules.takes c.args.file.now.root c.args.file.now.fresh.items world is (account g.D.Disk c.args.disk.now) empty
+    formatted_each g.R.Rules.rules c.args.file.now.root c.args.file.now.fresh.items world is (account g.D.Disk c.args.disk.now) empty
     (g.D.Disk.state c.write_closed.new.disk) (g.D.Disk.state c.open.new.disk) (ap (λ (account : Account). account.state) (c.in_ok-write_closed.ensures.calls closed)) (c.in_ok-open.ensures.done honest)
 
 pub returns-clause-all_writes : goal.returns-clause-all_writes

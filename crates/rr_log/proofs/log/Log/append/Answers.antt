@@ -4,14 +4,14 @@ use Rattle.rr_log.proofs.log.Log.append.Goals as goal
 pub returns-in-Ok-clause-carries : goal.returns-in-Ok-clause-carries
 returns-in-Ok-clause-carries g c = λ honest whole old new takes same carries.
     let log = c.args.self.now in
-    kept_carries g.R.Rules.takes log (g.D.Disk.state log.disk) old carries c.append.new.disk c.append.new.self (g.D.Disk.state c.append.new.disk) c.args.line.now new same c.in-Ok.ensures.left
+    kept_carries g.R.Rules.rules log (g.D.Disk.state log.disk) old carries c.append.new.disk c.append.new.self (g.D.Disk.state c.append.new.disk) c.args.line.now new same c.in-Ok.ensures.left
     (c.in-Ok.ensures.carries honest old new takes carries.carried) c.in-Ok.ensures.begun
 
 pub returns-in-Ok-clause-appends : goal.returns-in-Ok-clause-appends
 returns-in-Ok-clause-appends g c = λ honest old new takes same carries.
     let log = c.args.self.now in
     let appended = c.in-Ok.ensures.carries honest old new takes carries.carried in (
-      kept_carries g.R.Rules.takes log (g.D.Disk.state log.disk) old carries c.append.new.disk c.append.new.self (g.D.Disk.state c.append.new.disk) c.args.line.now new same c.in-Ok.ensures.left
+      kept_carries g.R.Rules.rules log (g.D.Disk.state log.disk) old carries c.append.new.disk c.append.new.self (g.D.Disk.state c.append.new.disk) c.args.line.now new same c.in-Ok.ensures.left
           appended c.in-Ok.ensures.begun,
       appended.1.layout,
     )
@@ -20,7 +20,7 @@ pub returns-in-Err-HalfFull-clause-carries : goal.returns-in-Err-HalfFull-clause
 returns-in-Err-HalfFull-clause-carries g c = λ honest whole old new takes same carries.
     let log = c.args.self.now in
     let is = c.in-Err-HalfFull.field-0-is in
-    same_carries g.R.Rules.takes log g.D.Disk.state old c.append.new.disk c.append.new.self (c.in-Err-HalfFull.ensures.no_call (cc)) (c.in-Err-HalfFull.ensures.same (cc)) carries
+    same_carries g.R.Rules.rules log g.D.Disk.state old c.append.new.disk c.append.new.self (c.in-Err-HalfFull.ensures.no_call (cc)) (c.in-Err-HalfFull.ensures.same (cc)) carries
 
 pub returns-in-Ok-clause-stops : goal.returns-in-Ok-clause-stops
 returns-in-Ok-clause-stops g c = λ honest old new takes carries. c.in-Ok.ensures.stops honest old new takes carries.carried

@@ -7,7 +7,10 @@ use Rattle.rr_log.specs.Log.{place_of}
 use Rattle.rr_checkpoint.specs.Calls.{LeavesKept}
 use Rattle.rr_disk.proofs.MomentLemmas.{started, stays}
 use Rattle.rr_images.specs.Layout.{Keeps, Layout, Begun, far_lines}
-use Rattle.rr_log.specs.Carrying.{Carries, IsPlanned}
+use Rattle.rr_images.specs.Holding.{Holding}
+use Rattle.rr_log.specs.Calls.{tables_due}
+use Rattle.rr_log.specs.Carrying.{Carries, HoldsWorld, IsPlanned}
+use Rattle.rr_log.specs.Lent.{lent_of}
 use Rattle.rr_log.proofs.Carried.{kept_now, begun_carries, half_behind, some_behind, starts_with}
 use Rattle.rr_reading.specs.Worlds.Spelling.{worlds}
 use Rattle.rr_log.proofs.log.Log.begin.Goals as goal
@@ -16,27 +19,27 @@ pub returns-in_err-plan-clause-stops : goal.returns-in_err-plan-clause-stops
 returns-in_err-plan-clause-stops g c = λ honest world carries.
     let log = c.args.self.now in
     let same = c.plan.ensures.unchanged.disk in
-    stays (started (g.D.Disk.past log.disk) (g.D.Disk.state log.disk) (λ image. Keeps (worlds g.R.Rules.takes) image world) (kept_now g.R.Rules.takes log (g.D.Disk.state log.disk) world carries))
+    stays (started (g.D.Disk.past log.disk) (g.D.Disk.state log.disk) (λ image. Keeps (worlds g.R.Rules.rules) image world) (kept_now g.R.Rules.rules log (g.D.Disk.state log.disk) world carries))
     (ap g.D.Disk.past same) (ap g.D.Disk.state same)
 
 pub returns-in_err-plan-clause-carries : goal.returns-in_err-plan-clause-carries
 returns-in_err-plan-clause-carries g c = λ honest whole world lent carries.
     let log = c.args.self.now in
-    subst (λ (disk : g.row.D.Denot). Carries g.R.Rules.takes c.plan.new.self (g.D.Disk.state disk) world) (sym c.plan.ensures.unchanged.disk)
+    subst (λ (disk : g.row.D.Denot). Carries g.R.Rules.rules c.plan.new.self (g.D.Disk.state disk) world) (sym c.plan.ensures.unchanged.disk)
     (c.plan.ensures.carries (g.D.Disk.state log.disk) world carries)
 
 pub returns-in-Ok-clause-stops : goal.returns-in-Ok-clause-stops
 returns-in-Ok-clause-stops g c = λ honest world carries.
     let log = c.args.self.now in
-    let codec = worlds g.R.Rules.takes in
+    let codec = worlds g.R.Rules.rules in
     let planned = c.plan.new.self in
     let new = c.begin.new.disk in
-    let there = subst (λ (disk : g.row.D.Denot). Carries g.R.Rules.takes planned (g.D.Disk.state disk) world) (sym c.plan.ensures.unchanged.disk)
+    let there = subst (λ (disk : g.row.D.Denot). Carries g.R.Rules.rules planned (g.D.Disk.state disk) world) (sym c.plan.ensures.unchanged.disk)
     (c.plan.ensures.carries (g.D.Disk.state log.disk) world carries) in
     let starts =
     starts_with codec planned.writer (g.D.Disk.state planned.disk) world c.in_ok-plan.plan (place_of planned).begun there.carried
     (λ found.
-    let plan = subst (λ (disk : g.row.D.Denot). IsPlanned g.R.Rules.takes planned c.in_ok-plan.plan (g.D.Disk.state disk) world carries.carried.layout) (sym c.plan.ensures.unchanged.disk)
+    let plan = subst (λ (disk : g.row.D.Denot). IsPlanned g.R.Rules.rules planned c.in_ok-plan.plan (g.D.Disk.state disk) world carries.carried.layout (tables_due log.base (lent_of g.T.TablesInWords c.args.tables.now)).snapshots) (sym c.plan.ensures.unchanged.disk)
     (c.in_ok-plan.ensures.found (g.D.Disk.state log.disk) world (λ none. found (ap (λ (place : Place). place.begun) c.plan.ensures.unchanged.place ∙ none)) carries) in
     (plan.carries.carried, plan.may)) in
     subst (λ (disk : g.row.D.Denot). LeavesKept codec (g.D.Disk.past disk) (g.D.Disk.state disk) (g.D.Disk.past new) (g.D.Disk.state new) world) c.plan.ensures.unchanged.disk
@@ -45,15 +48,15 @@ returns-in-Ok-clause-stops g c = λ honest world carries.
 pub returns-in-Err-clause-stops : goal.returns-in-Err-clause-stops
 returns-in-Err-clause-stops g c = λ honest world carries.
     let log = c.args.self.now in
-    let codec = worlds g.R.Rules.takes in
+    let codec = worlds g.R.Rules.rules in
     let planned = c.plan.new.self in
     let new = c.begin.new.disk in
-    let there = subst (λ (disk : g.row.D.Denot). Carries g.R.Rules.takes planned (g.D.Disk.state disk) world) (sym c.plan.ensures.unchanged.disk)
+    let there = subst (λ (disk : g.row.D.Denot). Carries g.R.Rules.rules planned (g.D.Disk.state disk) world) (sym c.plan.ensures.unchanged.disk)
     (c.plan.ensures.carries (g.D.Disk.state log.disk) world carries) in
     let starts =
     starts_with codec planned.writer (g.D.Disk.state planned.disk) world c.in_ok-plan.plan (place_of planned).begun there.carried
     (λ found.
-    let plan = subst (λ (disk : g.row.D.Denot). IsPlanned g.R.Rules.takes planned c.in_ok-plan.plan (g.D.Disk.state disk) world carries.carried.layout) (sym c.plan.ensures.unchanged.disk)
+    let plan = subst (λ (disk : g.row.D.Denot). IsPlanned g.R.Rules.rules planned c.in_ok-plan.plan (g.D.Disk.state disk) world carries.carried.layout (tables_due log.base (lent_of g.T.TablesInWords c.args.tables.now)).snapshots) (sym c.plan.ensures.unchanged.disk)
     (c.in_ok-plan.ensures.found (g.D.Disk.state log.disk) world (λ none. found (ap (λ (place : Place). place.begun) c.plan.ensures.unchanged.place ∙ none)) carries) in
     (plan.carries.carried, plan.may)) in
     subst (λ (disk : g.row.D.Denot). LeavesKept codec (g.D.Disk.past disk) (g.D.Disk.state disk) (g.D.Disk.past new) (g.D.Disk.state new) world) c.plan.ensures.unchanged.disk
@@ -62,21 +65,21 @@ returns-in-Err-clause-stops g c = λ honest world carries.
 pub returns-in-Ok-clause-carries : goal.returns-in-Ok-clause-carries
 returns-in-Ok-clause-carries g c = λ honest whole world lent carries.
     let log = c.args.self.now in
-    let planned = subst (λ (disk : g.row.D.Denot). IsPlanned g.R.Rules.takes c.plan.new.self c.in_ok-plan.plan (g.D.Disk.state disk) world carries.carried.layout) (sym c.plan.ensures.unchanged.disk)
+    let planned = subst (λ (disk : g.row.D.Denot). IsPlanned g.R.Rules.rules c.plan.new.self c.in_ok-plan.plan (g.D.Disk.state disk) world carries.carried.layout (tables_due log.base (lent_of g.T.TablesInWords c.args.tables.now)).snapshots) (sym c.plan.ensures.unchanged.disk)
     (c.in_ok-plan.ensures.plan (g.D.Disk.state log.disk) world lent carries) in
     let left = some_behind (place_of c.plan.new.self).begun (length c.in_ok-plan.plan.fresh.items) (file.ticks_left_of c.begin.new.self) c.in_ok-plan.ensures.some c.in-Ok.ensures.left in
-    begun_carries g.R.Rules.takes c.plan.new.self (g.D.Disk.state c.plan.new.self.disk) world planned.carries c.begin.new.disk c.begin.new.self (g.D.Disk.state c.begin.new.disk)
+    begun_carries g.R.Rules.rules c.plan.new.self (g.D.Disk.state c.plan.new.self.disk) world planned.carries c.begin.new.disk c.begin.new.self (g.D.Disk.state c.begin.new.disk)
     planned.may.holding planned.texts (omega (arith, left)) (c.in-Ok.ensures.carries honest world planned.carries.carried planned.may)
 
 pub returns-in-Ok-clause-starts : goal.returns-in-Ok-clause-starts
 returns-in-Ok-clause-starts g c = λ honest world lent carries.
     let log = c.args.self.now in
-    let codec = worlds g.R.Rules.takes in
-    let planned = subst (λ (disk : g.row.D.Denot). IsPlanned g.R.Rules.takes c.plan.new.self c.in_ok-plan.plan (g.D.Disk.state disk) world carries.carried.layout) (sym c.plan.ensures.unchanged.disk)
+    let codec = worlds g.R.Rules.rules in
+    let planned = subst (λ (disk : g.row.D.Denot). IsPlanned g.R.Rules.rules c.plan.new.self c.in_ok-plan.plan (g.D.Disk.state disk) world carries.carried.layout (tables_due log.base (lent_of g.T.TablesInWords c.args.tables.now)).snapshots) (sym c.plan.ensures.unchanged.disk)
     (c.in_ok-plan.ensures.plan (g.D.Disk.state log.disk) world lent carries) in
     let left = some_behind (place_of c.plan.new.self).begun (length c.in_ok-plan.plan.fresh.items) (file.ticks_left_of c.begin.new.self) c.in_ok-plan.ensures.some c.in-Ok.ensures.left in
     let begun = c.in-Ok.ensures.carries honest world planned.carries.carried planned.may in (
-      begun_carries g.R.Rules.takes c.plan.new.self (g.D.Disk.state c.plan.new.self.disk) world planned.carries c.begin.new.disk c.begin.new.self (g.D.Disk.state c.begin.new.disk)
+      begun_carries g.R.Rules.rules c.plan.new.self (g.D.Disk.state c.plan.new.self.disk) world planned.carries c.begin.new.disk c.begin.new.self (g.D.Disk.state c.begin.new.disk)
           planned.may.holding planned.texts (omega (arith, left)) begun,
       record {
         root = begun.1.root ∙ ap (λ (l : Layout codec). l.root) planned.same;
@@ -85,17 +88,30 @@ returns-in-Ok-clause-starts g c = λ honest world lent carries.
       },
     )
 
+pub returns-in-Ok-clause-holds : goal.returns-in-Ok-clause-holds
+returns-in-Ok-clause-holds g c = λ honest world lent carries.
+    let log = c.args.self.now in
+    let due = (tables_due log.base (lent_of g.T.TablesInWords c.args.tables.now)).snapshots in
+    let planned = subst (λ (disk : g.row.D.Denot). IsPlanned g.R.Rules.rules c.plan.new.self c.in_ok-plan.plan (g.D.Disk.state disk) world carries.carried.layout due) (sym c.plan.ensures.unchanged.disk)
+    (c.in_ok-plan.ensures.plan (g.D.Disk.state log.disk) world lent carries) in
+    let left = some_behind (place_of c.plan.new.self).begun (length c.in_ok-plan.plan.fresh.items) (file.ticks_left_of c.begin.new.self) c.in_ok-plan.ensures.some c.in-Ok.ensures.left in
+    let begun = c.in-Ok.ensures.carries honest world planned.carries.carried planned.may in (
+      begun_carries g.R.Rules.rules c.plan.new.self (g.D.Disk.state c.plan.new.self.disk) world planned.carries c.begin.new.disk c.begin.new.self (g.D.Disk.state c.begin.new.disk)
+          planned.may.holding planned.texts (omega (arith, left)) begun,
+      subst (λ (h : Holding). HoldsWorld carries.carried.layout.middle due h) (sym begun.1.coming) planned.all,
+    )
+
 pub returns-in-Err-clause-device : goal.returns-in-Err-clause-device
 returns-in-Err-clause-device g c = λ honest world carries.
     let log = c.args.self.now in
-    let codec = worlds g.R.Rules.takes in
+    let codec = worlds g.R.Rules.rules in
     let planned = c.plan.new.self in
-    let there = subst (λ (disk : g.row.D.Denot). Carries g.R.Rules.takes planned (g.D.Disk.state disk) world) (sym c.plan.ensures.unchanged.disk)
+    let there = subst (λ (disk : g.row.D.Denot). Carries g.R.Rules.rules planned (g.D.Disk.state disk) world) (sym c.plan.ensures.unchanged.disk)
     (c.plan.ensures.carries (g.D.Disk.state log.disk) world carries) in
     let starts =
     starts_with codec planned.writer (g.D.Disk.state planned.disk) world c.in_ok-plan.plan (place_of planned).begun there.carried
     (λ found.
-    let plan = subst (λ (disk : g.row.D.Denot). IsPlanned g.R.Rules.takes planned c.in_ok-plan.plan (g.D.Disk.state disk) world carries.carried.layout) (sym c.plan.ensures.unchanged.disk)
+    let plan = subst (λ (disk : g.row.D.Denot). IsPlanned g.R.Rules.rules planned c.in_ok-plan.plan (g.D.Disk.state disk) world carries.carried.layout (tables_due log.base (lent_of g.T.TablesInWords c.args.tables.now)).snapshots) (sym c.plan.ensures.unchanged.disk)
     (c.in_ok-plan.ensures.found (g.D.Disk.state log.disk) world (λ none. found (ap (λ (place : Place). place.begun) c.plan.ensures.unchanged.place ∙ none)) carries) in
     (plan.carries.carried, plan.may)) in
     c.in-Err.ensures.device honest world starts.0 starts.1

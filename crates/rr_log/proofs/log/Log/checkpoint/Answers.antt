@@ -1,8 +1,12 @@
-use Rattle.std.proofs.Common.{◌≡◌, ◌∙◌, ◌+◌, ℕ, Err, inl, inr, ap, sym}
+use Rattle.std.proofs.Common.{◌≡◌, ◌∙◌, ◌+◌, ℕ, Err, inl, inr, ap, subst, sym, arith}
 use Rattle.rr_disk.proofs.MomentLemmas.{started, joins}
 use Rattle.rr_images.specs.Layout.{Keeps}
 use Rattle.rr_log.specs.declared.fault.Fault.{Fault}
 use Rattle.rr_log.specs.declared.fault.Fault.TheVariants as F
+use Rattle.rr_images.specs.Holding.{Holding}
+use Rattle.rr_log.specs.Calls.{tables_due}
+use Rattle.rr_log.specs.Carrying.{HoldsWorld}
+use Rattle.rr_log.specs.Lent.{lent_of}
 use Rattle.rr_log.specs.Fault.{IsWant}
 use Rattle.rr_log.proofs.Carried.{device_more, device_so, kept_now, newer_begun, newer_under_way, next_begun, next_under_way, ok_so, renews_next, root_next, takes_root}
 use Rattle.rr_reading.specs.Worlds.Spelling.{worlds}
@@ -12,24 +16,24 @@ use Rattle.rr_log.proofs.log.Log.checkpoint.Goals as goal
 pub returns-then-self-clause-stops : goal.returns-then-self-clause-stops
 returns-then-self-clause-stops g c = λ honest world lent carries.
     let log = c.args.self.now in
-    started (g.D.Disk.past log.disk) (g.D.Disk.state log.disk) (λ image. Keeps (worlds g.R.Rules.takes) image world) (kept_now g.R.Rules.takes log (g.D.Disk.state log.disk) world carries)
+    started (g.D.Disk.past log.disk) (g.D.Disk.state log.disk) (λ image. Keeps (worlds g.R.Rules.rules) image world) (kept_now g.R.Rules.rules log (g.D.Disk.state log.disk) world carries)
 
 pub returns-then-ticks_left-gt0-clause-carries : goal.returns-then-ticks_left-gt0-clause-carries
 returns-then-ticks_left-gt0-clause-carries g c = λ honest whole world lent carries. c.finish.ensures.carries honest whole world carries
 
 pub returns-then-ticks_left-gt0-clause-renews : goal.returns-then-ticks_left-gt0-clause-renews
 returns-then-ticks_left-gt0-clause-renews g c = ok_so c.finish.result _ _ (λ renews honest world lent carries. λ image is.
-    newer_under_way (worlds g.R.Rules.takes) carries.carried.layout world image (renews honest world carries image is))
+    newer_under_way (worlds g.R.Rules.rules) carries.carried.layout world image (renews honest world carries image is))
     c.finish.ensures.renews
 
 pub returns-then-ticks_left-gt0-clause-whole : goal.returns-then-ticks_left-gt0-clause-whole
 returns-then-ticks_left-gt0-clause-whole g c = ok_so c.finish.result _ _ (λ renewed none honest world lent carries. λ image is.
-    let takes = g.R.Rules.takes in
+    let rules = g.R.Rules.rules in
     let log = c.args.self.now in
     let ended = c.finish.new.self in
     let then = renewed honest world carries in
-    takes_root takes log (g.D.Disk.state log.disk) world carries none image
-    (next_under_way (worlds takes) carries.carried.layout world image (renews_next takes ended (g.D.Disk.state ended.disk) world then.0 carries.carried.layout then.1 image is)))
+    takes_root rules log (g.D.Disk.state log.disk) world carries none image
+    (next_under_way (worlds rules) carries.carried.layout world image (renews_next rules ended (g.D.Disk.state ended.disk) world then.0 carries.carried.layout then.1 image is)))
     c.finish.ensures.renewed
 
 pub returns-then-ticks_left-gt0-clause-root : goal.returns-then-ticks_left-gt0-clause-root
@@ -37,7 +41,7 @@ returns-then-ticks_left-gt0-clause-root g c = ok_so c.finish.result _ _ (λ rene
     let log = c.args.self.now in
     let ended = c.finish.new.self in
     let then = renewed honest world carries in
-    root_next g.R.Rules.takes log ended (g.D.Disk.state log.disk) (g.D.Disk.state ended.disk) world carries then.0 then.1)
+    root_next g.R.Rules.rules log ended (g.D.Disk.state log.disk) (g.D.Disk.state ended.disk) world carries then.0 then.1)
     c.finish.ensures.renewed
 
 pub returns-in_err-finish-clause-stops : goal.returns-in_err-finish-clause-stops
@@ -58,17 +62,17 @@ returns-clause-carries g c = λ honest whole world lent carries.
 pub returns-clause-renews : goal.returns-clause-renews
 returns-clause-renews g c = λ honest world lent carries. λ image is.
     let begun = c.in_ok-begin.ensures.starts (c.in_ok-finish.ensures.honest honest) world lent carries in
-    newer_begun (worlds g.R.Rules.takes) carries.carried.layout begun.0.carried.layout world image begun.1 (c.in_ok-finish.ensures.renews honest world begun.0 image is)
+    newer_begun (worlds g.R.Rules.rules) carries.carried.layout begun.0.carried.layout world image begun.1 (c.in_ok-finish.ensures.renews honest world begun.0 image is)
 
 pub returns-clause-whole : goal.returns-clause-whole
 returns-clause-whole g c = λ none honest world lent carries. λ image is.
-    let takes = g.R.Rules.takes in
+    let rules = g.R.Rules.rules in
     let log = c.args.self.now in
     let ended = c.finish-2.new.self in
     let begun = c.in_ok-begin.ensures.starts (c.in_ok-finish.ensures.honest honest) world lent carries in
     let then = c.in_ok-finish.ensures.renewed honest world begun.0 in
-    takes_root takes log (g.D.Disk.state log.disk) world carries none image
-    (next_begun (worlds takes) carries.carried.layout begun.0.carried.layout world image begun.1 (renews_next takes ended (g.D.Disk.state ended.disk) world then.0 begun.0.carried.layout then.1 image is))
+    takes_root rules log (g.D.Disk.state log.disk) world carries none image
+    (next_begun (worlds rules) carries.carried.layout begun.0.carried.layout world image begun.1 (renews_next rules ended (g.D.Disk.state ended.disk) world then.0 begun.0.carried.layout then.1 image is))
 
 pub returns-clause-root : goal.returns-clause-root
 returns-clause-root g c = λ honest world lent carries.
@@ -76,8 +80,21 @@ returns-clause-root g c = λ honest world lent carries.
     let ended = c.finish-2.new.self in
     let begun = c.in_ok-begin.ensures.starts (c.in_ok-finish.ensures.honest honest) world lent carries in
     let then = c.in_ok-finish.ensures.renewed honest world begun.0 in
-    root_next g.R.Rules.takes started ended (g.D.Disk.state started.disk) (g.D.Disk.state ended.disk) world begun.0 then.0 then.1
+    root_next g.R.Rules.rules started ended (g.D.Disk.state started.disk) (g.D.Disk.state ended.disk) world begun.0 then.0 then.1
     ∙ ap (λ (number : ℕ). number + 1) c.begin.ensures.root
+
+pub returns-then-ticks_left-gt0-clause-holds : goal.returns-then-ticks_left-gt0-clause-holds
+returns-then-ticks_left-gt0-clause-holds g c = ok_so c.finish.result _ _ (λ left none honest world lent carries.
+    absurd (omega (arith, none, c.ticks_left.ensures, c.if-ticks_left-gt0.true)))
+    c.finish.ensures.left
+
+pub returns-clause-holds : goal.returns-clause-holds
+returns-clause-holds g c = λ none honest world lent carries.
+    let log = c.args.self.now in
+    let due = (tables_due log.base (lent_of g.T.TablesInWords c.args.tables.now)).snapshots in
+    let begun = c.in_ok-begin.ensures.holds (c.in_ok-finish.ensures.honest honest) world lent carries in
+    let then = c.in_ok-finish.ensures.takes honest world begun.0 in
+    (then.0, subst (λ (h : Holding). HoldsWorld carries.carried.layout.middle due h) (sym then.1) begun.1)
 
 pub returns-then-ticks_left-gt0-clause-device : goal.returns-then-ticks_left-gt0-clause-device
 returns-then-ticks_left-gt0-clause-device g c =

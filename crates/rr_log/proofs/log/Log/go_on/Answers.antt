@@ -4,19 +4,19 @@ use Rattle.rr_log.proofs.log.Log.go_on.Goals as goal
 pub returns-in-Ok-clause-carries : goal.returns-in-Ok-clause-carries
 returns-in-Ok-clause-carries g c = λ honest whole world carries.
     let log = c.args.self.now in
-    ticked_carries g.R.Rules.takes log (g.D.Disk.state log.disk) world carries c.tick.new.disk c.tick.new.self (g.D.Disk.state c.tick.new.disk) c.in-Ok.tick c.requires.under_way
+    ticked_carries g.R.Rules.rules log (g.D.Disk.state log.disk) world carries c.tick.new.disk c.tick.new.self (g.D.Disk.state c.tick.new.disk) c.in-Ok.tick c.requires.under_way
     c.in-Ok.ensures.left c.in-Ok.ensures.rests (c.in-Ok.ensures.carries honest world carries.carried)
 
 pub returns-in-Ok-clause-renewed : goal.returns-in-Ok-clause-renewed
 returns-in-Ok-clause-renewed g c = λ whole one honest world carries.
     let log = c.args.self.now in
-    last_carries g.R.Rules.takes log (g.D.Disk.state log.disk) world carries c.tick.new.disk c.tick.new.self (g.D.Disk.state c.tick.new.disk) c.in-Ok.tick one
+    last_carries g.R.Rules.rules log (g.D.Disk.state log.disk) world carries c.tick.new.disk c.tick.new.self (g.D.Disk.state c.tick.new.disk) c.in-Ok.tick one
     c.in-Ok.ensures.left c.in-Ok.ensures.rests (c.in-Ok.ensures.carries honest world carries.carried)
 
 pub returns-in-Ok-clause-root : goal.returns-in-Ok-clause-root
 returns-in-Ok-clause-root g c = λ honest world carries.
     let log = c.args.self.now in
-    ticked_root g.R.Rules.takes log (g.D.Disk.state log.disk) world carries c.tick.new.disk c.tick.new.self (g.D.Disk.state c.tick.new.disk) c.in-Ok.tick
+    ticked_root g.R.Rules.rules log (g.D.Disk.state log.disk) world carries c.tick.new.disk c.tick.new.self (g.D.Disk.state c.tick.new.disk) c.in-Ok.tick
     c.in-Ok.ensures.taken (c.in-Ok.ensures.carries honest world carries.carried)
 
 pub returns-in-Err-clause-renewed : goal.returns-in-Err-clause-renewed

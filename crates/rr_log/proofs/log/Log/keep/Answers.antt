@@ -5,6 +5,7 @@ use Rattle.rr_images.specs.Calls.{TakesNewer}
 use Rattle.rr_images.specs.Layout.{Keeps}
 use Rattle.rr_images.specs.Steps.{with_line}
 use Rattle.rr_log.specs.Carrying.{Carries}
+use Rattle.rr_log.specs.Lent.{lent_of}
 use Rattle.rr_log.specs.declared.fault.Fault.TheVariants as F
 use Rattle.rr_log.proofs.Carried.{full_on, is_full, is_put_off, kept_now, no_more_room, only_breaks, renewed_line, renews_now, renews_refused, same_count, same_disk, same_images, told_behind}
 use Rattle.rr_reading.specs.Worlds.Spelling.{worlds}
@@ -15,25 +16,25 @@ use Rattle.rr_log.proofs.log.Log.keep.Goals as goal
 pub returns-then-self-clause-stops : goal.returns-then-self-clause-stops
 returns-then-self-clause-stops g c = λ honest old new takes same lent carries.
     let log = c.args.self.now in
-    let codec = worlds g.R.Rules.takes in
+    let codec = worlds g.R.Rules.rules in
     started (g.D.Disk.past log.disk) (g.D.Disk.state log.disk) (λ image. Keeps codec image old ⊎ Keeps codec image new)
-    (λ image is. inl (kept_now g.R.Rules.takes log (g.D.Disk.state log.disk) old carries image is))
+    (λ image is. inl (kept_now g.R.Rules.rules log (g.D.Disk.state log.disk) old carries image is))
 
 pub returns-then-is_past_last-clause-stops : goal.returns-then-is_past_last-clause-stops
 returns-then-is_past_last-clause-stops g c = λ honest old new takes same lent carries.
     let log = c.args.self.now in
-    let codec = worlds g.R.Rules.takes in
+    let codec = worlds g.R.Rules.rules in
     started (g.D.Disk.past log.disk) (g.D.Disk.state log.disk) (λ image. Keeps codec image old ⊎ Keeps codec image new)
-    (λ image is. inl (kept_now g.R.Rules.takes log (g.D.Disk.state log.disk) old carries image is))
+    (λ image is. inl (kept_now g.R.Rules.rules log (g.D.Disk.state log.disk) old carries image is))
 
 pub returns-in_err-full-clause-stops : goal.returns-in_err-full-clause-stops
 returns-in_err-full-clause-stops g c = λ honest old new takes same lent carries.
-    let codec = worlds g.R.Rules.takes in
+    let codec = worlds g.R.Rules.rules in
     weaker (c.in_err-full.ensures.stops honest old carries) (λ image. Keeps codec image old ⊎ Keeps codec image new) (λ image keeps. inl keeps)
 
 pub returns-in_err-append-clause-stops : goal.returns-in_err-append-clause-stops
 returns-in_err-append-clause-stops g c = λ honest old new takes same lent carries.
-    let codec = worlds g.R.Rules.takes in
+    let codec = worlds g.R.Rules.rules in
     let then = c.in_err-append.ensures.honest honest in
     joins (weaker (c.in_ok-full.ensures.stops then old carries) (λ image. Keeps codec image old ⊎ Keeps codec image new) (λ image keeps. inl keeps))
     (c.in_err-append.ensures.stops honest old new takes (c.in_ok-full.ensures.carries then c.in_ok-full.ensures.broken old lent carries))
@@ -42,12 +43,12 @@ pub returns-in_err-append-clause-carries : goal.returns-in_err-append-clause-car
 returns-in_err-append-clause-carries g c = λ honest whole old new takes same lent carries.
     let then = c.in_err-append.ensures.honest honest in
     let told = err_from_is_err_and c.from_residual-in_err-append.result c.from_residual-in_err-append.ensures.1 in
-    subst (λ (world : World). Carries g.R.Rules.takes c.append.new.self (g.D.Disk.state c.append.new.self.disk) world) (sym (told_behind c.from_residual-in_err-append.result told.0 old new told.1))
+    subst (λ (world : World). Carries g.R.Rules.rules c.append.new.self (g.D.Disk.state c.append.new.self.disk) world) (sym (told_behind c.from_residual-in_err-append.result told.0 old new told.1))
     (c.in_err-append.ensures.carries honest whole old new takes same (c.in_ok-full.ensures.carries then c.in_ok-full.ensures.broken old lent carries))
 
 pub returns-clause-stops : goal.returns-clause-stops
 returns-clause-stops g c = λ honest old new takes same lent carries.
-    let codec = worlds g.R.Rules.takes in
+    let codec = worlds g.R.Rules.rules in
     let then = c.in_ok-append.ensures.honest honest in
     joins (weaker (c.in_ok-full.ensures.stops then old carries) (λ image. Keeps codec image old ⊎ Keeps codec image new) (λ image keeps. inl keeps))
     (c.in_ok-append.ensures.stops honest old new takes (c.in_ok-full.ensures.carries then c.in_ok-full.ensures.broken old lent carries))
@@ -70,7 +71,7 @@ returns-in_err-append-clause-full_file g c = λ full.
     let told = err_from_is_err_and c.from_residual-in_err-append.result c.from_residual-in_err-append.ensures.1 in
     let is : c.in_err-append.field-0.0 ≡ F.FileFull = cc (told.1, told.2, full) in
     let same = is_put_off c.in_err-append.field-0.0 c.in_ok-full.full F.FileFull c.in_err-append.ensures.err is (λ failed. cc failed) in
-    full_on c.tick_before.new.self c.append.new.self (g.T.TablesInWords.tables c.args.tables.now) (length c.args.line.now)
+    full_on c.tick_before.new.self c.append.new.self (lent_of g.T.TablesInWords c.args.tables.now) (length c.args.line.now)
     (c.in_err-append.ensures.same (ap (λ f. Err f) same)) (c.in_err-append.ensures.full (ap (λ f. Err f) same)) (c.in_ok-full.ensures.full_file (sym same ∙ is))
 
 pub returns-in_err-append-clause-memory : goal.returns-in_err-append-clause-memory
@@ -91,22 +92,22 @@ returns-in_err-full-clause-renews g c = λ whole one none honest old new takes s
 
 pub returns-in_err-append-clause-renews : goal.returns-in_err-append-clause-renews
 returns-in_err-append-clause-renews g c = λ whole one none honest old new takes same carries.
-    let codec = worlds g.R.Rules.takes in
+    let codec = worlds g.R.Rules.rules in
     let ticked = c.tick_before.new.self in
     let told = err_from_is_err_and c.from_residual-in_err-append.result c.from_residual-in_err-append.ensures.1 in
     let unchanged = c.in_err-append.ensures.same (ap (λ f. Err f) (is_full c.in_err-append.ensures.err (sym c.in_err-append.ensures.broken ∙ whole))) in
     let renewed = c.in_ok-full.ensures.renewed c.in_ok-full.ensures.broken one (c.in_err-append.ensures.honest honest) old carries in
-    renews_refused g.R.Rules.takes c.from_residual-in_err-append.result told.0 told.1 carries.carried.layout c.args.line.now old new (g.D.Disk.state c.append.new.self.disk)
+    renews_refused g.R.Rules.rules c.from_residual-in_err-append.result told.0 told.1 carries.carried.layout c.args.line.now old new (g.D.Disk.state c.append.new.self.disk)
     (same_images g.D.Disk.state (TakesNewer codec carries.carried.layout old) ticked c.append.new.self unchanged
-    (renews_now g.R.Rules.takes ticked (g.D.Disk.state ticked.disk) old renewed.0 carries.carried.layout renewed.1))
+    (renews_now g.R.Rules.rules ticked (g.D.Disk.state ticked.disk) old renewed.0 carries.carried.layout renewed.1))
 
 pub returns-clause-renews : goal.returns-clause-renews
 returns-clause-renews g c = λ whole one none honest old new takes same carries.
-    let codec = worlds g.R.Rules.takes in
+    let codec = worlds g.R.Rules.rules in
     let line = c.args.line.now in
     let renewed = c.in_ok-full.ensures.renewed c.in_ok-full.ensures.broken one (c.in_ok-append.ensures.honest honest) old carries in
     let appended = c.in_ok-append.ensures.appends honest old new takes same renewed.0 in
-    renews_now g.R.Rules.takes c.append.new.self (g.D.Disk.state c.append.new.self.disk) new appended.0 (with_line carries.carried.layout line new)
+    renews_now g.R.Rules.rules c.append.new.self (g.D.Disk.state c.append.new.self.disk) new appended.0 (with_line carries.carried.layout line new)
     (renewed_line codec carries.carried.layout renewed.0.carried.layout appended.0.carried.layout line new appended.1 renewed.1)
 
 pub returns-in_err-append-clause-tick_writes : goal.returns-in_err-append-clause-tick_writes

@@ -11,7 +11,7 @@ returns-then-ticks_left-gt0-clause-carries g c = λ honest whole world lent carr
 pub returns-then-not-is_due-clause-stops : goal.returns-then-not-is_due-clause-stops
 returns-then-not-is_due-clause-stops g c = λ honest world carries.
     let log = c.args.self.now in
-    started (g.D.Disk.past log.disk) (g.D.Disk.state log.disk) (λ image. Keeps (worlds g.R.Rules.takes) image world) (kept_now g.R.Rules.takes log (g.D.Disk.state log.disk) world carries)
+    started (g.D.Disk.past log.disk) (g.D.Disk.state log.disk) (λ image. Keeps (worlds g.R.Rules.rules) image world) (kept_now g.R.Rules.rules log (g.D.Disk.state log.disk) world carries)
 
 pub returns-then-not-is_due-clause-renewed : goal.returns-then-not-is_due-clause-renewed
 returns-then-not-is_due-clause-renewed g c = λ whole one honest world carries. absurd (omega (arith, one, c.ticks_left.ensures, c.if-ticks_left-gt0.false))

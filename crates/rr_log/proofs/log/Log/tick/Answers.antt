@@ -7,4 +7,4 @@ use Rattle.rr_log.proofs.log.Log.tick.Goals as goal
 pub returns-then-self-clause-stops : goal.returns-then-self-clause-stops
 returns-then-self-clause-stops g c = λ honest world carries.
     let log = c.args.self.now in
-    started (g.D.Disk.past log.disk) (g.D.Disk.state log.disk) (λ image. Keeps (worlds g.R.Rules.takes) image world) (kept_now g.R.Rules.takes log (g.D.Disk.state log.disk) world carries)
+    started (g.D.Disk.past log.disk) (g.D.Disk.state log.disk) (λ image. Keeps (worlds g.R.Rules.rules) image world) (kept_now g.R.Rules.rules log (g.D.Disk.state log.disk) world carries)

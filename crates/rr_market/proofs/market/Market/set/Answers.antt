@@ -1,6 +1,6 @@
 use Rattle.std.proofs.Common.{ℕ, ◌∙◌, ◌++◌, ap, subst}
 use Rattle.std.specs.Prelude.{option_map}
-use Rattle.rr_chart.specs.Chart.{par_place}
+use Rattle.rr_roster.specs.Chart.Chart.{par_place}
 use Rattle.rr_books.specs.Book.{Book}
 use Rattle.rr_market.specs.Moves.{cell_of, mark_at}
 use Rattle.rr_market.specs.State.{IsMarketOf}

@@ -1,12 +1,21 @@
-use Rattle.std.proofs.Common.{inr, subst}
+use Rattle.std.proofs.Common.{inr, sym, subst}
+use Rattle.rr_kit.specs.Kits.{KitTexts}
+use Rattle.rr_store.specs.Files.{StandsFor}
 use Rattle.rr_store.specs.Holding.{disk_of, held_of}
+use Rattle.rr_store.specs.World.{World}
 use Rattle.rr_moderator.proofs.OpeningLemmas.{wants_memory}
 use Rattle.rr_moderator.proofs.moderator.Moderator.open.Goals as goal
 
 pub returns-in-Ok-make_buffers-clause-opened : goal.returns-in-Ok-make_buffers-clause-opened
-returns-in-Ok-make_buffers-clause-opened g c = λ honest.
+returns-in-Ok-make_buffers-clause-opened g c = λ honest texts tables stands.
     let found = c.in-Ok.ensures.opened honest in
-    record { texts = found.0; right = found.2; stands = found.1.allowed.0; whole = c.in-Ok.ensures.whole }
+    let only = found.1.allowed.2 texts tables stands in
+    record {
+      texts = found.0;
+      right = found.2;
+      stands = subst (λ (is : KitTexts × World). StandsFor (g.D.Disk.state c.args.disk).content is.0 is.1) (sym only.same) stands;
+      whole = c.in-Ok.ensures.whole;
+    }
 
 pub returns-in-Err-make_buffers-clause-left : goal.returns-in-Err-make_buffers-clause-left
 returns-in-Err-make_buffers-clause-left g c = λ honest.

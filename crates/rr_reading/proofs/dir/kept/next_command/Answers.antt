@@ -1,6 +1,7 @@
 use Rattle.std.proofs.Common.{◌≡◌, ℕ, List, ◌++◌, arith, ap, sym, ◌∙◌, length, length-append, append_assoc}
-use Rattle.rr_reading.specs.Dir.Number.{spelled_number}
-use Rattle.rr_reading.proofs.DirLemmas.NumberLemmas.{cut_number, length-spelled_number}
+use Rattle.rr_words.specs.Spelling.Number.{spelled_number}
+use Rattle.rr_words.proofs.SpellingLemmas.NumberLemmas.{length-spelled_number}
+use Rattle.rr_reading.proofs.DirLemmas.NumberLemmas.{cut_number}
 use Rattle.rr_reading.proofs.dir.kept.next_command.Goals as goal
 
 pub returns-in_err-count : goal.returns-in_err-count

@@ -1,6 +1,7 @@
 use Rattle.std.proofs.Common.{arith, ap, sym, ◌∙◌, length, length-append}
-use Rattle.rr_reading.specs.Dir.Number.{spelled_number}
-use Rattle.rr_reading.proofs.DirLemmas.NumberLemmas.{cut_number, length-spelled_number}
+use Rattle.rr_words.specs.Spelling.Number.{spelled_number}
+use Rattle.rr_words.proofs.SpellingLemmas.NumberLemmas.{length-spelled_number}
+use Rattle.rr_reading.proofs.DirLemmas.NumberLemmas.{cut_number}
 use Rattle.rr_reading.proofs.dir.reading.next_count.Goals as goal
 
 pub returns-in_err-count : goal.returns-in_err-count

@@ -1,6 +1,6 @@
 use Rattle.std.proofs.Common.{arith, ap, length, length-append}
-use Rattle.rr_reading.specs.Dir.Number.{spelled_number}
-use Rattle.rr_reading.proofs.DirLemmas.NumberLemmas.{length-spelled_number}
+use Rattle.rr_words.specs.Spelling.Number.{spelled_number}
+use Rattle.rr_words.proofs.SpellingLemmas.NumberLemmas.{length-spelled_number}
 use Rattle.rr_reading.proofs.dir.reading.next_entry.Goals as goal
 
 pub returns-in_err-floor : goal.returns-in_err-floor

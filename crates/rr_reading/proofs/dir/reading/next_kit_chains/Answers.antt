@@ -1,6 +1,6 @@
 use Rattle.std.proofs.Common.{arith, ap, length, length-append}
 use Rattle.rr_reading.specs.Dir.Directory.{spelled_chain}
-use Rattle.rr_reading.proofs.DirLemmas.TableLemmas.{length-spelled_chain}
+use Rattle.rr_reading.proofs.DirLemmas.ChainRefLemmas.{length-spelled_chain}
 use Rattle.rr_reading.proofs.dir.reading.next_kit_chains.Goals as goal
 
 pub returns-in_err-roster : goal.returns-in_err-roster

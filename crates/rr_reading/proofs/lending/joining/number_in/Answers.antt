@@ -1,6 +1,6 @@
 use Rattle.std.proofs.Common.{rules}
-use Rattle.rr_reading.specs.Dir.Number.{AreBytes}
-use Rattle.rr_reading.proofs.DirLemmas.NumberLemmas.{spelled_number-read}
+use Rattle.rr_words.specs.Spelling.Number.{AreBytes}
+use Rattle.rr_words.proofs.SpellingLemmas.NumberLemmas.{spelled_number-read}
 use Rattle.rr_reading.proofs.lending.joining.number_in.Goals as goal
 
 pub returns : goal.returns

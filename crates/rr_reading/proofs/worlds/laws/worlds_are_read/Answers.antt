@@ -5,4 +5,4 @@ pub returns-clause-chains : goal.returns-clause-chains
 returns-clause-chains g _ = λ version bytes heads. (λ named. named, λ named. named)
 
 pub returns-clause-forms : goal.returns-clause-forms
-returns-clause-forms g _ = forms_spelled
+returns-clause-forms g _ = forms_spelled g.R.Rules.rules

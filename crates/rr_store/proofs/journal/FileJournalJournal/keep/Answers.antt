@@ -1,6 +1,5 @@
-use Rattle.std.proofs.Common.{◌∙◌, ℕ, List, Ok, map, sym, subst}
-use Rattle.rr_tables.specs.Records.Words.{table_in_words}
-use Rattle.rr_tables.specs.Tables.{world_of}
+use Rattle.std.proofs.Common.{◌∙◌, ℕ, List, Ok, sym, subst}
+use Rattle.rr_tables.specs.Tables.{lent_by}
 use Rattle.rr_store.specs.Keeping.{Keeping}
 use Rattle.rr_store.proofs.Keepings.{keeps_again, keeps_nothing}
 use Rattle.rr_store.proofs.journal.FileJournalJournal.keep.Goals as goal
@@ -18,5 +17,5 @@ returns-in-Err g c =
 pub returns : goal.returns
 returns g c =
     let bytes = c.as_slice.ensures.value ∙ c.in-Ok.ensures.ok in
-    subst (λ (b : List ℕ). Keeping g.D.Disk.Honest g.D.Disk.Works g.D.Disk.state g.D.Disk.past g.D.Disk.fault_count g.D.Disk.write_count g.D.Disk.sync_count c.args.self.now.file (map table_in_words (world_of c.args.tables.now)) b (Ok tt) c.keep_record.new.file) bytes
+    subst (λ (b : List ℕ). Keeping g.D.Disk.Honest g.D.Disk.Works g.D.Disk.state g.D.Disk.past g.D.Disk.fault_count g.D.Disk.write_count g.D.Disk.sync_count c.args.self.now.file (lent_by c.args.tables.now) b (Ok tt) c.keep_record.new.file) bytes
     c.in_ok-keep_record.ensures

@@ -10,8 +10,8 @@ returns-in_err-replay_record-clause-refused c =
     let within : c.loop-bytes.bytes-index < length c.args.records.now = omega arith in
     let bytes_of = λ (v : Vec ℕ Global). v.items in
     rw (p.1, p.2)
-    (λ played. replays_end bytes_of c.args.records.now c.loop-bytes.bytes-index c.bytes-item.result within _ _ _ _ c.deref.result.now _
-    (c.deref.ensures.value ∙ ap bytes_of c.bytes-item.is) c.loop-bytes.invariant.kit (c.loop-bytes.invariant.so_far played) (c.in_err-replay_record.ensures.refused (c.loop-bytes.invariant.played played)))
+    (replays_end bytes_of c.args.records.now c.loop-bytes.bytes-index c.bytes-item.result within _ _ _ _ c.deref.result.now _
+    (c.deref.ensures.value ∙ ap bytes_of c.bytes-item.is) c.loop-bytes.invariant.kit c.loop-bytes.invariant.played c.loop-bytes.invariant.so_far c.in_err-replay_record.ensures.refused)
 
 pub loop-bytes-preserved : goal.loop-bytes-preserved
 loop-bytes-preserved c =

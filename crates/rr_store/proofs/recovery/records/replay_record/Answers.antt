@@ -1,16 +1,16 @@
 use Rattle.std.proofs.Common.{◌≡◌, ℕ, List, Result, Ok}
 use Rattle.rr_code.specs.Request.{record_text}
 use Rattle.rr_log.specs.declared.fault.Fault.{Fault}
-use Rattle.rr_tables.specs.Records.World.{World}
+use Rattle.rr_log.specs.Lent.{Lent}
 use Rattle.rr_tables.specs.declared.journal.Standing.{Standing}
-use Rattle.rr_tables.specs.Tables.{world_of}
+use Rattle.rr_tables.specs.Tables.{lent_by, world_of}
 use Rattle.rr_store.proofs.RecoveryLemmas.VerdictLemmas.{refused_record}
 use Rattle.rr_store.proofs.recovery.records.replay_record.Goals as goal
 
 pub returns-in-Err-clause-refused : goal.returns-in-Err-clause-refused
 returns-in-Err-clause-refused c =
-    let Keeps : Standing → World → List ℕ → Result (Unit {0}) Fault → Standing → Type 0 = λ old tables bytes result new. (result ≡ Ok tt) × (new ≡ old) in
+    let Keeps : Standing → Lent → List ℕ → Result (Unit {0}) Fault → Standing → Type 0 = λ old lent bytes result new. (result ≡ Ok tt) × (new ≡ old) in
     rw (c.damage.ensures)
-    (λ played. refused_record c.requests_have_one_verdict.ensures c.args.tables.now.kit (world_of c.args.tables.now) c.args.bytes.now c.in_ok-name.name c.in_ok-name.request
-    c.in_ok-name.ensures.only c.stamp-stamp.result c.stamp-stamp.ensures Keeps _ c.take.new.journal (world_of c.args.tables.now) (record_text c.in_ok-name.name c.in_ok-name.request) c.in-Err.fault
-    (λ cause kept. absurd (cc (kept.0))) (c.in-Err.ensures.verdict played) c.in-Err.ensures.kept)
+    (refused_record c.requests_have_one_verdict.ensures c.args.tables.now.kit (world_of c.args.tables.now) c.args.bytes.now c.in_ok-name.name c.in_ok-name.request
+    c.in_ok-name.ensures.only c.stamp-stamp.result c.stamp-stamp.ensures Keeps _ c.take.new.journal (lent_by c.args.tables.now) (record_text c.in_ok-name.name c.in_ok-name.request)
+    (λ cause kept. absurd (cc (kept.0))) c.in-Err.fault c.in-Err.ensures.verdict c.in-Err.ensures.kept)

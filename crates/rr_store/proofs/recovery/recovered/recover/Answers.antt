@@ -1,66 +1,77 @@
-use Rattle.std.proofs.Common.{◌≡◌, ℕ, List, inr, refl, ap, sym, ◌∙◌}
+use Rattle.std.proofs.Common.{◌≡◌, List, inr, map, refl, ap, subst, ◌∙◌}
 use Rattle.std.proofs.lemmas.List.{length-map}
 use Rattle.std.proofs.lemmas.Result.{err_from_is_err_and}
-use Rattle.rr_disk.specs.Disk.{DiskState}
-use Rattle.rr_pages.specs.Journal.Reading.{lines}
+use Rattle.rr_images.specs.Holding.{HeldChain}
 use Rattle.rr_log.specs.Opening.Opened.{held_by}
-use Rattle.rr_reading.specs.Chains.{all_held_in}
+use Rattle.rr_pages.specs.Journal.Reading.{lines}
+use Rattle.rr_pages.specs.declared.reading.ReadChain.{ReadChain}
+use Rattle.rr_reading.specs.Chains.{held}
 use Rattle.rr_reading.specs.Held.{tables_in}
+use Rattle.rr_reading.specs.declared.dir.directory.SnapshotEntry.{SnapshotEntry}
+use Rattle.rr_reading.specs.declared.dir.directory.TableEntry.{TableEntry}
 use Rattle.rr_tables.specs.Tables.{world_of}
-use Rattle.rr_store.proofs.RecoveryLemmas.PlayedLemmas.{played_from}
-use Rattle.rr_store.proofs.RecoveryLemmas.Recovered.{bad_record, recovered_from, refuses_memory, refuses_read, refuses_records, right_read}
+use Rattle.rr_store.specs.Recovery.Base.{IsRightBase, Named}
+use Rattle.rr_store.proofs.RecoveryLemmas.Recovered.{PlaysThem, bad_record, recovered_from, refuses_memory, refuses_read, refuses_records}
 use Rattle.rr_store.proofs.recovery.recovered.recover.Goals as goal
+
+-- what a root names, of which the snapshots' chains were read
+
+abbrev named : List TableEntry → List HeldChain → List SnapshotEntry → List ReadChain → Named
+named entries chains shown read = record { entries = entries; chains = chains; snapshot_entries = shown; snapshot_chains = map held read }
+
+same_named : (chains : List HeldChain) (entries tables : List TableEntry) (shown snapshots : List SnapshotEntry) (read kept : List ReadChain) → entries ≡ tables → shown ≡ snapshots → read ≡ kept
+    → named entries chains shown read ≡ named tables chains snapshots kept
+same_named chains entries tables shown snapshots read kept p q r = λ i. named (p i) chains (q i) (r i)
 
 pub returns-in_err-tables-clause-refused : goal.returns-in_err-tables-clause-refused
 returns-in_err-tables-clause-refused g c =
     let p = err_from_is_err_and c.from_residual.result c.from_residual.ensures.1 in
     let file = (g.D.Disk.state c.args.disk.now).content in
+    let same = same_named (tables_in file c.args.opened.now.tables) _ _ _ _ _ _ c.deref-3.ensures.value c.deref.ensures.value c.deref-2.ensures.value in
     rw (p.1, p.2)
-    (λ honest holds.
-    refuses_read file (held_by file c.args.opened.now) holds c.deref.result.now (tables_in file c.args.opened.now.tables) _
-    c.deref.ensures.value refl (λ same are. c.in_err-tables.ensures.refused honest (same ∙ length-map _ _) are))
+    (λ honest holds. refuses_read file (held_by file c.args.opened.now) holds _ _ same (λ many are. c.in_err-tables.ensures.refused honest (many ∙ length-map _ _) are))
 
 pub returns-in_err-base-clause-refused : goal.returns-in_err-base-clause-refused
 returns-in_err-base-clause-refused g c =
     let p = err_from_is_err_and c.from_residual-in_err-base.result c.from_residual-in_err-base.ensures.1 in
     let file = (g.D.Disk.state c.args.disk.now).content in
+    let has = held_by file c.args.opened.now in
+    let tables = c.in_ok-tables.tables in
+    let same = same_named (tables_in file c.args.opened.now.tables) _ _ _ _ _ _ c.deref-3.ensures.value c.deref.ensures.value c.deref-2.ensures.value in
     rw (p.1, p.2)
     (λ honest holds.
-    let right = right_read file (held_by file c.args.opened.now) holds c.deref.result.now (tables_in file c.args.opened.now.tables) c.in_ok-tables.tables.kit (world_of c.in_ok-tables.tables)
-    c.deref.ensures.value refl (c.in_ok-tables.ensures.right honest) in
-    refuses_records file (held_by file c.args.opened.now) holds c.in_ok-tables.tables.kit (world_of c.in_ok-tables.tables) (lines c.deref-2.result.now) (lines c.deref-3.result.now) _
-    (ap lines c.deref-2.ensures.value) (ap lines c.deref-3.ensures.value) right (c.in_err-base.ensures.refused c.in_ok-tables.ensures.played))
+    let right = subst (λ (n : Named). IsRightBase n has.texts tables.kit (world_of tables)) same (c.in_ok-tables.ensures.right honest) in
+    refuses_records file has holds tables right (lines c.deref-4.result.now) (lines c.deref-5.result.now) _ (ap lines c.deref-4.ensures.value) (ap lines c.deref-5.ensures.value)
+    (subst (λ (n : Named). PlaysThem n tables) same c.in_ok-tables.ensures.played) c.in_err-base.ensures.refused)
 
 pub returns-then-is_damaged-clause-refused : goal.returns-then-is_damaged-clause-refused
 returns-then-is_damaged-clause-refused g c = λ honest holds.
     let file = (g.D.Disk.state c.args.disk.now).content in
-    let right = right_read file (held_by file c.args.opened.now) holds c.deref.result.now (tables_in file c.args.opened.now.tables) c.in_ok-tables.tables.kit (world_of c.in_ok-tables.tables)
-    c.deref.ensures.value refl (c.in_ok-tables.ensures.right honest) in
-    bad_record file (held_by file c.args.opened.now) holds c.in_ok-tables.tables.kit (world_of c.in_ok-tables.tables) right (inr (c.if-is_damaged.ensures.0 refl))
+    let has = held_by file c.args.opened.now in
+    let tables = c.in_ok-tables.tables in
+    let same = same_named (tables_in file c.args.opened.now.tables) _ _ _ _ _ _ c.deref-3.ensures.value c.deref.ensures.value c.deref-2.ensures.value in
+    let right = subst (λ (n : Named). IsRightBase n has.texts tables.kit (world_of tables)) same (c.in_ok-tables.ensures.right honest) in
+    bad_record file has holds tables right (subst (λ (n : Named). PlaysThem n tables) same c.in_ok-tables.ensures.played) (λ played. inr (c.if-is_damaged.ensures.0 refl))
 
 pub returns-in_err-kit-clause-refused : goal.returns-in_err-kit-clause-refused
 returns-in_err-kit-clause-refused g c =
     let p = err_from_is_err_and c.from_residual-in_err-kit.result c.from_residual-in_err-kit.ensures.1 in
     let file = (g.D.Disk.state c.args.disk.now).content in
+    let has = held_by file c.args.opened.now in
+    let tables = c.in_ok-tables.tables in
+    let same = same_named (tables_in file c.args.opened.now.tables) _ _ _ _ _ _ c.deref-3.ensures.value c.deref.ensures.value c.deref-2.ensures.value in
     rw (p.1, p.2)
     (λ honest holds.
-    let right = right_read file (held_by file c.args.opened.now) holds c.deref.result.now (tables_in file c.args.opened.now.tables) c.in_ok-tables.tables.kit (world_of c.in_ok-tables.tables)
-    c.deref.ensures.value refl (c.in_ok-tables.ensures.right honest) in
-    refuses_memory file (held_by file c.args.opened.now) holds c.in_ok-tables.tables.kit (world_of c.in_ok-tables.tables) _ right c.in_err-kit.ensures.memory)
+    let right = subst (λ (n : Named). IsRightBase n has.texts tables.kit (world_of tables)) same (c.in_ok-tables.ensures.right honest) in
+    refuses_memory file has holds tables right _ c.in_err-kit.ensures.memory)
 
 pub returns-clause-recovered : goal.returns-clause-recovered
 returns-clause-recovered g c = λ honest holds.
     let file = (g.D.Disk.state c.args.disk.now).content in
-    let right = right_read file (held_by file c.args.opened.now) holds c.deref.result.now (tables_in file c.args.opened.now.tables) c.in_ok-tables.tables.kit (world_of c.in_ok-tables.tables)
-    c.deref.ensures.value refl (c.in_ok-tables.ensures.right honest) in
-    recovered_from file (held_by file c.args.opened.now) holds c.in_ok-tables.tables c.replay_halves.new.tables c.in_ok-kit.kit c.in_ok-base.base
-    (lines c.deref-2.result.now) (lines c.deref-3.result.now) (ap lines c.deref-2.ensures.value) (ap lines c.deref-3.ensures.value) right
-    (c.in_ok-base.ensures.replayed c.in_ok-tables.ensures.played) c.replay_halves.ensures.kit (λ damaged. absurd (cc (c.if-is_damaged.ensures.1 damaged))) c.in_ok-kit.ensures.pages
-
-pub returns-clause-played : goal.returns-clause-played
-returns-clause-played g c =
-    played_from _ c.in_ok-tables.tables c.replay_halves.new.tables _ _ c.in_ok-base.base c.in_ok-kit.kit
-    c.in_ok-tables.ensures.base (c.in_ok-base.ensures.replayed c.in_ok-tables.ensures.played) c.replay_halves.ensures.kit
-
-pub returns-clause-each : goal.returns-clause-each
-returns-clause-each g c = c.replay_halves.ensures.played c.in_ok-tables.ensures.played
+    let has = held_by file c.args.opened.now in
+    let tables = c.in_ok-tables.tables in
+    let same = same_named (tables_in file c.args.opened.now.tables) _ _ _ _ _ _ c.deref-3.ensures.value c.deref.ensures.value c.deref-2.ensures.value in
+    let right = subst (λ (n : Named). IsRightBase n has.texts tables.kit (world_of tables)) same (c.in_ok-tables.ensures.right honest) in
+    recovered_from file has holds tables right c.replay_halves.new.tables c.in_ok-kit.kit c.in_ok-base.base (lines c.deref-4.result.now) (lines c.deref-5.result.now)
+    (ap lines c.deref-4.ensures.value) (ap lines c.deref-5.ensures.value) c.replay_halves.ensures.kit (subst (λ (n : Named). PlaysThem n tables) same c.in_ok-tables.ensures.played)
+    c.in_ok-base.ensures.replayed c.replay_halves.ensures.played (λ damaged. absurd (cc (c.if-is_damaged.ensures.1 damaged))) c.in_ok-kit.ensures.pages

@@ -1,13 +1,12 @@
-use Rattle.std.proofs.Common.{◌≡◌, ◌<◌, ◌∙◌, ℕ, List, length, refl, ap, sym, subst, arith, rules}
+use Rattle.std.proofs.Common.{◌≡◌, ◌<◌, ◌∙◌, ℕ, List, length, sym, subst, arith, rules}
 use Rattle.std.proofs.lemmas.Bool.{iff_false}
 use Rattle.rr_disk.specs.Disk.{DiskState}
-use Rattle.rr_reading.specs.Held.{tables_in}
 use Rattle.rr_reading.specs.Lending.Chains.{all_of}
 use Rattle.rr_reading.specs.Lending.Commands.{bytes_at}
 use Rattle.rr_reading.specs.Lending.Fitting.{links_at}
 use Rattle.rr_reading.specs.Lending.Pages.{joined}
 use Rattle.rr_store.specs.Recovery.Told.{TellsWords}
-use Rattle.rr_store.proofs.RecoveryLemmas.TellingLemmas.{all_decided, left_more, left_none}
+use Rattle.rr_store.proofs.RecoveryLemmas.TellingLemmas.{left_more, left_none}
 use Rattle.rr_store.proofs.recovery.words.tell_words.Goals as goal
 
 content : DiskState → List ℕ

@@ -2,6 +2,7 @@ use Rattle.std.proofs.Common.{refl}
 use Rattle.std.proofs.lemmas.Result.{err_from_is_err_and}
 use Rattle.rr_tables.specs.Records.Words.{in_words}
 use Rattle.rr_store.specs.Holding.{held_of}
+use Rattle.rr_store.proofs.Standing.{carried_lent}
 use Rattle.rr_store.proofs.Steps.{steps_done, steps_refused}
 use Rattle.rr_store.proofs.store.Store.checkpoint.Goals as goal
 
@@ -18,12 +19,12 @@ returns-clause-steps g c =
 
 pub returns-clause-renews : goal.returns-clause-renews
 returns-clause-renews g c = λ honest texts carries.
-    c.in_ok-checkpoint.ensures.renews honest (in_words texts (held_of c.args.self.now).tables) refl carries.file
+    c.in_ok-checkpoint.ensures.renews honest (in_words texts (held_of c.args.self.now).tables) (carried_lent g.D.Disk.state c.args.self.now texts carries) carries.file
 
 pub returns-clause-whole : goal.returns-clause-whole
 returns-clause-whole g c = λ none honest texts carries.
-    c.in_ok-checkpoint.ensures.whole none honest (in_words texts (held_of c.args.self.now).tables) refl carries.file
+    c.in_ok-checkpoint.ensures.whole none honest (in_words texts (held_of c.args.self.now).tables) (carried_lent g.D.Disk.state c.args.self.now texts carries) carries.file
 
 pub returns-clause-root : goal.returns-clause-root
 returns-clause-root g c = λ honest texts carries.
-    c.in_ok-checkpoint.ensures.root honest (in_words texts (held_of c.args.self.now).tables) refl carries.file
+    c.in_ok-checkpoint.ensures.root honest (in_words texts (held_of c.args.self.now).tables) (carried_lent g.D.Disk.state c.args.self.now texts carries) carries.file

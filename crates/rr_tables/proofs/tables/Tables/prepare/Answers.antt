@@ -8,7 +8,7 @@ use Rattle.rr_tables.specs.Tables.{kept_in_box}
 use Rattle.rr_tables.proofs.tables.Tables.prepare.Goals as goal
 
 pub returns-in_err-change-clause-same : goal.returns-in_err-change-clause-same
-returns-in_err-change-clause-same c = record { kit = refl; world = refl; table = refl; played = λ all. all }
+returns-in_err-change-clause-same c = record { kit = refl; world = refl; lent = refl; table = refl; played = λ all. all; snapshots = λ all. all }
 
 pub returns-in_err-reserve-clause-verdict : goal.returns-in_err-reserve-clause-verdict
 returns-in_err-reserve-clause-verdict c played =

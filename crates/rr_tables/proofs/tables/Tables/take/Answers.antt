@@ -30,3 +30,9 @@ returns-in-None-clause-stamp g c = rw (named_by kept_in_box c.args.name.now c.ar
 
 pub returns-in-None-clause-played : goal.returns-in-None-clause-played
 returns-in-None-clause-played g c = c.step.ensures.played
+
+pub returns-in-Some-clause-snapshots : goal.returns-in-Some-clause-snapshots
+returns-in-Some-clause-snapshots g c = c.open.ensures.snapshots
+
+pub returns-in-None-clause-snapshots : goal.returns-in-None-clause-snapshots
+returns-in-None-clause-snapshots g c = c.step.ensures.snapshots

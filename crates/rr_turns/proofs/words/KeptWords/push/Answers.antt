@@ -1,6 +1,6 @@
 use Rattle.std.proofs.Common.{◌≡◌, ◌<◌, ◌++◌, ◌∷◌, [], ◌∙◌, ap, refl, length, length-append, arith}
 use Rattle.std.proofs.lemmas.Slice.{pushed as pushed_behind}
-use Rattle.rr_spelling.specs.Number.{spelled_number}
+use Rattle.rr_words.specs.Spelling.Number.{spelled_number}
 use Rattle.rr_turns.specs.declared.limits.TheConstants.{MOST_COMMANDS}
 use Rattle.rr_turns.specs.Words.{AreOf, Buffer, words_ending}
 use Rattle.rr_turns.proofs.WordsLemmas.{are_of, pushed_so, spelled_commands-bounded, words_ending-are}

@@ -1,6 +1,6 @@
 use Rattle.std.specs.List.{flat_map}
 use Rattle.std.proofs.Common.{◌++◌, length, arith, ap, ◌∙◌, append_assoc}
-use Rattle.rr_spelling.specs.Number.{spelled_number}
+use Rattle.rr_words.specs.Spelling.Number.{spelled_number}
 use Rattle.rr_desk.specs.Layout.Bytes.{lay_form, station_form}
 use Rattle.rr_desk.specs.Layout.Layout.{Placed}
 use Rattle.rr_desk.specs.Layout.Slots.{no_lay, no_station}

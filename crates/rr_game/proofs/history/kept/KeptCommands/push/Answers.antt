@@ -9,7 +9,7 @@ invariant_of-self c =
     subst P (sym c.push.ensures)
     (spelled_push c.self.inside.words.commands c.as_bytes.result.now c.args.command.now c.self.invariant c.as_bytes.ensures.form c.as_bytes.ensures.value)
 
-pub returns : goal.returns
-returns c =
+pub returns-clause-commands : goal.returns-clause-commands
+returns-clause-commands c =
     commands_push c.self.inside.words.commands c.push.new.self.commands c.as_bytes.result.now c.args.command.now c.args.self.now.commands
     (ap (λ (b : CommandBuffer). b.commands) c.self.view_is) c.as_bytes.ensures.form c.as_bytes.ensures.value c.push.ensures

@@ -3,7 +3,6 @@ use Rattle.std.proofs.lemmas.Result.{err_from_is_err_and}
 use Rattle.rr_turns.specs.declared.request.Request.TheVariants.{Forget}
 use Rattle.rr_game.specs.History.Tables.{kept_in}
 use Rattle.rr_game.proofs.HistoryLemmas.Judging.{lawful_turn, stamp_refuses, turn_refuses}
-use Rattle.rr_game.proofs.HistoryLemmas.Changes.{made}
 use Rattle.rr_game.proofs.history.table.Table.forget.Goals as goal
 
 pub returns-in_err-judge_stamp-clause-verdict : goal.returns-in_err-judge_stamp-clause-verdict
@@ -26,5 +25,8 @@ returns-clause-kept c = λ kit. c.take.ensures.kept ∙ (c.in_ok-change.ensures.
 
 pub returns-clause-played : goal.returns-clause-played
 returns-clause-played c = λ kit before.
-    (made kit c.args.self.now c.take.new.self (Forget c.args.turn) c.in_ok-change.change before
-    (c.in_ok-change.ensures.change kit before) c.take.ensures.kept c.take.ensures.game).1
+    c.take.ensures.played kit (Forget c.args.turn) before (c.in_ok-change.ensures.change kit before)
+
+pub returns-clause-named : goal.returns-clause-named
+returns-clause-named c = λ kit before named.
+    c.take.ensures.named kit (Forget c.args.turn) before (c.in_ok-change.ensures.change kit before) c.in_ok-change.ensures.shows named

@@ -6,6 +6,7 @@ use Rattle.rr_game.specs.History.Tables.{kept_in}
 use Rattle.rr_game.proofs.TurnEnds.{count_told, front_told, turns_told}
 use Rattle.rr_game.proofs.HistoryLemmas.Changes.{back_change}
 use Rattle.rr_game.proofs.HistoryLemmas.Judging.{back_wants}
+use Rattle.rr_game.proofs.HistoryLemmas.Making.{turn_named}
 use Rattle.rr_game.proofs.HistoryLemmas.Replays.{front_played}
 use Rattle.rr_game.proofs.history.table.Table.judge_back.Goals as goal
 
@@ -13,12 +14,8 @@ pub returns-in_err-game-clause-verdict : goal.returns-in_err-game-clause-verdict
 returns-in_err-game-clause-verdict c = λ play.
     let kit = c.args.kit.now in
     let table = c.args.self.now in
-    let stay = c.unwrap-stay.result in
-    let Few : Option ℕ → Type 0 = λ o. IfSome o (λ count. (1 ≤ count) × (count ≤ table.game.played)) in
-    let few = subst Few c.unwrap-stay.ensures c.played_at.ensures.few in
-    let front = front_played kit table.kept.commands stay few.0 play.lawful in
     let p = err_from_is_err_and c.from_residual.result c.from_residual.ensures.1 in
-    rw (p.1, p.2) (back_wants kit (kept_in table) c.args.turn _ (c.if-not-keeps.ensures.kept kit play) (c.in_err-game.ensures.memory front))
+    rw (p.1, p.2) (back_wants kit (kept_in table) c.args.turn _ (c.if-not-keeps.ensures.kept kit play) (c.in_err-game.ensures.memory play))
 
 pub returns-clause-change : goal.returns-clause-change
 returns-clause-change c = λ play.
@@ -37,5 +34,16 @@ returns-clause-change c = λ play.
     let front = front_told kit commands table.game k play.played ended ∙ ap (λ (n : ℕ). take n commands) count in
     back_change kit (kept_in table) k stay new (sym front) (record {
       lawful = front_played kit commands stay few.0 play.lawful;
-      played = c.in_ok-game.ensures.game;
+      played = c.in_ok-game.ensures.game play;
     })
+
+pub returns-clause-shows : goal.returns-clause-shows
+returns-clause-shows c =
+    let table = c.args.self.now in
+    let k = c.args.turn in
+    record {
+      turn = turn_named table k c.if-not-keeps.ensures.value;
+      stay = sym (count_told table.game.ends k c.unwrap-stay.result (sym c.played_at.ensures.value ∙ c.unwrap-stay.ensures));
+      least = refl;
+      snapshot = refl;
+    }

@@ -1,4 +1,4 @@
-use Rattle.std.proofs.Common.{◌≡◌, ◌+◌, length, arith}
+use Rattle.std.proofs.Common.{◌≡◌, ◌+◌, length, refl, arith}
 use Rattle.std.proofs.lemmas.Result.{err_from_is_err_and}
 use Rattle.rr_books.specs.declared.refusal.Refusal.TheVariants as G
 use Rattle.rr_turns.specs.declared.request.Request.TheVariants.{Play}
@@ -32,6 +32,15 @@ returns-in_err-added-clause-verdict c h =
     (c.in_ok-game.ensures.verdict c.args.self.now.kept.commands h.played) in
     rw (p.1, p.2) (lawful-wants (own_judgement c.args.kit.now table (Play c.args.command.now)) F.OutOfMemory _ lawful c.in_err-added.ensures.memory)
 
+pub returns-in_err-snapshot-clause-verdict : goal.returns-in_err-snapshot-clause-verdict
+returns-in_err-snapshot-clause-verdict c h =
+    let p = err_from_is_err_and c.from_residual-in_err-snapshot.result c.from_residual-in_err-snapshot.ensures.1 in
+    let table = kept_in c.args.self.now in
+    let all : c.len-count.result ≡ length c.args.self.now.kept.commands = c.len-count.ensures.value in
+    let lawful = lawful_with_room c.args.kit.now table c.args.command.now (has_room table c.len-count.result all c.if-count-ge-MOST_COMMANDS.false)
+    (c.in_ok-game.ensures.verdict c.args.self.now.kept.commands h.played) in
+    rw (p.1, p.2) (lawful-wants (own_judgement c.args.kit.now table (Play c.args.command.now)) F.OutOfMemory _ lawful c.in_err-snapshot.ensures.memory)
+
 pub returns-clause-verdict : goal.returns-clause-verdict
 returns-clause-verdict c h =
     let table = kept_in c.args.self.now in
@@ -43,15 +52,15 @@ pub returns-clause-change : goal.returns-clause-change
 returns-clause-change c h =
     let all : c.len-count.result ≡ length c.args.self.now.kept.commands = c.len-count.ensures.value in
     command_change c.args.kit.now (kept_in c.args.self.now) c.args.command.now c.in_ok-added.added
-    c.in_ok-game.game c.len-count.result
-    c.in_ok-added.ensures.value all
+    c.in_ok-snapshot.snapshot c.in_ok-game.game c.len-count.result
+    c.in_ok-added.ensures.value c.in_ok-snapshot.ensures.value c.in_ok-snapshot.ensures.spelled all
     (c.in_ok-game.ensures.verdict c.args.self.now.kept.commands h.played)
     (c.in_ok-game.ensures.game c.args.self.now.kept.commands h.played)
 
 pub returns-clause-kept : goal.returns-clause-kept
 returns-clause-kept c =
     let all : c.len-count.result ≡ length c.args.self.now.kept.commands = c.len-count.ensures.value in
-    kept_by c.args.kit.now (kept_in c.args.self.now) c.args.command.now c.in_ok-added.added c.in_ok-game.game (turns_in c.args.self.now)
+    kept_by c.args.kit.now (kept_in c.args.self.now) c.args.command.now c.in_ok-added.added c.in_ok-snapshot.snapshot c.in_ok-game.game (turns_in c.args.self.now)
     c.len-count.result c.in_ok-added.ensures.value all
 
 pub returns-clause-fits : goal.returns-clause-fits
@@ -59,4 +68,7 @@ returns-clause-fits c =
     let table = c.args.self.now in
     let all : c.len-count.result ≡ length table.kept.commands = c.len-count.ensures.value in
     let played : c.in_ok-game.game.played ≡ c.len-count.result + 1 = omega (arith, c.in_ok-game.ensures.played, table.counted, c.len-count.ensures) in
-    fits_by (kept_in table) c.in_ok-added.added c.in_ok-game.game c.len-count.result all c.if-count-ge-MOST_COMMANDS.false c.requires.stamp played
+    fits_by (kept_in table) c.in_ok-added.added c.in_ok-snapshot.snapshot c.in_ok-game.game c.len-count.result all c.if-count-ge-MOST_COMMANDS.false c.requires.stamp played
+
+pub returns-clause-shows : goal.returns-clause-shows
+returns-clause-shows c = record { turn = tt; stay = c.len-count.ensures.value; least = refl; snapshot = c.in_ok-snapshot.ensures.value }

@@ -1,10 +1,24 @@
-use Rattle.std.proofs.Common.{◌≡◌, length}
+use Rattle.std.proofs.Common.{◌≡◌, length, refl, sym, ap, ◌∙◌}
+use Rattle.rr_game.specs.History.Snapshots.{least_named}
 use Rattle.rr_game.specs.History.Tables.{kept_in}
+use Rattle.rr_game.proofs.TurnEnds.{count_told}
 use Rattle.rr_game.proofs.HistoryLemmas.Changes.{forget_change}
+use Rattle.rr_game.proofs.HistoryLemmas.Making.{turn_named}
 use Rattle.rr_game.proofs.history.table.Table.judge_forget.Goals as goal
 
 pub returns-clause-change : goal.returns-clause-change
 returns-clause-change c = λ kit play.
     let table = c.args.self.now in
     let all : c.len.result ≡ length table.kept.commands = c.len.ensures.value in
-    forget_change kit (kept_in table) c.args.turn c.len.result all
+    forget_change kit (kept_in table) c.args.turn c.least_named.result c.len.result all
+
+pub returns-clause-shows : goal.returns-clause-shows
+returns-clause-shows c =
+    let table = c.args.self.now in
+    let k = c.args.turn in
+    record {
+      turn = turn_named table k c.if-not-keeps.ensures.value;
+      stay = c.len.ensures.value;
+      least = c.least_named.ensures ∙ ap least_named (sym (count_told table.game.ends k c.unwrap-count.result (sym c.played_at.ensures.value ∙ c.unwrap-count.ensures)));
+      snapshot = refl;
+    }

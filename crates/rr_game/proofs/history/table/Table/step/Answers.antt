@@ -4,7 +4,7 @@ use Rattle.rr_turns.proofs.JudgementLemmas.{lawful-wants}
 use Rattle.rr_game.specs.declared.history.fault.Fault.TheVariants as F
 use Rattle.rr_game.specs.History.Tables.{kept_in}
 use Rattle.rr_game.specs.History.Verdict.{request_judgement}
-use Rattle.rr_game.proofs.HistoryLemmas.Changes.{made_in_room}
+use Rattle.rr_game.proofs.HistoryLemmas.Making.{same_change, same_shows, stays_named}
 use Rattle.rr_game.proofs.HistoryLemmas.Judging.{lawful_behind_stamp}
 use Rattle.rr_game.proofs.history.table.Table.step.Goals as goal
 
@@ -19,5 +19,18 @@ returns-in_err-reserve-clause-verdict c played =
 
 pub returns-clause-played : goal.returns-clause-played
 returns-clause-played c = λ before.
-    (made_in_room c.args.kit.now c.args.self.now c.reserve.new.self c.take.new.self (Play c.args.command.now) c.in_ok-change.change before
-    (c.in_ok-change.ensures.change before) c.reserve.ensures.kept c.reserve.ensures.game c.take.ensures.kept c.take.ensures.game).1
+    let kit = c.args.kit.now in
+    let request = Play c.args.command.now in
+    c.take.ensures.played kit request (c.reserve.ensures.played kit before)
+    (same_change kit (kept_in c.args.self.now) (kept_in c.reserve.new.self) request c.in_ok-change.change c.reserve.ensures.kept (c.in_ok-change.ensures.change before))
+
+pub returns-clause-named : goal.returns-clause-named
+returns-clause-named c = λ before named.
+    let kit = c.args.kit.now in
+    let request = Play c.args.command.now in
+    let old = c.args.self.now in
+    let roomy = c.reserve.new.self in
+    c.take.ensures.named kit request (c.reserve.ensures.played kit before)
+    (same_change kit (kept_in old) (kept_in roomy) request c.in_ok-change.change c.reserve.ensures.kept (c.in_ok-change.ensures.change before))
+    (same_shows old roomy request c.in_ok-change.change c.reserve.ensures.kept c.reserve.ensures.game c.in_ok-change.ensures.shows)
+    (stays_named old roomy c.reserve.ensures.kept c.reserve.ensures.game c.reserve.ensures.snapshots named)

@@ -1,0 +1,171 @@
+//! A table's game at an earlier count of its commands, as bytes.
+ghost use Rattle.std.specs.Prelude.{◌≡◌, ℕ, None, IfOk, IfSome, IsOkUnless, MatchOption};
+ghost use Rattle.std.specs.Option.{option_copied};
+ghost use Rattle.rr_game.specs.History.GameBytes.{SpellsGame, SpellsOneGame, bytes_of, one_game};
+ghost use Rattle.rr_game.specs.History.Snapshots.{IsNearest, is_nearer, least_named, nearer, snapshot_due};
+ghost use Rattle.rr_game.specs.declared.history.fault.Fault.TheVariants.{OutOfMemory};
+
+use crate::Game;
+use crate::history::fault::Fault;
+use crate::parts::Parts;
+use rr_words::spelling::Spell;
+use std::alloc::Global;
+use std::marker::Model;
+
+/// So many commands stand between two snapshots of a table.
+pub const SNAPSHOT_SPACING: usize = 64;
+
+/// A game as the bytes of its plain values, which take less memory than the game.
+#[derive(Drop)]
+pub struct Snapshot {
+    bytes: Vec<u8>,
+    played: u32,
+    ghost spelled: { SpellsOneGame bytes.items played } by { one_game bytes.items played },
+}
+
+impl Model for Snapshot {
+    ghost use Rattle.rr_game.specs.declared.game.Game.{Game};
+
+    ghost Value = { Game };
+
+    ghost view = { λ s. s.spelled.0 };
+}
+
+impl Snapshot {
+    /// The game that these bytes spell, as a snapshot, if they spell one that can stand. It isn't asked whether commands
+    /// come to it.
+    ///
+    /// # Errors
+    ///
+    /// `OutOfMemory`.
+    pub fn read(alloc: Global, bytes: &[u8]) -> Result<Option<Snapshot>, Fault>
+        ensures value { IfOk result (λ found. MatchOption found
+            ((count : ℕ) → SpellsOneGame bytes.now count → ⊥)
+            (λ snapshot. SpellsGame bytes.now snapshot.played snapshot)) }
+        ensures memory { IsOkUnless result OutOfMemory }
+    {
+        let parts = match Parts::read(bytes) {
+            Some(parts) => parts,
+            None => return Ok(None),
+        };
+        let game = match Game::from_parts(alloc, parts)? {
+            Some(game) => game,
+            None => return Ok(None),
+        };
+        Ok(Some(Snapshot {
+            bytes: Vec::from_slice(alloc, bytes)?,
+            played: game.played(),
+        }))
+    }
+
+    /// # Errors
+    ///
+    /// `OutOfMemory`.
+    pub(crate) fn of(alloc: Global, game: &Game) -> Result<Snapshot, Fault>
+        ensures value { IfOk result (λ snapshot. snapshot ≡ game.now) }
+        ensures spelled { IfOk result (λ snapshot. SpellsGame (bytes_of snapshot) snapshot.played snapshot) }
+        ensures memory { IsOkUnless result OutOfMemory }
+    {
+        let mut bytes = Vec::new(alloc);
+        game.parts().write(&mut bytes)?;
+        // A table keeps it for long: what a write took beyond its bytes goes back.
+        bytes.shrink_to_fit();
+        Ok(Snapshot {
+            bytes,
+            played: game.played(),
+        })
+    }
+
+    /// The snapshot of a game, if one is due.
+    ///
+    /// # Errors
+    ///
+    /// `OutOfMemory`.
+    pub(crate) fn if_due(alloc: Global, game: &Game) -> Result<Option<Snapshot>, Fault>
+        ensures value { IfOk result (λ snapshot. snapshot ≡ snapshot_due game.now) }
+        ensures spelled { IfOk result (λ due. IfSome due (λ snapshot.
+            SpellsGame (bytes_of snapshot) snapshot.played snapshot)) }
+        ensures memory { IsOkUnless result OutOfMemory }
+    {
+        if game.played() as usize % SNAPSHOT_SPACING != 0 {
+            return Ok(None);
+        }
+        Ok(Some(Snapshot::of(alloc, game)?))
+    }
+
+    /// The game again.
+    ///
+    /// # Errors
+    ///
+    /// `OutOfMemory`.
+    pub fn game(&self, alloc: Global) -> Result<Game, Fault>
+        ensures value { IfOk result (λ game. game ≡ self.now) }
+        ensures memory { IsOkUnless result OutOfMemory }
+    {
+        let parts = match Parts::read(self.bytes.as_slice()) {
+            Some(parts) => parts,
+            None => unreachable!(),
+        };
+        match Game::from_parts(alloc, parts)? {
+            Some(game) => Ok(game),
+            None => unreachable!(),
+        }
+    }
+
+    /// The bytes of the game's plain values.
+    pub fn bytes(&self) -> &[u8]
+        ensures value { result.now ≡ bytes_of self.now }
+        ensures spelled { SpellsGame result.now self.now.played self.now }
+    {
+        self.bytes.as_slice()
+    }
+
+    /// How many commands the game has played, the opening among them.
+    pub fn played(&self) -> usize
+        ensures { result ≡ self.now.played }
+    {
+        self.played as usize
+    }
+}
+
+/// The greatest count of which there may be a snapshot that isn't above this one.
+pub(crate) fn least_named(count: usize) -> usize
+    ensures { result ≡ least_named count }
+{
+    count / SNAPSHOT_SPACING * SNAPSHOT_SPACING
+}
+
+/// The snapshot with the greatest count up to this one, if there is one.
+pub(crate) fn nearest(snapshots: &[Snapshot], count: usize) -> Option<&Snapshot>
+    ensures { IsNearest count snapshots.now (option_copied result) }
+{
+    let mut nearest = None;
+    for snapshot in snapshots {
+        nearest = nearer(snapshot, nearest, count);
+    }
+    nearest
+}
+
+// The snapshot where it is nearer than the other, and else the other.
+fn nearer<'a>(
+    snapshot: &'a Snapshot,
+    other: Option<&'a Snapshot>,
+    count: usize,
+) -> Option<&'a Snapshot>
+    ensures { option_copied result ≡ nearer snapshot.now (option_copied other.entry) count }
+{
+    if is_nearer(snapshot, other, count) {
+        return Some(snapshot);
+    }
+    other
+}
+
+// Whether a snapshot isn't above the count, and nearer to it than the other.
+fn is_nearer(snapshot: &Snapshot, other: Option<&Snapshot>, count: usize) -> bool
+    ensures { result ≡ is_nearer snapshot.now (option_copied other.entry) count }
+{
+    match other {
+        Some(other) => snapshot.played() <= count && other.played() < snapshot.played(),
+        None => snapshot.played() <= count,
+    }
+}

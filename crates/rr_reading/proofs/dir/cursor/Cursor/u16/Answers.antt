@@ -1,9 +1,0 @@
-use Rattle.std.proofs.Common.{ℕ, List, ◌++◌, ap, ◌∙◌}
-use Rattle.rr_reading.proofs.DirLemmas.NumberLemmas.{spelled_number-read}
-use Rattle.rr_reading.proofs.dir.cursor.Cursor.u16.Goals as goal
-
-pub returns : goal.returns
-returns c = (
-  c.read_u16.type_inv,
-  c.in_ok-bytes.ensures.2 ∙ ap (λ (xs : List ℕ). xs ++ c.bytes.new.self) (spelled_number-read 2 c.read_u16.result c.in_ok-bytes.bytes.now c.in_ok-bytes.ensures.0 c.in_ok-bytes.ensures.1 c.read_u16.ensures),
-)
