@@ -2,6 +2,7 @@ pub mod Frames
 pub mod TableLemmas
 pub mod TranscriptLemmas
 pub mod LaidTables
+pub mod StandingLemmas
 pub mod LaidSnapshots
 pub mod SnapshotLemmas
 pub mod DirectoryLemmas

@@ -33,7 +33,7 @@ use Rattle.rr_checkpoint.specs.Planning.{MayBegin, AreDrafted, IsDirectory}
 use Rattle.rr_pages.specs.Journal.Layout.{other_half}
 
 -- the pages that were laid, as they are to be written
-places_laid : (pages : List ℕ) (pieces : List (List ℕ)) → FitEach pages pieces → map (λ (fresh : ℕ × List ℕ). fresh.0) (laid pages pieces) ≡ pages
+pub places_laid : (pages : List ℕ) (pieces : List (List ℕ)) → FitEach pages pieces → map (λ (fresh : ℕ × List ℕ). fresh.0) (laid pages pieces) ≡ pages
 places_laid [] pieces fit = refl
 places_laid (page ∷ pages) [] fit = absurd fit
 places_laid (page ∷ pages) (piece ∷ pieces) fit = ap (λ (ps : List ℕ). page ∷ ps) (places_laid pages pieces fit.3)

@@ -1,4 +1,5 @@
 pub mod Snapshots
+pub mod Standing
 pub mod Transcript
 pub mod Kit
 pub mod Writing

@@ -1,5 +1,5 @@
 -- What each call on the file leaves of what a log knows.
-use Rattle.std.proofs.Common.{◌≡◌, ◌⊎◌, inl, inr, ℕ, zero, suc, ◌+◌, ◌<◌, ◌≤◌, Bool, true, false, List, [], ◌∷◌, ◌++◌, length, get_or, replicate, Option, None, Some, Result, Ok, Err, OnOk, refl, sym, ◌∙◌, ap, subst, arith}
+use Rattle.std.proofs.Common.{Global, Vec, ◌≡◌, ◌⊎◌, inl, inr, ℕ, zero, suc, ◌+◌, ◌<◌, ◌≤◌, Bool, true, false, List, [], ◌∷◌, ◌++◌, length, get_or, replicate, Option, None, Some, Result, Ok, Err, OnOk, refl, sym, ◌∙◌, ap, subst, arith}
 use Rattle.std.proofs.lemmas.List.{length-replicate}
 use Rattle.rr_disk.specs.Disk.{DiskState}
 use Rattle.rr_disk.specs.Moments.{EachImage}
@@ -39,8 +39,10 @@ use Rattle.rr_log.specs.Lent.{AreLentOf, Lent, lent_in, pages_of}
 use Rattle.rr_log.specs.Carrying.{HasTexts, HaveSameTexts, IsBase, Carries, IsPlanned}
 use Rattle.rr_log.specs.Log.{HasNoRoom, HasNoneBegun, IsPastLast, disk_of, next_number, place_of, root_number, ticks_left}
 use Rattle.rr_checkpoint.specs.declared.plan.transcript.Transcript.{Transcript}
-use Rattle.rr_checkpoint.specs.Plan.Kit.{text_pages}
+use Rattle.rr_checkpoint.specs.declared.plan.standing.Planned.{Planned}
+use Rattle.rr_checkpoint.specs.declared.plan.standing.StandingSnapshot.{StandingSnapshot}
 use Rattle.rr_checkpoint.specs.Plan.Planning.{IsOfLayout, HoldsAll, HoldsTexts, world_of}
+use Rattle.rr_checkpoint.specs.Plan.Standing.{StandIn, standing_chains, staying_pages}
 use Rattle.rr_checkpoint.specs.Plan.Transcript.{tables_of}
 use Rattle.rr_checkpoint.specs.Plan.Writing.{OnlyTakes}
 use Rattle.rr_reading.specs.declared.worlds.rules.Worlds.{Worlds}
@@ -80,11 +82,18 @@ texts_on texts old new same has =
 pub held_in : (texts : TextChains) (old new : Holding) → new ≡ old → HoldsTexts texts old → HoldsTexts texts new
 held_in texts old new same held = subst (λ (h : Holding). HoldsTexts texts h) (sym same) held
 
+-- and so do snapshots, and where they stand the texts are held
+pub stand_in : (texts : TextChains) (standing : List StandingSnapshot) (old new : Holding) → new ≡ old → StandIn texts standing old → StandIn texts standing new
+stand_in texts standing old new same stand = subst (λ (h : Holding). StandIn texts standing h) (sym same) stand
+
+pub texts_held : (texts : TextChains) (standing : List StandingSnapshot) (holding : Holding) → StandIn texts standing holding → HoldsTexts texts holding
+texts_held texts standing holding stand = record { others = stand.tables ++ standing_chains standing; held = stand.held }
+
 -- a log of the same disk and writer
 pub same_carries : {D R : Type 0} (rules : WorldRules) (log : Log D R) (state : D → DiskState) (world : World) (disk : D) (new : Writer (Worlds R)) → disk ≡ log.disk → new ≡ log.writer
-    → Carries rules log (state log.disk) world → Carries rules (record { alloc = log.alloc; disk = disk; writer = new; kit = log.kit; base = log.base; broken = log.broken }) (state disk) world
+    → Carries rules log (state log.disk) world → Carries rules (record log { disk = disk; writer = new }) (state disk) world
 same_carries {D} {R} rules log state world disk new is same carries =
-    subst (λ (p : D × Writer (Worlds R)). Carries rules (record { alloc = log.alloc; disk = p.0; writer = p.1; kit = log.kit; base = log.base; broken = log.broken }) (state p.0) world)
+    subst (λ (p : D × Writer (Worlds R)). Carries rules (record log { disk = p.0; writer = p.1 }) (state p.0) world)
     (λ i. (sym is i, sym same i)) carries
 
 -- the world behind a record that was refused
@@ -234,12 +243,12 @@ module _ {D R : Type 0} (rules : WorldRules) (log : Log D R) (state : DiskState)
 
   -- the tables and snapshots from before the first record of the other half, as a transcript, are those that a
   -- checkpoint writes
-  abbrev pub of_layout : (transcript : Transcript) → AreLentOf rules layout.middle (lent_in transcript) → IsOfLayout rules log.kit transcript layout
-  of_layout transcript are =
+  abbrev pub of_layout : ticks_left log ≡ 0 → (transcript : Transcript) → AreLentOf rules layout.middle (lent_in transcript)
+      → IsOfLayout rules log.kit log.standing.items transcript layout
+  of_layout resting transcript are =
       record {
         texts = texts;
-        others = carries.kit.held.others;
-        held = carries.kit.held.held;
+        stand = carries.present resting;
         on_pages = carries.kit.on_pages;
         world = whole texts layout.middle (tables_of transcript) carries.kit.of_middle (sym are.tables);
         shown = are.shown;
@@ -261,7 +270,7 @@ module _ {D R : Type 0} (rules : WorldRules) (log : Log D R) (state : DiskState)
     abbrev then : (carried : file.Carries codec new state world) × (carried.layout ≡ layout)
     then = only.carries state world carries.carried
 
-    abbrev pub taken_carries : Carries rules (record { alloc = log.alloc; disk = log.disk; writer = new; kit = log.kit; base = log.base; broken = log.broken }) state world
+    abbrev pub taken_carries : Carries rules (record log { writer = new }) state world
     taken_carries =
         record {
           carried = then.0;
@@ -272,6 +281,7 @@ module _ {D R : Type 0} (rules : WorldRules) (log : Log D R) (state : DiskState)
             of_world = carries.kit.of_world;
             of_middle = texts_in texts layout.middle then.0.layout.middle (ap (λ (l : Layout codec). l.middle) then.1) carries.kit.of_middle;
           };
+          present = λ none. stand_in texts log.standing.items layout.holding then.0.layout.holding (ap (λ (l : Layout codec). l.holding) then.1) (carries.present resting);
           coming = λ some. absurd (omega (arith, some, only.resting));
           no_base = λ some. absurd (omega (arith, some, only.resting));
           base = λ none.
@@ -279,26 +289,26 @@ module _ {D R : Type 0} (rules : WorldRules) (log : Log D R) (state : DiskState)
               (subst (λ (l : Layout codec). IsBase rules (place_of log).begun log.base l.middle) (sym then.1) (carries.base resting));
         }
 
-    pub planned : (plan : Plan) (base : Option Transcript) (lent : Lent) (snapshots : List Snapshot) → log.base ≡ base → (tables_due base lent).snapshots ≡ snapshots
-        → (may : MayBegin codec layout (file.free_of new) plan) × HoldsTexts texts may.holding × HoldsAll texts layout.middle snapshots may.holding
-        → IsPlanned rules (record { alloc = log.alloc; disk = log.disk; writer = new; kit = log.kit; base = log.base; broken = log.broken }) plan state world layout (tables_due log.base lent).snapshots
-    planned plan base lent snapshots is due may =
-        let moved = subst (λ (l : Layout codec). (m : MayBegin codec l (file.free_of new) plan) × HoldsTexts texts m.holding × HoldsAll texts layout.middle snapshots m.holding) (sym then.1) may in
+    pub is_planned : (planned : Planned) (base : Option Transcript) (lent : Lent) (snapshots : List Snapshot) → log.base ≡ base → (tables_due base lent).snapshots ≡ snapshots
+        → (may : MayBegin codec layout (file.free_of new) planned.plan) × StandIn texts planned.standing.items may.holding × HoldsAll texts layout.middle snapshots may.holding
+        → IsPlanned rules (record log { writer = new }) planned state world layout (tables_due log.base lent).snapshots
+    is_planned planned base lent snapshots is due may =
+        let moved = subst (λ (l : Layout codec). (m : MayBegin codec l (file.free_of new) planned.plan) × StandIn texts planned.standing.items m.holding × HoldsAll texts layout.middle snapshots m.holding) (sym then.1) may in
         let same : snapshots ≡ (tables_due log.base lent).snapshots = sym (ap (λ (b : Option Transcript). (tables_due b lent).snapshots) is ∙ due) in
         record {
           carries = taken_carries;
           same = then.1;
           may = moved.0;
-          texts = moved.1;
+          standing = moved.1;
           all = record { texts = texts; all = subst (λ (s : List Snapshot). HoldsAll texts layout.middle s moved.0.holding) same moved.2 };
         }
 
   module _ (disk : D) (new : Writer (Worlds R)) (after : DiskState) where
-    -- the first tick of a checkpoint, whose coming root holds the texts
-    abbrev pub begun_carries : (holding : Holding) → HoldsTexts texts holding → 0 < file.ticks_left_of new
+    -- the first tick of a checkpoint, in whose coming root these snapshots stand
+    abbrev pub begun_carries : (standing : Vec StandingSnapshot Global) (holding : Holding) → StandIn texts standing.items holding → 0 < file.ticks_left_of new
         → (then : file.Carries codec new after world) × HoldsAsBegun layout holding then.layout then.holding
-        → Carries rules (record { alloc = log.alloc; disk = disk; writer = new; kit = log.kit; base = None; broken = log.broken }) after world
-    begun_carries holding holds some then =
+        → Carries rules (record log { disk = disk; writer = new; standing = standing; base = None }) after world
+    begun_carries standing holding stand some then =
         record {
           carried = then.0;
           kit = record {
@@ -308,7 +318,8 @@ module _ {D R : Type 0} (rules : WorldRules) (log : Log D R) (state : DiskState)
             of_world = carries.kit.of_world;
             of_middle = texts_in texts layout.middle then.0.layout.middle then.1.middle carries.kit.of_middle;
           };
-          coming = λ left. held_in texts holding then.0.holding then.1.coming holds;
+          present = λ none. absurd (omega (arith, some, none));
+          coming = λ left. stand_in texts standing.items holding then.0.holding then.1.coming stand;
           base = λ none. absurd (omega (arith, some, none));
           no_base = λ left. refl;
         }
@@ -316,7 +327,7 @@ module _ {D R : Type 0} (rules : WorldRules) (log : Log D R) (state : DiskState)
     -- a later one that isn't the last
     more_carries : 0 < ticks_left log → 0 < file.ticks_left_of new
         → (then : file.Carries codec new after world) × HoldsOn layout carries.carried.holding then.layout then.holding
-        → Carries rules (record { alloc = log.alloc; disk = disk; writer = new; kit = log.kit; base = log.base; broken = log.broken }) after world
+        → Carries rules (record log { disk = disk; writer = new }) after world
     more_carries some left then =
         record {
           carried = then.0;
@@ -327,7 +338,8 @@ module _ {D R : Type 0} (rules : WorldRules) (log : Log D R) (state : DiskState)
             of_world = carries.kit.of_world;
             of_middle = texts_in texts layout.middle then.0.layout.middle then.1.middle carries.kit.of_middle;
           };
-          coming = λ more. held_in texts carries.carried.holding then.0.holding then.1.coming (carries.coming some);
+          present = λ none. absurd (omega (arith, left, none));
+          coming = λ more. stand_in texts log.standing.items carries.carried.holding then.0.holding then.1.coming (carries.coming some);
           base = λ none. absurd (omega (arith, left, none));
           no_base = λ more. carries.no_base some;
         }
@@ -335,18 +347,20 @@ module _ {D R : Type 0} (rules : WorldRules) (log : Log D R) (state : DiskState)
     -- the last one: nothing stands in the other half, and the base of a root to come is the world
     abbrev pub done_carries : 0 < ticks_left log → file.ticks_left_of new ≡ 0 → (file.place_of new).begun ≡ None
         → (then : file.Carries codec new after world) × (then.layout.holding ≡ carries.carried.holding)
-        → Carries rules (record { alloc = log.alloc; disk = disk; writer = new; kit = log.kit; base = log.base; broken = log.broken }) after world
+        → Carries rules (record log { disk = disk; writer = new }) after world
     done_carries some none rests then =
         let middle = base_is_carried codec new.file new.checkpoint after world then.0 rests in
+        let stand = stand_in texts log.standing.items carries.carried.holding then.0.layout.holding then.1 (carries.coming some) in
         record {
           carried = then.0;
           kit = record {
             texts = texts;
-            held = held_in texts carries.carried.holding then.0.layout.holding then.1 (carries.coming some);
+            held = texts_held texts log.standing.items then.0.layout.holding stand;
             on_pages = carries.kit.on_pages;
             of_world = carries.kit.of_world;
             of_middle = texts_in texts world then.0.layout.middle middle carries.kit.of_world;
           };
+          present = λ resting. stand;
           coming = λ left. absurd (omega (arith, left, none));
           base = λ resting. subst (λ (begun : Option ℕ). IsBase rules begun log.base then.0.layout.middle) (sym rests) (carries.no_base some);
           no_base = λ left. absurd (omega (arith, left, none));
@@ -354,7 +368,7 @@ module _ {D R : Type 0} (rules : WorldRules) (log : Log D R) (state : DiskState)
 
     pub ticked_carries : (tick : Tick) → 0 < ticks_left log → Lowers tick (ticks_left log) (file.ticks_left_of new) → RestsAt tick (file.place_of new).begun
         → (then : file.Carries codec new after world) × HoldsAt tick layout carries.carried.holding then.layout then.holding
-        → Carries rules (record { alloc = log.alloc; disk = disk; writer = new; kit = log.kit; base = log.base; broken = log.broken }) after world
+        → Carries rules (record log { disk = disk; writer = new }) after world
     ticked_carries Idle some lowers rests then = absurd (omega (arith, some, lowers.0))
     ticked_carries More some lowers rests then = more_carries some lowers.1 then
     ticked_carries Done some lowers rests then = done_carries some lowers.1 rests (then.0, then.1.present)
@@ -370,7 +384,7 @@ module _ {D R : Type 0} (rules : WorldRules) (log : Log D R) (state : DiskState)
 
     pub last_carries : (tick : Tick) → ticks_left log ≡ 1 → Lowers tick (ticks_left log) (file.ticks_left_of new) → RestsAt tick (file.place_of new).begun
         → (then : file.Carries codec new after world) × HoldsAt tick layout carries.carried.holding then.layout then.holding
-        → (then : Carries rules (record { alloc = log.alloc; disk = disk; writer = new; kit = log.kit; base = log.base; broken = log.broken }) after world) × IsRenewed layout then.carried.layout
+        → (then : Carries rules (record log { disk = disk; writer = new }) after world) × IsRenewed layout then.carried.layout
     last_carries Idle one lowers rests then = absurd (omega (arith, one, lowers.0))
     last_carries More one lowers rests then = absurd (omega (arith, one, lowers.0, lowers.1))
     last_carries Done one lowers rests then = (done_carries (omega (arith, one)) lowers.1 rests (then.0, then.1.present), then.1.renewed)
@@ -392,7 +406,7 @@ module _ {D R : Type 0} (rules : WorldRules) (log : Log D R) (state : DiskState)
           (is.0, is.1, subst (λ (w : World). AreLentOf rules w (lent_in is.0)) (sym (then.1.middle begun.0)) is.2)
 
       abbrev pub kept_carries : (file.place_of new).begun ≡ (place_of log).begun
-          → Carries rules (record { alloc = log.alloc; disk = disk; writer = new; kit = log.kit; base = log.base; broken = log.broken }) after next
+          → Carries rules (record log { disk = disk; writer = new }) after next
       kept_carries begun =
           record {
             carried = then.0;
@@ -403,7 +417,8 @@ module _ {D R : Type 0} (rules : WorldRules) (log : Log D R) (state : DiskState)
               of_world = texts_on texts world next same carries.kit.of_world;
               of_middle = texts_behind (place_of log).begun refl begun;
             };
-            coming = λ some. held_in texts carries.carried.holding then.0.holding then.1.coming (carries.coming (omega (arith, some, left)));
+            present = λ resting. stand_in texts log.standing.items layout.holding then.0.layout.holding then.1.present (carries.present (omega (arith, resting, left)));
+            coming = λ some. stand_in texts log.standing.items carries.carried.holding then.0.holding then.1.coming (carries.coming (omega (arith, some, left)));
             base = λ resting.
                 subst (λ (b : Option ℕ). IsBase rules b log.base then.0.layout.middle) (sym begun) (base_behind (place_of log).begun refl (carries.base (omega (arith, resting, left))));
             no_base = λ some. carries.no_base (omega (arith, some, left));
@@ -445,12 +460,13 @@ unfolding no_pages
 none_reached = record { empty = all_false 65536; whole = length-replicate {A = Bool} 65536 false }
 
 pub never_full : {D R : Type 0} (log : Log D R) (lent due : Lent) → tables_due log.base lent ≡ due → (IsPastLast (next_number log) ⊎ IsPastLast (root_number log + 1) → ⊥)
-    → ((none : List Bool) → NoneReached none → TooFewFree (present_of (file.free_of log.writer)) (all_marked none (text_pages log.kit)) (pages_of due) → ⊥) → IsFileFull log lent → ⊥
+    → ((none : List Bool) → NoneReached none → TooFewFree (present_of (file.free_of log.writer)) (all_marked none (staying_pages log.kit log.standing.items due.snapshots)) (pages_of log.standing.items due) → ⊥)
+    → IsFileFull log lent → ⊥
 never_full log lent due is low fits (inl past) = low (inl past)
 never_full log lent due is low fits (inr (inl past)) = low (inr past)
 never_full log lent due is low fits (inr (inr few)) =
     fits no_pages none_reached
-    (subst (λ (l : Lent). TooFewFree (present_of (file.free_of log.writer)) (all_marked no_pages (text_pages log.kit)) (pages_of l)) is (few no_pages none_reached))
+    (subst (λ (l : Lent). TooFewFree (present_of (file.free_of log.writer)) (all_marked no_pages (staying_pages log.kit log.standing.items l.snapshots)) (pages_of log.standing.items l)) is (few no_pages none_reached))
 
 -- where the device failed more is so
 pub device_more : {T P Q : Type 0} (result : Result T Fault) → (P → Q) → OnDeviceFault result P → OnDeviceFault result Q

@@ -15,7 +15,7 @@ use Rattle.rr_pages.specs.FreePages.{present_of}
 use Rattle.rr_pages.specs.Sets.{TooFewFree, all_marked}
 use Rattle.rr_reading.specs.Reading.{NoneReached}
 use Rattle.rr_checkpoint.specs.declared.plan.transcript.Transcript.{Transcript}
-use Rattle.rr_checkpoint.specs.Plan.Kit.{text_pages}
+use Rattle.rr_checkpoint.specs.Plan.Standing.{staying_pages}
 use Rattle.rr_checkpoint.specs.Checkpoint.{left_behind_first}
 use Rattle.rr_log.specs.Lent.{Lent, lent_in, pages_of}
 use Rattle.rr_reading.specs.Worlds.World.{World}
@@ -66,6 +66,7 @@ pub record IsUnchanged {D R : Type 0} (old new : Log D R) : Type 0 where
   pub broken : is_broken new ≡ is_broken old
   pub pages : present_of (file.free_of new.writer) ≡ present_of (file.free_of old.writer)
   pub kit : new.kit ≡ old.kit
+  pub standing : new.standing ≡ old.standing
   pub base : new.base ≡ old.base
 
 -- A tick lowers what is left by one, and `Done` comes exactly with the last one. The first of a checkpoint leaves so
@@ -90,17 +91,19 @@ tables_due (Some base) lent = lent_in base
 -- how many ticks the first one leaves of a checkpoint that is begun now: one for each page that it lays, and three
 -- more, or one fewer where an opening found it begun
 abbrev pub first_left : {D R : Type 0} → Log D R → Lent → ℕ
-first_left log lent = left_behind_first (place_of log).begun (pages_of (tables_due log.base lent))
+first_left log lent = left_behind_first (place_of log).begun (pages_of log.standing.items (tables_due log.base lent))
 
 -- how many ticks it has, its first one included
 abbrev pub ticks_due : {D R : Type 0} → Log D R → Lent → ℕ
 ticks_due log lent = first_left log lent + 1
 
--- beside those of the texts fewer pages are free than the chains and the directory of these tables and snapshots take
+-- Beside those of the texts, and of the snapshots that stand already, fewer pages are free than the chains of these
+-- tables and of the other snapshots, and their directory, take.
 abbrev pub HasTooFewFree : {D R : Type 0} → Log D R → Lent → Type 0
 HasTooFewFree log lent =
     (none : List Bool) → NoneReached none
-    → TooFewFree (present_of (file.free_of log.writer)) (all_marked none (text_pages log.kit)) (pages_of lent)
+    → TooFewFree (present_of (file.free_of log.writer))
+    (all_marked none (staying_pages log.kit log.standing.items lent.snapshots)) (pages_of log.standing.items lent)
 
 -- a checkpoint finds too few pages, or the next record's number or its root's would be past the last
 abbrev pub IsFileFull : {D R : Type 0} → Log D R → Lent → Type 0

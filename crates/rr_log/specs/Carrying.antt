@@ -1,6 +1,6 @@
 -- What is known of a log between two calls.
 use Rattle.std.specs.Prelude.{◌≡◌, ℕ, ◌<◌, List, Option, None, Some}
-use Rattle.rr_checkpoint.specs.declared.checkpoint.Plan.{Plan}
+use Rattle.rr_checkpoint.specs.declared.plan.standing.Planned.{Planned}
 use Rattle.rr_checkpoint.specs.Planning.{MayBegin}
 use Rattle.rr_checkpoint.specs.Writer as file
 use Rattle.rr_disk.specs.Disk.{DiskState}
@@ -13,6 +13,7 @@ use Rattle.rr_checkpoint.specs.declared.plan.kit.KitPages.{KitPages}
 use Rattle.rr_checkpoint.specs.declared.plan.transcript.Transcript.{Transcript}
 use Rattle.rr_checkpoint.specs.Plan.Kit.{AreTextChains}
 use Rattle.rr_checkpoint.specs.Plan.Planning.{HoldsAll, HoldsTexts}
+use Rattle.rr_checkpoint.specs.Plan.Standing.{StandIn}
 use Rattle.rr_log.specs.Lent.{AreLentOf, lent_in}
 use Rattle.rr_reading.specs.Worlds.Spelling.{worlds}
 use Rattle.rr_reading.specs.Worlds.World.{Snapshot, World, WorldRules}
@@ -48,13 +49,15 @@ IsBase rules None base world = base ≡ None
 IsBase rules (Some first) base world =
     (transcript : Transcript) × (base ≡ Some transcript) × AreLentOf rules world (lent_in transcript)
 
--- What a log knows carries this world: what writes to its file carries it, the kit's texts are where it says, also in
--- the root that a checkpoint under way writes, and the tables that such a checkpoint will need are there.
+-- What a log knows carries this world: what writes to its file carries it, the kit's texts and the snapshots are where
+-- it says, in the present root or, where a checkpoint is under way, in the one that this writes, and the tables that a
+-- checkpoint which an opening found begun will need are there.
 pub record Carries {D R : Type 0} (rules : WorldRules) (log : Log D R) (state : DiskState)
     (world : World) : Type 0 where
   pub carried : file.Carries (worlds rules) log.writer state world
   pub kit : HoldsKit log.kit carried.layout world
-  pub coming : 0 < ticks_left log → HoldsTexts kit.texts carried.holding
+  pub present : ticks_left log ≡ 0 → StandIn kit.texts log.standing.items carried.layout.holding
+  pub coming : 0 < ticks_left log → StandIn kit.texts log.standing.items carried.holding
   pub base : ticks_left log ≡ 0 → IsBase rules (place_of log).begun log.base carried.layout.middle
   pub no_base : 0 < ticks_left log → log.base ≡ None
 
@@ -63,12 +66,13 @@ pub record HoldsWorld (world : World) (snapshots : List Snapshot) (holding : Hol
   pub texts : TextChains
   pub all : HoldsAll texts world snapshots holding
 
--- The plan of a checkpoint is one for the file of this log, of this layout. It keeps the texts where they stand, and the
--- coming root holds the world before the first record of the other half, and these snapshots.
-pub record IsPlanned {D R : Type 0} (rules : WorldRules) (log : Log D R) (plan : Plan)
+-- The plan of a checkpoint is one for the file of this log, of this layout. It keeps the texts where they stand, and
+-- the coming root holds the world before the first record of the other half, and these snapshots, which stand where it
+-- says.
+pub record IsPlanned {D R : Type 0} (rules : WorldRules) (log : Log D R) (planned : Planned)
     (state : DiskState) (world : World) (layout : Layout (worlds rules)) (snapshots : List Snapshot) : Type 0 where
   pub carries : Carries rules log state world
   pub same : carries.carried.layout ≡ layout
-  pub may : MayBegin (worlds rules) carries.carried.layout (file.free_of log.writer) plan
-  pub texts : HoldsTexts carries.kit.texts may.holding
+  pub may : MayBegin (worlds rules) carries.carried.layout (file.free_of log.writer) planned.plan
+  pub standing : StandIn carries.kit.texts planned.standing.items may.holding
   pub all : HoldsWorld layout.middle snapshots may.holding

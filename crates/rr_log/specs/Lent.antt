@@ -1,6 +1,7 @@
 -- What is lent to be written by a checkpoint.
 use Rattle.std.specs.Prelude.{◌≡◌, ℕ, List}
 use Rattle.rr_log.specs.declared.tables.TablesInWords.{Ghosts}
+use Rattle.rr_checkpoint.specs.declared.plan.standing.StandingSnapshot.{StandingSnapshot}
 use Rattle.rr_checkpoint.specs.declared.plan.transcript.Transcript.{Transcript}
 use Rattle.rr_checkpoint.specs.Plan.Laying.{needed_pages}
 use Rattle.rr_checkpoint.specs.Plan.Transcript.{snapshots_of, tables_of}
@@ -23,6 +24,6 @@ pub record AreLentOf (rules : WorldRules) (world : World) (lent : Lent) : Type 0
   pub tables : world.tables ≡ lent.tables
   pub shown : AreShown rules world lent.snapshots
 
--- how many pages they and their directory take
-abbrev pub pages_of : Lent → ℕ
-pages_of lent = needed_pages lent.tables lent.snapshots
+-- how many pages a checkpoint of them lays, where these snapshots stand already
+abbrev pub pages_of : List StandingSnapshot → Lent → ℕ
+pages_of standing lent = needed_pages standing lent.tables lent.snapshots

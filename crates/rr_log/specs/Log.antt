@@ -1,17 +1,23 @@
 -- What a log is at.
-use Rattle.std.specs.Prelude.{◌≡◌, ◌⊎◌, ℕ, ◌+◌, ◌^◌, ◌≤◌, Bool, None}
+use Rattle.std.specs.Prelude.{◌≡◌, ◌⊎◌, ℕ, ◌+◌, ◌^◌, ◌≤◌, Bool, List, None, map}
 use Rattle.rr_checkpoint.specs.declared.place.Place.{Place}
 use Rattle.rr_checkpoint.specs.declared.writer.Writer.{Writer}
+use Rattle.rr_checkpoint.specs.Plan.Standing.{standing_as}
 use Rattle.rr_checkpoint.specs.Writer as file
 use Rattle.rr_pages.specs.Journal.Layout.{HasRoom}
 use Rattle.rr_log.specs.declared.log.Log.{Log}
 use Rattle.rr_reading.specs.declared.worlds.rules.Worlds.{Worlds}
+use Rattle.rr_reading.specs.Worlds.World.{Snapshot}
 
 abbrev pub disk_of : {D R : Type 0} → Log D R → D
 disk_of log = log.disk
 
 abbrev pub writer_of : {D R : Type 0} → Log D R → Writer (Worlds R)
 writer_of log = log.writer
+
+-- the snapshots of which it knows where they stand
+abbrev pub known_snapshots : {D R : Type 0} → Log D R → List Snapshot
+known_snapshots log = map standing_as log.standing.items
 
 -- a device call of it failed
 abbrev pub is_broken : {D R : Type 0} → Log D R → Bool

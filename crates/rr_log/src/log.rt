@@ -1,22 +1,25 @@
-ghost use Rattle.std.specs.Prelude.{◌≡◌, ◌-◌, false};
+ghost use Rattle.std.specs.Prelude.{◌≡◌, ◌-◌, false, map};
+ghost use Rattle.rr_checkpoint.specs.Plan.Standing.{StandIn, standing_as};
 ghost use Rattle.rr_checkpoint.specs.Writer as file;
 ghost use Rattle.rr_disk.specs.Disk.{DiskState};
 ghost use Rattle.rr_reading.specs.Worlds.Spelling.{worlds};
 ghost use Rattle.rr_reading.specs.Worlds.World.{World};
 
 use rr_checkpoint::Writer;
-use rr_checkpoint::plan::{KitPages, Transcript};
+use rr_checkpoint::plan::{KitPages, StandingSnapshot, Transcript};
 use rr_disk::Disk;
 use rr_reading::worlds::{Rules, Worlds};
 use std::alloc::Global;
 
-/// The open file of a store: its disk, what writes to it, and where the texts of its kit stand.
+/// The open file of a store: its disk, what writes to it, and where the texts of its kit and its snapshots stand.
 #[derive(Drop)]
 pub struct Log<D: Drop, R> {
     pub(crate) alloc: Global,
     pub(crate) disk: D,
     pub(crate) writer: Writer<Worlds<R>>,
     pub(crate) kit: KitPages,
+    // Where the snapshots of the root that is taken stand; while a checkpoint is under way, those of the coming one.
+    pub(crate) standing: Vec<StandingSnapshot>,
     // Where an opening found a checkpoint begun, and until its plan is made: the tables and snapshots from before the
     // first record of the other half.
     pub(crate) base: Option<Transcript>,
@@ -25,22 +28,25 @@ pub struct Log<D: Drop, R> {
 
 impl<D: Disk + Drop, R: Rules> Log<D, R> {
     ghost use Rattle.rr_log.specs.Carrying.{Carries, HoldsKit, IsBase};
-    ghost use Rattle.rr_log.specs.Log.{disk_of, writer_of, is_broken, next_number, ticks_left};
+    ghost use Rattle.rr_log.specs.Log.{disk_of, writer_of, is_broken, known_snapshots, next_number, ticks_left};
 
-    /// A log on a disk of which an opening made this writer. `base` is there exactly where that found a checkpoint
-    /// begun.
+    /// A log on a disk of which an opening made this writer. `standing` are the snapshots that the root holds, in the
+    /// directory's order; `base` is there exactly where the opening found a checkpoint begun.
     pub fn new(
         alloc: Global,
         disk: D,
         writer: Writer<Worlds<R>>,
         kit: KitPages,
+        standing: Vec<StandingSnapshot>,
         base: Option<Transcript>,
     ) -> Log<D, R>
         ensures carries { (state : DiskState) (world : World)
             → (carries : file.Carries (worlds R.rules) writer state world) → file.ticks_left_of writer ≡ 0
-            → HoldsKit kit carries.layout world
+            → (holds : HoldsKit kit carries.layout world)
+            → StandIn holds.texts standing.items carries.layout.holding
             → IsBase R.rules (file.place_of writer).begun base carries.layout.middle
             → Carries R.rules result state world }
+        ensures known { known_snapshots result ≡ map standing_as standing.items }
         ensures disk { disk_of result ≡ disk }
         ensures writer { writer_of result ≡ writer }
         ensures whole { is_broken result ≡ false }
@@ -50,6 +56,7 @@ impl<D: Disk + Drop, R: Rules> Log<D, R> {
             disk,
             writer,
             kit,
+            standing,
             base,
             broken: false,
         }

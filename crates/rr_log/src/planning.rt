@@ -1,5 +1,5 @@
 // The plan of a checkpoint.
-ghost use Rattle.std.specs.Prelude.{◌≡◌, ◌⊎◌, ◌^◌, ◌+◌, ◌<◌, ◌≤◌, Bool, List, length, IfOk, IfErr, IsErrOf, IsTrue, None, ◌↔◌};
+ghost use Rattle.std.specs.Prelude.{◌≡◌, ◌⊎◌, ◌^◌, ◌+◌, ◌<◌, ◌≤◌, Bool, List, length, map, IfOk, IfErr, IsErrOf, IsTrue, None, ◌↔◌};
 ghost use Rattle.rr_checkpoint.specs.Planning.{MayBegin};
 ghost use Rattle.rr_checkpoint.specs.Writer as file;
 ghost use Rattle.rr_disk.specs.Disk.{DiskState};
@@ -9,16 +9,16 @@ ghost use Rattle.rr_log.specs.Log.{IsPastLast};
 ghost use Rattle.rr_pages.specs.FreePages.{present_of};
 ghost use Rattle.rr_pages.specs.Sets.{TooFewFree, all_marked};
 ghost use Rattle.rr_reading.specs.Reading.{NoneReached};
-ghost use Rattle.rr_checkpoint.specs.Plan.Kit.{text_pages};
-ghost use Rattle.rr_checkpoint.specs.Plan.Planning.{IsOfLayout, HoldsAll, HoldsTexts};
+ghost use Rattle.rr_checkpoint.specs.Plan.Planning.{IsOfLayout, HoldsAll};
+ghost use Rattle.rr_checkpoint.specs.Plan.Standing.{StandIn, standing_as, staying_pages};
 ghost use Rattle.rr_checkpoint.specs.Plan.Transcript.{snapshots_of};
 ghost use Rattle.rr_checkpoint.specs.Plan.Writing.{OnlyTakes};
 ghost use Rattle.rr_reading.specs.Worlds.Spelling.{worlds};
 ghost use Rattle.rr_reading.specs.Worlds.World.{World};
 
 use crate::{Fault, Log, TablesInWords};
-use rr_checkpoint::plan::{KitPages, Transcript, plan_checkpoint};
-use rr_checkpoint::{Plan, Writer};
+use rr_checkpoint::Writer;
+use rr_checkpoint::plan::{KitPages, Planned, StandingSnapshot, Transcript, plan_checkpoint};
 use rr_disk::Disk;
 use rr_reading::worlds::{Rules, Worlds};
 use std::alloc::Global;
@@ -38,30 +38,35 @@ fn plan_of<R: Rules>(
     alloc: Global,
     writer: &mut Writer<Worlds<R>>,
     kit: &KitPages,
+    standing: &[StandingSnapshot],
     transcript: &Transcript,
-) -> Result<Plan, Fault>
+) -> Result<Planned, Fault>
     requires resting { file.ticks_left_of writer.old ≡ 0 }
     requires root { (file.taken_of writer.old).root.number + 1 < 2 ^ 63 }
     requires number { (file.place_of writer.old).number < 2 ^ 63 }
-    ensures plan { IfOk result (λ plan. (state : DiskState) (world : World)
+    ensures plan { IfOk result (λ planned. (state : DiskState) (world : World)
         → (carries : file.Carries (worlds R.rules) writer.old state world)
-        → (of : IsOfLayout R.rules kit.now transcript.now carries.layout)
-        → (may : MayBegin (worlds R.rules) carries.layout (file.free_of writer.new) plan)
-        × HoldsTexts of.texts may.holding
+        → (of : IsOfLayout R.rules kit.now standing.now transcript.now carries.layout)
+        → (may : MayBegin (worlds R.rules) carries.layout (file.free_of writer.new) planned.plan)
+        × StandIn of.texts planned.standing.items may.holding
         × HoldsAll of.texts carries.layout.middle (snapshots_of transcript.now) may.holding) }
-    ensures some { IfOk result (λ plan. 0 < length plan.fresh.items) }
-    ensures count { IfOk result (λ plan. length plan.fresh.items ≡ pages_of (lent_in transcript.now)) }
-    ensures fits { IfOk result (λ plan. (none : List Bool) → NoneReached none
-        → TooFewFree (present_of (file.free_of writer.old)) (all_marked none (text_pages kit.now))
-        (pages_of (lent_in transcript.now)) → ⊥) }
+    ensures standing { IfOk result (λ planned. map standing_as planned.standing.items ≡ snapshots_of transcript.now) }
+    ensures some { IfOk result (λ planned. 0 < length planned.plan.fresh.items) }
+    ensures count { IfOk result (λ planned. length planned.plan.fresh.items
+        ≡ pages_of standing.now (lent_in transcript.now)) }
+    ensures fits { IfOk result (λ _. (none : List Bool) → NoneReached none
+        → TooFewFree (present_of (file.free_of writer.old))
+        (all_marked none (staying_pages kit.now standing.now (snapshots_of transcript.now)))
+        (pages_of standing.now (lent_in transcript.now)) → ⊥) }
     ensures full { IsErrOf result Fault.FileFull → (none : List Bool) → NoneReached none
-        → TooFewFree (present_of (file.free_of writer.old)) (all_marked none (text_pages kit.now))
-        (pages_of (lent_in transcript.now)) }
+        → TooFewFree (present_of (file.free_of writer.old))
+        (all_marked none (staying_pages kit.now standing.now (snapshots_of transcript.now)))
+        (pages_of standing.now (lent_in transcript.now)) }
     ensures err { IfErr result IsWant }
     ensures only { OnlyTakes (worlds R.rules) writer.old writer.new }
 {
-    match plan_checkpoint(alloc, writer, kit, transcript) {
-        Ok(plan) => Ok(plan),
+    match plan_checkpoint(alloc, writer, kit, standing, transcript) {
+        Ok(planned) => Ok(planned),
         Err(rr_pages::Fault::FileFull) => Err(Fault::FileFull),
         Err(_) => Err(Fault::OutOfMemory),
     }
@@ -74,21 +79,23 @@ impl<D: Disk + Drop, R: Rules> Log<D, R> {
 
     // Makes the plan of the checkpoint that is to begin. Where an opening found one begun, it writes the tables and
     // snapshots from before the first record of the other half, and else those that are lent.
-    pub(crate) fn plan<T: TablesInWords>(&mut self, tables: &T) -> Result<Plan, Fault>
+    pub(crate) fn plan<T: TablesInWords>(&mut self, tables: &T) -> Result<Planned, Fault>
         requires { ticks_left self.old ≡ 0 }
-        ensures plan { IfOk result (λ plan. (state : DiskState) (world : World) → AreLentOf R.rules world (lent_of T.TablesInWords tables.now)
+        ensures plan { IfOk result (λ planned. (state : DiskState) (world : World) → AreLentOf R.rules world (lent_of T.TablesInWords tables.now)
             → (carries : Carries R.rules self.old state world)
-            → IsPlanned R.rules self.new plan state world carries.carried.layout
+            → IsPlanned R.rules self.new planned state world carries.carried.layout
             (tables_due self.old.base (lent_of T.TablesInWords tables.now)).snapshots) }
-        ensures some { IfOk result (λ plan. 0 < length plan.fresh.items) }
+        ensures standing { IfOk result (λ planned. map standing_as planned.standing.items
+            ≡ (tables_due self.old.base (lent_of T.TablesInWords tables.now)).snapshots) }
+        ensures some { IfOk result (λ planned. 0 < length planned.plan.fresh.items) }
         // Where an opening found the checkpoint begun, what is lent doesn't matter.
-        ensures found { IfOk result (λ plan. (state : DiskState) (world : World) → ((place_of self.old).begun ≡ None → ⊥)
+        ensures found { IfOk result (λ planned. (state : DiskState) (world : World) → ((place_of self.old).begun ≡ None → ⊥)
             → (carries : Carries R.rules self.old state world)
-            → IsPlanned R.rules self.new plan state world carries.carried.layout
+            → IsPlanned R.rules self.new planned state world carries.carried.layout
             (tables_due self.old.base (lent_of T.TablesInWords tables.now)).snapshots) }
-        ensures count { IfOk result (λ plan. length plan.fresh.items
-            ≡ pages_of (tables_due self.old.base (lent_of T.TablesInWords tables.now))) }
-        ensures fits { IfOk result (λ plan. IsFileFull self.old (lent_of T.TablesInWords tables.now) → ⊥) }
+        ensures count { IfOk result (λ planned. length planned.plan.fresh.items
+            ≡ pages_of self.old.standing.items (tables_due self.old.base (lent_of T.TablesInWords tables.now))) }
+        ensures fits { IfOk result (λ _. IsFileFull self.old (lent_of T.TablesInWords tables.now) → ⊥) }
         ensures carries { (state : DiskState) (world : World) → Carries R.rules self.old state world
             → Carries R.rules self.new state world }
         ensures full { IsErrOf result Fault.FileFull → IsFileFull self.old (lent_of T.TablesInWords tables.now) }
@@ -101,13 +108,25 @@ impl<D: Disk + Drop, R: Rules> Log<D, R> {
         }
         match &self.base {
             Some(base) => {
-                let plan = plan_of(self.alloc, &mut self.writer, &self.kit, base)?;
-                Ok(plan)
+                let planned = plan_of(
+                    self.alloc,
+                    &mut self.writer,
+                    &self.kit,
+                    &self.standing,
+                    base,
+                )?;
+                Ok(planned)
             }
             None => {
                 let transcript = lent(self.alloc, tables)?;
-                let plan = plan_of(self.alloc, &mut self.writer, &self.kit, &transcript)?;
-                Ok(plan)
+                let planned = plan_of(
+                    self.alloc,
+                    &mut self.writer,
+                    &self.kit,
+                    &self.standing,
+                    &transcript,
+                )?;
+                Ok(planned)
             }
         }
     }

@@ -12,6 +12,7 @@ ghost use Rattle.rr_reading.specs.Worlds.World.{World};
 
 use crate::{Fault, Log, TablesInWords};
 use rr_checkpoint::Tick;
+use rr_checkpoint::plan::Planned;
 use rr_disk::Disk;
 use rr_reading::worlds::Rules;
 
@@ -21,7 +22,7 @@ const MANY_SLOTS: u8 = 128;
 impl<D: Disk + Drop, R: Rules> Log<D, R> {
     ghost use Rattle.rr_log.specs.Calls.{IsBegunOn, IsFileFull, IsUnchanged, LowersFrom, NumbersRoot, TakesRootOf, as_begun, first_left, tables_due, ticks_due};
     ghost use Rattle.rr_log.specs.Carrying.{Carries, HoldsWorld};
-    ghost use Rattle.rr_log.specs.Log.{disk_of, is_broken, next_number, place_of, root_number, ticks_left, HasNoneBegun, IsDue};
+    ghost use Rattle.rr_log.specs.Log.{disk_of, is_broken, known_snapshots, next_number, place_of, root_number, ticks_left, HasNoneBegun, IsDue};
 
     /// Makes one step of a checkpoint: it goes on with the one under way, or begins one where an opening found it begun
     /// or at least 128 slots of the half in use are used. The tables are those of the world that the log carries, and
@@ -53,6 +54,9 @@ impl<D: Disk + Drop, R: Rules> Log<D, R> {
         ensures idle { (result ≡ Ok Tick.Idle) ↔ ((is_broken self.old ≡ false) × (ticks_left self.old ≡ 0)
             × (IsDue (place_of self.old) → ⊥)) }
         ensures rests { result ≡ Ok Tick.Idle → self.new ≡ self.old }
+        ensures known { IfOk result (λ tick. 0 < ticks_left self.old → known_snapshots self.new ≡ known_snapshots self.old) }
+        ensures comes_to_know { IfOk result (λ tick. ticks_left self.old ≡ 0 → 0 < ticks_left self.new
+            → known_snapshots self.new ≡ (tables_due self.old.base (lent_of T.TablesInWords tables.now)).snapshots) }
         ensures number { next_number self.new ≡ next_number self.old }
         ensures root { IfOk result (λ tick. D.Honest (disk_of self.new) → (world : World)
             → Carries R.rules self.old (D.state (disk_of self.old)) world
@@ -110,6 +114,9 @@ impl<D: Disk + Drop, R: Rules> Log<D, R> {
             → disk_of self.new ≡ disk_of self.old }
         ensures idle { (result ≡ Ok Tick.Idle) ↔ ((ticks_left self.old ≡ 0) × (IsDue (place_of self.old) → ⊥)) }
         ensures rests { result ≡ Ok Tick.Idle → self.new ≡ self.old }
+        ensures known { IfOk result (λ tick. 0 < ticks_left self.old → known_snapshots self.new ≡ known_snapshots self.old) }
+        ensures comes_to_know { IfOk result (λ tick. ticks_left self.old ≡ 0 → 0 < ticks_left self.new
+            → known_snapshots self.new ≡ (tables_due self.old.base (lent_of T.TablesInWords tables.now)).snapshots) }
         ensures number { next_number self.new ≡ next_number self.old }
         ensures root { IfOk result (λ tick. D.Honest (disk_of self.new) → (world : World)
             → Carries R.rules self.old (D.state (disk_of self.old)) world
@@ -181,6 +188,7 @@ impl<D: Disk + Drop, R: Rules> Log<D, R> {
             → Carries R.rules self.old (D.state (disk_of self.old)) world
             → NumbersRoot tick (root_number self.old) (root_number self.new)) }
         ensures resting { IfOk result (λ tick. ticks_left self.new ≡ 0 → (place_of self.new).begun ≡ None) }
+        ensures known { known_snapshots self.new ≡ known_snapshots self.old }
         ensures number { next_number self.new ≡ next_number self.old }
         ensures half { (place_of self.new).half ≡ (place_of self.old).half }
         ensures broken { is_broken self.new ≡ ends_broken result }
@@ -226,6 +234,7 @@ impl<D: Disk + Drop, R: Rules> Log<D, R> {
         ensures left { OnOk result (ticks_left self.new ≡ first_left self.old (lent_of T.TablesInWords tables.now)) }
         ensures some { OnOk result (3 ≤ ticks_left self.new) }
         ensures most { OnOk result (ticks_left self.new < ticks_due self.old (lent_of T.TablesInWords tables.now)) }
+        ensures known { OnOk result (known_snapshots self.new ≡ (tables_due self.old.base (lent_of T.TablesInWords tables.now)).snapshots) }
         ensures number { next_number self.new ≡ next_number self.old }
         ensures slots { (place_of self.new).half.next_slot ≤ (place_of self.old).half.next_slot }
         ensures fresh { OnOk result ((place_of self.old).begun ≡ None → (place_of self.new).half.next_slot ≡ 0) }
@@ -245,10 +254,11 @@ impl<D: Disk + Drop, R: Rules> Log<D, R> {
         ensures honest { D.Honest (disk_of self.new) → D.Honest (disk_of self.old) }
         ensures works { D.Works (disk_of self.new) → D.Works (disk_of self.old) }
     {
-        let plan = self.plan(tables)?;
+        let Planned { plan, standing } = self.plan(tables)?;
         match self.writer.begin(&mut self.disk, plan) {
             Ok(()) => {
                 self.base = None;
+                self.standing = standing;
                 Ok(())
             }
             Err(_) => {
@@ -296,6 +306,7 @@ impl<D: Disk + Drop, R: Rules> Log<D, R> {
         ensures left { OnOk result (ticks_left self.new ≡ 0) }
         ensures rests { OnOk result ((place_of self.new).begun ≡ None) }
         ensures half { 0 < ticks_left self.old → (place_of self.new).half ≡ (place_of self.old).half }
+        ensures known { OnOk result (ticks_left self.old ≡ 0 → known_snapshots self.new ≡ (tables_due self.old.base (lent_of T.TablesInWords tables.now)).snapshots) }
         ensures number { next_number self.new ≡ next_number self.old }
         ensures fits { OnOk result (ticks_left self.old ≡ 0 → IsFileFull self.old (lent_of T.TablesInWords tables.now) → ⊥) }
 
@@ -360,6 +371,7 @@ impl<D: Disk + Drop, R: Rules> Log<D, R> {
             × (then.carried.layout.holding ≡ carries.carried.holding)) }
         ensures left { OnOk result (ticks_left self.new ≡ 0) }
         ensures rests { OnOk result ((place_of self.new).begun ≡ None) }
+        ensures known { known_snapshots self.new ≡ known_snapshots self.old }
         ensures number { next_number self.new ≡ next_number self.old }
         ensures half { (place_of self.new).half ≡ (place_of self.old).half }
         ensures broken { is_broken self.new ≡ ends_broken result }

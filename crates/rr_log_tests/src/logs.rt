@@ -21,7 +21,7 @@ fn log_on<D: Disk + Drop>(
     base: Option<Transcript>,
 ) -> Log<D, AnyLine> {
     let (writer, kit) = parts(opened);
-    Log::new(alloc, disk, writer, kit, base)
+    Log::new(alloc, disk, writer, kit, Vec::new(alloc), base)
 }
 
 fn new_log(alloc: Global) -> Result<Log<MemoryDisk, AnyLine>, Fail> {
@@ -258,7 +258,7 @@ fn full_log(alloc: Global, count: u8) -> Result<Log<MemoryDisk, AnyLine>, Fail> 
     let mut disk = new_file(alloc)?;
     let (writer, kit) = parts(open(alloc, &mut disk)?);
     let full = with_free_pages(alloc, &writer, count)?;
-    Ok(Log::new(alloc, disk, full, kit, None))
+    Ok(Log::new(alloc, disk, full, kit, Vec::new(alloc), None))
 }
 
 #[test]

@@ -1,8 +1,8 @@
 use rr_images::schedules::laws as schedules;
 use rr_tables::records::laws::{
-    lawful_requests_are_taken, played_worlds_have_played_bases, played_worlds_stay_played, prefix,
-    records_are_of_requests, records_lead_to_one_world, records_move_on, spelled_worlds_are_one,
-    tables_are_worlds,
+    lawful_requests_are_taken, played_tables_are_lent, played_worlds_have_played_bases,
+    played_worlds_stay_played, prefix, records_are_of_requests, records_lead_to_one_world,
+    records_move_on, spelled_worlds_are_one, tables_are_worlds, tables_lend_their_snapshots,
 };
 use rr_tables::records::{Fault, TableRules};
 use std::alloc::Global;
@@ -18,6 +18,8 @@ fn cite_laws() {
     played_worlds_stay_played();
     played_worlds_have_played_bases();
     tables_are_worlds();
+    played_tables_are_lent();
+    tables_lend_their_snapshots();
     prefix();
     schedules::prefix::<TableRules>();
     schedules::calls_are_events::<TableRules>();

@@ -1,6 +1,6 @@
 use crate::files::{new_file, open, parts, with_free_pages};
 use crate::tables::{AnyLine, one_table, transcript_of};
-use rr_checkpoint::plan::{KitPages, TableTranscript, Transcript, plan_checkpoint};
+use rr_checkpoint::plan::{KitPages, Planned, TableTranscript, Transcript, plan_checkpoint};
 use rr_checkpoint::{Plan, Writer};
 use rr_pages::journal::HalfIndex;
 use rr_pages::{Fault, FreshPage};
@@ -31,7 +31,8 @@ fn plan(
     if writer.ticks_left() > 0 || !low {
         return Err(Fault::OutOfMemory);
     }
-    plan_checkpoint(alloc, writer, kit, transcript)
+    let Planned { plan, standing: _ } = plan_checkpoint(alloc, writer, kit, &[], transcript)?;
+    Ok(plan)
 }
 
 // The plan of a first checkpoint.

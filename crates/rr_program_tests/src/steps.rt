@@ -95,14 +95,15 @@ fn first_other_row(alloc: Global, rows: &[(u64, u64)]) -> Result<Option<usize>, 
     Ok(None)
 }
 
-// The record of a command is two writes and two syncs. Before those of the 129th to the 135th come the seven steps of a
-// checkpoint of three fresh pages, for the table, its snapshot and the directory: a sync, since slot 0 of the other half
-// is shut already; a write for each page; a sync, since the gate of the older root is shut already; the root and a sync;
-// its gate and a sync. The 136th command has its record alone.
+// The record of a command is two writes and two syncs. Before those of the 129th to the 136th come the eight steps of a
+// checkpoint of four fresh pages, for the table, its snapshots behind 64 and 128 commands, and the directory: a sync,
+// since slot 0 of the other half is shut already; a write for each page; a sync, since the gate of the older root is shut
+// already; the root and a sync; its gate and a sync. The 137th command has its record alone.
 #[test]
 fn each_step_of_a_checkpoint_comes_with_a_command(rt: HostRuntime) -> Result<(), Fail> {
     let rows = [
         (2, 3),
+        (3, 2),
         (3, 2),
         (3, 2),
         (3, 2),
@@ -115,16 +116,24 @@ fn each_step_of_a_checkpoint_comes_with_a_command(rt: HostRuntime) -> Result<(),
     Ok(())
 }
 
-/// Whether these seven commands make 19 writes and 18 syncs: fourteen of each for their records, and the rest for the
-/// steps.
-fn are_for_seven_steps(alloc: Global) -> Result<bool, Fail> {
-    let before = calls_for(alloc, DUE)?;
-    let behind = calls_for(alloc, DUE + 7)?;
-    Ok(before.taken && are_between(before, behind, (19, 18)))
+/// Whether the eight commands behind so many make so many writes, and 20 syncs.
+fn are_for_eight_steps(alloc: Global, commands: usize, writes: u64) -> Result<bool, Fail> {
+    let before = calls_for(alloc, commands)?;
+    let behind = calls_for(alloc, commands.saturating_add(8))?;
+    Ok(before.taken && are_between(before, behind, (writes, 20)))
 }
 
+// Sixteen writes and syncs are those of the records, and the rest those of the steps.
 #[test]
-fn a_checkpoint_of_three_pages_takes_seven_commands(rt: HostRuntime) -> Result<(), Fail> {
-    assert!(rt; are_for_seven_steps(rt.alloc())?);
+fn a_checkpoint_of_four_pages_takes_eight_commands(rt: HostRuntime) -> Result<(), Fail> {
+    assert!(rt; are_for_eight_steps(rt.alloc(), DUE, 22)?);
+    Ok(())
+}
+
+// The second one lays as many pages, since the first two snapshots stay where they stand: for the table, its snapshots
+// behind 192 and 256 commands, and the directory. Both gates that it shuts are open, and so are written.
+#[test]
+fn a_second_checkpoint_lays_new_snapshots_alone(rt: HostRuntime) -> Result<(), Fail> {
+    assert!(rt; are_for_eight_steps(rt.alloc(), 2 * DUE, 24)?);
     Ok(())
 }

@@ -319,6 +319,19 @@ fn a_table_is_told_again_by_its_last_snapshot(rt: HostRuntime) {
 }
 
 #[test]
+fn a_table_tells_whether_it_has_its_snapshots(rt: HostRuntime) {
+    let alloc = rt.alloc();
+    let club = club_of_passes(&rt, alloc, 130);
+    let mut again = told_again(&rt, alloc, &club).expect(&rt, "a table");
+    let without_the_first = again.has_its_snapshots();
+    again.resume(128, 128);
+    let with_no_such_floor = again.has_its_snapshots();
+    again.resume(127, 128);
+    let has = (club.table.has_its_snapshots(), again.has_its_snapshots());
+    assert!(rt; has == (true, true) && !without_the_first && !with_no_such_floor);
+}
+
+#[test]
 fn a_table_is_told_by_a_game_of_its_commands(rt: HostRuntime) {
     let alloc = rt.alloc();
     let club = club_of_passes(&rt, alloc, 64);

@@ -132,8 +132,8 @@ fn wrong_files_are_seen(rt: HostRuntime) -> Result<(), Fail> {
     Ok(())
 }
 
-// Three checkpoints were begun. 440 commits make four calls each, the first checkpoint 12, and the others, which have a
-// snapshot's page, 15.
+// Three checkpoints were begun. 440 commits make four calls each, the first checkpoint 12, and the others, which lay one
+// snapshot each, 15.
 #[test]
 fn the_run_makes_the_calls_of_its_schedule(rt: HostRuntime) -> Result<(), Fail> {
     assert!(rt; try_run(rt.alloc())? == (3, 1802));

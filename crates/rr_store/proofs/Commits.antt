@@ -39,7 +39,7 @@ use Rattle.rr_store.specs.Committing.{Commits, NumberBehind, Spares, layout_behi
 use Rattle.rr_store.specs.Fault.{CountsEnd, OnDeviceFault, of_log, of_rules, of_tables}
 use Rattle.rr_store.specs.Files.{AreTablesOf}
 use Rattle.rr_store.specs.Held.{Accepted, Again, Fails, Held, NoRoom, Refused, Takes, Wants, stamp_after, with_tables}
-use Rattle.rr_store.specs.Holding.{Carries, GamesArePlayed, HasNoRoom, IsUnchanged, disk_of, file_of, held_of, lent_of, number_of_next, ticks_left}
+use Rattle.rr_store.specs.Holding.{Carries, GamesArePlayed, GamesHaveSnapshots, HasNoRoom, IsUnchanged, disk_of, file_of, held_of, lent_of, number_of_next, ticks_left}
 use Rattle.rr_store.specs.Keeping.{Keeping, MakesAtMost}
 use Rattle.rr_store.specs.World.{World, for_table, judgement_in, world_after}
 use Rattle.rr_store.proofs.Standing.{carried_keeps, carried_lent, carried_now, keeps_either, record_leads, stands_either, tables_after}
@@ -109,6 +109,9 @@ module _ {D : Type 0} (Honest Works : D → Type 0) (state : D → DiskState) (p
   abbrev PlayedOn : Type 0
   PlayedOn = Played → GamesArePlayed new
 
+  abbrev ShownOn : Type 0
+  ShownOn = Played → GamesHaveSnapshots old → GamesHaveSnapshots new
+
   abbrev Told : Result ℕ Fault → Type 0
   Told result = Played → Takes (held_of old) stamp name c (held_of new) result
 
@@ -116,12 +119,13 @@ module _ {D : Type 0} (Honest Works : D → Type 0) (state : D → DiskState) (p
   KeptBy before kept after = Keeping Honest Works state past faults writes syncs before (lent_of old) bytes_of kept after
 
   -- all is as it was
-  spared : (fault : Fault) → (fault ≡ F.DeviceFailed → ⊥) → (fault ≡ F.FileFull → ⊥) → IsErrOf {T = ℕ} (Err fault) F.OpenAgain ↔ IsTrue (held_of old).broken → PlayedOn
+  spared : (fault : Fault) → (fault ≡ F.DeviceFailed → ⊥) → (fault ≡ F.FileFull → ⊥) → IsErrOf {T = ℕ} (Err fault) F.OpenAgain ↔ IsTrue (held_of old).broken → PlayedOn → ShownOn
       → Told (Err fault) → IsUnchanged old new → Done (Err fault)
-  spared fault other room again played_on takes same =
+  spared fault other room again played_on shown_on takes same =
       record {
         takes = takes;
         played = played_on;
+        snapshots = shown_on;
         again = again;
         honest = λ h. subst Honest same_disk h;
         allowed = λ h texts s. record {
@@ -182,11 +186,11 @@ module _ {D : Type 0} (Honest Works : D → Type 0) (state : D → DiskState) (p
   -- a store whose device failed before
   pub commits_again : new ≡ old → (held_of old).broken ≡ true → Done (Err F.OpenAgain)
   commits_again still broken =
-      spared F.OpenAgain (λ is. absurd (cc is)) (λ is. absurd (cc is)) (λ is. broken, λ is. refl) (λ played. subst GamesArePlayed (sym still) played)
+      spared F.OpenAgain (λ is. absurd (cc is)) (λ is. absurd (cc is)) (λ is. broken, λ is. refl) (λ played. subst GamesArePlayed (sym still) played) (λ played had. subst GamesHaveSnapshots (sym still) had)
       (λ played. Again broken (ap held_of still))
       (record { same_file = ap file_of still; same_held = ap held_of still })
 
-  module _ (form : IsTableName name × IsRequest c) (was : is_broken (file_of old) ≡ false) (played_on : PlayedOn) where
+  module _ (form : IsTableName name × IsRequest c) (was : is_broken (file_of old) ≡ false) (played_on : PlayedOn) (shown_on : ShownOn) where
     -- a store that isn't broken isn't told to be
     not_again : (result : Result ℕ Fault) → (IsErrOf result F.OpenAgain → ⊥) → IsErrOf result F.OpenAgain ↔ IsTrue (held_of old).broken
     not_again result other = (λ is. absurd (other is), λ broken. let both : true ≡ false = sym broken ∙ was in absurd (cc both))
@@ -229,6 +233,7 @@ module _ {D : Type 0} (Honest Works : D → Type 0) (state : D → DiskState) (p
         record {
           takes = takes;
           played = played_on;
+          snapshots = shown_on;
           again = not_again (Ok n) (λ is. cc is);
           honest = k.honest;
           allowed = λ h texts s. passed_by (Ok tt) (Ok n) lawful k h texts s
@@ -272,6 +277,7 @@ module _ {D : Type 0} (Honest Works : D → Type 0) (state : D → DiskState) (p
         record {
           takes = takes;
           played = played_on;
+          snapshots = shown_on;
           again = not_again (Err F.DeviceFailed) (λ is. cc is);
           honest = k.honest;
           allowed = λ h texts s. passed_by (Err L.DeviceFailed) (Err F.DeviceFailed) lawful k h texts s (λ moments. lawful_in texts s (lawful s.played));
@@ -322,6 +328,7 @@ module _ {D : Type 0} (Honest Works : D → Type 0) (state : D → DiskState) (p
         record {
           takes = takes;
           played = played_on;
+          snapshots = shown_on;
           again = not_again (Err F.FileFull) (λ is. cc is);
           honest = k.honest;
           allowed = λ h texts s. passed_by (Err L.FileFull) (Err F.FileFull) lawful k h texts s (λ moments. keeps_on L.FileFull lawful k k.broken held_is h texts s);
@@ -350,6 +357,7 @@ module _ {D : Type 0} (Honest Works : D → Type 0) (state : D → DiskState) (p
         record {
           takes = takes;
           played = played_on;
+          snapshots = shown_on;
           again = not_again (Err F.OutOfMemory) (λ is. cc is);
           honest = k.honest;
           allowed = λ h texts s. passed_by (Err L.OutOfMemory) (Err F.OutOfMemory) lawful k h texts s (λ moments. keeps_on L.OutOfMemory lawful k k.broken held_is h texts s);
@@ -400,7 +408,7 @@ module _ {D : Type 0} (Honest Works : D → Type 0) (state : D → DiskState) (p
         by_rule : (fault : rules.Fault) → (Played → MayFind (ruled.judgement_in kit_now tables_now stamp name c) R.OutOfMemory fault) → file_of new ≡ file_of old → Done (Err (of_rules fault))
         by_rule fault found still =
             let same = held_is_if (is_broken (file_of old)) (ap (λ (f : Log D TableRules). is_broken f) still) in
-            spared (of_rules fault) (no_failure fault) (no_full fault) (not_again (Err (of_rules fault)) (λ is. no_again fault (let one : of_rules fault ≡ F.OpenAgain = cc is in one))) played_on
+            spared (of_rules fault) (no_failure fault) (no_full fault) (not_again (Err (of_rules fault)) (λ is. no_again fault (let one : of_rules fault ≡ F.OpenAgain = cc is in one))) played_on shown_on
             (λ played. refused_by (found played) same) (record { same_file = still; same_held = same })
           where
             refused_by : MayFind (ruled.judgement_in kit_now tables_now stamp name c) R.OutOfMemory fault → held_of new ≡ held_of old → Takes (held_of old) stamp name c (held_of new) (Err (of_rules fault))

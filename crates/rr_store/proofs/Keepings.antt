@@ -13,6 +13,7 @@ use Rattle.rr_log.specs.declared.fault.Fault.{Fault}
 use Rattle.rr_log.specs.declared.fault.Fault.TheVariants as F
 use Rattle.rr_log.specs.declared.log.Log.{Log}
 use Rattle.rr_checkpoint.specs.Checkpoint.{left_behind_first}
+use Rattle.rr_checkpoint.specs.declared.plan.standing.StandingSnapshot.{StandingSnapshot}
 use Rattle.rr_log.specs.Calls.{MayRefuse, MeetsFullFile, NumberBehind, first_left, layout_behind, tables_due, ticks_due, world_behind}
 use Rattle.rr_log.specs.Carrying.{Carries, HaveSameTexts}
 use Rattle.rr_log.specs.Fault.{CountsFault, IsWant, OnDeviceFault, ends_broken}
@@ -55,10 +56,10 @@ device_told F.OpenAgain so given = tt
 device_told F.OutOfMemory so given = tt
 
 -- a checkpoint that begins has a page at least
-first_some : (begun : Option ℕ) (left : ℕ) (tables : Lent) → (left ≡ 0) ⊎ (left ≡ left_behind_first begun (pages_of tables)) → (left ≡ 0) ⊎ (left_behind_first begun 1 ≤ left)
-first_some begun left tables (inl none) = inl none
-first_some None left tables (inr is) = inr (omega (arith, is))
-first_some (Some first) left tables (inr is) = inr (omega (arith, is))
+first_some : (begun : Option ℕ) (left : ℕ) (standing : List StandingSnapshot) (tables : Lent) → (left ≡ 0) ⊎ (left ≡ left_behind_first begun (pages_of standing tables)) → (left ≡ 0) ⊎ (left_behind_first begun 1 ≤ left)
+first_some begun left standing tables (inl none) = inl none
+first_some None left standing tables (inr is) = inr (omega (arith, is))
+first_some (Some first) left standing tables (inr is) = inr (omega (arith, is))
 
 module _ {D : Type 0} (Honest Works : D → Type 0) (state : D → DiskState) (past : D → List DiskState) (faults writes syncs : D → ℕ)
     (tables : Lent) (bytes : List ℕ) where
@@ -225,7 +226,7 @@ module _ {D : Type 0} (Honest Works : D → Type 0) (state : D → DiskState) (p
       let numbered : next_number old + 1 < 2 ^ 63 = let below : IsPastLast (next_number old) → ⊥ = λ past. room (inr past) in omega (arith, below) in
       record {
         left = t.left t.broken numbered;
-        begins = λ none. first_some (place_of old).begun (ticks_left new) (tables_due old.base tables) (t.begins t.broken none);
+        begins = λ none. first_some (place_of old).begun (ticks_left new) old.standing.items (tables_due old.base tables) (t.begins t.broken none);
         rests = λ rests. t.rests rests.none_left rests.none_due;
       }
 

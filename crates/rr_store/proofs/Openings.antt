@@ -28,7 +28,7 @@ use Rattle.rr_pages.specs.declared.fault.Damage.{Damage}
 use Rattle.rr_store.specs.declared.recovery.fault.Fault as recovery
 use Rattle.rr_store.specs.declared.recovery.fault.Fault.TheVariants as C
 use Rattle.rr_store.specs.Recovery.Telling as recovers
-use Rattle.rr_tables.specs.Tables.{ArePlayed, world_of}
+use Rattle.rr_tables.specs.Tables.{ArePlayed, HaveTheirSnapshots, world_of}
 use Rattle.rr_reading.specs.Worlds.World as words
 use Rattle.rr_store.specs.declared.fault.Fault.{Fault}
 use Rattle.rr_store.specs.declared.fault.Fault.TheVariants as F
@@ -38,10 +38,10 @@ use Rattle.rr_store.specs.Allowing.{Between, Keeps}
 use Rattle.rr_store.specs.Fault.{CountsFailure, OnDevice, of_reading, of_recovery}
 use Rattle.rr_store.specs.Recovery.Fault as recovery_of
 use Rattle.rr_store.specs.Files.{StandsFor}
-use Rattle.rr_store.specs.Holding.{Carries, GamesArePlayed, disk_of, held_of}
+use Rattle.rr_store.specs.Holding.{Carries, GamesArePlayed, GamesHaveSnapshots, disk_of, held_of}
 use Rattle.rr_store.specs.Opening.{IsFound, IsNoVerdict, IsSyncedFirst, OpenAllows, Refuses, SyncsAtMost, SyncsFirst}
 use Rattle.rr_store.specs.World.{World}
-use Rattle.rr_store.proofs.Recovering.{only_recovered, recovered_played}
+use Rattle.rr_store.proofs.Recovering.{only_recovered, recovered_played, recovered_snapshots}
 
 -- refusals of the layers below
 
@@ -196,6 +196,13 @@ module _ {D : Type 0} (Honest : D → Type 0) (state : D → DiskState) (past : 
   played_store so h texts tables stands =
       let f = is_found (subst Honest disk_is h) in
       so (recovered_played (state old).content (held_by (state old).content found.opened) found.recovered f.holds f.recovered texts tables stands)
+
+  -- and have their snapshots
+  pub snapshots_store : (HaveTheirSnapshots found.recovered.tables → GamesHaveSnapshots store) → Honest (disk_of store) → (texts : KitTexts) (tables : World)
+      → StandsFor (state old).content texts tables → GamesHaveSnapshots store
+  snapshots_store so h texts tables stands =
+      let f = is_found (subst Honest disk_is h) in
+      so (recovered_snapshots (state old).content (held_by (state old).content found.opened) found.recovered f.holds f.recovered texts tables stands)
 
   -- and it goes on with a file that keeps it
   pub carries_store : ((texts : KitTexts) → IsFound (state then).content found → writer.ticks_left_of found.opened.writer ≡ 0

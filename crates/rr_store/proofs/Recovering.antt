@@ -32,8 +32,10 @@ use Rattle.rr_store.specs.Recovery.Replaying as recovery
 use Rattle.rr_store.specs.Recovery.Replaying.{BreaksOff, IsTranscriptBefore}
 use Rattle.rr_store.specs.Recovery.Texts.{texts_in}
 use Rattle.rr_checkpoint.specs.Plan.Kit.{AreTextChains}
+use Rattle.rr_checkpoint.specs.Plan.Standing.{StandIn, standing_chains}
+use Rattle.rr_checkpoint.specs.declared.plan.standing.StandingSnapshot.{StandingSnapshot}
 use Rattle.rr_checkpoint.specs.declared.plan.transcript.Transcript.{Transcript}
-use Rattle.rr_tables.specs.Tables.{ArePlayed, lent_by, world_of}
+use Rattle.rr_tables.specs.Tables.{ArePlayed, HaveTheirSnapshots, lent_by, world_of}
 use Rattle.rr_tables.specs.declared.tables.Tables.{Tables}
 use Rattle.rr_reading.specs.Worlds.Spelling.{Spells}
 use Rattle.rr_reading.specs.Worlds.World as words
@@ -169,7 +171,7 @@ module _ (has : Held) (texts : KitTexts) (recovered : Recovered) (r : IsTold has
     base_same : layout.base ≡ in_words texts r.base
     base_same = one_world table_rules has.root.version has.chain.text (texts_of (chains_of has.texts (has.tables ++ has.snapshots))) layout.base r.told.world is_read.spells r.told.spells ∙ base_is
 
-    middle_same : layout.middle ≡ in_words texts middle
+    pub middle_same : layout.middle ≡ in_words texts middle
     middle_same = same_replay has.near (in_words texts r.base) layout.middle (in_words texts middle)
         (subst (λ (w : words.World). Replays table_files w has.near layout.middle) base_same is_read.leads) near_on.1
 
@@ -183,7 +185,7 @@ module _ (has : Held) (texts : KitTexts) (recovered : Recovered) (r : IsTold has
     held_texts : texts_in has.texts ≡ texts
     held_texts = sym (spelled_texts has.root.version has.chain.text has.texts (has.tables ++ has.snapshots) r.told.world r.told.spells) ∙ r.told.of_kit
 
-    texts_of_world : (world : words.World) → kit_texts world ≡ texts → HasTexts has.texts world
+    pub texts_of_world : (world : words.World) → kit_texts world ≡ texts → HasTexts has.texts world
     texts_of_world world same =
         let all = held_texts ∙ sym same in
         record {
@@ -193,7 +195,7 @@ module _ (has : Held) (texts : KitTexts) (recovered : Recovered) (r : IsTold has
           of_board = ap (λ (t : KitTexts). t.board) all;
         }
 
-    pub holds_kit : AreTextChains recovered.kit has.texts → HoldsKit recovered.kit layout (in_words kept now)
+    abbrev pub holds_kit : AreTextChains recovered.kit has.texts → HoldsKit recovered.kit layout (in_words kept now)
     holds_kit on_pages =
         record {
           texts = has.texts;
@@ -203,12 +205,21 @@ module _ (has : Held) (texts : KitTexts) (recovered : Recovered) (r : IsTold has
           of_middle = texts_of_world layout.middle (ap kit_texts middle_same);
         }
 
+    -- and its snapshots
+    pub stand_in : (snapshots : List StandingSnapshot) → standing_chains snapshots ≡ has.snapshots → StandIn has.texts snapshots layout.holding
+    stand_in snapshots are =
+        record {
+          tables = has.tables;
+          held = ap (λ (h : Holding). h.chains) is_read.holding ∙ ap (λ (chains : List HeldChain). chains_of has.texts (has.tables ++ chains)) (sym are);
+        }
+
     pub is_base : (begun : Option ℕ) → begun ≡ begun_at (has.root.first + length has.near) has.far → IsLogBase table_rules begun recovered.base layout.middle
     is_base begun is =
         base_before has.far r.middle recovered.base begun (has.root.first + length has.near) layout.middle is r.before
         (subst (λ (w : words.World). AreLentOf table_rules w (lent_by r.middle)) (sym middle_same) middle_lent)
 
--- a file that stands for a world has true snapshots, so it stands for what was recovered, and the tables were played
+-- a file that stands for a world has true snapshots, so it stands for what was recovered, and the tables were played, and have
+-- their snapshots
 module _ (file : List ℕ) (has : Held) (recovered : Recovered) (holds : Holds file has) (is : IsRecoveredFrom has recovered)
     (texts : KitTexts) (tables : World) (stands : StandsFor file texts tables) where
   told_of : IsTold has is.texts recovered
@@ -221,6 +232,9 @@ module _ (file : List ℕ) (has : Held) (recovered : Recovered) (holds : Holds f
 
   pub recovered_played : ArePlayed recovered.tables
   recovered_played = told_of.played
+
+  pub recovered_snapshots : HaveTheirSnapshots recovered.tables
+  recovered_snapshots = told_of.snapshots
 
 -- a file that keeps tables which were played breaks no clause by the rules of the game
 module _ (texts : KitTexts) (kit : Kit) (tables : World) (right : SpellsKit texts kit) (of_kit : AreTablesOf kit tables)

@@ -18,7 +18,7 @@ use Rattle.rr_tables.specs.Records.Headline.{KeepsTables}
 use Rattle.rr_tables.specs.Records.Taking.{table_files, table_rules}
 use Rattle.rr_tables.specs.Records.Words.{in_words}
 use Rattle.rr_tables.specs.declared.tables.Tables.{Tables}
-use Rattle.rr_tables.specs.Tables.{ArePlayed, world_of}
+use Rattle.rr_tables.specs.Tables.{ArePlayed, HaveTheirSnapshots, world_of}
 use Rattle.rr_log.specs.Lent.{AreLentOf, Lent}
 use Rattle.rr_reading.specs.Worlds.World as words
 use Rattle.rr_store.specs.declared.fault.Fault.{Fault}
@@ -126,6 +126,7 @@ module _ {D : Type 0} (Honest Works : D → Type 0) (state : D → DiskState) (p
           carries = carries_by (Ok value) s;
           held = held_if (file.is_broken (file_of old)) (s.broken ∙ sym (not_true (file.is_broken (file_of old)) (λ broken. never (s.again.1 broken))));
           played = λ played. subst ArePlayed (sym same) played;
+          snapshots = λ had. subst HaveTheirSnapshots (sym same) had;
           number = s.number;
           again = (λ is. absurd (cc is), λ broken. absurd (never (s.again.1 broken)));
           refused = tt;
@@ -152,6 +153,7 @@ module _ {D : Type 0} (Honest Works : D → Type 0) (state : D → DiskState) (p
             carries = carries_by (Err fault) s;
             held = held;
             played = λ played. subst ArePlayed (sym same) played;
+            snapshots = λ had. subst HaveTheirSnapshots (sym same) had;
             number = s.number;
             again = again;
             refused = refused;

@@ -19,7 +19,7 @@ use Rattle.rr_store.specs.declared.store.Store.{Store}
 use Rattle.rr_store.specs.Allowing.{Between, CommitAllows}
 use Rattle.rr_store.specs.Fault.{CountsEnd, OnDeviceFault}
 use Rattle.rr_store.specs.Held.{Takes}
-use Rattle.rr_store.specs.Holding.{Carries, GamesArePlayed, HasNoRoom, IsFull, IsFullFor, IsUnchanged, Rests, disk_of, file_of, held_of, lent_of, number_of_next, ticks_left}
+use Rattle.rr_store.specs.Holding.{Carries, GamesArePlayed, GamesHaveSnapshots, HasNoRoom, IsFull, IsFullFor, IsUnchanged, Rests, disk_of, file_of, held_of, lent_of, number_of_next, ticks_left}
 use Rattle.rr_store.specs.Keeping.{ComesOn, MakesAtMost}
 use Rattle.rr_store.specs.World.{for_table, judgement_in}
 use Rattle.rr_reading.specs.Worlds.World as words
@@ -44,8 +44,8 @@ Spares old (Err F.FileFull) new = Unit {0}
 Spares old (Err F.OutOfMemory) new = Unit {0}
 Spares old (Err fault) new = IsUnchanged old new
 
--- What a commit does, by its result: what a store of played tables holds then, and that they are played; and, on an honest disk
--- that carries what was held, what the disk passed through, that each file which a stop leaves keeps what was held or, of a lawful request, that with it, and that
+-- What a commit does, by its result: what a store of played tables holds then, that they are played, and that they have their
+-- snapshots if they had them; and, on an honest disk that carries what was held, what the disk passed through, that each file which a stop leaves keeps what was held or, of a lawful request, that with it, and that
 -- the disk carries what is held now. Of every disk: the number of the next record; that a refusal by the rules changes nothing,
 -- nor, where its tables were played, does want of memory, unless the request is lawful and behind the call the half in use has no room for its record, so that
 -- none is refused for want of a checkpoint's memory that has room; and that a device fault is told exactly where the disk counts one.
@@ -63,6 +63,7 @@ pub record Commits {D : Type 0} (Honest Works : D → Type 0) (state : D → Dis
     (old : Store D) (name : List ℕ) (stamp : ℕ) (request : Request Command) (new : Store D) (result : Result ℕ Fault) : Type 0 where
   pub takes : GamesArePlayed old → Takes (held_of old) stamp name request (held_of new) result
   pub played : GamesArePlayed old → GamesArePlayed new
+  pub snapshots : GamesArePlayed old → GamesHaveSnapshots old → GamesHaveSnapshots new
   pub again : IsErrOf result F.OpenAgain ↔ IsTrue (held_of old).broken
   pub honest : Honest (disk_of new) → Honest (disk_of old)
   pub allowed : Honest (disk_of new) → (texts : KitTexts) → Carries state old texts

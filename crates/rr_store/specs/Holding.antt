@@ -12,7 +12,7 @@ use Rattle.rr_tables.specs.declared.records.rules.TableRules.{TableRules}
 use Rattle.rr_tables.specs.Records.Taking.{table_rules}
 use Rattle.rr_tables.specs.Records.Words.{in_words}
 use Rattle.rr_log.specs.Lent.{Lent}
-use Rattle.rr_tables.specs.Tables.{ArePlayed, lent_by, world_of}
+use Rattle.rr_tables.specs.Tables.{ArePlayed, HaveTheirSnapshots, lent_by, world_of}
 use Rattle.rr_turns.specs.declared.request.Request.{Request}
 use Rattle.rr_store.specs.declared.store.Store.{Store}
 use Rattle.rr_store.specs.Files.{AreTablesOf}
@@ -75,6 +75,10 @@ Rests store = keeping.Rests store.journal.file
 -- each table that it holds in memory was played: its game is the play of the commands that it keeps
 abbrev pub GamesArePlayed : {D : Type 0} → Store D → Type 0
 GamesArePlayed store = ArePlayed store.tables
+
+-- each table that it holds has the snapshots that the rule names, so that a take-back plays few commands
+abbrev pub GamesHaveSnapshots : {D : Type 0} → Store D → Type 0
+GamesHaveSnapshots store = HaveTheirSnapshots store.tables
 
 -- Whatever a stop leaves now, the file keeps these texts of the kit and what the store holds, the open file goes on behind it, and
 -- the tables in memory were played: on this a call rests, and this it carries on.

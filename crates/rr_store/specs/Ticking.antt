@@ -11,7 +11,7 @@ use Rattle.rr_store.specs.declared.store.Store.{Store}
 use Rattle.rr_store.specs.Allowing.{Between, TickAllows}
 use Rattle.rr_store.specs.Fault.{CountsEnd, OnDeviceFault}
 use Rattle.rr_store.specs.Held.{Held, with_failure}
-use Rattle.rr_store.specs.Holding.{Carries, GamesArePlayed, IsUnchanged, disk_of, file_of, held_of, lent_of, number_of_next, ticks_left}
+use Rattle.rr_store.specs.Holding.{Carries, GamesArePlayed, GamesHaveSnapshots, IsUnchanged, disk_of, file_of, held_of, lent_of, number_of_next, ticks_left}
 
 -- what is held behind a call that takes no request: the same, unless the device failed
 abbrev pub held_behind : {T : Type 0} → Result T Fault → Held → Held
@@ -49,6 +49,7 @@ pub record Steps {D T : Type 0} (Honest Works : D → Type 0) (state : D → Dis
   pub carries : Honest (disk_of new) → (held_of new).broken ≡ false → (texts : KitTexts) → Carries state old texts → Carries state new texts
   pub held : held_of new ≡ held_behind result (held_of old)
   pub played : GamesArePlayed old → GamesArePlayed new
+  pub snapshots : GamesHaveSnapshots old → GamesHaveSnapshots new
   pub number : number_of_next new ≡ number_of_next old
   pub again : IsErrOf result F.OpenAgain ↔ IsTrue (held_of old).broken
   pub refused : IfErr result (RefusesStep old new)

@@ -13,12 +13,12 @@ ghost use Rattle.rr_tables.specs.Records.Headline.{KeepsTables};
 ghost use Rattle.rr_tables.specs.Records.Taking.{table_files};
 ghost use Rattle.rr_tables.specs.Records.World.{World};
 ghost use Rattle.rr_tables.specs.Records.Words.{in_words};
-ghost use Rattle.rr_tables.specs.Tables.{ArePlayed, world_of};
+ghost use Rattle.rr_tables.specs.Tables.{ArePlayed, HaveTheirSnapshots, world_of};
 ghost use Rattle.rr_reading.specs.Worlds.World as words;
 ghost use Rattle.rr_store.specs.Allowing.{Between};
 ghost use Rattle.rr_store.specs.Fault.{CountsEnd, CountsFailure, OnDevice, OnDeviceFault};
 ghost use Rattle.rr_store.specs.Files.{AreTablesOf, StandsFor};
-ghost use Rattle.rr_store.specs.Holding.{Carries, GamesArePlayed, disk_of, held_of};
+ghost use Rattle.rr_store.specs.Holding.{Carries, GamesArePlayed, GamesHaveSnapshots, disk_of, held_of};
 ghost use Rattle.rr_store.specs.Opening.{IsFound, IsNoVerdict, IsSyncedFirst, OpenAllows, Refuses};
 
 use crate::fault::Fault;
@@ -42,7 +42,8 @@ pub struct Refused<D: Drop> {
 }
 
 /// Opens a file that `format` made. It makes a sync, and no write. The file's snapshots are trusted: the commands before
-/// one aren't judged.
+/// one aren't judged. A table that lacks one of those that it is to have, as in a file of a program that wrote fewer, is
+/// played once more, from its opening.
 ///
 /// # Errors
 /// `DeviceFailed`; `NotAStore` where the file has no roots of this version; `Damaged` with the least clause that it
@@ -77,6 +78,10 @@ pub fn open<D: Disk + Drop>(alloc: Global, disk: D) -> Result<Store<D>, Refused<
     // it keeps.
     ensures played { IfOk result (λ store. D.Honest (disk_of store) → (texts : KitTexts) (tables : World)
         → StandsFor (D.state disk).content texts tables → GamesArePlayed store) }
+
+    // Each has its snapshots then, whichever the file has.
+    ensures snapshots { IfOk result (λ store. D.Honest (disk_of store) → (texts : KitTexts) (tables : World)
+        → StandsFor (D.state disk).content texts tables → GamesHaveSnapshots store) }
     ensures whole { IfOk result (λ store. (held_of store).broken ≡ false) }
     ensures honest { IfOk result (λ store. D.Honest (disk_of store) → D.Honest disk) }
     ensures honest_left { IfErr result (λ refused. D.Honest refused.disk → D.Honest disk) }
@@ -154,13 +159,19 @@ fn begin<D: Disk + Drop>(alloc: Global, disk: D, found: Found) -> Store<D>
         → CarriesRead table_files found.opened (D.state disk) (in_words texts (world_of found.recovered.tables))
         → Carries D.state result texts }
     ensures played { ArePlayed found.recovered.tables → GamesArePlayed result }
+    ensures snapshots { HaveTheirSnapshots found.recovered.tables → GamesHaveSnapshots result }
 {
     let Found {
         opened,
         recovered,
         buffer,
     } = found;
-    let Recovered { tables, kit, base } = recovered;
+    let Recovered {
+        tables,
+        kit,
+        standing,
+        base,
+    } = recovered;
     let Opened {
         writer,
         dir: _,
@@ -171,7 +182,7 @@ fn begin<D: Disk + Drop>(alloc: Global, disk: D, found: Found) -> Store<D>
         near: _,
         far: _,
     } = opened;
-    let file = Log::new(alloc, disk, writer, kit, base);
+    let file = Log::new(alloc, disk, writer, kit, standing, base);
     Store {
         alloc,
         journal: FileJournal { file, buffer },

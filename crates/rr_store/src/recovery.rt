@@ -5,11 +5,13 @@
 //! Its promise: the clauses of `recover`. What is given is the world that the file tells, and what is refused breaks
 //! the clause that is told, and none that is lower.
 
+mod base;
 mod fault;
 mod playing;
 mod records;
 mod recovered;
 mod shown;
+mod standing;
 mod tables;
 mod texts;
 mod words;

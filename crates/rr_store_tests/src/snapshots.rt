@@ -3,8 +3,12 @@ use crate::files::{
     Standing, checkpoint, commit, content, disk_of, disk_with, opened, played_store, standing,
     write,
 };
+use crate::tables::read;
 use rr_disk::MemoryDisk;
+use rr_log::opening::Opened;
+use rr_reading::worlds::Worlds;
 use rr_store::{Fault, Store};
+use rr_tables::records::TableRules;
 use std::alloc::Global;
 use std::test::Fail;
 
@@ -26,8 +30,8 @@ fn pass(store: &mut Store<MemoryDisk>, stamp: u64) -> Result<u64, Fault> {
     commit(store, stamp, b"t1 pass a")
 }
 
-fn pass_to(store: &mut Store<MemoryDisk>, count: u64) -> Result<(), Fault> {
-    for stamp in 2..count {
+fn pass_on(store: &mut Store<MemoryDisk>, from: u64, to: u64) -> Result<(), Fault> {
+    for stamp in from..to {
         pass(store, stamp)?;
     }
     Ok(())
@@ -36,7 +40,7 @@ fn pass_to(store: &mut Store<MemoryDisk>, count: u64) -> Result<(), Fault> {
 // A file whose root has a table of 70 commands, with a snapshot of the first 64.
 fn file(alloc: Global) -> Result<MemoryDisk, Fail> {
     let mut store = played_store(alloc)?;
-    pass_to(&mut store, 70)?;
+    pass_on(&mut store, 2, 70)?;
     checkpoint(&mut store)?;
     Ok(disk_of(store))
 }
@@ -93,5 +97,100 @@ fn bytes_of_no_game_are_damage(rt: HostRuntime) -> Result<(), Fail> {
     let players = told(alloc, changed(alloc, SNAPSHOT, b"\x09")?);
     let name = told(alloc, changed(alloc, SNAPSHOT + 2, b"1")?);
     assert!(rt; [players, name] == [Err(Fault::Damaged(5)), Err(Fault::Damaged(5))]);
+    Ok(())
+}
+
+// What a root names: the page of its directory, that of the table's commands, and of each snapshot how many of these it
+// plays, and its page.
+type Named = (u64, Option<u64>, [Option<(u32, u64)>; 4]);
+
+fn snapshot_at(opened: &Opened<Worlds<TableRules>>, place: usize) -> Option<(u32, u64)> {
+    match opened.dir.snapshots.get(place) {
+        None => None,
+        Some(snapshot) => Some((snapshot.kept, snapshot.chain.head)),
+    }
+}
+
+fn commands_page(opened: &Opened<Worlds<TableRules>>) -> Option<u64> {
+    match opened.dir.tables.first() {
+        None => None,
+        Some(table) => Some(table.chain.head),
+    }
+}
+
+fn named(alloc: Global, disk: &mut MemoryDisk) -> Result<Named, Fail> {
+    let opened = read(alloc, disk)?;
+    let snapshots = [
+        snapshot_at(&opened, 0),
+        snapshot_at(&opened, 1),
+        snapshot_at(&opened, 2),
+        snapshot_at(&opened, 3),
+    ];
+    let directory = opened.writer.taken().root.directory;
+    Ok((directory, commands_page(&opened), snapshots))
+}
+
+// The 129th command begins a checkpoint, which is ended behind the 130th; behind the 194th another one is made.
+fn through_two_checkpoints(store: &mut Store<MemoryDisk>) -> Result<(), Fault> {
+    pass_on(store, 2, 130)?;
+    checkpoint(store)?;
+    pass_on(store, 130, 194)?;
+    checkpoint(store)
+}
+
+fn grown_file(alloc: Global) -> Result<MemoryDisk, Fail> {
+    let mut store = played_store(alloc)?;
+    through_two_checkpoints(&mut store)?;
+    Ok(disk_of(store))
+}
+
+// What the file's root names, and what is told of it once it is opened.
+fn grown(alloc: Global) -> Result<(Named, Result<Standing, Fault>), Fail> {
+    let mut disk = grown_file(alloc)?;
+    let named = named(alloc, &mut disk)?;
+    let store = opened(alloc, disk)?;
+    Ok((named, standing(&store, b"t1")))
+}
+
+// The first checkpoint lays the table on page 519, two snapshots on 520 and 521, and the directory on 522. These
+// snapshots stay there. The second one lays the table on page 518, where the first directory stood, and a third snapshot
+// and the directory behind all others.
+#[test]
+fn snapshots_that_stand_stay_where_they_stand(rt: HostRuntime) -> Result<(), Fail> {
+    let snapshots = [Some((64, 520)), Some((128, 521)), Some((192, 523)), None];
+    let whole = ((524, Some(518), snapshots), Ok((194, 0, 193, 194)));
+    assert!(rt; grown(rt.alloc())? == whole);
+    Ok(())
+}
+
+// What a checkpoint names that is made of the file once it is opened, where a line of this stamp comes before it.
+fn checkpointed(
+    alloc: Global,
+    disk: MemoryDisk,
+    stamp: u64,
+    line: &[u8],
+) -> Result<MemoryDisk, Fail> {
+    let mut store = opened(alloc, disk)?;
+    commit(&mut store, stamp, line)?;
+    checkpoint(&mut store)?;
+    Ok(disk_of(store))
+}
+
+// What the roots name of a checkpoint of the table taken back to 70 commands, and of another one.
+fn taken_back(alloc: Global) -> Result<(Named, Named), Fail> {
+    let grown = grown_file(alloc)?;
+    let mut back = checkpointed(alloc, grown, 194, b"t1 back 69")?;
+    let first = named(alloc, &mut back)?;
+    let mut behind = checkpointed(alloc, back, 195, b"t1 forget 1")?;
+    Ok((first, named(alloc, &mut behind)?))
+}
+
+// The first one lays the table and the directory on pages 519 and 522, where those before the last stood. Then pages
+// 518, of the last table, and 521, of a snapshot that was taken back, are the first free ones.
+#[test]
+fn pages_of_snapshots_that_were_taken_back_are_free(rt: HostRuntime) -> Result<(), Fail> {
+    let kept = [Some((64, 520)), None, None, None];
+    let whole = ((522, Some(519), kept), (521, Some(518), kept));
+    assert!(rt; taken_back(rt.alloc())? == whole);
     Ok(())
 }

@@ -119,7 +119,10 @@ fn recovered(alloc: Global, mut disk: MemoryDisk) -> Result<Found, Fail> {
     })
 }
 
-fn read(alloc: Global, disk: &mut MemoryDisk) -> Result<Opened<Worlds<TableRules>>, Fail> {
+pub(crate) fn read(
+    alloc: Global,
+    disk: &mut MemoryDisk,
+) -> Result<Opened<Worlds<TableRules>>, Fail> {
     let opened = open_file::<MemoryDisk, Worlds<TableRules>>(alloc, disk)?;
     Ok(opened)
 }

@@ -4,4 +4,5 @@ pub mod PlayedTables
 pub mod WritableLemmas
 pub mod WordLemmas
 pub mod LendingLemmas
+pub mod WholeLending
 pub mod RecordLemmas

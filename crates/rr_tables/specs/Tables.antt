@@ -1,5 +1,5 @@
 -- Tables in memory, as the world that they are, and that each was played.
-use Rattle.std.specs.Prelude.{◌≡◌, ℕ, ◌+◌, ◌-◌, Bool, ◌&&◌, nat_le, List, [], ◌∷◌, ◌++◌, Option, None, Some, IfSome, bytes_eq, if◌then◌else◌, length, map, option_map, option_to_list, slice_get}
+use Rattle.std.specs.Prelude.{◌≡◌, ℕ, ◌+◌, Bool, ◌&&◌, nat_le, nat_lt, List, [], ◌∷◌, ◌++◌, IfSome, bytes_eq, if◌then◌else◌, length, map, option_map}
 use Rattle.std.specs.Global.{Box}
 use Rattle.indexmap.specs.IndexMap.{get}
 use Rattle.rr_game.specs.declared.game.Game.{Game}
@@ -11,6 +11,7 @@ use Rattle.rr_reading.specs.declared.dir.directory.TheConstants.{MOST_SNAPSHOT_B
 use Rattle.rr_reading.specs.Worlds.World.{Snapshot}
 use Rattle.rr_tables.specs.Records.Words.{table_in_words}
 use Rattle.rr_tables.specs.Records.World.{TableState, World}
+use Rattle.rr_tables.specs.declared.lending.TheConstants.{MOST_LENT}
 use Rattle.rr_tables.specs.declared.tables.Tables.{Tables}
 
 -- what a table in a box keeps
@@ -25,28 +26,35 @@ world_by state entries = map (λ e. (e.0, state e.1)) entries
 abbrev pub world_of : Tables → World
 world_of tables = world_by kept_in_box tables.map.entries
 
--- a table has this snapshot, and a file may have it: it is of a command at least, and of no more than the table keeps, and
--- has no more bytes than it may
-abbrev pub can_be_lent : Table → Game → Bool
-can_be_lent table game =
-    nat_le 1 game.played && nat_le game.played (length table.kept.commands) && nat_le (length (bytes_of game)) MOST_SNAPSHOT_BYTES
+-- A file may have this snapshot of a table that keeps so many commands, behind so many of its snapshots, of which the last
+-- is behind so many commands: those are fewer than there may be, it is behind more commands, and no more than the table
+-- keeps, and has no more bytes than it may.
+abbrev pub can_be_lent : ℕ → ℕ → ℕ → Game → Bool
+can_be_lent kept count last game =
+    nat_lt count MOST_LENT && nat_lt last game.played && nat_le game.played kept
+    && nat_le (length (bytes_of game)) MOST_SNAPSHOT_BYTES
 
--- the snapshot of a table that is lent to a checkpoint: its last, if a file may have that
-abbrev pub if_lent : Table → Option Game → Option Game
-if_lent table None = None
-if_lent table (Some game) = if can_be_lent table game then Some game else None
+-- of these snapshots the ones that are lent behind so many
+abbrev pub lent_among : ℕ → ℕ → ℕ → List Game → List Game
+lent_among kept count last [] = []
+lent_among kept count last (game ∷ games) =
+    if can_be_lent kept count last game then game ∷ lent_among kept (count + 1) game.played games
+    else lent_among kept count last games
 
-abbrev pub lent_game : Table → Option Game
-lent_game table = if_lent table (slice_get table.kept.snapshots (length table.kept.snapshots - 1))
+-- the snapshots of a table that are lent to a checkpoint: all that a file may have
+abbrev pub lent_games : Table → List Game
+lent_games table = lent_among (length table.kept.commands) 0 0 table.kept.snapshots
+
+-- a snapshot of the table at this place
+abbrev pub snapshot_at : ℕ → Game → Snapshot
+snapshot_at place game = record { table = place; kept = game.played; bytes = bytes_of game }
 
 -- the snapshots of tables that are lent, of which the first stands at this place
 abbrev pub lent_snapshots : ℕ → List Table → List Snapshot
 lent_snapshots place [] = []
-lent_snapshots place (table ∷ tables) =
-    map (λ (game : Game). record { table = place; kept = game.played; bytes = bytes_of game }) (option_to_list (lent_game table))
-    ++ lent_snapshots (place + 1) tables
+lent_snapshots place (table ∷ tables) = map (snapshot_at place) (lent_games table) ++ lent_snapshots (place + 1) tables
 
--- what is lent to a checkpoint: the tables in words, and of each the last snapshot
+-- what is lent to a checkpoint: the tables in words, and their snapshots
 abbrev pub lent_by : Tables → Lent
 lent_by tables =
     record {

@@ -1,23 +1,24 @@
-//! The snapshots of games that are lent to a checkpoint: of each table its last, if a file may have that.
-ghost use Rattle.std.specs.Prelude.{◌≡◌, ◌+◌, ◌<◌, ◌≤◌, [], IfErr, IfOk, OnOk, Some, length, map, slice_get, take};
-ghost use Rattle.std.specs.Option.{option_and_then, option_copied};
+//! The snapshots of games that are lent to a checkpoint: of each table all that a file may have.
+ghost use Rattle.std.specs.Prelude.{◌≡◌, ◌+◌, ◌*◌, ◌<◌, ◌≤◌, ◌++◌, [], All, IfErr, IfOk, OnOk, length, map, take};
 ghost use Rattle.rr_checkpoint.specs.Plan.Snapshots.{snapshot_of};
 ghost use Rattle.rr_checkpoint.specs.Plan.Transcript.{snapshots_of, tables_of};
-ghost use Rattle.rr_game.specs.History.GameBytes.{bytes_of};
-ghost use Rattle.rr_reading.specs.declared.dir.directory.TheConstants.{MOST_TABLES};
 ghost use Rattle.rr_turns.specs.declared.limits.TheConstants.{MOST_COMMANDS};
+ghost use Rattle.rr_tables.specs.Lending.{KeepsAt};
 ghost use Rattle.rr_tables.specs.Records.Words.{table_in_words};
-ghost use Rattle.rr_tables.specs.Tables.{can_be_lent, if_lent, lent_by, lent_game, lent_snapshots, world_of};
+ghost use Rattle.rr_tables.specs.Tables.{can_be_lent, lent_by, lent_games, lent_snapshots, snapshot_at, world_of};
 
-use crate::Tables;
+use crate::{MOST_TABLES, Tables};
 use rr_checkpoint::plan::{SnapshotTranscript, Transcript};
 use rr_game::history::{Snapshot, Table};
 use rr_pages::Fault;
-use rr_reading::dir::MOST_SNAPSHOT_BYTES;
+use rr_reading::dir::{MOST_SNAPSHOT_BYTES, MOST_SNAPSHOTS};
 use std::alloc::Global;
 
+// So many snapshots of a table are lent at most, so that those of all tables have room in a directory.
+const MOST_LENT: usize = MOST_SNAPSHOTS / MOST_TABLES;
+
 impl Tables {
-    // Puts of each table the snapshot that is lent behind the tables.
+    // Puts of each table the snapshots that are lent behind the tables.
     pub(crate) fn lend_snapshots(
         &self,
         alloc: Global,
@@ -30,13 +31,13 @@ impl Tables {
         ensures memory { IfErr result (λ fault. fault ≡ Fault.OutOfMemory) }
     {
         for place in 0..self.count() {
-            self.lend_snapshot(alloc, place, transcript)?;
+            self.lend_table(alloc, place, transcript)?;
         }
         Ok(())
     }
 
-    // Puts the snapshot of the table at a place, if one is lent, behind those of the tables before it.
-    fn lend_snapshot(
+    // Puts those of the table at a place behind those of the tables before it.
+    fn lend_table(
         &self,
         alloc: Global,
         place: usize,
@@ -51,54 +52,53 @@ impl Tables {
             lent_snapshots 0 (take (place + 1) (map (λ e. e.1.value) self.now.map.entries))) }
         ensures memory { IfErr result (λ fault. fault ≡ Fault.OutOfMemory) }
     {
-        match self.snapshot_at(place) {
-            Some(snapshot) => {
-                let written = write_snapshot(alloc, place, snapshot)?;
-                transcript.push_snapshot(written)
-            }
-            None => Ok(()),
-        }
-    }
-
-    // The snapshot that is lent of the table at a place, if there is a table.
-    fn snapshot_at(&self, place: usize) -> Option<&Snapshot>
-        ensures { option_copied result ≡
-            option_and_then lent_game (slice_get (map (λ e. e.1.value) self.now.map.entries) place) }
-    {
         match self.map.get_index(place) {
-            Some((_, table)) => lent_snapshot(table),
-            None => None,
+            Some((_, table)) => lend_games(alloc, place, table, transcript),
+            None => unreachable!(),
         }
     }
 }
 
-// The snapshot of a table that is lent.
-fn lent_snapshot(table: &Table) -> Option<&Snapshot>
-    ensures { option_copied result ≡ lent_game table.now }
+// Puts the snapshots of a table that are lent behind those of the tables before its place.
+fn lend_games(
+    alloc: Global,
+    place: usize,
+    table: &Table,
+    transcript: &mut Transcript,
+) -> Result<(), Fault>
+    requires place { place < MOST_TABLES }
+    requires table { KeepsAt (tables_of transcript.old) place (length table.now.kept.commands) }
+    requires before { All (λ other. other.table < place) (snapshots_of transcript.old) }
+    requires room { length (snapshots_of transcript.old) ≤ place * MOST_LENT }
+    ensures tables { tables_of transcript.new ≡ tables_of transcript.old }
+    ensures snapshots { OnOk result (snapshots_of transcript.new ≡
+        snapshots_of transcript.old ++ map (snapshot_at place) (lent_games table.now)) }
+    ensures memory { IfErr result (λ fault. fault ≡ Fault.OutOfMemory) }
 {
-    match table.snapshots().last() {
-        Some(last) => if_lent(table, last),
-        None => None,
+    let kept = table.commands().len();
+    let snapshots = table.snapshots();
+    let mut count = 0;
+    let mut last = 0;
+    for snapshot in snapshots {
+        if !can_be_lent(kept, count, last, snapshot) {
+            continue;
+        }
+        transcript.push_snapshot(write_snapshot(alloc, place, snapshot)?)?;
+        count += 1;
+        last = snapshot.played();
     }
+    Ok(())
 }
 
-// A table's snapshot, if it can be lent.
-fn if_lent<'a>(table: &Table, snapshot: &'a Snapshot) -> Option<&'a Snapshot>
-    ensures { option_copied result ≡ if_lent table.now (Some snapshot.now) }
-{
-    if can_be_lent(table, snapshot) {
-        return Some(snapshot);
-    }
-    None
-}
-
-// Whether a file may have a table's snapshot.
-fn can_be_lent(table: &Table, snapshot: &Snapshot) -> bool
-    ensures { result ≡ can_be_lent table.now snapshot.now }
+// Whether a file may have a snapshot of a table that keeps so many commands, behind so many others, of which the last is
+// of so many commands.
+fn can_be_lent(kept: usize, count: usize, last: usize, snapshot: &Snapshot) -> bool
+    ensures { result ≡ can_be_lent kept count last snapshot.now }
 {
     let played = snapshot.played();
-    1 <= played
-        && played <= table.commands().len()
+    count < MOST_LENT
+        && last < played
+        && played <= kept
         && snapshot.bytes().len() <= MOST_SNAPSHOT_BYTES as usize
 }
 
@@ -110,8 +110,7 @@ fn write_snapshot(
 ) -> Result<SnapshotTranscript, Fault>
     requires place { place < MOST_TABLES }
     requires few { snapshot.now.played ≤ MOST_COMMANDS }
-    ensures value { IfOk result (λ written. snapshot_of written ≡
-        record { table = place; kept = snapshot.now.played; bytes = bytes_of snapshot.now }) }
+    ensures value { IfOk result (λ written. snapshot_of written ≡ snapshot_at place snapshot.now) }
     ensures memory { IfErr result (λ fault. fault ≡ Fault.OutOfMemory) }
 {
     Ok(SnapshotTranscript {

@@ -1,5 +1,5 @@
 -- The directory of a transcript's tables and snapshots.
-use Rattle.std.proofs.Common.{Bool, ◌≡◌, ◌≢◌, ℕ, suc, ◌+◌, ◌≤◌, List, [], ◌∷◌, ◌++◌, length, map, refl, sym, ◌∙◌, ap, subst, arith, length-append}
+use Rattle.std.proofs.Common.{Bool, ◌≡◌, ◌≢◌, ℕ, suc, ◌+◌, ◌≤◌, List, [], ◌∷◌, ◌++◌, length, map, sym, ◌∙◌, ap, subst, arith, length-append}
 use Rattle.std.specs.List.{flat_map, All, AllPairs}
 use Rattle.std.proofs.lemmas.List.{length-map}
 use Rattle.std.proofs.lemmas.List.Elements.{All-nil, All-head, All-tail, All-cons}
@@ -17,19 +17,20 @@ use Rattle.rr_reading.proofs.DirLemmas.TableLemmas.{length-spelled_kit, length-s
 use Rattle.rr_checkpoint.proofs.Planning.{places_all}
 use Rattle.rr_images.specs.Holding.{HeldChain, texts_of}
 use Rattle.rr_images.specs.Laws.{OneLaid}
-use Rattle.rr_images.specs.Plans.{LaidChain, laid_as, laid_pages, AllFit}
+use Rattle.rr_images.specs.Plans.{LaidChain, laid_as, chains_of, fresh_chains, laid_pages, AllFit}
 use Rattle.rr_images.proofs.Laid.{one_more_laid}
 use Rattle.rr_pages.specs.declared.chain.FreshPage.{FreshPage}
 use Rattle.rr_pages.specs.Laying.{joined, pages_for, FitEach}
 use Rattle.rr_pages.specs.Sets.{TakesFree, TooFewFree}
-use Rattle.rr_pages.specs.Writing.{fresh_of, IsLaid}
+use Rattle.rr_pages.specs.Writing.{IsLaid}
+use Rattle.rr_checkpoint.specs.declared.plan.standing.StandingSnapshot.{StandingSnapshot}
 use Rattle.rr_checkpoint.specs.declared.plan.table.TableTranscript.{TableTranscript}
 use Rattle.rr_checkpoint.specs.Plan.Laying.{directory_length, needed_pages, tables_length, AreChainsLaid}
 use Rattle.rr_checkpoint.specs.Plan.Transcript.{commands_of, table_of}
 use Rattle.rr_reading.specs.Worlds.Spelling.{entry_for, entries_for, snapshot_entries}
 use Rattle.rr_reading.specs.Worlds.World.{Snapshot, Table, text_for, AreShort}
 use Rattle.rr_checkpoint.proofs.PlanLemmas.LaidTables.{fresh_count, head_under, too_few_behind}
-use Rattle.rr_checkpoint.proofs.PlanLemmas.LaidSnapshots.{bytes_of}
+use Rattle.rr_checkpoint.proofs.PlanLemmas.LaidSnapshots.{bytes_of, pages_laid, texts_are}
 use Rattle.rr_checkpoint.proofs.PlanLemmas.SnapshotLemmas.{entries_long, snapshots_counted}
 use Rattle.rr_checkpoint.proofs.PlanLemmas.TableLemmas.{spelled_few}
 
@@ -133,43 +134,40 @@ are_tables chains parts same fit some own few =
     }
 
 -- as many entries as tables and snapshots, and where too few pages are free for their directory
-pub entries_within : (present coming after : List Bool) (fresh : List FreshPage) (parts : List TableTranscript) (snapshots : List Snapshot) (entries : List TableEntry) (others : List SnapshotEntry) → AreChainsLaid present coming after fresh (map table_of parts) snapshots entries others → length parts ≤ 64
-    → length entries ≤ 64
-entries_within present coming after fresh parts snapshots entries others laid few =
+pub entries_within : (present coming after : List Bool) (fresh : List FreshPage) (parts : List TableTranscript) (standing : List StandingSnapshot) (snapshots : List Snapshot) (entries : List TableEntry) (others : List SnapshotEntry) (placed : List StandingSnapshot)
+    → AreChainsLaid present coming after fresh (map table_of parts) standing snapshots entries others placed → length parts ≤ 64 → length entries ≤ 64
+entries_within present coming after fresh parts standing snapshots entries others placed laid few =
     omega (arith, few, ap (λ (es : List TableEntry). length es) laid.named, entries_few (map laid_as laid.laid) (map table_of parts), length-map parts table_of)
 
-pub others_within : (present coming after : List Bool) (fresh : List FreshPage) (tables : List Table) (snapshots : List Snapshot) (entries : List TableEntry) (others : List SnapshotEntry) → AreChainsLaid present coming after fresh tables snapshots entries others → length snapshots ≤ 4096
-    → length others ≤ 4096
-others_within present coming after fresh tables snapshots entries others laid few =
-    omega (arith, few, ap (λ (es : List SnapshotEntry). length es) laid.others_named, entries_long (map laid_as laid.more) snapshots laid.bytes)
+pub others_within : (present coming after : List Bool) (fresh : List FreshPage) (tables : List Table) (standing : List StandingSnapshot) (snapshots : List Snapshot) (entries : List TableEntry) (others : List SnapshotEntry) (placed : List StandingSnapshot)
+    → AreChainsLaid present coming after fresh tables standing snapshots entries others placed → length snapshots ≤ 4096 → length others ≤ 4096
+others_within present coming after fresh tables standing snapshots entries others placed laid few =
+    omega (arith, few, ap (λ (es : List SnapshotEntry). length es) laid.others_named, entries_long (chains_of laid.drafts) snapshots (texts_are present coming after fresh tables standing snapshots entries others placed laid))
 
-module _ (present coming between : List Bool) (fresh : List FreshPage) (tables : List Table) (snapshots : List Snapshot) (entries : List TableEntry) (others : List SnapshotEntry) (kit : KitChains) (bytes : List ℕ) (laid : AreChainsLaid present coming between fresh tables snapshots entries others)
-    (is : bytes ≡ spelling NEWEST (record { kit = kit; tables = entries; snapshots = others })) where
+module _ (present coming between : List Bool) (fresh : List FreshPage) (tables : List Table) (standing : List StandingSnapshot) (snapshots : List Snapshot) (entries : List TableEntry) (others : List SnapshotEntry) (placed : List StandingSnapshot) (kit : KitChains) (bytes : List ℕ)
+    (laid : AreChainsLaid present coming between fresh tables standing snapshots entries others placed) (is : bytes ≡ spelling NEWEST (record { kit = kit; tables = entries; snapshots = others })) where
   abbrev chains : List LaidChain
-  chains = laid.laid ++ laid.more
+  chains = laid.laid ++ fresh_chains laid.drafts
 
   counted : length bytes ≡ directory_length tables snapshots
-  counted = directory_counted kit (map laid_as laid.laid) (map laid_as laid.more) tables snapshots entries others bytes laid.texts laid.bytes laid.named laid.others_named is
+  counted =
+      directory_counted kit (map laid_as laid.laid) (chains_of laid.drafts) tables snapshots entries others bytes laid.texts (texts_are present coming between fresh tables standing snapshots entries others placed laid) laid.named laid.others_named is
 
-  pub too_few_all : TooFewFree present between (pages_for (length bytes)) → TooFewFree present coming (needed_pages tables snapshots)
+  pub too_few_all : TooFewFree present between (pages_for (length bytes)) → TooFewFree present coming (needed_pages standing tables snapshots)
   too_few_all few =
-      too_few_behind present coming between (laid_pages chains) (pages_for (length bytes)) (needed_pages tables snapshots) laid.in_turn.taken few
+      too_few_behind present coming between (laid_pages chains) (pages_for (length bytes)) (needed_pages standing tables snapshots) laid.in_turn.taken few
       (omega (arith, laid.counted, ap pages_for counted))
 
   -- a plan of them has just the fresh pages that they take
-  pub fresh_counted : (more : List FreshPage) → length more ≡ length fresh + pages_for (length bytes) → length more ≡ needed_pages tables snapshots
+  pub fresh_counted : (more : List FreshPage) → length more ≡ length fresh + pages_for (length bytes) → length more ≡ needed_pages standing tables snapshots
   fresh_counted more count = omega (arith, laid.counted, fresh_count present coming between fresh chains laid.in_turn, count, ap pages_for counted)
 
 -- The pages of the chains and then those of the directory are taken one after another, and they are all that is
 -- written.
-pages_laid : (fresh : List FreshPage) → map (λ (page : FreshPage). page.page) fresh ≡ map (λ (one : ℕ × List ℕ). one.0) (map fresh_of fresh)
-pages_laid [] = refl
-pages_laid (page ∷ fresh) = ap (λ (pages : List ℕ). page.page ∷ pages) (pages_laid fresh)
-
-pub takes_fresh : (present coming between after : List Bool) (fresh more : List FreshPage) (tables : List Table) (snapshots : List Snapshot) (entries : List TableEntry) (others : List SnapshotEntry) (bytes : List ℕ) (head : ℕ) → AreChainsLaid present coming between fresh tables snapshots entries others
-    → IsLaid present between after bytes fresh more head → TakesFree present coming (map (λ (page : FreshPage). page.page) more) after
-takes_fresh present coming between after fresh more tables snapshots entries others bytes head laid is =
-    let before = laid.laid ++ laid.more in
+pub takes_fresh : (present coming between after : List Bool) (fresh more : List FreshPage) (tables : List Table) (standing : List StandingSnapshot) (snapshots : List Snapshot) (entries : List TableEntry) (others : List SnapshotEntry) (placed : List StandingSnapshot) (bytes : List ℕ) (head : ℕ)
+    → AreChainsLaid present coming between fresh tables standing snapshots entries others placed → IsLaid present between after bytes fresh more head → TakesFree present coming (map (λ (page : FreshPage). page.page) more) after
+takes_fresh present coming between after fresh more tables standing snapshots entries others placed bytes head laid is =
+    let before = laid.laid ++ fresh_chains laid.drafts in
     let one : OneLaid present coming after more before bytes head = one_more_laid present coming between after fresh more before bytes head laid.in_turn is in
     let all = before ++ one.chain ∷ [] in
     let pages : map (λ (page : FreshPage). page.page) more ≡ laid_pages all =
@@ -177,7 +175,7 @@ takes_fresh present coming between after fresh more tables snapshots entries oth
     subst (λ (taken : List ℕ). TakesFree present coming taken after) (sym pages) one.laid.taken
 
 -- the same, told otherwise
-pub chains_same : (present other coming start after : List Bool) (fresh : List FreshPage) (tables : List Table) (snapshots : List Snapshot) (entries : List TableEntry) (others : List SnapshotEntry) → present ≡ other → coming ≡ start → AreChainsLaid present coming after fresh tables snapshots entries others
-    → AreChainsLaid other start after fresh tables snapshots entries others
-chains_same present other coming start after fresh tables snapshots entries others p q laid =
-    subst (λ (ms : List Bool). AreChainsLaid other ms after fresh tables snapshots entries others) q (subst (λ (ms : List Bool). AreChainsLaid ms coming after fresh tables snapshots entries others) p laid)
+pub chains_same : (present other coming start after : List Bool) (fresh : List FreshPage) (tables : List Table) (standing : List StandingSnapshot) (snapshots : List Snapshot) (entries : List TableEntry) (others : List SnapshotEntry) (placed : List StandingSnapshot) → present ≡ other → coming ≡ start
+    → AreChainsLaid present coming after fresh tables standing snapshots entries others placed → AreChainsLaid other start after fresh tables standing snapshots entries others placed
+chains_same present other coming start after fresh tables standing snapshots entries others placed p q laid =
+    subst (λ (ms : List Bool). AreChainsLaid other ms after fresh tables standing snapshots entries others placed) q (subst (λ (ms : List Bool). AreChainsLaid ms coming after fresh tables standing snapshots entries others placed) p laid)

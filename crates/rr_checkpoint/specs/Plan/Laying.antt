@@ -1,10 +1,12 @@
 -- The chains of tables and of snapshots as they are laid.
-use Rattle.std.specs.Prelude.{◌≡◌, ℕ, ◌+◌, ◌*◌, Bool, List, [], ◌∷◌, ◌++◌, length, map, sum_by}
+use Rattle.std.specs.Prelude.{◌≡◌, ℕ, ◌+◌, ◌*◌, Bool, List, [], ◌∷◌, ◌++◌, length, map, sum_by, Option}
 use Rattle.rr_checkpoint.specs.declared.checkpoint.Plan.{Plan}
+use Rattle.rr_checkpoint.specs.declared.plan.standing.StandingSnapshot.{StandingSnapshot}
+use Rattle.rr_checkpoint.specs.Plan.Standing.{kept_at, kept_snapshots, laid_at, laid_snapshots, standing_as, standing_chains}
 use Rattle.rr_reading.specs.declared.dir.directory.SnapshotEntry.{SnapshotEntry}
 use Rattle.rr_reading.specs.declared.dir.directory.TableEntry.{TableEntry}
 use Rattle.rr_images.specs.Holding.{texts_of}
-use Rattle.rr_images.specs.Plans.{LaidChain, laid_as, all_laid, laid_pages, AllFit, AreLaid}
+use Rattle.rr_images.specs.Plans.{Draft, LaidChain, laid_as, all_laid, chains_of, fresh_chains, kept_of, laid_pages, AllFit, AreLaid}
 use Rattle.rr_pages.specs.declared.chain.FreshPage.{FreshPage}
 use Rattle.rr_pages.specs.Laying.{pages_for}
 use Rattle.rr_pages.specs.Sets.{TakesFree}
@@ -23,11 +25,6 @@ entry_at head table =
       chain = record { head = head; length = length (text_for table) };
     }
 
--- and of a snapshot
-abbrev pub snapshot_at : ℕ → Snapshot → SnapshotEntry
-snapshot_at head snapshot =
-    record { table = snapshot.table; kept = snapshot.kept; chain = record { head = head; length = length snapshot.bytes } }
-
 -- how many pages the chains of these tables take
 abbrev pub table_pages : List Table → ℕ
 table_pages tables = sum_by (λ table. pages_for (length (text_for table))) tables
@@ -36,8 +33,9 @@ table_pages tables = sum_by (λ table. pages_for (length (text_for table))) tabl
 abbrev pub snapshot_pages : List Snapshot → ℕ
 snapshot_pages snapshots = sum_by (λ snapshot. pages_for (length snapshot.bytes)) snapshots
 
-abbrev pub chain_pages : List Table → List Snapshot → ℕ
-chain_pages tables snapshots = table_pages tables + snapshot_pages snapshots
+-- those of these tables, and of the snapshots that don't stand already
+abbrev pub chain_pages : List StandingSnapshot → List Table → List Snapshot → ℕ
+chain_pages standing tables snapshots = table_pages tables + snapshot_pages (laid_snapshots standing snapshots)
 
 -- how many bytes their directory has of tables
 abbrev pub tables_length : List Table → ℕ
@@ -52,9 +50,11 @@ snapshots_length (first ∷ others) = 2 + 18 * length (first ∷ others)
 abbrev pub directory_length : List Table → List Snapshot → ℕ
 directory_length tables snapshots = 50 + tables_length tables + snapshots_length snapshots
 
--- how many pages all of these take: so many a checkpoint of the tables and the snapshots lays
-abbrev pub needed_pages : List Table → List Snapshot → ℕ
-needed_pages tables snapshots = chain_pages tables snapshots + pages_for (directory_length tables snapshots)
+-- How many pages a checkpoint of these tables and snapshots lays, where these snapshots stand already: those of the chains,
+-- and the directory's.
+abbrev pub needed_pages : List StandingSnapshot → List Table → List Snapshot → ℕ
+needed_pages standing tables snapshots =
+    chain_pages standing tables snapshots + pages_for (directory_length tables snapshots)
 
 -- the pages of a plan that don't stand in the file yet
 abbrev pub fresh_pages : Plan → List ℕ
@@ -70,26 +70,31 @@ pub record AreTablesLaid (present coming after : List Bool) (fresh : List FreshP
   pub named : entries ≡ entries_for (map laid_as laid) tables
   pub counted : length (laid_pages laid) ≡ table_pages tables
 
--- The same of snapshots, and before them is to be written what was from before.
-pub record AreSnapshotsLaid (present coming after : List Bool) (old new : List FreshPage) (snapshots : List Snapshot)
-    (entries : List SnapshotEntry) : Type 0 where
-  pub laid : List LaidChain
-  pub to_write : map fresh_of new ≡ map fresh_of old ++ all_laid laid
-  pub fit : AllFit laid
-  pub taken : TakesFree present coming (laid_pages laid) after
-  pub texts : texts_of (map laid_as laid) ≡ map (λ (snapshot : Snapshot). snapshot.bytes) snapshots
-  pub named : entries ≡ snapshot_entries (map laid_as laid) snapshots
-  pub counted : length (laid_pages laid) ≡ snapshot_pages snapshots
+-- Of these snapshots each that stands at no place was laid, one after another, from these sets on, and behind what was
+-- to be written before nothing else is; the others stay at their places. So each will stand in the coming root: there.
+pub record AreSnapshotsPlaced (present coming after : List Bool) (old new : List FreshPage)
+    (places : List (Option StandingSnapshot)) (snapshots : List Snapshot) (placed : List StandingSnapshot) : Type 0 where
+  pub drafts : List Draft
+  pub to_write : map fresh_of new ≡ map fresh_of old ++ all_laid (fresh_chains drafts)
+  pub fit : AllFit (fresh_chains drafts)
+  pub taken : TakesFree present coming (laid_pages (fresh_chains drafts)) after
+  pub kept : kept_of drafts ≡ standing_chains (kept_at places)
+  pub named : map standing_as placed ≡ snapshots
+  pub chains : chains_of drafts ≡ standing_chains placed
+  pub counted : length (laid_pages (fresh_chains drafts)) ≡ snapshot_pages (laid_at places snapshots)
 
--- The chains of these tables and then those of these snapshots were laid one after another, from these sets on, and
--- nothing else is to be written; and the entries name them.
+-- The chains of these tables were laid one after another, from these sets on, and then those of the snapshots that don't
+-- stand already, and nothing else is to be written; the entries name them all, and there each snapshot will stand.
 pub record AreChainsLaid (present coming after : List Bool) (fresh : List FreshPage) (tables : List Table)
-    (snapshots : List Snapshot) (entries : List TableEntry) (others : List SnapshotEntry) : Type 0 where
+    (standing : List StandingSnapshot) (snapshots : List Snapshot) (entries : List TableEntry)
+    (others : List SnapshotEntry) (placed : List StandingSnapshot) : Type 0 where
   pub laid : List LaidChain
-  pub more : List LaidChain
-  pub in_turn : AreLaid present coming after fresh (laid ++ more)
+  pub drafts : List Draft
+  pub in_turn : AreLaid present coming after fresh (laid ++ fresh_chains drafts)
+  pub kept : kept_of drafts ≡ standing_chains (kept_snapshots standing snapshots)
   pub texts : texts_of (map laid_as laid) ≡ map text_for tables
-  pub bytes : texts_of (map laid_as more) ≡ map (λ (snapshot : Snapshot). snapshot.bytes) snapshots
   pub named : entries ≡ entries_for (map laid_as laid) tables
-  pub others_named : others ≡ snapshot_entries (map laid_as more) snapshots
-  pub counted : length (laid_pages (laid ++ more)) ≡ chain_pages tables snapshots
+  pub others_named : others ≡ snapshot_entries (chains_of drafts) snapshots
+  pub chains : chains_of drafts ≡ standing_chains placed
+  pub placed_as : map standing_as placed ≡ snapshots
+  pub counted : length (laid_pages (laid ++ fresh_chains drafts)) ≡ chain_pages standing tables snapshots

@@ -6,7 +6,9 @@ use Rattle.rr_reading.specs.declared.dir.version.TheConstants.{NEWEST}
 use Rattle.rr_reading.specs.Held.{TextChains, chains_of}
 use Rattle.rr_checkpoint.specs.declared.plan.kit.KitPages.{KitPages}
 use Rattle.rr_checkpoint.specs.declared.plan.transcript.Transcript.{Transcript}
+use Rattle.rr_checkpoint.specs.declared.plan.standing.StandingSnapshot.{StandingSnapshot}
 use Rattle.rr_checkpoint.specs.Plan.Kit.{AreTextChains}
+use Rattle.rr_checkpoint.specs.Plan.Standing.{StandIn}
 use Rattle.rr_checkpoint.specs.Plan.Transcript.{snapshots_of, tables_of}
 use Rattle.rr_reading.specs.Worlds.Spelling.{HoldTexts, TableChains, all_of, bytes_for, worlds}
 use Rattle.rr_reading.specs.Worlds.World.{AreShown, Snapshot, Table, World, WorldRules}
@@ -22,13 +24,13 @@ world_of texts tables =
       tables = tables;
     }
 
--- The root of a layout holds the texts of the kit on these pages, before the chains of its tables; the world before the
--- first record of the other half has these texts and the tables of the transcript, and each snapshot shows its game.
-pub record IsOfLayout (rules : WorldRules) (kit : KitPages) (transcript : Transcript)
+-- The root of a layout holds the texts of the kit on these pages, before the chains of its tables and those of these
+-- snapshots; the world before the first record of the other half has these texts and the tables of the transcript, and
+-- each of its snapshots shows its game.
+pub record IsOfLayout (rules : WorldRules) (kit : KitPages) (standing : List StandingSnapshot) (transcript : Transcript)
     (layout : Layout (worlds rules)) : Type 0 where
   pub texts : TextChains
-  pub others : List HeldChain
-  pub held : layout.holding.chains ≡ chains_of texts others
+  pub stand : StandIn texts standing layout.holding
   pub on_pages : AreTextChains kit texts
   pub world : layout.middle ≡ world_of texts (tables_of transcript)
   pub shown : AreShown rules layout.middle (snapshots_of transcript)

@@ -1,8 +1,9 @@
 //! A table's game at an earlier count of its commands, as bytes.
-ghost use Rattle.std.specs.Prelude.{◌≡◌, ℕ, None, IfOk, IfSome, IsOkUnless, MatchOption};
+ghost use Rattle.std.specs.Prelude.{◌≡◌, ◌↔◌, ℕ, None, Some, IfOk, IfSome, IsOkUnless, IsTrue, MatchOption, map, slice_get};
 ghost use Rattle.std.specs.Option.{option_copied};
 ghost use Rattle.rr_game.specs.History.GameBytes.{SpellsGame, SpellsOneGame, bytes_of, one_game};
-ghost use Rattle.rr_game.specs.History.Snapshots.{IsNearest, is_nearer, least_named, nearer, snapshot_due};
+ghost use Rattle.rr_game.specs.History.Snapshots.{IsNearest, is_named, is_nearer, least_named, named_counts, nearer, snapshot_due};
+ghost use Rattle.rr_game.specs.declared.game.Game.{Game as AnyGame};
 ghost use Rattle.rr_game.specs.declared.history.fault.Fault.TheVariants.{OutOfMemory};
 
 use crate::Game;
@@ -167,5 +168,39 @@ fn is_nearer(snapshot: &Snapshot, other: Option<&Snapshot>, count: usize) -> boo
     match other {
         Some(other) => snapshot.played() <= count && other.played() < snapshot.played(),
         None => snapshot.played() <= count,
+    }
+}
+
+/// Whether the snapshots are those of just these counts: of the multiples of `SNAPSHOT_SPACING` from `least` to `count`.
+pub(crate) fn are_named(snapshots: &[Snapshot], least: usize, count: usize) -> bool
+    ensures { IsTrue result ↔ (map (λ (game : AnyGame). game.played) snapshots.now ≡ named_counts least count) }
+{
+    let mut next = 0;
+    for place in 0..count {
+        if !is_named(least, place + 1) {
+            continue;
+        }
+        if !is_at(snapshots, next, place + 1) {
+            return false;
+        }
+        next += 1;
+    }
+    next == snapshots.len()
+}
+
+// Whether a snapshot of so many commands is kept where those of fewer than `least` aren't.
+fn is_named(least: usize, count: usize) -> bool
+    ensures { result ≡ is_named least count }
+{
+    count % SNAPSHOT_SPACING == 0 && least <= count
+}
+
+// Whether the snapshot at this place is of so many commands.
+fn is_at(snapshots: &[Snapshot], place: usize, count: usize) -> bool
+    ensures { IsTrue result ↔ (slice_get (map (λ (game : AnyGame). game.played) snapshots.now) place ≡ Some count) }
+{
+    match snapshots.get(place) {
+        Some(snapshot) => snapshot.played() == count,
+        None => false,
     }
 }

@@ -1,5 +1,5 @@
 //! How a table stands.
-ghost use Rattle.std.specs.Prelude.{◌≡◌, ◌≤◌, length};
+ghost use Rattle.std.specs.Prelude.{◌≡◌, ◌↔◌, ◌≤◌, IsTrue, length};
 ghost use Rattle.std.specs.List.{filter};
 ghost use Rattle.rr_turns.specs.declared.limits.TheConstants.{LAST_STAMP};
 ghost use Rattle.rr_game.specs.Keeping.{IsGameOf};
@@ -12,7 +12,7 @@ ghost use Rattle.rr_turns.specs.Turns.{ended_turns};
 
 use crate::Game;
 use crate::history::kept::KeptCommands;
-use crate::history::snapshots::{Snapshot, least_named};
+use crate::history::snapshots::{Snapshot, are_named, least_named};
 use crate::history::table::Table;
 
 impl Table {
@@ -60,6 +60,17 @@ impl Table {
         ensures value { result.now ≡ self.now.kept.snapshots }
     {
         self.kept.snapshots()
+    }
+
+    /// Whether the table has just the snapshots that the rule names: one at each multiple of `SNAPSHOT_SPACING`
+    /// commands above the count at its floor, and one at the greatest multiple that isn't above that.
+    pub fn has_its_snapshots(&self) -> bool
+        ensures { IsTrue result ↔ HasItsSnapshots self.now }
+    {
+        match self.game.played_at(self.floor) {
+            Some(count) => are_named(self.kept.snapshots(), least_named(count), self.kept.len()),
+            None => false,
+        }
     }
 
     /// Goes on with a floor and a stamp that a file tells of the table, and drops the snapshots that aren't kept with that

@@ -6,8 +6,9 @@ use std::alloc::{AllocError, Global};
 /// A checkpoint begins where so many slots of the half in use are used.
 const DUE: usize = 128;
 
-/// The steps of a checkpoint of four pages: one for each of three tables, and one for the directory. The second table has
-/// a snapshot from its 64th command on: then there are five pages.
+/// The steps of a checkpoint of four pages: one for each of three tables, and one for the directory. Of the second table
+/// the second checkpoint lays the snapshot behind 64 commands, which stays where it stands at the third one, and the
+/// third lays that behind 128: so these two have five pages.
 const STEPS: usize = 8;
 
 const STEPS_WITH_SNAPSHOT: usize = 9;
@@ -128,7 +129,7 @@ impl Schedule {
     }
 }
 
-// How many steps a checkpoint has behind so many others: the first one begins before the second table has a snapshot.
+// How many steps a checkpoint has behind so many others: as they begin, the second table keeps 49, 98 and 143 commands.
 fn steps_behind(begun: usize) -> usize {
     if begun == 0 {
         STEPS

@@ -1,5 +1,5 @@
 -- What a reading of a file says of its base: the directory names the chains, and what these tell is what they spell.
-use Rattle.std.proofs.Common.{◌≡◌, ℕ, suc, All, List, [], ◌∷◌, ◌++◌, length, map, take, drop, refl, sym, ap, subst, ◌∙◌, arith, length-append}
+use Rattle.std.proofs.Common.{◌≡◌, ℕ, suc, ◌<◌, All, List, [], ◌∷◌, ◌++◌, length, map, take, drop, refl, sym, ap, subst, ◌∙◌, arith, length-append}
 use Rattle.std.proofs.lemmas.List.{drop_at, length-map, take_at}
 use Rattle.rr_kit.specs.declared.kit.Kit.{Kit}
 use Rattle.rr_kit.specs.Kits.{SpellsKit}
@@ -25,12 +25,13 @@ use Rattle.rr_reading.specs.Worlds.Spelling.{ShowGames, SpellsTable, SpellsTable
 use Rattle.rr_reading.specs.Worlds.World.{Table, WorldRules}
 use Rattle.rr_reading.specs.Worlds.World as words
 use Rattle.rr_reading.proofs.DirLemmas.VersionLemmas.{one_version}
-use Rattle.rr_store.specs.Recovery.Base.{HasWords, IsWellFormed, Named, ShowsThem}
-use Rattle.rr_store.specs.Recovery.Shown.{SpellsItsGame, shown_in}
+use Rattle.rr_store.specs.Recovery.Base.{HasWords, IsOfDirectory, IsWellFormed, Named, ShowsThem}
+use Rattle.rr_store.specs.Recovery.Shown.{SpellsItsGame, shown_at, shown_in}
 use Rattle.rr_store.specs.Recovery.Telling.{IsBase, IsWorded, IsWritten, SpellBy, any_bytes, any_game}
 use Rattle.rr_store.specs.Recovery.Texts.{NameTexts, texts_in}
 use Rattle.rr_store.specs.Recovery.Told.{EachHas, KeepSpelled, TellTables, TellsTable, TellsWords}
 use Rattle.rr_store.proofs.RecoveryLemmas.GameLemmas.{EachSnapshot, ShownBy, SpellsIt, bytes_shown, each_game, each_games, each_more, each_of, game_each, game_shown, games_each, show_plays, shown_game, spells_less}
+use Rattle.rr_store.proofs.RecoveryLemmas.ShownLemmas.{each_table}
 use Rattle.rr_store.proofs.RecoveryLemmas.WordLemmas.{commands_spelled}
 
 -- tables that are told are spelled, and what is spelled is told
@@ -124,6 +125,27 @@ told_words (entry ∷ entries) (chain ∷ chains) same all =
       kept = (all.0.spelled, more.kept);
     }
 
+-- tables that are told keep words of lines
+told_have_words : (entries : List TableEntry) (chains : List HeldChain) (tables : World) → TellTables entries chains tables → EachHas TellsWords entries chains
+told_have_words [] [] tables told = tt
+told_have_words [] (chain ∷ chains) tables told = tt
+told_have_words (entry ∷ entries) [] tables told = absurd told
+told_have_words (entry ∷ entries) (chain ∷ chains) [] told = absurd told
+told_have_words (entry ∷ entries) (chain ∷ chains) (table ∷ tables) told =
+    let kept = told.0.kept in (
+      record { kept_words = kept.words; kept = kept.kept; counted = kept.counted; spelled = commands_spelled kept.words table.1.commands kept.spelled },
+      told_have_words entries chains tables told.1,
+    )
+
+-- where the snapshots of each were read as games, all is of its form
+pub told_formed : (named : Named) (tables : World) → IsOfDirectory named → TellTables named.entries named.chains tables
+    → ((place : ℕ) → place < length named.entries → All SpellsItsGame (shown_at place named.snapshot_entries named.snapshot_chains)) → IsWellFormed named
+told_formed named tables directory told games =
+    record {
+      words = told_have_words named.entries named.chains tables told;
+      games = each_table SpellsItsGame named.entries named.snapshot_entries named.snapshot_chains directory.are_snapshots games;
+    }
+
 -- tables in words keep the words of their commands
 pub keep_spelled : (tables : World) (written : List Table) → AreInWords tables written → KeepSpelled written
 keep_spelled [] [] are = tt
@@ -197,7 +219,7 @@ module _ (file : List ℕ) (has : Held) (holds : Holds file has) where
   each_chain = sym holds.chains.counted
 
   -- and as many snapshots as entries of such
-  each_snapshot : length has.directory.snapshots ≡ length has.snapshots
+  pub each_snapshot : length has.directory.snapshots ≡ length has.snapshots
   each_snapshot =
       let all = heads_are in
       let tables = map (λ (entry : TableEntry). named.head_of entry.chain) has.directory.tables in
@@ -217,7 +239,7 @@ module _ (file : List ℕ) (has : Held) (holds : Holds file has) where
   pub tables_limited : AreTables has.directory.tables
   tables_limited = form.spelled.is_directory.are_tables
 
-  snapshots_limited : All (IsSnapshot has.directory.tables) has.directory.snapshots
+  pub snapshots_limited : All (IsSnapshot has.directory.tables) has.directory.snapshots
   snapshots_limited = form.spelled.is_directory.are_snapshots.each
 
   -- a world that the chains spell, by any rules

@@ -1,6 +1,7 @@
 -- Commands that are kept again and aren't judged, and the table that stands at its last snapshot behind them.
 use Rattle.std.proofs.Common.{◌≡◌, ◌⊎◌, ℕ, ◌+◌, ◌-◌, ◌<◌, ◌≤◌, List, [], ◌∷◌, ◌++◌, All, length, take, get_or, Some, Result, Ok, Err, IfErr, IfOk, OnOk, refl, sym, ap, subst, ◌∙◌, length-append, arith}
 use Rattle.std.proofs.lemmas.List.{take-append-le, take_at}
+use Rattle.std.specs.List.{Contains}
 use Rattle.std.proofs.lemmas.List.Elements.{All-append, All-cons, All-contains, All-nil}
 use Rattle.rr_code.specs.Command.{SpellsCommand}
 use Rattle.rr_code.specs.declared.command.Command.{Command}
@@ -8,7 +9,7 @@ use Rattle.rr_game.specs.declared.game.Game.{Game}
 use Rattle.rr_game.specs.declared.history.table.Table.{Table}
 use Rattle.rr_game.specs.History.Playing.{ArePlayed, IsPlayOf}
 use Rattle.rr_game.specs.History.Snapshots.{IsShown}
-use Rattle.rr_game.specs.History.Tables.{IsPlayed, kept_in}
+use Rattle.rr_game.specs.History.Tables.{HasItsSnapshots, IsPlayed, kept_in}
 use Rattle.rr_game.specs.Keeping.{IsGameOf}
 use Rattle.rr_kit.specs.declared.kit.Kit.{Kit}
 use Rattle.rr_pages.specs.declared.fault.Damage.TheVariants.{Kept as NotPlayed}
@@ -129,11 +130,19 @@ last_within kit bytes count commands last games is holds all =
     let there = All-contains (IsPlayWithin kit commands) games last all is.0 in
     omega (arith, there.within, as_many holds.words commands holds.spelled, holds.counted)
 
+no_last : {A : Type 0} {last : A} → Contains [] last → ⊥
+no_last {A} {last} has = omega (arith, has.1)
+
 module _ (kit : Kit) (last : Game) (games : List Game) (is : IsLast games (Some last)) where
   pub last_played : (table : Result Table Fault) → IfOk table (λ t. Recalls last games t)
       → IfOk table (λ t. (commands : List Command) → IsFrontOf (kept_in t).commands commands → All (IsPlayWithin kit commands) games → IsPlayed kit t)
   last_played (Ok table) recalls = λ commands front all. recalled kit last games table commands is recalls front all
   last_played (Err fault) recalls = tt
+
+  -- so there are some
+  pub last_named : (table : Result Table Fault) → IfOk table (λ t. games ≡ [] → HasItsSnapshots t)
+  last_named (Ok table) = λ none. absurd (no_last (subst (λ (gs : List Game). Contains gs last) none is.0))
+  last_named (Err fault) = tt
 
   pub last_refused : (H : Type 0) (bytes : List ℕ) (table : Result Table Fault)
       → IfErr table (IsOrBreaks NotPlayed (H → (count : ℕ) → count ≤ 4096 → (commands : List Command) → HoldsCommands bytes count commands → last.played ≤ count → ⊥))

@@ -2,7 +2,7 @@
 use Rattle.std.proofs.Common.{◌≡◌, ◌⊎◌, ℕ, ◌≤◌, Bool, List, length, Option, Some, Result, Ok, Err, IfOk, IfErr, IfSome, inl, inr, subst}
 use Rattle.std.specs.Borrow.{Bor}
 use Rattle.rr_game.specs.declared.history.table.Table.{Table}
-use Rattle.rr_game.specs.History.Tables.{IsPlayed, kept_in}
+use Rattle.rr_game.specs.History.Tables.{HasItsSnapshots, IsPlayed, kept_in}
 use Rattle.rr_kit.specs.declared.kit.Kit.{Kit}
 use Rattle.rr_pages.specs.declared.fault.Fault.{Fault as OfPages}
 use Rattle.rr_pages.specs.declared.fault.Damage.TheVariants.{Kept as NotPlayed}
@@ -52,3 +52,9 @@ module _ (kit : Kit) (words : List ℕ) (short : length words ≤ 65535) where
       → IfOk more (λ m. AreWorded (kept_in before).commands → AreWorded (kept_in after).commands)
   played_worded before after (Ok m) is = worded_more kit words before after short is
   played_worded before after (Err fault) is = tt
+
+-- a command more keeps the snapshots as they are to be
+pub played_named : (kit : Kit) (words : List ℕ) (before after : Table) (more : Result Bool Fault) → IfOk more (λ m. HasPlayed kit before words after)
+    → IfOk more (λ m. IsPlayed kit before → HasItsSnapshots before → HasItsSnapshots after)
+played_named kit words before after (Ok m) is = is.named
+played_named kit words before after (Err fault) is = tt

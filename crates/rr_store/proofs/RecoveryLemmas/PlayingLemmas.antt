@@ -1,6 +1,7 @@
 -- A table whose kept commands are played again, one after another.
-use Rattle.std.proofs.Common.{◌≡◌, ◌⊎◌, ◌≢◌, ℕ, zero, suc, ◌+◌, ◌<◌, ◌≤◌, ◌==◌, Bool, true, false, not, nat_le, if◌then◌else◌, List, [], ◌∷◌, ◌++◌, length, None, Some, inl, inr, refl, sym, ap, subst, ◌∙◌, append_assoc, length-append, arith}
+use Rattle.std.proofs.Common.{All, ◌≡◌, ◌⊎◌, ◌≢◌, ℕ, zero, suc, ◌+◌, ◌<◌, ◌≤◌, ◌==◌, Bool, true, false, not, nat_le, if◌then◌else◌, List, [], ◌∷◌, ◌++◌, length, None, Some, inl, inr, refl, sym, ap, subst, ◌∙◌, append_assoc, length-append, arith}
 use Rattle.std.proofs.lemmas.Bool.Decides.{nat_tests}
+use Rattle.std.proofs.lemmas.List.{append-nil}
 use Rattle.std.proofs.lemmas.List.Elements.{All-append, All-cons, All-nil}
 use Rattle.std.proofs.Math.Logic.{∥∥₁_elim}
 use mathlib.Core.HLevel.{⊥_prop}
@@ -35,7 +36,9 @@ use Rattle.rr_store.specs.declared.recovery.fault.Fault.{Fault}
 use Rattle.rr_store.specs.declared.recovery.fault.Fault.TheVariants as F
 use Rattle.rr_store.specs.Recovery.Fault.{IsOrBreaks, of_chain, of_table}
 use Rattle.rr_store.specs.Recovery.Kept.{AreWorded, HasPlayed, HasRoom, HoldsCommands, IsBegunBy, IsUnlawfulAfter, SpellsNoOpening}
+use Rattle.rr_store.specs.Recovery.Shown.{Shown, ShowsPlayOf}
 use Rattle.rr_store.specs.Recovery.Playing.{BeginsNoTable, No_command, No_opening, First_cut, IsFrontOf, KeepsFront, PlaysNoMore, None_left, Unlawful, Next_cut}
+use Rattle.rr_store.proofs.RecoveryLemmas.ShownLemmas.{show_nothing}
 use Rattle.rr_store.proofs.RecoveryLemmas.WordLemmas.{as_many, cut, one_command, one_list, spell_push}
 
 -- the bytes hold commands that were played: an opening and then commands that are lawful, each after those before it
@@ -85,6 +88,12 @@ first_ones (w ∷ ws) behind (c ∷ cs) (d ∷ ds) spelled all =
 pub front_before : (first second commands : List Command) → IsFrontOf first second → IsFrontOf second commands → IsFrontOf first commands
 front_before first second commands one two =
     (one.0 ++ two.0, two.1 ∙ ap (λ (cs : List Command). cs ++ two.0) one.1 ∙ append_assoc first one.0 two.0)
+
+-- from no snapshot a table was played, whatever commands it comes to keep
+pub played_whole : (kit : Kit) (shown : List Shown) (table : Table)
+    → ((commands : List Command) → IsFrontOf (kept_in table).commands commands → All (ShowsPlayOf kit commands) shown → IsPlayed kit table) → shown ≡ [] → IsPlayed kit table
+played_whole kit shown table so none =
+    let own = (kept_in table).commands in so own ([], sym (append-nil own)) (show_nothing kit own shown none)
 
 pub held_front : (bytes rest : List ℕ) (count : ℕ) (words : List (List ℕ)) (front commands : List Command) → SpellsFront bytes words rest → SpellCommands words front → HoldsCommands bytes count commands
     → IsFrontOf front commands

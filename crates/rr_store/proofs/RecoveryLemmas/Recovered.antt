@@ -1,7 +1,6 @@
 -- What a file tells, from what is told of its root's entries and chains.
-use Rattle.std.proofs.Common.{◌≡◌, ◌⊎◌, ℕ, List, ◌++◌, length, inl, inr, sym, subst, ◌∙◌}
+use Rattle.std.proofs.Common.{◌≡◌, ◌⊎◌, ℕ, Global, List, Vec, ◌++◌, inl, inr, length, sym, subst, ◌∙◌}
 use Rattle.std.specs.Prelude.{Option}
-use Rattle.rr_reading.specs.Dir.Directory.{AreTables}
 use Rattle.rr_kit.specs.declared.kit.Kit.{Kit}
 use Rattle.rr_kit.specs.Kits.{IsWrongKit, KitTexts, SpellsKit}
 use Rattle.rr_log.specs.Opening.Opened.{HasDamagedRecord}
@@ -11,22 +10,24 @@ use Rattle.rr_tables.specs.Records.Played.{ArePlayedTables}
 use Rattle.rr_tables.specs.Records.Taking.{table_rules}
 use Rattle.rr_tables.specs.Records.World.{World}
 use Rattle.rr_checkpoint.specs.declared.plan.kit.KitPages.{KitPages}
+use Rattle.rr_checkpoint.specs.declared.plan.standing.StandingSnapshot.{StandingSnapshot}
 use Rattle.rr_checkpoint.specs.declared.plan.transcript.Transcript.{Transcript}
 use Rattle.rr_checkpoint.specs.Plan.Kit.{AreTextChains}
+use Rattle.rr_checkpoint.specs.Plan.Standing.{standing_chains}
 use Rattle.rr_tables.specs.declared.tables.Tables.{Tables}
-use Rattle.rr_tables.specs.Tables.{ArePlayed, world_of}
+use Rattle.rr_tables.specs.Tables.{ArePlayed, HaveTheirSnapshots, world_of}
 use Rattle.rr_pages.specs.declared.fault.Damage.{Damage}
 use Rattle.rr_pages.specs.declared.fault.Damage.TheVariants as D
 use Rattle.rr_store.specs.declared.recovery.fault.Fault.{Fault}
 use Rattle.rr_store.specs.declared.recovery.fault.Fault.TheVariants as F
-use Rattle.rr_store.specs.Recovery.Base.{HasUnplayed, HasWords, IsRightBase, IsWellFormed, Named, RefusesBase, ShowsThem}
+use Rattle.rr_store.specs.Recovery.Base.{HasUnplayed, HasWords, IsOfDirectory, IsRightBase, IsWellFormed, Named, RefusesBase, ShowsThem, TellsInPlace}
 use Rattle.rr_store.specs.Recovery.Fault.{IsOfDevice, IsOrBreaks}
 use Rattle.rr_store.specs.Recovery.Recovered.{IsRecoveredFrom, IsTold}
 use Rattle.rr_store.specs.Recovery.Telling.{HasBadRecord, HasTrueSnapshots, IsRecovered, Refuses}
 use Rattle.rr_store.specs.Recovery.Replaying.{AreReplayed, BreaksOff, IsTranscriptBefore, Replays}
 use Rattle.rr_store.specs.Recovery.Texts.{NameTexts, texts_in}
 use Rattle.rr_store.specs.Recovery.Told.{TellTables}
-use Rattle.rr_store.proofs.RecoveryLemmas.BaseLemmas.{base_told, each_chain, formed_written, named_of, snapshots_play, tables_limited, texts_named, told_base, words_worded, written_formed}
+use Rattle.rr_store.proofs.RecoveryLemmas.BaseLemmas.{base_told, each_chain, each_snapshot, formed_written, named_of, snapshots_limited, snapshots_play, tables_limited, texts_named, told_base, words_worded, written_formed}
 use Rattle.rr_store.proofs.RecoveryLemmas.ReplayLemmas.{StopsAt}
 
 -- why there are no tables of a root: the device failed, or some table wasn't played
@@ -49,6 +50,12 @@ module _ (named : Named) (texts : TextChains) where
   kept_refuses (F.Disk fault) is told so = tt
   kept_refuses F.OutOfMemory is told so = told
 
+-- what is told in place of a fault, of what was read before and stayed
+pub told_instead : (old new : Named) (texts : TextChains) (fault same told : Fault) → new ≡ old → same ≡ fault → (IsOfDirectory new → TellsInPlace new same told)
+    → (IsOfDirectory old → IsWellFormed old → RefusesBase old texts fault) → IsOfDirectory old → RefusesBase old texts told
+told_instead old new texts fault same told stays is tells refused directory =
+    subst (λ (n : Named). IsOfDirectory n → TellsInPlace n fault told) stays (subst (λ (f : Fault). IsOfDirectory new → TellsInPlace new f told) is tells) directory texts (refused directory)
+
 -- what is so of the tables before the records, if each snapshot shows their play
 abbrev pub PlaysThem : Named → Tables → Type 0
 PlaysThem named tables = ShowsThem tables.kit named (world_of tables) → ArePlayed tables × ArePlayedTables tables.kit (world_of tables)
@@ -62,8 +69,11 @@ module _ (file : List ℕ) (has : Held) (holds : Holds file has) where
       snapshots_play file has holds kit base there.world (true there.world there.written) there.based (subst (λ (t : KitTexts). SpellsKit t kit) (sym there.texts) right)
 
   -- the root is refused, and so is the file
-  pub refuses_base : (fault : Fault) → (length has.directory.tables ≡ length has.tables → AreTables has.directory.tables → RefusesBase (named_of has) has.texts fault) → Refuses has fault
-  refuses_base fault refused = by_fault fault (refused (each_chain file has holds) (tables_limited file has holds))
+  of_directory : IsOfDirectory (named_of has)
+  of_directory = record { as_many = each_chain file has holds; are_tables = tables_limited file has holds; are_snapshots = snapshots_limited file has holds }
+
+  pub refuses_base : (fault : Fault) → (IsOfDirectory (named_of has) → RefusesBase (named_of has) has.texts fault) → Refuses has fault
+  refuses_base fault refused = by_fault fault (refused of_directory)
     where
       by_fault : (fault : Fault) → RefusesBase (named_of has) has.texts fault → Refuses has fault
       by_fault (F.Damaged D.Form) formless = λ world is. formless (written_formed file has holds world is)
@@ -85,10 +95,13 @@ module _ (file : List ℕ) (has : Held) (holds : Holds file has) where
       by_fault F.OutOfMemory told = let there = words_worded file has holds told in λ bad. bad there.0 there.1
 
   -- the same of what was read
-  pub refuses_read : (named : Named) (fault : Fault) → named ≡ named_of has → (length named.entries ≡ length named.chains → AreTables named.entries → RefusesBase named has.texts fault)
-      → Refuses has fault
+  pub refuses_read : (named : Named) (fault : Fault) → named ≡ named_of has → (IsOfDirectory named → RefusesBase named has.texts fault) → Refuses has fault
   refuses_read named fault same refused =
-      refuses_base fault (subst (λ (n : Named). length n.entries ≡ length n.chains → AreTables n.entries → RefusesBase n has.texts fault) same refused)
+      refuses_base fault (subst (λ (n : Named). IsOfDirectory n → RefusesBase n has.texts fault) same refused)
+
+  pub right_read : (named : Named) (kit : Kit) (tables : World) → named ≡ named_of has → (IsOfDirectory named → IsRightBase named has.texts kit tables) → IsRightBase (named_of has) has.texts kit tables
+  right_read named kit tables same right =
+      subst (λ (n : Named). IsOfDirectory n → IsRightBase n has.texts kit tables) same right of_directory
 
   module _ (old : Tables) (right : IsRightBase (named_of has) has.texts old.kit (world_of old)) where
     -- tables before the records that were played, if the snapshots are true
@@ -126,10 +139,10 @@ module _ (file : List ℕ) (has : Held) (holds : Holds file has) where
         subst (λ (f : Fault). Refuses has f) (sym breaks.0) (bad_record plays there)
 
     -- all is right
-    module _ (new : Tables) (pages : KitPages) (transcript : Option Transcript) (near far : List (List ℕ)) (near_is : near ≡ has.near) (far_is : far ≡ has.far) (same : new.kit ≡ old.kit)
+    module _ (new : Tables) (pages : KitPages) (standing : Vec StandingSnapshot Global) (transcript : Option Transcript) (near far : List (List ℕ)) (near_is : near ≡ has.near) (far_is : far ≡ has.far) (same : new.kit ≡ old.kit)
         (plays : PlaysThem (named_of has) old) (replayed : ArePlayed old → AreReplayed old.kit (world_of old) near far transcript (world_of new)) (stays : ArePlayed old → ArePlayed new)
-        (whole : HasDamagedRecord has → ⊥) where
-      is_told : HasTrueSnapshots has → IsTold has (texts_in has.texts) (record { tables = new; kit = pages; base = transcript })
+        (had : HaveTheirSnapshots old) (have : ArePlayed old → HaveTheirSnapshots old → HaveTheirSnapshots new) (whole : HasDamagedRecord has → ⊥) where
+      is_told : HasTrueSnapshots has → IsTold has (texts_in has.texts) (record { tables = new; kit = pages; standing = standing; base = transcript })
       is_told true =
           let there = told_base file has holds (world_of old) right.formed right.told in
           let played = base_played plays true in
@@ -156,13 +169,16 @@ module _ (file : List ℕ) (has : Held) (holds : Holds file has) where
             middle_played = both.played;
             before = subst (λ (l : List (List ℕ)). IsTranscriptBefore l both.middle transcript) far_is both.before;
             played = stays played.0;
+            snapshots = have played.0 had;
           }
 
-      pub recovered_from : (NameTexts has.directory.kit has.texts → AreTextChains pages has.texts) → IsRecoveredFrom has (record { tables = new; kit = pages; base = transcript })
-      recovered_from on_pages =
+      pub recovered_from : (NameTexts has.directory.kit has.texts → AreTextChains pages has.texts) → (length has.directory.snapshots ≡ length has.snapshots → standing_chains standing.items ≡ has.snapshots)
+          → IsRecoveredFrom has (record { tables = new; kit = pages; standing = standing; base = transcript })
+      recovered_from on_pages stand =
           record {
             texts = texts_in has.texts;
             right = subst (λ (k : Kit). SpellsKit (texts_in has.texts) k) (sym same) right.right;
             on_pages = on_pages (texts_named file has holds);
+            standing = stand (each_snapshot file has holds);
             told = is_told;
           }

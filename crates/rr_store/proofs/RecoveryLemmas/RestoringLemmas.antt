@@ -1,5 +1,5 @@
 -- The tables of a directory, restored one after another.
-use Rattle.std.proofs.Common.{◌≡◌, ◌≢◌, ℕ, zero, suc, ◌+◌, ◌^◌, ◌<◌, ◌≤◌, Bool, true, false, cond, List, [], ◌∷◌, ◌++◌, All, length, take, get_or, Option, None, Some, bytes_eq, refl, sym, ap, subst, ◌∙◌, length-append, arith}
+use Rattle.std.proofs.Common.{◌≡◌, ◌≢◌, ℕ, zero, suc, ◌+◌, ◌*◌, ◌^◌, ◌<◌, ◌≤◌, Bool, true, false, cond, List, [], ◌∷◌, ◌++◌, All, length, take, get_or, Option, None, Some, bytes_eq, refl, sym, ap, subst, ◌∙◌, length-append, arith}
 use Rattle.std.proofs.lemmas.List.{get_or-take, length-take-le, take_more}
 use Rattle.std.proofs.lemmas.Slice.Eq.{bytes_eq-Decides}
 use Rattle.rr_code.specs.declared.command.Command.{Command}
@@ -14,13 +14,15 @@ use Rattle.rr_images.specs.Holding.{HeldChain}
 use Rattle.rr_kit.specs.declared.kit.Kit.{Kit}
 use Rattle.rr_tables.specs.declared.tables.Tables.{Tables}
 use Rattle.rr_tables.specs.Records.Played.{ArePlayedTables, IsPlayedTable}
-use Rattle.rr_tables.specs.Records.Words.{AreCommands, KeepCommands, SpellCommands}
+use Rattle.rr_tables.specs.Records.Words.{SpellCommands}
 use Rattle.rr_tables.specs.Records.World.{TableState, World, table_named}
 use Rattle.rr_tables.specs.Tables.{ArePlayed, world_of}
 use Rattle.rr_tables.specs.Writable.{IsWritable}
-use Rattle.rr_tables.proofs.RecordLemmas.WordLemmas.{spelled_are_commands}
 use Rattle.rr_turns.specs.Turns.{ended_turns}
-use Rattle.rr_store.specs.Recovery.Kept.{AreWorded, HoldsCommands}
+use Rattle.rr_pages.specs.declared.page.TheConstants.{PAGE_BYTES}
+use Rattle.rr_store.specs.declared.recovery.fault.Fault.{Fault}
+use Rattle.rr_store.specs.Recovery.Fault.{WhereDeviceTold}
+use Rattle.rr_store.specs.Recovery.Kept.{HoldsCommands}
 use Rattle.rr_store.specs.Recovery.Restoring.{IsFreeFor, Puts}
 use Rattle.rr_store.specs.Recovery.Shown.{ShowPlays, Shown, ShowsPlayOf, shown_at}
 use Rattle.rr_store.specs.Recovery.Told.{TellTables, TellsTable}
@@ -114,13 +116,6 @@ told_put entries chains i entry chain bytes old new state entry_in chain_in entr
 pub count_put : (entry : TableEntry) (old new : World) (state : TableState) (i : ℕ) → Puts entry old state new → length old ≡ i → length new ≡ i + 1
 count_put entry old new state i puts same = omega (arith, same, ap length puts.last, length-append old ((entry.name, state) ∷ []))
 
-keep_last : (old : World) (table : List ℕ × TableState) → KeepCommands old → AreCommands table.1.commands → KeepCommands (old ++ table ∷ [])
-keep_last [] table keep last = (last, tt)
-keep_last (first ∷ old) table keep last = (keep.0, keep_last old table keep.1 last)
-
-pub keep_put : (entry : TableEntry) (old new : World) (state : TableState) → KeepCommands old → Puts entry old state new → KeepCommands new
-keep_put entry old new state keep puts = subst (λ (w : World). KeepCommands w) (sym puts.last) (keep_last old (entry.name, state) keep puts.spelled)
-
 -- the snapshots show the plays of some tables, and of one more
 module _ (kit : Kit) (shown_entries : List SnapshotEntry) (shown_chains : List HeldChain) where
   show_last : (place : ℕ) (tables : World) (table : List ℕ × TableState) → ShowPlays kit shown_entries shown_chains place (tables ++ table ∷ [])
@@ -206,6 +201,12 @@ above_turns kit shown entry bytes table floor turns holds was_played floor_is en
     let floored = subst (λ (cs : List Command). state.floor ≤ ended_turns (ends_turn kit) cs) same played.floored in
     omega (arith, floored, counted, above, floor_is, tells.floored)
 
+-- a device that failed behind what was read before and stayed
+pub device_behind : (W : Type 0) (old middle count kept : ℕ) (fault : Fault) → middle ≡ old → kept ≡ count → WhereDeviceTold fault (W → middle < PAGE_BYTES * kept) → WhereDeviceTold fault (W → old < PAGE_BYTES * count)
+device_behind W old middle count kept fault same also told =
+    subst (λ (n : ℕ). WhereDeviceTold fault (W → n < PAGE_BYTES * count)) same
+    (subst (λ (n : ℕ). WhereDeviceTold fault (W → middle < PAGE_BYTES * n)) also told)
+
 -- a table that goes on with a floor which isn't above them
 pub resumed : (kit : Kit) (shown : List Shown) (old new : Table) (floor turns : ℕ) → (All (ShowsPlayOf kit (kept_in old).commands) shown → IsPlayed kit old) → (IsPlayed kit old → IsPlayed kit new)
     → (kept_in new).commands ≡ (kept_in old).commands → (kept_in new).floor ≡ floor → (IsPlayed kit old → turns ≡ ended_turns (ends_turn kit) (kept_in old).commands) → floor ≤ turns
@@ -219,11 +220,8 @@ resumed kit shown old new floor turns was_played goes_on commands floored ended 
       record { lawful = new_played.lawful; floored = subst (λ (cs : List Command). (kept_in new).floor ≤ ended_turns (ends_turn kit) cs) (sym commands) here },
     )
 
-pub spelled_behind : (old new : TableState) → AreWorded old.commands → new.commands ≡ old.commands → AreCommands new.commands
-spelled_behind old new worded commands = subst (λ (cs : List Command). AreCommands cs) (sym commands) (spelled_are_commands worded.words old.commands worded.spelled)
-
 -- what a checkpoint can write of a table that was restored
 
-pub is_writable : (floor : ℕ) (old new : TableState) → AreWorded old.commands → new.commands ≡ old.commands → new.floor ≡ floor → floor < 2 ^ 32 → IsWritable new
-is_writable floor old new worded commands floored below =
+pub is_writable : (floor : ℕ) (new : TableState) → new.floor ≡ floor → floor < 2 ^ 32 → IsWritable new
+is_writable floor new floored below =
     record { floored = subst (λ (n : ℕ). n < 2 ^ 32) (sym floored) below }

@@ -3,6 +3,7 @@ use Rattle.std.proofs.Common.{◌≡◌, ◌⊎◌, ℕ, zero, suc, ◌+◌, ◌
 use Rattle.std.proofs.lemmas.Bool.Decides.{nat_tests}
 use Rattle.std.proofs.lemmas.List.{length-take-le, take_more}
 use Rattle.std.proofs.lemmas.List.Elements.{All-cons, All-head, All-nil, All-push, All-tail, All-weaker}
+use Rattle.std.proofs.lemmas.Option.{slice_get_within}
 use Rattle.std.specs.List.{AllZip}
 use Rattle.rr_code.specs.declared.command.Command.{Command}
 use Rattle.rr_game.specs.declared.game.Game.{Game}
@@ -13,7 +14,9 @@ use Rattle.rr_kit.specs.declared.kit.Kit.{Kit}
 use Rattle.rr_pages.specs.declared.fault.Damage.TheVariants.{Kept as NotPlayed}
 use Rattle.rr_pages.specs.declared.reading.ReadChain.{ReadChain}
 use Rattle.rr_reading.specs.Chains.{held}
+use Rattle.rr_reading.specs.Dir.Directory.{IsSnapshot}
 use Rattle.rr_reading.specs.declared.dir.directory.SnapshotEntry.{SnapshotEntry}
+use Rattle.rr_reading.specs.declared.dir.directory.TableEntry.{TableEntry}
 use Rattle.rr_store.specs.declared.recovery.fault.Fault.{Fault}
 use Rattle.rr_store.specs.declared.recovery.fault.Fault.TheVariants as F
 use Rattle.rr_store.specs.Recovery.Shown.{IsPlayWithin, KeepsShown, Shown, ShowsPlayOf, SpellsItsGame, SpellsTheGame, shown_at, shown_in}
@@ -134,6 +137,25 @@ module _ (P : Shown → Type 0) where
       (subst (λ (c : ReadChain). P (record { kept = (get_or entries n entry).kept; bytes = c.bytes.items })) (sym chain_is)
       (in_there entries chains n entry chain entry_in chain_in all))
 
+-- what holds of those of each table holds of all, where each is of one of the tables
+
+equal_test : (n m : ℕ) → n ≡ m → (n == m) ≡ true
+equal_test n m h = grind (arith, nat_tests)
+
+own_one : (P : Shown → Type 0) (b : Bool) (s : Shown) (all : List Shown) → b ≡ true → All P (if b then s ∷ all else all) → P s
+own_one P true s all is holds = All-head P s all holds
+own_one P false s all is holds = absurd cc
+
+pub each_table : (P : Shown → Type 0) (tables : List TableEntry) (entries : List SnapshotEntry) (chains : List HeldChain) → All (IsSnapshot tables) entries
+    → ((place : ℕ) → place < length tables → All P (shown_at place entries chains)) → All P (shown_in entries chains)
+each_table P tables [] chains are each = All-nil P
+each_table P tables (e ∷ es) [] are each = All-nil P
+each_table P tables (e ∷ es) (c ∷ cs) are each =
+    let own = All-head (IsSnapshot tables) e es are in
+    let within = slice_get_within tables e.table own.table own.of_table in
+    All-cons P _ (shown_in es cs) (own_one P (e.table == e.table) _ _ (equal_test e.table e.table refl) (each e.table within))
+    (each_table P tables es cs (All-tail (IsSnapshot tables) e es are) (λ place less. of_picked P (e.table == place) _ _ (each place less)))
+
 -- ---- the games of snapshots
 
 zip_append : {A B : Type 0} (R : A → B → Type 0) (xs us : List A) (ys vs : List B) → AllZip R xs ys → AllZip R us vs → AllZip R (xs ++ us) (ys ++ vs)
@@ -169,9 +191,6 @@ one_wrong : (b : Bool) (shown : Shown) → b ≡ true → (SpellsItsGame shown �
 one_wrong true shown is wrong all = wrong (All-head SpellsItsGame shown [] all)
 one_wrong false shown is wrong all = absurd cc
 
-equal_test : (n m : ℕ) → n ≡ m → (n == m) ≡ true
-equal_test n m h = grind (arith, nat_tests)
-
 pub is_wrong : (place : ℕ) (entry : SnapshotEntry) (chain : ReadChain) → entry.table ≡ place → (SpellsOneGame chain.bytes.items entry.kept → ⊥) → All SpellsItsGame (shown_at place (entry ∷ []) (held chain ∷ [])) → ⊥
 is_wrong place entry chain same wrong all = one_wrong (entry.table == place) _ (equal_test entry.table place same) wrong all
 
@@ -186,6 +205,22 @@ shows_its_game kit commands shown shows = (shows.game, shows.spelled)
 
 pub show_games : (kit : Kit) (commands : List Command) (shown : List Shown) → All (ShowsPlayOf kit commands) shown → All SpellsItsGame shown
 show_games kit commands shown all = All-weaker (ShowsPlayOf kit commands) SpellsItsGame (shows_its_game kit commands) shown all
+
+-- and so are those that were read as games
+pub read_are_games : (shown : List Shown) (games : List Game) → AllZip SpellsTheGame shown games → All SpellsItsGame shown
+read_are_games [] games read = All-nil SpellsItsGame
+read_are_games (s ∷ ss) [] read = absurd read
+read_are_games (s ∷ ss) (g ∷ gs) read = All-cons SpellsItsGame s ss (g, read.0) (read_are_games ss gs read.1)
+
+-- where there are none, none was read
+pub none_read : (shown : List Shown) (games : List Game) → AllZip SpellsTheGame shown games → shown ≡ [] → games ≡ []
+none_read [] [] read none = refl
+none_read [] (g ∷ gs) read none = absurd read
+none_read (s ∷ ss) games read none = absurd (cc none)
+
+-- no snapshots show the play of any commands
+pub show_nothing : (kit : Kit) (commands : List Command) (shown : List Shown) → shown ≡ [] → All (ShowsPlayOf kit commands) shown
+show_nothing kit commands shown none = subst (λ (s : List Shown). All (ShowsPlayOf kit commands) s) (sym none) (All-nil (ShowsPlayOf kit commands))
 
 is_within : (kit : Kit) (commands : List Command) (shown : Shown) (game : Game) → SpellsTheGame shown game → ShowsPlayOf kit commands shown → IsPlayWithin kit commands game
 is_within kit commands shown game spells shows =

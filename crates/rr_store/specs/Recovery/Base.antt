@@ -1,9 +1,10 @@
 -- The tables of a root before its records, by its directory's entries, its chains and its snapshots.
-use Rattle.std.specs.Prelude.{ℕ, All, List, map}
+use Rattle.std.specs.Prelude.{◌≡◌, ℕ, All, List, length, map}
 use Rattle.rr_reading.specs.Chains.{held}
 use Rattle.rr_reading.specs.Held.{tables_in}
 use Rattle.rr_reading.specs.declared.lending.commands.Commands.{Commands}
 use Rattle.rr_store.specs.declared.recovery.shown.Snapshots.{Snapshots}
+use Rattle.rr_reading.specs.Dir.Directory.{AreTables, IsSnapshot}
 use Rattle.rr_reading.specs.declared.dir.directory.SnapshotEntry.{SnapshotEntry}
 use Rattle.rr_reading.specs.declared.dir.directory.TableEntry.{TableEntry}
 use Rattle.rr_images.specs.Holding.{HeldChain}
@@ -25,6 +26,12 @@ pub record Named : Type 0 where
   pub chains : List HeldChain
   pub snapshot_entries : List SnapshotEntry
   pub snapshot_chains : List HeldChain
+
+-- as a directory names them: each table has a chain, and each snapshot is of one of the tables
+pub record IsOfDirectory (named : Named) : Type 0 where
+  pub as_many : length named.entries ≡ length named.chains
+  pub are_tables : AreTables named.entries
+  pub are_snapshots : All (IsSnapshot named.entries) named.snapshot_entries
 
 -- the kept words are those of lines
 abbrev pub HasWords : Named → Type 0
@@ -67,6 +74,11 @@ RefusesBase named texts (F.Damaged D.Kept) = HasUnplayed named texts
 RefusesBase named texts (F.Damaged _) = ⊥
 RefusesBase named texts (F.Disk fault) = Unit {0}
 RefusesBase named texts F.OutOfMemory = HasWords named
+
+-- where the form is right, this fault is told; else what is told in its place is right too
+abbrev pub TellsInPlace : Named → Fault → Fault → Type 0
+TellsInPlace named fault told =
+    (texts : TextChains) → (IsWellFormed named → RefusesBase named texts fault) → RefusesBase named texts told
 
 -- what was read of a root
 abbrev pub named_by : List ℕ → List TableEntry → Commands → Snapshots → Named

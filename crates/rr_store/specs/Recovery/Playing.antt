@@ -63,9 +63,10 @@ pub data KeepsNoMore (rest : List ℕ) : Type 0 where
   Unspelled : (words behind : List ℕ) → Begins rest words behind → ((command : Command) → SpellsCommand words command → ⊥) → KeepsNoMore rest
   Cut_off : IsCut rest → KeepsNoMore rest
 
--- the table stands at this game, behind as many commands as that has played, and has these snapshots
+-- the table stands at this game, behind as many commands as that has played, and has these snapshots; its floor is 0
 pub record Recalls (game : Game) (snapshots : List Game) (table : Table) : Type 0 where
   pub counted : length (kept_in table).commands ≡ game.played
   pub stamped : (kept_in table).stamp ≡ length (kept_in table).commands
+  pub floored : (kept_in table).floor ≡ 0
   pub at : table.game ≡ game
   pub shown : table.kept.snapshots ≡ snapshots

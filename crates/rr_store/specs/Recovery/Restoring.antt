@@ -3,7 +3,6 @@ use Rattle.std.specs.Prelude.{◌≡◌, ◌<◌, ◌≤◌, [], ◌∷◌, ◌+
 use Rattle.rr_reading.specs.declared.dir.directory.TableEntry.{TableEntry}
 use Rattle.rr_reading.specs.declared.dir.directory.TheConstants.{MOST_TABLES}
 use Rattle.rr_tables.specs.Records.World.{TableState, World, table_named}
-use Rattle.rr_tables.specs.Records.Words.{AreCommands}
 
 -- the entry may stand behind those of these tables
 pub record IsFreeFor (tables : World) (entry : TableEntry) : Type 0 where
@@ -11,7 +10,6 @@ pub record IsFreeFor (tables : World) (entry : TableEntry) : Type 0 where
   pub own_name : table_named tables entry.name ≡ None
   pub stamp : entry.stamp ≤ 4000000000
 
--- a table of commands stands behind the others, under the name of this entry
+-- a table stands behind the others, under the name of this entry
 pub record Puts (entry : TableEntry) (old : World) (state : TableState) (new : World) : Type 0 where
-  pub spelled : AreCommands state.commands
   pub last : new ≡ old ++ (entry.name, state) ∷ []

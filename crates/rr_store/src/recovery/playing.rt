@@ -4,7 +4,7 @@ ghost use Rattle.std.specs.Bool.{OnTrue, OnFalse};
 ghost use Rattle.rr_code.specs.Command.{SpellsCommand};
 ghost use Rattle.rr_code.specs.declared.command.Command.{Command as Line};
 ghost use Rattle.rr_game.specs.History.Playing.{ArePlayed};
-ghost use Rattle.rr_game.specs.History.Tables.{IsPlayed, kept_in};
+ghost use Rattle.rr_game.specs.History.Tables.{HasItsSnapshots, IsPlayed, kept_in};
 ghost use Rattle.rr_pages.specs.declared.page.TheConstants.{PAGE_BYTES};
 ghost use Rattle.rr_reading.specs.declared.dir.directory.TheConstants.{MOST_KEPT};
 ghost use Rattle.rr_reading.specs.Lending.Chains.{all_of, count_of};
@@ -12,7 +12,7 @@ ghost use Rattle.rr_reading.specs.Lending.Commands.{bytes_at, rest_of, steps_lef
 ghost use Rattle.rr_store.specs.Recovery.Fault.{CountsFault, IsOrBreaks, OnDeviceFault, of_chain, of_table};
 ghost use Rattle.rr_store.specs.Recovery.Kept.{AreWorded, HasPlayed, HasRoom, HoldsCommands, IsBegunBy, IsUnlawfulAfter, SpellsNoOpening};
 ghost use Rattle.rr_store.specs.Recovery.Playing.{BeginsNoTable, BeginsTable, IsFrontOf, KeepsFront, KeepsNext, KeepsNoMore, PlaysNext, PlaysNoMore, Recalls};
-ghost use Rattle.rr_store.specs.Recovery.Shown.{IsPlayWithin, ShowsPlayOf, shown_of};
+ghost use Rattle.rr_store.specs.Recovery.Shown.{IsPlayWithin, ShowsPlayOf, SpellsItsGame, shown_of};
 
 use crate::recovery::Fault;
 use crate::recovery::shown::{Snapshots, last_game, snapshots_at};
@@ -28,8 +28,8 @@ use std::alloc::Global;
 /// A kept command that its table doesn't take.
 const UNPLAYED: Fault = Fault::Damaged(Damage::Kept);
 
-/// The table that keeps the `count` commands in the chain at this place, played on from its last snapshot. Its stamp is
-/// their number.
+/// The table that keeps the `count` commands in the chain at this place, played on from its last snapshot. Its floor is
+/// 0, and its stamp their number.
 pub(crate) fn play_all<D: Disk>(
     alloc: Global,
     disk: &mut D,
@@ -44,6 +44,10 @@ pub(crate) fn play_all<D: Disk>(
     // Where each of its snapshots shows the play of the commands before it, the table was played.
     ensures played { IfOk result (λ table.
         All (ShowsPlayOf kit.now (kept_in table).commands) (shown_of index snapshots.entry) → IsPlayed kit.now table) }
+    // From no snapshot it is played whole, and makes them all.
+    ensures named { IfOk result (λ table. shown_of index snapshots.entry ≡ [] → HasItsSnapshots table) }
+    ensures floor { IfOk result (λ table. (kept_in table).floor ≡ 0) }
+    ensures games { IfOk result (λ table. All SpellsItsGame (shown_of index snapshots.entry)) }
     ensures worded { IfOk result (λ table. AreWorded (kept_in table).commands) }
     ensures refused { IfErr result (IsOrBreaks Damage.Kept (D.Honest disk.new → count ≤ MOST_KEPT
         → (commands : List Line) → HoldsCommands (bytes_at (D.state disk.old).content chains.old index) count commands
@@ -105,6 +109,8 @@ fn begin_at<D: Disk>(
         → (kept_in table).stamp ≡ length (kept_in table).commands) }
     ensures played { IfOk result (λ table. (commands : List Line) → IsFrontOf (kept_in table).commands commands
         → All (IsPlayWithin kit.now commands) kept.snapshots → IsPlayed kit.now table) }
+    ensures named { IfOk result (λ table. kept.snapshots ≡ [] → HasItsSnapshots table) }
+    ensures floor { IfOk result (λ table. (kept_in table).floor ≡ 0) }
     ensures worded { IfOk result (λ table. AreWorded (kept_in table).commands) }
     ensures refused { IfErr result (IsOrBreaks Damage.Kept (D.Honest disk.new → (count : ℕ) → count ≤ MOST_KEPT
         → (commands : List Line) → HoldsCommands (rest_of (D.state disk.old).content chains.old) count commands
@@ -255,6 +261,8 @@ fn begin_first<D: Disk>(
 ) -> Result<Table, Fault>
     ensures begun { IfOk result (λ table. D.Honest disk.new → BeginsTable kit.now (D.state disk.old).content chains.old chains.new table) }
     ensures played { IfOk result (λ table. IsPlayed kit.now table) }
+    ensures named { IfOk result (λ table. HasItsSnapshots table) }
+    ensures floor { IfOk result (λ table. (kept_in table).floor ≡ 0) }
     ensures worded { IfOk result (λ table. AreWorded (kept_in table).commands) }
     ensures refused { IfErr result (IsOrBreaks Damage.Kept (D.Honest disk.new
         → BeginsNoTable (rest_of (D.state disk.old).content chains.old))) }
@@ -293,6 +301,8 @@ fn play_next<D: Disk>(
     ensures some { IfOk result (λ more. OnTrue more (0 < left)) }
     ensures fewer { IfOk result (λ more. OnTrue more (steps_left_of chains.new < steps_left_of chains.old)) }
     ensures played { IfOk result (λ more. IsPlayed kit.now table.old → IsPlayed kit.now table.new) }
+    ensures named { IfOk result (λ more. IsPlayed kit.now table.old → HasItsSnapshots table.old → HasItsSnapshots table.new) }
+    ensures floor { IfOk result (λ more. (kept_in table.new).floor ≡ (kept_in table.old).floor) }
     ensures front { IfOk result (λ more. IsFrontOf (kept_in table.old).commands (kept_in table.new).commands) }
     ensures worded { IfOk result (λ more. AreWorded (kept_in table.old).commands → AreWorded (kept_in table.new).commands) }
     ensures refused { IfErr result (IsOrBreaks Damage.Kept (IsPlayed kit.now table.old → D.Honest disk.new

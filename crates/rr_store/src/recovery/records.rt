@@ -4,7 +4,7 @@ ghost use Rattle.rr_pages.specs.Journal.Reading.{lines};
 ghost use Rattle.rr_tables.specs.Records.Lines.{IsUnlawful, TakesRecord};
 ghost use Rattle.rr_store.specs.Recovery.Taking.{of_tables};
 ghost use Rattle.rr_store.specs.Recovery.Replaying.{AreReplayed, BreaksOff, IsTranscriptBefore, Replays};
-ghost use Rattle.rr_tables.specs.Tables.{ArePlayed, world_of};
+ghost use Rattle.rr_tables.specs.Tables.{ArePlayed, HaveTheirSnapshots, world_of};
 
 use crate::recovery::Fault;
 use rr_checkpoint::plan::Transcript;
@@ -28,6 +28,7 @@ pub(crate) fn replay_halves(
         → BreaksOff tables.old.kit (world_of tables.old) (lines near.now ++ lines far.now)))) }
     ensures kit { tables.new.kit ≡ tables.old.kit }
     ensures played { ArePlayed tables.old → ArePlayed tables.new }
+    ensures snapshots { ArePlayed tables.old → HaveTheirSnapshots tables.old → HaveTheirSnapshots tables.new }
 {
     replay(alloc, tables, near)?;
     let base = transcript_before(alloc, tables, far)?;
@@ -62,6 +63,7 @@ fn replay(alloc: Global, tables: &mut Tables, records: &[Vec<u8>]) -> Result<(),
         → BreaksOff tables.old.kit (world_of tables.old) (lines records.now)))) }
     ensures kit { tables.new.kit ≡ tables.old.kit }
     ensures played { ArePlayed tables.old → ArePlayed tables.new }
+    ensures snapshots { ArePlayed tables.old → HaveTheirSnapshots tables.old → HaveTheirSnapshots tables.new }
 {
     for bytes in records {
         replay_record(alloc, tables, bytes)?;
@@ -77,6 +79,7 @@ fn replay_record(alloc: Global, tables: &mut Tables, bytes: &[u8]) -> Result<(),
         → IsUnlawful tables.old.kit (world_of tables.old) bytes.now))) }
     ensures kit { tables.new.kit ≡ tables.old.kit }
     ensures played { ArePlayed tables.old → ArePlayed tables.new }
+    ensures snapshots { ArePlayed tables.old → HaveTheirSnapshots tables.old → HaveTheirSnapshots tables.new }
 {
     rr_game::history::laws::requests_have_one_verdict();
     let (name, request) = read_record(bytes)?;

@@ -1,34 +1,23 @@
-ghost use Rattle.std.specs.Prelude.{◌≡◌, ◌*◌, ◌<◌, ℕ, List, length, IfOk, IfErr};
+ghost use Rattle.std.specs.Prelude.{◌≡◌, ◌*◌, ◌<◌, ℕ, List, IfOk, IfErr};
 ghost use Rattle.rr_kit.specs.Kits.{KitTexts as AnyTexts, SpellsKit};
-ghost use Rattle.rr_reading.specs.Dir.Directory.{AreTables};
 ghost use Rattle.rr_log.specs.Opening.Opened.{held_by};
 ghost use Rattle.rr_pages.specs.declared.page.TheConstants.{PAGE_BYTES};
-ghost use Rattle.rr_reading.specs.Held.{chains_held};
-ghost use Rattle.rr_reading.specs.Lending.Chains.{all_of, count_of};
+ghost use Rattle.rr_reading.specs.Lending.Chains.{count_of};
 ghost use Rattle.rr_reading.specs.Reading.{Holds};
-ghost use Rattle.rr_store.specs.Recovery.Base.{IsRightBase, RefusesBase, named_by};
 ghost use Rattle.rr_store.specs.Recovery.Fault.{CountsFault, OnDeviceFault};
 ghost use Rattle.rr_store.specs.Recovery.Recovered.{IsRecoveredFrom};
-ghost use Rattle.rr_store.specs.Recovery.Shown.{AreShown};
 ghost use Rattle.rr_store.specs.Recovery.Telling.{Refuses};
-ghost use Rattle.rr_store.specs.Recovery.Texts.{texts_in};
-ghost use Rattle.rr_tables.specs.Records.Played.{ArePlayedTables};
-ghost use Rattle.rr_tables.specs.Records.Words.{KeepCommands};
-ghost use Rattle.rr_tables.specs.Tables.{ArePlayed, world_of};
 
 use crate::recovery::Fault;
+use crate::recovery::base::recover_base;
 use crate::recovery::records::replay_halves;
-use crate::recovery::shown::{Snapshots, tell_games};
-use crate::recovery::tables::restore_tables;
-use crate::recovery::texts::{kit_pages, read_kit};
-use crate::recovery::words::tell_words;
-use rr_checkpoint::plan::{KitPages, Transcript};
+use crate::recovery::shown::Snapshots;
+use crate::recovery::standing::standing_snapshots;
+use crate::recovery::texts::kit_pages;
+use rr_checkpoint::plan::{KitPages, StandingSnapshot, Transcript};
 use rr_disk::Disk;
 use rr_log::opening::Opened;
 use rr_pages::Damage;
-use rr_reading::KitTexts;
-use rr_reading::dir::TableEntry;
-use rr_reading::lending::Commands;
 use rr_reading::worlds::{Rules, Worlds};
 use rr_tables::Tables;
 use std::alloc::Global;
@@ -40,6 +29,8 @@ pub struct Recovered {
     pub tables: Tables,
     /// Where the root holds the texts of the kit.
     pub kit: KitPages,
+    /// Where it holds its snapshots, in the directory's order.
+    pub standing: Vec<StandingSnapshot>,
     /// The tables from before the records of the half that the root doesn't name, where that has records: a checkpoint
     /// was begun there, and these are what it is to be made of anew.
     pub base: Option<Transcript>,
@@ -47,7 +38,8 @@ pub struct Recovered {
 
 /// Recovers the tables from what an opening read of a file: the commands that each table keeps are played from its last
 /// snapshot, or from its opening where it has none, and then the records are taken. Snapshots are trusted: the commands
-/// before one are read as commands, and aren't judged. A table's floor and stamp are as the file has them.
+/// before one are read as commands, and aren't judged. A table that lacks snapshots then which it is to have is played
+/// from its opening, which makes them. A table's floor and stamp are as the file has them.
 ///
 /// # Errors
 /// `Damaged` with the least of the clauses 5 to 8 that is broken: `Form` where kept words are no request's and no
@@ -107,51 +99,11 @@ pub fn recover<D: Disk, R: Rules>(
         return Err(Fault::Damaged(Damage::Records));
     }
     let kit = kit_pages(alloc, &opened.dir.kit, &opened.texts)?;
-    Ok(Recovered { tables, kit, base })
-}
-
-/// The tables of the root, before its records.
-fn recover_base<D: Disk>(
-    alloc: Global,
-    disk: &mut D,
-    entries: &[TableEntry],
-    texts: &KitTexts,
-    chains: &mut Commands,
-    snapshots: Snapshots,
-) -> Result<Tables, Fault>
-    ensures right { IfOk result (λ tables. D.Honest disk.new
-        → IsRightBase (named_by (D.state disk.old).content entries.now chains.old snapshots.entry)
-        (chains_held texts.now) tables.kit (world_of tables)) }
-    // Where each snapshot shows the play of the commands before it, each table was played.
-    ensures played { IfOk result (λ tables. AreShown tables.kit snapshots.entry (world_of tables)
-        → ArePlayed tables × ArePlayedTables tables.kit (world_of tables)) }
-    ensures kit { IfOk result (λ tables. SpellsKit (texts_in (chains_held texts.now)) tables.kit) }
-    ensures spelled { IfOk result (λ tables. KeepCommands (world_of tables)) }
-    ensures refused { IfErr result (λ fault. D.Honest disk.new
-        → length entries.now ≡ length (all_of chains.old.chains) → AreTables entries.now
-        → RefusesBase (named_by (D.state disk.old).content entries.now chains.old snapshots.entry)
-        (chains_held texts.now) fault) }
-    ensures all { all_of chains.new.chains ≡ all_of chains.old.chains }
-    ensures pages { count_of chains.new.chains ≡ count_of chains.old.chains }
-    ensures fault { CountsFault (D.fault_count disk.old) (D.fault_count disk.new) result }
-    ensures honest { D.Honest disk.new → D.Honest disk.old }
-    ensures same_state { D.Honest disk.new → D.state disk.new ≡ D.state disk.old }
-    ensures same_past { D.Honest disk.new → D.past disk.new ≡ D.past disk.old }
-    ensures writes { D.write_count disk.new ≡ D.write_count disk.old }
-    ensures syncs { D.sync_count disk.new ≡ D.sync_count disk.old }
-    ensures device { OnDeviceFault result (D.Works disk.new → D.file_len disk.old < PAGE_BYTES * count_of chains.old.chains) }
-    ensures works { D.Works disk.new → D.Works disk.old }
-    ensures same_len { D.file_len disk.new ≡ D.file_len disk.old }
-{
-    let told = tell_words(disk, entries, chains)?;
-    if !told {
-        return Err(Fault::Damaged(Damage::Form));
-    }
-    let games = tell_games(alloc, snapshots)?;
-    if !games {
-        return Err(Fault::Damaged(Damage::Form));
-    }
-    let kit = read_kit(alloc, texts)?;
-    let tables = restore_tables(alloc, disk, kit, entries, chains, snapshots)?;
-    Ok(tables)
+    let standing = standing_snapshots(alloc, &opened.dir.snapshots, &opened.snapshots)?;
+    Ok(Recovered {
+        tables,
+        kit,
+        standing,
+        base,
+    })
 }

@@ -1,6 +1,6 @@
 //! All tables of a directory, in its order.
-ghost use Rattle.std.specs.Prelude.{◌≡◌, ◌↔◌, ◌*◌, ◌<◌, ◌≤◌, [], All, length, IsTrue, IfOk, IfErr, OnOk};
-ghost use Rattle.rr_game.specs.History.Tables.{IsPlayed, kept_in};
+ghost use Rattle.std.specs.Prelude.{◌≡◌, ◌↔◌, ℕ, ◌*◌, ◌<◌, ◌≤◌, [], All, length, IsTrue, IfOk, IfErr, OnOk};
+ghost use Rattle.rr_game.specs.History.Tables.{HasItsSnapshots, IsPlayed, kept_in};
 ghost use Rattle.rr_pages.specs.declared.page.TheConstants.{PAGE_BYTES};
 ghost use Rattle.rr_reading.specs.Dir.Directory.{AreTables};
 ghost use Rattle.rr_reading.specs.declared.dir.directory.TheConstants.{MOST_KEPT};
@@ -9,12 +9,11 @@ ghost use Rattle.rr_reading.specs.Lending.Chains.{all_of, count_of};
 ghost use Rattle.rr_reading.specs.Lending.Commands.{bytes_at};
 ghost use Rattle.rr_store.specs.Recovery.Fault.{CountsFault, IsOrBreaks, OnDeviceFault};
 ghost use Rattle.rr_store.specs.Recovery.Restoring.{IsFreeFor, Puts};
-ghost use Rattle.rr_store.specs.Recovery.Shown.{AreShown, ShowsPlayOf, shown_of};
+ghost use Rattle.rr_store.specs.Recovery.Shown.{AreShown, ShowsPlayOf, SpellsItsGame, shown_of};
 ghost use Rattle.rr_store.specs.Recovery.Told.{TellTables, TellsTable};
 ghost use Rattle.rr_tables.specs.Records.Played.{ArePlayedTables, IsPlayedTable};
-ghost use Rattle.rr_tables.specs.Records.Words.{AreCommands, KeepCommands};
 ghost use Rattle.rr_tables.specs.Records.World.{TableState, World};
-ghost use Rattle.rr_tables.specs.Tables.{ArePlayed, world_of};
+ghost use Rattle.rr_tables.specs.Tables.{ArePlayed, HaveTheirSnapshots, world_of};
 ghost use Rattle.rr_tables.specs.Writable.{IsWritable};
 
 use crate::recovery::Fault;
@@ -39,16 +38,19 @@ pub(crate) fn restore_tables<D: Disk>(
     chains: &mut Commands,
     snapshots: Snapshots,
 ) -> Result<Tables, Fault>
-    requires { length entries.now ≡ length (all_of chains.old.chains) }
-    ensures told { IfOk result (λ tables. D.Honest disk.new
+    // A directory names as many tables as chains of such.
+    ensures told { IfOk result (λ tables. D.Honest disk.new → length entries.now ≡ length (all_of chains.old.chains)
         → TellTables entries.now (tables_in (D.state disk.old).content chains.old) (world_of tables)) }
     ensures kit { IfOk result (λ tables. tables.kit ≡ kit) }
     // Where each snapshot shows the play of the commands before it, each table was played.
     ensures played { IfOk result (λ tables. AreShown kit snapshots.entry (world_of tables)
         → ArePlayed tables × ArePlayedTables kit (world_of tables)) }
-    ensures spelled { IfOk result (λ tables. KeepCommands (world_of tables)) }
-    ensures refused { IfErr result (IsOrBreaks Damage.Kept (D.Honest disk.new → AreTables entries.now
-        → (tables : World) → TellTables entries.now (tables_in (D.state disk.old).content chains.old) tables
+    ensures snapshots { IfOk result HaveTheirSnapshots }
+    // Each snapshot of these tables was read as a game.
+    ensures games { IfOk result (λ tables. (place : ℕ) → place < length entries.now
+        → All SpellsItsGame (shown_of place snapshots.entry)) }
+    ensures refused { IfErr result (IsOrBreaks Damage.Kept (D.Honest disk.new
+        → length entries.now ≡ length (all_of chains.old.chains) → AreTables entries.now → (tables : World) → TellTables entries.now (tables_in (D.state disk.old).content chains.old) tables
         → AreShown kit snapshots.entry tables → ArePlayedTables kit tables → ⊥)) }
     ensures all { all_of chains.new.chains ≡ all_of chains.old.chains }
     ensures pages { count_of chains.new.chains ≡ count_of chains.old.chains }
@@ -73,6 +75,7 @@ fn no_tables(alloc: Global, kit: Kit) -> Result<Tables, Fault>
     ensures none { IfOk result (λ tables. world_of tables ≡ []) }
     ensures kit { IfOk result (λ tables. tables.kit ≡ kit) }
     ensures played { IfOk result ArePlayed }
+    ensures snapshots { IfOk result HaveTheirSnapshots }
     ensures memory { IfErr result (λ fault. fault ≡ Fault.OutOfMemory) }
 {
     match Tables::new(alloc, kit) {
@@ -96,6 +99,8 @@ fn restore_table<D: Disk>(
         → TellsTable entry.now (bytes_at (D.state disk.old).content chains.old index) (entry.now.name, state))
         × (All (ShowsPlayOf tables.old.kit state.commands) (shown_of index snapshots.entry)
         → IsPlayedTable tables.old.kit state × (ArePlayed tables.old → ArePlayed tables.new))) }
+    ensures snapshots { OnOk result (HaveTheirSnapshots tables.old → HaveTheirSnapshots tables.new) }
+    ensures games { OnOk result (All SpellsItsGame (shown_of index snapshots.entry)) }
     ensures refused { IfErr result (IsOrBreaks Damage.Kept (D.Honest disk.new
         → IsFreeFor (world_of tables.old) entry.now → entry.now.kept ≤ MOST_KEPT → (state : TableState)
         → TellsTable entry.now (bytes_at (D.state disk.old).content chains.old index) (entry.now.name, state)
@@ -148,8 +153,99 @@ fn restore<D: Disk>(
     ensures played { IfOk result (λ table.
         All (ShowsPlayOf kit.now (kept_in table.value).commands) (shown_of index snapshots.entry)
         → IsPlayed kit.now table.value × IsPlayedTable kit.now (kept_in table.value)) }
+    ensures named { IfOk result (λ table. HasItsSnapshots table.value) }
     ensures writable { IfOk result (λ table. IsWritable (kept_in table.value)) }
-    ensures spelled { IfOk result (λ table. AreCommands (kept_in table.value).commands) }
+    ensures games { IfOk result (λ table. All SpellsItsGame (shown_of index snapshots.entry)) }
+    ensures refused { IfErr result (IsOrBreaks Damage.Kept (D.Honest disk.new → entry.now.kept ≤ MOST_KEPT
+        → (state : TableState)
+        → TellsTable entry.now (bytes_at (D.state disk.old).content chains.old index) (entry.now.name, state)
+        → All (ShowsPlayOf kit.now state.commands) (shown_of index snapshots.entry)
+        → IsPlayedTable kit.now state → ⊥)) }
+    ensures all { all_of chains.new.chains ≡ all_of chains.old.chains }
+    ensures pages { count_of chains.new.chains ≡ count_of chains.old.chains }
+    ensures fault { CountsFault (D.fault_count disk.old) (D.fault_count disk.new) result }
+    ensures honest { D.Honest disk.new → D.Honest disk.old }
+    ensures same_state { D.Honest disk.new → D.state disk.new ≡ D.state disk.old }
+    ensures same_past { D.Honest disk.new → D.past disk.new ≡ D.past disk.old }
+    ensures writes { D.write_count disk.new ≡ D.write_count disk.old }
+    ensures syncs { D.sync_count disk.new ≡ D.sync_count disk.old }
+    ensures device { OnDeviceFault result (D.Works disk.new → D.file_len disk.old < PAGE_BYTES * count_of chains.old.chains) }
+    ensures works { D.Works disk.new → D.Works disk.old }
+    ensures same_len { D.file_len disk.new ≡ D.file_len disk.old }
+{
+    let table = restore_whole(alloc, disk, kit, entry, chains, index, snapshots)?;
+    let table = Box::new(alloc, table)?;
+    Ok(table)
+}
+
+/// The table of an entry with the snapshots that it is to have: where the file's don't make them all, it is played
+/// again from its opening, which does.
+fn restore_whole<D: Disk>(
+    alloc: Global,
+    disk: &mut D,
+    kit: &Kit,
+    entry: &TableEntry,
+    chains: &mut Commands,
+    index: usize,
+    snapshots: Snapshots,
+) -> Result<Table, Fault>
+    requires { entry.now.stamp ≤ 4000000000 }
+    ensures told { IfOk result (λ table. D.Honest disk.new → TellsTable entry.now
+        (bytes_at (D.state disk.old).content chains.old index) (entry.now.name, kept_in table)) }
+    ensures played { IfOk result (λ table.
+        All (ShowsPlayOf kit.now (kept_in table).commands) (shown_of index snapshots.entry)
+        → IsPlayed kit.now table × IsPlayedTable kit.now (kept_in table)) }
+    ensures named { IfOk result (λ table. HasItsSnapshots table) }
+    ensures writable { IfOk result (λ table. IsWritable (kept_in table)) }
+    ensures games { IfOk result (λ table. All SpellsItsGame (shown_of index snapshots.entry)) }
+    ensures refused { IfErr result (IsOrBreaks Damage.Kept (D.Honest disk.new → entry.now.kept ≤ MOST_KEPT
+        → (state : TableState)
+        → TellsTable entry.now (bytes_at (D.state disk.old).content chains.old index) (entry.now.name, state)
+        → All (ShowsPlayOf kit.now state.commands) (shown_of index snapshots.entry)
+        → IsPlayedTable kit.now state → ⊥)) }
+    ensures all { all_of chains.new.chains ≡ all_of chains.old.chains }
+    ensures pages { count_of chains.new.chains ≡ count_of chains.old.chains }
+    ensures fault { CountsFault (D.fault_count disk.old) (D.fault_count disk.new) result }
+    ensures honest { D.Honest disk.new → D.Honest disk.old }
+    ensures same_state { D.Honest disk.new → D.state disk.new ≡ D.state disk.old }
+    ensures same_past { D.Honest disk.new → D.past disk.new ≡ D.past disk.old }
+    ensures writes { D.write_count disk.new ≡ D.write_count disk.old }
+    ensures syncs { D.sync_count disk.new ≡ D.sync_count disk.old }
+    ensures device { OnDeviceFault result (D.Works disk.new → D.file_len disk.old < PAGE_BYTES * count_of chains.old.chains) }
+    ensures works { D.Works disk.new → D.Works disk.old }
+    ensures same_len { D.file_len disk.new ≡ D.file_len disk.old }
+{
+    let told = restore_from(alloc, disk, kit, entry, chains, index, snapshots)?;
+    if told.has_its_snapshots() {
+        return Ok(told);
+    }
+    let none = Snapshots {
+        entries: &[],
+        chains: &[],
+    };
+    let played = restore_from(alloc, disk, kit, entry, chains, index, none)?;
+    Ok(played)
+}
+
+/// The table of an entry, played from the last of these snapshots, or from its opening where it has none.
+fn restore_from<D: Disk>(
+    alloc: Global,
+    disk: &mut D,
+    kit: &Kit,
+    entry: &TableEntry,
+    chains: &mut Commands,
+    index: usize,
+    snapshots: Snapshots,
+) -> Result<Table, Fault>
+    requires { entry.now.stamp ≤ 4000000000 }
+    ensures told { IfOk result (λ table. D.Honest disk.new → TellsTable entry.now
+        (bytes_at (D.state disk.old).content chains.old index) (entry.now.name, kept_in table)) }
+    ensures played { IfOk result (λ table.
+        All (ShowsPlayOf kit.now (kept_in table).commands) (shown_of index snapshots.entry)
+        → IsPlayed kit.now table × IsPlayedTable kit.now (kept_in table)) }
+    ensures named { IfOk result (λ table. shown_of index snapshots.entry ≡ [] → HasItsSnapshots table) }
+    ensures writable { IfOk result (λ table. IsWritable (kept_in table)) }
+    ensures games { IfOk result (λ table. All SpellsItsGame (shown_of index snapshots.entry)) }
     ensures refused { IfErr result (IsOrBreaks Damage.Kept (D.Honest disk.new → entry.now.kept ≤ MOST_KEPT
         → (state : TableState)
         → TellsTable entry.now (bytes_at (D.state disk.old).content chains.old index) (entry.now.name, state)
@@ -173,6 +269,5 @@ fn restore<D: Disk>(
         return Err(Fault::Damaged(Damage::Kept));
     }
     table.resume(floor, entry.stamp);
-    let table = Box::new(alloc, table)?;
     Ok(table)
 }

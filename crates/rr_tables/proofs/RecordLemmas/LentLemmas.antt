@@ -1,11 +1,11 @@
 -- What tables that were played lend to a checkpoint is of their world.
-use Rattle.std.proofs.Common.{◌≡◌, ℕ, ◌+◌, zero, suc, ◌≤◌, List, [], ◌∷◌, ◌++◌, append_assoc, length, map, take, slice_get, Option, None, Some, All, refl, sym, ap, subst, ◌∙◌, arith}
+use Rattle.std.proofs.Common.{◌≡◌, ℕ, ◌+◌, zero, suc, ◌≤◌, List, [], ◌∷◌, ◌++◌, append_assoc, length, map, take, slice_get, Some, All, refl, sym, ap, subst, ◌∙◌, arith}
 use Rattle.std.proofs.Math.Logic.{∥∥₁_map}
 use Rattle.std.specs.Cmp.Lexicographic.{nat_list_eq_equiv}
 use Rattle.std.specs.Global.{Box}
 use Rattle.std.specs.Map.{values_of}
 use Rattle.std.proofs.lemmas.List.{length-append, length-map, length-take-le, take-map}
-use Rattle.std.proofs.lemmas.List.Elements.{All-append, All-cons, All-head, All-nil, All-tail}
+use Rattle.std.proofs.lemmas.List.Elements.{All-append, All-head, All-map, All-nil, All-tail}
 use Rattle.std.proofs.lemmas.Map.Views.{All-values_from_lookup}
 use Rattle.rr_code.specs.declared.command.Command.{Command}
 use Rattle.rr_code.specs.Command.{text}
@@ -24,8 +24,8 @@ use Rattle.rr_turns.specs.Turns.{AreLawful}
 use Rattle.rr_tables.specs.Lending.{PlayedTablesAreLent}
 use Rattle.rr_tables.specs.Records.Taking.{Shows, table_rules}
 use Rattle.rr_tables.specs.Records.Words.{AreCommands, KeepCommands, SpellCommands, in_words, kit_texts, table_in_words}
-use Rattle.rr_tables.specs.Tables.{kept_in_box, lent_game, lent_snapshots, world_by}
-use Rattle.rr_tables.proofs.LendingLemmas.{in_box, last_at, lent_can_be, of_place, one_lent}
+use Rattle.rr_tables.specs.Tables.{kept_in_box, lent_games, lent_snapshots, snapshot_at, world_by}
+use Rattle.rr_tables.proofs.LendingLemmas.{CanBeLent, all_among, in_box, lent_at}
 use Rattle.rr_tables.proofs.RecordLemmas.WordLemmas.{commands_are_spelled, one_of_words}
 
 -- the first of lawful commands
@@ -86,20 +86,20 @@ module _ (world : words.World) (kit : Kit) (right : SpellsKit (kit_texts world) 
   abbrev IsOfWorld : Snapshot → Type 0
   IsOfWorld snapshot = IsShown table_rules world snapshot.table snapshot.kept snapshot.bytes
 
-  -- the one of a table does, if one is lent
-  one_shown : (place : ℕ) (name : List ℕ) (table : Box Table) (o : Option Game) → lent_game table.value ≡ o
-      → slice_get world.tables place ≡ Some (table_in_words (name, kept_in_box table))
-      → AreCommands table.value.kept.commands → IsPlayed kit table.value → All IsOfWorld (one_lent place o)
-  one_shown place name table None is there all played = All-nil IsOfWorld
-  one_shown place name table (Some game) is there all played =
-      let lent = lent_can_be table.value game is in
-      let shown : IsShownOf kit table.value.kept.commands game = last_at (IsShownOf kit table.value.kept.commands) table.value game is played.snapshots in
-      All-cons IsOfWorld (of_place place game) []
-      (record {
+  -- each that is lent of a table does
+  table_shown : (place : ℕ) (name : List ℕ) (table : Box Table) → slice_get world.tables place ≡ Some (table_in_words (name, kept_in_box table))
+      → AreCommands table.value.kept.commands → IsPlayed kit table.value → All IsOfWorld (lent_at place table.value)
+  table_shown place name table there all played =
+      let commands = table.value.kept.commands in
+      let Is : Game → Type 0 = IsShownOf kit commands in
+      let Shown : Game → Type 0 = λ game. IsOfWorld (snapshot_at place game) in
+      let one : (game : Game) (count last : ℕ) → CanBeLent (length commands) count last game → Is game → Shown game = λ game count last lent shown. record {
         table = table_in_words (name, kept_in_box table);
         of_table = there;
-        shown = shows table.value.kept.commands game all played.lawful shown lent.some;
-      }) (All-nil IsOfWorld)
+        shown = shows commands game all played.lawful shown (omega (arith, lent.behind));
+      } in
+      All-map IsOfWorld (snapshot_at place) (lent_games table.value)
+      (all_among Is Shown (length commands) one 0 0 table.value.kept.snapshots played.snapshots)
 
   -- those of the tables behind a front of the world's tables do
   all_shown : (front : List words.Table) (entries : List (List ℕ × Box Table)) → world.tables ≡ front ++ map table_in_words (world_by kept_in_box entries)
@@ -111,10 +111,10 @@ module _ (world : words.World) (kit : Kit) (right : SpellsKit (kit_texts world) 
       let rest = map table_in_words (world_by kept_in_box es) in
       let there : slice_get world.tables (length front) ≡ Some written =
       ap (λ (ts : List words.Table). slice_get ts (length front)) is ∙ at_front front written rest in
-      let here = one_shown (length front) e.0 e.1 (lent_game e.1.value) refl there keep.0 (All-head (λ (t : Box Table). IsPlayed kit t.value) e.1 (values_of es) played) in
+      let here = table_shown (length front) e.0 e.1 there keep.0 (All-head (λ (t : Box Table). IsPlayed kit t.value) e.1 (values_of es) played) in
       let more = all_shown (front ++ written ∷ []) es (is ∙ sym (append_assoc front (written ∷ []) rest)) keep.1
       (All-tail (λ (t : Box Table). IsPlayed kit t.value) e.1 (values_of es) played) in
-      All-append IsOfWorld (one_lent (length front) (lent_game e.1.value)) (lent_snapshots (length front + 1) (map in_box es)) here
+      All-append IsOfWorld (lent_at (length front) e.1.value) (lent_snapshots (length front + 1) (map in_box es)) here
       (subst (λ (n : ℕ). All IsOfWorld (lent_snapshots n (map in_box es)))
       (length-append front (written ∷ [])) more)
     where

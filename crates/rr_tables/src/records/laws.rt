@@ -1,6 +1,6 @@
 //! What always holds of records, and of worlds and their words. The functions do nothing: a caller's proof cites what
 //! they ensure.
-ghost use Rattle.rr_tables.specs.Lending.{PlayedTablesAreLent};
+ghost use Rattle.rr_tables.specs.Lending.{PlayedTablesAreLent, TablesLendTheirSnapshots};
 ghost use Rattle.rr_tables.specs.Records.Headline as headline;
 ghost use Rattle.rr_tables.specs.Records.Laws as laws;
 ghost use Rattle.rr_tables.specs.Records.Schedules.{of_tables};
@@ -63,6 +63,12 @@ pub fn played_worlds_have_played_bases()
 /// and snapshots whose bytes show the games of its tables.
 pub fn played_tables_are_lent()
     ensures { PlayedTablesAreLent }
+{}
+
+/// A table that has its snapshots lends all of them, where each is short enough for a file: their counts rise, and there
+/// are no more than 64 of them.
+pub fn tables_lend_their_snapshots()
+    ensures { TablesLendTheirSnapshots }
 {}
 
 /// Requests for tables, their worlds and their files are such that the law over schedules speaks of them: what is kept

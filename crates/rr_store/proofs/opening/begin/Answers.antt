@@ -5,7 +5,7 @@ use Rattle.rr_log.specs.Opening.Opened.{held_by}
 use Rattle.rr_tables.specs.Records.Taking.{table_rules}
 use Rattle.rr_tables.specs.Records.Words.{in_words}
 use Rattle.rr_tables.specs.Tables.{world_of}
-use Rattle.rr_store.proofs.Recovering.{holds_kit, is_base, of_now, texts_same}
+use Rattle.rr_store.proofs.Recovering.{holds_kit, is_base, of_now, stand_in, texts_same}
 use Rattle.rr_store.proofs.Trusting.{true_snapshots}
 use Rattle.rr_store.proofs.opening.begin.Goals as goal
 
@@ -22,5 +22,5 @@ returns-clause-carries g c = λ texts found resting place read.
       played = r.played;
       file = subst (λ (d : g.row.D.Denot). Carries table_rules c.new-file.result (g.D.Disk.state d) (in_words texts (world_of recovered.tables))) (sym c.new-file.ensures.disk)
           (c.new-file.ensures.carries (g.D.Disk.state c.args.disk) (in_words texts (world_of recovered.tables)) read.carries resting
-          (holds_kit has is.texts recovered r texts layout read.is_read is.on_pages) (is_base has is.texts recovered r texts layout read.is_read _ place.begun));
+          (holds_kit has is.texts recovered r texts layout read.is_read is.on_pages) (stand_in has is.texts recovered r texts layout read.is_read recovered.standing.items is.standing) (is_base has is.texts recovered r texts layout read.is_read _ place.begun));
     }

@@ -37,9 +37,9 @@ returns-in-Ok-clause-stops g c = λ honest world carries.
     let there = subst (λ (disk : g.row.D.Denot). Carries g.R.Rules.rules planned (g.D.Disk.state disk) world) (sym c.plan.ensures.unchanged.disk)
     (c.plan.ensures.carries (g.D.Disk.state log.disk) world carries) in
     let starts =
-    starts_with codec planned.writer (g.D.Disk.state planned.disk) world c.in_ok-plan.plan (place_of planned).begun there.carried
+    starts_with codec planned.writer (g.D.Disk.state planned.disk) world c.in_ok-plan.field-0.plan (place_of planned).begun there.carried
     (λ found.
-    let plan = subst (λ (disk : g.row.D.Denot). IsPlanned g.R.Rules.rules planned c.in_ok-plan.plan (g.D.Disk.state disk) world carries.carried.layout (tables_due log.base (lent_of g.T.TablesInWords c.args.tables.now)).snapshots) (sym c.plan.ensures.unchanged.disk)
+    let plan = subst (λ (disk : g.row.D.Denot). IsPlanned g.R.Rules.rules planned c.in_ok-plan.field-0 (g.D.Disk.state disk) world carries.carried.layout (tables_due log.base (lent_of g.T.TablesInWords c.args.tables.now)).snapshots) (sym c.plan.ensures.unchanged.disk)
     (c.in_ok-plan.ensures.found (g.D.Disk.state log.disk) world (λ none. found (ap (λ (place : Place). place.begun) c.plan.ensures.unchanged.place ∙ none)) carries) in
     (plan.carries.carried, plan.may)) in
     subst (λ (disk : g.row.D.Denot). LeavesKept codec (g.D.Disk.past disk) (g.D.Disk.state disk) (g.D.Disk.past new) (g.D.Disk.state new) world) c.plan.ensures.unchanged.disk
@@ -54,9 +54,9 @@ returns-in-Err-clause-stops g c = λ honest world carries.
     let there = subst (λ (disk : g.row.D.Denot). Carries g.R.Rules.rules planned (g.D.Disk.state disk) world) (sym c.plan.ensures.unchanged.disk)
     (c.plan.ensures.carries (g.D.Disk.state log.disk) world carries) in
     let starts =
-    starts_with codec planned.writer (g.D.Disk.state planned.disk) world c.in_ok-plan.plan (place_of planned).begun there.carried
+    starts_with codec planned.writer (g.D.Disk.state planned.disk) world c.in_ok-plan.field-0.plan (place_of planned).begun there.carried
     (λ found.
-    let plan = subst (λ (disk : g.row.D.Denot). IsPlanned g.R.Rules.rules planned c.in_ok-plan.plan (g.D.Disk.state disk) world carries.carried.layout (tables_due log.base (lent_of g.T.TablesInWords c.args.tables.now)).snapshots) (sym c.plan.ensures.unchanged.disk)
+    let plan = subst (λ (disk : g.row.D.Denot). IsPlanned g.R.Rules.rules planned c.in_ok-plan.field-0 (g.D.Disk.state disk) world carries.carried.layout (tables_due log.base (lent_of g.T.TablesInWords c.args.tables.now)).snapshots) (sym c.plan.ensures.unchanged.disk)
     (c.in_ok-plan.ensures.found (g.D.Disk.state log.disk) world (λ none. found (ap (λ (place : Place). place.begun) c.plan.ensures.unchanged.place ∙ none)) carries) in
     (plan.carries.carried, plan.may)) in
     subst (λ (disk : g.row.D.Denot). LeavesKept codec (g.D.Disk.past disk) (g.D.Disk.state disk) (g.D.Disk.past new) (g.D.Disk.state new) world) c.plan.ensures.unchanged.disk
@@ -65,22 +65,22 @@ returns-in-Err-clause-stops g c = λ honest world carries.
 pub returns-in-Ok-clause-carries : goal.returns-in-Ok-clause-carries
 returns-in-Ok-clause-carries g c = λ honest whole world lent carries.
     let log = c.args.self.now in
-    let planned = subst (λ (disk : g.row.D.Denot). IsPlanned g.R.Rules.rules c.plan.new.self c.in_ok-plan.plan (g.D.Disk.state disk) world carries.carried.layout (tables_due log.base (lent_of g.T.TablesInWords c.args.tables.now)).snapshots) (sym c.plan.ensures.unchanged.disk)
+    let planned = subst (λ (disk : g.row.D.Denot). IsPlanned g.R.Rules.rules c.plan.new.self c.in_ok-plan.field-0 (g.D.Disk.state disk) world carries.carried.layout (tables_due log.base (lent_of g.T.TablesInWords c.args.tables.now)).snapshots) (sym c.plan.ensures.unchanged.disk)
     (c.in_ok-plan.ensures.plan (g.D.Disk.state log.disk) world lent carries) in
-    let left = some_behind (place_of c.plan.new.self).begun (length c.in_ok-plan.plan.fresh.items) (file.ticks_left_of c.begin.new.self) c.in_ok-plan.ensures.some c.in-Ok.ensures.left in
+    let left = some_behind (place_of c.plan.new.self).begun (length c.in_ok-plan.field-0.plan.fresh.items) (file.ticks_left_of c.begin.new.self) c.in_ok-plan.ensures.some c.in-Ok.ensures.left in
     begun_carries g.R.Rules.rules c.plan.new.self (g.D.Disk.state c.plan.new.self.disk) world planned.carries c.begin.new.disk c.begin.new.self (g.D.Disk.state c.begin.new.disk)
-    planned.may.holding planned.texts (omega (arith, left)) (c.in-Ok.ensures.carries honest world planned.carries.carried planned.may)
+    c.in_ok-plan.field-0.standing planned.may.holding planned.standing (omega (arith, left)) (c.in-Ok.ensures.carries honest world planned.carries.carried planned.may)
 
 pub returns-in-Ok-clause-starts : goal.returns-in-Ok-clause-starts
 returns-in-Ok-clause-starts g c = λ honest world lent carries.
     let log = c.args.self.now in
     let codec = worlds g.R.Rules.rules in
-    let planned = subst (λ (disk : g.row.D.Denot). IsPlanned g.R.Rules.rules c.plan.new.self c.in_ok-plan.plan (g.D.Disk.state disk) world carries.carried.layout (tables_due log.base (lent_of g.T.TablesInWords c.args.tables.now)).snapshots) (sym c.plan.ensures.unchanged.disk)
+    let planned = subst (λ (disk : g.row.D.Denot). IsPlanned g.R.Rules.rules c.plan.new.self c.in_ok-plan.field-0 (g.D.Disk.state disk) world carries.carried.layout (tables_due log.base (lent_of g.T.TablesInWords c.args.tables.now)).snapshots) (sym c.plan.ensures.unchanged.disk)
     (c.in_ok-plan.ensures.plan (g.D.Disk.state log.disk) world lent carries) in
-    let left = some_behind (place_of c.plan.new.self).begun (length c.in_ok-plan.plan.fresh.items) (file.ticks_left_of c.begin.new.self) c.in_ok-plan.ensures.some c.in-Ok.ensures.left in
+    let left = some_behind (place_of c.plan.new.self).begun (length c.in_ok-plan.field-0.plan.fresh.items) (file.ticks_left_of c.begin.new.self) c.in_ok-plan.ensures.some c.in-Ok.ensures.left in
     let begun = c.in-Ok.ensures.carries honest world planned.carries.carried planned.may in (
       begun_carries g.R.Rules.rules c.plan.new.self (g.D.Disk.state c.plan.new.self.disk) world planned.carries c.begin.new.disk c.begin.new.self (g.D.Disk.state c.begin.new.disk)
-          planned.may.holding planned.texts (omega (arith, left)) begun,
+          c.in_ok-plan.field-0.standing planned.may.holding planned.standing (omega (arith, left)) begun,
       record {
         root = begun.1.root ∙ ap (λ (l : Layout codec). l.root) planned.same;
         middle = begun.1.middle ∙ ap (λ (l : Layout codec). l.middle) planned.same;
@@ -92,12 +92,12 @@ pub returns-in-Ok-clause-holds : goal.returns-in-Ok-clause-holds
 returns-in-Ok-clause-holds g c = λ honest world lent carries.
     let log = c.args.self.now in
     let due = (tables_due log.base (lent_of g.T.TablesInWords c.args.tables.now)).snapshots in
-    let planned = subst (λ (disk : g.row.D.Denot). IsPlanned g.R.Rules.rules c.plan.new.self c.in_ok-plan.plan (g.D.Disk.state disk) world carries.carried.layout due) (sym c.plan.ensures.unchanged.disk)
+    let planned = subst (λ (disk : g.row.D.Denot). IsPlanned g.R.Rules.rules c.plan.new.self c.in_ok-plan.field-0 (g.D.Disk.state disk) world carries.carried.layout due) (sym c.plan.ensures.unchanged.disk)
     (c.in_ok-plan.ensures.plan (g.D.Disk.state log.disk) world lent carries) in
-    let left = some_behind (place_of c.plan.new.self).begun (length c.in_ok-plan.plan.fresh.items) (file.ticks_left_of c.begin.new.self) c.in_ok-plan.ensures.some c.in-Ok.ensures.left in
+    let left = some_behind (place_of c.plan.new.self).begun (length c.in_ok-plan.field-0.plan.fresh.items) (file.ticks_left_of c.begin.new.self) c.in_ok-plan.ensures.some c.in-Ok.ensures.left in
     let begun = c.in-Ok.ensures.carries honest world planned.carries.carried planned.may in (
       begun_carries g.R.Rules.rules c.plan.new.self (g.D.Disk.state c.plan.new.self.disk) world planned.carries c.begin.new.disk c.begin.new.self (g.D.Disk.state c.begin.new.disk)
-          planned.may.holding planned.texts (omega (arith, left)) begun,
+          c.in_ok-plan.field-0.standing planned.may.holding planned.standing (omega (arith, left)) begun,
       subst (λ (h : Holding). HoldsWorld carries.carried.layout.middle due h) (sym begun.1.coming) planned.all,
     )
 
@@ -109,9 +109,9 @@ returns-in-Err-clause-device g c = λ honest world carries.
     let there = subst (λ (disk : g.row.D.Denot). Carries g.R.Rules.rules planned (g.D.Disk.state disk) world) (sym c.plan.ensures.unchanged.disk)
     (c.plan.ensures.carries (g.D.Disk.state log.disk) world carries) in
     let starts =
-    starts_with codec planned.writer (g.D.Disk.state planned.disk) world c.in_ok-plan.plan (place_of planned).begun there.carried
+    starts_with codec planned.writer (g.D.Disk.state planned.disk) world c.in_ok-plan.field-0.plan (place_of planned).begun there.carried
     (λ found.
-    let plan = subst (λ (disk : g.row.D.Denot). IsPlanned g.R.Rules.rules planned c.in_ok-plan.plan (g.D.Disk.state disk) world carries.carried.layout (tables_due log.base (lent_of g.T.TablesInWords c.args.tables.now)).snapshots) (sym c.plan.ensures.unchanged.disk)
+    let plan = subst (λ (disk : g.row.D.Denot). IsPlanned g.R.Rules.rules planned c.in_ok-plan.field-0 (g.D.Disk.state disk) world carries.carried.layout (tables_due log.base (lent_of g.T.TablesInWords c.args.tables.now)).snapshots) (sym c.plan.ensures.unchanged.disk)
     (c.in_ok-plan.ensures.found (g.D.Disk.state log.disk) world (λ none. found (ap (λ (place : Place). place.begun) c.plan.ensures.unchanged.place ∙ none)) carries) in
     (plan.carries.carried, plan.may)) in
     c.in-Err.ensures.device honest world starts.0 starts.1
@@ -121,7 +121,7 @@ returns-in-Ok-clause-left g c = c.in-Ok.ensures.left ∙ (λ i. left_behind_firs
 
 pub returns-in-Ok-clause-some : goal.returns-in-Ok-clause-some
 returns-in-Ok-clause-some g c =
-    let pages = length c.in_ok-plan.plan.fresh.items in
+    let pages = length c.in_ok-plan.field-0.plan.fresh.items in
     some_behind (place_of c.plan.new.self).begun pages (file.ticks_left_of c.begin.new.self) c.in_ok-plan.ensures.some c.in-Ok.ensures.left
 
 pub returns-in-Ok-clause-most : goal.returns-in-Ok-clause-most
@@ -131,7 +131,7 @@ returns-in-Ok-clause-most g c =
 
 pub returns-in-Ok-clause-half : goal.returns-in-Ok-clause-half
 returns-in-Ok-clause-half g c =
-    let pages = length c.in_ok-plan.plan.fresh.items in
+    let pages = length c.in_ok-plan.field-0.plan.fresh.items in
     let old = (place_of c.plan.new.self).half in
     let new = (file.place_of c.begin.new.self).half in
     subst (λ (half : Half). (new ≡ half) ⊎ (4 ≤ file.ticks_left_of c.begin.new.self)) (ap (λ (place : Place). place.half) c.plan.ensures.unchanged.place)

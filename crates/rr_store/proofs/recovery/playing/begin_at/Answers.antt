@@ -2,7 +2,7 @@ use Rattle.std.proofs.Common.{All, Option, List, Some, subst}
 use Rattle.rr_code.specs.declared.command.Command.{Command}
 use Rattle.rr_game.specs.declared.game.Game.{Game}
 use Rattle.rr_store.specs.Recovery.Shown.{IsLast, IsPlayWithin}
-use Rattle.rr_store.proofs.RecoveryLemmas.KeepingLemmas.{begun_front, begun_refused, last_played, last_refused}
+use Rattle.rr_store.proofs.RecoveryLemmas.KeepingLemmas.{begun_front, begun_refused, last_named, last_played, last_refused}
 use Rattle.rr_store.proofs.recovery.playing.begin_at.Goals as goal
 
 pub returns-in-Some-clause-played : goal.returns-in-Some-clause-played
@@ -11,6 +11,13 @@ returns-in-Some-clause-played g c =
     let is : IsLast games (Some c.in-Some.game) =
     subst (λ (last : Option Game). IsLast games last) c.in-Some.is (subst (λ (gs : List Game). IsLast gs c.in_ok-last.last) c.snapshots.ensures c.in_ok-last.ensures.last) in
     last_played c.args.kit.now c.in-Some.game games is c.recall.result c.recall.ensures.recalled
+
+pub returns-in-Some-clause-named : goal.returns-in-Some-clause-named
+returns-in-Some-clause-named g c =
+    let games = c.args.kept.snapshots in
+    let is : IsLast games (Some c.in-Some.game) =
+    subst (λ (last : Option Game). IsLast games last) c.in-Some.is (subst (λ (gs : List Game). IsLast gs c.in_ok-last.last) c.snapshots.ensures c.in_ok-last.ensures.last) in
+    last_named c.args.kit.now c.in-Some.game games is c.recall.result
 
 pub returns-in-Some-clause-refused : goal.returns-in-Some-clause-refused
 returns-in-Some-clause-refused g c =

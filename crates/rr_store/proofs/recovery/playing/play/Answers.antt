@@ -14,4 +14,5 @@ returns-in-Ok-clause-played c =
       spelled = c.in_ok-command.ensures;
       kept = c.in-Ok.ensures.kept;
       played = c.in-Ok.ensures.played;
+      named = c.in-Ok.ensures.named;
     }

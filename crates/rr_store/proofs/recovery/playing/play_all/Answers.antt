@@ -2,7 +2,7 @@ use Rattle.std.proofs.Common.{◌≡◌, ◌≢◌, ◌<◌, ◌-◌, ℕ, List,
 use Rattle.std.proofs.lemmas.Result.{err_from_is_err_and}
 use Rattle.rr_disk.specs.Disk.{DiskState}
 use Rattle.rr_game.specs.declared.history.table.Table.{Table}
-use Rattle.rr_game.specs.History.Tables.{IsPlayed, kept_in}
+use Rattle.rr_game.specs.History.Tables.{HasItsSnapshots, IsPlayed, kept_in}
 use Rattle.rr_pages.specs.declared.fault.Damage.TheVariants as D
 use Rattle.rr_reading.specs.Lending.Commands.{bytes_at, rest_of}
 use Rattle.rr_reading.proofs.LendingLemmas.CommandLemmas.{at_false, at_true}
@@ -11,9 +11,9 @@ use Rattle.rr_store.specs.declared.recovery.fault.Fault.TheVariants as F
 use Rattle.rr_store.specs.Recovery.Fault.{IsOrBreaks}
 use Rattle.rr_store.specs.Recovery.Kept.{AreWorded, HoldsCommands}
 use Rattle.rr_store.specs.Recovery.Playing.{KeepsFront, PlaysNext, PlaysNoMore}
-use Rattle.rr_store.specs.Recovery.Shown.{ShowsPlayOf, shown_of}
-use Rattle.rr_store.proofs.RecoveryLemmas.PlayingLemmas.{breaks, breaks_so, ends, ends_early, front_before, goes_on, held_front, or_breaks, starts, too_many}
-use Rattle.rr_store.proofs.RecoveryLemmas.ShownLemmas.{are_within, show_games}
+use Rattle.rr_store.specs.Recovery.Shown.{ShowsPlayOf, SpellsItsGame, shown_of}
+use Rattle.rr_store.proofs.RecoveryLemmas.PlayingLemmas.{breaks, breaks_so, ends, ends_early, front_before, goes_on, held_front, or_breaks, played_whole, starts, too_many}
+use Rattle.rr_store.proofs.RecoveryLemmas.ShownLemmas.{are_within, none_read, read_are_games, show_games}
 use Rattle.rr_store.proofs.recovery.playing.play_all.Goals as goal
 
 content : DiskState → List ℕ
@@ -71,6 +71,8 @@ commands-init g c =
       played = λ commands front shown.
           c.in_ok-table.ensures.played commands front
           (are_within c.args.kit.now commands (shown_of c.args.index c.args.snapshots) c.in_ok-kept.kept.snapshots c.in_ok-kept.ensures.shown shown);
+      named = λ none. c.in_ok-table.ensures.named (none_read (shown_of c.args.index c.args.snapshots) c.in_ok-kept.kept.snapshots c.in_ok-kept.ensures.shown none);
+      floor = c.in_ok-table.ensures.floor;
       worded = c.in_ok-table.ensures.worded;
       all = c.in_ok-table.ensures.all ∙ c.turn_to.ensures.all;
       pages = c.in_ok-table.ensures.pages ∙ c.turn_to.ensures.pages;
@@ -99,6 +101,9 @@ commands-preserved g c =
           goes_on c.args.kit.now bytes (rest_of file old) (rest_of file c.play_next.new.chains) plays.words c.commands.left (c.commands.left - 1) c.args.count c.commands.table c.play_next.new.table (c.commands.invariant.so_far before) plays.passed (omega (arith, some)) plays.has_played;
       played = λ commands front shown.
           c.in_ok-more.ensures.played (c.commands.invariant.played commands (front_before _ _ _ c.in_ok-more.ensures.front front) shown);
+      named = λ none.
+          c.in_ok-more.ensures.named (played_whole c.args.kit.now (shown_of c.args.index c.args.snapshots) c.commands.table c.commands.invariant.played none) (c.commands.invariant.named none);
+      floor = c.in_ok-more.ensures.floor ∙ c.commands.invariant.floor;
       worded = c.in_ok-more.ensures.worded c.commands.invariant.worded;
       all = c.in_ok-more.ensures.all ∙ c.commands.invariant.all;
       pages = c.in_ok-more.ensures.pages ∙ c.commands.invariant.pages;
@@ -147,6 +152,21 @@ returns-then-not-more-clause-played g c =
     let shown = shown_of c.args.index c.args.snapshots in
     whole_is (λ table. All (ShowsPlayOf c.args.kit.now (kept_in table).commands) shown → IsPlayed c.args.kit.now table) c.play_next.new.table c.commands.left c.whole.result c.whole.ensures (λ none shows.
     c.in_ok-more.ensures.played (c.commands.invariant.played (kept_in c.play_next.new.table).commands c.in_ok-more.ensures.front shows))
+
+pub returns-then-not-more-clause-named : goal.returns-then-not-more-clause-named
+returns-then-not-more-clause-named g c =
+    let shown = shown_of c.args.index c.args.snapshots in
+    whole_is (λ table. shown ≡ [] → HasItsSnapshots table) c.play_next.new.table c.commands.left c.whole.result c.whole.ensures (λ left none.
+    c.in_ok-more.ensures.named (played_whole c.args.kit.now shown c.commands.table c.commands.invariant.played none) (c.commands.invariant.named none))
+
+pub returns-then-not-more-clause-floor : goal.returns-then-not-more-clause-floor
+returns-then-not-more-clause-floor g c =
+    whole_is (λ table. (kept_in table).floor ≡ 0) c.play_next.new.table c.commands.left c.whole.result c.whole.ensures (λ none. c.in_ok-more.ensures.floor ∙ c.commands.invariant.floor)
+
+pub returns-then-not-more-clause-games : goal.returns-then-not-more-clause-games
+returns-then-not-more-clause-games g c =
+    let shown = shown_of c.args.index c.args.snapshots in
+    whole_is (λ table. All SpellsItsGame shown) c.play_next.new.table c.commands.left c.whole.result c.whole.ensures (λ none. read_are_games shown c.in_ok-kept.kept.snapshots c.in_ok-kept.ensures.shown)
 
 pub returns-then-not-more-clause-worded : goal.returns-then-not-more-clause-worded
 returns-then-not-more-clause-worded g c =

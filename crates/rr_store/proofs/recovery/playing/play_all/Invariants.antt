@@ -1,6 +1,6 @@
-use Rattle.std.proofs.Common.{◌≡◌, All, List}
+use Rattle.std.proofs.Common.{◌≡◌, All, List, []}
 use Rattle.rr_code.specs.declared.command.Command.{Command}
-use Rattle.rr_game.specs.History.Tables.{IsPlayed, kept_in}
+use Rattle.rr_game.specs.History.Tables.{HasItsSnapshots, IsPlayed, kept_in}
 use Rattle.rr_reading.specs.Lending.Chains.{all_of, count_of}
 use Rattle.rr_reading.specs.Lending.Commands.{bytes_at, rest_of, steps_left_of}
 use Rattle.rr_store.specs.Recovery.Kept.{AreWorded}
@@ -14,6 +14,8 @@ invariant-commands g l =
     record {
       so_far : g.D.Disk.Honest l.disk → IsPlaying (bytes_at (g.D.Disk.state l.fn.disk).content l.fn.chains l.fn.index) (rest_of (g.D.Disk.state l.fn.disk).content l.chains) l.left l.fn.count l.table;
       played : (commands : List Command) → IsFrontOf (kept_in l.table).commands commands → All (ShowsPlayOf l.kit commands) (shown_of l.fn.index l.fn.snapshots) → IsPlayed l.kit l.table;
+      named : shown_of l.fn.index l.fn.snapshots ≡ [] → HasItsSnapshots l.table;
+      floor : (kept_in l.table).floor ≡ 0;
       worded : AreWorded (kept_in l.table).commands;
       all : all_of l.chains.chains ≡ all_of l.fn.chains.chains;
       pages : count_of l.chains.chains ≡ count_of l.fn.chains.chains;

@@ -1,4 +1,4 @@
-use Rattle.rr_store.proofs.RecoveryLemmas.LentLemmas.{lent_short, lent_words, played_never, played_worded}
+use Rattle.rr_store.proofs.RecoveryLemmas.LentLemmas.{lent_short, lent_words, played_named, played_never, played_worded}
 use Rattle.rr_store.proofs.recovery.playing.play_next.Goals as goal
 
 pub returns-in-Ok-Some-clause-worded : goal.returns-in-Ok-Some-clause-worded
@@ -11,3 +11,6 @@ returns-in-Ok-Some-clause-refused g c =
     played_never c.args.kit.now file c.in-Ok-Some.words.now c.args.chains.now c.next.follows.lender-at-none
     (lent_words file c.args.chains.now c.next.follows.lender-at-none c.next.result c.in-Ok-Some.field-0 c.in-Ok-Some.words c.in-Ok-Some.is c.in-Ok-Some.field-0-is c.next.follows.holds-at-none.0)
     c.args.table.now c.args.left c.play_one.result c.play_one.ensures.refused
+
+pub returns-in-Ok-Some-clause-named : goal.returns-in-Ok-Some-clause-named
+returns-in-Ok-Some-clause-named g c = played_named c.args.kit.now c.in-Ok-Some.words.now c.args.table.now c.play_one.new.table c.play_one.result c.play_one.ensures.played

@@ -22,4 +22,5 @@ loop-bytes-preserved c =
           (c.deref.ensures.value ∙ ap bytes_of c.bytes-item.is) c.loop-bytes.invariant.kit (c.loop-bytes.invariant.so_far played) (c.in_ok-replay_record.ensures.taken (c.loop-bytes.invariant.played played));
       kit = c.replay_record.ensures.kit ∙ c.loop-bytes.invariant.kit;
       played = λ played. c.replay_record.ensures.played (c.loop-bytes.invariant.played played);
+      snapshots = λ played had. c.replay_record.ensures.snapshots (c.loop-bytes.invariant.played played) (c.loop-bytes.invariant.snapshots played had);
     }

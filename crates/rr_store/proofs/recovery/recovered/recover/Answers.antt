@@ -1,6 +1,8 @@
-use Rattle.std.proofs.Common.{◌≡◌, List, inr, map, refl, ap, subst, ◌∙◌}
+use Rattle.std.proofs.Common.{◌≡◌, List, inr, length, map, refl, sym, ap, subst, ◌∙◌}
 use Rattle.std.proofs.lemmas.List.{length-map}
 use Rattle.std.proofs.lemmas.Result.{err_from_is_err_and}
+use Rattle.rr_checkpoint.specs.declared.plan.standing.StandingSnapshot.{StandingSnapshot}
+use Rattle.rr_checkpoint.specs.Plan.Standing.{standing_chains}
 use Rattle.rr_images.specs.Holding.{HeldChain}
 use Rattle.rr_log.specs.Opening.Opened.{held_by}
 use Rattle.rr_pages.specs.Journal.Reading.{lines}
@@ -10,8 +12,8 @@ use Rattle.rr_reading.specs.Held.{tables_in}
 use Rattle.rr_reading.specs.declared.dir.directory.SnapshotEntry.{SnapshotEntry}
 use Rattle.rr_reading.specs.declared.dir.directory.TableEntry.{TableEntry}
 use Rattle.rr_tables.specs.Tables.{world_of}
-use Rattle.rr_store.specs.Recovery.Base.{IsRightBase, Named}
-use Rattle.rr_store.proofs.RecoveryLemmas.Recovered.{PlaysThem, bad_record, recovered_from, refuses_memory, refuses_read, refuses_records}
+use Rattle.rr_store.specs.Recovery.Base.{Named}
+use Rattle.rr_store.proofs.RecoveryLemmas.Recovered.{PlaysThem, bad_record, recovered_from, refuses_memory, refuses_read, refuses_records, right_read}
 use Rattle.rr_store.proofs.recovery.recovered.recover.Goals as goal
 
 -- what a root names, of which the snapshots' chains were read
@@ -23,13 +25,20 @@ same_named : (chains : List HeldChain) (entries tables : List TableEntry) (shown
     → named entries chains shown read ≡ named tables chains snapshots kept
 same_named chains entries tables shown snapshots read kept p q r = λ i. named (p i) chains (q i) (r i)
 
+-- of as many entries as chains
+
+stand_read : (entries own : List SnapshotEntry) (read kept : List ReadChain) (standing : List StandingSnapshot) → entries ≡ own → read ≡ kept
+    → (length entries ≡ length read → standing_chains standing ≡ map held read) → length own ≡ length (map held kept) → standing_chains standing ≡ map held kept
+stand_read entries own read kept standing p q stand as_many =
+    stand (ap length p ∙ (as_many ∙ (length-map kept held ∙ ap length (sym q)))) ∙ ap (λ (chains : List ReadChain). map held chains) q
+
 pub returns-in_err-tables-clause-refused : goal.returns-in_err-tables-clause-refused
 returns-in_err-tables-clause-refused g c =
     let p = err_from_is_err_and c.from_residual.result c.from_residual.ensures.1 in
     let file = (g.D.Disk.state c.args.disk.now).content in
     let same = same_named (tables_in file c.args.opened.now.tables) _ _ _ _ _ _ c.deref-3.ensures.value c.deref.ensures.value c.deref-2.ensures.value in
     rw (p.1, p.2)
-    (λ honest holds. refuses_read file (held_by file c.args.opened.now) holds _ _ same (λ many are. c.in_err-tables.ensures.refused honest (many ∙ length-map _ _) are))
+    (λ honest holds. refuses_read file (held_by file c.args.opened.now) holds _ _ same (c.in_err-tables.ensures.refused honest))
 
 pub returns-in_err-base-clause-refused : goal.returns-in_err-base-clause-refused
 returns-in_err-base-clause-refused g c =
@@ -40,7 +49,7 @@ returns-in_err-base-clause-refused g c =
     let same = same_named (tables_in file c.args.opened.now.tables) _ _ _ _ _ _ c.deref-3.ensures.value c.deref.ensures.value c.deref-2.ensures.value in
     rw (p.1, p.2)
     (λ honest holds.
-    let right = subst (λ (n : Named). IsRightBase n has.texts tables.kit (world_of tables)) same (c.in_ok-tables.ensures.right honest) in
+    let right = right_read file has holds _ tables.kit (world_of tables) same (c.in_ok-tables.ensures.right honest) in
     refuses_records file has holds tables right (lines c.deref-4.result.now) (lines c.deref-5.result.now) _ (ap lines c.deref-4.ensures.value) (ap lines c.deref-5.ensures.value)
     (subst (λ (n : Named). PlaysThem n tables) same c.in_ok-tables.ensures.played) c.in_err-base.ensures.refused)
 
@@ -50,7 +59,7 @@ returns-then-is_damaged-clause-refused g c = λ honest holds.
     let has = held_by file c.args.opened.now in
     let tables = c.in_ok-tables.tables in
     let same = same_named (tables_in file c.args.opened.now.tables) _ _ _ _ _ _ c.deref-3.ensures.value c.deref.ensures.value c.deref-2.ensures.value in
-    let right = subst (λ (n : Named). IsRightBase n has.texts tables.kit (world_of tables)) same (c.in_ok-tables.ensures.right honest) in
+    let right = right_read file has holds _ tables.kit (world_of tables) same (c.in_ok-tables.ensures.right honest) in
     bad_record file has holds tables right (subst (λ (n : Named). PlaysThem n tables) same c.in_ok-tables.ensures.played) (λ played. inr (c.if-is_damaged.ensures.0 refl))
 
 pub returns-in_err-kit-clause-refused : goal.returns-in_err-kit-clause-refused
@@ -62,8 +71,20 @@ returns-in_err-kit-clause-refused g c =
     let same = same_named (tables_in file c.args.opened.now.tables) _ _ _ _ _ _ c.deref-3.ensures.value c.deref.ensures.value c.deref-2.ensures.value in
     rw (p.1, p.2)
     (λ honest holds.
-    let right = subst (λ (n : Named). IsRightBase n has.texts tables.kit (world_of tables)) same (c.in_ok-tables.ensures.right honest) in
+    let right = right_read file has holds _ tables.kit (world_of tables) same (c.in_ok-tables.ensures.right honest) in
     refuses_memory file has holds tables right _ c.in_err-kit.ensures.memory)
+
+pub returns-in_err-standing-clause-refused : goal.returns-in_err-standing-clause-refused
+returns-in_err-standing-clause-refused g c =
+    let p = err_from_is_err_and c.from_residual-in_err-standing.result c.from_residual-in_err-standing.ensures.1 in
+    let file = (g.D.Disk.state c.args.disk.now).content in
+    let has = held_by file c.args.opened.now in
+    let tables = c.in_ok-tables.tables in
+    let same = same_named (tables_in file c.args.opened.now.tables) _ _ _ _ _ _ c.deref-3.ensures.value c.deref.ensures.value c.deref-2.ensures.value in
+    rw (p.1, p.2)
+    (λ honest holds.
+    let right = right_read file has holds _ tables.kit (world_of tables) same (c.in_ok-tables.ensures.right honest) in
+    refuses_memory file has holds tables right _ c.in_err-standing.ensures.memory)
 
 pub returns-clause-recovered : goal.returns-clause-recovered
 returns-clause-recovered g c = λ honest holds.
@@ -71,7 +92,8 @@ returns-clause-recovered g c = λ honest holds.
     let has = held_by file c.args.opened.now in
     let tables = c.in_ok-tables.tables in
     let same = same_named (tables_in file c.args.opened.now.tables) _ _ _ _ _ _ c.deref-3.ensures.value c.deref.ensures.value c.deref-2.ensures.value in
-    let right = subst (λ (n : Named). IsRightBase n has.texts tables.kit (world_of tables)) same (c.in_ok-tables.ensures.right honest) in
-    recovered_from file has holds tables right c.replay_halves.new.tables c.in_ok-kit.kit c.in_ok-base.base (lines c.deref-4.result.now) (lines c.deref-5.result.now)
+    let right = right_read file has holds _ tables.kit (world_of tables) same (c.in_ok-tables.ensures.right honest) in
+    recovered_from file has holds tables right c.replay_halves.new.tables c.in_ok-kit.kit c.in_ok-standing.standing c.in_ok-base.base (lines c.deref-4.result.now) (lines c.deref-5.result.now)
     (ap lines c.deref-4.ensures.value) (ap lines c.deref-5.ensures.value) c.replay_halves.ensures.kit (subst (λ (n : Named). PlaysThem n tables) same c.in_ok-tables.ensures.played)
-    c.in_ok-base.ensures.replayed c.replay_halves.ensures.played (λ damaged. absurd (cc (c.if-is_damaged.ensures.1 damaged))) c.in_ok-kit.ensures.pages
+    c.in_ok-base.ensures.replayed c.replay_halves.ensures.played c.in_ok-tables.ensures.snapshots c.replay_halves.ensures.snapshots (λ damaged. absurd (cc (c.if-is_damaged.ensures.1 damaged))) c.in_ok-kit.ensures.pages
+    (stand_read _ _ _ _ c.in_ok-standing.standing.items c.deref-6.ensures.value c.deref-7.ensures.value c.in_ok-standing.ensures.chains)

@@ -12,7 +12,7 @@ returns-clause-put g c =
     let played =
     subst (λ (kit : Kit). All (ShowsPlayOf kit (kept_in table).commands) shown → IsPlayed kit table × IsPlayedTable kit (kept_in table)) c.kit.ensures c.in_ok-table.ensures.played in (
       kept_in table,
-      record { spelled = c.in_ok-table.ensures.spelled; last = c.put.ensures.last },
+      record { last = c.put.ensures.last },
       c.in_ok-table.ensures.told,
       λ shows. ((played shows).1, λ old. c.put.ensures.played old (played shows).0),
     )

@@ -1,4 +1,4 @@
-use Rattle.std.proofs.Common.{◌≡◌, ◌<◌, ◌∙◌, ℕ, List, length, map, arith, rules}
+use Rattle.std.proofs.Common.{◌≡◌, ◌<◌, ◌∙◌, ℕ, All, List, length, map, arith, below_more, rules}
 use Rattle.std.proofs.lemmas.List.{length-map}
 use Rattle.std.proofs.lemmas.Result.{err_from_is_err_and}
 use Rattle.rr_disk.specs.Disk.{DiskState}
@@ -10,8 +10,9 @@ use Rattle.rr_reading.specs.Lending.Fitting.{links_at}
 use Rattle.rr_reading.specs.Lending.Pages.{joined}
 use Rattle.rr_reading.proofs.FormLemmas.{get_held, held_at}
 use Rattle.rr_tables.specs.Tables.{world_of}
+use Rattle.rr_store.specs.Recovery.Shown.{SpellsItsGame, shown_of}
 use Rattle.rr_store.proofs.RecoveryLemmas.PlayingLemmas.{breaks_so}
-use Rattle.rr_store.proofs.RecoveryLemmas.RestoringLemmas.{count_put, keep_put, played_put, told_end, told_put}
+use Rattle.rr_store.proofs.RecoveryLemmas.RestoringLemmas.{count_put, played_put, told_end, told_put}
 use Rattle.rr_store.proofs.recovery.tables.restore_tables.Goals as goal
 
 content : DiskState → List ℕ
@@ -24,16 +25,16 @@ returns-in_err-restore_table-clause-refused g c =
     let index = c.loop-index.index in
     let within : index < length c.args.entries.now = c.loop-index-test.true in
     let all = all_of c.args.chains.now.chains in
-    let chain_in : index < length all = omega (arith, within, c.requires) in
     let file = (g.D.Disk.state c.args.disk.now).content in
     let now = (g.D.Disk.state c.loop-index.disk).content in
     rw (p.1, p.2)
-    (breaks_so _ c.in_err-restore_table.ensures.refused (λ refused honest.
+    (breaks_so _ c.in_err-restore_table.ensures.refused (λ refused honest as_many.
+    let chain_in : index < length all = omega (arith, within, as_many) in
     let before = c.in_err-restore_table.ensures.honest honest in
     let bytes : bytes_at now c.loop-index.chains index ≡ joined file (links_at all index) = λ i. joined (content (c.loop-index.invariant.same_state before i)) (links_at (c.loop-index.invariant.all i) index) in
     told_end c.args.kit c.args.snapshots.entries.now (map held c.args.snapshots.chains.now) c.loop-index.tables.kit c.args.entries.now (tables_in file c.args.chains.now) index c.index-entries-index.result
     (held_at file all index) (bytes_at now c.loop-index.chains index) (world_of c.loop-index.tables) within (omega (arith, chain_in, length-map all (held_in file))) c.index-entries-index.is
-    (get_held file all index (held_at file all index) chain_in) bytes c.loop-index.invariant.kit (c.loop-index.invariant.told before) (refused honest)))
+    (get_held file all index (held_at file all index) chain_in) bytes c.loop-index.invariant.kit (c.loop-index.invariant.told before as_many) (refused honest)))
 
 pub loop-index-preserved : goal.loop-index-preserved
 unfolding content
@@ -41,7 +42,6 @@ loop-index-preserved g c =
     let index = c.loop-index.index in
     let within : index < length c.args.entries.now = c.loop-index-test.true in
     let all = all_of c.args.chains.now.chains in
-    let chain_in : index < length all = omega (arith, within, c.requires) in
     let file = (g.D.Disk.state c.args.disk.now).content in
     let now = (g.D.Disk.state c.loop-index.disk).content in
     let entry = c.index-entries-index.result in
@@ -49,17 +49,19 @@ loop-index-preserved g c =
     let new = world_of c.restore_table.new.tables in
     let put = c.in_ok-restore_table.ensures.put in
     record {
-      told = λ honest.
+      told = λ honest as_many.
+          let chain_in : index < length all = omega (arith, within, as_many) in
           let before = c.in_ok-restore_table.ensures.honest honest in
           let bytes : bytes_at now c.loop-index.chains index ≡ joined file (links_at all index) = λ i. joined (content (c.loop-index.invariant.same_state before i)) (links_at (c.loop-index.invariant.all i) index) in
           told_put c.args.entries.now (tables_in file c.args.chains.now) index entry (held_at file all index) (bytes_at now c.loop-index.chains index) old new put.0 within
           (omega (arith, chain_in, length-map all (held_in file))) c.index-entries-index.is (get_held file all index (held_at file all index) chain_in) bytes
-          (c.loop-index.invariant.told before) put.1 (put.2 honest);
+          (c.loop-index.invariant.told before as_many) put.1 (put.2 honest);
       counted = count_put entry old new put.0 index put.1 c.loop-index.invariant.counted;
       kit = c.restore_table.ensures.kit ∙ c.loop-index.invariant.kit;
       played = played_put c.args.kit c.args.snapshots.entries.now (map held c.args.snapshots.chains.now) c.loop-index.tables.kit index entry c.loop-index.tables c.restore_table.new.tables put.0 c.loop-index.invariant.kit put.1
           c.loop-index.invariant.counted c.loop-index.invariant.played put.3;
-      spelled = keep_put entry old new put.0 c.loop-index.invariant.spelled put.1;
+      snapshots = c.in_ok-restore_table.ensures.snapshots c.loop-index.invariant.snapshots;
+      games = below_more (λ place. All SpellsItsGame (shown_of place c.args.snapshots)) index c.loop-index.invariant.games c.in_ok-restore_table.ensures.games;
       all = c.restore_table.ensures.all ∙ c.loop-index.invariant.all;
       pages = c.restore_table.ensures.pages ∙ c.loop-index.invariant.pages;
       honest = search rules;
@@ -71,3 +73,6 @@ loop-index-preserved g c =
       works = search rules;
       same_len = search rules;
     }
+
+pub returns-clause-games : goal.returns-clause-games
+returns-clause-games g c = λ place within. c.loop-index.invariant.games place (omega (arith, within, c.loop-index-test.false))

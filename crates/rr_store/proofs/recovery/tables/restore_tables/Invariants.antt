@@ -1,21 +1,21 @@
-use Rattle.std.proofs.Common.{◌≡◌, length, take}
+use Rattle.std.proofs.Common.{◌≡◌, ℕ, ◌<◌, All, length, take}
 use Rattle.rr_reading.specs.Held.{tables_in}
 use Rattle.rr_reading.specs.Lending.Chains.{all_of, count_of}
 use Rattle.rr_tables.specs.Records.Played.{ArePlayedTables}
-use Rattle.rr_tables.specs.Records.Words.{KeepCommands}
-use Rattle.rr_tables.specs.Tables.{ArePlayed, world_of}
-use Rattle.rr_store.specs.Recovery.Shown.{AreShown}
+use Rattle.rr_tables.specs.Tables.{ArePlayed, HaveTheirSnapshots, world_of}
+use Rattle.rr_store.specs.Recovery.Shown.{AreShown, SpellsItsGame, shown_of}
 use Rattle.rr_store.specs.Recovery.Told.{TellTables}
 use Rattle.rr_store.proofs.recovery.tables.restore_tables.Given as goal
 
 abbrev pub invariant-loop-index : goal.invariant-loop-index
 invariant-loop-index g l =
     record {
-      told : g.D.Disk.Honest l.disk → TellTables (take l.index l.entries) (take l.index (tables_in (g.D.Disk.state l.fn.disk).content l.fn.chains)) (world_of l.tables);
+      told : g.D.Disk.Honest l.disk → length l.entries ≡ length (all_of l.fn.chains.chains) → TellTables (take l.index l.entries) (take l.index (tables_in (g.D.Disk.state l.fn.disk).content l.fn.chains)) (world_of l.tables);
       counted : length (world_of l.tables) ≡ l.index;
       kit : l.tables.kit ≡ l.fn.kit;
       played : AreShown l.fn.kit l.snapshots (world_of l.tables) → ArePlayed l.tables × ArePlayedTables l.fn.kit (world_of l.tables);
-      spelled : KeepCommands (world_of l.tables);
+      snapshots : HaveTheirSnapshots l.tables;
+      games : (place : ℕ) → place < l.index → All SpellsItsGame (shown_of place l.snapshots);
       all : all_of l.chains.chains ≡ all_of l.fn.chains.chains;
       pages : count_of l.chains.chains ≡ count_of l.fn.chains.chains;
       honest : g.D.Disk.Honest l.disk → g.D.Disk.Honest l.fn.disk;

@@ -9,7 +9,7 @@ use Rattle.rr_tables.specs.Changing.{HasRoomIn, IsChangeOf}
 use Rattle.rr_tables.specs.Records.Words.{table_in_words}
 use Rattle.rr_tables.specs.Tables.{kept_in_box, lent_snapshots, world_by}
 use Rattle.rr_tables.specs.Writable.{IsWritable}
-use Rattle.rr_tables.proofs.LendingLemmas.{in_box, lent_game_same, lent_set}
+use Rattle.rr_tables.proofs.LendingLemmas.{in_box, lent_games_same, lent_set}
 use Rattle.rr_tables.proofs.PlayedTables.{if_written, played_at, same_change, shows_at}
 use Rattle.rr_tables.proofs.WorldLemmas.{world_same}
 use Rattle.rr_tables.proofs.tables.Tables.reserve.Goals as goal
@@ -50,7 +50,7 @@ returns-clause-same c =
     let lent =
     ap (λ (es : List (List ℕ × Box Table)). lent_snapshots 0 (map in_box es)) written.0
     ∙ lent_set 0 c.args.name.now c.args.self.now.map.entries c.in-Some.table.now c.make_room.new.table
-    (lent_game_same c.in-Some.table.now.value c.make_room.new.table.value c.make_room.ensures.kept c.make_room.ensures.snapshots) there in
+    (lent_games_same c.in-Some.table.now.value c.make_room.new.table.value c.make_room.ensures.kept c.make_room.ensures.snapshots) there in
     record {
       kit = refl;
       world = world;

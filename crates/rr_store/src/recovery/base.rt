@@ -1,0 +1,180 @@
+//! The tables of a root before its records: what was read is taken as it comes, and where it is refused, it is asked
+//! first whether the file's form is broken.
+ghost use Rattle.std.specs.Prelude.{◌≡◌, ◌↔◌, ◌*◌, ◌<◌, IfOk, IfErr, IsTrue};
+ghost use Rattle.rr_kit.specs.Kits.{SpellsKit};
+ghost use Rattle.rr_pages.specs.declared.page.TheConstants.{PAGE_BYTES};
+ghost use Rattle.rr_reading.specs.Held.{TextChains, chains_held};
+ghost use Rattle.rr_reading.specs.Lending.Chains.{all_of, count_of};
+ghost use Rattle.rr_store.specs.Recovery.Base.{IsOfDirectory, IsRightBase, IsWellFormed, RefusesBase, TellsInPlace, named_by};
+ghost use Rattle.rr_store.specs.Recovery.Fault.{CountsFault, CountsTold, IsOfDevice, OnDeviceFault, WhereDeviceTold};
+ghost use Rattle.rr_store.specs.Recovery.Shown.{AreShown};
+ghost use Rattle.rr_store.specs.Recovery.Texts.{texts_in};
+ghost use Rattle.rr_tables.specs.Records.Played.{ArePlayedTables};
+ghost use Rattle.rr_tables.specs.Tables.{ArePlayed, HaveTheirSnapshots, world_of};
+
+use crate::recovery::Fault;
+use crate::recovery::shown::{Snapshots, tell_games};
+use crate::recovery::tables::restore_tables;
+use crate::recovery::texts::read_kit;
+use crate::recovery::words::tell_words;
+use rr_disk::Disk;
+use rr_pages::Damage;
+use rr_reading::KitTexts;
+use rr_reading::dir::TableEntry;
+use rr_reading::lending::Commands;
+use rr_tables::Tables;
+use std::alloc::Global;
+
+/// The tables of the root, before its records. Each kept command is read once.
+pub(crate) fn recover_base<D: Disk>(
+    alloc: Global,
+    disk: &mut D,
+    entries: &[TableEntry],
+    texts: &KitTexts,
+    chains: &mut Commands,
+    snapshots: Snapshots,
+) -> Result<Tables, Fault>
+    ensures right { IfOk result (λ tables. D.Honest disk.new
+        → IsOfDirectory (named_by (D.state disk.old).content entries.now chains.old snapshots.entry)
+        → IsRightBase (named_by (D.state disk.old).content entries.now chains.old snapshots.entry)
+        (chains_held texts.now) tables.kit (world_of tables)) }
+    // Where each snapshot shows the play of the commands before it, each table was played.
+    ensures played { IfOk result (λ tables. AreShown tables.kit snapshots.entry (world_of tables)
+        → ArePlayed tables × ArePlayedTables tables.kit (world_of tables)) }
+    ensures snapshots { IfOk result HaveTheirSnapshots }
+    ensures kit { IfOk result (λ tables. SpellsKit (texts_in (chains_held texts.now)) tables.kit) }
+    ensures refused { IfErr result (λ fault. D.Honest disk.new
+        → IsOfDirectory (named_by (D.state disk.old).content entries.now chains.old snapshots.entry)
+        → RefusesBase (named_by (D.state disk.old).content entries.now chains.old snapshots.entry)
+        (chains_held texts.now) fault) }
+    ensures all { all_of chains.new.chains ≡ all_of chains.old.chains }
+    ensures pages { count_of chains.new.chains ≡ count_of chains.old.chains }
+    ensures fault { CountsFault (D.fault_count disk.old) (D.fault_count disk.new) result }
+    ensures honest { D.Honest disk.new → D.Honest disk.old }
+    ensures same_state { D.Honest disk.new → D.state disk.new ≡ D.state disk.old }
+    ensures same_past { D.Honest disk.new → D.past disk.new ≡ D.past disk.old }
+    ensures writes { D.write_count disk.new ≡ D.write_count disk.old }
+    ensures syncs { D.sync_count disk.new ≡ D.sync_count disk.old }
+    ensures device { OnDeviceFault result (D.Works disk.new → D.file_len disk.old < PAGE_BYTES * count_of chains.old.chains) }
+    ensures works { D.Works disk.new → D.Works disk.old }
+    ensures same_len { D.file_len disk.new ≡ D.file_len disk.old }
+{
+    match restore_base(alloc, disk, entries, texts, chains, snapshots) {
+        Ok(tables) => Ok(tables),
+        Err(Fault::Disk(fault)) => Err(Fault::Disk(fault)),
+        Err(Fault::Damaged(damage)) => {
+            let refused = Fault::Damaged(damage);
+            Err(refusal(alloc, disk, entries, chains, snapshots, refused))
+        }
+        Err(Fault::OutOfMemory) => {
+            let refused = Fault::OutOfMemory;
+            Err(refusal(alloc, disk, entries, chains, snapshots, refused))
+        }
+    }
+}
+
+/// The same of a file whose form is right.
+fn restore_base<D: Disk>(
+    alloc: Global,
+    disk: &mut D,
+    entries: &[TableEntry],
+    texts: &KitTexts,
+    chains: &mut Commands,
+    snapshots: Snapshots,
+) -> Result<Tables, Fault>
+    ensures right { IfOk result (λ tables. D.Honest disk.new
+        → IsOfDirectory (named_by (D.state disk.old).content entries.now chains.old snapshots.entry)
+        → IsRightBase (named_by (D.state disk.old).content entries.now chains.old snapshots.entry)
+        (chains_held texts.now) tables.kit (world_of tables)) }
+    ensures played { IfOk result (λ tables. AreShown tables.kit snapshots.entry (world_of tables)
+        → ArePlayed tables × ArePlayedTables tables.kit (world_of tables)) }
+    ensures snapshots { IfOk result HaveTheirSnapshots }
+    ensures kit { IfOk result (λ tables. SpellsKit (texts_in (chains_held texts.now)) tables.kit) }
+    // Whether the form is right isn't told.
+    ensures refused { IfErr result (λ fault. D.Honest disk.new
+        → IsOfDirectory (named_by (D.state disk.old).content entries.now chains.old snapshots.entry)
+        → IsWellFormed (named_by (D.state disk.old).content entries.now chains.old snapshots.entry)
+        → RefusesBase (named_by (D.state disk.old).content entries.now chains.old snapshots.entry)
+        (chains_held texts.now) fault) }
+    ensures all { all_of chains.new.chains ≡ all_of chains.old.chains }
+    ensures pages { count_of chains.new.chains ≡ count_of chains.old.chains }
+    ensures fault { CountsFault (D.fault_count disk.old) (D.fault_count disk.new) result }
+    ensures honest { D.Honest disk.new → D.Honest disk.old }
+    ensures same_state { D.Honest disk.new → D.state disk.new ≡ D.state disk.old }
+    ensures same_past { D.Honest disk.new → D.past disk.new ≡ D.past disk.old }
+    ensures writes { D.write_count disk.new ≡ D.write_count disk.old }
+    ensures syncs { D.sync_count disk.new ≡ D.sync_count disk.old }
+    ensures device { OnDeviceFault result (D.Works disk.new → D.file_len disk.old < PAGE_BYTES * count_of chains.old.chains) }
+    ensures works { D.Works disk.new → D.Works disk.old }
+    ensures same_len { D.file_len disk.new ≡ D.file_len disk.old }
+{
+    let kit = read_kit(alloc, texts)?;
+    let tables = restore_tables(alloc, disk, kit, entries, chains, snapshots)?;
+    Ok(tables)
+}
+
+/// What is told where the tables are refused with a fault that isn't the device's: a broken form comes before it.
+fn refusal<D: Disk>(
+    alloc: Global,
+    disk: &mut D,
+    entries: &[TableEntry],
+    chains: &mut Commands,
+    snapshots: Snapshots,
+    refused: Fault,
+) -> Fault
+    requires { IsOfDevice refused → ⊥ }
+    ensures told { D.Honest disk.new
+        → IsOfDirectory (named_by (D.state disk.old).content entries.now chains.old snapshots.entry)
+        → TellsInPlace (named_by (D.state disk.old).content entries.now chains.old snapshots.entry) refused result }
+    ensures all { all_of chains.new.chains ≡ all_of chains.old.chains }
+    ensures pages { count_of chains.new.chains ≡ count_of chains.old.chains }
+    ensures fault { CountsTold (D.fault_count disk.old) (D.fault_count disk.new) result }
+    ensures honest { D.Honest disk.new → D.Honest disk.old }
+    ensures same_state { D.Honest disk.new → D.state disk.new ≡ D.state disk.old }
+    ensures same_past { D.Honest disk.new → D.past disk.new ≡ D.past disk.old }
+    ensures writes { D.write_count disk.new ≡ D.write_count disk.old }
+    ensures syncs { D.sync_count disk.new ≡ D.sync_count disk.old }
+    ensures device { WhereDeviceTold result (D.Works disk.new → D.file_len disk.old < PAGE_BYTES * count_of chains.old.chains) }
+    ensures works { D.Works disk.new → D.Works disk.old }
+    ensures same_len { D.file_len disk.new ≡ D.file_len disk.old }
+{
+    match tell_form(alloc, disk, entries, chains, snapshots) {
+        Ok(true) => refused,
+        Ok(false) => Fault::Damaged(Damage::Form),
+        Err(fault) => fault,
+    }
+}
+
+/// Whether the kept words are those of lines, and each snapshot is a game that has played as many commands as it tells.
+fn tell_form<D: Disk>(
+    alloc: Global,
+    disk: &mut D,
+    entries: &[TableEntry],
+    chains: &mut Commands,
+    snapshots: Snapshots,
+) -> Result<bool, Fault>
+    ensures told { IfOk result (λ told. D.Honest disk.new
+        → IsOfDirectory (named_by (D.state disk.old).content entries.now chains.old snapshots.entry)
+        → (IsTrue told ↔ IsWellFormed (named_by (D.state disk.old).content entries.now chains.old snapshots.entry))) }
+    // Memory is wanted behind right words alone.
+    ensures refused { IfErr result (λ fault. D.Honest disk.new → (texts : TextChains)
+        → RefusesBase (named_by (D.state disk.old).content entries.now chains.old snapshots.entry) texts fault) }
+    ensures all { all_of chains.new.chains ≡ all_of chains.old.chains }
+    ensures pages { count_of chains.new.chains ≡ count_of chains.old.chains }
+    ensures fault { CountsFault (D.fault_count disk.old) (D.fault_count disk.new) result }
+    ensures honest { D.Honest disk.new → D.Honest disk.old }
+    ensures same_state { D.Honest disk.new → D.state disk.new ≡ D.state disk.old }
+    ensures same_past { D.Honest disk.new → D.past disk.new ≡ D.past disk.old }
+    ensures writes { D.write_count disk.new ≡ D.write_count disk.old }
+    ensures syncs { D.sync_count disk.new ≡ D.sync_count disk.old }
+    ensures device { OnDeviceFault result (D.Works disk.new → D.file_len disk.old < PAGE_BYTES * count_of chains.old.chains) }
+    ensures works { D.Works disk.new → D.Works disk.old }
+    ensures same_len { D.file_len disk.new ≡ D.file_len disk.old }
+{
+    let told = tell_words(disk, entries, chains)?;
+    if !told {
+        return Ok(false);
+    }
+    let games = tell_games(alloc, snapshots)?;
+    Ok(games)
+}
