@@ -28,11 +28,12 @@ class Table:
 
 @dataclass
 class Snapshot:
-    """The place of a table, how many of its commands were played, and the bytes of the game."""
+    """The place of a table, how many of its commands were played, the bytes of the game, and the pages on which they stand."""
 
     table: int
     kept: int
     bytes: bytes
+    pages: list = field(default_factory=list)
 
 
 @dataclass
@@ -133,8 +134,10 @@ def read(data):
         at += 28
     snapshots = []
     for at in range(at + 2, len(directory), 18):
-        bytes_of = chain_at(data, number_at(directory, at + 6, 8), reached)
-        snapshots.append(Snapshot(number_at(directory, at, 2), number_at(directory, at + 2, 4), bytes_of))
+        pages = []
+        text = chain_at(data, number_at(directory, at + 6, 8), pages)
+        snapshots.append(Snapshot(number_at(directory, at, 2), number_at(directory, at + 2, 4), text, pages))
+        reached += pages
     near = records_in(data, root.half, root.first)
     far = records_in(data, 1 - root.half, root.first + len(near))
     return Store(root, texts, tables, snapshots, near, far, reached)
@@ -153,7 +156,7 @@ class Pages:
     """Data pages that are laid one behind another from the first one on."""
 
     def __init__(self):
-        self.laid = b""
+        self.laid = bytearray()
 
     def next(self):
         return FIRST_DATA + len(self.laid) // PAGE
@@ -172,8 +175,8 @@ class Pages:
         return spelled(self.chain(text), 8) + spelled(len(text), 4)
 
 
-def written(texts, tables, first=1):
-    """A file with these texts and tables, whose first record is to have this number."""
+def written(texts, tables, first=1, snapshots=()):
+    """A file with these texts, tables and snapshots, whose first record is to have this number."""
     pages = Pages()
     directory = b"".join(pages.named(text) for text in texts) + spelled(len(tables), 2)
     for table in tables:
@@ -181,6 +184,9 @@ def written(texts, tables, first=1):
         name = spelled(len(table.name), 1) + table.name.encode()
         numbers = spelled(table.stamp, 8) + spelled(table.floor, 4) + spelled(len(table.kept), 4)
         directory += name + numbers + pages.named(kept)
+    directory += spelled(len(snapshots), 2) if snapshots else b""
+    for it in snapshots:
+        directory += spelled(it.table, 2) + spelled(it.kept, 4) + pages.named(it.bytes)
     head = pages.chain(directory)
     root = bytes([OPEN]) + spelled(1, 8) + spelled(head, 8) + bytes([0]) + spelled(first, 8) + spelled(pages.next(), 8) + spelled(1, 2)
     return root.ljust(PAGE * FIRST_DATA, b"\0") + pages.laid
