@@ -17,9 +17,6 @@ WRONG_BODIES = {
     9: "a kept record is cleared during a later command, and put back",
     10: "a sync that failed is tried again",
     11: "`ok` is answered before the commit, which comes with the next command",
-    12: "where the coming root's snapshots stand isn't taken over, and that of the root before is gone on with",
-    13: "pages of snapshots that stay are free for the next checkpoint",
-    14: "a snapshot stays where one of other bytes, behind as many commands, has come in its place",
 }
 
 SWITCH = """// Which wrong body was chosen for this run.
@@ -42,7 +39,6 @@ unsigned wrong_body(void) {
 HALF = "rr_pages/src/journal/half.rt"
 RECORDS = "rr_store/src/recovery/records.rt"
 JOURNAL = "rr_store/src/journal.rt"
-PLAN = "rr_checkpoint/src/plan/"
 # Of each edit the file under crates/, the old text and the new one.
 EDITS = [
     ("rr_disk/src/lib.rt", "mod start;", "mod start;\nmod wrong;"),
@@ -104,12 +100,4 @@ fn own_front(records: &[Vec<u8>]) -> &[Vec<u8>] {
             keep_record(&mut self.file, tables, self.buffer.as_slice())?;
         }
         match spell(name, request, &mut self.buffer) {"""),
-    ("rr_log/src/ticking.rt", "                self.standing = standing;", """                if !rr_disk::is_put_in(12) {
-                    self.standing = standing;
-                }"""),
-    (PLAN + "planning.rt", "    keep_standing(writer, standing, &transcript.snapshots);", """    if !rr_disk::is_put_in(13) {
-        keep_standing(writer, standing, &transcript.snapshots);
-    }"""),
-    (PLAN + "standing.rt", "self.chain.bytes.as_slice() == snapshot.bytes.as_slice()",
-     "(rr_disk::is_put_in(14) || self.chain.bytes.as_slice() == snapshot.bytes.as_slice())"),
 ]
