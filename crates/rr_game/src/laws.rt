@@ -29,5 +29,5 @@ pub fn games_have_their_parts()
 pub fn made_again(alloc: Global, game: &Game) -> Result<Option<Game>, AllocError>
     ensures { IfOk result (λ again. again ≡ Some game.now) }
 {
-    Game::from_parts(alloc, game.parts())
+    Game::from_parts(alloc, &game.parts())
 }

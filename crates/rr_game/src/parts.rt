@@ -45,8 +45,11 @@ impl Spell for Parts {
     ghost form = { game_form };
 
     fn write(&self, out: &mut Vec<u8>) -> Result<(), AllocError> {
-        let row: Row = (self.players, (self.standing, (self.played, self.ends)));
-        row.write(out)
+        self.players.write(out)?;
+        self.standing.write(out)?;
+        self.played.write(out)?;
+        self.ends.write(out)?;
+        Ok(())
     }
 
     // (not by Row: each of its pairs would move the layout once more)
@@ -79,7 +82,7 @@ impl Spell for Parts {
 }
 
 impl Parts {
-    ghost use Rattle.rr_game.specs.Parts.{game_form};
+    ghost use Rattle.rr_game.specs.Parts.{AreParts, game_form};
 
     /// The plain values of which these are all the bytes, if they are of any. Values that no game has may have bytes too.
     pub fn read(bytes: &[u8]) -> Option<Parts>
@@ -93,6 +96,14 @@ impl Parts {
             return None;
         }
         parts
+    }
+
+    /// Whether a game may have these values: it may stand so, and its turns have ended within the commands that were
+    /// played. It isn't asked whether commands come to it.
+    pub fn are_sound(&self) -> bool
+        ensures { IsTrue result ↔ AreParts self.now }
+    {
+        are_within(&self.ends, self.played) && self.standing.are_sound()
     }
 }
 
@@ -118,15 +129,15 @@ impl Game {
     /// # Errors
     ///
     /// `AllocError` where there is no memory for its position.
-    pub fn from_parts(alloc: Global, parts: Parts) -> Result<Option<Game>, AllocError>
+    pub fn from_parts(alloc: Global, parts: &Parts) -> Result<Option<Game>, AllocError>
         ensures { IfOk result (λ found. MatchOption found
-            (AreParts parts → ⊥)
-            (λ game. (sound : AreParts parts) × (game ≡ game_of parts sound))) }
+            (AreParts parts.now → ⊥)
+            (λ game. (sound : AreParts parts.now) × (game ≡ game_of parts.now sound))) }
     {
         if !are_within(&parts.ends, parts.played) {
             return Ok(None);
         }
-        let found = Standing::from_parts(alloc, parts.standing)?;
+        let found = Standing::from_parts(alloc, &parts.standing)?;
         match found {
             Some(standing) => Ok(Some(Game {
                 players: parts.players,

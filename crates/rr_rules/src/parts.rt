@@ -27,8 +27,9 @@ impl Spell for StandingParts {
     ghost form = { standing_form };
 
     fn write(&self, out: &mut Vec<u8>) -> Result<(), AllocError> {
-        let row: Row = (self.position, self.revenue.0);
-        row.write(out)
+        self.position.write(out)?;
+        self.revenue.0.write(out)?;
+        Ok(())
     }
 
     fn read(cursor: &mut Cursor) -> Option<StandingParts> {
@@ -38,6 +39,16 @@ impl Spell for StandingParts {
             position,
             revenue: Money(revenue),
         })
+    }
+}
+
+impl StandingParts {
+    /// Whether a game may stand so: a position may have its own values, and the revenue isn't below 0, nor above
+    /// 10,000,000,000 dollars.
+    pub fn are_sound(&self) -> bool
+        ensures { IsTrue result ↔ IsStanding self.now }
+    {
+        is_earned(self.revenue) && self.position.are_sound()
     }
 }
 
@@ -59,10 +70,10 @@ impl Standing {
     /// # Errors
     ///
     /// `AllocError` where there is no memory for the position.
-    pub fn from_parts(alloc: Global, parts: StandingParts) -> Result<Option<Standing>, AllocError>
+    pub fn from_parts(alloc: Global, parts: &StandingParts) -> Result<Option<Standing>, AllocError>
         ensures { IfOk result (λ found. MatchOption found
-            (IsStanding parts → ⊥)
-            (λ standing. IsStanding parts × (standing ≡ standing_of parts))) }
+            (IsStanding parts.now → ⊥)
+            (λ standing. IsStanding parts.now × (standing ≡ standing_of parts.now))) }
     {
         if !is_earned(parts.revenue) {
             return Ok(None);

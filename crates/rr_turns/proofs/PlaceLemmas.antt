@@ -32,6 +32,16 @@ place-take words rank place h =
     ∙ ap (take (rank + 1)) (numbers_with-split (is_held words) (place + 1) (4096 - (place + 1)))
     ∙ take_at (numbers_with (is_held words) (place + 1)) behind (rank + 1) (omega (arith, length-passes (is_held words) place h.held, h.before))
 
+-- the last count, where none above its place is held
+pub last-get : (words : List ℕ) (place : ℕ) → place < 4096 → is_held words (place + 1) ≡ true
+    → ((other : ℕ) → place < other → other < 4096 → is_held words (other + 1) ≡ false)
+    → slice_get (counts_of words) (length (counts_of words) - 1) ≡ Some (place + 1)
+last-get words place within held above =
+    let all : counts_of words ≡ numbers_with (is_held words) (place + 1) =
+    none-above (is_held words) (place + 1) 4096 (omega (arith, within)) (λ other low high. above other (omega (arith, low)) high) in
+    let many : length (counts_of words) ≡ length (numbers_with (is_held words) place) + 1 = ap length all ∙ length-passes (is_held words) place held in
+    place-get words (length (counts_of words) - 1) place (record { within = within; held = held; before = omega (arith, many) })
+
 -- without those above a place
 pub kept-counts : (words kept : List ℕ) (place : ℕ) → place < 4096
     → ((other : ℕ) → other ≤ place → is_held kept (other + 1) ≡ is_held words (other + 1))

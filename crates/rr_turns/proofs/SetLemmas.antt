@@ -78,6 +78,14 @@ length-word words word fits =
 pub few-in_word : (words : List ℕ) (word : ℕ) → slice_index words word < 2 ^ 64 → count_ones (slice_index words word) ≤ 64
 few-in_word words word fits = ones-le 64 (slice_index words word) fits
 
+-- none is held in words that are 0
+pub none-held_above : (words : List ℕ) (last : ℕ) → ((k : ℕ) → last < k → k < 64 → slice_index words k ≡ 0)
+    → (place : ℕ) → 64 * (last + 1) ≤ place → place < 4096 → is_held words (place + 1) ≡ false
+none-held_above words last empty place low high =
+    is_held-next words place
+    ∙ ap (λ (word : ℕ). bit_at word (place % 64) == 1) (empty (place / 64) (omega (arith, low)) (omega (arith, high)))
+    ∙ ap (λ (bit : ℕ). bit == 1) (bit_at-zero (place % 64))
+
 -- words that begin as others do and then have the low bits of one, and no more
 pub kept-below : (words mid : List ℕ) (place low other : ℕ) → length mid ≡ 64 → place < 4096
     → ((k : ℕ) → k < place / 64 → slice_index mid k ≡ slice_index words k)

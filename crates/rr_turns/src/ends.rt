@@ -77,8 +77,7 @@ impl Ends {
         ensures greatest { All (λ count. count ≤ result) self.now }
         ensures few { (1 ≤ result) × (result ≤ MOST_COMMANDS) }
     {
-        let turns = self.turns();
-        self.kept_at(turns).unwrap()
+        set::last_place(&self.words) + 1
     }
 
     /// The counts of the turns up to this one.

@@ -1,5 +1,5 @@
 //! Sets of counts, a bit for each. A count's place is how many numbers from 1 on are less.
-ghost use Rattle.std.specs.Prelude.{◌≡◌, ◌≢◌, ℕ, ◌+◌, ◌*◌, ◌<◌, ◌≤◌, [], ◌∷◌, true, false, length, replicate, MatchOption};
+ghost use Rattle.std.specs.Prelude.{◌≡◌, ◌≢◌, ℕ, ◌+◌, ◌*◌, ◌<◌, ◌≤◌, [], ◌∷◌, true, false, length, replicate, slice_index, MatchOption};
 ghost use Rattle.std.specs.Int.{bit_at};
 ghost use Rattle.rr_turns.specs.Counts.{IsPlaceOf, IsSet, counts_of, is_held, numbers_with};
 
@@ -49,8 +49,9 @@ pub(crate) fn size(words: &[u64; WORDS]) -> usize
     ensures value { result ≡ length (counts_of words.now) }
     ensures few { result ≤ MOST_COMMANDS }
 {
+    let last = last_word(words);
     let mut size = 0;
-    for index in 0..WORDS {
+    for index in 0..last + 1 {
         size += count_in(words, index);
     }
     size
@@ -87,6 +88,32 @@ fn place_in(words: &[u64; WORDS], index: usize, rank: usize) -> usize
         }
     }
     unreachable!()
+}
+
+// The place of the greatest count of the set.
+pub(crate) fn last_place(words: &[u64; WORDS]) -> usize
+    requires { IsSet words.now }
+    ensures within { result < MOST_COMMANDS }
+    ensures held { is_held words.now (result + 1) ≡ true }
+    ensures above { (other : ℕ) → result < other → other < MOST_COMMANDS → is_held words.now (other + 1) ≡ false }
+{
+    let mut place = 64 * last_word(words) + 63;
+    while !holds(words, place) {
+        place -= 1;
+    }
+    place
+}
+
+// The last word that tells of any count, and the first where none does.
+fn last_word(words: &[u64; WORDS]) -> usize
+    ensures within { result < 64 }
+    ensures above { (k : ℕ) → result < k → k < 64 → slice_index words.now k ≡ 0 }
+{
+    let mut index = WORDS - 1;
+    while 0 < index && words[index] == 0 {
+        index -= 1;
+    }
+    index
 }
 
 // Drops the counts above that of a place from the set.

@@ -1,22 +1,20 @@
 -- Slots that were read.
 use Rattle.std.specs.List.{AllByRecursion, flat_map}
-use Rattle.std.proofs.Common.{◌≡◌, ℕ, ◌-◌, ◌<◌, List, [], ◌++◌, length, take, drop, replicate, sym, ap, ◌∙◌, subst, arith, length-take-le}
-use Rattle.std.proofs.lemmas.List.{drop-replicate}
+use Rattle.std.proofs.Common.{◌≡◌, ℕ, ◌<◌, List, ◌++◌, length, take, replicate, sym, ap, ◌∙◌, arith, length-take-le}
+use Rattle.std.proofs.lemmas.List.{drop-replicate, length-replicate}
 use Rattle.rr_words.specs.Spelling.Form.{Form, IsTaken}
 use Rattle.rr_words.specs.Spelling.Number.{spelled_number}
 use Rattle.rr_words.specs.Spelling.OneWay.{counted_one_way}
-use Rattle.rr_desk.specs.Layout.Slots.{IsFilled, length-take-filled}
+use Rattle.rr_desk.specs.Layout.Slots.{IsFilled}
 
--- slots that had nothing have the filler behind those that were taken
-pub refilled : {X : Type 0} (filler : X) (capacity before taken : ℕ) (old new : List X) → IsFilled filler capacity before old → take before old ≡ []
-    → IsTaken old taken new → IsFilled filler capacity taken new
-refilled {X = X} filler capacity before taken old new filled none read =
-    let zero : before ≡ 0 = sym (length-take-filled filler capacity before old filled) ∙ ap length none in
-    let whole : old ≡ replicate (capacity - 0) filler = subst (λ n. drop n old ≡ replicate (capacity - n) filler) zero filled.rest in
+-- slots that all had the filler have it behind those that were taken
+pub filled_first : {X : Type 0} (filler : X) (capacity taken : ℕ) (new : List X) → IsTaken (replicate capacity filler) taken new → IsFilled filler capacity taken new
+filled_first filler capacity taken new read =
+    let all : length new ≡ capacity = read.all ∙ length-replicate capacity filler in
     record {
-      fits = omega (arith, read.fits, read.all, filled.all);
-      all = read.all ∙ filled.all;
-      rest = read.rest ∙ ap (λ (xs : List X). drop taken xs) whole ∙ drop-replicate taken (capacity - 0) filler ∙ ap (λ n. replicate n filler) (let e : capacity - 0 - taken ≡ capacity - taken = omega arith in e);
+      fits = omega (arith, read.fits, all);
+      all = all;
+      rest = read.rest ∙ drop-replicate taken capacity filler;
     }
 
 -- a row that stands there is the one that was read, and the rest stands behind it

@@ -1,7 +1,7 @@
 //! A layout as bytes: it is plain, so that any tiles and tokens for which there is room are one.
 ghost use Rattle.rr_desk.specs.Layout.Bytes.{lay_form, layout_form, station_form};
 
-use crate::layout::layout::{Lay, Layout, Station};
+use crate::layout::layout::{Lay, Layout, MOST_LAYS, MOST_STATIONS, Station, no_lay, no_station};
 use rr_roster::Corp;
 use rr_words::HexName;
 use rr_words::spelling::{Cursor, Spell, read_counted, write_counted};
@@ -51,9 +51,15 @@ impl Spell for Layout {
     }
 
     fn read(cursor: &mut Cursor) -> Option<Layout> {
-        let mut layout = Layout::new();
-        layout.lay_count = read_counted(&mut layout.lays, cursor)?;
-        layout.station_count = read_counted(&mut layout.stations, cursor)?;
-        Some(layout)
+        let mut lays = [no_lay(); MOST_LAYS];
+        let lay_count = read_counted(&mut lays, cursor)?;
+        let mut stations = [no_station(); MOST_STATIONS];
+        let station_count = read_counted(&mut stations, cursor)?;
+        Some(Layout {
+            lays,
+            lay_count,
+            stations,
+            station_count,
+        })
     }
 }

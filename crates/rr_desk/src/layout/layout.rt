@@ -17,8 +17,8 @@ pub const MOST_STATIONS: usize = 48;
 /// A tile that was laid on a hex, turned by sixths.
 #[derive(Clone, Copy, Debug)]
 pub struct Lay {
-    pub hex: HexName,
     pub tile: u16,
+    pub hex: HexName,
     pub turn: u8,
 }
 
@@ -74,26 +74,10 @@ impl Layout {
         ensures value { result ≡ record { lays = []; stations = [] } }
         ensures book { IsLayoutOf [] result }
     {
-        Layout::empty(no_hex())
-    }
-
-    // A board on which nothing was put yet; the slots name this hex.
-    fn empty(hex: HexName) -> Layout
-        requires { hex ≡ no_hex }
-        ensures { result ≡ record { lays = []; stations = [] } }
-    {
         Layout {
-            lays: [Lay {
-                hex,
-                tile: 0,
-                turn: 0,
-            }; MOST_LAYS],
+            lays: [no_lay(); MOST_LAYS],
             lay_count: 0,
-            stations: [Station {
-                corp: Corp::Prr,
-                hex,
-                centre: 0,
-            }; MOST_STATIONS],
+            stations: [no_station(); MOST_STATIONS],
             station_count: 0,
         }
     }
@@ -159,6 +143,28 @@ impl Layout {
         ensures { result.now ≡ self.now.stations }
     {
         &self.stations[..self.station_count]
+    }
+}
+
+// What stands in a slot for tiles that isn't taken.
+pub(crate) fn no_lay() -> Lay
+    ensures { result ≡ no_lay }
+{
+    Lay {
+        tile: 0,
+        hex: no_hex(),
+        turn: 0,
+    }
+}
+
+// What stands in a slot for tokens that isn't taken.
+pub(crate) fn no_station() -> Station
+    ensures { result ≡ no_station }
+{
+    Station {
+        corp: Corp::Prr,
+        hex: no_hex(),
+        centre: 0,
     }
 }
 

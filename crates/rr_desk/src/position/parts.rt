@@ -1,5 +1,8 @@
 //! A position as plain values, from which it can be made again.
 ghost use Rattle.std.specs.Prelude.{◌≡◌, ◌↔◌, IsTrue, MatchOption};
+ghost use Rattle.rr_market.specs.Operations.Parts.{AreOperations};
+ghost use Rattle.rr_market.specs.Parts.{AreMarket};
+ghost use Rattle.rr_rounds.specs.Parts.{AreRounds};
 ghost use Rattle.rr_desk.specs.Position.Parts.{AreCounted, IsPosition, parts_of, position_form, position_of};
 
 use crate::layout::Layout;
@@ -38,10 +41,14 @@ impl Spell for PositionParts {
     ghost form = { position_form };
 
     fn write(&self, out: &mut Vec<u8>) -> Result<(), AllocError> {
-        let board = (self.layout, self.entries);
-        let rounds = (self.rounds, (self.operations, board));
-        let row: Row = (self.books, (self.bidding, (self.market, rounds)));
-        row.write(out)
+        self.books.write(out)?;
+        self.bidding.write(out)?;
+        self.market.write(out)?;
+        self.rounds.write(out)?;
+        self.operations.write(out)?;
+        self.layout.write(out)?;
+        self.entries.write(out)?;
+        Ok(())
     }
 
     fn read(cursor: &mut Cursor) -> Option<PositionParts> {
@@ -57,6 +64,19 @@ impl Spell for PositionParts {
             layout,
             entries,
         })
+    }
+}
+
+impl PositionParts {
+    /// Whether a position may have these values: each view may have its own, none of them counts more payments,
+    /// commands, turns, rounds or sets than there are entries, and there are at most `MOST_ENTRIES`.
+    pub fn are_sound(&self) -> bool
+        ensures { IsTrue result ↔ IsPosition self.now }
+    {
+        are_counted(self)
+            && Books::from_parts(self.books).is_some()
+            && Bidding::from_parts(self.bidding).is_some()
+            && have_sound_rounds(self)
     }
 }
 
@@ -100,6 +120,15 @@ impl Position {
             entries: parts.entries,
         })
     }
+}
+
+// Whether the market and the rounds of both kinds may have their values.
+fn have_sound_rounds(parts: &PositionParts) -> bool
+    ensures { IsTrue result ↔ (AreMarket parts.now.market × AreRounds parts.now.rounds × AreOperations parts.now.operations) }
+{
+    Market::from_parts(parts.market).is_some()
+        && Rounds::from_parts(parts.rounds).is_some()
+        && Operations::from_parts(parts.operations).is_some()
 }
 
 // Whether the views count no more than there are entries, and those are few enough.

@@ -27,16 +27,16 @@ all_of n xs e = ap (λ m. take m xs) e ∙ take_all xs
 with_one : (old : Kept Command) (c : Command) (n : ℕ) → n ≡ length old.commands → take n old.commands ++ c ∷ [] ≡ old.commands ++ c ∷ []
 with_one old c n all = ap (λ l. l ++ c ∷ []) (all_of n old.commands all)
 
-pub kept_by : (kit : Kit) (old : Kept Command) (c added : Command) (snapshot : Option Game) (game : Game) (turns n : ℕ) → added ≡ c → n ≡ length old.commands
-    → KeepsBy kit old turns (Play c) (record { stay = n; least = 0; added = Some added; snapshot = snapshot; game = Some game; floor = old.floor })
-kept_by kit old c added snapshot game turns n same all =
+pub kept_by : (kit : Kit) (old : Kept Command) (c added : Command) (snapshot : Option Game) (game : Game) (turns n plays : ℕ) → added ≡ c → n ≡ length old.commands
+    → KeepsBy kit old turns (Play c) (record { stay = n; least = 0; added = Some added; snapshot = snapshot; game = Some game; floor = old.floor; plays = plays })
+kept_by kit old c added snapshot game turns n plays same all =
     let K : List Command → Kept Command = λ l. record { commands = l; floor = old.floor; stamp = old.stamp + 1 } in
     ap (λ (d : Command). K (take n old.commands ++ d ∷ [])) same ∙ ap K (with_one old c n all)
 
-pub fits_by : (old : Kept Command) (added : Command) (snapshot : Option Game) (game : Game) (n : ℕ) → n ≡ length old.commands → n < MOST_COMMANDS
+pub fits_by : (old : Kept Command) (added : Command) (snapshot : Option Game) (game : Game) (n plays : ℕ) → n ≡ length old.commands → n < MOST_COMMANDS
     → old.stamp < LAST_STAMP → game.played ≡ n + 1
-    → Fits old (record { stay = n; least = 0; added = Some added; snapshot = snapshot; game = Some game; floor = old.floor })
-fits_by old added snapshot game n all room stamp played =
+    → Fits old (record { stay = n; least = 0; added = Some added; snapshot = snapshot; game = Some game; floor = old.floor; plays = plays })
+fits_by old added snapshot game n plays all room stamp played =
     let count : length (take n old.commands ++ added ∷ []) ≡ length (old.commands ++ added ∷ []) = ap length (with_one old added n all) in
     let one = length-append old.commands (added ∷ []) in
     record {
@@ -67,25 +67,25 @@ due_shown kit commands game snapshot due spelled stands =
     step false nothing = tt
 
 -- a command that was judged, spelled and played
-pub command_change : (kit : Kit) (old : Kept Command) (c added : Command) (snapshot : Option Game) (after : Game) (n : ℕ)
+pub command_change : (kit : Kit) (old : Kept Command) (c added : Command) (snapshot : Option Game) (after : Game) (n plays : ℕ)
     → added ≡ c → snapshot ≡ snapshot_due after → IfSome snapshot SpellsItself → n ≡ length old.commands
     → IsLawfulAfter kit old.commands c → IsGameOf kit (old.commands ++ c ∷ []) after
-    → IsChangeBy kit old (Play c) (record { stay = n; least = 0; added = Some added; snapshot = snapshot; game = Some after; floor = old.floor })
-command_change kit old c added snapshot after n same due spelled all lawful next =
+    → IsChangeBy kit old (Play c) (record { stay = n; least = 0; added = Some added; snapshot = snapshot; game = Some after; floor = old.floor; plays = plays })
+command_change kit old c added snapshot after n plays same due spelled all lawful next =
     let G : List Command → Type 0 = λ l. IsGameOf kit l after in
     let Q : List Command → Type 0 = λ l. IsPlayOf kit l after in
     let added_there : take n old.commands ++ added ∷ [] ≡ take n old.commands ++ c ∷ [] = ap (λ (d : Command). take n old.commands ++ d ∷ []) same in
     record {
-      kept = kept_by kit old c added snapshot after 0 n same all;
+      kept = kept_by kit old c added snapshot after 0 n plays same all;
       played = λ game play. subst Q (sym (added_there ∙ with_one old c n all)) (goes_on kit old.commands c game after play lawful next);
       shown = due_shown kit (take n old.commands ++ added ∷ []) after snapshot due spelled (subst G (sym (added_there ∙ with_one old c n all)) next);
     }
 
 -- a table that is taken back
-pub back_change : (kit : Kit) (old : Kept Command) (k n : ℕ) (game : Game) → take n old.commands ≡ first_turns (ends_turn kit) k old.commands
+pub back_change : (kit : Kit) (old : Kept Command) (k n plays : ℕ) (game : Game) → take n old.commands ≡ first_turns (ends_turn kit) k old.commands
     → IsPlayOf kit (take n old.commands) game
-    → IsChangeBy kit old (Back k) (record { stay = n; least = 0; added = None; snapshot = None; game = Some game; floor = old.floor })
-back_change kit old k n game front play =
+    → IsChangeBy kit old (Back k) (record { stay = n; least = 0; added = None; snapshot = None; game = Some game; floor = old.floor; plays = plays })
+back_change kit old k n plays game front play =
     let K : List Command → Kept Command = λ l. record { commands = l; floor = old.floor; stamp = old.stamp + 1 } in
     let P : List Command → Type 0 = λ l. IsPlayOf kit l game in
     let none = append-nil (take n old.commands) in
@@ -93,7 +93,7 @@ back_change kit old k n game front play =
 
 -- a table that forgets
 pub forget_change : (kit : Kit) (old : Kept Command) (k least n : ℕ) → n ≡ length old.commands
-    → IsChangeBy kit old (Forget k) (record { stay = n; least = least; added = None; snapshot = None; game = None; floor = k })
+    → IsChangeBy kit old (Forget k) (record { stay = n; least = least; added = None; snapshot = None; game = None; floor = k; plays = 0 })
 forget_change kit old k least n all =
     let K : List Command → Kept Command = λ l. record { commands = l; floor = k; stamp = old.stamp + 1 } in
     let P : Game → List Command → Type 0 = λ game l. IsPlayOf kit l game in

@@ -1,6 +1,6 @@
 -- The game that a snapshot's bytes spell, made again.
 use Rattle.std.specs.Prelude.{MatchOption}
-use Rattle.std.proofs.Common.{◌≡◌, ℕ, List, [], ◌++◌, Option, None, Some, ap, refl, subst, sym, ◌∙◌}
+use Rattle.std.proofs.Common.{◌≡◌, ℕ, Bool, false, List, [], ◌++◌, Option, None, Some, ap, refl, subst, sym, ◌∙◌, IsTrue, ◌↔◌}
 use Rattle.std.proofs.Math.Logic.{∥∥₁_elim}
 use mathlib.Core.HLevel.{⊥_prop}
 use Rattle.rr_game.specs.declared.game.Game.{Game}
@@ -27,12 +27,10 @@ pub spells_itself : (bytes : List ℕ) (count : ℕ) (game : Game) → SpellsGam
 spells_itself bytes count game spelled = record { sound = spelled.sound; fits = spelled.fits; spelled = refl; counted = refl }
 
 -- bytes of values that a game may have spell the game that is made of them
-abbrev pub spelled_read : (bytes kept : List ℕ) (count : ℕ) (parts : Parts) (found : Option Game) (game : Game) → kept ≡ bytes → count ≡ game.played
-    → game_form.Fits parts × (bytes ≡ game_form.spelling parts)
-    → found ≡ Some game → MatchOption found (AreParts parts → ⊥) (λ game. (sound : AreParts parts) × (game ≡ game_of parts sound)) → SpellsOneGame kept count
-spelled_read bytes kept count parts found game same counted is there made =
-    let one = subst (λ (o : Option Game). MatchOption o (AreParts parts → ⊥) (λ game. (sound : AreParts parts) × (game ≡ game_of parts sound))) there made in
-    spelled_by kept [] count parts game counted refl (same ∙ is.1) (sym (ap parts_of one.1)) one.0 is.0
+abbrev pub spelled_read : (bytes kept : List ℕ) (count : ℕ) (parts : Parts) → kept ≡ bytes → count ≡ parts.played
+    → game_form.Fits parts × (bytes ≡ game_form.spelling parts) → AreParts parts → SpellsOneGame kept count
+spelled_read bytes kept count parts same counted is sound =
+    spelled_by kept [] count parts (game_of parts sound) counted refl (same ∙ is.1) refl sound is.0
 
 -- bytes of a game are those of some values
 pub values_read : (bytes read : List ℕ) (count : ℕ) → read ≡ bytes → SpellsOneGame bytes count → ((parts : Parts) → game_form.Fits parts → read ≡ game_form.spelling parts → ⊥) → ⊥
@@ -44,6 +42,13 @@ its_values bytes read count parts same spelled fits is =
     let whole : game_form.spelling parts ++ [] ≡ game_form.spelling (parts_of spelled.0) ++ [] =
     ap (λ (bs : List ℕ). bs ++ []) (sym is ∙ same ∙ spelled.1.spelled) in
     (game_form.one_way parts (parts_of spelled.0) [] [] fits spelled.1.fits whole).0
+
+-- which a game may have
+pub values_sound : (bytes read : List ℕ) (count : ℕ) (parts : Parts) (sound : Bool) → read ≡ bytes → SpellsOneGame bytes count → game_form.Fits parts × (read ≡ game_form.spelling parts)
+    → (IsTrue sound ↔ AreParts parts) → sound ≡ false → ⊥
+values_sound bytes read count parts sound same spelled is told unsound =
+    let none : AreParts parts → ⊥ = λ are. let yes : IsTrue sound = told.1 are in cc in
+    ∥∥₁_elim spelled.1.sound ⊥_prop (λ are. none (subst AreParts (sym (its_values bytes read count parts same spelled is.0 is.1)) are))
 
 -- a game may have them, and it is the one that was spelled
 pub game_there : (bytes read : List ℕ) (count : ℕ) (parts : Parts) (found : Option Game) → read ≡ bytes → SpellsOneGame bytes count → game_form.Fits parts × (read ≡ game_form.spelling parts)

@@ -1,10 +1,10 @@
 -- The nearest of snapshots, with one snapshot more.
-use Rattle.std.proofs.Common.{◌≡◌, ℕ, ◌+◌, ◌<◌, ◌≤◌, Bool, true, false, ◌&&◌, nat_le, nat_lt, List, [], ◌∷◌, ◌++◌, All, length, take, get_or, Option, None, Some, if◌then◌else◌, refl, sym, ap, subst, ◌∙◌, arith}
+use Rattle.std.proofs.Common.{◌≡◌, ℕ, ◌+◌, ◌-◌, ◌<◌, ◌≤◌, Bool, true, false, ◌&&◌, nat_le, nat_lt, List, [], ◌∷◌, ◌++◌, All, length, take, get_or, Option, None, Some, if◌then◌else◌, refl, sym, ap, subst, ◌∙◌, arith}
 use Rattle.std.proofs.lemmas.Bool.Decides.{nat_tests}
 use Rattle.std.proofs.lemmas.List.{take_more}
 use Rattle.std.proofs.lemmas.List.Elements.{All-push, Contains-append_left, Contains-push}
 use Rattle.rr_game.specs.declared.game.Game.{Game}
-use Rattle.rr_game.specs.History.Snapshots.{IsNearest, nearer}
+use Rattle.rr_game.specs.History.Snapshots.{IsNearest, PlaysOn, nearer}
 use Rattle.rr_game.proofs.HistoryLemmas.Counts.{true-le}
 
 above : (k n : ℕ) → nat_le k n ≡ false → n < k
@@ -66,3 +66,21 @@ nearest_more count snapshots index game other near within is nearest before =
     take_more snapshots index game within ∙ ap (λ (g : Game). take index snapshots ++ g ∷ []) (sym is) in
     subst (λ (gs : List Game). IsNearest count gs near) (sym more)
     (subst (λ (o : Option Game). IsNearest count (take index snapshots ++ game ∷ []) o) (sym nearest) (with_one count (take index snapshots) game other before))
+
+-- the commands that are played from the nearest, and from the opening where there is none
+
+pub plays_from_nearest : (snapshots listed : List Game) (count plays : ℕ) (found game : Game) → listed ≡ snapshots → IsNearest count listed (Some found)
+    → game ≡ found → plays ≡ count - game.played → PlaysOn snapshots count plays
+plays_from_nearest snapshots listed count plays found game same is again counted = record {
+  start = Some found;
+  is_nearest = subst (λ (gs : List Game). IsNearest count gs (Some found)) same is;
+  counted = counted ∙ ap (λ (g : Game). count - g.played) again;
+}
+
+pub plays_from_opening : (snapshots listed : List Game) (count plays : ℕ) → listed ≡ snapshots → IsNearest count listed None → plays ≡ count - 1
+    → PlaysOn snapshots count plays
+plays_from_opening snapshots listed count plays same is counted = record {
+  start = None;
+  is_nearest = subst (λ (gs : List Game). IsNearest count gs None) same is;
+  counted = counted;
+}

@@ -1,5 +1,5 @@
 -- The snapshots of a table's game: which a table keeps, and what game each is.
-use Rattle.std.specs.Prelude.{◌≡◌, ℕ, ◌*◌, ◌/◌, ◌%◌, ◌<◌, ◌≤◌, ◌==◌, Bool, ◌&&◌, nat_le, nat_lt, All, List, Option, None, Some, MatchOption, length, map, take, if◌then◌else◌}
+use Rattle.std.specs.Prelude.{◌≡◌, ℕ, ◌-◌, ◌*◌, ◌/◌, ◌%◌, ◌<◌, ◌≤◌, ◌==◌, Bool, ◌&&◌, nat_le, nat_lt, All, List, Option, None, Some, MatchOption, length, map, take, if◌then◌else◌}
 use Rattle.std.specs.List.{Contains}
 use Rattle.rr_kit.specs.declared.kit.Kit.{Kit}
 use Rattle.rr_code.specs.declared.command.Command.{Command}
@@ -61,3 +61,16 @@ IsNearest count snapshots nearest =
     MatchOption nearest
     (All (λ (game : Game). count < game.played) snapshots)
     (λ (found : Game). Contains snapshots found × (found.played ≤ count) × All (λ (game : Game). game.played ≤ count → game.played ≤ found.played) snapshots)
+
+-- how many commands are played to the game of the first so many from this snapshot on, or from the opening where there
+-- is none
+abbrev pub plays_from : Option Game → ℕ → ℕ
+plays_from None count = count - 1
+plays_from (Some snapshot) count = count - snapshot.played
+
+-- so many commands are played to the game of the first so many: from the nearest of these snapshots on, or from the
+-- opening where there is none
+pub record PlaysOn (snapshots : List Game) (count plays : ℕ) : Type 0 where
+  pub start : Option Game
+  pub is_nearest : IsNearest count snapshots start
+  pub counted : plays ≡ plays_from start count

@@ -11,7 +11,7 @@ use Rattle.rr_game.specs.declared.history.change.Change.{Change}
 use Rattle.rr_game.specs.declared.history.table.Table.{Table}
 use Rattle.rr_game.specs.Keeping.{IsGameOf}
 use Rattle.rr_game.specs.History.Playing.{ArePlayed}
-use Rattle.rr_game.specs.History.Snapshots.{AreNamed, IsShown, least_named, snapshot_due}
+use Rattle.rr_game.specs.History.Snapshots.{AreNamed, IsShown, PlaysOn, least_named, snapshot_due}
 use Rattle.rr_game.specs.History.Changing.{game_after}
 use Rattle.rr_game.specs.History.Spelling.{HasRoom}
 use Rattle.rr_game.specs.Turning.{ends_turn}
@@ -55,6 +55,13 @@ abbrev pub snapshot_by : Request Command → Game → Option Game
 snapshot_by (Play command) after = snapshot_due after
 snapshot_by (Back k) after = None
 snapshot_by (Forget k) after = None
+
+-- so many commands are played to work out what a request makes of the table: the command itself; those that lead from
+-- the nearest snapshot, or from the opening, to the commands that stay; or none
+abbrev pub CountsPlays : Table → Request Command → ℕ → Type 0
+CountsPlays table (Play command) plays = plays ≡ 1
+CountsPlays table (Back k) plays = PlaysOn table.kept.snapshots (kept_at table.game.ends k) plays
+CountsPlays table (Forget k) plays = plays ≡ 0
 
 -- the change drops and adds the snapshots that this request does, whatever was played
 pub record ShowsBy (table : Table) (request : Request Command) (change : Change) : Type 0 where

@@ -1,3 +1,5 @@
+ghost use Rattle.std.specs.Prelude.{◌≡◌};
+
 use crate::Game;
 use crate::history::snapshots::Snapshot;
 use crate::history::spelled::Spelled;
@@ -17,4 +19,15 @@ pub struct Change {
     /// The play of the commands that are kept then, unless the request leaves the game as it is.
     pub(crate) game: Option<Game>,
     pub(crate) floor: u64,
+    pub(crate) plays: usize,
+}
+
+impl Change {
+    /// How many commands were played to work it out: the one that is added, or those that lead from the nearest
+    /// snapshot, or from the opening, to the turn to which the table is taken back. To forget turns plays none.
+    pub fn plays(&self) -> usize
+        ensures { result ≡ self.now.plays }
+    {
+        self.plays
+    }
 }

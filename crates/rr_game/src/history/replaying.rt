@@ -1,5 +1,5 @@
 //! Commands played again, from the opening or from a snapshot on.
-ghost use Rattle.std.specs.Prelude.{◌≡◌, ◌≤◌, [], ◌∷◌, length, take, IfOk, IsOkUnless, MatchResult, if◌then◌else◌};
+ghost use Rattle.std.specs.Prelude.{◌≡◌, ◌-◌, ◌≤◌, [], ◌∷◌, length, take, IfOk, IsOkUnless, MatchResult, if◌then◌else◌};
 ghost use Rattle.rr_game.specs.Keeping.{IsGameOf};
 ghost use Rattle.rr_game.specs.Play.{begins_with_opening};
 ghost use Rattle.rr_game.specs.History.Playing.{ArePlayed};
@@ -12,6 +12,13 @@ use rr_code::Command;
 use rr_kit::Kit;
 use std::alloc::Global;
 
+/// A game to which commands were played, and how many they were.
+#[derive(Drop)]
+pub(crate) struct Replayed {
+    pub(crate) game: Game,
+    pub(crate) plays: usize,
+}
+
 /// Plays the first so many commands of a table again.
 ///
 /// # Errors
@@ -22,11 +29,12 @@ pub(crate) fn replay(
     kept: &KeptCommands,
     count: usize,
     kit: &Kit,
-) -> Result<Game, Fault>
+) -> Result<Replayed, Fault>
     requires some { 1 ≤ count }
     requires within { count ≤ length kept.now.commands }
-    ensures played { IfOk result (λ new. new.played ≡ count) }
-    ensures game { IfOk result (λ game. IsGameOf kit.now (take count kept.now.commands) game) }
+    ensures played { IfOk result (λ new. new.game.played ≡ count) }
+    ensures plays { IfOk result (λ new. new.plays ≡ count - 1) }
+    ensures game { IfOk result (λ new. IsGameOf kit.now (take count kept.now.commands) new.game) }
     ensures memory { ∥ ArePlayed kit.now (take count kept.now.commands) ∥₁ → IsOkUnless result Fault.OutOfMemory }
 {
     let game = opened(alloc, &kept.command(0), kit)?;
@@ -60,12 +68,13 @@ pub(crate) fn play_on(
     kept: &KeptCommands,
     count: usize,
     kit: &Kit,
-) -> Result<Game, Fault>
+) -> Result<Replayed, Fault>
     requires order { game.played ≤ count }
     requires within { count ≤ length kept.now.commands }
-    ensures played { IfOk result (λ new. new.played ≡ count) }
+    ensures played { IfOk result (λ new. new.game.played ≡ count) }
+    ensures plays { IfOk result (λ new. new.plays ≡ count - game.played) }
     ensures game { IfOk result (λ new. IsGameOf kit.now (take game.played kept.now.commands) game →
-        IsGameOf kit.now (take count kept.now.commands) new) }
+        IsGameOf kit.now (take count kept.now.commands) new.game) }
     ensures memory { IsGameOf kit.now (take game.played kept.now.commands) game →
         ∥ ArePlayed kit.now (take count kept.now.commands) ∥₁ → IsOkUnless result Fault.OutOfMemory }
 {
@@ -74,9 +83,11 @@ pub(crate) fn play_on(
     let _count = kept.len();
     let start = game.played as usize;
     let mut next = game;
+    let mut plays = 0;
     for place in start..count {
         let command = kept.command(place);
         next = next.step(alloc, &command, kit)?;
+        plays += 1;
     }
-    Ok(next)
+    Ok(Replayed { game: next, plays })
 }

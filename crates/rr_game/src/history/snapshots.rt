@@ -1,6 +1,7 @@
 //! A table's game at an earlier count of its commands, as bytes.
 ghost use Rattle.std.specs.Prelude.{◌≡◌, ◌↔◌, ℕ, None, Some, IfOk, IfSome, IsOkUnless, IsTrue, MatchOption, map, slice_get};
 ghost use Rattle.std.specs.Option.{option_copied};
+ghost use Rattle.std.specs.Rc.{rc_slice_items};
 ghost use Rattle.rr_game.specs.History.GameBytes.{SpellsGame, SpellsOneGame, bytes_of, one_game};
 ghost use Rattle.rr_game.specs.History.Snapshots.{IsNearest, is_named, is_nearer, least_named, named_counts, nearer, snapshot_due};
 ghost use Rattle.rr_game.specs.declared.game.Game.{Game as AnyGame};
@@ -12,16 +13,17 @@ use crate::parts::Parts;
 use rr_words::spelling::Spell;
 use std::alloc::Global;
 use std::marker::Model;
+use std::rc::RcSlice;
 
 /// So many commands stand between two snapshots of a table.
 pub const SNAPSHOT_SPACING: usize = 64;
 
-/// A game as the bytes of its plain values, which take less memory than the game.
+/// A game as the bytes of its plain values, which take less memory than the game. Who writes them to a file shares them.
 #[derive(Drop)]
 pub struct Snapshot {
-    bytes: Vec<u8>,
+    bytes: RcSlice<u8>,
     played: u32,
-    ghost spelled: { SpellsOneGame bytes.items played } by { one_game bytes.items played },
+    ghost spelled: { SpellsOneGame (rc_slice_items bytes) played } by { one_game (rc_slice_items bytes) played },
 }
 
 impl Model for Snapshot {
@@ -49,13 +51,12 @@ impl Snapshot {
             Some(parts) => parts,
             None => return Ok(None),
         };
-        let game = match Game::from_parts(alloc, parts)? {
-            Some(game) => game,
-            None => return Ok(None),
-        };
+        if !parts.are_sound() {
+            return Ok(None);
+        }
         Ok(Some(Snapshot {
-            bytes: Vec::from_slice(alloc, bytes)?,
-            played: game.played(),
+            bytes: RcSlice::from_slice(alloc, bytes)?,
+            played: parts.played,
         }))
     }
 
@@ -72,7 +73,7 @@ impl Snapshot {
         // A table keeps it for long: what a write took beyond its bytes goes back.
         bytes.shrink_to_fit();
         Ok(Snapshot {
-            bytes,
+            bytes: RcSlice::from_vec(bytes)?,
             played: game.played(),
         })
     }
@@ -107,7 +108,7 @@ impl Snapshot {
             Some(parts) => parts,
             None => unreachable!(),
         };
-        match Game::from_parts(alloc, parts)? {
+        match Game::from_parts(alloc, &parts)? {
             Some(game) => Ok(game),
             None => unreachable!(),
         }
@@ -119,6 +120,13 @@ impl Snapshot {
         ensures spelled { SpellsGame result.now self.now.played self.now }
     {
         self.bytes.as_slice()
+    }
+
+    /// The same bytes, to be shared.
+    pub fn shared(&self) -> &RcSlice<u8>
+        ensures { rc_slice_items result.now ≡ bytes_of self.now }
+    {
+        &self.bytes
     }
 
     /// How many commands the game has played, the opening among them.

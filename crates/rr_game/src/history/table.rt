@@ -3,8 +3,10 @@ ghost use Rattle.rr_turns.specs.declared.limits.TheConstants.{LAST_STAMP, MOST_C
 ghost use Rattle.rr_code.specs.Command.{IsCommand};
 ghost use Rattle.rr_game.specs.History.Changing.{Fits, IsChangeBy, KeepsBy, game_after, kept_with, snapshots_after};
 ghost use Rattle.rr_game.specs.Keeping.{IsGameOf};
+ghost use Rattle.rr_game.specs.History.Snapshots.{PlaysOn};
 ghost use Rattle.rr_game.specs.History.Spelling.{HasRoom};
 ghost use Rattle.rr_game.specs.Turning.{ends_turn};
+ghost use Rattle.rr_game.specs.declared.history.snapshots.TheConstants.{SNAPSHOT_SPACING};
 ghost use Rattle.rr_game.specs.History.Verdict.{IsNoWantOfMemory, IsOfForm, is_kept_turn, own_judgement, request_judgement, stamp_verdict, turn_verdict};
 ghost use Rattle.rr_turns.specs.Judgement.{IsVerdict, MayFind};
 ghost use Rattle.rr_turns.specs.Kept.{kept_after, kept_of};
@@ -13,7 +15,7 @@ use crate::Game;
 use crate::history::change::Change;
 use crate::history::fault::Fault;
 use crate::history::kept::KeptCommands;
-use crate::history::replaying::{play_on, replay};
+use crate::history::replaying::{Replayed, play_on, replay};
 use crate::history::snapshots::{Snapshot, least_named, nearest};
 use crate::history::spelled::Spelled;
 use rr_code::{Command, Players};
@@ -35,7 +37,7 @@ pub struct Table {
 }
 
 impl Table {
-    ghost use Rattle.rr_game.specs.History.Tables.{HasItsSnapshots, HasRoomFor, IsPlayed, ShowsBy, kept_in, turns_in};
+    ghost use Rattle.rr_game.specs.History.Tables.{CountsPlays, HasItsSnapshots, HasRoomFor, IsPlayed, ShowsBy, kept_in, turns_in};
     ghost use Rattle.rr_code.specs.declared.command.Command.{Command as Line};
     ghost use Rattle.rr_kit.specs.declared.kit.Kit.{Kit as AnyKit};
     ghost use Rattle.rr_turns.specs.declared.request.Request.{Request as AnyRequest};
@@ -169,6 +171,9 @@ impl Table {
             IsChangeBy kit.now (kept_in self.now) request.now change) }
         ensures kept { IfOk result (λ change. KeepsBy kit.now (kept_in self.now) (turns_in self.now) request.now change) }
         ensures shows { IfOk result (λ change. ShowsBy self.now request.now change) }
+        ensures plays { IfOk result (λ change. CountsPlays self.now request.now change.plays) }
+        ensures few { IfOk result (λ change. IsPlayed kit.now self.now → HasItsSnapshots self.now →
+            change.plays < SNAPSHOT_SPACING) }
         ensures fits { IfOk result (λ change. Fits (kept_in self.now) change) }
     {
         self.judge_stamp(stamp)?;
@@ -221,6 +226,7 @@ impl Table {
             snapshot,
             game,
             floor,
+            plays: _,
         } = change;
         self.kept.keep_snapshots(least, stay);
         replace_end(&mut self.kept, stay, added, snapshot);
@@ -255,6 +261,7 @@ impl Table {
         ensures kept { IfOk result (λ change.
             KeepsBy kit.now (kept_in self.now) (turns_in self.now) (Request.Play command.now) change) }
         ensures shows { IfOk result (λ change. ShowsBy self.now (Request.Play command.now) change) }
+        ensures plays { IfOk result (λ change. CountsPlays self.now (Request.Play command.now) change.plays) }
         ensures fits { IfOk result (λ change. Fits (kept_in self.now) change) }
     {
         let count = self.kept.len();
@@ -271,6 +278,7 @@ impl Table {
             snapshot,
             game: Some(game),
             floor: self.floor,
+            plays: 1,
         })
     }
 
@@ -283,13 +291,14 @@ impl Table {
             IsChangeBy kit.now (kept_in self.now) (Request.Back turn) change) }
         ensures kept { IfOk result (λ change. KeepsBy kit.now (kept_in self.now) (turns_in self.now) (Request.Back turn) change) }
         ensures shows { IfOk result (λ change. ShowsBy self.now (Request.Back turn) change) }
+        ensures plays { IfOk result (λ change. CountsPlays self.now (Request.Back turn) change.plays) }
         ensures fits { IfOk result (λ change. Fits (kept_in self.now) change) }
     {
         if !self.keeps(turn) {
             return Err(Fault::TurnNotKept);
         }
         let stay = self.game.played_at(turn).unwrap();
-        let game = self.game_at(alloc, stay, kit)?;
+        let Replayed { game, plays } = self.game_at(alloc, stay, kit)?;
         Ok(Change {
             stay,
             least: 0,
@@ -297,16 +306,18 @@ impl Table {
             snapshot: None,
             game: Some(game),
             floor: self.floor,
+            plays,
         })
     }
 
     // The game of the first so many commands: played on from the nearest snapshot, or from the opening where there is none.
-    fn game_at(&self, alloc: Global, count: usize, kit: &Kit) -> Result<Game, Fault>
+    fn game_at(&self, alloc: Global, count: usize, kit: &Kit) -> Result<Replayed, Fault>
         requires some { 1 ≤ count }
         requires within { count ≤ length self.now.kept.commands }
-        ensures played { IfOk result (λ game. game.played ≡ count) }
-        ensures game { IfOk result (λ game. IsPlayed kit.now self.now →
-            IsGameOf kit.now (take count self.now.kept.commands) game) }
+        ensures played { IfOk result (λ new. new.game.played ≡ count) }
+        ensures plays { IfOk result (λ new. PlaysOn self.now.kept.snapshots count new.plays) }
+        ensures game { IfOk result (λ new. IsPlayed kit.now self.now →
+            IsGameOf kit.now (take count self.now.kept.commands) new.game) }
         ensures memory { IsPlayed kit.now self.now → IsOkUnless result Fault.OutOfMemory }
     {
         match nearest(self.kept.snapshots(), count) {
@@ -328,6 +339,7 @@ impl Table {
         ensures kept { IfOk result (λ change. (kit : AnyKit) →
             KeepsBy kit (kept_in self.now) (turns_in self.now) (Request.Forget turn) change) }
         ensures shows { IfOk result (λ change. ShowsBy self.now (Request.Forget turn) change) }
+        ensures plays { IfOk result (λ change. CountsPlays self.now (Request.Forget turn) change.plays) }
         ensures alone { IfOk result (λ change. change.added ≡ None) }
         ensures fits { IfOk result (λ change. Fits (kept_in self.now) change) }
     {
@@ -342,6 +354,7 @@ impl Table {
             snapshot: None,
             game: None,
             floor: turn,
+            plays: 0,
         })
     }
 

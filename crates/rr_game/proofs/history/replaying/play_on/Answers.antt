@@ -16,6 +16,7 @@ loop-place-preserved c =
     let Q : List Command → Type 0 = λ cs. IsGameOf c.args.kit.now cs c.in_ok-next.next in
     record {
       count = omega (arith, c.in_ok-next.ensures.played, c.loop-place.invariant.count);
+      plays = omega (arith, c.loop-place.invariant.plays);
       stands =
           λ begun.
           subst Q (sym (one_more c.args.kept.now.commands c.loop-place.place c.command-command.result c.command-command.ensures.value))

@@ -2,6 +2,7 @@ use Rattle.std.proofs.Common.{ℕ, ◌≤◌, take, Option, IfSome, refl, sym, a
 use Rattle.std.proofs.lemmas.Result.{err_from_is_err_and}
 use Rattle.rr_turns.specs.Turns.{ended_turns}
 use Rattle.rr_game.specs.Turning.{ends_turn}
+use Rattle.rr_game.specs.History.Snapshots.{PlaysOn}
 use Rattle.rr_game.specs.History.Tables.{kept_in}
 use Rattle.rr_game.proofs.TurnEnds.{count_told, front_told, turns_told}
 use Rattle.rr_game.proofs.HistoryLemmas.Changes.{back_change}
@@ -24,7 +25,7 @@ returns-clause-change c = λ play.
     let commands = table.kept.commands in
     let k = c.args.turn in
     let stay = c.unwrap-stay.result in
-    let new = c.in_ok-game.game in
+    let new = c.in_ok-game.field-0.game in
     let Few : Option ℕ → Type 0 = λ o. IfSome o (λ count. (1 ≤ count) × (count ≤ table.game.played)) in
     let few = subst Few c.unwrap-stay.ensures c.played_at.ensures.few in
     let within = c.if-not-keeps.ensures.ended refl in
@@ -32,7 +33,7 @@ returns-clause-change c = λ play.
     let ended : k ≤ ended_turns (ends_turn kit) commands = omega (arith, within, told) in
     let count = count_told table.game.ends k stay (sym c.played_at.ensures.value ∙ c.unwrap-stay.ensures) in
     let front = front_told kit commands table.game k play.played ended ∙ ap (λ (n : ℕ). take n commands) count in
-    back_change kit (kept_in table) k stay new (sym front) (record {
+    back_change kit (kept_in table) k stay c.in_ok-game.field-0.plays new (sym front) (record {
       lawful = front_played kit commands stay few.0 play.lawful;
       played = c.in_ok-game.ensures.game play;
     })
@@ -47,3 +48,9 @@ returns-clause-shows c =
       least = refl;
       snapshot = refl;
     }
+
+pub returns-clause-plays : goal.returns-clause-plays
+returns-clause-plays c =
+    let table = c.args.self.now in
+    subst (λ (count : ℕ). PlaysOn table.kept.snapshots count c.in_ok-game.field-0.plays)
+    (sym (count_told table.game.ends c.args.turn c.unwrap-stay.result (sym c.played_at.ensures.value ∙ c.unwrap-stay.ensures))) c.in_ok-game.ensures.plays

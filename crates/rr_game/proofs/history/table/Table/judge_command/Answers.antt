@@ -52,7 +52,7 @@ pub returns-clause-change : goal.returns-clause-change
 returns-clause-change c h =
     let all : c.len-count.result ≡ length c.args.self.now.kept.commands = c.len-count.ensures.value in
     command_change c.args.kit.now (kept_in c.args.self.now) c.args.command.now c.in_ok-added.added
-    c.in_ok-snapshot.snapshot c.in_ok-game.game c.len-count.result
+    c.in_ok-snapshot.snapshot c.in_ok-game.game c.len-count.result 1
     c.in_ok-added.ensures.value c.in_ok-snapshot.ensures.value c.in_ok-snapshot.ensures.spelled all
     (c.in_ok-game.ensures.verdict c.args.self.now.kept.commands h.played)
     (c.in_ok-game.ensures.game c.args.self.now.kept.commands h.played)
@@ -61,14 +61,14 @@ pub returns-clause-kept : goal.returns-clause-kept
 returns-clause-kept c =
     let all : c.len-count.result ≡ length c.args.self.now.kept.commands = c.len-count.ensures.value in
     kept_by c.args.kit.now (kept_in c.args.self.now) c.args.command.now c.in_ok-added.added c.in_ok-snapshot.snapshot c.in_ok-game.game (turns_in c.args.self.now)
-    c.len-count.result c.in_ok-added.ensures.value all
+    c.len-count.result 1 c.in_ok-added.ensures.value all
 
 pub returns-clause-fits : goal.returns-clause-fits
 returns-clause-fits c =
     let table = c.args.self.now in
     let all : c.len-count.result ≡ length table.kept.commands = c.len-count.ensures.value in
     let played : c.in_ok-game.game.played ≡ c.len-count.result + 1 = omega (arith, c.in_ok-game.ensures.played, table.counted, c.len-count.ensures) in
-    fits_by (kept_in table) c.in_ok-added.added c.in_ok-snapshot.snapshot c.in_ok-game.game c.len-count.result all c.if-count-ge-MOST_COMMANDS.false c.requires.stamp played
+    fits_by (kept_in table) c.in_ok-added.added c.in_ok-snapshot.snapshot c.in_ok-game.game c.len-count.result 1 all c.if-count-ge-MOST_COMMANDS.false c.requires.stamp played
 
 pub returns-clause-shows : goal.returns-clause-shows
 returns-clause-shows c = record { turn = tt; stay = c.len-count.ensures.value; least = refl; snapshot = c.in_ok-snapshot.ensures.value }
