@@ -3,6 +3,7 @@ pub mod TableLemmas
 pub mod TranscriptLemmas
 pub mod LaidTables
 pub mod StandingLemmas
+pub mod FoundSnapshots
 pub mod LaidSnapshots
 pub mod SnapshotLemmas
 pub mod DirectoryLemmas

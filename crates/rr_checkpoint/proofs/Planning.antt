@@ -1,6 +1,7 @@
 -- That a plan is made for the layout of an open file.
 use Rattle.std.proofs.Common.{◌≡◌, inl, inr, ℕ, ◌+◌, ◌^◌, ◌<◌, ◌≤◌, max, Bool, true, List, [], ◌∷◌, ◌++◌, length, map, Option, None, Some, refl, sym, ◌∙◌, ap, subst, arith}
 use Rattle.std.specs.Option.{unwrap_or}
+use Rattle.std.specs.Prelude.{All}
 use Rattle.std.proofs.lemmas.List.{map-append, length-set}
 use Rattle.rr_disk.specs.Disk.{DiskState}
 use Rattle.rr_pages.specs.declared.chain.FreshPage.{FreshPage}
@@ -28,8 +29,10 @@ use Rattle.rr_images.proofs.Plans.{made_is_plan, plan_reaches}
 use Rattle.rr_checkpoint.specs.declared.open_file.OpenFile.{OpenFile}
 use Rattle.rr_checkpoint.specs.declared.checkpoint.Plan.{Plan}
 use Rattle.rr_checkpoint.specs.OpenFile.{IsBegunAt, CarriesWith}
+use Rattle.rr_checkpoint.specs.Growing.{NoneFreeUpTo}
 use Rattle.rr_checkpoint.specs.Pages.{pages_with}
 use Rattle.rr_checkpoint.specs.Planning.{MayBegin, AreDrafted, IsDirectory}
+use Rattle.rr_checkpoint.proofs.Growing.{taken_packed}
 use Rattle.rr_pages.specs.Journal.Layout.{other_half}
 
 -- the pages that were laid, as they are to be written
@@ -43,6 +46,10 @@ places_all [] fit = refl
 places_all (chain ∷ chains) fit =
     map-append (λ (fresh : ℕ × List ℕ). fresh.0) (laid chain.pages chain.pieces) (all_laid chains)
     ∙ ((λ i. places_laid chain.pages chain.pieces fit.0.each i ++ map (λ (fresh : ℕ × List ℕ). fresh.0) (all_laid chains)) ∙ ap (λ (ps : List ℕ). chain.pages ++ ps) (places_all chains fit.1))
+
+pub pages_fresh : (fresh : List FreshPage) → map (λ (page : FreshPage). page.page) fresh ≡ map (λ (one : ℕ × List ℕ). one.0) (map fresh_of fresh)
+pages_fresh [] = refl
+pages_fresh (page ∷ fresh) = ap (λ (pages : List ℕ). page.page ∷ pages) (pages_fresh fresh)
 
 -- the page count, as the most of them
 count_is : (count : ℕ) (fresh : List FreshPage) → pages_with count fresh ≡ max count (pages_up_to (map (λ (fresh : ℕ × List ℕ). fresh.0) (map fresh_of fresh)))
@@ -138,9 +145,19 @@ module _ {C : Type 0} (codec : Codec) (file : OpenFile C) (state : DiskState) (w
           spells = subst (λ (bytes : List ℕ). codec.Spells NEWEST_VERSION bytes (texts_of (chains_of drafts)) layout.middle) (sym one.whole) directory_is.spells;
         }
 
-    pub may_begin : (plan : Plan) → plan.root ≡ root → plan.fresh.items ≡ more
+    -- up to each page that was laid none is free any more
+    packed_now : present_of after ≡ present_of file.free → All (NoneFreeUpTo (present_of after) (coming_of after)) (map (λ (page : FreshPage). page.page) more)
+    packed_now same =
+        let whole : length drafted.marks ≡ 65536 = sym (takes_length (present_of file.free) drafted.marks (coming_of file.free) (laid_pages (fresh_chains drafts)) drafted.laid.taken) ∙ is.marks in
+        let pages : map (λ (page : FreshPage). page.page) more ≡ laid_pages (written_chains one.chain drafts) =
+        pages_fresh more ∙ (ap (λ (written : List (ℕ × List ℕ)). map (λ (one : ℕ × List ℕ). one.0) written) one.laid.to_write ∙ places_all (written_chains one.chain drafts) one.laid.fit) in
+        let packed = taken_packed (present_of file.free) drafted.marks (coming_of after) (laid_pages (written_chains one.chain drafts)) whole one.laid.taken in
+        subst (λ (present : List Bool). All (NoneFreeUpTo present (coming_of after)) (map (λ (page : FreshPage). page.page) more)) (sym same)
+        (subst (λ (taken : List ℕ). All (NoneFreeUpTo (present_of file.free) (coming_of after)) taken) (sym pages) packed)
+
+    pub may_begin : (plan : Plan) → plan.root ≡ root → plan.fresh.items ≡ more → present_of after ≡ present_of file.free
         → (may : MayBegin codec layout after plan) × (may.holding.chains ≡ chains_of drafts) × (may.holding.directory.text ≡ text)
-    may_begin plan root_is fresh_is =
+    may_begin plan root_is fresh_is present_is =
         let here = (carries.between.each state.settled (settled_may_stay state)).spelled in
         let planned = made_is_plan codec layout root one.chain drafts made here.apart here.in_data in
         let holding : Holding = record { directory = laid_as one.chain; chains = chains_of drafts } in (
@@ -149,6 +166,7 @@ module _ {C : Type 0} (codec : Codec) (file : OpenFile C) (state : DiskState) (w
             is_plan = subst (λ (p : images.Plan). IsPlan codec layout p) (λ i. record { root = sym root_is i; holding = holding; fresh = (sym one.laid.to_write ∙ ap (λ (pages : List FreshPage). map fresh_of pages) (sym fresh_is)) i }) planned;
             next = ap (λ (r : Root). r.number) root_is ∙ ap (λ (r : Root). r.number + 1) (sym carries.tells.root);
             coming = plan_reaches root one.chain drafts (coming_of after) free_now.1;
+            packed = subst (λ (pages : List FreshPage). All (NoneFreeUpTo (present_of after) (coming_of after)) (map (λ (page : FreshPage). page.page) pages)) (sym fresh_is) (packed_now present_is);
           },
           refl,
           one.whole,

@@ -1,5 +1,5 @@
 -- What the append of a record, and the first step of a checkpoint, leave of what is known of an open file.
-use Rattle.std.proofs.Common.{◌≡◌, ◌⊎◌, ℕ, ◌+◌, ◌^◌, ◌<◌, true, false, not, List, [], ◌∷◌, ◌++◌, length, Option, None, Some, refl, sym, ◌∙◌, ap, subst, arith}
+use Rattle.std.proofs.Common.{◌≡◌, ◌⊎◌, ℕ, ◌+◌, ◌^◌, ◌<◌, true, false, List, [], ◌∷◌, ◌++◌, length, Option, None, Some, refl, sym, ◌∙◌, ap, subst, arith}
 use Rattle.std.specs.Option.{is_some}
 use Rattle.rr_disk.specs.Disk.{DiskState, IsImage, after_write, after_sync}
 use Rattle.rr_pages.specs.declared.journal.buffer.RecordBuffer.{RecordBuffer}
@@ -14,7 +14,7 @@ use Rattle.rr_pages.specs.Sets.{Has}
 use Rattle.rr_images.specs.Calls.{far_gate, Appends, Begins, part_behind}
 use Rattle.rr_images.specs.Codec.{Codec}
 use Rattle.rr_images.specs.Holding.{Holding, reached_of}
-use Rattle.rr_images.specs.Layout.{Layout, FarHalf, Unused, Old, Begun, far_lines, Keeps}
+use Rattle.rr_images.specs.Layout.{FarHalf, Unused, Old, Begun, far_lines, Keeps}
 use Rattle.rr_images.specs.Progress.{IsPlan, IsBegun, IsNotBegun, IsBetween}
 use Rattle.rr_images.specs.Steps.{with_far, with_line, with_line_at, GoesOnAt}
 use Rattle.rr_images.proofs.Calls.{appends, begins, not_begun}
@@ -23,6 +23,7 @@ use Rattle.rr_checkpoint.specs.declared.checkpoint.Checkpoint.{Checkpoint}
 use Rattle.rr_checkpoint.specs.declared.checkpoint.Plan.{Plan}
 use Rattle.rr_checkpoint.specs.declared.open_file.OpenFile.{OpenFile}
 use Rattle.rr_checkpoint.specs.Checkpoint.{plan_of, begun, progress_of}
+use Rattle.rr_checkpoint.specs.Growing.{IsPacked}
 use Rattle.rr_checkpoint.specs.Holds.{HoldsAsBegun, HoldsWithRecord}
 use Rattle.rr_checkpoint.specs.OpenFile.{IsBegunAt, CarriesWith}
 
@@ -124,7 +125,7 @@ module _ {C : Type 0} (codec : Codec) (file : OpenFile C) (checkpoint : Option C
 -- the first step of a checkpoint
 module _ {C : Type 0} (codec : Codec) (file : OpenFile C) (state : DiskState) (world : codec.World) (stays : IsImage state state.content) (carries : CarriesWith codec file None state world) where
   -- it was found begun
-  module _ (plan : Plan) (holding : Holding) (is_plan : IsPlan codec carries.layout (plan_of plan holding)) (coming : Has (coming_of file.free) (reached_of holding)) (next : plan.root.number ≡ file.taken.root.number + 1) where
+  module _ (plan : Plan) (holding : Holding) (is_plan : IsPlan codec carries.layout (plan_of plan holding)) (coming : Has (coming_of file.free) (reached_of holding)) (next : plan.root.number ≡ file.taken.root.number + 1) (packed : IsPacked file.free plan) where
     begun_there : is_some file.place.begun ≡ true → IsBegun carries.layout.far
     begun_there some = is_begun file.place.begun (carries.layout.root.first + length carries.layout.near) carries.layout.far some carries.tells.begun
 
@@ -138,7 +139,7 @@ module _ {C : Type 0} (codec : Codec) (file : OpenFile C) (state : DiskState) (w
           each = carries.between.each;
           come = (is_plan, begun_there some, refl, tt);
         };
-        coming = (coming, next);
+        coming = (coming, next, packed);
       },
       record { root = refl; present = refl; coming = refl; middle = refl; far = found_far (begun_there some) },
     )
@@ -156,7 +157,7 @@ module _ {C : Type 0} (codec : Codec) (file : OpenFile C) (state : DiskState) (w
     pub begin_stops : (image : List ℕ) → MayShut state at image → Keeps codec image world
     begin_stops image may = begin_next.leaves image (subst (λ (n : ℕ). MayShut state n image) at_gate may)
 
-    module _ (plan : Plan) (holding : Holding) (is_plan : IsPlan codec carries.layout (plan_of plan holding)) (coming : Has (coming_of file.free) (reached_of holding)) (next : plan.root.number ≡ file.taken.root.number + 1) where
+    module _ (plan : Plan) (holding : Holding) (is_plan : IsPlan codec carries.layout (plan_of plan holding)) (coming : Has (coming_of file.free) (reached_of holding)) (next : plan.root.number ≡ file.taken.root.number + 1) (packed : IsPacked file.free plan) where
       pub begin_carries : (new : DiskState) → Shuts state at new
           → (then : CarriesWith codec
           (record {
@@ -182,7 +183,7 @@ module _ {C : Type 0} (codec : Codec) (file : OpenFile C) (state : DiskState) (w
                 reached = carries.tells.reached;
               };
               between = begin_next.done (plan_of plan holding) new is_plan (subst (λ (n : ℕ). Shuts state n new) at_gate shuts);
-              coming = (coming, next);
+              coming = (coming, next, packed);
             },
             record { root = refl; present = refl; coming = refl; middle = refl; far = ap Begun (sym (none_far carries.layout.far none)) },
           )

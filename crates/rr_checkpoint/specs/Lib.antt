@@ -1,8 +1,10 @@
 pub mod Calls
 pub mod Checkpoint
+pub mod Growing
 pub mod OpenFile
 pub mod Pages
 pub mod Writer
 pub mod Planning
 pub mod Holds
 pub mod Plan
+pub mod Laws

@@ -14,6 +14,7 @@ use Rattle.rr_checkpoint.specs.declared.checkpoint.Checkpoint.{Checkpoint}
 use Rattle.rr_checkpoint.specs.declared.open_file.OpenFile.{OpenFile}
 use Rattle.rr_checkpoint.specs.declared.place.Place.{Place}
 use Rattle.rr_checkpoint.specs.Checkpoint.{progress_of}
+use Rattle.rr_checkpoint.specs.Growing.{IsPacked}
 
 -- records go to the half that the root doesn't name, from the record of this number on, or they go to the root's half
 abbrev pub IsBegunAt : Option ℕ → ℕ → FarHalf → Type 0
@@ -28,12 +29,12 @@ pub record Tells {codec : Codec} (taken : Taken) (place : Place) (free : FreePag
   pub goes_on : GoesOnAt layout place.half place.number
   pub reached : Has (present_of free) (reached_of layout.holding)
 
--- of a checkpoint under way: the pages that were taken for it are those that its root will reach, and its root's number
--- comes next after this one
+-- of a checkpoint under way: the pages that were taken for it are those that its root will reach, its root's number
+-- comes next after this one, and no page up to any that it writes is free
 abbrev pub HasComing : FreePages → ℕ → Option Checkpoint → Holding → Type 0
 HasComing free number None holding = Unit {0}
 HasComing free number (Some checkpoint) holding =
-    Has (coming_of free) (reached_of holding) × (checkpoint.plan.root.number ≡ number + 1)
+    Has (coming_of free) (reached_of holding) × (checkpoint.plan.root.number ≡ number + 1) × IsPacked free checkpoint.plan
 
 -- What is known of an open file carries this world: all files that a stop may leave now have one layout and keep the
 -- world, what is in memory tells the layout, and the checkpoint has come so far.

@@ -16,17 +16,19 @@ use Rattle.rr_images.specs.Progress.{IsPlan}
 use Rattle.rr_checkpoint.specs.declared.checkpoint.Plan.{Plan}
 use Rattle.rr_checkpoint.specs.declared.writer.Writer.{Writer}
 use Rattle.rr_checkpoint.specs.Checkpoint.{plan_of}
+use Rattle.rr_checkpoint.specs.Growing.{IsPacked}
 use Rattle.rr_checkpoint.specs.Pages.{pages_with}
 use Rattle.rr_checkpoint.specs.Writer.{Carries, place_of, taken_of}
 use Rattle.rr_pages.specs.Journal.Layout.{other_half}
 
--- The plan is one for this layout, its root's number comes next after that of the layout's root, and the pages that
--- were taken are those that its root will reach.
+-- The plan is one for this layout, its root's number comes next after that of the layout's root, the pages that were
+-- taken are those that its root will reach, and no page up to any that it writes is free.
 pub record MayBegin (codec : Codec) (layout : Layout codec) (free : FreePages) (plan : Plan) : Type 0 where
   pub holding : Holding
   pub is_plan : IsPlan codec layout (plan_of plan holding)
   pub next : plan.root.number ≡ layout.root.number + 1
   pub coming : Has (coming_of free) (reached_of holding)
+  pub packed : IsPacked free plan
 
 -- where an opening found the checkpoint begun, its first step writes a page of the plan, and else none
 abbrev pub MayStart : (codec : Codec) → Layout codec → FreePages → Option ℕ → Plan → Type 0

@@ -6,10 +6,11 @@ ghost use Rattle.rr_images.specs.Progress.{IsPlan};
 ghost use Rattle.rr_pages.specs.Faults.{CountsFault, OnDeviceFault, OnlyHalf};
 ghost use Rattle.rr_pages.specs.Journal.Layout.{HasRoom};
 ghost use Rattle.rr_pages.specs.declared.fault.Fault.TheVariants as pages;
-ghost use Rattle.rr_pages.specs.FreePages.{coming_of};
+ghost use Rattle.rr_pages.specs.FreePages.{present_of, coming_of};
 ghost use Rattle.rr_pages.specs.Sets.{Has};
 ghost use Rattle.rr_checkpoint.specs.Calls.{LeavesKept, LeavesEither, Renews, StaysTaken};
 ghost use Rattle.rr_checkpoint.specs.Checkpoint.{HasPageLeft, plan_of, begun, left_of};
+ghost use Rattle.rr_checkpoint.specs.Growing.{FreesBehind, GrowsWhereFull, IsPacked};
 ghost use Rattle.rr_checkpoint.specs.Holds.{HoldsOn, HoldsAsBegun, HoldsWithRecord, HoldsRenewed, HoldsBehind, RestsBehind};
 
 use crate::Place;
@@ -57,6 +58,10 @@ impl<C: Codec> OpenFile<C> {
         ensures only { OnlyHalf result }
         ensures number { OnOk result (self.new.place.number ≡ self.old.place.number + 1) }
         ensures begun { self.new.place.begun ≡ self.old.place.begun }
+        ensures free { self.new.free ≡ self.old.free }
+        ensures same_len { D.Honest disk.new → (checkpoint : _) (world : C.codec.World)
+            → CarriesWith C.codec self.old checkpoint (D.state disk.old) world
+            → D.file_len disk.new ≡ D.file_len disk.old }
 
         ensures honest { D.Honest disk.new → D.Honest disk.old }
         ensures fault { CountsFault (D.fault_count disk.old) (D.fault_count disk.new) result }
@@ -84,13 +89,17 @@ impl<C: Codec> OpenFile<C> {
             → (carries : CarriesWith C.codec self.old None (D.state disk.old) world)
             → (plan : _) (holding : Holding) → IsPlan C.codec carries.layout (plan_of plan holding)
             → Has (coming_of self.old.free) (reached_of holding)
-            → plan.root.number ≡ self.old.taken.root.number + 1
+            → plan.root.number ≡ self.old.taken.root.number + 1 → IsPacked self.old.free plan
             → (then : CarriesWith C.codec self.new (Some (begun plan)) (D.state disk.new) world)
             × HoldsAsBegun carries.layout holding then.layout then.holding) }
         ensures number { self.new.place.number ≡ self.old.place.number }
         ensures slots { self.new.place.half.next_slot ≤ self.old.place.half.next_slot }
         ensures fresh { OnOk result (self.new.place.half.next_slot ≡ 0) }
         ensures taken { self.new.taken ≡ self.old.taken }
+        ensures free { self.new.free ≡ self.old.free }
+        ensures same_len { D.Honest disk.new → (world : C.codec.World)
+            → CarriesWith C.codec self.old None (D.state disk.old) world
+            → D.file_len disk.new ≡ D.file_len disk.old }
         ensures stops { D.Honest disk.new → (world : C.codec.World)
             → CarriesWith C.codec self.old None (D.state disk.old) world
             → LeavesKept C.codec (D.past disk.old) (D.state disk.old) (D.past disk.new) (D.state disk.new) world }
@@ -136,6 +145,15 @@ impl<C: Codec> OpenFile<C> {
             × (D.sync_count disk.new ≡ D.sync_count disk.old)) }
         ensures taken { IfOk result (λ next. StaysTaken next self.old.taken self.new.taken) }
         ensures err { OnErr result (self.new.taken ≡ self.old.taken) }
+        ensures frees { IfOk result (λ next. FreesBehind next self.old.free self.new.free) }
+        ensures same_free { OnErr result (self.new.free ≡ self.old.free) }
+        ensures grows { D.Honest disk.new → (world : C.codec.World)
+            → CarriesWith C.codec self.old (Some checkpoint) (D.state disk.old) world
+            → GrowsWhereFull (present_of self.old.free) (coming_of self.old.free) (D.file_len disk.old)
+            (D.file_len disk.new) }
+        ensures same_len { D.Honest disk.new → (world : C.codec.World)
+            → CarriesWith C.codec self.old (Some checkpoint) (D.state disk.old) world
+            → left_of (Some checkpoint) ≤ 3 → D.file_len disk.new ≡ D.file_len disk.old }
         ensures rests { IfOk result (λ next. RestsBehind next self.new.place.begun) }
         ensures number { self.new.place.number ≡ self.old.place.number }
         ensures half { self.new.place.half ≡ self.old.place.half }
@@ -181,6 +199,13 @@ impl<C: Codec> OpenFile<C> {
         ensures left { IfOk result (λ next. left_of (Some checkpoint) ≡ left_of (Some next) + 1) }
         ensures page { OnOk result (HasPageLeft checkpoint → (D.write_count disk.new ≡ counted (D.write_count disk.old))
             × (D.sync_count disk.new ≡ D.sync_count disk.old)) }
+        ensures grows { D.Honest disk.new → (world : C.codec.World)
+            → CarriesWith C.codec self.now (Some checkpoint) (D.state disk.old) world
+            → GrowsWhereFull (present_of self.now.free) (coming_of self.now.free) (D.file_len disk.old)
+            (D.file_len disk.new) }
+        ensures same_len { D.Honest disk.new → (world : C.codec.World)
+            → CarriesWith C.codec self.now (Some checkpoint) (D.state disk.old) world
+            → left_of (Some checkpoint) ≤ 3 → D.file_len disk.new ≡ D.file_len disk.old }
         ensures honest { D.Honest disk.new → D.Honest disk.old }
         ensures fault { device.CountsFault (D.fault_count disk.old) (D.fault_count disk.new) result }
         ensures device { OnErr result (D.Honest disk.new → (world : C.codec.World)
@@ -215,6 +240,9 @@ impl<C: Codec> OpenFile<C> {
             → CarriesWith C.codec self.now (Some checkpoint) (D.state disk.old) world
             → LeavesKept C.codec (D.past disk.old) (D.state disk.old) (D.past disk.new) (D.state disk.new) world }
         ensures left { IfOk result (λ next. left_of (Some checkpoint) ≡ left_of (Some next) + 1) }
+        ensures same_len { D.Honest disk.new → (world : C.codec.World)
+            → CarriesWith C.codec self.now (Some checkpoint) (D.state disk.old) world
+            → D.file_len disk.new ≡ D.file_len disk.old }
         ensures honest { D.Honest disk.new → D.Honest disk.old }
         ensures fault { device.CountsFault (D.fault_count disk.old) (D.fault_count disk.new) result }
         ensures device { OnErr result (D.Honest disk.new → (world : C.codec.World)
@@ -242,6 +270,9 @@ impl<C: Codec> OpenFile<C> {
             → CarriesWith C.codec self.now (Some checkpoint) (D.state disk.old) world
             → LeavesKept C.codec (D.past disk.old) (D.state disk.old) (D.past disk.new) (D.state disk.new) world }
         ensures left { IfOk result (λ next. left_of (Some checkpoint) ≡ left_of (Some next) + 1) }
+        ensures same_len { D.Honest disk.new → (world : C.codec.World)
+            → CarriesWith C.codec self.now (Some checkpoint) (D.state disk.old) world
+            → D.file_len disk.new ≡ D.file_len disk.old }
         ensures honest { D.Honest disk.new → D.Honest disk.old }
         ensures fault { device.CountsFault (D.fault_count disk.old) (D.fault_count disk.new) result }
         ensures device { OnErr result (D.Honest disk.new → (world : C.codec.World)
@@ -275,6 +306,11 @@ impl<C: Codec> OpenFile<C> {
         ensures half { self.new.place.half ≡ self.old.place.half }
         ensures rests { OnOk result (self.new.place.begun ≡ None) }
         ensures err { OnErr result (self.new.taken ≡ self.old.taken) }
+        ensures frees { OnOk result (FreesBehind None self.old.free self.new.free) }
+        ensures same_free { OnErr result (self.new.free ≡ self.old.free) }
+        ensures same_len { D.Honest disk.new → (world : C.codec.World)
+            → CarriesWith C.codec self.old (Some checkpoint.now) (D.state disk.old) world
+            → D.file_len disk.new ≡ D.file_len disk.old }
         ensures honest { D.Honest disk.new → D.Honest disk.old }
         ensures fault { device.CountsFault (D.fault_count disk.old) (D.fault_count disk.new) result }
         ensures device { OnErr result (D.Honest disk.new → (world : C.codec.World)

@@ -19,6 +19,7 @@ ghost use Rattle.rr_checkpoint.specs.Calls.{LeavesKept, LeavesEither};
 ghost use Rattle.rr_checkpoint.specs.Holds.{HoldsAsBegun, HoldsWithRecord, HoldsRenewed, HoldsAt, RestsAt};
 ghost use Rattle.rr_checkpoint.specs.OpenFile.{Tells};
 ghost use Rattle.rr_checkpoint.specs.Checkpoint.{left_behind_first};
+ghost use Rattle.rr_checkpoint.specs.Growing.{AreReclaimed, FreesAt, GrowsWhereFull};
 ghost use Rattle.rr_checkpoint.specs.Pages.{pages_with};
 
 use crate::checkpoint::Checkpoint;
@@ -130,6 +131,10 @@ impl<C: Codec> Writer<C> {
         ensures number { OnOk result ((place_of self.new).number ≡ (place_of self.old).number + 1) }
         ensures begun { (place_of self.new).begun ≡ (place_of self.old).begun }
         ensures left { ticks_left_of self.new ≡ ticks_left_of self.old }
+        ensures free { free_of self.new ≡ free_of self.old }
+        // A record lies within the file.
+        ensures same_len { D.Honest disk.new → (world : C.codec.World)
+            → Carries C.codec self.old (D.state disk.old) world → D.file_len disk.new ≡ D.file_len disk.old }
 
         // When each error comes.
         ensures full { IsErrOf result pages.HalfFull
@@ -292,6 +297,14 @@ impl<C: Codec> Writer<C> {
         ensures page { OnOk result (((place_of self.old).begun ≡ None → ⊥) → 0 < length plan.fresh.items
             → (D.write_count disk.new ≡ counted (D.write_count disk.old)) × (D.sync_count disk.new ≡ D.sync_count disk.old)) }
 
+        ensures free { free_of self.new ≡ free_of self.old }
+        // The file becomes longer only by a fresh page, and only where no page under its end is free.
+        ensures grows { D.Honest disk.new → (world : C.codec.World)
+            → (carries : Carries C.codec self.old (D.state disk.old) world)
+            → MayStart C.codec carries.layout (free_of self.old) (place_of self.old).begun plan
+            → GrowsWhereFull (present_of (free_of self.old)) (coming_of (free_of self.old)) (D.file_len disk.old)
+            (D.file_len disk.new) }
+
         ensures fault { device.CountsFault (D.fault_count disk.old) (D.fault_count disk.new) result }
         // A disk that works doesn't fail here, where its file is one of a store.
         ensures device { OnErr result (D.Honest disk.new → (world : C.codec.World)
@@ -330,6 +343,12 @@ impl<C: Codec> Writer<C> {
         ensures half { (place_of self.new).half ≡ (place_of self.old).half }
         ensures page { OnOk result (0 < length plan.fresh.items
             → (D.write_count disk.new ≡ counted (D.write_count disk.old)) × (D.sync_count disk.new ≡ D.sync_count disk.old)) }
+        ensures free { free_of self.new ≡ free_of self.old }
+        ensures grows { D.Honest disk.new → (world : C.codec.World)
+            → (carries : Carries C.codec self.old (D.state disk.old) world)
+            → MayBegin C.codec carries.layout (free_of self.old) plan
+            → GrowsWhereFull (present_of (free_of self.old)) (coming_of (free_of self.old)) (D.file_len disk.old)
+            (D.file_len disk.new) }
         ensures fault { device.CountsFault (D.fault_count disk.old) (D.fault_count disk.new) result }
         ensures device { OnErr result (D.Honest disk.new → (world : C.codec.World)
             → (carries : Carries C.codec self.old (D.state disk.old) world)
@@ -366,6 +385,15 @@ impl<C: Codec> Writer<C> {
         ensures half { (place_of self.new).half ≡ (place_of self.old).half }
         ensures same { ticks_left_of self.old ≡ 0 → self.new ≡ self.old }
         ensures no_call { ticks_left_of self.old ≡ 0 → disk.new ≡ disk.old }
+        // The file becomes longer only by a fresh page, and only where no page under its end is free.
+        ensures grows { D.Honest disk.new → (world : C.codec.World) → Carries C.codec self.old (D.state disk.old) world
+            → GrowsWhereFull (present_of (free_of self.old)) (coming_of (free_of self.old)) (D.file_len disk.old)
+            (D.file_len disk.new) }
+        ensures same_len { D.Honest disk.new → (world : C.codec.World)
+            → Carries C.codec self.old (D.state disk.old) world → ticks_left_of self.old ≤ 3
+            → D.file_len disk.new ≡ D.file_len disk.old }
+        ensures frees { IfOk result (λ tick. FreesAt tick (free_of self.old) (free_of self.new)) }
+        ensures same_free { OnErr result (free_of self.new ≡ free_of self.old) }
 
         ensures fault { device.CountsFault (D.fault_count disk.old) (D.fault_count disk.new) result }
         ensures device { OnErr result (D.Honest disk.new → (world : C.codec.World)
@@ -412,6 +440,12 @@ impl<C: Codec> Writer<C> {
         ensures rests { OnOk result (0 < ticks_left_of self.old → (place_of self.new).begun ≡ None) }
         ensures number { (place_of self.new).number ≡ (place_of self.old).number }
         ensures half { (place_of self.new).half ≡ (place_of self.old).half }
+        // The file becomes longer only where no page under its end is free.
+        ensures grows { D.Honest disk.new → (world : C.codec.World) → Carries C.codec self.old (D.state disk.old) world
+            → GrowsWhereFull (present_of (free_of self.old)) (coming_of (free_of self.old)) (D.file_len disk.old)
+            (D.file_len disk.new) }
+        ensures frees { OnOk result (0 < ticks_left_of self.old → AreReclaimed (free_of self.old) (free_of self.new)) }
+        ensures same_free { OnErr result (free_of self.new ≡ free_of self.old) }
 
         ensures fault { device.CountsFault (D.fault_count disk.old) (D.fault_count disk.new) result }
         ensures device { OnErr result (D.Honest disk.new → (world : C.codec.World)

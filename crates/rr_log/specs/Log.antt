@@ -4,6 +4,7 @@ use Rattle.rr_checkpoint.specs.declared.place.Place.{Place}
 use Rattle.rr_checkpoint.specs.declared.writer.Writer.{Writer}
 use Rattle.rr_checkpoint.specs.Plan.Standing.{standing_as}
 use Rattle.rr_checkpoint.specs.Writer as file
+use Rattle.rr_pages.specs.declared.free_pages.FreePages.{FreePages}
 use Rattle.rr_pages.specs.Journal.Layout.{HasRoom}
 use Rattle.rr_log.specs.declared.log.Log.{Log}
 use Rattle.rr_reading.specs.declared.worlds.rules.Worlds.{Worlds}
@@ -22,6 +23,10 @@ known_snapshots log = map standing_as log.standing.items
 -- a device call of it failed
 abbrev pub is_broken : {D R : Type 0} → Log D R → Bool
 is_broken log = log.broken
+
+-- which pages of its file are free
+abbrev pub free_of : {D R : Type 0} → Log D R → FreePages
+free_of log = file.free_of log.writer
 
 -- where the next record goes, and its number
 abbrev pub place_of : {D R : Type 0} → Log D R → Place

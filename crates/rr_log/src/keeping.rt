@@ -1,12 +1,14 @@
 // Records.
 ghost use Rattle.std.specs.Prelude.{◌≡◌, ◌⊎◌, ◌↔◌, ◌+◌, ◌^◌, ◌<◌, ◌≤◌, false, length, IfOk, IfErr, IsErrOf, IsTrue, OnOk, None, Ok, Err};
 ghost use Rattle.rr_checkpoint.specs.Calls.{LeavesKept, LeavesEither};
+ghost use Rattle.rr_checkpoint.specs.Growing.{GrowsWhereFull};
 ghost use Rattle.rr_checkpoint.specs.Holds.{IsRenewed};
 ghost use Rattle.rr_disk.specs.Moments.{EachImage};
 ghost use Rattle.rr_images.specs.Calls.{TakesNewer};
 ghost use Rattle.rr_images.specs.Steps.{with_line};
 ghost use Rattle.rr_log.specs.Fault.{CountsFault, IsWant, OnDeviceFault, ends_broken};
 ghost use Rattle.rr_log.specs.Lent.{AreLentOf, lent_of};
+ghost use Rattle.rr_pages.specs.FreePages.{coming_of, present_of};
 ghost use Rattle.rr_reading.specs.Worlds.Spelling.{worlds};
 ghost use Rattle.rr_reading.specs.Worlds.World.{World};
 
@@ -18,7 +20,7 @@ use rr_reading::worlds::Rules;
 impl<D: Disk + Drop, R: Rules> Log<D, R> {
     ghost use Rattle.rr_log.specs.Calls.{IsFileFull, MayRefuse, MeetsFullFile, NumberBehind, first_left, layout_behind, ticks_due, world_behind};
     ghost use Rattle.rr_log.specs.Carrying.{Carries, HaveSameTexts};
-    ghost use Rattle.rr_log.specs.Log.{disk_of, is_broken, next_number, place_of, ticks_left, HasNoRoom, IsDue, IsTooLong};
+    ghost use Rattle.rr_log.specs.Log.{disk_of, free_of, is_broken, next_number, place_of, ticks_left, HasNoRoom, IsDue, IsTooLong};
 
     /// Keeps a record. After `Ok` it is safe. Before it a tick is made, where a checkpoint is under way or is to begin;
     /// the tables are those of the world before the record, and the snapshots show games there. A line has a byte at
@@ -82,6 +84,14 @@ impl<D: Disk + Drop, R: Rules> Log<D, R> {
         ensures fault { CountsFault (D.fault_count (disk_of self.old)) (D.fault_count (disk_of self.new)) result }
         ensures device { OnDeviceFault result (D.Honest (disk_of self.new) → (world : World)
             → Carries R.rules self.old (D.state (disk_of self.old)) world → D.Works (disk_of self.new) → ⊥) }
+
+        // A record lies within the file, which becomes longer only by a page of a checkpoint, and only where no page
+        // under its end is free.
+        ensures grows { D.Honest (disk_of self.new) → (world : World)
+            → AreLentOf R.rules world (lent_of T.TablesInWords tables.now)
+            → Carries R.rules self.old (D.state (disk_of self.old)) world
+            → GrowsWhereFull (present_of (free_of self.new)) (coming_of (free_of self.new))
+            (D.file_len (disk_of self.old)) (D.file_len (disk_of self.new)) }
 
         // Two of each are the record's, and one the tick's, where it is one of a checkpoint. Where the half is full
         // only the tick's are made.
@@ -149,6 +159,10 @@ impl<D: Disk + Drop, R: Rules> Log<D, R> {
         ensures fault { CountsFault (D.fault_count (disk_of self.old)) (D.fault_count (disk_of self.new)) result }
         ensures device { OnDeviceFault result (D.Honest (disk_of self.new) → (world : World)
             → Carries R.rules self.old (D.state (disk_of self.old)) world → D.Works (disk_of self.new) → ⊥) }
+        ensures grows { D.Honest (disk_of self.new) → (world : World)
+            → Carries R.rules self.old (D.state (disk_of self.old)) world
+            → GrowsWhereFull (present_of (free_of self.new)) (coming_of (free_of self.new))
+            (D.file_len (disk_of self.old)) (D.file_len (disk_of self.new)) }
         ensures writes { D.write_count (disk_of self.new) ≤ D.write_count (disk_of self.old) + 1 }
         ensures syncs { D.sync_count (disk_of self.new) ≤ D.sync_count (disk_of self.old) + 1 }
         ensures honest { D.Honest (disk_of self.new) → D.Honest (disk_of self.old) }
@@ -188,6 +202,10 @@ impl<D: Disk + Drop, R: Rules> Log<D, R> {
         ensures err { IfErr result (λ fault. (fault ≡ full) ⊎ (fault ≡ Fault.DeviceFailed)) }
         ensures fault { CountsFault (D.fault_count (disk_of self.old)) (D.fault_count (disk_of self.new)) result }
         ensures device { OnDeviceFault result (D.Works (disk_of self.new) → ⊥) }
+        ensures free { free_of self.new ≡ free_of self.old }
+        ensures same_len { D.Honest (disk_of self.new) → (world : World)
+            → Carries R.rules self.old (D.state (disk_of self.old)) world
+            → D.file_len (disk_of self.new) ≡ D.file_len (disk_of self.old) }
         ensures writes { D.write_count (disk_of self.new) ≤ D.write_count (disk_of self.old) + 2 }
         ensures syncs { D.sync_count (disk_of self.new) ≤ D.sync_count (disk_of self.old) + 2 }
         ensures honest { D.Honest (disk_of self.new) → D.Honest (disk_of self.old) }

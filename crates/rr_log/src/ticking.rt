@@ -1,12 +1,14 @@
 // Checkpoints, in ticks.
-ghost use Rattle.std.specs.Prelude.{◌≡◌, ◌⊎◌, ◌↔◌, ◌+◌, ◌<◌, ◌≤◌, false, OnOk, IfOk, IfErr, IsErrOf, IsTrue, None};
+ghost use Rattle.std.specs.Prelude.{◌≡◌, ◌⊎◌, ◌↔◌, ◌+◌, ◌<◌, ◌≤◌, false, OnOk, OnErr, IfOk, IfErr, IsErrOf, IsTrue, None};
 ghost use Rattle.rr_checkpoint.specs.Calls.{LeavesKept};
+ghost use Rattle.rr_checkpoint.specs.Growing.{AreReclaimed, GrowsWhereFull};
 ghost use Rattle.rr_checkpoint.specs.Holds.{IsRenewed};
 ghost use Rattle.rr_checkpoint.specs.Writer.{RenewsAt, Lowers};
 ghost use Rattle.rr_disk.specs.Moments.{EachImage};
 ghost use Rattle.rr_images.specs.Calls.{TakesNewer};
 ghost use Rattle.rr_log.specs.Fault.{CountsFault, IsWant, OnDeviceFault, ends_broken};
 ghost use Rattle.rr_log.specs.Lent.{AreLentOf, lent_of};
+ghost use Rattle.rr_pages.specs.FreePages.{coming_of, present_of};
 ghost use Rattle.rr_reading.specs.Worlds.Spelling.{worlds};
 ghost use Rattle.rr_reading.specs.Worlds.World.{World};
 
@@ -22,7 +24,7 @@ const MANY_SLOTS: u8 = 128;
 impl<D: Disk + Drop, R: Rules> Log<D, R> {
     ghost use Rattle.rr_log.specs.Calls.{IsBegunOn, IsFileFull, IsUnchanged, LowersFrom, NumbersRoot, TakesRootOf, as_begun, first_left, tables_due, ticks_due};
     ghost use Rattle.rr_log.specs.Carrying.{Carries, HoldsWorld};
-    ghost use Rattle.rr_log.specs.Log.{disk_of, is_broken, known_snapshots, next_number, place_of, root_number, ticks_left, HasNoneBegun, IsDue};
+    ghost use Rattle.rr_log.specs.Log.{disk_of, free_of, is_broken, known_snapshots, next_number, place_of, root_number, ticks_left, HasNoneBegun, IsDue};
 
     /// Makes one step of a checkpoint: it goes on with the one under way, or begins one where an opening found it begun
     /// or at least 128 slots of the half in use are used. The tables are those of the world that the log carries, and
@@ -77,6 +79,12 @@ impl<D: Disk + Drop, R: Rules> Log<D, R> {
         ensures fault { CountsFault (D.fault_count (disk_of self.old)) (D.fault_count (disk_of self.new)) result }
         ensures device { OnDeviceFault result (D.Honest (disk_of self.new) → (world : World)
             → Carries R.rules self.old (D.state (disk_of self.old)) world → D.Works (disk_of self.new) → ⊥) }
+
+        // The file becomes longer only by a page of a checkpoint, and only where no page under its end is free.
+        ensures grows { D.Honest (disk_of self.new) → (world : World)
+            → Carries R.rules self.old (D.state (disk_of self.old)) world
+            → GrowsWhereFull (present_of (free_of self.new)) (coming_of (free_of self.new))
+            (D.file_len (disk_of self.old)) (D.file_len (disk_of self.new)) }
 
         ensures writes { D.write_count (disk_of self.new) ≤ D.write_count (disk_of self.old) + 1 }
         ensures syncs { D.sync_count (disk_of self.new) ≤ D.sync_count (disk_of self.old) + 1 }
@@ -139,6 +147,10 @@ impl<D: Disk + Drop, R: Rules> Log<D, R> {
         ensures fault { CountsFault (D.fault_count (disk_of self.old)) (D.fault_count (disk_of self.new)) result }
         ensures device { OnDeviceFault result (D.Honest (disk_of self.new) → (world : World)
             → Carries R.rules self.old (D.state (disk_of self.old)) world → D.Works (disk_of self.new) → ⊥) }
+        ensures grows { D.Honest (disk_of self.new) → (world : World)
+            → Carries R.rules self.old (D.state (disk_of self.old)) world
+            → GrowsWhereFull (present_of (free_of self.new)) (coming_of (free_of self.new))
+            (D.file_len (disk_of self.old)) (D.file_len (disk_of self.new)) }
         ensures writes { D.write_count (disk_of self.new) ≤ D.write_count (disk_of self.old) + 1 }
         ensures syncs { D.sync_count (disk_of self.new) ≤ D.sync_count (disk_of self.old) + 1 }
         ensures honest { D.Honest (disk_of self.new) → D.Honest (disk_of self.old) }
@@ -196,6 +208,10 @@ impl<D: Disk + Drop, R: Rules> Log<D, R> {
         ensures fault { CountsFault (D.fault_count (disk_of self.old)) (D.fault_count (disk_of self.new)) result }
         ensures device { OnDeviceFault result (D.Honest (disk_of self.new) → (world : World)
             → Carries R.rules self.old (D.state (disk_of self.old)) world → D.Works (disk_of self.new) → ⊥) }
+        ensures grows { D.Honest (disk_of self.new) → (world : World)
+            → Carries R.rules self.old (D.state (disk_of self.old)) world
+            → GrowsWhereFull (present_of (free_of self.new)) (coming_of (free_of self.new))
+            (D.file_len (disk_of self.old)) (D.file_len (disk_of self.new)) }
         ensures writes { D.write_count (disk_of self.new) ≤ D.write_count (disk_of self.old) + 1 }
         ensures syncs { D.sync_count (disk_of self.new) ≤ D.sync_count (disk_of self.old) + 1 }
         ensures honest { D.Honest (disk_of self.new) → D.Honest (disk_of self.old) }
@@ -249,6 +265,11 @@ impl<D: Disk + Drop, R: Rules> Log<D, R> {
         ensures fault { CountsFault (D.fault_count (disk_of self.old)) (D.fault_count (disk_of self.new)) result }
         ensures device { OnDeviceFault result (D.Honest (disk_of self.new) → (world : World)
             → Carries R.rules self.old (D.state (disk_of self.old)) world → D.Works (disk_of self.new) → ⊥) }
+        ensures grows { D.Honest (disk_of self.new) → (world : World)
+            → Carries R.rules self.old (D.state (disk_of self.old)) world
+            → GrowsWhereFull (present_of (free_of self.new)) (coming_of (free_of self.new))
+            (D.file_len (disk_of self.old)) (D.file_len (disk_of self.new)) }
+        ensures pages { present_of (free_of self.new) ≡ present_of (free_of self.old) }
         ensures writes { D.write_count (disk_of self.new) ≤ D.write_count (disk_of self.old) + 1 }
         ensures syncs { D.sync_count (disk_of self.new) ≤ D.sync_count (disk_of self.old) + 1 }
         ensures honest { D.Honest (disk_of self.new) → D.Honest (disk_of self.old) }
@@ -323,6 +344,19 @@ impl<D: Disk + Drop, R: Rules> Log<D, R> {
         ensures device { OnDeviceFault result (D.Honest (disk_of self.new) → (world : World) → AreLentOf R.rules world (lent_of T.TablesInWords tables.now)
             → Carries R.rules self.old (D.state (disk_of self.old)) world → D.Works (disk_of self.new) → ⊥) }
 
+        // The file becomes longer only where no page under its end is free: each is reached by the root from before, or
+        // by the one that is written, which is taken then unless a device call failed.
+        ensures grows { OnOk result (D.Honest (disk_of self.new) → (world : World)
+            → AreLentOf R.rules world (lent_of T.TablesInWords tables.now)
+            → Carries R.rules self.old (D.state (disk_of self.old)) world
+            → GrowsWhereFull (present_of (free_of self.old)) (present_of (free_of self.new))
+            (D.file_len (disk_of self.old)) (D.file_len (disk_of self.new))) }
+        ensures grows_so_far { OnErr result (D.Honest (disk_of self.new) → (world : World)
+            → AreLentOf R.rules world (lent_of T.TablesInWords tables.now)
+            → Carries R.rules self.old (D.state (disk_of self.old)) world
+            → GrowsWhereFull (present_of (free_of self.old)) (coming_of (free_of self.new))
+            (D.file_len (disk_of self.old)) (D.file_len (disk_of self.new))) }
+
         // A write and a sync at most for each tick that is left, or for each of the checkpoint that begins.
         ensures writes { 0 < ticks_left self.old
             → D.write_count (disk_of self.new) ≤ D.write_count (disk_of self.old) + ticks_left self.old }
@@ -379,6 +413,12 @@ impl<D: Disk + Drop, R: Rules> Log<D, R> {
         ensures fault { CountsFault (D.fault_count (disk_of self.old)) (D.fault_count (disk_of self.new)) result }
         ensures device { OnDeviceFault result (D.Honest (disk_of self.new) → (world : World)
             → Carries R.rules self.old (D.state (disk_of self.old)) world → D.Works (disk_of self.new) → ⊥) }
+        ensures grows { D.Honest (disk_of self.new) → (world : World)
+            → Carries R.rules self.old (D.state (disk_of self.old)) world
+            → GrowsWhereFull (present_of (free_of self.old)) (coming_of (free_of self.old))
+            (D.file_len (disk_of self.old)) (D.file_len (disk_of self.new)) }
+        ensures frees { OnOk result (AreReclaimed (free_of self.old) (free_of self.new)) }
+        ensures same_free { OnErr result (free_of self.new ≡ free_of self.old) }
         ensures writes { D.write_count (disk_of self.new) ≤ D.write_count (disk_of self.old) + ticks_left self.old }
         ensures syncs { D.sync_count (disk_of self.new) ≤ D.sync_count (disk_of self.old) + ticks_left self.old }
         ensures honest { D.Honest (disk_of self.new) → D.Honest (disk_of self.old) }

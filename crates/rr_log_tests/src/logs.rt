@@ -182,6 +182,26 @@ fn a_whole_checkpoint_is_opened_again(rt: HostRuntime) -> Result<(), Fail> {
     Ok(())
 }
 
+// How many pages a new file has behind so many checkpoints.
+fn pages_behind(alloc: Global, count: u8) -> Result<u64, Fail> {
+    let tables = one_table(false)?;
+    let mut log = new_log(alloc)?;
+    for _ in 0..count {
+        checkpoint(&mut log, &tables)?;
+    }
+    Ok(disk_of(log).len() / 4096)
+}
+
+// A checkpoint writes a page of the table and one of the directory. The first one lets go of the old directory's alone,
+// and each later one of as many as it writes.
+#[test]
+fn a_file_grows_only_where_no_page_is_free(rt: HostRuntime) -> Result<(), Fail> {
+    for (count, pages) in [(0, 519), (1, 521), (2, 522), (3, 522), (4, 522)] {
+        assert!(rt; pages_behind(rt.alloc(), count)? == pages, "{count}");
+    }
+    Ok(())
+}
+
 // A log on a file with a record in the other half, which tells that a checkpoint was begun before that record.
 fn begun_log(alloc: Global) -> Result<Log<MemoryDisk, AnyLine>, Fail> {
     let mut disk = new_file(alloc)?;

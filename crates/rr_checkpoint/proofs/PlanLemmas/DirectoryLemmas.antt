@@ -14,7 +14,7 @@ use Rattle.rr_words.specs.Spelling.Number.{spelled_number}
 use Rattle.rr_words.proofs.SpellingLemmas.NumberLemmas.{length-spelled_number}
 use Rattle.rr_reading.proofs.DirLemmas.KeptLemmas.{length-first_commands}
 use Rattle.rr_reading.proofs.DirLemmas.TableLemmas.{length-spelled_kit, length-spelled_state}
-use Rattle.rr_checkpoint.proofs.Planning.{places_all}
+use Rattle.rr_checkpoint.proofs.Planning.{pages_fresh, places_all}
 use Rattle.rr_images.specs.Holding.{HeldChain, texts_of}
 use Rattle.rr_images.specs.Laws.{OneLaid}
 use Rattle.rr_images.specs.Plans.{LaidChain, laid_as, chains_of, fresh_chains, laid_pages, AllFit}
@@ -30,7 +30,7 @@ use Rattle.rr_checkpoint.specs.Plan.Transcript.{commands_of, table_of}
 use Rattle.rr_reading.specs.Worlds.Spelling.{entry_for, entries_for, snapshot_entries}
 use Rattle.rr_reading.specs.Worlds.World.{Snapshot, Table, text_for, AreShort}
 use Rattle.rr_checkpoint.proofs.PlanLemmas.LaidTables.{fresh_count, head_under, too_few_behind}
-use Rattle.rr_checkpoint.proofs.PlanLemmas.LaidSnapshots.{bytes_of, pages_laid, texts_are}
+use Rattle.rr_checkpoint.proofs.PlanLemmas.LaidSnapshots.{bytes_of, texts_are}
 use Rattle.rr_checkpoint.proofs.PlanLemmas.SnapshotLemmas.{entries_long, snapshots_counted}
 use Rattle.rr_checkpoint.proofs.PlanLemmas.TableLemmas.{spelled_few}
 
@@ -171,7 +171,7 @@ takes_fresh present coming between after fresh more tables standing snapshots en
     let one : OneLaid present coming after more before bytes head = one_more_laid present coming between after fresh more before bytes head laid.in_turn is in
     let all = before ++ one.chain ∷ [] in
     let pages : map (λ (page : FreshPage). page.page) more ≡ laid_pages all =
-    pages_laid more ∙ (ap (λ (written : List (ℕ × List ℕ)). map (λ (one : ℕ × List ℕ). one.0) written) one.laid.to_write ∙ places_all all one.laid.fit) in
+    pages_fresh more ∙ (ap (λ (written : List (ℕ × List ℕ)). map (λ (one : ℕ × List ℕ). one.0) written) one.laid.to_write ∙ places_all all one.laid.fit) in
     subst (λ (taken : List ℕ). TakesFree present coming taken after) (sym pages) one.laid.taken
 
 -- the same, told otherwise

@@ -4,6 +4,7 @@ use Rattle.std.proofs.lemmas.List.{append-nil, append_assoc, drop-map, length-ma
 use Rattle.std.proofs.Math.Seq.{drop-append_seam}
 use Rattle.std.specs.List.{All}
 use Rattle.std.specs.Prelude.{IfOk}
+use Rattle.std.specs.Rc.{rc_slice_items}
 use Rattle.rr_pages.specs.declared.fault.Fault.{Fault}
 use Rattle.std.proofs.lemmas.List.Elements.{All-nil, All-head, All-tail, All-cons}
 use Rattle.std.proofs.lemmas.List.Sums.{sum_by-append, sum_by-cons}
@@ -19,13 +20,12 @@ use Rattle.rr_checkpoint.specs.declared.plan.snapshot.SnapshotTranscript.{Snapsh
 use Rattle.rr_checkpoint.specs.declared.plan.standing.StandingSnapshot.{StandingSnapshot}
 use Rattle.rr_checkpoint.specs.Plan.Laying.{chain_pages, snapshot_pages, AreChainsLaid, AreSnapshotsPlaced, AreTablesLaid}
 use Rattle.rr_checkpoint.specs.Plan.Snapshots.{IsCounted, snapshot_of}
-use Rattle.rr_checkpoint.specs.Plan.Standing.{StandsAs, entry_of, laid_at, laid_snapshots, left_behind, place_of, places_of, standing_as, standing_chains}
-use Rattle.rr_reading.specs.Chains.{held}
+use Rattle.rr_checkpoint.specs.Plan.Standing.{StandsAs, entry_of, laid_at, laid_snapshots, left_behind, place_of, places_of, standing_as, standing_chain, standing_chains}
 use Rattle.rr_reading.specs.Worlds.Spelling.{snapshot_entries}
 use Rattle.rr_reading.specs.Worlds.World.{Snapshot, Table}
-use Rattle.rr_checkpoint.proofs.Planning.{places_laid}
+use Rattle.rr_checkpoint.proofs.Planning.{pages_fresh, places_laid}
 use Rattle.rr_checkpoint.proofs.PlanLemmas.LaidTables.{laid_length, takes_on, too_few_behind}
-use Rattle.rr_checkpoint.proofs.PlanLemmas.StandingLemmas.{chain_of, chains_on, laid_on, one_laid, places_long, places_on, snapshots_more}
+use Rattle.rr_checkpoint.proofs.PlanLemmas.StandingLemmas.{chains_on, laid_on, one_laid, places_long, places_on, snapshots_more}
 
 abbrev pub bytes_of : Snapshot → List ℕ
 bytes_of snapshot = snapshot.bytes
@@ -82,11 +82,11 @@ none_placed present coming fresh placed none =
     }
 
 -- a snapshot that stays where it stands
-one_kept : (present coming : List Bool) (fresh : List FreshPage) (snapshot : Snapshot) (standing placed : StandingSnapshot) → standing_as standing ≡ snapshot → standing_as placed ≡ standing_as standing → held placed.chain ≡ held standing.chain
+one_kept : (present coming : List Bool) (fresh : List FreshPage) (snapshot : Snapshot) (standing placed : StandingSnapshot) → standing_as standing ≡ snapshot → standing_as placed ≡ standing_as standing → standing_chain placed ≡ standing_chain standing
     → AreSnapshotsPlaced present coming coming fresh fresh (Some standing ∷ []) (snapshot ∷ []) (placed ∷ [])
 one_kept present coming fresh snapshot standing placed same copied chain =
     record {
-      drafts = Kept (held standing.chain) ∷ [];
+      drafts = Kept (standing_chain standing) ∷ [];
       to_write = sym (append-nil (map fresh_of fresh));
       fit = tt;
       taken = refl;
@@ -97,17 +97,13 @@ one_kept present coming fresh snapshot standing placed same copied chain =
     }
 
 pub if_kept : (present coming : List Bool) (fresh : List FreshPage) (snapshot : Snapshot) (place : Option StandingSnapshot) (standing : StandingSnapshot) (result : Result StandingSnapshot Fault) → place ≡ Some standing → StandsAs snapshot place
-    → IfOk result (λ placed. standing_as placed ≡ standing_as standing) → IfOk result (λ placed. held placed.chain ≡ held standing.chain) → IfOk result (λ placed. AreSnapshotsPlaced present coming coming fresh fresh (place ∷ []) (snapshot ∷ []) (placed ∷ []))
+    → IfOk result (λ placed. standing_as placed ≡ standing_as standing) → IfOk result (λ placed. standing_chain placed ≡ standing_chain standing) → IfOk result (λ placed. AreSnapshotsPlaced present coming coming fresh fresh (place ∷ []) (snapshot ∷ []) (placed ∷ []))
 if_kept present coming fresh snapshot place standing (Err fault) is stands copied chain = tt
 if_kept present coming fresh snapshot place standing (Ok placed) is stands copied chain =
     subst (λ (at : Option StandingSnapshot). AreSnapshotsPlaced present coming coming fresh fresh (at ∷ []) (snapshot ∷ []) (placed ∷ [])) (sym is)
     (one_kept present coming fresh snapshot standing placed (subst (λ (at : Option StandingSnapshot). StandsAs snapshot at) is stands) copied chain)
 
 -- the pages of a chain that was laid, behind those from before
-pub pages_laid : (fresh : List FreshPage) → map (λ (page : FreshPage). page.page) fresh ≡ map (λ (one : ℕ × List ℕ). one.0) (map fresh_of fresh)
-pages_laid [] = refl
-pages_laid (page ∷ fresh) = ap (λ (pages : List ℕ). page.page ∷ pages) (pages_laid fresh)
-
 behind_pages : (old new : List FreshPage) (pages : List ℕ) (pieces : List (List ℕ)) → FitEach pages pieces → map fresh_of new ≡ map fresh_of old ++ laid pages pieces → map (λ (page : FreshPage). page.page) (drop (length old) new) ≡ pages
 behind_pages old new pages pieces fit same =
     let there = laid pages pieces in
@@ -115,7 +111,7 @@ behind_pages old new pages pieces fit same =
     sym (drop-map fresh_of (length old) new)
     ∙ (ap (λ (xs : List (ℕ × List ℕ)). drop (length old) xs) same
     ∙ (ap (λ (k : ℕ). drop k (map fresh_of old ++ there)) (sym (length-map old fresh_of)) ∙ drop-append_seam (map fresh_of old) there)) in
-    pages_laid (drop (length old) new) ∙ (ap (λ (xs : List (ℕ × List ℕ)). map (λ (one : ℕ × List ℕ). one.0) xs) cut ∙ places_laid pages pieces fit)
+    pages_fresh (drop (length old) new) ∙ (ap (λ (xs : List (ℕ × List ℕ)). map (λ (one : ℕ × List ℕ). one.0) xs) cut ∙ places_laid pages pieces fit)
 
 -- as code cuts them off
 pub cut_pages : (old new all : List FreshPage) (before : ℕ) (pages : List ℕ) (pieces : List (List ℕ)) → all ≡ new → before ≡ length old → FitEach pages pieces → map fresh_of new ≡ map fresh_of old ++ laid pages pieces
@@ -126,10 +122,10 @@ cut_pages old new all before pages pieces same count fit behind =
 
 -- a snapshot that is laid
 pub one_is_laid : (present coming after : List Bool) (old new : List FreshPage) (snapshot : Snapshot) (head : ℕ) (placed : StandingSnapshot) → (is : IsLaid present coming after snapshot.bytes old new head) → length new ≡ length old + pages_for (length snapshot.bytes)
-    → placed.chain.pages.items ≡ is.pages → standing_as placed ≡ snapshot → AreSnapshotsPlaced present coming after old new (None ∷ []) (snapshot ∷ []) (placed ∷ [])
+    → placed.pages.items ≡ is.pages → standing_as placed ≡ snapshot → AreSnapshotsPlaced present coming after old new (None ∷ []) (snapshot ∷ []) (placed ∷ [])
 one_is_laid present coming after old new snapshot head placed is count pages same =
     let chain : LaidChain = record { pages = is.pages; pieces = is.pieces } in
-    let bytes : placed.chain.bytes.items ≡ snapshot.bytes = ap bytes_of same in
+    let bytes : rc_slice_items placed.bytes ≡ snapshot.bytes = ap bytes_of same in
     record {
       drafts = Fresh chain ∷ [];
       to_write = is.fresh ∙ ap (λ (xs : List (ℕ × List ℕ)). map fresh_of old ++ xs) (sym (append-nil (laid is.pages is.pieces)));
@@ -162,7 +158,7 @@ placed_on present coming between after old mid new places more snapshots others 
       taken = subst (λ (chains : List LaidChain). TakesFree present coming (laid_pages chains) after) all (taken_on present coming between after front back first.taken next.taken);
       kept = kept_drafts_on first.drafts next.drafts ∙ ((λ i. first.kept i ++ next.kept i) ∙ sym (chains_on places more));
       named = map-append standing_as placed then ∙ (λ i. first.named i ++ next.named i);
-      chains = drafts_on first.drafts next.drafts ∙ ((λ i. first.chains i ++ next.chains i) ∙ sym (map-append chain_of placed then));
+      chains = drafts_on first.drafts next.drafts ∙ ((λ i. first.chains i ++ next.chains i) ∙ sym (map-append standing_chain placed then));
       counted = omega (
         arith,
         first.counted,
@@ -272,7 +268,7 @@ too_few_then present other coming between fresh tables standing snapshots entrie
 -- the bytes of those that will stand
 texts_placed : (placed : List StandingSnapshot) → texts_of (standing_chains placed) ≡ map bytes_of (map standing_as placed)
 texts_placed [] = refl
-texts_placed (standing ∷ placed) = ap (λ (texts : List (List ℕ)). standing.chain.bytes.items ∷ texts) (texts_placed placed)
+texts_placed (standing ∷ placed) = ap (λ (texts : List (List ℕ)). rc_slice_items standing.bytes ∷ texts) (texts_placed placed)
 
 pub texts_are : (present coming after : List Bool) (fresh : List FreshPage) (tables : List Table) (standing : List StandingSnapshot) (snapshots : List Snapshot) (entries : List TableEntry) (others : List SnapshotEntry) (placed : List StandingSnapshot)
     → (laid : AreChainsLaid present coming after fresh tables standing snapshots entries others placed) → texts_of (chains_of laid.drafts) ≡ map bytes_of snapshots
@@ -280,15 +276,15 @@ texts_are present coming after fresh tables standing snapshots entries others pl
     ap (λ (chains : List HeldChain). texts_of chains) laid.chains ∙ (texts_placed placed ∙ ap (λ (ss : List Snapshot). map bytes_of ss) laid.placed_as)
 
 -- which are few
-placed_few : (placed : List StandingSnapshot) (snapshots : List Snapshot) (counts : List ℕ) → map standing_as placed ≡ snapshots → All (IsCounted counts) snapshots → All (λ (s : StandingSnapshot). length s.chain.bytes.items ≤ 16384) placed
-placed_few [] snapshots counts same all = All-nil (λ (s : StandingSnapshot). length s.chain.bytes.items ≤ 16384)
+placed_few : (placed : List StandingSnapshot) (snapshots : List Snapshot) (counts : List ℕ) → map standing_as placed ≡ snapshots → All (IsCounted counts) snapshots → All (λ (s : StandingSnapshot). length (rc_slice_items s.bytes) ≤ 16384) placed
+placed_few [] snapshots counts same all = All-nil (λ (s : StandingSnapshot). length (rc_slice_items s.bytes) ≤ 16384)
 placed_few (standing ∷ placed) [] counts same all = absurd (cc)
 placed_few (standing ∷ placed) (snapshot ∷ snapshots) counts same all =
     let first : standing_as standing ≡ snapshot = cc in
     let rest : map standing_as placed ≡ snapshots = cc in
     let here = All-head (IsCounted counts) snapshot snapshots all in
-    All-cons (λ (s : StandingSnapshot). length s.chain.bytes.items ≤ 16384) standing placed (omega (arith, here.2, ap (λ (s : Snapshot). length s.bytes) first)) (placed_few placed snapshots counts rest (All-tail (IsCounted counts) snapshot snapshots all))
+    All-cons (λ (s : StandingSnapshot). length (rc_slice_items s.bytes) ≤ 16384) standing placed (omega (arith, here.2, ap (λ (s : Snapshot). length s.bytes) first)) (placed_few placed snapshots counts rest (All-tail (IsCounted counts) snapshot snapshots all))
 
 pub placed_short : (present coming after : List Bool) (old new : List FreshPage) (places : List (Option StandingSnapshot)) (snapshots : List Snapshot) (placed : List StandingSnapshot) (counts : List ℕ) → AreSnapshotsPlaced present coming after old new places snapshots placed → All (IsCounted counts) snapshots
-    → All (λ (s : StandingSnapshot). length s.chain.bytes.items ≤ 16384) placed
+    → All (λ (s : StandingSnapshot). length (rc_slice_items s.bytes) ≤ 16384) placed
 placed_short present coming after old new places snapshots placed counts are all = placed_few placed snapshots counts are.named all

@@ -14,13 +14,9 @@ use Rattle.rr_checkpoint.specs.declared.plan.standing.StandingSnapshot.{Standing
 use Rattle.rr_checkpoint.specs.Plan.Kit.{text_pages}
 use Rattle.rr_checkpoint.specs.Plan.Laying.{snapshot_pages}
 use Rattle.rr_checkpoint.specs.Plan.Snapshots.{snapshot_of}
-use Rattle.rr_checkpoint.specs.Plan.Standing.{StandsAs, behind, comes_before, from, if_same, is_same, kept_at, kept_snapshots, laid_at, left_behind, left_by, place_of, places_of, standing_as, standing_chains, staying_pages}
-use Rattle.rr_reading.specs.Chains.{held}
+use Rattle.rr_checkpoint.specs.Plan.Standing.{StandsAs, behind, comes_before, from, if_same, is_same, kept_at, kept_snapshots, laid_at, left_behind, left_by, place_of, places_of, standing_as, standing_chain, standing_chains, staying_pages}
 use Rattle.rr_reading.specs.Worlds.World.{Snapshot}
 use Rattle.rr_checkpoint.proofs.PlanLemmas.Frames.{marked_on}
-
-abbrev pub chain_of : StandingSnapshot → HeldChain
-chain_of standing = held standing.chain
 
 -- snapshots behind others
 pub places_on : (standing : List StandingSnapshot) (snapshots more : List Snapshot) → places_of standing (snapshots ++ more) ≡ places_of standing snapshots ++ places_of (left_behind standing snapshots) more
@@ -53,7 +49,7 @@ pages_both [] back = refl
 pages_both (chain ∷ front) back = ap (λ (pages : List ℕ). chain.pages ++ pages) (pages_both front back) ∙ sym (append_assoc chain.pages (pages_of front) (pages_of back))
 
 pub chains_on : (places more : List (Option StandingSnapshot)) → standing_chains (kept_at (places ++ more)) ≡ standing_chains (kept_at places) ++ standing_chains (kept_at more)
-chains_on places more = ap (λ (kept : List StandingSnapshot). standing_chains kept) (kept_on places more) ∙ map-append chain_of (kept_at places) (kept_at more)
+chains_on places more = ap (λ (kept : List StandingSnapshot). standing_chains kept) (kept_on places more) ∙ map-append standing_chain (kept_at places) (kept_at more)
 
 pub kept_pages_on : (standing : List StandingSnapshot) (snapshots more : List Snapshot)
     → pages_of (standing_chains (kept_snapshots standing (snapshots ++ more))) ≡ pages_of (standing_chains (kept_snapshots standing snapshots)) ++ pages_of (standing_chains (kept_snapshots (left_behind standing snapshots) more))
@@ -74,7 +70,7 @@ some_far (chain ∷ front) chains all some = some_behind chain chains (front ++ 
 
 some_from_if : (before : Bool) (snapshot : Snapshot) (first : StandingSnapshot) (others : List StandingSnapshot) (chains : List HeldChain) → (AreSome chains (standing_chains (from snapshot others)) → AreSome chains (standing_chains others))
     → AreSome chains (standing_chains (if before then from snapshot others else first ∷ others)) → AreSome chains (standing_chains (first ∷ others))
-some_from_if true snapshot first others chains rest some = some_behind (chain_of first) chains (standing_chains others) (rest some)
+some_from_if true snapshot first others chains rest some = some_behind (standing_chain first) chains (standing_chains others) (rest some)
 some_from_if false snapshot first others chains rest some = some
 
 some_from : (snapshot : Snapshot) (standing : List StandingSnapshot) (chains : List HeldChain) → AreSome chains (standing_chains (from snapshot standing)) → AreSome chains (standing_chains standing)
@@ -105,7 +101,7 @@ both : (p q : Bool) → (p && q) ≡ true → (p ≡ true) × (q ≡ true)
 both true q are = (refl, are)
 both false q are = absurd (cc)
 
-same_snapshot : (first other : Snapshot) → is_same first other ≡ true → first ≡ other
+pub same_snapshot : (first other : Snapshot) → is_same first other ≡ true → first ≡ other
 same_snapshot first other same =
     let all = both (first.table == other.table && first.kept == other.kept) (bytes_eq first.bytes other.bytes) same in
     let front = both (first.table == other.table) (first.kept == other.kept) all.0 in
@@ -118,7 +114,7 @@ stands_if : (same : Bool) (first : StandingSnapshot) (snapshot : Snapshot) → i
 stands_if true first snapshot is = same_snapshot (standing_as first) snapshot is
 stands_if false first snapshot is = tt
 
-stands_as : (snapshot : Snapshot) (standing : List StandingSnapshot) → StandsAs snapshot (if_same snapshot standing)
+pub stands_as : (snapshot : Snapshot) (standing : List StandingSnapshot) → StandsAs snapshot (if_same snapshot standing)
 stands_as snapshot [] = tt
 stands_as snapshot (first ∷ others) = stands_if (is_same (standing_as first) snapshot) first snapshot refl
 

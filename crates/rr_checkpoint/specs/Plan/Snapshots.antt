@@ -1,12 +1,13 @@
 -- Snapshots of games that a checkpoint writes.
 use Rattle.std.specs.Prelude.{◌≡◌, ℕ, ◌<◌, ◌≤◌, List, length, slice_get, slice_index, Some}
+use Rattle.std.specs.Rc.{rc_slice_items}
 use Rattle.rr_checkpoint.specs.declared.plan.snapshot.SnapshotTranscript.{SnapshotTranscript}
 use Rattle.rr_reading.specs.declared.dir.directory.TheConstants.{MOST_SNAPSHOT_BYTES}
 use Rattle.rr_reading.specs.Worlds.World.{Snapshot, Table}
 
 -- the snapshot as a file holds it
 abbrev pub snapshot_of : SnapshotTranscript → Snapshot
-snapshot_of snapshot = record { table = snapshot.table; kept = snapshot.kept; bytes = snapshot.bytes.items }
+snapshot_of snapshot = record { table = snapshot.table; kept = snapshot.kept; bytes = rc_slice_items snapshot.bytes }
 
 -- it is of one of the tables, which keeps at least as many commands, and has no more bytes than it may
 pub record IsSnapshotOf (tables : List Table) (snapshot : Snapshot) : Type 0 where

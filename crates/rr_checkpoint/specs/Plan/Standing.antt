@@ -1,10 +1,10 @@
 -- Snapshots that the present root holds, and which of those that a checkpoint writes stay where they stand.
 use Rattle.std.specs.Prelude.{◌≡◌, ℕ, ◌==◌, ◌&&◌, ◌||◌, nat_lt, Bool, List, [], ◌∷◌, ◌++◌, Option, None, Some, bytes_eq, if◌then◌else◌, map}
+use Rattle.std.specs.Rc.{rc_slice_items}
 use Rattle.rr_checkpoint.specs.declared.plan.kit.KitPages.{KitPages}
 use Rattle.rr_checkpoint.specs.declared.plan.standing.StandingSnapshot.{StandingSnapshot}
 use Rattle.rr_checkpoint.specs.Plan.Kit.{text_pages}
 use Rattle.rr_images.specs.Holding.{HeldChain, Holding, pages_of}
-use Rattle.rr_reading.specs.Chains.{held}
 use Rattle.rr_reading.specs.Held.{TextChains, chains_of}
 use Rattle.rr_reading.specs.Worlds.Spelling.{snapshot_entry}
 use Rattle.rr_reading.specs.Worlds.World.{Snapshot}
@@ -12,14 +12,18 @@ use Rattle.rr_reading.specs.declared.dir.directory.SnapshotEntry.{SnapshotEntry}
 
 -- the snapshot that stands there
 abbrev pub standing_as : StandingSnapshot → Snapshot
-standing_as standing = record { table = standing.table; kept = standing.kept; bytes = standing.chain.bytes.items }
+standing_as standing = record { table = standing.table; kept = standing.kept; bytes = rc_slice_items standing.bytes }
+
+-- and the chain that holds it
+abbrev pub standing_chain : StandingSnapshot → HeldChain
+standing_chain standing = record { pages = standing.pages.items; text = rc_slice_items standing.bytes }
 
 abbrev pub standing_chains : List StandingSnapshot → List HeldChain
-standing_chains standing = map (λ (snapshot : StandingSnapshot). held snapshot.chain) standing
+standing_chains standing = map standing_chain standing
 
 -- what a directory says of it
 abbrev pub entry_of : StandingSnapshot → SnapshotEntry
-entry_of standing = snapshot_entry (held standing.chain) (standing_as standing)
+entry_of standing = snapshot_entry (standing_chain standing) (standing_as standing)
 
 -- where a snapshot stands, it is that one
 abbrev pub StandsAs : Snapshot → Option StandingSnapshot → Type 0

@@ -71,7 +71,7 @@ fn keep_place<R: Rules>(writer: &mut Writer<Worlds<R>>, place: Option<&StandingS
     ensures only { OnlyTakes (worlds R.rules) writer.old writer.new }
 {
     if let Some(standing) = place {
-        keep_pages(writer, &standing.chain.pages);
+        keep_pages(writer, &standing.pages);
     }
 }
 

@@ -1,6 +1,7 @@
 // The chains of the tables and of the snapshots, laid into free pages one after another, but for those that stay.
 ghost use Rattle.std.specs.Prelude.{◌≡◌, ◌⊎◌, ◌+◌, ◌≤◌, [], ◌∷◌, All, Some, None, length, map, IfOk, IfErr, IsErrOf};
 ghost use Rattle.std.specs.Option.{option_copied};
+ghost use Rattle.std.specs.Rc.{rc_slice_items};
 ghost use Rattle.rr_checkpoint.specs.Writer.{free_of, ticks_left_of};
 ghost use Rattle.rr_pages.specs.FreePages.{present_of, coming_of};
 ghost use Rattle.rr_pages.specs.Laying.{pages_for};
@@ -19,7 +20,7 @@ ghost use Rattle.rr_reading.specs.Worlds.World.{text_for};
 use crate::Writer;
 use crate::plan::standing::{first_if_same, those_behind, those_from};
 use crate::plan::{KitPages, SnapshotTranscript, StandingSnapshot, TableTranscript, Transcript};
-use rr_pages::{Fault, FreshPage, ReadChain};
+use rr_pages::{Fault, FreshPage};
 use rr_reading::dir::{ChainRef, Dir, SnapshotEntry, TableEntry};
 use rr_reading::worlds::{Rules, Worlds};
 use std::alloc::Global;
@@ -186,18 +187,19 @@ fn lay_snapshot<R: Rules>(
         (coming_of (free_of writer.old)) (coming_of (free_of writer.new)) fresh.old.items fresh.new.items
         (None ∷ []) (snapshot_of snapshot.now ∷ []) (placed ∷ [])) }
     ensures full { IsErrOf result Fault.FileFull → TooFewFree (present_of (free_of writer.old))
-        (coming_of (free_of writer.old)) (pages_for (length snapshot.now.bytes.items)) }
+        (coming_of (free_of writer.old)) (pages_for (length (rc_slice_items snapshot.now.bytes))) }
     ensures err { IfErr result (λ fault. (fault ≡ Fault.FileFull) ⊎ (fault ≡ Fault.OutOfMemory)) }
     ensures only { OnlyTakes (worlds R.rules) writer.old writer.new }
 {
     let before = fresh.len();
     writer.lay(alloc, fresh, &snapshot.bytes)?;
     let pages = pages_of(alloc, &fresh[before..])?;
-    let bytes = snapshot.bytes.to_vec(alloc)?;
+    let bytes = snapshot.bytes.clone()?;
     Ok(StandingSnapshot {
         table: snapshot.table,
         kept: snapshot.kept,
-        chain: ReadChain { pages, bytes },
+        pages,
+        bytes,
     })
 }
 
@@ -214,7 +216,7 @@ fn pages_of(alloc: Global, fresh: &[FreshPage]) -> Result<Vec<u32>, Fault>
 
 // What the directory says of the snapshots that will stand there.
 fn snapshot_entries(alloc: Global, placed: &[StandingSnapshot]) -> Result<Vec<SnapshotEntry>, Fault>
-    requires { All (λ snapshot. length snapshot.chain.bytes.items ≤ MOST_SNAPSHOT_BYTES) placed.now }
+    requires { All (λ snapshot. length (rc_slice_items snapshot.bytes) ≤ MOST_SNAPSHOT_BYTES) placed.now }
     ensures entries { IfOk result (λ entries. entries.items ≡ map entry_of placed.now) }
     ensures memory { IfErr result (λ fault. fault ≡ Fault.OutOfMemory) }
 {

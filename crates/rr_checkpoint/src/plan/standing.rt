@@ -1,7 +1,8 @@
 ghost use Rattle.std.specs.Prelude.{◌≡◌, ◌≤◌, length, IfOk, IsOkUnless};
 ghost use Rattle.std.specs.Option.{option_copied};
+ghost use Rattle.std.specs.Rc.{rc_slice_items};
 ghost use Rattle.rr_checkpoint.specs.Plan.Snapshots.{snapshot_of};
-ghost use Rattle.rr_checkpoint.specs.Plan.Standing.{behind, comes_before, entry_of, from, if_same, is_same, standing_as};
+ghost use Rattle.rr_checkpoint.specs.Plan.Standing.{behind, comes_before, entry_of, from, if_same, is_same, standing_as, standing_chain};
 ghost use Rattle.rr_pages.specs.Laying.{head_of};
 ghost use Rattle.rr_reading.specs.Chains.{held};
 ghost use Rattle.rr_reading.specs.declared.dir.directory.TheConstants.{MOST_SNAPSHOT_BYTES};
@@ -11,14 +12,16 @@ use crate::plan::SnapshotTranscript;
 use rr_pages::{Fault, ReadChain};
 use rr_reading::dir::{ChainRef, SnapshotEntry};
 use std::alloc::Global;
+use std::rc::RcSlice;
 
 /// A snapshot that a root holds: the place of its table in the directory, how many of that table's kept commands were
-/// played, and its chain.
+/// played, the pages of its chain, and the bytes that they hold, which are shared with whoever else holds the snapshot.
 #[derive(Drop)]
 pub struct StandingSnapshot {
     pub table: u16,
     pub kept: u32,
-    pub chain: ReadChain,
+    pub pages: Vec<u32>,
+    pub bytes: RcSlice<u8>,
 }
 
 /// The plan of a checkpoint, and where the snapshots of the coming root will stand, in the directory's order.
@@ -29,33 +32,49 @@ pub struct Planned {
 }
 
 impl StandingSnapshot {
-    // The same once more.
+    /// The snapshot of this entry of a directory, where its chain was read. Nothing is copied.
+    ///
+    /// # Errors
+    /// `OutOfMemory`.
+    pub fn of(entry: &SnapshotEntry, chain: ReadChain) -> Result<StandingSnapshot, Fault>
+        ensures table { IfOk result (λ standing. standing.table ≡ entry.now.table) }
+        ensures kept { IfOk result (λ standing. standing.kept ≡ entry.now.kept) }
+        ensures chain { IfOk result (λ standing. standing_chain standing ≡ held chain) }
+        ensures memory { IsOkUnless result Fault.OutOfMemory }
+    {
+        Ok(StandingSnapshot {
+            table: entry.table,
+            kept: entry.kept,
+            pages: chain.pages,
+            bytes: RcSlice::from_vec(chain.bytes)?,
+        })
+    }
+
+    // The same once more, which shares its bytes.
     pub(crate) fn copied(&self, alloc: Global) -> Result<StandingSnapshot, Fault>
         ensures snapshot { IfOk result (λ copy. standing_as copy ≡ standing_as self.now) }
-        ensures chain { IfOk result (λ copy. held copy.chain ≡ held self.now.chain) }
+        ensures chain { IfOk result (λ copy. standing_chain copy ≡ standing_chain self.now) }
         ensures memory { IsOkUnless result Fault.OutOfMemory }
     {
         Ok(StandingSnapshot {
             table: self.table,
             kept: self.kept,
-            chain: ReadChain {
-                pages: self.chain.pages.to_vec(alloc)?,
-                bytes: self.chain.bytes.to_vec(alloc)?,
-            },
+            pages: self.pages.to_vec(alloc)?,
+            bytes: self.bytes.clone()?,
         })
     }
 
     // What a directory says of it.
     pub(crate) fn entry(&self) -> SnapshotEntry
-        requires { length self.now.chain.bytes.items ≤ MOST_SNAPSHOT_BYTES }
+        requires { length (rc_slice_items self.now.bytes) ≤ MOST_SNAPSHOT_BYTES }
         ensures { result ≡ entry_of self.now }
     {
         SnapshotEntry {
             table: self.table,
             kept: self.kept,
             chain: ChainRef {
-                head: first_page(&self.chain.pages),
-                length: self.chain.bytes.len() as u32,
+                head: first_page(&self.pages),
+                length: self.bytes.len() as u32,
             },
         }
     }
@@ -71,7 +90,7 @@ impl StandingSnapshot {
     {
         self.table == snapshot.table
             && self.kept == snapshot.kept
-            && self.chain.bytes.as_slice() == snapshot.bytes.as_slice()
+            && self.bytes.as_slice() == snapshot.bytes.as_slice()
     }
 }
 

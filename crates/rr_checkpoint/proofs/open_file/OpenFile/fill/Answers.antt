@@ -1,6 +1,11 @@
 use Rattle.rr_disk.proofs.MomentLemmas.{weaker}
 use Rattle.rr_images.specs.Layout.{Keeps}
 use Rattle.rr_checkpoint.proofs.Steps.{fill_stops, fill_carries}
+use Rattle.std.proofs.Common.{◌+◌, [], ◌∷◌, Some, not}
+use Rattle.rr_disk.specs.Calls.{Write, Sync, account}
+use Rattle.rr_pages.specs.Roots.{root_bytes, root_gate}
+use Rattle.rr_checkpoint.proofs.Growing.{done_stays, fill_within, stopped_stays}
+use Rattle.rr_checkpoint.proofs.Working.{is_long}
 use Rattle.rr_checkpoint.proofs.open_file.OpenFile.fill.Goals as goal
 
 pub returns-in_err-fill-clause-stops : goal.returns-in_err-fill-clause-stops
@@ -20,3 +25,21 @@ returns-clause-carries g c = λ honest world carries.
     let stays = g.met.D.Disk.content_may_stay c.args.disk.now (c.in_ok-fill.ensures.honest honest) in
     fill_carries g.C.Codec.codec c.args.self.now c.args.checkpoint (g.D.Disk.state c.args.disk.now) world stays carries c.requires.stage
     (g.D.Disk.state c.fill.new.disk) (c.in_ok-fill.ensures.done honest)
+
+pub returns-in_err-fill-clause-same_len : goal.returns-in_err-fill-clause-same_len
+returns-in_err-fill-clause-same_len g c = λ honest world carries.
+    let disk = c.args.disk.now in
+    let new = c.fill.new.disk in
+    let before = c.in_err-fill.ensures.honest honest in
+    let enough = is_long g.C.Codec.codec c.args.self.now (Some c.args.checkpoint) (g.D.Disk.state disk) world (g.met.D.Disk.content_may_stay disk before) carries (g.D.Disk.file_len disk) (g.met.D.Disk.length_is_told disk before) in
+    stopped_stays (account g.D.Disk disk) (account g.D.Disk new) (g.D.Disk.file_len disk) (g.D.Disk.file_len new) (g.met.D.Disk.length_is_told disk before) (g.met.D.Disk.length_is_told new honest) enough
+    (Write (root_gate (not c.args.self.now.taken.side) + 1) (root_bytes c.args.checkpoint.plan.root) ∷ Sync ∷ []) (fill_within (not c.args.self.now.taken.side) c.args.checkpoint.plan.root) (c.in_err-fill.ensures.stops honest)
+
+pub returns-clause-same_len : goal.returns-clause-same_len
+returns-clause-same_len g c = λ honest world carries.
+    let disk = c.args.disk.now in
+    let new = c.fill.new.disk in
+    let before = c.in_ok-fill.ensures.honest honest in
+    let enough = is_long g.C.Codec.codec c.args.self.now (Some c.args.checkpoint) (g.D.Disk.state disk) world (g.met.D.Disk.content_may_stay disk before) carries (g.D.Disk.file_len disk) (g.met.D.Disk.length_is_told disk before) in
+    done_stays (account g.D.Disk disk) (account g.D.Disk new) (g.D.Disk.file_len disk) (g.D.Disk.file_len new) (g.met.D.Disk.length_is_told disk before) (g.met.D.Disk.length_is_told new honest) enough
+    (Write (root_gate (not c.args.self.now.taken.side) + 1) (root_bytes c.args.checkpoint.plan.root) ∷ Sync ∷ []) (fill_within (not c.args.self.now.taken.side) c.args.checkpoint.plan.root) (c.in_ok-fill.ensures.calls honest)

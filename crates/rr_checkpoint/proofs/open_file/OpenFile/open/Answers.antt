@@ -1,6 +1,11 @@
 use Rattle.rr_disk.proofs.MomentLemmas.{weaker}
 use Rattle.rr_images.specs.Layout.{Keeps}
 use Rattle.rr_checkpoint.proofs.Steps.{open_stops, open_renews, open_carries}
+use Rattle.std.proofs.Common.{[], ◌∷◌, Some, not}
+use Rattle.rr_disk.specs.Calls.{Write, Sync, account}
+use Rattle.rr_pages.specs.Roots.{root_gate}
+use Rattle.rr_checkpoint.proofs.Growing.{done_stays, open_within, stopped_stays}
+use Rattle.rr_checkpoint.proofs.Working.{is_long}
 use Rattle.rr_checkpoint.proofs.open_file.OpenFile.open.Goals as goal
 
 pub returns-in_err-open-clause-stops : goal.returns-in_err-open-clause-stops
@@ -26,3 +31,21 @@ returns-clause-renews g c = λ honest world carries.
     let stays = g.met.D.Disk.content_may_stay c.args.disk.now (c.in_ok-open.ensures.honest honest) in
     open_renews g.C.Codec.codec c.args.self.now c.args.checkpoint.now (g.D.Disk.state c.args.disk.now) world stays carries c.requires.stage
     (g.D.Disk.state c.open.new.disk) (c.in_ok-open.ensures.done honest)
+
+pub returns-in_err-open-clause-same_len : goal.returns-in_err-open-clause-same_len
+returns-in_err-open-clause-same_len g c = λ honest world carries.
+    let disk = c.args.disk.now in
+    let new = c.open.new.disk in
+    let before = c.in_err-open.ensures.honest honest in
+    let enough = is_long g.C.Codec.codec c.args.self.now (Some c.args.checkpoint.now) (g.D.Disk.state disk) world (g.met.D.Disk.content_may_stay disk before) carries (g.D.Disk.file_len disk) (g.met.D.Disk.length_is_told disk before) in
+    stopped_stays (account g.D.Disk disk) (account g.D.Disk new) (g.D.Disk.file_len disk) (g.D.Disk.file_len new) (g.met.D.Disk.length_is_told disk before) (g.met.D.Disk.length_is_told new honest) enough
+    (Write (root_gate (not c.args.self.now.taken.side)) (165 ∷ []) ∷ Sync ∷ []) (open_within (not c.args.self.now.taken.side)) (c.in_err-open.ensures.stops honest)
+
+pub returns-clause-same_len : goal.returns-clause-same_len
+returns-clause-same_len g c = λ honest world carries.
+    let disk = c.args.disk.now in
+    let new = c.open.new.disk in
+    let before = c.in_ok-open.ensures.honest honest in
+    let enough = is_long g.C.Codec.codec c.args.self.now (Some c.args.checkpoint.now) (g.D.Disk.state disk) world (g.met.D.Disk.content_may_stay disk before) carries (g.D.Disk.file_len disk) (g.met.D.Disk.length_is_told disk before) in
+    done_stays (account g.D.Disk disk) (account g.D.Disk new) (g.D.Disk.file_len disk) (g.D.Disk.file_len new) (g.met.D.Disk.length_is_told disk before) (g.met.D.Disk.length_is_told new honest) enough
+    (Write (root_gate (not c.args.self.now.taken.side)) (165 ∷ []) ∷ Sync ∷ []) (open_within (not c.args.self.now.taken.side)) (c.in_ok-open.ensures.calls honest)

@@ -1,5 +1,6 @@
 use Rattle.std.proofs.Common.{◌≡◌, ◌≤◌, List, Vec, length, Result, Err, map, refl, ◌∙◌, ap, subst}
 use Rattle.std.proofs.lemmas.Result.{err_from_is_err_and}
+use Rattle.std.specs.Rc.{rc_slice_items}
 use Rattle.std.specs.declared.alloc.Global.{Global}
 use Rattle.std.proofs.lemmas.List.Elements.{All-same}
 use Rattle.rr_checkpoint.specs.Writer.{free_of}
@@ -49,7 +50,7 @@ snapshot_entries-requires g c =
     let standing = c.args.standing.now in
     let placed = c.in_ok-placed.placed.items in
     let counts = map (λ (part : TableTranscript). part.kept) transcript.tables.items in
-    All-same (λ (snapshot : StandingSnapshot). length snapshot.chain.bytes.items ≤ 16384) c.deref-3.result.now placed c.deref-3.ensures.value
+    All-same (λ (snapshot : StandingSnapshot). length (rc_slice_items snapshot.bytes) ≤ 16384) c.deref-3.result.now placed c.deref-3.ensures.value
     (placed_short (present_of (free_of between)) (coming_of (free_of between)) (coming_of (free_of after)) c.lay_tables.new.fresh.items c.place_snapshots.new.fresh.items (places_of standing (snapshots_of transcript)) (snapshots_of transcript) placed counts
     (subst (λ (parts : List SnapshotTranscript). AreSnapshotsPlaced (present_of (free_of between)) (coming_of (free_of between)) (coming_of (free_of after)) c.lay_tables.new.fresh.items c.place_snapshots.new.fresh.items (places_of standing (map snapshot_of parts)) (map snapshot_of parts) placed) c.deref-2.ensures.value c.in_ok-placed.ensures.placed)
     transcript.counted)

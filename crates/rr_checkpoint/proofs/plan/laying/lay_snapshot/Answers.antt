@@ -1,4 +1,5 @@
 use Rattle.std.proofs.Common.{◌≡◌, ℕ, ◌+◌, List, length, ◌∙◌, ap, subst, arith}
+use Rattle.std.specs.Rc.{rc_slice_items}
 use Rattle.rr_checkpoint.specs.Writer.{free_of}
 use Rattle.rr_pages.specs.FreePages.{present_of, coming_of}
 use Rattle.rr_pages.specs.Writing.{IsLaid}
@@ -19,7 +20,7 @@ returns-clause-placed g c =
     let before : c.len-before.result ≡ length old = omega (arith, c.len-before.ensures, c.args.fresh.now.ok) in
     let pages : c.in_ok-pages.pages.items ≡ is.pages =
     c.in_ok-pages.ensures.pages ∙ cut_pages old new c.deref-2.result.now c.len-before.result is.pages is.pieces c.deref-2.ensures.value before is.fit.each is.fresh in
-    let bytes : c.in_ok-bytes.bytes.items ≡ snapshot.bytes = c.in_ok-bytes.ensures.items_if_clones_equal (λ x y e. e) ∙ c.deref-3.ensures.value in
+    let bytes : rc_slice_items c.in_ok-bytes.bytes ≡ snapshot.bytes = c.in_ok-bytes.ensures.cases in
     one_is_laid (present_of (free_of writer)) (coming_of (free_of writer)) (coming_of (free_of c.lay.new.self)) old new snapshot c.in_ok-lay.field-0
-    (record { table = c.args.snapshot.now.table; kept = c.args.snapshot.now.kept; chain = record { pages = c.in_ok-pages.pages; bytes = c.in_ok-bytes.bytes } })
+    (record { table = c.args.snapshot.now.table; kept = c.args.snapshot.now.kept; pages = c.in_ok-pages.pages; bytes = c.in_ok-bytes.bytes })
     is count pages (λ i. record { table = c.args.snapshot.now.table; kept = c.args.snapshot.now.kept; bytes = bytes i })

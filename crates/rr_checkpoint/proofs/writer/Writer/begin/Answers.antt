@@ -1,4 +1,4 @@
-use Rattle.std.proofs.Common.{◌≡◌, ◌∙◌, ◌+◌, None, Some, ap, subst, sym}
+use Rattle.std.proofs.Common.{◌∙◌, ◌+◌, None, Some, ap, subst, sym}
 use Rattle.rr_pages.specs.declared.root.Root.{Root}
 use Rattle.rr_checkpoint.specs.declared.checkpoint.Checkpoint.{Checkpoint}
 use Rattle.rr_checkpoint.specs.Holds.{HoldsAsBegun}
@@ -7,6 +7,7 @@ use Rattle.rr_checkpoint.specs.Writer.{free_of}
 use Rattle.rr_checkpoint.proofs.Records.{none_there}
 use Rattle.rr_checkpoint.proofs.Writers.{carries_same, found_may, none_left}
 use Rattle.rr_checkpoint.proofs.Working.{on_err}
+use Rattle.rr_checkpoint.proofs.Growing.{never_grows}
 use Rattle.rr_checkpoint.proofs.writer.Writer.begin.Goals as goal
 
 pub begin-requires : goal.begin-requires
@@ -21,7 +22,7 @@ returns-clause-carries g c = λ honest world carries may.
     let then =
     c.in_ok-begin.ensures.carries honest world
     (carries_same codec writer.file (g.D.Disk.state c.args.disk.now) world writer.checkpoint None (none_left writer.checkpoint c.requires) carries)
-    c.args.plan may.holding may.is_plan may.coming (may.next ∙ ap (λ (root : Root). root.number + 1) carries.tells.root) in
+    c.args.plan may.holding may.is_plan may.coming (may.next ∙ ap (λ (root : Root). root.number + 1) carries.tells.root) may.packed in
     subst (λ (checkpoint : Checkpoint). (then : CarriesWith codec file (Some checkpoint) state world) × HoldsAsBegun carries.layout may.holding then.layout then.holding) (sym c.new.ensures) then
 
 pub returns-clause-stops : goal.returns-clause-stops
@@ -63,3 +64,29 @@ returns-then-is_some-clause-stops g c = λ honest world carries may.
     let writer = c.args.self.now in
     c.in_ok-take_up.ensures.stops honest world carries
     (found_may g.C.Codec.codec carries.layout (free_of writer) writer.file.place.begun c.args.plan (sym c.is_some.ensures ∙ c.if-is_some.true) may)
+
+pub returns-in_err-take_up-clause-grows : goal.returns-in_err-take_up-clause-grows
+returns-in_err-take_up-clause-grows g c = λ honest world carries may.
+    let writer = c.args.self.now in
+    c.in_err-take_up.ensures.grows honest world carries
+    (found_may g.C.Codec.codec carries.layout (free_of writer) writer.file.place.begun c.args.plan (sym c.is_some.ensures ∙ c.if-is_some.true) may)
+
+pub returns-then-is_some-clause-grows : goal.returns-then-is_some-clause-grows
+returns-then-is_some-clause-grows g c = λ honest world carries may.
+    let writer = c.args.self.now in
+    c.in_ok-take_up.ensures.grows honest world carries
+    (found_may g.C.Codec.codec carries.layout (free_of writer) writer.file.place.begun c.args.plan (sym c.is_some.ensures ∙ c.if-is_some.true) may)
+
+pub returns-in_err-begin-clause-grows : goal.returns-in_err-begin-clause-grows
+returns-in_err-begin-clause-grows g c = λ honest world carries may.
+    let writer = c.args.self.now in
+    never_grows
+    (c.in_err-begin.ensures.same_len honest world
+    (carries_same g.C.Codec.codec writer.file (g.D.Disk.state c.args.disk.now) world writer.checkpoint None (none_left writer.checkpoint c.requires) carries))
+
+pub returns-clause-grows : goal.returns-clause-grows
+returns-clause-grows g c = λ honest world carries may.
+    let writer = c.args.self.now in
+    never_grows
+    (c.in_ok-begin.ensures.same_len honest world
+    (carries_same g.C.Codec.codec writer.file (g.D.Disk.state c.args.disk.now) world writer.checkpoint None (none_left writer.checkpoint c.requires) carries))

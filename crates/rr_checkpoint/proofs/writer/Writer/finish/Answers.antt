@@ -1,9 +1,12 @@
-use Rattle.std.proofs.Common.{◌∙◌, sym, refl, arith}
+use Rattle.std.proofs.Common.{◌∙◌, sym, refl, arith, subst}
 use Rattle.rr_disk.proofs.MomentLemmas.{started, joins}
 use Rattle.rr_images.specs.Layout.{Keeps}
-use Rattle.rr_checkpoint.specs.Writer.{place_of, ticks_left_of}
+use Rattle.rr_checkpoint.specs.Writer.{place_of, ticks_left_of, free_of}
 use Rattle.rr_checkpoint.proofs.Writers.{left_some, lowers_one, none_is_left, renewed_behind, holds_at_first, holds_more, rests_behind}
 use Rattle.rr_checkpoint.proofs.Working.{on_err}
+use Rattle.rr_pages.specs.declared.free_pages.FreePages.{FreePages}
+use Rattle.rr_checkpoint.specs.Growing.{AreReclaimed}
+use Rattle.rr_checkpoint.proofs.Growing.{free_still, freed_last, never_grows, ticks_grow}
 use Rattle.rr_checkpoint.proofs.writer.Writer.finish.Goals as goal
 
 pub loop-self-init : goal.loop-self-init
@@ -17,6 +20,9 @@ loop-self-init g c =
           started (g.D.Disk.past disk) (g.D.Disk.state disk) (λ image. Keeps g.C.Codec.codec image world)
           (λ image is. record { layout = carries.layout; kept = carries.between.each image is });
       renews = λ honest world carries some none. absurd (omega (arith, some, none));
+      grows = λ honest world carries. never_grows refl;
+      free = λ some. refl;
+      frees = λ some none. absurd (omega (arith, some, none));
       rests = λ some none. absurd (omega (arith, some, none));
       number = refl;
       half = refl;
@@ -47,6 +53,16 @@ loop-self-preserved g c =
           let carried = so_far.carries (c.tick.ensures.honest honest) world carries in
           renewed_behind g.C.Codec.codec c.in_ok-tick.field-0 (ticks_left_of c.loop-self.self) (ticks_left_of c.tick.new.self) carries.layout carried.0.layout carries.holding carried.0.holding (g.D.Disk.state c.tick.new.disk) world
           c.in_ok-tick.ensures.left under_way none (carried.1.under_way under_way) (c.in_ok-tick.ensures.renews honest world carried.0);
+      grows = λ honest world carries.
+          let then = c.tick.ensures.honest honest in
+          ticks_grow (free_of c.loop-self.self) (free_of c.args.self.now) (g.D.Disk.file_len c.args.disk.now) (g.D.Disk.file_len c.loop-self.disk) (g.D.Disk.file_len c.tick.new.disk) (so_far.free under_way)
+          (so_far.grows then world carries) (c.tick.ensures.grows honest world (so_far.carries then world carries).0);
+      free = λ more.
+          free_still c.in_ok-tick.field-0 (ticks_left_of c.loop-self.self) (ticks_left_of c.tick.new.self) (free_of c.loop-self.self) (free_of c.tick.new.self) c.in_ok-tick.ensures.left more c.in_ok-tick.ensures.frees
+          ∙ so_far.free under_way;
+      frees = λ some none.
+          subst (λ (old : FreePages). AreReclaimed old (free_of c.tick.new.self)) (so_far.free under_way)
+          (freed_last c.in_ok-tick.field-0 (ticks_left_of c.loop-self.self) (ticks_left_of c.tick.new.self) (free_of c.loop-self.self) (free_of c.tick.new.self) c.in_ok-tick.ensures.left under_way none c.in_ok-tick.ensures.frees);
       rests = λ some none. rests_behind c.in_ok-tick.field-0 (ticks_left_of c.loop-self.self) (ticks_left_of c.tick.new.self) (place_of c.tick.new.self).begun c.in_ok-tick.ensures.left under_way none c.in_ok-tick.ensures.rests;
       number = c.tick.ensures.number ∙ so_far.number;
       half = c.tick.ensures.half ∙ so_far.half;
@@ -78,3 +94,19 @@ returns-in_err-tick-clause-device g c =
     (λ honest world carries.
     let then = c.tick.ensures.honest honest in
     c.in_err-tick.ensures.device honest world (c.loop-self.invariant.carries then world carries).0)
+
+pub returns-in_err-tick-clause-grows : goal.returns-in_err-tick-clause-grows
+returns-in_err-tick-clause-grows g c = λ honest world carries.
+    let so_far = c.loop-self.invariant in
+    let under_way = left_some c.loop-self.self.checkpoint (sym c.is_some.ensures ∙ c.loop-self-test.true) in
+    let then = c.tick.ensures.honest honest in
+    ticks_grow (free_of c.loop-self.self) (free_of c.args.self.now) (g.D.Disk.file_len c.args.disk.now) (g.D.Disk.file_len c.loop-self.disk) (g.D.Disk.file_len c.tick.new.disk) (so_far.free under_way)
+    (so_far.grows then world carries) (c.tick.ensures.grows honest world (so_far.carries then world carries).0)
+
+pub returns-in_err-tick-clause-same_free : goal.returns-in_err-tick-clause-same_free
+returns-in_err-tick-clause-same_free g c =
+    let under_way = left_some c.loop-self.self.checkpoint (sym c.is_some.ensures ∙ c.loop-self-test.true) in
+    on_err c.from_residual.result (c.in_err-tick.ensures.same_free ∙ c.loop-self.invariant.free under_way)
+
+pub returns-clause-frees : goal.returns-clause-frees
+returns-clause-frees g c = λ some. c.loop-self.invariant.frees some (none_is_left c.loop-self.self.checkpoint (sym c.is_some.ensures ∙ c.loop-self-test.false))

@@ -27,7 +27,7 @@ returns-clause-plan g c = λ state world carries drafts drafted directory_is.
     let resting = carries_same codec writer.file state world writer.checkpoint None (none_left writer.checkpoint c.requires.resting) carries in
     let same = ap (λ (pages : List FreshPage). coming_root_of writer c.in_ok-head.head pages) c.deref.ensures.value in
     may_begin codec writer.file state world resting drafts c.args.fresh.items fresh.items drafted c.args.directory.now directory_is c.chain_write.new.free c.in_ok-head.head
-    c.in_ok-head.ensures.laid c.requires.root c.requires.number (record { root = c.coming_root-root.result; fresh = fresh }) (c.coming_root-root.ensures ∙ same) refl
+    c.in_ok-head.ensures.laid c.requires.root c.requires.number (record { root = c.coming_root-root.result; fresh = fresh }) (c.coming_root-root.ensures ∙ same) refl c.chain_write.ensures.present
 
 pub returns-clause-root : goal.returns-clause-root
 returns-clause-root g c =

@@ -1,4 +1,4 @@
-use Rattle.std.proofs.Common.{◌≡◌, ◌∙◌, ◌+◌, length, None, Some, Option, ap, sym, arith}
+use Rattle.std.proofs.Common.{◌≡◌, ◌∙◌, ◌+◌, length, None, Some, ap, sym, arith}
 use Rattle.rr_pages.specs.declared.root.Root.{Root}
 use Rattle.rr_checkpoint.specs.declared.checkpoint.Checkpoint.{Checkpoint}
 use Rattle.rr_checkpoint.specs.Checkpoint.{begun, left_of}
@@ -14,7 +14,7 @@ returns-clause-carries g c = λ honest world carries may.
     let state = g.D.Disk.state c.args.disk.now in
     let stays = g.met.D.Disk.content_may_stay c.args.disk.now (c.in_ok-self.ensures.honest honest) in
     let resting = carries_same codec writer.file state world writer.checkpoint None (none_left writer.checkpoint c.requires.resting) carries in
-    let found = found_carries codec writer.file state world stays resting c.args.plan may.holding may.is_plan may.coming (may.next ∙ ap (λ (root : Root). root.number + 1) carries.tells.root) c.requires.found in
+    let found = found_carries codec writer.file state world stays resting c.args.plan may.holding may.is_plan may.coming (may.next ∙ ap (λ (root : Root). root.number + 1) carries.tells.root) may.packed c.requires.found in
     let with_it = carries_same codec writer.file state world (Some (begun c.args.plan)) (Some c.new-begun.result) (ap (λ (checkpoint : Checkpoint). Some checkpoint) (sym c.new-begun.ensures)) found.0 in
     let then = c.in_ok-self.ensures.carries honest world with_it in
     let left : left_of (Some (begun c.args.plan)) ≡ left_of c.in_ok-self.field-0 + 1 =
@@ -30,7 +30,7 @@ returns-clause-stops g c = λ honest world carries may.
     let state = g.D.Disk.state c.args.disk.now in
     let stays = g.met.D.Disk.content_may_stay c.args.disk.now (c.in_ok-self.ensures.honest honest) in
     let resting = carries_same codec writer.file state world writer.checkpoint None (none_left writer.checkpoint c.requires.resting) carries in
-    let found = found_carries codec writer.file state world stays resting c.args.plan may.holding may.is_plan may.coming (may.next ∙ ap (λ (root : Root). root.number + 1) carries.tells.root) c.requires.found in
+    let found = found_carries codec writer.file state world stays resting c.args.plan may.holding may.is_plan may.coming (may.next ∙ ap (λ (root : Root). root.number + 1) carries.tells.root) may.packed c.requires.found in
     c.in_ok-self.ensures.stops honest world
     (carries_same codec writer.file state world (Some (begun c.args.plan)) (Some c.new-begun.result) (ap (λ (checkpoint : Checkpoint). Some checkpoint) (sym c.new-begun.ensures)) found.0)
 
@@ -41,7 +41,7 @@ returns-in_err-self-clause-stops g c = λ honest world carries may.
     let state = g.D.Disk.state c.args.disk.now in
     let stays = g.met.D.Disk.content_may_stay c.args.disk.now (c.in_err-self.ensures.honest honest) in
     let resting = carries_same codec writer.file state world writer.checkpoint None (none_left writer.checkpoint c.requires.resting) carries in
-    let found = found_carries codec writer.file state world stays resting c.args.plan may.holding may.is_plan may.coming (may.next ∙ ap (λ (root : Root). root.number + 1) carries.tells.root) c.requires.found in
+    let found = found_carries codec writer.file state world stays resting c.args.plan may.holding may.is_plan may.coming (may.next ∙ ap (λ (root : Root). root.number + 1) carries.tells.root) may.packed c.requires.found in
     c.in_err-self.ensures.stops honest world
     (carries_same codec writer.file state world (Some (begun c.args.plan)) (Some c.new-begun.result) (ap (λ (checkpoint : Checkpoint). Some checkpoint) (sym c.new-begun.ensures)) found.0)
 
@@ -54,7 +54,7 @@ returns-in_err-self-clause-device g c =
     let state = g.D.Disk.state c.args.disk.now in
     let stays = g.met.D.Disk.content_may_stay c.args.disk.now (c.in_err-self.ensures.honest honest) in
     let resting = carries_same codec writer.file state world writer.checkpoint None (none_left writer.checkpoint c.requires.resting) carries in
-    let found = found_carries codec writer.file state world stays resting c.args.plan may.holding may.is_plan may.coming (may.next ∙ ap (λ (root : Root). root.number + 1) carries.tells.root) c.requires.found in
+    let found = found_carries codec writer.file state world stays resting c.args.plan may.holding may.is_plan may.coming (may.next ∙ ap (λ (root : Root). root.number + 1) carries.tells.root) may.packed c.requires.found in
     c.in_err-self.ensures.device honest world
     (carries_same codec writer.file state world (Some (begun c.args.plan)) (Some c.new-begun.result) (ap (λ (checkpoint : Checkpoint). Some checkpoint) (sym c.new-begun.ensures)) found.0))
 
@@ -63,3 +63,25 @@ returns-clause-taken g c =
     let left : left_of (Some (begun c.args.plan)) ≡ left_of c.in_ok-self.field-0 + 1 =
     ap (λ (checkpoint : Checkpoint). left_of (Some checkpoint)) (sym c.new-begun.ensures) ∙ c.in_ok-self.ensures.left in
     begun_taken c.in_ok-self.field-0 (length c.args.plan.fresh.items) c.args.self.now.file.taken c.advance.new.self.taken (omega (arith, left)) c.in_ok-self.ensures.taken
+
+pub returns-clause-grows : goal.returns-clause-grows
+returns-clause-grows g c = λ honest world carries may.
+    let codec = g.C.Codec.codec in
+    let writer = c.args.self.now in
+    let state = g.D.Disk.state c.args.disk.now in
+    let stays = g.met.D.Disk.content_may_stay c.args.disk.now (c.in_ok-self.ensures.honest honest) in
+    let resting = carries_same codec writer.file state world writer.checkpoint None (none_left writer.checkpoint c.requires.resting) carries in
+    let found = found_carries codec writer.file state world stays resting c.args.plan may.holding may.is_plan may.coming (may.next ∙ ap (λ (root : Root). root.number + 1) carries.tells.root) may.packed c.requires.found in
+    c.in_ok-self.ensures.grows honest world
+    (carries_same codec writer.file state world (Some (begun c.args.plan)) (Some c.new-begun.result) (ap (λ (checkpoint : Checkpoint). Some checkpoint) (sym c.new-begun.ensures)) found.0)
+
+pub returns-in_err-self-clause-grows : goal.returns-in_err-self-clause-grows
+returns-in_err-self-clause-grows g c = λ honest world carries may.
+    let codec = g.C.Codec.codec in
+    let writer = c.args.self.now in
+    let state = g.D.Disk.state c.args.disk.now in
+    let stays = g.met.D.Disk.content_may_stay c.args.disk.now (c.in_err-self.ensures.honest honest) in
+    let resting = carries_same codec writer.file state world writer.checkpoint None (none_left writer.checkpoint c.requires.resting) carries in
+    let found = found_carries codec writer.file state world stays resting c.args.plan may.holding may.is_plan may.coming (may.next ∙ ap (λ (root : Root). root.number + 1) carries.tells.root) may.packed c.requires.found in
+    c.in_err-self.ensures.grows honest world
+    (carries_same codec writer.file state world (Some (begun c.args.plan)) (Some c.new-begun.result) (ap (λ (checkpoint : Checkpoint). Some checkpoint) (sym c.new-begun.ensures)) found.0)

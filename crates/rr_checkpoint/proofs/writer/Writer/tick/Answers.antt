@@ -1,4 +1,4 @@
-use Rattle.std.proofs.Common.{◌∙◌, Some, refl, sym, subst}
+use Rattle.std.proofs.Common.{◌∙◌, Some, refl, sym, subst, ◌≤◌, Option}
 use Rattle.rr_disk.proofs.MomentLemmas.{started}
 use Rattle.rr_images.specs.Layout.{Keeps}
 use Rattle.rr_checkpoint.specs.declared.writer.Tick.{Tick}
@@ -6,6 +6,8 @@ use Rattle.rr_checkpoint.specs.Holds.{HoldsAt, RestsAt}
 use Rattle.rr_checkpoint.specs.Writer.{RenewsAt, StaysTakenAt}
 use Rattle.rr_checkpoint.proofs.Writers.{carries_same, holds_told, never_none, renews_told, rests_told, taken_told}
 use Rattle.rr_checkpoint.proofs.Working.{on_err}
+use Rattle.rr_checkpoint.specs.declared.checkpoint.Checkpoint.{Checkpoint}
+use Rattle.rr_checkpoint.specs.Checkpoint.{left_of}
 use Rattle.rr_checkpoint.proofs.writer.Writer.tick.Goals as goal
 
 pub returns-in-None-clause-stops : goal.returns-in-None-clause-stops
@@ -87,3 +89,33 @@ returns-in_ok-self-in-Some-clause-no_call g c = λ none. absurd (never_none c.ar
 
 pub returns-in_err-self-in-Some-clause-no_call : goal.returns-in_err-self-in-Some-clause-no_call
 returns-in_err-self-in-Some-clause-no_call g c = λ none. absurd (never_none c.args.self.now.checkpoint c.in-Some.checkpoint (sym c.take.ensures.value ∙ c.in-Some.is) none)
+
+pub returns-in_ok-self-in-Some-clause-grows : goal.returns-in_ok-self-in-Some-clause-grows
+returns-in_ok-self-in-Some-clause-grows g c = λ honest world carries.
+    let writer = c.args.self.now in
+    let under_way = sym c.take.ensures.value ∙ c.in-Some.is in
+    c.in_ok-self-in-Some.ensures.grows honest world
+    (carries_same g.C.Codec.codec writer.file (g.D.Disk.state c.args.disk.now) world writer.checkpoint (Some c.in-Some.checkpoint) under_way carries)
+
+pub returns-in_err-self-in-Some-clause-grows : goal.returns-in_err-self-in-Some-clause-grows
+returns-in_err-self-in-Some-clause-grows g c = λ honest world carries.
+    let writer = c.args.self.now in
+    let under_way = sym c.take.ensures.value ∙ c.in-Some.is in
+    c.in_err-self-in-Some.ensures.grows honest world
+    (carries_same g.C.Codec.codec writer.file (g.D.Disk.state c.args.disk.now) world writer.checkpoint (Some c.in-Some.checkpoint) under_way carries)
+
+pub returns-in_ok-self-in-Some-clause-same_len : goal.returns-in_ok-self-in-Some-clause-same_len
+returns-in_ok-self-in-Some-clause-same_len g c = λ honest world carries few.
+    let writer = c.args.self.now in
+    let under_way = sym c.take.ensures.value ∙ c.in-Some.is in
+    c.in_ok-self-in-Some.ensures.same_len honest world
+    (carries_same g.C.Codec.codec writer.file (g.D.Disk.state c.args.disk.now) world writer.checkpoint (Some c.in-Some.checkpoint) under_way carries)
+    (subst (λ (checkpoint : Option Checkpoint). left_of checkpoint ≤ 3) under_way few)
+
+pub returns-in_err-self-in-Some-clause-same_len : goal.returns-in_err-self-in-Some-clause-same_len
+returns-in_err-self-in-Some-clause-same_len g c = λ honest world carries few.
+    let writer = c.args.self.now in
+    let under_way = sym c.take.ensures.value ∙ c.in-Some.is in
+    c.in_err-self-in-Some.ensures.same_len honest world
+    (carries_same g.C.Codec.codec writer.file (g.D.Disk.state c.args.disk.now) world writer.checkpoint (Some c.in-Some.checkpoint) under_way carries)
+    (subst (λ (checkpoint : Option Checkpoint). left_of checkpoint ≤ 3) under_way few)

@@ -30,3 +30,12 @@ returns-in-Err-HalfFull-clause-stops g c = λ honest old new takes carries. c.in
 
 pub returns-in-Err-Disk-clause-stops : goal.returns-in-Err-Disk-clause-stops
 returns-in-Err-Disk-clause-stops g c = λ honest old new takes carries. c.in-Err-Disk.ensures.stops honest old new takes carries.carried
+
+pub returns-in-Ok-clause-same_len : goal.returns-in-Ok-clause-same_len
+returns-in-Ok-clause-same_len g c = λ honest world carries. c.in-Ok.ensures.same_len honest world carries.carried
+
+pub returns-in-Err-HalfFull-clause-same_len : goal.returns-in-Err-HalfFull-clause-same_len
+returns-in-Err-HalfFull-clause-same_len g c = λ honest world carries. c.in-Err-HalfFull.ensures.same_len honest world carries.carried
+
+pub returns-in-Err-Disk-clause-same_len : goal.returns-in-Err-Disk-clause-same_len
+returns-in-Err-Disk-clause-same_len g c = λ honest world carries. c.in-Err-Disk.ensures.same_len honest world carries.carried

@@ -13,6 +13,9 @@ use Rattle.rr_log.specs.Carrying.{Carries, HoldsWorld, IsPlanned}
 use Rattle.rr_log.specs.Lent.{lent_of}
 use Rattle.rr_log.proofs.Carried.{kept_now, begun_carries, half_behind, some_behind, starts_with}
 use Rattle.rr_reading.specs.Worlds.Spelling.{worlds}
+use Rattle.rr_pages.specs.FreePages.{coming_of, present_of}
+use Rattle.rr_checkpoint.proofs.Growing.{grows_by_pages, never_grows}
+use Rattle.rr_log.proofs.Growing.{grows_from}
 use Rattle.rr_log.proofs.log.Log.begin.Goals as goal
 
 pub returns-in_err-plan-clause-stops : goal.returns-in_err-plan-clause-stops
@@ -139,3 +142,42 @@ returns-in-Ok-clause-half g c =
 
 pub returns-in-Err-clause-unchanged : goal.returns-in-Err-clause-unchanged
 returns-in-Err-clause-unchanged g c = λ want. elim want [ inl is ↦ absurd (cc is) | inr is ↦ absurd (cc is) ]
+
+pub returns-in_err-plan-clause-grows : goal.returns-in_err-plan-clause-grows
+returns-in_err-plan-clause-grows g c = λ honest world carries. never_grows (ap (λ (d : g.row.D.Denot). g.D.Disk.file_len d) c.plan.ensures.unchanged.disk)
+
+pub returns-in-Ok-clause-grows : goal.returns-in-Ok-clause-grows
+returns-in-Ok-clause-grows g c = λ honest world carries.
+    let log = c.args.self.now in
+    let codec = worlds g.R.Rules.rules in
+    let planned = c.plan.new.self in
+    let there = subst (λ (disk : g.row.D.Denot). Carries g.R.Rules.rules planned (g.D.Disk.state disk) world) (sym c.plan.ensures.unchanged.disk)
+    (c.plan.ensures.carries (g.D.Disk.state log.disk) world carries) in
+    let starts =
+    starts_with codec planned.writer (g.D.Disk.state planned.disk) world c.in_ok-plan.field-0.plan (place_of planned).begun there.carried
+    (λ found.
+    let plan = subst (λ (disk : g.row.D.Denot). IsPlanned g.R.Rules.rules planned c.in_ok-plan.field-0 (g.D.Disk.state disk) world carries.carried.layout (tables_due log.base (lent_of g.T.TablesInWords c.args.tables.now)).snapshots) (sym c.plan.ensures.unchanged.disk)
+    (c.in_ok-plan.ensures.found (g.D.Disk.state log.disk) world (λ none. found (ap (λ (place : Place). place.begun) c.plan.ensures.unchanged.place ∙ none)) carries) in
+    (plan.carries.carried, plan.may)) in
+    let free = file.free_of c.begin.new.self in
+    let disk = c.begin.new.disk in
+    grows_from (present_of free) (coming_of free) (g.D.Disk.file_len planned.disk) (g.D.Disk.file_len log.disk) (g.D.Disk.file_len disk) (ap (λ (d : g.row.D.Denot). g.D.Disk.file_len d) (sym c.plan.ensures.unchanged.disk))
+    (grows_by_pages (file.free_of planned.writer) free (g.D.Disk.file_len planned.disk) (g.D.Disk.file_len disk) c.in-Ok.ensures.free (c.in-Ok.ensures.grows honest world starts.0 starts.1))
+
+pub returns-in-Err-clause-grows : goal.returns-in-Err-clause-grows
+returns-in-Err-clause-grows g c = λ honest world carries.
+    let log = c.args.self.now in
+    let codec = worlds g.R.Rules.rules in
+    let planned = c.plan.new.self in
+    let there = subst (λ (disk : g.row.D.Denot). Carries g.R.Rules.rules planned (g.D.Disk.state disk) world) (sym c.plan.ensures.unchanged.disk)
+    (c.plan.ensures.carries (g.D.Disk.state log.disk) world carries) in
+    let starts =
+    starts_with codec planned.writer (g.D.Disk.state planned.disk) world c.in_ok-plan.field-0.plan (place_of planned).begun there.carried
+    (λ found.
+    let plan = subst (λ (disk : g.row.D.Denot). IsPlanned g.R.Rules.rules planned c.in_ok-plan.field-0 (g.D.Disk.state disk) world carries.carried.layout (tables_due log.base (lent_of g.T.TablesInWords c.args.tables.now)).snapshots) (sym c.plan.ensures.unchanged.disk)
+    (c.in_ok-plan.ensures.found (g.D.Disk.state log.disk) world (λ none. found (ap (λ (place : Place). place.begun) c.plan.ensures.unchanged.place ∙ none)) carries) in
+    (plan.carries.carried, plan.may)) in
+    let free = file.free_of c.begin.new.self in
+    let disk = c.begin.new.disk in
+    grows_from (present_of free) (coming_of free) (g.D.Disk.file_len planned.disk) (g.D.Disk.file_len log.disk) (g.D.Disk.file_len disk) (ap (λ (d : g.row.D.Denot). g.D.Disk.file_len d) (sym c.plan.ensures.unchanged.disk))
+    (grows_by_pages (file.free_of planned.writer) free (g.D.Disk.file_len planned.disk) (g.D.Disk.file_len disk) c.in-Err.ensures.free (c.in-Err.ensures.grows honest world starts.0 starts.1))

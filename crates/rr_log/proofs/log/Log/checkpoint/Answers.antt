@@ -1,4 +1,4 @@
-use Rattle.std.proofs.Common.{◌≡◌, ◌∙◌, ◌+◌, ℕ, Err, inl, inr, ap, subst, sym, arith}
+use Rattle.std.proofs.Common.{◌≡◌, ◌∙◌, ◌+◌, ℕ, Err, inl, inr, ap, subst, sym, arith, refl}
 use Rattle.rr_disk.proofs.MomentLemmas.{started, joins}
 use Rattle.rr_images.specs.Layout.{Keeps}
 use Rattle.rr_log.specs.declared.fault.Fault.{Fault}
@@ -11,6 +11,12 @@ use Rattle.rr_log.specs.Fault.{IsWant}
 use Rattle.rr_log.proofs.Carried.{device_more, device_so, kept_now, newer_begun, newer_under_way, next_begun, next_under_way, ok_so, renews_next, root_next, takes_root}
 use Rattle.rr_reading.specs.Worlds.Spelling.{worlds}
 use Rattle.std.proofs.lemmas.Result.{err_from_is_err_and}
+use Rattle.rr_pages.specs.declared.free_pages.FreePages.{FreePages}
+use Rattle.rr_pages.specs.FreePages.{coming_of, present_of}
+use Rattle.rr_checkpoint.proofs.Growing.{grows_on, never_grows}
+use Rattle.rr_checkpoint.proofs.Working.{on_err}
+use Rattle.rr_log.specs.Log.{free_of}
+use Rattle.rr_log.proofs.Growing.{err_so, grows_told}
 use Rattle.rr_log.proofs.log.Log.checkpoint.Goals as goal
 
 pub returns-then-self-clause-stops : goal.returns-then-self-clause-stops
@@ -122,3 +128,50 @@ pub returns-in_err-finish-clause-unchanged : goal.returns-in_err-finish-clause-u
 returns-in_err-finish-clause-unchanged g c =
     let told = err_from_is_err_and c.from_residual-in_err-finish.result c.from_residual-in_err-finish.ensures.1 in
     rw (told.1, told.2) (λ want. absurd (never_wanted c.in_err-finish.field-0.0 c.in_err-finish.ensures.err want))
+
+pub returns-then-ticks_left-gt0-clause-grows : goal.returns-then-ticks_left-gt0-clause-grows
+returns-then-ticks_left-gt0-clause-grows g c = ok_so c.finish.result _ _ (λ told honest world lent carries.
+    let log = c.args.self.now in
+    let ended = c.finish.new.self in
+    grows_told (present_of (free_of log)) (coming_of (free_of log)) (present_of (free_of log)) (present_of (free_of ended)) (g.D.Disk.file_len log.disk) (g.D.Disk.file_len ended.disk) refl told.present
+    (c.finish.ensures.grows honest world carries))
+    c.finish.ensures.frees
+
+pub returns-then-ticks_left-gt0-clause-grows_so_far : goal.returns-then-ticks_left-gt0-clause-grows_so_far
+returns-then-ticks_left-gt0-clause-grows_so_far g c = err_so c.finish.result _ _ (λ told honest world lent carries.
+    let log = c.args.self.now in
+    let ended = c.finish.new.self in
+    grows_told (present_of (free_of log)) (coming_of (free_of log)) (present_of (free_of log)) (coming_of (free_of ended)) (g.D.Disk.file_len log.disk) (g.D.Disk.file_len ended.disk) refl (ap coming_of told)
+    (c.finish.ensures.grows honest world carries))
+    c.finish.ensures.same_free
+
+pub returns-in_err-begin-clause-grows_so_far : goal.returns-in_err-begin-clause-grows_so_far
+returns-in_err-begin-clause-grows_so_far g c =
+    on_err c.from_residual.result
+    (λ honest world lent carries.
+    let log = c.args.self.now in
+    let begun = c.begin.new.self in
+    grows_told (present_of (free_of begun)) (coming_of (free_of begun)) (present_of (free_of log)) (coming_of (free_of begun)) (g.D.Disk.file_len log.disk) (g.D.Disk.file_len begun.disk) (sym c.in_err-begin.ensures.pages) refl
+    (c.in_err-begin.ensures.grows honest world carries))
+
+pub returns-in_err-finish-clause-grows_so_far : goal.returns-in_err-finish-clause-grows_so_far
+returns-in_err-finish-clause-grows_so_far g c =
+    on_err c.from_residual-in_err-finish.result
+    (λ honest world lent carries.
+    let log = c.args.self.now in
+    let begun = c.begin.new.self in
+    let ended = c.finish-2.new.self in
+    let then = c.in_err-finish.ensures.honest honest in
+    grows_told (present_of (free_of begun)) (coming_of (free_of begun)) (present_of (free_of log)) (coming_of (free_of ended)) (g.D.Disk.file_len log.disk) (g.D.Disk.file_len ended.disk) (sym c.in_ok-begin.ensures.pages) (ap coming_of c.in_err-finish.ensures.same_free)
+    (grows_on (present_of (free_of begun)) (coming_of (free_of begun)) (g.D.Disk.file_len log.disk) (g.D.Disk.file_len begun.disk) (g.D.Disk.file_len ended.disk) (c.in_ok-begin.ensures.grows then world carries)
+    (c.in_err-finish.ensures.grows honest world (c.in_ok-begin.ensures.carries then c.in_ok-begin.ensures.broken world lent carries))))
+
+pub returns-clause-grows : goal.returns-clause-grows
+returns-clause-grows g c = λ honest world lent carries.
+    let log = c.args.self.now in
+    let begun = c.begin.new.self in
+    let ended = c.finish-2.new.self in
+    let then = c.in_ok-finish.ensures.honest honest in
+    grows_told (present_of (free_of begun)) (coming_of (free_of begun)) (present_of (free_of log)) (present_of (free_of ended)) (g.D.Disk.file_len log.disk) (g.D.Disk.file_len ended.disk) (sym c.in_ok-begin.ensures.pages) c.in_ok-finish.ensures.frees.present
+    (grows_on (present_of (free_of begun)) (coming_of (free_of begun)) (g.D.Disk.file_len log.disk) (g.D.Disk.file_len begun.disk) (g.D.Disk.file_len ended.disk) (c.in_ok-begin.ensures.grows then world carries)
+    (c.in_ok-finish.ensures.grows honest world (c.in_ok-begin.ensures.carries then c.in_ok-begin.ensures.broken world lent carries)))

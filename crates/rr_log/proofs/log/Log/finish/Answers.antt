@@ -40,3 +40,9 @@ returns-in-Ok-clause-stops g c = λ honest world carries. c.in-Ok.ensures.stops 
 
 pub returns-in-Err-clause-stops : goal.returns-in-Err-clause-stops
 returns-in-Err-clause-stops g c = λ honest world carries. c.in-Err.ensures.stops honest world carries.carried
+
+pub returns-in-Ok-clause-grows : goal.returns-in-Ok-clause-grows
+returns-in-Ok-clause-grows g c = λ honest world carries. c.in-Ok.ensures.grows honest world carries.carried
+
+pub returns-in-Err-clause-grows : goal.returns-in-Err-clause-grows
+returns-in-Err-clause-grows g c = λ honest world carries. c.in-Err.ensures.grows honest world carries.carried

@@ -1,4 +1,7 @@
 use Rattle.rr_log.proofs.Carried.{last_carries, ticked_carries, ticked_root}
+use Rattle.rr_checkpoint.specs.Writer as file
+use Rattle.rr_checkpoint.proofs.Growing.{grows_by_pages, ticked_grows}
+use Rattle.rr_log.specs.Log.{free_of, ticks_left}
 use Rattle.rr_log.proofs.log.Log.go_on.Goals as goal
 
 pub returns-in-Ok-clause-carries : goal.returns-in-Ok-clause-carries
@@ -33,3 +36,14 @@ returns-in-Ok-clause-renews g c = λ honest world carries. c.in-Ok.ensures.renew
 
 pub returns-in-Err-clause-stops : goal.returns-in-Err-clause-stops
 returns-in-Err-clause-stops g c = λ honest world carries. c.in-Err.ensures.stops honest world carries.carried
+
+pub returns-in-Ok-clause-grows : goal.returns-in-Ok-clause-grows
+returns-in-Ok-clause-grows g c = λ honest world carries.
+    let log = c.args.self.now in
+    ticked_grows c.in-Ok.tick (ticks_left log) (file.ticks_left_of c.tick.new.self) (free_of log) (file.free_of c.tick.new.self) (g.D.Disk.file_len log.disk) (g.D.Disk.file_len c.tick.new.disk)
+    c.in-Ok.ensures.left c.in-Ok.ensures.frees (c.in-Ok.ensures.grows honest world carries.carried) (c.in-Ok.ensures.same_len honest world carries.carried)
+
+pub returns-in-Err-clause-grows : goal.returns-in-Err-clause-grows
+returns-in-Err-clause-grows g c = λ honest world carries.
+    let log = c.args.self.now in
+    grows_by_pages (free_of log) (file.free_of c.tick.new.self) (g.D.Disk.file_len log.disk) (g.D.Disk.file_len c.tick.new.disk) c.in-Err.ensures.same_free (c.in-Err.ensures.grows honest world carries.carried)

@@ -10,7 +10,10 @@ use Rattle.rr_log.specs.declared.fault.Fault.TheVariants as F
 use Rattle.rr_log.proofs.Carried.{full_on, is_full, is_put_off, kept_now, no_more_room, only_breaks, renewed_line, renews_now, renews_refused, same_count, same_disk, same_images, told_behind}
 use Rattle.rr_reading.specs.Worlds.Spelling.{worlds}
 use Rattle.rr_reading.specs.Worlds.World.{World}
-use Rattle.rr_log.specs.Log.{place_of}
+use Rattle.rr_log.specs.Log.{place_of, free_of}
+use Rattle.rr_pages.specs.FreePages.{coming_of, present_of}
+use Rattle.rr_checkpoint.proofs.Growing.{grows_by_pages}
+use Rattle.rr_log.proofs.Growing.{grows_to}
 use Rattle.rr_log.proofs.log.Log.keep.Goals as goal
 
 pub returns-then-self-clause-stops : goal.returns-then-self-clause-stops
@@ -135,3 +138,26 @@ returns-in_err-append-clause-nothing g c =
     rw told.1 (λ whole none left.
     same_disk c.tick_before.new.self c.append.new.self (c.in_err-append.ensures.same (ap (λ f. Err f) (is_full c.in_err-append.ensures.err (sym c.in_err-append.ensures.broken ∙ whole))))
     ∙ c.in_ok-full.ensures.nothing c.in_ok-full.ensures.broken none (sym c.in_err-append.ensures.left ∙ left))
+
+pub returns-in_err-full-clause-grows : goal.returns-in_err-full-clause-grows
+returns-in_err-full-clause-grows g c = λ honest world lent carries. c.in_err-full.ensures.grows honest world carries
+
+pub returns-in_err-append-clause-grows : goal.returns-in_err-append-clause-grows
+returns-in_err-append-clause-grows g c = λ honest world lent carries.
+    let log = c.args.self.now in
+    let ticked = c.tick_before.new.self in
+    let kept = c.append.new.self in
+    let then = c.in_err-append.ensures.honest honest in
+    grows_to (present_of (free_of kept)) (coming_of (free_of kept)) (g.D.Disk.file_len log.disk) (g.D.Disk.file_len ticked.disk) (g.D.Disk.file_len kept.disk)
+    (c.in_err-append.ensures.same_len honest world (c.in_ok-full.ensures.carries then c.in_ok-full.ensures.broken world lent carries))
+    (grows_by_pages (free_of ticked) (free_of kept) (g.D.Disk.file_len log.disk) (g.D.Disk.file_len ticked.disk) c.in_err-append.ensures.free (c.in_ok-full.ensures.grows then world carries))
+
+pub returns-clause-grows : goal.returns-clause-grows
+returns-clause-grows g c = λ honest world lent carries.
+    let log = c.args.self.now in
+    let ticked = c.tick_before.new.self in
+    let kept = c.append.new.self in
+    let then = c.in_ok-append.ensures.honest honest in
+    grows_to (present_of (free_of kept)) (coming_of (free_of kept)) (g.D.Disk.file_len log.disk) (g.D.Disk.file_len ticked.disk) (g.D.Disk.file_len kept.disk)
+    (c.in_ok-append.ensures.same_len honest world (c.in_ok-full.ensures.carries then c.in_ok-full.ensures.broken world lent carries))
+    (grows_by_pages (free_of ticked) (free_of kept) (g.D.Disk.file_len log.disk) (g.D.Disk.file_len ticked.disk) c.in_ok-append.ensures.free (c.in_ok-full.ensures.grows then world carries))
