@@ -6,7 +6,7 @@ use rr_words::spelling::{Cursor, Spell};
 use std::alloc::Global;
 use std::process::Abort;
 
-// The calls below have no contracts and assert nothing, so that what a test does costs its proof little.
+// The calls below have no contracts, so that what a test does costs its proof little.
 
 fn opened(rt: &impl Abort, alloc: Global) -> StandingParts {
     Standing::open(alloc, 2, &roster(rt, alloc, ROSTER))
@@ -14,11 +14,13 @@ fn opened(rt: &impl Abort, alloc: Global) -> StandingParts {
         .parts()
 }
 
-// Whether a game may stand so.
+// Whether a game may stand so: the values tell it as what is made of them does.
 fn is_standing(rt: &impl Abort, alloc: Global, parts: StandingParts) -> bool {
-    Standing::from_parts(alloc, parts)
+    let made = Standing::from_parts(alloc, &parts)
         .expect(rt, "memory")
-        .is_some()
+        .is_some();
+    assert!(rt; parts.are_sound() == made);
+    made
 }
 
 // The value of which these are all the bytes.

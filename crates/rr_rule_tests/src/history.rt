@@ -54,6 +54,32 @@ impl Club {
         self.table.take(change);
     }
 
+    /// How many commands are played to work out what a command makes of the table.
+    fn plays_of_command(&self, rt: &impl Abort, alloc: Global, words: &[u8]) -> usize {
+        let stamp = self.table.stamp();
+        let request = Request::Play(command(rt, words));
+        let change = self.table.judge(alloc, stamp, &request, &self.kit);
+        change.expect(rt, "a lawful command").plays()
+    }
+
+    /// How many are played to take it back to this turn.
+    fn plays_of_back(&self, rt: &impl Abort, alloc: Global, turn: u64) -> usize {
+        let stamp = self.table.stamp();
+        let change = self
+            .table
+            .judge(alloc, stamp, &Request::Back(turn), &self.kit);
+        change.expect(rt, "a kept turn").plays()
+    }
+
+    /// How many are played to forget the turns before this one.
+    fn plays_of_forget(&self, rt: &impl Abort, alloc: Global, turn: u64) -> usize {
+        let stamp = self.table.stamp();
+        let change = self
+            .table
+            .judge(alloc, stamp, &Request::Forget(turn), &self.kit);
+        change.expect(rt, "a kept turn").plays()
+    }
+
     fn take_back(&mut self, alloc: Global, turn: u64) -> Result<(), Fault> {
         let stamp = self.table.stamp();
         self.table.take_back(alloc, stamp, turn, &self.kit)
@@ -264,6 +290,30 @@ fn a_take_back_plays_on_from_a_snapshot(rt: HostRuntime) {
         same = same && is_as_anew(&rt, alloc, &club);
     }
     assert!(rt; same && club.table.commands().len() == 6);
+}
+
+/// Turns of a table that keeps 130 commands, of which each but the opening ended one, and how many commands are played
+/// to take it back to each: its snapshots are of 64 and of 128 commands.
+static PLAYS_OF_BACKS: [(u64, usize); 7] = [
+    (129, 2),
+    (128, 1),
+    (127, 0),
+    (126, 63),
+    (63, 0),
+    (62, 62),
+    (0, 0),
+];
+
+#[test]
+fn a_change_tells_how_many_commands_were_played(rt: HostRuntime) {
+    let alloc = rt.alloc();
+    let club = club_of_passes(&rt, alloc, 130);
+    let mut as_told = club.plays_of_command(&rt, alloc, b"pass b") == 1
+        && club.plays_of_forget(&rt, alloc, 100) == 0;
+    for (turn, plays) in PLAYS_OF_BACKS {
+        as_told = as_told && club.plays_of_back(&rt, alloc, turn) == plays;
+    }
+    assert!(rt; as_told);
 }
 
 #[test]

@@ -81,7 +81,7 @@ fn spelled(rt: &impl Abort, alloc: Global, game: &Game) -> Vec<u8> {
 
 // The game of these values, if one may have them.
 fn game_from(rt: &impl Abort, alloc: Global, parts: Parts) -> Option<Game> {
-    Game::from_parts(alloc, parts).expect(rt, "memory")
+    Game::from_parts(alloc, &parts).expect(rt, "memory")
 }
 
 // The game of these bytes.
@@ -89,9 +89,11 @@ fn game_of(rt: &impl Abort, alloc: Global, bytes: &[u8]) -> Option<Game> {
     game_from(rt, alloc, Parts::read(bytes)?)
 }
 
-// Whether there is a game of these values.
+// Whether there is a game of these values: they tell it as what is made of them does.
 fn makes_a_game(rt: &impl Abort, alloc: Global, parts: Parts) -> bool {
-    game_from(rt, alloc, parts).is_some()
+    let made = game_from(rt, alloc, parts).is_some();
+    assert!(rt; parts.are_sound() == made);
+    made
 }
 
 // The game, made again of its values.

@@ -39,9 +39,10 @@ use Rattle.rr_store.specs.Committing.{Commits, NumberBehind, Spares, layout_behi
 use Rattle.rr_store.specs.Fault.{CountsEnd, OnDeviceFault, of_log, of_rules, of_tables}
 use Rattle.rr_store.specs.Files.{AreTablesOf}
 use Rattle.rr_store.specs.Held.{Accepted, Again, Fails, Held, NoRoom, Refused, Takes, Wants, stamp_after, with_tables}
-use Rattle.rr_store.specs.Holding.{Carries, GamesArePlayed, GamesHaveSnapshots, HasNoRoom, IsUnchanged, disk_of, file_of, held_of, lent_of, number_of_next, ticks_left}
-use Rattle.rr_store.specs.Keeping.{Keeping, MakesAtMost}
+use Rattle.rr_store.specs.Holding.{Carries, GamesArePlayed, GamesHaveSnapshots, HasNoRoom, IsFull, IsUnchanged, disk_of, file_of, held_of, lent_of, number_of_next, ticks_left}
+use Rattle.rr_store.specs.Keeping.{Grows, GrowsOnTheWay, Keeping, MakesAtMost, length_in}
 use Rattle.rr_store.specs.World.{World, for_table, judgement_in, world_after}
+use Rattle.rr_store.proofs.Keepings.{grown_not}
 use Rattle.rr_store.proofs.Standing.{carried_keeps, carried_lent, carried_now, keeps_either, record_leads, stands_either, tables_after}
 use Rattle.rr_store.proofs.Verdicts.{no_again, no_failure, no_full}
 
@@ -161,12 +162,17 @@ module _ {D : Type 0} (Honest Works : D → Type 0) (state : D → DiskState) (p
         most_syncs = within syncs;
         comes_on = tt;
         makes_room = tt;
+        grows = λ room h texts s more. let length = same_length in absurd (omega (arith, length, more));
+        grows_in_all = λ not_last h texts s. let length = same_length in grown_not state past (in_words texts tables_now) (file_of old) (file_of new) (omega (arith, length));
         full = λ is. absurd (room (let one : fault ≡ F.FileFull = cc is in one));
         device = device_same _ fault other;
       }
     where
       same_disk : disk_of new ≡ disk_of old
       same_disk = ap (λ (f : Log D TableRules). file.disk_of f) same.same_file
+
+      same_length : length_in state (file_of new) ≡ length_in state (file_of old)
+      same_length = ap (λ (f : Log D TableRules). length_in state f) same.same_file
 
       at_most : (count : D → ℕ) (more : ℕ) → count (disk_of new) ≤ count (disk_of old) + more
       at_most count more = let e : count (disk_of new) ≡ count (disk_of old) = ap count same_disk in omega arith
@@ -226,6 +232,14 @@ module _ {D : Type 0} (Honest Works : D → Type 0) (state : D → DiskState) (p
         weaker (k.stops h (in_words texts tables_now) (in_words texts behind) (record_leads texts kit_now tables_now stamp (for_table name c) is_lawful s.tables_of_kit) (carried_lent state old texts s) s.file)
         (KeepsTablesOr texts kit_now tables_now (Some (for_table name c))) (keeps_either texts kit_now tables_now stamp (for_table name c) is_lawful s.tables_of_kit)
 
+    grown_by : (kept : Kept) → KeptBy (file_of old) kept (file_of new) → (IsFull old name c → ⊥) → Honest (disk_of new) → (texts : KitTexts) → Carries state old texts → Grows state (file_of old) (file_of new)
+    grown_by kept k room h texts s = k.grows room h (in_words texts tables_now) (carried_lent state old texts s) s.file
+
+    grown_in_all : (kept : Kept) → (Played → Lawful) → KeptBy (file_of old) kept (file_of new) → (ticks_left old ≡ 1 → ⊥) → Honest (disk_of new) → (texts : KitTexts) → Carries state old texts
+        → GrowsOnTheWay state past (in_words texts tables_now) (file_of old) (file_of new)
+    grown_in_all kept lawful k not_last h texts s =
+        k.grows_in_all not_last h (in_words texts tables_now) (in_words texts behind) (record_leads texts kit_now tables_now stamp (for_table name c) (lawful_in texts s (lawful s.played)) s.tables_of_kit) (carried_lent state old texts s) s.file
+
     -- the request was taken
     taken : (n : ℕ) → Told (Ok n) → (Played → Lawful) → (Played → held_of new ≡ with_tables (held_of old) behind)
         → KeptBy (file_of old) (Ok tt) (file_of new) → Done (Ok n)
@@ -256,6 +270,8 @@ module _ {D : Type 0} (Honest Works : D → Type 0) (state : D → DiskState) (p
           most_syncs = k.most_syncs;
           comes_on = k.comes_on;
           makes_room = k.makes_room;
+          grows = grown_by (Ok tt) k;
+          grows_in_all = grown_in_all (Ok tt) lawful k;
           full = λ is. absurd (cc is);
           device = tt;
         }
@@ -297,6 +313,8 @@ module _ {D : Type 0} (Honest Works : D → Type 0) (state : D → DiskState) (p
           most_syncs = k.most_syncs;
           comes_on = tt;
           makes_room = tt;
+          grows = grown_by (Err L.DeviceFailed) k;
+          grows_in_all = grown_in_all (Err L.DeviceFailed) lawful k;
           full = λ is. absurd (cc is);
           device = λ h texts s.
               k.device h (in_words texts tables_now) (in_words texts behind) (record_leads texts kit_now tables_now stamp (for_table name c) (lawful_in texts s (lawful s.played)) s.tables_of_kit) (carried_lent state old texts s) s.file;
@@ -348,6 +366,8 @@ module _ {D : Type 0} (Honest Works : D → Type 0) (state : D → DiskState) (p
           most_syncs = k.most_syncs;
           comes_on = tt;
           makes_room = tt;
+          grows = grown_by (Err L.FileFull) k;
+          grows_in_all = grown_in_all (Err L.FileFull) lawful k;
           full = λ is. k.full refl;
           device = tt;
         }
@@ -377,6 +397,8 @@ module _ {D : Type 0} (Honest Works : D → Type 0) (state : D → DiskState) (p
           most_syncs = k.most_syncs;
           comes_on = tt;
           makes_room = tt;
+          grows = grown_by (Err L.OutOfMemory) k;
+          grows_in_all = grown_in_all (Err L.OutOfMemory) lawful k;
           full = λ is. absurd (cc is);
           device = tt;
         }
@@ -432,7 +454,7 @@ module _ {D : Type 0} (Honest Works : D → Type 0) (state : D → DiskState) (p
             no_memory (λ played. Wants was (lawful-first (judgement_in kit_now tables_now stamp name c) (lawful played)) same) lawful same k
 
         pub commits_not : (fault : table.Fault) → (Played → MayRefuse (ruled.judgement_in kit_now tables_now stamp name c) fault)
-            → Passed (λ (before : FileJournal D) (lent : Lent) (bytes : List ℕ) (kept : Kept) (after : FileJournal D). Keeping Honest Works state past faults writes syncs before.file lent bytes kept after.file)
+            → Passed {A = ℕ} (λ (before : FileJournal D) (lent : Lent) (bytes : List ℕ) (kept : Kept) (after : FileJournal D). Keeping Honest Works state past faults writes syncs before.file lent bytes kept after.file)
             old.journal (lent_of old) bytes_of new.journal (Err fault)
             → Done (Err (of_tables fault))
         commits_not (Rules fault) verdict passed = by_rule fault verdict (ap (λ (j : FileJournal D). j.file) passed)

@@ -1,12 +1,15 @@
 -- What keeping a record does, from what the open file does.
-use Rattle.std.proofs.Common.{◌≡◌, ◌⊎◌, ◌↔◌, ℕ, ◌+◌, ◌^◌, ◌<◌, ◌≤◌, true, false, List, length, Option, None, Some, Result, Ok, Err, IfErr, IsErrOf, IsTrue, OnOk, inl, inr, refl, sym, ap, subst, ◌∙◌, arith}
+use Rattle.std.proofs.Common.{◌≡◌, ◌⊎◌, ◌↔◌, ℕ, ◌+◌, ◌^◌, ◌<◌, ◌≤◌, Bool, true, false, List, length, Option, None, Some, Result, Ok, Err, IfErr, IsErrOf, IsTrue, OnErr, OnOk, inl, inr, refl, sym, ap, subst, ◌∙◌, arith}
+use Rattle.std.proofs.lemmas.Bool.{cases_lt}
 use Rattle.rr_checkpoint.specs.Calls.{LeavesEither, LeavesKept}
+use Rattle.rr_checkpoint.specs.Growing.{GrowsWhereFull, NoneFreeUnder}
 use Rattle.rr_checkpoint.proofs.Writers.{carried_kept}
 use Rattle.rr_disk.specs.Disk.{DiskState}
 use Rattle.rr_disk.specs.Moments.{EachImage}
 use Rattle.rr_disk.proofs.MomentLemmas.{joins, started, weaker}
 use Rattle.rr_images.specs.Calls.{TakesNewer}
 use Rattle.rr_images.specs.Layout.{Keeps}
+use Rattle.rr_pages.specs.FreePages.{coming_of, present_of}
 use Rattle.rr_pages.specs.declared.journal.half.Half.{Half}
 use Rattle.rr_pages.specs.Journal.Layout.{HasRoom}
 use Rattle.rr_log.specs.declared.fault.Fault.{Fault}
@@ -17,14 +20,14 @@ use Rattle.rr_checkpoint.specs.declared.plan.standing.StandingSnapshot.{Standing
 use Rattle.rr_log.specs.Calls.{MayRefuse, MeetsFullFile, NumberBehind, first_left, layout_behind, tables_due, ticks_due, world_behind}
 use Rattle.rr_log.specs.Carrying.{Carries, HaveSameTexts}
 use Rattle.rr_log.specs.Fault.{CountsFault, IsWant, OnDeviceFault, ends_broken}
-use Rattle.rr_log.specs.Log.{HasNoRoom, IsDue, IsPastLast, IsTooLong, disk_of, is_broken, next_number, place_of, ticks_left}
+use Rattle.rr_log.specs.Log.{HasNoRoom, IsDue, IsPastLast, IsTooLong, disk_of, free_of, is_broken, next_number, place_of, ticks_left}
 use Rattle.rr_log.proofs.Carried.{device_more}
 use Rattle.rr_tables.specs.declared.records.rules.TableRules.{TableRules}
 use Rattle.rr_tables.specs.Records.Taking.{Takes, table_files, table_rules}
 use Rattle.rr_kit.specs.Kits.{KitTexts}
 use Rattle.rr_log.specs.Lent.{AreLentOf, Lent, pages_of}
 use Rattle.rr_reading.specs.Worlds.World as words
-use Rattle.rr_store.specs.Keeping.{ComesOn, IsFull, Keeping, MakesAtMost, told_of}
+use Rattle.rr_store.specs.Keeping.{AreOfRoot, ComesOn, Grows, GrowsOnTheWay, IsFull, IsPassed, Keeping, MakesAtMost, length_in, told_of}
 
 abbrev Kept : Type 0
 Kept = Result (Unit {0}) Fault
@@ -60,6 +63,81 @@ first_some : (begun : Option ℕ) (left : ℕ) (standing : List StandingSnapshot
 first_some begun left standing tables (inl none) = inl none
 first_some None left standing tables (inr is) = inr (omega (arith, is))
 first_some (Some first) left standing tables (inr is) = inr (omega (arith, is))
+
+-- the same of the lengths of what the disks hold
+pub grows_so : (present coming : List Bool) (len len_new held held_new : ℕ) → len ≡ held → len_new ≡ held_new → GrowsWhereFull present coming len len_new → GrowsWhereFull present coming held held_new
+grows_so present coming len len_new held held_new is is_new grows more page within free = grows (omega (arith, is, is_new, more)) page (omega (arith, is_new, within)) free
+
+-- none under the end of a file is free under that of a shorter one
+none_under : (present coming : List Bool) (len shorter : ℕ) → shorter ≤ len → NoneFreeUnder present coming len → NoneFreeUnder present coming shorter
+none_under present coming len shorter short none page within free = none page (omega (arith, short, within)) free
+
+module _ {D : Type 0} (state : D → DiskState) (past : D → List DiskState) (world : words.World) (old new : Log D TableRules) where
+  abbrev Way : Type 0
+  Way = GrowsOnTheWay state past world old new
+
+  abbrev Met : Log D TableRules → Type 0
+  Met log = (log ≡ new) ⊎ IsPassed state past world log new
+
+  present_met : (log : Log D TableRules) → Met log → AreOfRoot state past world new (present_of (free_of log))
+  present_met log met = record { log = log; met = met; pages_are = inl refl }
+
+  coming_met : (log : Log D TableRules) → Met log → (log ≡ new) ⊎ (0 < ticks_left log) → AreOfRoot state past world new (coming_of (free_of log))
+  coming_met log met some = record { log = log; met = met; pages_are = inr (refl, some) }
+
+  -- as the call left it
+  pub grown_last : Grows state old new → Way
+  grown_last grows = record {
+    present = present_of (free_of new);
+    coming = coming_of (free_of new);
+    of_present = present_met new (inl refl);
+    of_coming = coming_met new (inl refl) (inl refl);
+    grows = grows;
+  }
+
+  -- it isn't longer
+  pub grown_not : length_in state new ≤ length_in state old → Way
+  grown_not short = grown_last (λ more. absurd (omega (arith, short, more)))
+
+  -- or by a tick, and then by those that end its checkpoint
+  module _ (mid : Log D TableRules) (passed : IsPassed state past world mid new) (ticked : Grows state old mid) where
+    grown_first : 0 < ticks_left mid → length_in state new ≤ length_in state mid → Way
+    grown_first some short = record {
+      present = present_of (free_of mid);
+      coming = coming_of (free_of mid);
+      of_present = present_met mid (inr passed);
+      of_coming = coming_met mid (inr passed) (inr some);
+      grows = λ more. none_under (present_of (free_of mid)) (coming_of (free_of mid)) (length_in state mid) (length_in state new) short (ticked (omega (arith, short, more)));
+    }
+
+    pub grown_so_far : 0 < ticks_left mid → GrowsWhereFull (present_of (free_of mid)) (coming_of (free_of new)) (length_in state mid) (length_in state new) → Way
+    grown_so_far some ended = elim (cases_lt (length_in state mid) (length_in state new)) [
+      | inl more ↦ record {
+        present = present_of (free_of mid);
+        coming = coming_of (free_of new);
+        of_present = present_met mid (inr passed);
+        of_coming = coming_met new (inl refl) (inl refl);
+        grows = λ longer. ended more;
+      }
+      | inr short ↦ grown_first some short
+    ]
+
+    pub grown_in_turn : (0 < ticks_left mid) ⊎ (length_in state mid ≤ length_in state old) → (made : Log D TableRules) → IsPassed state past world made new
+        → GrowsWhereFull (present_of (free_of mid)) (present_of (free_of made)) (length_in state mid) (length_in state made) → Grows state made new → Way
+    grown_in_turn under_way made passed_made ended kept = elim (cases_lt (length_in state made) (length_in state new)) [
+      | inl more ↦ grown_last (λ longer. kept more)
+      | inr short ↦ elim (cases_lt (length_in state mid) (length_in state made)) [
+        | inl more ↦ record {
+          present = present_of (free_of mid);
+          coming = present_of (free_of made);
+          of_present = present_met mid (inr passed);
+          of_coming = present_met made (inr passed_made);
+          grows = λ longer. none_under (present_of (free_of mid)) (present_of (free_of made)) (length_in state made) (length_in state new) short (ended more);
+        }
+        | inr shorter ↦ let by_all : length_in state new ≤ length_in state mid = omega (arith, short, shorter) in
+            elim under_way [ inl some ↦ grown_first some by_all | inr not_yet ↦ grown_not (omega (arith, by_all, not_yet)) ]
+      ]
+    ]
 
 module _ {D : Type 0} (Honest Works : D → Type 0) (state : D → DiskState) (past : D → List DiskState) (faults writes syncs : D → ℕ)
     (tables : Lent) (bytes : List ℕ) where
@@ -100,6 +178,7 @@ module _ {D : Type 0} (Honest Works : D → Type 0) (state : D → DiskState) (p
     pub tick_syncs : IsErrOf result F.HalfFull → syncs (disk_of new) ≤ syncs (disk_of old) + 1
     pub own_writes : ticks_left old ≡ 0 → (IsDue (place_of old) → ⊥) → writes (disk_of new) ≤ writes (disk_of old) + 2
     pub own_syncs : ticks_left old ≡ 0 → (IsDue (place_of old) → ⊥) → syncs (disk_of new) ≤ syncs (disk_of old) + 2
+    pub grows : Honest (disk_of new) → (world : words.World) → AreLentOf table_rules world tables → Carries table_rules old (state (disk_of old)) world → Grows state old new
     pub honest : Honest (disk_of new) → Honest (disk_of old)
     pub works : Works (disk_of new) → Works (disk_of old)
 
@@ -121,6 +200,10 @@ module _ {D : Type 0} (Honest Works : D → Type 0) (state : D → DiskState) (p
     pub fault : CountsFault (faults (disk_of old)) (faults (disk_of new)) result
     pub all_writes : writes (disk_of new) ≤ writes (disk_of old) + ticks_left old
     pub all_syncs : syncs (disk_of new) ≤ syncs (disk_of old) + ticks_left old
+    pub grows : OnOk result (Honest (disk_of new) → (world : words.World) → AreLentOf table_rules world tables → Carries table_rules old (state (disk_of old)) world
+        → GrowsWhereFull (present_of (free_of old)) (present_of (free_of new)) (length_in state old) (length_in state new))
+    pub grows_so_far : OnErr result (Honest (disk_of new) → (world : words.World) → AreLentOf table_rules world tables → Carries table_rules old (state (disk_of old)) world
+        → GrowsWhereFull (present_of (free_of old)) (coming_of (free_of new)) (length_in state old) (length_in state new))
     pub honest : Honest (disk_of new) → Honest (disk_of old)
     pub works : Works (disk_of new) → Works (disk_of old)
     pub device : OnDeviceFault result (Honest (disk_of new) → (world : words.World) → AreLentOf table_rules world tables → Carries table_rules old (state (disk_of old)) world
@@ -155,6 +238,8 @@ module _ {D : Type 0} (Honest Works : D → Type 0) (state : D → DiskState) (p
         fault = refl;
         all_writes = omega arith;
         all_syncs = omega arith;
+        grows = λ h world lent carries more. absurd (omega (arith, more));
+        grows_so_far = tt;
         honest = λ h. h;
         works = λ w. w;
         device = tt;
@@ -190,6 +275,8 @@ module _ {D : Type 0} (Honest Works : D → Type 0) (state : D → DiskState) (p
         most_syncs = few_at_most syncs log log (omega arith);
         comes_on = tt;
         makes_room = tt;
+        grows = λ room h world lent carries more. absurd (omega (arith, more));
+        grows_in_all = λ not_last h before behind takes lent carries. grown_not state past before log log (omega arith);
       }
 
   pub keeps_again : (log : Logs) → is_broken log ≡ true → Done log (Err F.OpenAgain) log
@@ -217,6 +304,8 @@ module _ {D : Type 0} (Honest Works : D → Type 0) (state : D → DiskState) (p
         most_syncs = few_at_most syncs log log (omega arith);
         comes_on = tt;
         makes_room = tt;
+        grows = λ room h world lent carries more. absurd (omega (arith, more));
+        grows_in_all = λ not_last h before behind takes lent carries. grown_not state past before log log (omega arith);
       }
 
   -- where there was room and a number
@@ -256,6 +345,8 @@ module _ {D : Type 0} (Honest Works : D → Type 0) (state : D → DiskState) (p
         most_syncs = few_at_most syncs old new t.few_syncs;
         comes_on = comes_on old new result t;
         makes_room = t.makes_room;
+        grows = λ room. t.grows;
+        grows_in_all = λ not_last h before behind takes lent carries. grown_last state past before old new (t.grows h before lent carries);
       }
 
   module _ (old mid : Logs) (t : Tried old (Err F.HalfFull) mid) where
@@ -320,6 +411,12 @@ module _ {D : Type 0} (Honest Works : D → Type 0) (state : D → DiskState) (p
           most_syncs = in_all syncs new new (t.tick_syncs refl) m.all_syncs (omega arith);
           comes_on = tt;
           makes_room = tt;
+          grows = λ room. has_none room;
+          grows_in_all = λ not_last h before behind takes lent carries.
+              let there = carried (m.honest h) before behind takes lent carries in
+              let stops = m.stops h before lent there in
+              grown_so_far state past before old new mid (record { since = stops.since; goes_on = stops.goes_on; carries = there })
+              (t.grows (m.honest h) before lent carries) some (m.grows_so_far h before lent there);
         }
       where
         same_fault : IsErrOf {T = Unit {0}} (Err fault) F.OpenAgain → ⊥
@@ -343,6 +440,29 @@ module _ {D : Type 0} (Honest Works : D → Type 0) (state : D → DiskState) (p
           let then = again.honest h in
           again.carries h whole before behind takes (same_texts bytes before behind takes) lent
           (m.carries then m.broken before lent (carried (m.honest then) before behind takes lent carries))
+
+      -- a tick behind which no checkpoint is under way, and which wasn't its last, did nothing
+      under_way : (ticks_left old ≡ 1 → ⊥) → (0 < ticks_left mid) ⊎ (length_in state mid ≤ length_in state old)
+      under_way not_last = elim (cases_lt 0 (ticks_left mid)) [
+        | inl some ↦ inl some
+        | inr none ↦ elim (cases_lt 0 (ticks_left old)) [
+          | inl some ↦ let one = t.comes refl some in absurd (not_last (omega (arith, one, none)))
+          | inr none_before ↦
+              let same : length_in state mid ≡ length_in state old = ap (λ (disk : D). length (state disk).content) (t.nothing t.broken (omega (arith, none_before)) (omega (arith, none))) in
+              inr (omega (arith, same))
+        ]
+      ]
+
+      grows_by : (result : Kept) → Tried made result new → (ticks_left old ≡ 1 → ⊥) → Honest (disk_of new) → (before behind : words.World) → Takes bytes before behind → AreLentOf table_rules before tables
+          → Carries table_rules old (state (disk_of old)) before → GrowsOnTheWay state past before old new
+      grows_by result again not_last h before behind takes lent carries =
+          let then = again.honest h in
+          let there = carried (m.honest then) before behind takes lent carries in
+          let made_there = m.carries then m.broken before lent there in
+          let last = again.stops h before behind takes (same_texts bytes before behind takes) lent made_there in
+          let both = joins (weaker (m.stops then before lent there) (λ image. Keeps table_files image before ⊎ Keeps table_files image behind) (λ image keeps. inl keeps)) last in
+          grown_in_turn state past before old new mid (record { since = both.since; goes_on = both.goes_on; carries = there }) (t.grows (m.honest then) before lent carries)
+          (under_way not_last) made (record { since = last.since; goes_on = last.goes_on; carries = made_there }) (m.grows then before lent there) (again.grows h before lent made_there)
 
       same_number : next_number made ≡ next_number old
       same_number = m.number ∙ t.number
@@ -390,6 +510,8 @@ module _ {D : Type 0} (Honest Works : D → Type 0) (state : D → DiskState) (p
             most_syncs = in_all syncs made new (t.tick_syncs refl) m.all_syncs again.few_syncs;
             comes_on = λ room. has_none room;
             makes_room = λ none. begins_another again;
+            grows = λ room. has_none room;
+            grows_in_all = grows_by (Ok tt) again;
           }
 
       -- one that isn't kept either
@@ -441,4 +563,6 @@ module _ {D : Type 0} (Honest Works : D → Type 0) (state : D → DiskState) (p
             most_syncs = in_all syncs made new (t.tick_syncs refl) m.all_syncs again.few_syncs;
             comes_on = tt;
             makes_room = tt;
+            grows = λ room. has_none room;
+            grows_in_all = grows_by (Err fault) again;
           }

@@ -8,6 +8,8 @@ pub mod Commits
 pub mod Steps
 pub mod Trusting
 pub mod Recovering
+pub mod Replays
+pub mod FewLeft
 pub mod Openings
 pub mod Numbers
 pub mod Events

@@ -38,7 +38,8 @@ use Rattle.rr_store.specs.Allowing.{Between, Keeps}
 use Rattle.rr_store.specs.Fault.{CountsFailure, OnDevice, of_reading, of_recovery}
 use Rattle.rr_store.specs.Recovery.Fault as recovery_of
 use Rattle.rr_store.specs.Files.{StandsFor}
-use Rattle.rr_store.specs.Holding.{Carries, GamesArePlayed, GamesHaveSnapshots, disk_of, held_of}
+use Rattle.rr_store.specs.Holding.{Carries, GamesArePlayed, GamesHaveSnapshots, disk_of, held_of, replayed_of}
+use Rattle.rr_store.specs.Replayed.{ReplaysFile}
 use Rattle.rr_store.specs.Opening.{IsFound, IsNoVerdict, IsSyncedFirst, OpenAllows, Refuses, SyncsAtMost, SyncsFirst}
 use Rattle.rr_store.specs.World.{World}
 use Rattle.rr_store.proofs.Recovering.{only_recovered, recovered_played, recovered_snapshots}
@@ -203,6 +204,14 @@ module _ {D : Type 0} (Honest : D → Type 0) (state : D → DiskState) (past : 
   snapshots_store so h texts tables stands =
       let f = is_found (subst Honest disk_is h) in
       so (recovered_snapshots (state old).content (held_by (state old).content found.opened) found.recovered f.holds f.recovered texts tables stands)
+
+  -- and few commands were played for that
+  pub replayed_store : replayed_of store ≡ found.recovered.replayed
+      → (Honest then → (texts : KitTexts) (tables : World) → StandsFor (state old).content texts tables → ReplaysFile (state old).content found.recovered.tables.kit found.recovered.replayed)
+      → Honest (disk_of store) → (texts : KitTexts) (tables : World) → StandsFor (state old).content texts tables → ReplaysFile (state old).content (held_of store).kit (replayed_of store)
+  replayed_store same so h texts tables stands =
+      subst (λ (k : Kit). ReplaysFile (state old).content k (replayed_of store)) (sym kit_is)
+      (subst (λ (n : ℕ). ReplaysFile (state old).content found.recovered.tables.kit n) (sym same) (so (subst Honest disk_is h) texts tables stands))
 
   -- and it goes on with a file that keeps it
   pub carries_store : ((texts : KitTexts) → IsFound (state then).content found → writer.ticks_left_of found.opened.writer ≡ 0

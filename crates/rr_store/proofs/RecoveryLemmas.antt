@@ -11,4 +11,5 @@ pub mod BaseLemmas
 pub mod ReplayLemmas
 pub mod VerdictLemmas
 pub mod RestoringLemmas
+pub mod PlaysLemmas
 pub mod Recovered

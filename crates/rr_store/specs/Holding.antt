@@ -8,6 +8,7 @@ use Rattle.rr_log.specs.declared.log.Log.{Log}
 use Rattle.rr_log.specs.Calls.{MeetsFullFile}
 use Rattle.rr_log.specs.Carrying as file
 use Rattle.rr_log.specs.Log as log
+use Rattle.rr_pages.specs.declared.free_pages.FreePages.{FreePages}
 use Rattle.rr_tables.specs.declared.records.rules.TableRules.{TableRules}
 use Rattle.rr_tables.specs.Records.Taking.{table_rules}
 use Rattle.rr_tables.specs.Records.Words.{in_words}
@@ -30,6 +31,10 @@ disk_of store = log.disk_of store.journal.file
 abbrev pub held_of : {D : Type 0} → Store D → Held
 held_of store = record { kit = store.tables.kit; tables = world_of store.tables; broken = log.is_broken store.journal.file }
 
+-- how many commands its opening played
+abbrev pub replayed_of : {D : Type 0} → Store D → ℕ
+replayed_of store = store.replayed
+
 -- what it lends to a checkpoint: its tables in words, and snapshots of their games
 abbrev pub lent_of : {D : Type 0} → Store D → Lent
 lent_of store = lent_by store.tables
@@ -44,6 +49,10 @@ last_of store = number_of_next store - 1
 -- the number of the root that is taken
 abbrev pub root_of : {D : Type 0} → Store D → ℕ
 root_of store = log.root_number store.journal.file
+
+-- which pages of its file are free
+abbrev pub free_of : {D : Type 0} → Store D → FreePages
+free_of store = log.free_of store.journal.file
 
 -- how many ticks the checkpoint under way has left, 0 without one
 abbrev pub ticks_left : {D : Type 0} → Store D → ℕ

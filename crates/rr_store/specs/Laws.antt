@@ -1,15 +1,29 @@
 -- What the definitions of files and worlds say.
-use Rattle.std.specs.Prelude.{◌≡◌, ℕ, ◌+◌, List, length}
+use Rattle.std.specs.Prelude.{◌≡◌, ℕ, ◌+◌, ◌<◌, ◌≤◌, All, List, length}
+use Rattle.std.specs.Global.{Box}
+use Rattle.std.specs.Map.{values_of}
 use Rattle.rr_disk.specs.Disk.{DiskState}
 use Rattle.rr_disk.specs.Moments.{EachImage}
+use Rattle.rr_game.specs.declared.game.Game.{Game}
+use Rattle.rr_game.specs.declared.history.snapshots.TheConstants.{SNAPSHOT_SPACING}
+use Rattle.rr_game.specs.declared.history.table.Table.{Table}
+use Rattle.rr_game.specs.History.GameBytes.{bytes_of}
+use Rattle.rr_images.specs.Holding.{HeldChain}
 use Rattle.rr_images.specs.Layout.{Stands}
+use Rattle.rr_kit.specs.declared.kit.Kit.{Kit}
 use Rattle.rr_kit.specs.Kits.{KitTexts}
+use Rattle.rr_reading.specs.declared.dir.directory.TheConstants.{MOST_SNAPSHOT_BYTES}
+use Rattle.rr_reading.specs.Worlds.Spelling.{snapshot_entries}
 use Rattle.rr_reading.specs.Worlds.World as words
 use Rattle.rr_tables.specs.Records.Taking.{table_files}
 use Rattle.rr_tables.specs.Records.Words.{in_words}
+use Rattle.rr_tables.specs.Records.World.{TableState}
+use Rattle.rr_tables.specs.Tables.{ArePlayed, HaveTheirSnapshots, lent_by, world_of}
+use Rattle.rr_tables.specs.declared.tables.Tables.{Tables}
 use Rattle.rr_store.specs.declared.store.Store.{Store}
 use Rattle.rr_store.specs.Files.{StandsFor}
 use Rattle.rr_store.specs.Holding.{Carries, disk_of, held_of, last_of, root_of}
+use Rattle.rr_store.specs.Replayed.{HasNamed, HaveNamed, counts_at, left_behind}
 use Rattle.rr_store.specs.World.{World}
 
 -- a file stands for one kit and one world
@@ -29,3 +43,19 @@ abbrev pub NumbersAreInTheFile : {D : Type 0} → (D → DiskState) → Type 0
 NumbersAreInTheFile {D} state =
     (texts : KitTexts) (store : Store D) → Carries state store texts
     → EachImage (state (disk_of store)) (HasNumbersOf store (in_words texts (held_of store).tables))
+
+-- Where a table's snapshots in a root are just those that it is to have, fewer commands stand behind the last of them than the
+-- spacing of snapshots.
+abbrev pub FewAreLeft : Type 0
+FewAreLeft =
+    (kit : Kit) (table : TableState) (counts : List ℕ) → HasNamed kit table counts
+    → left_behind (length table.commands) counts < SNAPSHOT_SPACING
+
+-- So it is in a directory that a checkpoint writes of tables that were played and have their snapshots, if none of these has
+-- more bytes than it may.
+abbrev pub LentRootsAreNamed : Type 0
+LentRootsAreNamed =
+    (tables : Tables) (chains : List HeldChain) → ArePlayed tables → HaveTheirSnapshots tables
+    → All (λ (table : Box Table). All (λ (game : Game). length (bytes_of game) ≤ MOST_SNAPSHOT_BYTES) table.value.kept.snapshots) (values_of tables.map.entries)
+    → length chains ≡ length (lent_by tables).snapshots
+    → HaveNamed tables.kit (counts_at (snapshot_entries chains (lent_by tables).snapshots)) 0 (world_of tables)

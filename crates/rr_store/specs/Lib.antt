@@ -14,3 +14,4 @@ pub mod Laws
 pub mod Events
 pub mod Sessions
 pub mod Recovery
+pub mod Replayed

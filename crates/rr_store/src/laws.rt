@@ -1,7 +1,7 @@
 //! What the definitions of files and worlds say, and the law over sessions. The functions do nothing: their contracts
 //! hold of all files, worlds and disks.
 ghost use Rattle.rr_store.specs.Events.{CommitsAreEvents, OpensAreEvents, StepsAreEvents};
-ghost use Rattle.rr_store.specs.Laws.{NumbersAreInTheFile, OneWorld};
+ghost use Rattle.rr_store.specs.Laws.{FewAreLeft, LentRootsAreNamed, NumbersAreInTheFile, OneWorld};
 ghost use Rattle.rr_store.specs.Sessions.{OpeningsAndRequestsAreSessions, PartsOfWritesAreLeft, SessionsAreSafe};
 
 use rr_checkpoint::Tick;
@@ -16,6 +16,14 @@ pub fn one_world()
 /// gives it, and that of the root that is taken.
 pub fn numbers_are_in_the_file<D: Disk>()
     ensures { NumbersAreInTheFile D.state }
+{}
+
+/// Few commands are left behind the last snapshots, where a directory names those that each table is to have.
+pub fn few_are_left()
+    // Fewer than 64 of a table whose snapshots are just those that it is to have;
+    ensures few { FewAreLeft }
+    // and so they are of each table, in a directory that is written of what played tables with their snapshots lend.
+    ensures named { LentRootsAreNamed }
 {}
 
 /// What the contracts of the calls on a store say is what the law over schedules allows of events, however they end and

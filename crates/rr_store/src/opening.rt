@@ -18,8 +18,9 @@ ghost use Rattle.rr_reading.specs.Worlds.World as words;
 ghost use Rattle.rr_store.specs.Allowing.{Between};
 ghost use Rattle.rr_store.specs.Fault.{CountsEnd, CountsFailure, OnDevice, OnDeviceFault};
 ghost use Rattle.rr_store.specs.Files.{AreTablesOf, StandsFor};
-ghost use Rattle.rr_store.specs.Holding.{Carries, GamesArePlayed, GamesHaveSnapshots, disk_of, held_of};
+ghost use Rattle.rr_store.specs.Holding.{Carries, GamesArePlayed, GamesHaveSnapshots, disk_of, held_of, replayed_of};
 ghost use Rattle.rr_store.specs.Opening.{IsFound, IsNoVerdict, IsSyncedFirst, OpenAllows, Refuses};
+ghost use Rattle.rr_store.specs.Replayed.{ReplaysFile};
 
 use crate::fault::Fault;
 use crate::found::Found;
@@ -82,6 +83,11 @@ pub fn open<D: Disk + Drop>(alloc: Global, disk: D) -> Result<Store<D>, Refused<
     // Each has its snapshots then, whichever the file has.
     ensures snapshots { IfOk result (λ store. D.Honest (disk_of store) → (texts : KitTexts) (tables : World)
         → StandsFor (D.state disk).content texts tables → GamesHaveSnapshots store) }
+
+    // And for that few commands are played.
+    ensures replayed { IfOk result (λ store. D.Honest (disk_of store) → (texts : KitTexts) (tables : World)
+        → StandsFor (D.state disk).content texts tables
+        → ReplaysFile (D.state disk).content (held_of store).kit (replayed_of store)) }
     ensures whole { IfOk result (λ store. (held_of store).broken ≡ false) }
     ensures honest { IfOk result (λ store. D.Honest (disk_of store) → D.Honest disk) }
     ensures honest_left { IfErr result (λ refused. D.Honest refused.disk → D.Honest disk) }
@@ -107,6 +113,9 @@ pub fn open<D: Disk + Drop>(alloc: Global, disk: D) -> Result<Store<D>, Refused<
 fn find<D: Disk>(alloc: Global, disk: &mut D) -> Result<Found, Fault>
     ensures found { IfOk result (λ found. D.Honest disk.new → IsFound (D.state disk.old).content found) }
     ensures kit { IfOk result (λ found. (texts : KitTexts) × SpellsKit texts found.recovered.tables.kit) }
+    ensures replayed { IfOk result (λ found. D.Honest disk.new → (texts : KitTexts) (tables : World)
+        → StandsFor (D.state disk.old).content texts tables
+        → ReplaysFile (D.state disk.old).content found.recovered.tables.kit found.recovered.replayed) }
     ensures goes_on { IfOk result (λ found. D.Honest disk.new → (world : words.World)
         → KeepsFile table_files (D.state disk.old).content world
         → CarriesRead table_files found.opened (D.state disk.new) world) }
@@ -151,6 +160,7 @@ fn begin<D: Disk + Drop>(alloc: Global, disk: D, found: Found) -> Store<D>
     ensures disk { disk_of result ≡ disk }
     ensures kit { (held_of result).kit ≡ found.recovered.tables.kit }
     ensures tables { (held_of result).tables ≡ world_of found.recovered.tables }
+    ensures replayed { replayed_of result ≡ found.recovered.replayed }
     ensures whole { (held_of result).broken ≡ false }
     ensures carries { (texts : KitTexts) → IsFound (D.state disk).content found
         → writer.ticks_left_of found.opened.writer ≡ 0
@@ -171,6 +181,7 @@ fn begin<D: Disk + Drop>(alloc: Global, disk: D, found: Found) -> Store<D>
         kit,
         standing,
         base,
+        replayed,
     } = recovered;
     let Opened {
         writer,
@@ -187,5 +198,6 @@ fn begin<D: Disk + Drop>(alloc: Global, disk: D, found: Found) -> Store<D>
         alloc,
         journal: FileJournal { file, buffer },
         tables,
+        replayed,
     }
 }

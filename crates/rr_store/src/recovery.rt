@@ -8,6 +8,7 @@
 mod base;
 mod fault;
 mod playing;
+mod plays;
 mod records;
 mod recovered;
 mod shown;

@@ -1,5 +1,6 @@
-ghost use Rattle.std.specs.Prelude.{◌≡◌, ◌↔◌, ◌+◌, ◌<◌, ◌≤◌, true, false, IfOk, MatchResult, OnOk, Some, slice_get, length};
+ghost use Rattle.std.specs.Prelude.{◌≡◌, ◌↔◌, ◌+◌, ◌<◌, ◌≤◌, true, false, IfOk, MatchResult, OnErr, OnOk, Some, slice_get, length};
 ghost use Rattle.std.specs.Option.{option_copied};
+ghost use Rattle.rr_checkpoint.specs.Growing.{GrowsWhereFull};
 ghost use Rattle.rr_checkpoint.specs.Writer.{RenewsAt};
 ghost use Rattle.rr_code.specs.Request.{IsRequest};
 ghost use Rattle.rr_disk.specs.Moments.{EachImage};
@@ -8,6 +9,7 @@ ghost use Rattle.rr_images.specs.Calls.{TakesNewer};
 ghost use Rattle.rr_kit.specs.Kits.{KitTexts};
 ghost use Rattle.rr_reading.specs.declared.dir.directory.TheConstants.{MOST_TABLES};
 ghost use Rattle.rr_log.specs.Calls.{IsFileFull, LowersFrom, NumbersRoot, TakesRootOf, as_begun, first_left, ticks_due};
+ghost use Rattle.rr_pages.specs.FreePages.{coming_of, present_of};
 ghost use Rattle.rr_tables.specs.Records.Taking.{table_files};
 ghost use Rattle.rr_tables.specs.Records.Words.{in_words};
 ghost use Rattle.rr_store.specs.Held.{LacksTable};
@@ -31,11 +33,12 @@ pub struct Store<D: Drop> {
     pub(crate) alloc: Global,
     pub(crate) journal: FileJournal<D>,
     pub(crate) tables: Tables,
+    pub(crate) replayed: u64,
 }
 
 impl<D: Disk + Drop> Store<D> {
     ghost use Rattle.rr_store.specs.Committing.{Commits};
-    ghost use Rattle.rr_store.specs.Holding.{Carries, GamesArePlayed, HasNoneBegun, IsUnchanged, Rests, disk_of, file_of, held_of, lent_of, last_of, root_of, ticks_left};
+    ghost use Rattle.rr_store.specs.Holding.{Carries, GamesArePlayed, HasNoneBegun, IsUnchanged, Rests, disk_of, file_of, free_of, held_of, lent_of, last_of, replayed_of, root_of, ticks_left};
     ghost use Rattle.rr_store.specs.Ticking.{MakesFew, Steps};
 
     /// The disk on which the file stands, with all that it went through.
@@ -46,6 +49,7 @@ impl<D: Disk + Drop> Store<D> {
             alloc: _,
             journal,
             tables: _,
+            replayed: _,
         } = self;
         let FileJournal { file, buffer: _ } = journal;
         file.into_disk()
@@ -78,7 +82,7 @@ impl<D: Disk + Drop> Store<D> {
         let taken = self
             .tables
             .take(self.alloc, stamp, name, request, &mut self.journal)?;
-        Ok(taken)
+        Ok(taken.stamp)
     }
 
     /// A device call failed: each call that can be refused is, until the file is opened again.
@@ -86,6 +90,15 @@ impl<D: Disk + Drop> Store<D> {
         ensures { result ≡ (held_of self.now).broken }
     {
         self.journal.file.is_broken()
+    }
+
+    /// How many commands the opening of this store played: for each table those behind its last snapshot in the file,
+    /// and for the records behind the root one for each play, and for a take-back as many as it played again. A table
+    /// that lacked snapshots which it is to have was played once more. A store that is broken tells it too.
+    pub fn replayed(&self) -> u64
+        ensures { result ≡ replayed_of self.now }
+    {
+        self.replayed
     }
 
     /// What the tables are played with.
@@ -188,6 +201,12 @@ impl<D: Disk + Drop> Store<D> {
         // checkpoint began, and only the records since then stand behind it.
         ensures renews { IfOk result (λ tick. D.Honest (disk_of self.new) → (texts : KitTexts) → (carries : Carries D.state self.old texts)
             → RenewsAt table_files tick carries.file.carried.layout (D.state (disk_of self.new)) (in_words texts (held_of self.old).tables)) }
+        ensures replayed { replayed_of self.new ≡ replayed_of self.old }
+
+        // The file becomes longer only where no page under its end is free.
+        ensures grows { D.Honest (disk_of self.new) → (texts : KitTexts) → Carries D.state self.old texts
+            → GrowsWhereFull (present_of (free_of self.new)) (coming_of (free_of self.new))
+            (D.file_len (disk_of self.old)) (D.file_len (disk_of self.new)) }
         ensures writes { D.write_count (disk_of self.new) ≤ D.write_count (disk_of self.old) + 1 }
         ensures syncs { D.sync_count (disk_of self.new) ≤ D.sync_count (disk_of self.old) + 1 }
     {
@@ -214,6 +233,16 @@ impl<D: Disk + Drop> Store<D> {
             → root_of self.new ≡ root_of self.old + 1) }
         ensures fits { OnOk result (ticks_left self.old ≡ 0
             → IsFileFull (file_of self.old) (lent_of self.old) → ⊥) }
+        ensures replayed { replayed_of self.new ≡ replayed_of self.old }
+
+        // The file becomes longer only where no page under its end is free: each is reached by the root from before, or
+        // by the one that is written, which is taken then unless a device call failed.
+        ensures grows { OnOk result (D.Honest (disk_of self.new) → (texts : KitTexts) → Carries D.state self.old texts
+            → GrowsWhereFull (present_of (free_of self.old)) (present_of (free_of self.new))
+            (D.file_len (disk_of self.old)) (D.file_len (disk_of self.new))) }
+        ensures grows_so_far { OnErr result (D.Honest (disk_of self.new) → (texts : KitTexts)
+            → Carries D.state self.old texts → GrowsWhereFull (present_of (free_of self.old)) (coming_of (free_of self.new))
+            (D.file_len (disk_of self.old)) (D.file_len (disk_of self.new))) }
         ensures writes { MakesFew D.write_count self.old self.new }
         ensures syncs { MakesFew D.sync_count self.old self.new }
     {

@@ -1,8 +1,8 @@
 //! Commits and refusals, and what is opened again.
 use crate::files::{
     Row, Standing, State, checkpoint, commit, content, disk_of, disk_with, failing_after,
-    first_other, is_broken, is_named, is_nameless, new_store, opened, played_store, standing,
-    state, tick,
+    first_other, is_broken, is_named, is_nameless, new_store, opened, played_store, replayed,
+    standing, state, tick,
 };
 use rr_disk::{FaultyDisk, MemoryDisk};
 use rr_store::{Fault, Store};
@@ -99,8 +99,11 @@ fn back_and_forget_outlast_a_checkpoint(rt: HostRuntime) -> Result<(), Fail> {
 // half.
 const OPENING: u64 = 19;
 
-// Whether a store is broken, how a commit and then each call ends, and whether it is broken then.
-fn ends(store: &mut Store<FaultyDisk<MemoryDisk>>) -> (bool, [Option<Fault>; 4], bool) {
+// Whether a store is broken, how a commit and then each call ends, whether it is broken then, and how many commands its
+// opening played.
+type Ends = (bool, [Option<Fault>; 4], bool, u64);
+
+fn ends(store: &mut Store<FaultyDisk<MemoryDisk>>) -> Ends {
     let before = is_broken(store);
     let ends = [
         commit(store, 2, b"t1 pass b").err(),
@@ -108,7 +111,7 @@ fn ends(store: &mut Store<FaultyDisk<MemoryDisk>>) -> (bool, [Option<Fault>; 4],
         tick(store).err(),
         state(store).err(),
     ];
-    (before, ends, is_broken(store))
+    (before, ends, is_broken(store), replayed(store))
 }
 
 // A disk whose device fails at the first call behind the opening.
@@ -117,7 +120,7 @@ fn failing_disk(alloc: Global) -> Result<FaultyDisk<MemoryDisk>, Fail> {
     Ok(failing_after(disk_with(alloc, content(&disk))?, OPENING))
 }
 
-fn broken(alloc: Global) -> Result<(bool, [Option<Fault>; 4], bool), Fail> {
+fn broken(alloc: Global) -> Result<Ends, Fail> {
     let mut store = opened(alloc, failing_disk(alloc)?)?;
     Ok(ends(&mut store))
 }
@@ -126,6 +129,6 @@ fn broken(alloc: Global) -> Result<(bool, [Option<Fault>; 4], bool), Fail> {
 fn a_store_whose_device_failed_is_to_be_opened_again(rt: HostRuntime) -> Result<(), Fail> {
     let again = Some(Fault::OpenAgain);
     let ends = [Some(Fault::DeviceFailed), again, again, again];
-    assert!(rt; broken(rt.alloc())? == (false, ends, true));
+    assert!(rt; broken(rt.alloc())? == (false, ends, true, 1));
     Ok(())
 }

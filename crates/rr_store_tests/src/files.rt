@@ -120,6 +120,10 @@ pub(crate) fn is_broken<D: Disk + Drop>(store: &Store<D>) -> bool {
     store.is_broken()
 }
 
+pub(crate) fn replayed<D: Disk + Drop>(store: &Store<D>) -> u64 {
+    store.replayed()
+}
+
 pub(crate) fn table_count<D: Disk + Drop>(store: &Store<D>) -> Result<usize, Fault> {
     store.count()
 }

@@ -2,13 +2,16 @@
 use crate::files::{new_store, table_count};
 use rr_disk::Disk;
 use rr_store::Store;
-use rr_store::laws::{calls_are_events, numbers_are_in_the_file, one_world, sessions_are_safe};
+use rr_store::laws::{
+    calls_are_events, few_are_left, numbers_are_in_the_file, one_world, sessions_are_safe,
+};
 use std::test::Fail;
 
 // The calls below have no contracts, so that what the test does costs its proof little.
 
 fn call_laws_of_worlds() {
     one_world();
+    few_are_left();
     rr_world_laws::whatever_comes_is_sound();
     rr_world_laws::worlds_are_sound();
     rr_world_laws::files_are_sound();

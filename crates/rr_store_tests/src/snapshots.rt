@@ -1,7 +1,7 @@
 //! Stores that are opened from snapshots of their tables' games.
 use crate::files::{
-    Standing, checkpoint, commit, content, disk_of, disk_with, opened, played_store, standing,
-    write,
+    Standing, checkpoint, commit, content, disk_of, disk_with, opened, played_store, replayed,
+    standing, write,
 };
 use crate::tables::read;
 use rr_disk::MemoryDisk;
@@ -47,8 +47,11 @@ fn file(alloc: Global) -> Result<MemoryDisk, Fail> {
 
 // The file with another byte.
 fn changed(alloc: Global, at: u64, byte: &[u8]) -> Result<MemoryDisk, Fail> {
-    let file = file(alloc)?;
-    let mut disk = disk_with(alloc, content(&file))?;
+    with_byte(alloc, &file(alloc)?, at, byte)
+}
+
+fn with_byte(alloc: Global, file: &MemoryDisk, at: u64, byte: &[u8]) -> Result<MemoryDisk, Fail> {
+    let mut disk = disk_with(alloc, content(file))?;
     write(&mut disk, at, byte)?;
     Ok(disk)
 }
@@ -130,10 +133,15 @@ fn named(alloc: Global, disk: &mut MemoryDisk) -> Result<Named, Fail> {
     Ok((directory, commands_page(&opened), snapshots))
 }
 
-// The 129th command begins a checkpoint, which is ended behind the 130th; behind the 194th another one is made.
-fn through_two_checkpoints(store: &mut Store<MemoryDisk>) -> Result<(), Fault> {
+// The 129th command begins a checkpoint, which is ended behind the 130th.
+fn through_a_checkpoint(store: &mut Store<MemoryDisk>) -> Result<(), Fault> {
     pass_on(store, 2, 130)?;
-    checkpoint(store)?;
+    checkpoint(store)
+}
+
+// Behind the 194th another one is made.
+fn through_two_checkpoints(store: &mut Store<MemoryDisk>) -> Result<(), Fault> {
+    through_a_checkpoint(store)?;
     pass_on(store, 130, 194)?;
     checkpoint(store)
 }
@@ -192,5 +200,68 @@ fn pages_of_snapshots_that_were_taken_back_are_free(rt: HostRuntime) -> Result<(
     let kept = [Some((64, 520)), None, None, None];
     let whole = ((522, Some(519), kept), (521, Some(518), kept));
     assert!(rt; taken_back(rt.alloc())? == whole);
+    Ok(())
+}
+
+// How many commands an opening plays, and how the table stands then.
+type Opening = Result<(u64, Standing), Fault>;
+
+fn opening(alloc: Global, disk: MemoryDisk) -> Opening {
+    let store = opened(alloc, disk)?;
+    Ok((replayed(&store), standing(&store, b"t1")?))
+}
+
+// A file of 130 commands: a root with the first 128, and two records.
+fn long_file(alloc: Global) -> Result<MemoryDisk, Fail> {
+    let mut store = played_store(alloc)?;
+    through_a_checkpoint(&mut store)?;
+    Ok(disk_of(store))
+}
+
+// Of that file; of one whose third command wasn't lawful; of one that a checkpoint made of the table taken back to 70
+// commands; and of one with a record that takes such a table back to 67.
+fn openings(alloc: Global) -> Result<[Opening; 4], Fail> {
+    let long = long_file(alloc)?;
+    let unlawful = with_byte(alloc, &long, THIRD, b"a")?;
+    let back = checkpointed(alloc, long_file(alloc)?, 130, b"t1 back 69")?;
+    let mut store = opened(alloc, file(alloc)?)?;
+    commit(&mut store, 70, b"t1 back 66")?;
+    Ok([
+        opening(alloc, long),
+        opening(alloc, unlawful),
+        opening(alloc, back),
+        opening(alloc, disk_of(store)),
+    ])
+}
+
+// What stands behind the last snapshot is played, and a record's take-back from the nearest one.
+#[test]
+fn few_commands_are_played_by_an_opening(rt: HostRuntime) -> Result<(), Fail> {
+    let whole = [
+        Ok((2, (130, 0, 129, 130))),
+        Ok((2, (130, 0, 129, 130))),
+        Ok((6, (131, 0, 69, 70))),
+        Ok((9, (71, 0, 66, 67))),
+    ];
+    assert!(rt; openings(rt.alloc())? == whole);
+    Ok(())
+}
+
+// What the roots name of a checkpoint of the table that forgets all before its 128th command, and of another one.
+fn forgotten(alloc: Global) -> Result<(Named, Named), Fail> {
+    let long = long_file(alloc)?;
+    let mut first = checkpointed(alloc, long, 130, b"t1 forget 127")?;
+    let named_first = named(alloc, &mut first)?;
+    let mut second = checkpointed(alloc, first, 131, b"t1 pass b")?;
+    Ok((named_first, named(alloc, &mut second)?))
+}
+
+// The first one lays the table on page 518, where the first directory stood, and the directory behind all others. Then
+// pages 519, of the last table, and 520, of the snapshot below the floor, are the first free ones.
+#[test]
+fn pages_of_snapshots_below_the_floor_are_free(rt: HostRuntime) -> Result<(), Fail> {
+    let kept = [Some((128, 521)), None, None, None];
+    let whole = ((523, Some(518), kept), (520, Some(519), kept));
+    assert!(rt; forgotten(rt.alloc())? == whole);
     Ok(())
 }

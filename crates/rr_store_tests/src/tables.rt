@@ -30,12 +30,18 @@ fn no_tables(alloc: Global) -> Result<Tables, Fail> {
     Ok(tables)
 }
 
-// Takes the request of this record.
-fn take(alloc: Global, tables: &mut Tables, stamp: u64, record: &[u8]) -> Result<u64, Fault> {
+// Takes the request of this record: the new stamp, and how many commands were played.
+fn take(
+    alloc: Global,
+    tables: &mut Tables,
+    stamp: u64,
+    record: &[u8],
+) -> Result<(u64, usize), Fault> {
     let Ok((name, request)) = read_record(record) else {
         return Err(Fault::Rules(records::Fault::OutOfMemory));
     };
-    tables.take(alloc, stamp, &name, &request, &mut Standing)
+    let taken = tables.take(alloc, stamp, &name, &request, &mut Standing)?;
+    Ok((taken.stamp, taken.plays))
 }
 
 // How many tables there are, the stamps of two tables, the second's turns, and whether it is the last.
@@ -57,12 +63,12 @@ fn state(tables: &Tables, first: &Name, second: &Name) -> State {
 }
 
 // A stamp, a record, and how its request ends.
-type Row = (u64, &'static [u8], Result<u64, Fault>);
+type Row = (u64, &'static [u8], Result<(u64, usize), Fault>);
 
 const ROWS: [Row; 6] = [
-    (0, b"t1 open a b", Ok(1)),
-    (1, b"t1 buy a", Ok(2)),
-    (0, b"t2 open c d e", Ok(1)),
+    (0, b"t1 open a b", Ok((1, 0))),
+    (1, b"t1 buy a", Ok((2, 1))),
+    (0, b"t2 open c d e", Ok((1, 0))),
     (
         1,
         b"t1 pass b",

@@ -1,5 +1,5 @@
 -- Tables that were played, one by one.
-use Rattle.std.proofs.Common.{◌≡◌, ℕ, ◌+◌, Bool, true, false, cond, List, Option, Some, IfSome, bytes_eq, refl, sym, subst}
+use Rattle.std.proofs.Common.{◌≡◌, ℕ, ◌+◌, ◌<◌, ◌≤◌, Bool, true, false, cond, List, Option, None, Some, IfSome, bytes_eq, refl, sym, subst, arith}
 use Rattle.std.specs.Global.{Box}
 use Rattle.indexmap.specs.IndexMap.{get}
 use Rattle.rr_code.specs.declared.command.Command.{Command}
@@ -7,14 +7,16 @@ use Rattle.rr_game.specs.declared.history.table.Table.{Table}
 use Rattle.rr_game.specs.declared.history.change.Change.{Change}
 use Rattle.rr_game.specs.History.Changing.{Fits, IsChangeBy, kept_with}
 use Rattle.rr_game.specs.History.Playing.{ends_turn}
-use Rattle.rr_game.specs.History.Tables.{HasItsSnapshots, IsPlayed, kept_in}
-use Rattle.rr_game.proofs.HistoryLemmas.Making.{same_shows, stays_played}
+use Rattle.rr_game.specs.declared.history.snapshots.TheConstants.{SNAPSHOT_SPACING}
+use Rattle.rr_game.specs.History.Tables.{CountsPlays, HasItsSnapshots, IsPlayed, kept_in}
+use Rattle.rr_game.proofs.HistoryLemmas.Making.{same_shows, stays_named, stays_played}
 use Rattle.rr_kit.specs.declared.kit.Kit.{Kit}
 use Rattle.rr_turns.specs.declared.request.Request.{Request}
 use Rattle.rr_turns.specs.declared.request.Request.TheVariants.{Play, Back, Forget}
 use Rattle.rr_turns.specs.Kept.{Kept, kept_after}
-use Rattle.rr_tables.specs.Changing.{IsWritableChange}
+use Rattle.rr_tables.specs.Changing.{IsChangeOf, IsWritableChange}
 use Rattle.rr_tables.specs.Tables.{ArePlayed, HaveTheirSnapshots}
+use Rattle.rr_tables.specs.Taking.{most_plays}
 use Rattle.rr_tables.specs.Writable.{IsWritable}
 use Rattle.rr_tables.specs.declared.tables.Tables.{Tables}
 
@@ -49,4 +51,18 @@ same_change kit old new request change kept game snapshots is =
       fits = subst (λ (k : Kept Command). Fits k change) (sym kept) is.fits;
       writable = subst (λ (k : Kept Command). IsWritable (kept_with k change)) (sym kept) is.writable;
       shows = same_shows old new request change kept game is.shows;
+      few = λ played named.
+          is.few (stays_played kit new old (sym kept) (sym game) (sym snapshots) played) (stays_named new old (sym kept) (sym game) (sym snapshots) named);
     }
+
+-- how many commands are played at most
+pub most_counted : (kit : Kit) (table : Table) (request : Request Command) (plays : ℕ) → CountsPlays table request plays
+    → (IsPlayed kit table → HasItsSnapshots table → plays < SNAPSHOT_SPACING) → IsPlayed kit table → HasItsSnapshots table → plays ≤ most_plays request
+most_counted kit table (Play c) plays counted few played named = omega (arith, counted)
+most_counted kit table (Back k) plays counted few played named = omega (arith, few played named)
+most_counted kit table (Forget k) plays counted few played named = omega (arith, counted)
+
+pub few_played : (kit : Kit) (o : Option (Box Table)) (request : Request Command) (change : Change) → IsChangeOf kit o request change
+    → IfSome o (λ t. IsPlayed kit t.value) → IfSome o (λ t. HasItsSnapshots t.value) → change.plays ≤ most_plays request
+few_played kit None request change is played named = absurd is
+few_played kit (Some table) request change is played named = is.few played named

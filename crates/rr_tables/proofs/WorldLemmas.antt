@@ -12,6 +12,7 @@ use Rattle.rr_turns.specs.declared.request.Request.{Request}
 use Rattle.rr_turns.specs.declared.request.Request.TheVariants.{Play}
 use Rattle.rr_tables.specs.Records.World.{TableState, World, judgement_in, names, opening_verdict, requests_in, state_after, step_judgement, table_named, world_after}
 use Rattle.rr_tables.specs.declared.fault.Fault.{Fault}
+use Rattle.rr_tables.specs.declared.taking.Taken.{Taken}
 use Rattle.rr_tables.specs.Tables.{world_by}
 
 module _ {T : Type 0} (state : T → TableState) where
@@ -104,9 +105,9 @@ module _ {T : Type 0} (state : T → TableState) where
   step_in kit name entries stamp c other = ap (λ o. step_judgement kit o stamp c) (named_by name entries)
 
   -- the stamp of a table that is opened
-  pub named_stamp : (kit : Kit) (players : List (List ℕ)) (r : Result ℕ Fault) (o : Option T) → IfOk r (λ new. (new ≡ 1) × (o ≡ None))
-      → IfOk r (λ new. new ≡ (state_after kit (option_map state o) (Play (Open players))).stamp)
-  named_stamp kit players (Ok n) o h = h.0 ∙ sym (ap (λ p. (state_after kit (option_map state p) (Play (Open players))).stamp) h.1)
+  pub named_stamp : (kit : Kit) (players : List (List ℕ)) (r : Result Taken Fault) (o : Option T) → IfOk r (λ taken. (taken.stamp ≡ 1) × (o ≡ None))
+      → IfOk r (λ taken. taken.stamp ≡ (state_after kit (option_map state o) (Play (Open players))).stamp)
+  named_stamp kit players (Ok taken) o h = h.0 ∙ sym (ap (λ p. (state_after kit (option_map state p) (Play (Open players))).stamp) h.1)
   named_stamp kit players (Err fault) o h = tt
 
 -- the tables of a store by their names, as its map has them

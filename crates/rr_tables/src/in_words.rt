@@ -21,7 +21,7 @@ impl TablesInWords for Tables {
 
     fn transcript(&self, alloc: Global) -> Result<Transcript, Fault> {
         let mut transcript = self.write_tables(alloc)?;
-        self.lend_snapshots(alloc, &mut transcript)?;
+        self.lend_snapshots(&mut transcript)?;
         Ok(transcript)
     }
 }

@@ -12,18 +12,13 @@ use rr_checkpoint::plan::{SnapshotTranscript, Transcript};
 use rr_game::history::{Snapshot, Table};
 use rr_pages::Fault;
 use rr_reading::dir::{MOST_SNAPSHOT_BYTES, MOST_SNAPSHOTS};
-use std::alloc::Global;
 
 // So many snapshots of a table are lent at most, so that those of all tables have room in a directory.
 const MOST_LENT: usize = MOST_SNAPSHOTS / MOST_TABLES;
 
 impl Tables {
     // Puts of each table the snapshots that are lent behind the tables.
-    pub(crate) fn lend_snapshots(
-        &self,
-        alloc: Global,
-        transcript: &mut Transcript,
-    ) -> Result<(), Fault>
+    pub(crate) fn lend_snapshots(&self, transcript: &mut Transcript) -> Result<(), Fault>
         requires tables { tables_of transcript.old ≡ map table_in_words (world_of self.now) }
         requires none { snapshots_of transcript.old ≡ [] }
         ensures tables { tables_of transcript.new ≡ tables_of transcript.old }
@@ -31,18 +26,13 @@ impl Tables {
         ensures memory { IfErr result (λ fault. fault ≡ Fault.OutOfMemory) }
     {
         for place in 0..self.count() {
-            self.lend_table(alloc, place, transcript)?;
+            self.lend_table(place, transcript)?;
         }
         Ok(())
     }
 
     // Puts those of the table at a place behind those of the tables before it.
-    fn lend_table(
-        &self,
-        alloc: Global,
-        place: usize,
-        transcript: &mut Transcript,
-    ) -> Result<(), Fault>
+    fn lend_table(&self, place: usize, transcript: &mut Transcript) -> Result<(), Fault>
         requires place { place < length self.now.map.entries }
         requires tables { tables_of transcript.old ≡ map table_in_words (world_of self.now) }
         requires before { snapshots_of transcript.old ≡
@@ -53,19 +43,14 @@ impl Tables {
         ensures memory { IfErr result (λ fault. fault ≡ Fault.OutOfMemory) }
     {
         match self.map.get_index(place) {
-            Some((_, table)) => lend_games(alloc, place, table, transcript),
+            Some((_, table)) => lend_games(place, table, transcript),
             None => unreachable!(),
         }
     }
 }
 
 // Puts the snapshots of a table that are lent behind those of the tables before its place.
-fn lend_games(
-    alloc: Global,
-    place: usize,
-    table: &Table,
-    transcript: &mut Transcript,
-) -> Result<(), Fault>
+fn lend_games(place: usize, table: &Table, transcript: &mut Transcript) -> Result<(), Fault>
     requires place { place < MOST_TABLES }
     requires table { KeepsAt (tables_of transcript.old) place (length table.now.kept.commands) }
     requires before { All (λ other. other.table < place) (snapshots_of transcript.old) }
@@ -83,7 +68,7 @@ fn lend_games(
         if !can_be_lent(kept, count, last, snapshot) {
             continue;
         }
-        transcript.push_snapshot(write_snapshot(alloc, place, snapshot)?)?;
+        transcript.push_snapshot(write_snapshot(place, snapshot)?)?;
         count += 1;
         last = snapshot.played();
     }
@@ -103,11 +88,7 @@ fn can_be_lent(kept: usize, count: usize, last: usize, snapshot: &Snapshot) -> b
 }
 
 // A snapshot of the table at a place.
-fn write_snapshot(
-    alloc: Global,
-    place: usize,
-    snapshot: &Snapshot,
-) -> Result<SnapshotTranscript, Fault>
+fn write_snapshot(place: usize, snapshot: &Snapshot) -> Result<SnapshotTranscript, Fault>
     requires place { place < MOST_TABLES }
     requires few { snapshot.now.played ≤ MOST_COMMANDS }
     ensures value { IfOk result (λ written. snapshot_of written ≡ snapshot_at place snapshot.now) }
@@ -116,6 +97,6 @@ fn write_snapshot(
     Ok(SnapshotTranscript {
         table: place as u16,
         kept: snapshot.played() as u32,
-        bytes: snapshot.bytes().to_vec(alloc)?,
+        bytes: snapshot.shared().clone()?,
     })
 }

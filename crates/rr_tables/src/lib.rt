@@ -19,3 +19,4 @@ pub use fault::Fault;
 pub use journal::{Journal, Standing};
 pub use rr_reading::dir::MOST_TABLES;
 pub use tables::Tables;
+pub use taking::Taken;

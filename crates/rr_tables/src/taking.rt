@@ -1,5 +1,5 @@
 //! Requests: judged, their records kept, and then taken.
-ghost use Rattle.std.specs.Prelude.{◌≡◌, ◌<◌, ℕ, List, IfOk, IfErr, OnOk, OnErr, MatchOption, MatchResult, None, Some, bytes_eq, option_map};
+ghost use Rattle.std.specs.Prelude.{◌≡◌, ◌<◌, ◌≤◌, ℕ, List, IfOk, IfErr, OnOk, OnErr, MatchOption, MatchResult, None, Some, bytes_eq, option_map};
 ghost use Rattle.indexmap.specs.IndexMap.{get, index_map_len};
 ghost use Rattle.rr_code.specs.Request.{IsRequest, record_text};
 ghost use Rattle.rr_code.specs.declared.command.Command.{Command as Line};
@@ -11,7 +11,7 @@ ghost use Rattle.rr_tables.specs.Records.World.{judgement_in, opening_verdict, s
 ghost use Rattle.rr_tables.specs.declared.records.fault.Fault.TheVariants as R;
 ghost use Rattle.rr_tables.specs.Changing.{HasRoomIn, IsChangeOf, IsWritableChange};
 ghost use Rattle.rr_tables.specs.Tables.{AreSame, ArePlayed, HaveTheirSnapshots, kept_in_box, lent_by, world_of};
-ghost use Rattle.rr_tables.specs.Taking.{MayRefuse, Passed};
+ghost use Rattle.rr_tables.specs.Taking.{MayRefuse, Passed, most_plays};
 ghost use Rattle.rr_tables.specs.Writable.{IsWritable};
 ghost use Rattle.rr_turns.specs.Judgement.{IsVerdict, MayFind, settled};
 ghost use Rattle.rr_turns.specs.Kept.{kept_after};
@@ -25,9 +25,18 @@ use rr_reading::dir::MOST_TABLES;
 use rr_words::Name;
 use std::alloc::Global;
 
+/// What is told of a request that was taken.
+#[derive(Clone, Copy, Debug)]
+pub struct Taken {
+    /// The table's new stamp.
+    pub stamp: u64,
+    /// How many commands were played to work out what the request makes of the table. An opening is none of them.
+    pub plays: usize,
+}
+
 impl Tables {
-    /// Judges a request, has its record kept, and lets it count; gives the table's new stamp. All memory is taken
-    /// before the record is to be kept. A refusal leaves the tables as they were.
+    /// Judges a request, has its record kept, and lets it count. All memory is taken before the record is to be kept. A
+    /// refusal leaves the tables as they were.
     ///
     /// # Errors
     /// As faults of the rules, of which the journal learns nothing: for an opening `StaleStamp` and `TooManyTables`;
@@ -41,7 +50,7 @@ impl Tables {
         name: &Name,
         request: &Request<Command>,
         journal: &mut J,
-    ) -> Result<u64, Fault>
+    ) -> Result<Taken, Fault>
         requires { IsRequest request.now }
         ensures verdict { ArePlayed self.old → MatchResult result
             (λ _. IsVerdict (judgement_in self.old.kit (world_of self.old) stamp name.now request.now) None)
@@ -49,7 +58,8 @@ impl Tables {
         ensures kept { Passed J.Keeps journal.old (lent_by self.old) (record_text name.now request.now) journal.new result }
         ensures world { OnOk result (ArePlayed self.old
             → world_of self.new ≡ world_after self.old.kit (world_of self.old) name.now request.now) }
-        ensures stamp { IfOk result (λ new. new ≡ (state_after self.old.kit (table_named (world_of self.old) name.now) request.now).stamp) }
+        ensures stamp { IfOk result (λ taken. taken.stamp ≡ (state_after self.old.kit (table_named (world_of self.old) name.now) request.now).stamp) }
+        ensures plays { IfOk result (λ taken. ArePlayed self.old → HaveTheirSnapshots self.old → taken.plays ≤ most_plays request.now) }
         ensures played { ArePlayed self.old → ArePlayed self.new }
         ensures snapshots { ArePlayed self.old → HaveTheirSnapshots self.old → HaveTheirSnapshots self.new }
         ensures kit { self.new.kit ≡ self.old.kit }
@@ -69,14 +79,15 @@ impl Tables {
         name: &Name,
         players: &Players,
         journal: &mut J,
-    ) -> Result<u64, Fault>
+    ) -> Result<Taken, Fault>
         requires { IsRequest (Request.Play (Command.Open players.now)) }
         ensures verdict { MatchResult result
             (λ _. IsVerdict (settled (opening_verdict (option_map kept_in_box (get bytes_eq self.old.map name.now)) (index_map_len self.old.map) stamp)) None)
             (MayRefuse (settled (opening_verdict (option_map kept_in_box (get bytes_eq self.old.map name.now)) (index_map_len self.old.map) stamp))) }
         ensures kept { Passed J.Keeps journal.old (lent_by self.old) (record_text name.now (Request.Play (Command.Open players.now))) journal.new result }
         ensures world { OnOk result (world_of self.new ≡ world_after self.old.kit (world_of self.old) name.now (Request.Play (Command.Open players.now))) }
-        ensures stamp { IfOk result (λ new. (new ≡ 1) × (get bytes_eq self.old.map name.now ≡ None)) }
+        ensures stamp { IfOk result (λ taken. (taken.stamp ≡ 1) × (get bytes_eq self.old.map name.now ≡ None)) }
+        ensures plays { IfOk result (λ taken. taken.plays ≡ 0) }
         ensures played { ArePlayed self.old → ArePlayed self.new }
         ensures snapshots { ArePlayed self.old → HaveTheirSnapshots self.old → HaveTheirSnapshots self.new }
         ensures kit { self.new.kit ≡ self.old.kit }
@@ -87,7 +98,7 @@ impl Tables {
         let opening = Request::Play(Command::Open { players: *players });
         journal.keep(self, name, &opening)?;
         self.add(*name, table);
-        Ok(1)
+        Ok(Taken { stamp: 1, plays: 0 })
     }
 
     fn judge_opening(&self, stamp: u64, name: &Name) -> Result<(), records::Fault>
@@ -117,7 +128,7 @@ impl Tables {
         name: &Name,
         request: &Request<Command>,
         journal: &mut J,
-    ) -> Result<u64, Fault>
+    ) -> Result<Taken, Fault>
         requires { IsRequest request.now }
         ensures verdict { ArePlayed self.old → MatchResult result
             (λ _. IsVerdict (step_judgement self.old.kit (option_map kept_in_box (get bytes_eq self.old.map name.now)) stamp request.now) None)
@@ -125,7 +136,8 @@ impl Tables {
         ensures kept { Passed J.Keeps journal.old (lent_by self.old) (record_text name.now request.now) journal.new result }
         ensures world { OnOk result (ArePlayed self.old
             → world_of self.new ≡ world_after self.old.kit (world_of self.old) name.now request.now) }
-        ensures stamp { IfOk result (λ new. new ≡ (state_after self.old.kit (option_map kept_in_box (get bytes_eq self.old.map name.now)) request.now).stamp) }
+        ensures stamp { IfOk result (λ taken. taken.stamp ≡ (state_after self.old.kit (option_map kept_in_box (get bytes_eq self.old.map name.now)) request.now).stamp) }
+        ensures plays { IfOk result (λ taken. ArePlayed self.old → HaveTheirSnapshots self.old → taken.plays ≤ most_plays request.now) }
         ensures played { ArePlayed self.old → ArePlayed self.new }
         ensures snapshots { ArePlayed self.old → HaveTheirSnapshots self.old → HaveTheirSnapshots self.new }
         ensures kit { self.new.kit ≡ self.old.kit }
@@ -133,7 +145,9 @@ impl Tables {
     {
         let change = self.prepare(alloc, stamp, name, request)?;
         journal.keep(self, name, request)?;
-        Ok(self.change(name, change))
+        let plays = change.plays();
+        let stamp = self.change(name, change);
+        Ok(Taken { stamp, plays })
     }
 
     // Judges a request to a table that is open, works out what it makes of it, and takes room for that.

@@ -74,3 +74,18 @@ fn a_full_board_has_no_room_for_a_tile(rt: HostRuntime) {
     check(&rt, "room for a tile", layout.has_room(&tile), false);
     check(&rt, "room for a token", layout.has_room(&token), true);
 }
+
+#[test]
+fn a_board_has_room_for_48_tokens(rt: HostRuntime) {
+    let token = Entry::Station {
+        corp: Corp::Prr,
+        hex: hex(&rt),
+        centre: 1,
+    };
+    let mut layout = Layout::new();
+    for _token in 0..48 {
+        layout = after(&rt, layout, &token);
+    }
+    check(&rt, "tokens", layout.stations().len(), 48);
+    check(&rt, "room for a token", layout.has_room(&token), false);
+}

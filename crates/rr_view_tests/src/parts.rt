@@ -43,6 +43,13 @@ fn byte<T: Spell>(rt: &(impl Abort + AllocGlobal), value: &T, before: usize) -> 
     spelled(rt, value).get(before).copied()
 }
 
+/// Stops where other bytes of a value stand behind so many.
+fn check_part<T: Spell>(rt: &(impl Abort + AllocGlobal), value: &T, before: usize, part: &[u8]) {
+    let bytes = spelled(rt, value);
+    let rest = bytes.get(before..).expect(rt, "bytes behind these");
+    assert!(rt; rest.starts_with(part), "bytes behind {before}");
+}
+
 #[test]
 fn rounds_are_made_of_their_values(rt: HostRuntime) {
     let mut parts = Rounds::open(3).parts();
@@ -58,6 +65,13 @@ fn rounds_are_made_of_their_values(rt: HostRuntime) {
     parts.passes = 0;
     parts.priority = Seat(3);
     check(&rt, "seat", Rounds::from_parts(parts).is_none(), true);
+    parts.priority = Seat(0);
+    parts.turn = Seat(3);
+    check(&rt, "turn", Rounds::from_parts(parts).is_none(), true);
+    parts.players = 256;
+    check(&rt, "256", Rounds::from_parts(parts).is_some(), true);
+    parts.players = 257;
+    check(&rt, "257", Rounds::from_parts(parts).is_none(), true);
 }
 
 #[test]
@@ -76,6 +90,26 @@ fn rounds_are_spelled(rt: HostRuntime) {
 }
 
 #[test]
+fn each_value_of_rounds_has_its_place(rt: HostRuntime) {
+    let mut parts = Rounds::open(3).parts();
+    parts.begun = 5;
+    parts.under_way = true;
+    parts.turn = Seat(2);
+    parts.passes = 6;
+    parts.priority = Seat(1);
+    parts.sales[1][2] = true;
+    parts.turns = 7;
+    parts.floated[3] = true;
+    let front = b"\x00\x03\x00\x00\x00\x00\x00\x00\x00\x05\x01\x02\x00\x00";
+    check_part(&rt, &parts, 0, front);
+    check_part(&rt, &parts, 14, b"\x00\x00\x00\x00\x00\x00\x00\x06\x01");
+    // eight of the first seat, and the third of the second one's
+    check_part(&rt, &parts, 31, b"\x00\x00\x01\x00");
+    let end = b"\x00\x00\x00\x00\x00\x00\x00\x07\x00\x00\x00\x01\x00\x00\x00\x00";
+    check_part(&rt, &parts, 71, end);
+}
+
+#[test]
 fn an_auction_is_made_of_its_values(rt: HostRuntime) {
     let mut parts = Bidding::open().parts();
     parts.commands = 3;
@@ -87,11 +121,32 @@ fn an_auction_is_made_of_its_values(rt: HostRuntime) {
     // one more than without a par
     check_bytes::<BiddingParts>(&rt, &parts, 304);
     check(&rt, "seat", byte(&rt, &parts, 298), Some(1));
+    parts.bids[5][0] = 10_000_000_000;
+    check(&rt, "bid", Bidding::from_parts(parts).is_some(), true);
     parts.bids[5][0] = 10_000_000_001;
     check(&rt, "bid", Bidding::from_parts(parts).is_none(), true);
     parts.bids[5][0] = 0;
     parts.falls = 4;
     check(&rt, "fall", Bidding::from_parts(parts).is_none(), true);
+    parts.falls = 3;
+    parts.passes = 4;
+    check(&rt, "pass", Bidding::from_parts(parts).is_none(), true);
+}
+
+#[test]
+fn each_value_of_an_auction_has_its_place(rt: HostRuntime) {
+    let mut parts = Bidding::open().parts();
+    parts.turn = Seat(1);
+    parts.passes = 2;
+    parts.falls = 3;
+    parts.bids[0][2] = 4;
+    parts.par_due = Some(Seat(5));
+    parts.priority = Seat(0);
+    parts.commands = 6;
+    check_part(&rt, &parts, 0, b"\x01\x00\x00\x00\x02\x00\x00\x00\x03");
+    // of the first private the third seat's
+    check_part(&rt, &parts, 25, b"\x00\x00\x00\x00\x00\x00\x00\x04\x00");
+    check_part(&rt, &parts, 297, b"\x01\x05\x00\x00\x00\x00\x06");
 }
 
 #[test]
@@ -138,6 +193,39 @@ fn operating_rounds_are_made_of_their_values(rt: HostRuntime) {
     check(&rt, "lowest", byte(&rt, &parts, 35), Some(0xa0));
     parts.market.ranks[0] = 1;
     check(&rt, "ranks", Operations::from_parts(parts).is_none(), true);
+    parts.market.ranks[0] = 0;
+    parts.stock.turn = Seat(3);
+    check(&rt, "seat", Operations::from_parts(parts).is_none(), true);
+}
+
+#[test]
+fn each_value_of_operating_rounds_has_its_place(rt: HostRuntime) {
+    let mut parts = Operations::open(3).parts();
+    parts.stage = Stage::Stock;
+    parts.sets = 2;
+    parts.round = 3;
+    parts.set_length = 4;
+    parts.turns[1] = true;
+    parts.step = TurnStep::Station;
+    parts.has_run = true;
+    parts.stock.players = 3;
+    let front = b"\x01\x00\x00\x00\x00\x00\x00\x00\x02\x00\x00\x00\x00\x00\x00\x00\x03\x04";
+    check_part(&rt, &parts, 0, front);
+    check_part(&rt, &parts, 18, b"\x00\x01\x00\x00\x00\x00\x00\x00\x01\x01");
+    // behind the lowest balance: no bankrupt, no token, the first rank, and the seats of the rounds
+    check_part(
+        &rt,
+        &parts,
+        36,
+        b"\x00\x00\x00\x00\x00\x00\x00\x00\x00\x00\x01",
+    );
+    check_part(&rt, &parts, 53, b"\x00\x03");
+    parts.stage = Stage::Auction;
+    parts.step = TurnStep::Run;
+    parts.bankrupt = true;
+    check(&rt, "stage", byte(&rt, &parts, 0), Some(0));
+    check(&rt, "step", byte(&rt, &parts, 26), Some(2));
+    check(&rt, "bankrupt", byte(&rt, &parts, 36), Some(1));
 }
 
 #[test]
@@ -158,6 +246,28 @@ fn a_board_is_spelled(rt: HostRuntime) {
     check(&rt, "tiles", byte(&rt, &layout, 1), Some(1));
     check(&rt, "E", byte(&rt, &layout, 3), Some(b'E'));
     check(&rt, "tile", byte(&rt, &layout, 7), Some(57));
+    layout.lay(Lay {
+        hex: hex(&rt),
+        tile: 14,
+        turn: 5,
+    });
+    // the newer tile behind the older one, and then the token
+    check_part(
+        &rt,
+        &layout,
+        0,
+        b"\x00\x02\x03E11\x00\x39\x02\x03E11\x00\x0e\x05",
+    );
+    let token = b"\x00\x01\x00\x03E11\x00\x00\x00\x00\x00\x00\x00\x01";
+    check_part(&rt, &layout, 16, token);
+}
+
+/// Whether a position has these values: they tell it as what is made of them does.
+fn is_position(rt: &(impl Abort + AllocGlobal), parts: PositionParts) -> bool {
+    let sound = parts.are_sound();
+    let made = Position::from_parts(parts).is_some();
+    check(rt, "sound", sound, made);
+    made
 }
 
 #[test]
@@ -173,7 +283,32 @@ fn a_position_is_made_of_its_values(rt: HostRuntime) {
     let again = Position::from_parts(parts).expect(&rt, "a position");
     check(&rt, "round", again.rounds().is_under_way(), true);
     parts.entries = 2;
-    check(&rt, "few", Position::from_parts(parts).is_none(), true);
+    check(&rt, "few", is_position(&rt, parts), false);
     parts.entries = 400_000_001;
-    check(&rt, "many", Position::from_parts(parts).is_none(), true);
+    check(&rt, "many", is_position(&rt, parts), false);
+}
+
+/// Whether a position of four entries may count so many payments, commands of the auction, turns and begun rounds of the
+/// stock rounds, sets of operating rounds, and rounds of a set.
+fn may_count(rt: &(impl Abort + AllocGlobal), counts: [u32; 6]) -> bool {
+    let mut parts = position(rt, 3).parts();
+    parts.entries = 4;
+    parts.books.payments = counts[0];
+    parts.bidding.commands = counts[1];
+    parts.rounds.turns = u64::from(counts[2]);
+    parts.rounds.begun = u64::from(counts[3]);
+    parts.operations.sets = u64::from(counts[4]);
+    parts.operations.round = u64::from(counts[5]);
+    is_position(rt, parts)
+}
+
+#[test]
+fn no_view_counts_more_than_there_are_entries(rt: HostRuntime) {
+    check(&rt, "as many", may_count(&rt, [4, 4, 4, 4, 4, 4]), true);
+    check(&rt, "payments", may_count(&rt, [5, 4, 4, 4, 4, 4]), false);
+    check(&rt, "commands", may_count(&rt, [4, 5, 4, 4, 4, 4]), false);
+    check(&rt, "turns", may_count(&rt, [4, 4, 5, 4, 4, 4]), false);
+    check(&rt, "rounds", may_count(&rt, [4, 4, 4, 5, 4, 4]), false);
+    check(&rt, "sets", may_count(&rt, [4, 4, 4, 4, 5, 4]), false);
+    check(&rt, "round", may_count(&rt, [4, 4, 4, 4, 4, 5]), false);
 }

@@ -1,6 +1,7 @@
 -- Commands that are lent one after another: the first begins a table, the others are played.
-use Rattle.std.proofs.Common.{◌≡◌, ◌⊎◌, ℕ, ◌≤◌, Bool, List, length, Option, Some, Result, Ok, Err, IfOk, IfErr, IfSome, inl, inr, subst}
+use Rattle.std.proofs.Common.{◌≡◌, ◌⊎◌, ℕ, ◌≤◌, Bool, List, [], ◌∷◌, ap, length, Option, Some, Result, Ok, Err, IfOk, IfErr, IfSome, inl, inr, subst}
 use Rattle.std.specs.Borrow.{Bor}
+use Rattle.rr_code.specs.declared.command.Command.{Command}
 use Rattle.rr_game.specs.declared.history.table.Table.{Table}
 use Rattle.rr_game.specs.History.Tables.{HasItsSnapshots, IsPlayed, kept_in}
 use Rattle.rr_kit.specs.declared.kit.Kit.{Kit}
@@ -12,7 +13,8 @@ use Rattle.rr_store.specs.declared.recovery.fault.Fault.{Fault}
 use Rattle.rr_store.specs.declared.recovery.fault.Fault.TheVariants as F
 use Rattle.rr_store.specs.Recovery.Fault.{IsOrBreaks}
 use Rattle.rr_store.specs.Recovery.Kept.{AreWorded, HasPlayed, HasRoom, IsBegunBy, IsUnlawfulAfter, SpellsNoOpening}
-use Rattle.rr_store.specs.Recovery.Playing.{BeginsNoTable, No_opening, None_left, PlaysNoMore, Unlawful}
+use Rattle.rr_turns.specs.Kept.{Kept}
+use Rattle.rr_store.specs.Recovery.Playing.{BeginsNoTable, IsFrontOf, No_opening, None_left, PlaysNoMore, Unlawful}
 use Rattle.rr_store.proofs.RecoveryLemmas.PlayingLemmas.{or_breaks, worded_first, worded_more}
 
 -- the words that were lent
@@ -58,3 +60,9 @@ pub played_named : (kit : Kit) (words : List ℕ) (before after : Table) (more :
     → IfOk more (λ m. IsPlayed kit before → HasItsSnapshots before → HasItsSnapshots after)
 played_named kit words before after (Ok m) is = is.named
 played_named kit words before after (Err fault) is = tt
+
+-- and what was kept stays in front
+pub played_front : (kit : Kit) (words : List ℕ) (before after : Table) (more : Result Bool Fault) → IfOk more (λ m. HasPlayed kit before words after)
+    → IfOk more (λ m. IsFrontOf (kept_in before).commands (kept_in after).commands)
+played_front kit words before after (Ok m) is = (is.command ∷ [], ap (λ (kept : Kept Command). kept.commands) is.kept)
+played_front kit words before after (Err fault) is = tt

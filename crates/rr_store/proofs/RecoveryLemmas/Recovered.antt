@@ -69,7 +69,7 @@ module _ (file : List ℕ) (has : Held) (holds : Holds file has) where
       snapshots_play file has holds kit base there.world (true there.world there.written) there.based (subst (λ (t : KitTexts). SpellsKit t kit) (sym there.texts) right)
 
   -- the root is refused, and so is the file
-  of_directory : IsOfDirectory (named_of has)
+  pub of_directory : IsOfDirectory (named_of has)
   of_directory = record { as_many = each_chain file has holds; are_tables = tables_limited file has holds; are_snapshots = snapshots_limited file has holds }
 
   pub refuses_base : (fault : Fault) → (IsOfDirectory (named_of has) → RefusesBase (named_of has) has.texts fault) → Refuses has fault
@@ -139,10 +139,10 @@ module _ (file : List ℕ) (has : Held) (holds : Holds file has) where
         subst (λ (f : Fault). Refuses has f) (sym breaks.0) (bad_record plays there)
 
     -- all is right
-    module _ (new : Tables) (pages : KitPages) (standing : Vec StandingSnapshot Global) (transcript : Option Transcript) (near far : List (List ℕ)) (near_is : near ≡ has.near) (far_is : far ≡ has.far) (same : new.kit ≡ old.kit)
+    module _ (new : Tables) (pages : KitPages) (standing : Vec StandingSnapshot Global) (transcript : Option Transcript) (count : ℕ) (near far : List (List ℕ)) (near_is : near ≡ has.near) (far_is : far ≡ has.far) (same : new.kit ≡ old.kit)
         (plays : PlaysThem (named_of has) old) (replayed : ArePlayed old → AreReplayed old.kit (world_of old) near far transcript (world_of new)) (stays : ArePlayed old → ArePlayed new)
         (had : HaveTheirSnapshots old) (have : ArePlayed old → HaveTheirSnapshots old → HaveTheirSnapshots new) (whole : HasDamagedRecord has → ⊥) where
-      is_told : HasTrueSnapshots has → IsTold has (texts_in has.texts) (record { tables = new; kit = pages; standing = standing; base = transcript })
+      is_told : HasTrueSnapshots has → IsTold has (texts_in has.texts) (record { tables = new; kit = pages; standing = standing; base = transcript; replayed = count })
       is_told true =
           let there = told_base file has holds (world_of old) right.formed right.told in
           let played = base_played plays true in
@@ -173,7 +173,7 @@ module _ (file : List ℕ) (has : Held) (holds : Holds file has) where
           }
 
       pub recovered_from : (NameTexts has.directory.kit has.texts → AreTextChains pages has.texts) → (length has.directory.snapshots ≡ length has.snapshots → standing_chains standing.items ≡ has.snapshots)
-          → IsRecoveredFrom has (record { tables = new; kit = pages; standing = standing; base = transcript })
+          → IsRecoveredFrom has (record { tables = new; kit = pages; standing = standing; base = transcript; replayed = count })
       recovered_from on_pages stand =
           record {
             texts = texts_in has.texts;

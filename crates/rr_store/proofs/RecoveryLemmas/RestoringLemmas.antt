@@ -191,6 +191,14 @@ one_commands bytes count first second one two =
     let words = one_kept bytes one.words two.words one.kept two.kept in
     one_list two.words first second (subst (λ (ws : List (List ℕ)). SpellCommands ws first) words one.spelled) two.spelled
 
+-- an entry and its chain tell one table
+pub one_told : (entry : TableEntry) (bytes : List ℕ) (first second : TableState) → TellsTable entry bytes (entry.name, first) → TellsTable entry bytes (entry.name, second) → first ≡ second
+one_told entry bytes first second one two =
+    let commands = one_commands bytes entry.kept first.commands second.commands one.kept two.kept in
+    let floor : first.floor ≡ second.floor = sym one.floored ∙ two.floored in
+    let stamp : first.stamp ≡ second.stamp = sym one.stamped ∙ two.stamped in
+    λ i. record { commands = commands i; floor = floor i; stamp = stamp i }
+
 -- a floor above the turns that ended in what a table keeps
 pub above_turns : (kit : Kit) (shown : List Shown) (entry : TableEntry) (bytes : List ℕ) (table : Table) (floor turns : ℕ) → HoldsCommands bytes entry.kept (kept_in table).commands
     → (All (ShowsPlayOf kit (kept_in table).commands) shown → IsPlayed kit table) → floor ≡ entry.floor → (IsPlayed kit table → turns ≡ ended_turns (ends_turn kit) (kept_in table).commands) → turns < floor

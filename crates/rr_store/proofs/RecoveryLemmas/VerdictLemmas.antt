@@ -64,7 +64,7 @@ module _ (law : RequestsHaveOneVerdict) (kit : Kit) (world : World) (bytes name 
   -- where what keeps the record doesn't refuse, the rules do if the tables were played, or memory is wanted
   module _ {J P : Type 0} (Keeps : J → Lent → List ℕ → Result (Unit {0}) file.Fault → J → Type 0) (old new : J) (lent : Lent) (line : List ℕ)
       (never : (cause : file.Fault) → Keeps old lent line (Err cause) new → ⊥) where
-    pub refused_record : (fault : tables.Fault) → (P → MayRefuse (judgement_in kit world stamp name request) fault) → Passed Keeps old lent line new (Err fault)
+    pub refused_record : (fault : tables.Fault) → (P → MayRefuse (judgement_in kit world stamp name request) fault) → Passed {A = ℕ} Keeps old lent line new (Err fault)
         → (of_tables fault ≡ F.OutOfMemory) ⊎ ((of_tables fault ≡ F.Damaged Records) × (P → IsUnlawful kit world bytes))
     refused_record (T.Rules R.OutOfMemory) found passed = inl refl
     refused_record (T.Rules (R.Game cause)) found passed = inr (refl, λ played. by_rules (R.Game cause) (λ e. absurd cc) (found played))

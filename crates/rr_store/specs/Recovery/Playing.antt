@@ -1,10 +1,11 @@
 -- Going over kept commands, and playing them.
-use Rattle.std.specs.Prelude.{◌≡◌, ℕ, All, List, [], ◌∷◌, ◌++◌, length}
+use Rattle.std.specs.Prelude.{◌≡◌, ℕ, ◌+◌, ◌≤◌, All, List, [], ◌∷◌, ◌++◌, if◌then◌else◌, length}
 use Rattle.std.specs.List.{flat_map}
 use Rattle.rr_code.specs.Command.{SpellsCommand}
 use Rattle.rr_code.specs.declared.command.Command.{Command}
 use Rattle.rr_game.specs.declared.game.Game.{Game}
 use Rattle.rr_game.specs.declared.history.table.Table.{Table}
+use Rattle.rr_game.specs.History.Snapshots.{is_spaced}
 use Rattle.rr_game.specs.History.Tables.{kept_in}
 use Rattle.rr_kit.specs.declared.kit.Kit.{Kit}
 use Rattle.rr_reading.specs.declared.lending.commands.Commands.{Commands}
@@ -12,6 +13,7 @@ use Rattle.rr_reading.specs.Lending.Commands.{Begins, IsCut, rest_of}
 use Rattle.rr_reading.specs.Dir.Kept.{IsShort, spelled_command}
 use Rattle.rr_tables.specs.Records.Words.{SpellCommands}
 use Rattle.rr_store.specs.Recovery.Kept.{HasPlayed, HasRoom, IsBegunBy, IsUnlawfulAfter, SpellsNoOpening}
+use Rattle.rr_store.specs.Replayed.{counts_played}
 
 -- the next command begins the table
 pub record BeginsTable (kit : Kit) (file : List ℕ) (old new : Commands) (table : Table) : Type 0 where
@@ -24,6 +26,13 @@ pub record PlaysNext (kit : Kit) (file : List ℕ) (old : Commands) (before : Ta
   pub words : List ℕ
   pub passed : Begins (rest_of file old) words (rest_of file new)
   pub has_played : HasPlayed kit before words after
+
+-- a table that has played a command has a snapshot more just where one is due behind it
+pub record ShowsNext (old new : Table) : Type 0 where
+  pub counted : length new.kept.commands ≡ length old.kept.commands + 1
+  pub shown : All (λ (count : ℕ). count ≤ length old.kept.commands) (counts_played old.kept.snapshots)
+      → counts_played new.kept.snapshots
+      ≡ counts_played old.kept.snapshots ++ (if is_spaced (length new.kept.commands) then length new.kept.commands ∷ [] else [])
 
 -- these bytes begin with no opening
 pub data BeginsNoTable (rest : List ℕ) : Type 0 where

@@ -9,10 +9,12 @@ ghost use Rattle.rr_store.specs.Recovery.Base.{IsOfDirectory, IsRightBase, IsWel
 ghost use Rattle.rr_store.specs.Recovery.Fault.{CountsFault, CountsTold, IsOfDevice, OnDeviceFault, WhereDeviceTold};
 ghost use Rattle.rr_store.specs.Recovery.Shown.{AreShown};
 ghost use Rattle.rr_store.specs.Recovery.Texts.{texts_in};
+ghost use Rattle.rr_store.specs.Replayed.{PlaysBase};
 ghost use Rattle.rr_tables.specs.Records.Played.{ArePlayedTables};
 ghost use Rattle.rr_tables.specs.Tables.{ArePlayed, HaveTheirSnapshots, world_of};
 
 use crate::recovery::Fault;
+use crate::recovery::plays::Restored;
 use crate::recovery::shown::{Snapshots, tell_games};
 use crate::recovery::tables::restore_tables;
 use crate::recovery::texts::read_kit;
@@ -33,16 +35,21 @@ pub(crate) fn recover_base<D: Disk>(
     texts: &KitTexts,
     chains: &mut Commands,
     snapshots: Snapshots,
-) -> Result<Tables, Fault>
-    ensures right { IfOk result (λ tables. D.Honest disk.new
+) -> Result<Restored<Tables>, Fault>
+    ensures right { IfOk result (λ restored. D.Honest disk.new
         → IsOfDirectory (named_by (D.state disk.old).content entries.now chains.old snapshots.entry)
         → IsRightBase (named_by (D.state disk.old).content entries.now chains.old snapshots.entry)
-        (chains_held texts.now) tables.kit (world_of tables)) }
+        (chains_held texts.now) restored.value.kit (world_of restored.value)) }
     // Where each snapshot shows the play of the commands before it, each table was played.
-    ensures played { IfOk result (λ tables. AreShown tables.kit snapshots.entry (world_of tables)
-        → ArePlayed tables × ArePlayedTables tables.kit (world_of tables)) }
-    ensures snapshots { IfOk result HaveTheirSnapshots }
-    ensures kit { IfOk result (λ tables. SpellsKit (texts_in (chains_held texts.now)) tables.kit) }
+    ensures played { IfOk result (λ restored. AreShown restored.value.kit snapshots.entry (world_of restored.value)
+        → ArePlayed restored.value × ArePlayedTables restored.value.kit (world_of restored.value)) }
+    ensures snapshots { IfOk result (λ restored. HaveTheirSnapshots restored.value) }
+    ensures kit { IfOk result (λ restored. SpellsKit (texts_in (chains_held texts.now)) restored.value.kit) }
+    ensures plays { IfOk result (λ restored. D.Honest disk.new
+        → IsOfDirectory (named_by (D.state disk.old).content entries.now chains.old snapshots.entry)
+        → PlaysBase (named_by (D.state disk.old).content entries.now chains.old snapshots.entry)
+        restored.value.kit restored.plays) }
+    ensures few_plays { IfOk result (λ restored. restored.plays < 1099511627776) }
     ensures refused { IfErr result (λ fault. D.Honest disk.new
         → IsOfDirectory (named_by (D.state disk.old).content entries.now chains.old snapshots.entry)
         → RefusesBase (named_by (D.state disk.old).content entries.now chains.old snapshots.entry)
@@ -60,7 +67,7 @@ pub(crate) fn recover_base<D: Disk>(
     ensures same_len { D.file_len disk.new ≡ D.file_len disk.old }
 {
     match restore_base(alloc, disk, entries, texts, chains, snapshots) {
-        Ok(tables) => Ok(tables),
+        Ok(restored) => Ok(restored),
         Err(Fault::Disk(fault)) => Err(Fault::Disk(fault)),
         Err(Fault::Damaged(damage)) => {
             let refused = Fault::Damaged(damage);
@@ -81,15 +88,20 @@ fn restore_base<D: Disk>(
     texts: &KitTexts,
     chains: &mut Commands,
     snapshots: Snapshots,
-) -> Result<Tables, Fault>
-    ensures right { IfOk result (λ tables. D.Honest disk.new
+) -> Result<Restored<Tables>, Fault>
+    ensures right { IfOk result (λ restored. D.Honest disk.new
         → IsOfDirectory (named_by (D.state disk.old).content entries.now chains.old snapshots.entry)
         → IsRightBase (named_by (D.state disk.old).content entries.now chains.old snapshots.entry)
-        (chains_held texts.now) tables.kit (world_of tables)) }
-    ensures played { IfOk result (λ tables. AreShown tables.kit snapshots.entry (world_of tables)
-        → ArePlayed tables × ArePlayedTables tables.kit (world_of tables)) }
-    ensures snapshots { IfOk result HaveTheirSnapshots }
-    ensures kit { IfOk result (λ tables. SpellsKit (texts_in (chains_held texts.now)) tables.kit) }
+        (chains_held texts.now) restored.value.kit (world_of restored.value)) }
+    ensures played { IfOk result (λ restored. AreShown restored.value.kit snapshots.entry (world_of restored.value)
+        → ArePlayed restored.value × ArePlayedTables restored.value.kit (world_of restored.value)) }
+    ensures snapshots { IfOk result (λ restored. HaveTheirSnapshots restored.value) }
+    ensures kit { IfOk result (λ restored. SpellsKit (texts_in (chains_held texts.now)) restored.value.kit) }
+    ensures plays { IfOk result (λ restored. D.Honest disk.new
+        → IsOfDirectory (named_by (D.state disk.old).content entries.now chains.old snapshots.entry)
+        → PlaysBase (named_by (D.state disk.old).content entries.now chains.old snapshots.entry)
+        restored.value.kit restored.plays) }
+    ensures few_plays { IfOk result (λ restored. restored.plays < 1099511627776) }
     // Whether the form is right isn't told.
     ensures refused { IfErr result (λ fault. D.Honest disk.new
         → IsOfDirectory (named_by (D.state disk.old).content entries.now chains.old snapshots.entry)
@@ -109,8 +121,8 @@ fn restore_base<D: Disk>(
     ensures same_len { D.file_len disk.new ≡ D.file_len disk.old }
 {
     let kit = read_kit(alloc, texts)?;
-    let tables = restore_tables(alloc, disk, kit, entries, chains, snapshots)?;
-    Ok(tables)
+    let restored = restore_tables(alloc, disk, kit, entries, chains, snapshots)?;
+    Ok(restored)
 }
 
 /// What is told where the tables are refused with a fault that isn't the device's: a broken form comes before it.

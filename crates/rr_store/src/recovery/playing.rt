@@ -1,25 +1,31 @@
 //! One table: its kept commands are kept again up to its last snapshot, and played from there, or from the opening.
-ghost use Rattle.std.specs.Prelude.{◌≡◌, ◌≢◌, ◌⊎◌, ◌+◌, ◌*◌, ◌<◌, ◌≤◌, ℕ, List, [], ◌∷◌, ◌++◌, All, length, IsTrue, IfOk, IfErr, OnOk, MatchOption, MatchResult};
+ghost use Rattle.std.specs.Prelude.{◌≡◌, ◌≢◌, ◌⊎◌, ◌+◌, ◌*◌, ◌<◌, ◌≤◌, ℕ, List, [], ◌∷◌, ◌++◌, None, All, length, IsTrue, IfOk, IfErr, OnErr, OnOk, MatchOption, MatchResult};
 ghost use Rattle.std.specs.Bool.{OnTrue, OnFalse};
-ghost use Rattle.rr_code.specs.Command.{SpellsCommand};
+ghost use Rattle.rr_code.specs.Command.{IsCommand, SpellsCommand};
 ghost use Rattle.rr_code.specs.declared.command.Command.{Command as Line};
-ghost use Rattle.rr_game.specs.History.Playing.{ArePlayed};
+ghost use Rattle.rr_game.specs.declared.history.fault.Fault.TheVariants as History;
+ghost use Rattle.rr_game.specs.History.Playing.{ArePlayed, ends_turn};
 ghost use Rattle.rr_game.specs.History.Tables.{HasItsSnapshots, IsPlayed, kept_in};
+ghost use Rattle.rr_game.specs.History.Verdict.{request_judgement};
 ghost use Rattle.rr_pages.specs.declared.page.TheConstants.{PAGE_BYTES};
 ghost use Rattle.rr_reading.specs.declared.dir.directory.TheConstants.{MOST_KEPT};
 ghost use Rattle.rr_reading.specs.Lending.Chains.{all_of, count_of};
 ghost use Rattle.rr_reading.specs.Lending.Commands.{bytes_at, rest_of, steps_left_of};
 ghost use Rattle.rr_store.specs.Recovery.Fault.{CountsFault, IsOrBreaks, OnDeviceFault, of_chain, of_table};
 ghost use Rattle.rr_store.specs.Recovery.Kept.{AreWorded, HasPlayed, HasRoom, HoldsCommands, IsBegunBy, IsUnlawfulAfter, SpellsNoOpening};
-ghost use Rattle.rr_store.specs.Recovery.Playing.{BeginsNoTable, BeginsTable, IsFrontOf, KeepsFront, KeepsNext, KeepsNoMore, PlaysNext, PlaysNoMore, Recalls};
+ghost use Rattle.rr_store.specs.Recovery.Playing.{BeginsNoTable, BeginsTable, IsFrontOf, KeepsFront, KeepsNext, KeepsNoMore, PlaysNext, PlaysNoMore, Recalls, ShowsNext};
 ghost use Rattle.rr_store.specs.Recovery.Shown.{IsPlayWithin, ShowsPlayOf, SpellsItsGame, shown_of};
+ghost use Rattle.rr_store.specs.Replayed.{NoneDue, begins_behind, counts_played, counts_shown, left_behind};
+ghost use Rattle.rr_turns.specs.Judgement.{IsVerdict, MayFind};
+ghost use Rattle.rr_turns.specs.Kept.{kept_after};
 
 use crate::recovery::Fault;
+use crate::recovery::plays::Restored;
 use crate::recovery::shown::{Snapshots, last_game, snapshots_at};
 use rr_code::{Command, Players};
 use rr_disk::Disk;
 use rr_game::Game;
-use rr_game::history::{KeptCommands, Table};
+use rr_game::history::{KeptCommands, Request, Table};
 use rr_kit::Kit;
 use rr_pages::Damage;
 use rr_reading::lending::Commands;
@@ -38,17 +44,25 @@ pub(crate) fn play_all<D: Disk>(
     index: usize,
     count: u32,
     snapshots: Snapshots,
-) -> Result<Table, Fault>
-    ensures restored { IfOk result (λ table. D.Honest disk.new
-        → HoldsCommands (bytes_at (D.state disk.old).content chains.old index) count (kept_in table).commands) }
+) -> Result<Restored<Table>, Fault>
+    ensures restored { IfOk result (λ restored. D.Honest disk.new
+        → HoldsCommands (bytes_at (D.state disk.old).content chains.old index) count (kept_in restored.value).commands) }
     // Where each of its snapshots shows the play of the commands before it, the table was played.
-    ensures played { IfOk result (λ table.
-        All (ShowsPlayOf kit.now (kept_in table).commands) (shown_of index snapshots.entry) → IsPlayed kit.now table) }
+    ensures played { IfOk result (λ restored.
+        All (ShowsPlayOf kit.now (kept_in restored.value).commands) (shown_of index snapshots.entry)
+        → IsPlayed kit.now restored.value) }
     // From no snapshot it is played whole, and makes them all.
-    ensures named { IfOk result (λ table. shown_of index snapshots.entry ≡ [] → HasItsSnapshots table) }
-    ensures floor { IfOk result (λ table. (kept_in table).floor ≡ 0) }
-    ensures games { IfOk result (λ table. All SpellsItsGame (shown_of index snapshots.entry)) }
-    ensures worded { IfOk result (λ table. AreWorded (kept_in table).commands) }
+    ensures named { IfOk result (λ restored. shown_of index snapshots.entry ≡ [] → HasItsSnapshots restored.value) }
+    // What stands behind the last one is played, and makes those that are due there.
+    ensures plays { IfOk result (λ restored.
+        restored.plays ≡ left_behind count (counts_shown (shown_of index snapshots.entry))) }
+    ensures few_plays { IfOk result (λ restored. restored.plays < 4294967296) }
+    ensures shown { IfOk result (λ restored. NoneDue (begins_behind (counts_shown (shown_of index snapshots.entry))) count
+        → counts_played restored.value.kept.snapshots ≡ counts_shown (shown_of index snapshots.entry)) }
+    ensures counted { IfOk result (λ restored. length (kept_in restored.value).commands ≡ count) }
+    ensures floor { IfOk result (λ restored. (kept_in restored.value).floor ≡ 0) }
+    ensures games { IfOk result (λ restored. All SpellsItsGame (shown_of index snapshots.entry)) }
+    ensures worded { IfOk result (λ restored. AreWorded (kept_in restored.value).commands) }
     ensures refused { IfErr result (IsOrBreaks Damage.Kept (D.Honest disk.new → count ≤ MOST_KEPT
         → (commands : List Line) → HoldsCommands (bytes_at (D.state disk.old).content chains.old index) count commands
         → All (ShowsPlayOf kit.now commands) (shown_of index snapshots.entry)
@@ -73,24 +87,29 @@ pub(crate) fn play_all<D: Disk>(
         return Err(UNPLAYED);
     }
     let mut left = count as usize - done;
+    let mut plays = 0;
     'commands: loop {
         let more = play_next(alloc, disk, kit, chains, &mut table, left)?;
         if !more {
-            return whole(table, left);
+            return whole(table, left, plays);
         }
         left -= 1;
+        plays += 1;
     }
 }
 
-/// The table, if no command is left.
-fn whole(table: Table, left: usize) -> Result<Table, Fault>
-    ensures { MatchResult result (λ whole. (whole ≡ table) × (left ≡ 0))
+/// The table, for which so many commands were played, if none is left.
+fn whole(table: Table, left: usize, plays: u64) -> Result<Restored<Table>, Fault>
+    ensures { MatchResult result (λ whole. (whole ≡ record { value = table; plays = plays }) × (left ≡ 0))
         (λ fault. (fault ≡ Fault.Damaged Damage.Kept) × (left ≢ 0)) }
 {
     if left > 0 {
         return Err(UNPLAYED);
     }
-    Ok(table)
+    Ok(Restored {
+        value: table,
+        plays,
+    })
 }
 
 /// The table at the last of the kept snapshots, or behind its opening where there is none.
@@ -110,6 +129,9 @@ fn begin_at<D: Disk>(
     ensures played { IfOk result (λ table. (commands : List Line) → IsFrontOf (kept_in table).commands commands
         → All (IsPlayWithin kit.now commands) kept.snapshots → IsPlayed kit.now table) }
     ensures named { IfOk result (λ table. kept.snapshots ≡ [] → HasItsSnapshots table) }
+    ensures behind { IfOk result (λ table.
+        length (kept_in table).commands ≡ begins_behind (counts_played kept.snapshots)) }
+    ensures shown { IfOk result (λ table. counts_played table.kept.snapshots ≡ counts_played kept.snapshots) }
     ensures floor { IfOk result (λ table. (kept_in table).floor ≡ 0) }
     ensures worded { IfOk result (λ table. AreWorded (kept_in table).commands) }
     ensures refused { IfErr result (IsOrBreaks Damage.Kept (D.Honest disk.new → (count : ℕ) → count ≤ MOST_KEPT
@@ -262,6 +284,7 @@ fn begin_first<D: Disk>(
     ensures begun { IfOk result (λ table. D.Honest disk.new → BeginsTable kit.now (D.state disk.old).content chains.old chains.new table) }
     ensures played { IfOk result (λ table. IsPlayed kit.now table) }
     ensures named { IfOk result (λ table. HasItsSnapshots table) }
+    ensures alone { IfOk result (λ table. length (kept_in table).commands ≡ 1) }
     ensures floor { IfOk result (λ table. (kept_in table).floor ≡ 0) }
     ensures worded { IfOk result (λ table. AreWorded (kept_in table).commands) }
     ensures refused { IfErr result (IsOrBreaks Damage.Kept (D.Honest disk.new
@@ -300,6 +323,7 @@ fn play_next<D: Disk>(
     ensures same { IfOk result (λ more. OnFalse more (table.new ≡ table.old)) }
     ensures some { IfOk result (λ more. OnTrue more (0 < left)) }
     ensures fewer { IfOk result (λ more. OnTrue more (steps_left_of chains.new < steps_left_of chains.old)) }
+    ensures shown { IfOk result (λ more. OnTrue more (ShowsNext table.old table.new)) }
     ensures played { IfOk result (λ more. IsPlayed kit.now table.old → IsPlayed kit.now table.new) }
     ensures named { IfOk result (λ more. IsPlayed kit.now table.old → HasItsSnapshots table.old → HasItsSnapshots table.new) }
     ensures floor { IfOk result (λ more. (kept_in table.new).floor ≡ (kept_in table.old).floor) }
@@ -337,6 +361,7 @@ fn play_one(
     ensures more { IfOk result (λ more. IsTrue more) }
     ensures some { IfOk result (λ more. 0 < left) }
     ensures played { IfOk result (λ more. HasPlayed kit.now table.old words.now table.new) }
+    ensures shown { IfOk result (λ more. ShowsNext table.old table.new) }
     ensures refused { IfErr result (λ fault. (fault ≡ Fault.OutOfMemory)
         ⊎ ((fault ≡ Fault.Damaged Damage.Kept) × ((left ≡ 0) ⊎ (IsPlayed kit.now table.old → HasRoom table.old
         → IsUnlawfulAfter kit.now (kept_in table.old).commands words.now)))) }
@@ -408,6 +433,7 @@ fn opening_players(command: &Command) -> Option<Players>
 /// Plays a command more.
 fn play(alloc: Global, kit: &Kit, table: &mut Table, words: &[u8]) -> Result<(), Fault>
     ensures played { OnOk result (HasPlayed kit.now table.old words.now table.new) }
+    ensures shown { OnOk result (ShowsNext table.old table.new) }
     ensures refused { IfErr result (λ fault. (fault ≡ Fault.OutOfMemory)
         ⊎ ((fault ≡ Fault.Damaged Damage.Kept) × (IsPlayed kit.now table.old → HasRoom table.old
         → IsUnlawfulAfter kit.now (kept_in table.old).commands words.now))) }
@@ -415,10 +441,35 @@ fn play(alloc: Global, kit: &Kit, table: &mut Table, words: &[u8]) -> Result<(),
     rr_game::history::laws::requests_have_one_verdict();
     let command = read_command(words)?;
     let stamp = table.stamp();
-    match table.step(alloc, stamp, &command, kit) {
+    match step(alloc, kit, table, stamp, command) {
         Ok(()) => Ok(()),
         Err(fault) => Err(damage(fault)),
     }
+}
+
+/// Plays a command with this stamp, as `Table::step` does, which doesn't tell the snapshots that it leaves.
+fn step(
+    alloc: Global,
+    kit: &Kit,
+    table: &mut Table,
+    stamp: u64,
+    command: Command,
+) -> Result<(), rr_game::history::Fault>
+    requires { IsCommand command }
+    ensures verdict { IsPlayed kit.now table.old → MatchResult result
+        (λ _. IsVerdict (request_judgement kit.now (kept_in table.old) stamp (Request.Play command.entry)) None)
+        (λ fault. MayFind (request_judgement kit.now (kept_in table.old) stamp (Request.Play command.entry)) History.OutOfMemory fault) }
+    ensures kept { OnOk result (kept_in table.new ≡
+        kept_after (ends_turn kit.now) (kept_in table.old) (Request.Play command.entry)) }
+    ensures played { IsPlayed kit.now table.old → IsPlayed kit.now table.new }
+    ensures named { IsPlayed kit.now table.old → HasItsSnapshots table.old → HasItsSnapshots table.new }
+    ensures shown { OnOk result (ShowsNext table.old table.new) }
+    ensures err { OnErr result (kept_in table.new ≡ kept_in table.old) }
+{
+    let change = table.judge(alloc, stamp, &Request::Play(command), kit)?;
+    table.reserve(&change)?;
+    table.take(change);
+    Ok(())
 }
 
 fn read_command<'a>(words: &'a [u8]) -> Result<Command<'a>, Fault>

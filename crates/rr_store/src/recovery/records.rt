@@ -4,9 +4,11 @@ ghost use Rattle.rr_pages.specs.Journal.Reading.{lines};
 ghost use Rattle.rr_tables.specs.Records.Lines.{IsUnlawful, TakesRecord};
 ghost use Rattle.rr_store.specs.Recovery.Taking.{of_tables};
 ghost use Rattle.rr_store.specs.Recovery.Replaying.{AreReplayed, BreaksOff, IsTranscriptBefore, Replays};
+ghost use Rattle.rr_store.specs.Replayed.{PlaysRecord, PlaysRecords};
 ghost use Rattle.rr_tables.specs.Tables.{ArePlayed, HaveTheirSnapshots, world_of};
 
 use crate::recovery::Fault;
+use crate::recovery::plays::Restored;
 use rr_checkpoint::plan::Transcript;
 use rr_code::read_record;
 use rr_log::TablesInWords;
@@ -20,9 +22,11 @@ pub(crate) fn replay_halves(
     tables: &mut Tables,
     near: &[Vec<u8>],
     far: &[Vec<u8>],
-) -> Result<Option<Transcript>, Fault>
-    ensures replayed { IfOk result (λ base. ArePlayed tables.old
-        → AreReplayed tables.old.kit (world_of tables.old) (lines near.now) (lines far.now) base (world_of tables.new)) }
+) -> Result<Restored<Option<Transcript>>, Fault>
+    ensures replayed { IfOk result (λ restored. ArePlayed tables.old
+        → AreReplayed tables.old.kit (world_of tables.old) (lines near.now) (lines far.now) restored.value (world_of tables.new)) }
+    ensures plays { IfOk result (λ restored. ArePlayed tables.old → HaveTheirSnapshots tables.old
+        → PlaysRecords (lines near.now ++ lines far.now) restored.plays) }
     ensures refused { IfErr result (λ fault. (fault ≡ Fault.OutOfMemory)
         ⊎ ((fault ≡ Fault.Damaged Damage.Records) × (ArePlayed tables.old
         → BreaksOff tables.old.kit (world_of tables.old) (lines near.now ++ lines far.now)))) }
@@ -30,10 +34,13 @@ pub(crate) fn replay_halves(
     ensures played { ArePlayed tables.old → ArePlayed tables.new }
     ensures snapshots { ArePlayed tables.old → HaveTheirSnapshots tables.old → HaveTheirSnapshots tables.new }
 {
-    replay(alloc, tables, near)?;
+    let near_plays = replay(alloc, tables, near)?;
     let base = transcript_before(alloc, tables, far)?;
-    replay(alloc, tables, far)?;
-    Ok(base)
+    let far_plays = replay(alloc, tables, far)?;
+    Ok(Restored {
+        value: base,
+        plays: near_plays.saturating_add(far_plays),
+    })
 }
 
 /// The tables, where there are far records.
@@ -54,10 +61,12 @@ fn transcript_before(
     }
 }
 
-/// Takes records in turn.
-fn replay(alloc: Global, tables: &mut Tables, records: &[Vec<u8>]) -> Result<(), Fault>
+/// Takes records in turn, and tells how many commands were played for them.
+fn replay(alloc: Global, tables: &mut Tables, records: &[Vec<u8>]) -> Result<u64, Fault>
     ensures replayed { OnOk result (ArePlayed tables.old
         → Replays tables.old.kit (world_of tables.old) (lines records.now) (world_of tables.new)) }
+    ensures plays { IfOk result (λ plays. ArePlayed tables.old → HaveTheirSnapshots tables.old
+        → PlaysRecords (lines records.now) plays) }
     ensures refused { IfErr result (λ fault. (fault ≡ Fault.OutOfMemory)
         ⊎ ((fault ≡ Fault.Damaged Damage.Records) × (ArePlayed tables.old
         → BreaksOff tables.old.kit (world_of tables.old) (lines records.now)))) }
@@ -65,15 +74,19 @@ fn replay(alloc: Global, tables: &mut Tables, records: &[Vec<u8>]) -> Result<(),
     ensures played { ArePlayed tables.old → ArePlayed tables.new }
     ensures snapshots { ArePlayed tables.old → HaveTheirSnapshots tables.old → HaveTheirSnapshots tables.new }
 {
+    let mut plays: u64 = 0;
     for bytes in records {
-        replay_record(alloc, tables, bytes)?;
+        let played = replay_record(alloc, tables, bytes)?;
+        plays = plays.saturating_add(played);
     }
-    Ok(())
+    Ok(plays)
 }
 
-fn replay_record(alloc: Global, tables: &mut Tables, bytes: &[u8]) -> Result<(), Fault>
+fn replay_record(alloc: Global, tables: &mut Tables, bytes: &[u8]) -> Result<u64, Fault>
     ensures taken { OnOk result (ArePlayed tables.old
         → TakesRecord tables.old.kit (world_of tables.old) bytes.now (world_of tables.new)) }
+    ensures plays { IfOk result (λ plays. ArePlayed tables.old → HaveTheirSnapshots tables.old
+        → PlaysRecord bytes.now plays) }
     ensures refused { IfErr result (λ fault. (fault ≡ Fault.OutOfMemory)
         ⊎ ((fault ≡ Fault.Damaged Damage.Records) × (ArePlayed tables.old
         → IsUnlawful tables.old.kit (world_of tables.old) bytes.now))) }
@@ -85,7 +98,7 @@ fn replay_record(alloc: Global, tables: &mut Tables, bytes: &[u8]) -> Result<(),
     let (name, request) = read_record(bytes)?;
     let stamp = tables.stamp(&name);
     match tables.take(alloc, stamp, &name, &request, &mut Standing) {
-        Ok(_) => Ok(()),
+        Ok(taken) => Ok(taken.plays as u64),
         Err(fault) => Err(damage(fault)),
     }
 }

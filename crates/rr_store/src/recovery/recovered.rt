@@ -6,10 +6,12 @@ ghost use Rattle.rr_reading.specs.Lending.Chains.{count_of};
 ghost use Rattle.rr_reading.specs.Reading.{Holds};
 ghost use Rattle.rr_store.specs.Recovery.Fault.{CountsFault, OnDeviceFault};
 ghost use Rattle.rr_store.specs.Recovery.Recovered.{IsRecoveredFrom};
-ghost use Rattle.rr_store.specs.Recovery.Telling.{Refuses};
+ghost use Rattle.rr_store.specs.Recovery.Telling.{HasTrueSnapshots, Refuses};
+ghost use Rattle.rr_store.specs.Replayed.{IsReplayed};
 
 use crate::recovery::Fault;
 use crate::recovery::base::recover_base;
+use crate::recovery::plays::Restored;
 use crate::recovery::records::replay_halves;
 use crate::recovery::shown::Snapshots;
 use crate::recovery::standing::standing_snapshots;
@@ -34,6 +36,8 @@ pub struct Recovered {
     /// The tables from before the records of the half that the root doesn't name, where that has records: a checkpoint
     /// was begun there, and these are what it is to be made of anew.
     pub base: Option<Transcript>,
+    /// How many commands were played, 2^64 - 1 where it were more.
+    pub replayed: u64,
 }
 
 /// Recovers the tables from what an opening read of a file: the commands that each table keeps are played from its last
@@ -61,6 +65,12 @@ pub fn recover<D: Disk, R: Rules>(
         → Holds (D.state disk.old).content (held_by (D.state disk.old).content opened.old)
         → Refuses (held_by (D.state disk.old).content opened.old) fault) }
 
+    // Where each snapshot shows the game that the commands before it play, few commands are played.
+    ensures replayed { IfOk result (λ recovered. D.Honest disk.new
+        → Holds (D.state disk.old).content (held_by (D.state disk.old).content opened.old)
+        → HasTrueSnapshots (held_by (D.state disk.old).content opened.old)
+        → IsReplayed (held_by (D.state disk.old).content opened.old) recovered.tables.kit recovered.replayed) }
+
     // Whatever was read, the kit is a right one.
     ensures kit { IfOk result (λ recovered. (texts : AnyTexts) × SpellsKit texts recovered.tables.kit) }
 
@@ -81,7 +91,7 @@ pub fn recover<D: Disk, R: Rules>(
         entries: &opened.dir.snapshots,
         chains: &opened.snapshots,
     };
-    let mut tables = recover_base(
+    let Restored { value, plays } = recover_base(
         alloc,
         disk,
         &opened.dir.tables,
@@ -89,7 +99,8 @@ pub fn recover<D: Disk, R: Rules>(
         &mut opened.tables,
         snapshots,
     )?;
-    let base = replay_halves(
+    let mut tables = value;
+    let replayed = replay_halves(
         alloc,
         &mut tables,
         &opened.near.records,
@@ -104,6 +115,7 @@ pub fn recover<D: Disk, R: Rules>(
         tables,
         kit,
         standing,
-        base,
+        base: replayed.value,
+        replayed: plays.saturating_add(replayed.plays),
     })
 }

@@ -1,6 +1,6 @@
 //! Where the snapshots stand that were read of a file.
 ghost use Rattle.std.specs.Prelude.{◌≡◌, IfErr, IfOk, length, map};
-ghost use Rattle.rr_checkpoint.specs.Plan.Standing.{standing_chains};
+ghost use Rattle.rr_checkpoint.specs.Plan.Standing.{standing_chain, standing_chains};
 ghost use Rattle.rr_reading.specs.Chains.{held};
 
 use crate::recovery::Fault;
@@ -8,6 +8,7 @@ use rr_checkpoint::plan::StandingSnapshot;
 use rr_pages::ReadChain;
 use rr_reading::dir::SnapshotEntry;
 use std::alloc::Global;
+use std::rc::RcSlice;
 
 /// The snapshots of these entries, which stand in these chains.
 pub(crate) fn standing_snapshots(
@@ -32,16 +33,14 @@ fn standing_snapshot(
     entry: &SnapshotEntry,
     chain: &ReadChain,
 ) -> Result<StandingSnapshot, Fault>
-    ensures chain { IfOk result (λ snapshot. held snapshot.chain ≡ held chain.now) }
+    ensures chain { IfOk result (λ snapshot. standing_chain snapshot ≡ held chain.now) }
     ensures entry { IfOk result (λ snapshot. (snapshot.table ≡ entry.now.table) × (snapshot.kept ≡ entry.now.kept)) }
     ensures memory { IfErr result (λ fault. fault ≡ Fault.OutOfMemory) }
 {
     Ok(StandingSnapshot {
         table: entry.table,
         kept: entry.kept,
-        chain: ReadChain {
-            pages: chain.pages.to_vec(alloc)?,
-            bytes: chain.bytes.to_vec(alloc)?,
-        },
+        pages: chain.pages.to_vec(alloc)?,
+        bytes: RcSlice::from_slice(alloc, &chain.bytes)?,
     })
 }

@@ -1,5 +1,5 @@
 //! All tables of a directory, in its order.
-ghost use Rattle.std.specs.Prelude.{◌≡◌, ◌↔◌, ℕ, ◌*◌, ◌<◌, ◌≤◌, [], All, length, IsTrue, IfOk, IfErr, OnOk};
+ghost use Rattle.std.specs.Prelude.{◌≡◌, ◌↔◌, ℕ, ◌+◌, ◌*◌, ◌<◌, ◌≤◌, [], All, length, IsTrue, IfOk, IfErr};
 ghost use Rattle.rr_game.specs.History.Tables.{HasItsSnapshots, IsPlayed, kept_in};
 ghost use Rattle.rr_pages.specs.declared.page.TheConstants.{PAGE_BYTES};
 ghost use Rattle.rr_reading.specs.Dir.Directory.{AreTables};
@@ -7,10 +7,12 @@ ghost use Rattle.rr_reading.specs.declared.dir.directory.TheConstants.{MOST_KEPT
 ghost use Rattle.rr_reading.specs.Held.{tables_in};
 ghost use Rattle.rr_reading.specs.Lending.Chains.{all_of, count_of};
 ghost use Rattle.rr_reading.specs.Lending.Commands.{bytes_at};
+ghost use Rattle.rr_store.specs.Recovery.Base.{named_by};
 ghost use Rattle.rr_store.specs.Recovery.Fault.{CountsFault, IsOrBreaks, OnDeviceFault};
 ghost use Rattle.rr_store.specs.Recovery.Restoring.{IsFreeFor, Puts};
 ghost use Rattle.rr_store.specs.Recovery.Shown.{AreShown, ShowsPlayOf, SpellsItsGame, shown_of};
 ghost use Rattle.rr_store.specs.Recovery.Told.{TellTables, TellsTable};
+ghost use Rattle.rr_store.specs.Replayed.{HasNamed, PlaysBase, counts_shown, left_behind};
 ghost use Rattle.rr_tables.specs.Records.Played.{ArePlayedTables, IsPlayedTable};
 ghost use Rattle.rr_tables.specs.Records.World.{TableState, World};
 ghost use Rattle.rr_tables.specs.Tables.{ArePlayed, HaveTheirSnapshots, world_of};
@@ -18,6 +20,7 @@ ghost use Rattle.rr_tables.specs.Writable.{IsWritable};
 
 use crate::recovery::Fault;
 use crate::recovery::playing::play_all;
+use crate::recovery::plays::Restored;
 use crate::recovery::shown::Snapshots;
 use rr_disk::Disk;
 use rr_game::history::Table;
@@ -37,18 +40,21 @@ pub(crate) fn restore_tables<D: Disk>(
     entries: &[TableEntry],
     chains: &mut Commands,
     snapshots: Snapshots,
-) -> Result<Tables, Fault>
+) -> Result<Restored<Tables>, Fault>
     // A directory names as many tables as chains of such.
-    ensures told { IfOk result (λ tables. D.Honest disk.new → length entries.now ≡ length (all_of chains.old.chains)
-        → TellTables entries.now (tables_in (D.state disk.old).content chains.old) (world_of tables)) }
-    ensures kit { IfOk result (λ tables. tables.kit ≡ kit) }
+    ensures told { IfOk result (λ restored. D.Honest disk.new → length entries.now ≡ length (all_of chains.old.chains)
+        → TellTables entries.now (tables_in (D.state disk.old).content chains.old) (world_of restored.value)) }
+    ensures kit { IfOk result (λ restored. restored.value.kit ≡ kit) }
     // Where each snapshot shows the play of the commands before it, each table was played.
-    ensures played { IfOk result (λ tables. AreShown kit snapshots.entry (world_of tables)
-        → ArePlayed tables × ArePlayedTables kit (world_of tables)) }
-    ensures snapshots { IfOk result HaveTheirSnapshots }
+    ensures played { IfOk result (λ restored. AreShown kit snapshots.entry (world_of restored.value)
+        → ArePlayed restored.value × ArePlayedTables kit (world_of restored.value)) }
+    ensures snapshots { IfOk result (λ restored. HaveTheirSnapshots restored.value) }
     // Each snapshot of these tables was read as a game.
-    ensures games { IfOk result (λ tables. (place : ℕ) → place < length entries.now
+    ensures games { IfOk result (λ restored. (place : ℕ) → place < length entries.now
         → All SpellsItsGame (shown_of place snapshots.entry)) }
+    ensures plays { IfOk result (λ restored. D.Honest disk.new → length entries.now ≡ length (all_of chains.old.chains)
+        → PlaysBase (named_by (D.state disk.old).content entries.now chains.old snapshots.entry) kit restored.plays) }
+    ensures few_plays { IfOk result (λ restored. restored.plays < 1099511627776) }
     ensures refused { IfErr result (IsOrBreaks Damage.Kept (D.Honest disk.new
         → length entries.now ≡ length (all_of chains.old.chains) → AreTables entries.now → (tables : World) → TellTables entries.now (tables_in (D.state disk.old).content chains.old) tables
         → AreShown kit snapshots.entry tables → ArePlayedTables kit tables → ⊥)) }
@@ -65,10 +71,15 @@ pub(crate) fn restore_tables<D: Disk>(
     ensures same_len { D.file_len disk.new ≡ D.file_len disk.old }
 {
     let mut tables = no_tables(alloc, kit)?;
+    let mut plays = 0;
     for (index, entry) in entries.iter().enumerate() {
-        restore_table(alloc, disk, &mut tables, entry, chains, index, snapshots)?;
+        let played = restore_table(alloc, disk, &mut tables, entry, chains, index, snapshots)?;
+        plays += played;
     }
-    Ok(tables)
+    Ok(Restored {
+        value: tables,
+        plays,
+    })
 }
 
 fn no_tables(alloc: Global, kit: Kit) -> Result<Tables, Fault>
@@ -84,7 +95,7 @@ fn no_tables(alloc: Global, kit: Kit) -> Result<Tables, Fault>
     }
 }
 
-/// Puts the table of an entry behind the others.
+/// Puts the table of an entry behind the others, and tells how many commands were played for it.
 fn restore_table<D: Disk>(
     alloc: Global,
     disk: &mut D,
@@ -93,14 +104,24 @@ fn restore_table<D: Disk>(
     chains: &mut Commands,
     index: usize,
     snapshots: Snapshots,
-) -> Result<(), Fault>
-    ensures put { OnOk result ((state : TableState) × Puts entry.now (world_of tables.old) state (world_of tables.new)
+) -> Result<u64, Fault>
+    ensures put { IfOk result (λ plays. (state : TableState) × Puts entry.now (world_of tables.old) state (world_of tables.new)
         × (D.Honest disk.new
         → TellsTable entry.now (bytes_at (D.state disk.old).content chains.old index) (entry.now.name, state))
         × (All (ShowsPlayOf tables.old.kit state.commands) (shown_of index snapshots.entry)
         → IsPlayedTable tables.old.kit state × (ArePlayed tables.old → ArePlayed tables.new))) }
-    ensures snapshots { OnOk result (HaveTheirSnapshots tables.old → HaveTheirSnapshots tables.new) }
-    ensures games { OnOk result (All SpellsItsGame (shown_of index snapshots.entry)) }
+    ensures snapshots { IfOk result (λ plays. HaveTheirSnapshots tables.old → HaveTheirSnapshots tables.new) }
+    ensures games { IfOk result (λ plays. All SpellsItsGame (shown_of index snapshots.entry)) }
+    ensures least { IfOk result (λ plays. left_behind entry.now.kept (counts_shown (shown_of index snapshots.entry)) ≤ plays) }
+    ensures most { IfOk result (λ plays. plays
+        ≤ left_behind entry.now.kept (counts_shown (shown_of index snapshots.entry)) + entry.now.kept) }
+    ensures few { IfOk result (λ plays. D.Honest disk.new → (state : TableState)
+        → TellsTable entry.now (bytes_at (D.state disk.old).content chains.old index) (entry.now.name, state)
+        → All (ShowsPlayOf tables.old.kit state.commands) (shown_of index snapshots.entry)
+        → HasNamed tables.old.kit state (counts_shown (shown_of index snapshots.entry))
+        → plays ≡ left_behind entry.now.kept (counts_shown (shown_of index snapshots.entry))) }
+    ensures few_plays { IfOk result (λ plays. plays < 8589934592) }
+    ensures few_tables { IfOk result (λ plays. length (world_of tables.old) < MOST_TABLES) }
     ensures refused { IfErr result (IsOrBreaks Damage.Kept (D.Honest disk.new
         → IsFreeFor (world_of tables.old) entry.now → entry.now.kept ≤ MOST_KEPT → (state : TableState)
         → TellsTable entry.now (bytes_at (D.state disk.old).content chains.old index) (entry.now.name, state)
@@ -122,9 +143,17 @@ fn restore_table<D: Disk>(
     if !is_free_for(tables, entry) {
         return Err(Fault::Damaged(Damage::Kept));
     }
-    let table = restore(alloc, disk, tables.kit(), entry, chains, index, snapshots)?;
-    tables.put(entry.name, table);
-    Ok(())
+    let Restored { value, plays } = restore(
+        alloc,
+        disk,
+        tables.kit(),
+        entry,
+        chains,
+        index,
+        snapshots,
+    )?;
+    tables.put(entry.name, value);
+    Ok(plays)
 }
 
 /// Whether an entry may stand behind those of the tables. One of a directory may.
@@ -146,16 +175,25 @@ fn restore<D: Disk>(
     chains: &mut Commands,
     index: usize,
     snapshots: Snapshots,
-) -> Result<Box<Table>, Fault>
+) -> Result<Restored<Box<Table>>, Fault>
     requires { entry.now.stamp ≤ 4000000000 }
-    ensures told { IfOk result (λ table. D.Honest disk.new → TellsTable entry.now
-        (bytes_at (D.state disk.old).content chains.old index) (entry.now.name, kept_in table.value)) }
-    ensures played { IfOk result (λ table.
-        All (ShowsPlayOf kit.now (kept_in table.value).commands) (shown_of index snapshots.entry)
-        → IsPlayed kit.now table.value × IsPlayedTable kit.now (kept_in table.value)) }
-    ensures named { IfOk result (λ table. HasItsSnapshots table.value) }
-    ensures writable { IfOk result (λ table. IsWritable (kept_in table.value)) }
-    ensures games { IfOk result (λ table. All SpellsItsGame (shown_of index snapshots.entry)) }
+    ensures told { IfOk result (λ restored. D.Honest disk.new → TellsTable entry.now
+        (bytes_at (D.state disk.old).content chains.old index) (entry.now.name, kept_in restored.value.value)) }
+    ensures played { IfOk result (λ restored.
+        All (ShowsPlayOf kit.now (kept_in restored.value.value).commands) (shown_of index snapshots.entry)
+        → IsPlayed kit.now restored.value.value × IsPlayedTable kit.now (kept_in restored.value.value)) }
+    ensures named { IfOk result (λ restored. HasItsSnapshots restored.value.value) }
+    ensures writable { IfOk result (λ restored. IsWritable (kept_in restored.value.value)) }
+    ensures least { IfOk result (λ restored. left_behind entry.now.kept (counts_shown (shown_of index snapshots.entry)) ≤ restored.plays) }
+    ensures most { IfOk result (λ restored. restored.plays
+        ≤ left_behind entry.now.kept (counts_shown (shown_of index snapshots.entry)) + entry.now.kept) }
+    ensures few { IfOk result (λ restored. D.Honest disk.new → (state : TableState)
+        → TellsTable entry.now (bytes_at (D.state disk.old).content chains.old index) (entry.now.name, state)
+        → All (ShowsPlayOf kit.now state.commands) (shown_of index snapshots.entry)
+        → HasNamed kit.now state (counts_shown (shown_of index snapshots.entry))
+        → restored.plays ≡ left_behind entry.now.kept (counts_shown (shown_of index snapshots.entry))) }
+    ensures few_plays { IfOk result (λ restored. restored.plays < 8589934592) }
+    ensures games { IfOk result (λ restored. All SpellsItsGame (shown_of index snapshots.entry)) }
     ensures refused { IfErr result (IsOrBreaks Damage.Kept (D.Honest disk.new → entry.now.kept ≤ MOST_KEPT
         → (state : TableState)
         → TellsTable entry.now (bytes_at (D.state disk.old).content chains.old index) (entry.now.name, state)
@@ -173,9 +211,11 @@ fn restore<D: Disk>(
     ensures works { D.Works disk.new → D.Works disk.old }
     ensures same_len { D.file_len disk.new ≡ D.file_len disk.old }
 {
-    let table = restore_whole(alloc, disk, kit, entry, chains, index, snapshots)?;
-    let table = Box::new(alloc, table)?;
-    Ok(table)
+    let Restored { value, plays } = restore_whole(
+        alloc, disk, kit, entry, chains, index, snapshots,
+    )?;
+    let value = Box::new(alloc, value)?;
+    Ok(Restored { value, plays })
 }
 
 /// The table of an entry with the snapshots that it is to have: where the file's don't make them all, it is played
@@ -188,16 +228,25 @@ fn restore_whole<D: Disk>(
     chains: &mut Commands,
     index: usize,
     snapshots: Snapshots,
-) -> Result<Table, Fault>
+) -> Result<Restored<Table>, Fault>
     requires { entry.now.stamp ≤ 4000000000 }
-    ensures told { IfOk result (λ table. D.Honest disk.new → TellsTable entry.now
-        (bytes_at (D.state disk.old).content chains.old index) (entry.now.name, kept_in table)) }
-    ensures played { IfOk result (λ table.
-        All (ShowsPlayOf kit.now (kept_in table).commands) (shown_of index snapshots.entry)
-        → IsPlayed kit.now table × IsPlayedTable kit.now (kept_in table)) }
-    ensures named { IfOk result (λ table. HasItsSnapshots table) }
-    ensures writable { IfOk result (λ table. IsWritable (kept_in table)) }
-    ensures games { IfOk result (λ table. All SpellsItsGame (shown_of index snapshots.entry)) }
+    ensures told { IfOk result (λ restored. D.Honest disk.new → TellsTable entry.now
+        (bytes_at (D.state disk.old).content chains.old index) (entry.now.name, kept_in restored.value)) }
+    ensures played { IfOk result (λ restored.
+        All (ShowsPlayOf kit.now (kept_in restored.value).commands) (shown_of index snapshots.entry)
+        → IsPlayed kit.now restored.value × IsPlayedTable kit.now (kept_in restored.value)) }
+    ensures named { IfOk result (λ restored. HasItsSnapshots restored.value) }
+    ensures writable { IfOk result (λ restored. IsWritable (kept_in restored.value)) }
+    ensures least { IfOk result (λ restored. left_behind entry.now.kept (counts_shown (shown_of index snapshots.entry)) ≤ restored.plays) }
+    ensures most { IfOk result (λ restored. restored.plays
+        ≤ left_behind entry.now.kept (counts_shown (shown_of index snapshots.entry)) + entry.now.kept) }
+    ensures few { IfOk result (λ restored. D.Honest disk.new → (state : TableState)
+        → TellsTable entry.now (bytes_at (D.state disk.old).content chains.old index) (entry.now.name, state)
+        → All (ShowsPlayOf kit.now state.commands) (shown_of index snapshots.entry)
+        → HasNamed kit.now state (counts_shown (shown_of index snapshots.entry))
+        → restored.plays ≡ left_behind entry.now.kept (counts_shown (shown_of index snapshots.entry))) }
+    ensures few_plays { IfOk result (λ restored. restored.plays < 8589934592) }
+    ensures games { IfOk result (λ restored. All SpellsItsGame (shown_of index snapshots.entry)) }
     ensures refused { IfErr result (IsOrBreaks Damage.Kept (D.Honest disk.new → entry.now.kept ≤ MOST_KEPT
         → (state : TableState)
         → TellsTable entry.now (bytes_at (D.state disk.old).content chains.old index) (entry.now.name, state)
@@ -216,7 +265,7 @@ fn restore_whole<D: Disk>(
     ensures same_len { D.file_len disk.new ≡ D.file_len disk.old }
 {
     let told = restore_from(alloc, disk, kit, entry, chains, index, snapshots)?;
-    if told.has_its_snapshots() {
+    if told.value.has_its_snapshots() {
         return Ok(told);
     }
     let none = Snapshots {
@@ -224,7 +273,10 @@ fn restore_whole<D: Disk>(
         chains: &[],
     };
     let played = restore_from(alloc, disk, kit, entry, chains, index, none)?;
-    Ok(played)
+    Ok(Restored {
+        value: played.value,
+        plays: told.plays + played.plays,
+    })
 }
 
 /// The table of an entry, played from the last of these snapshots, or from its opening where it has none.
@@ -236,16 +288,23 @@ fn restore_from<D: Disk>(
     chains: &mut Commands,
     index: usize,
     snapshots: Snapshots,
-) -> Result<Table, Fault>
+) -> Result<Restored<Table>, Fault>
     requires { entry.now.stamp ≤ 4000000000 }
-    ensures told { IfOk result (λ table. D.Honest disk.new → TellsTable entry.now
-        (bytes_at (D.state disk.old).content chains.old index) (entry.now.name, kept_in table)) }
-    ensures played { IfOk result (λ table.
-        All (ShowsPlayOf kit.now (kept_in table).commands) (shown_of index snapshots.entry)
-        → IsPlayed kit.now table × IsPlayedTable kit.now (kept_in table)) }
-    ensures named { IfOk result (λ table. shown_of index snapshots.entry ≡ [] → HasItsSnapshots table) }
-    ensures writable { IfOk result (λ table. IsWritable (kept_in table)) }
-    ensures games { IfOk result (λ table. All SpellsItsGame (shown_of index snapshots.entry)) }
+    ensures told { IfOk result (λ restored. D.Honest disk.new → TellsTable entry.now
+        (bytes_at (D.state disk.old).content chains.old index) (entry.now.name, kept_in restored.value)) }
+    ensures played { IfOk result (λ restored.
+        All (ShowsPlayOf kit.now (kept_in restored.value).commands) (shown_of index snapshots.entry)
+        → IsPlayed kit.now restored.value × IsPlayedTable kit.now (kept_in restored.value)) }
+    ensures named { IfOk result (λ restored. shown_of index snapshots.entry ≡ [] → HasItsSnapshots restored.value) }
+    ensures writable { IfOk result (λ restored. IsWritable (kept_in restored.value)) }
+    ensures plays { IfOk result (λ restored.
+        restored.plays ≡ left_behind entry.now.kept (counts_shown (shown_of index snapshots.entry))) }
+    ensures few_plays { IfOk result (λ restored. restored.plays < 4294967296) }
+    ensures shown { IfOk result (λ restored.
+        All (ShowsPlayOf kit.now (kept_in restored.value).commands) (shown_of index snapshots.entry)
+        → HasNamed kit.now (kept_in restored.value) (counts_shown (shown_of index snapshots.entry))
+        → HasItsSnapshots restored.value) }
+    ensures games { IfOk result (λ restored. All SpellsItsGame (shown_of index snapshots.entry)) }
     ensures refused { IfErr result (IsOrBreaks Damage.Kept (D.Honest disk.new → entry.now.kept ≤ MOST_KEPT
         → (state : TableState)
         → TellsTable entry.now (bytes_at (D.state disk.old).content chains.old index) (entry.now.name, state)
@@ -263,11 +322,17 @@ fn restore_from<D: Disk>(
     ensures works { D.Works disk.new → D.Works disk.old }
     ensures same_len { D.file_len disk.new ≡ D.file_len disk.old }
 {
-    let mut table = play_all(alloc, disk, kit, chains, index, entry.kept, snapshots)?;
+    let Restored { value, plays } = play_all(
+        alloc, disk, kit, chains, index, entry.kept, snapshots,
+    )?;
+    let mut table = value;
     let floor = u64::from(entry.floor);
     if floor > table.turns() {
         return Err(Fault::Damaged(Damage::Kept));
     }
     table.resume(floor, entry.stamp);
-    Ok(table)
+    Ok(Restored {
+        value: table,
+        plays,
+    })
 }

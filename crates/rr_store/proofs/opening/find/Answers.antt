@@ -7,12 +7,15 @@ use Rattle.rr_reading.specs.Laws.{NamesChains}
 use Rattle.rr_reading.specs.Reading.{Holds}
 use Rattle.rr_store.specs.Recovery.Recovered.{IsRecoveredFrom}
 use Rattle.rr_store.specs.Recovery.Telling as recovers
+use Rattle.rr_store.specs.Recovery.Telling.{HasTrueSnapshots}
+use Rattle.rr_store.specs.Replayed.{IsReplayed}
 use Rattle.rr_tables.specs.Records.Taking.{table_files, table_rules}
 use Rattle.rr_tables.specs.Records.Words.{in_words}
 use Rattle.rr_tables.proofs.RecordLemmas.TakingLemmas.{files_are_exact}
 use Rattle.rr_reading.proofs.WorldLemmas.Exact.{forms_spelled}
 use Rattle.rr_store.proofs.Openings.{calm_read, calm_recovered, carries_along, counts_recovered, device_recovered, goes_along, held_along, refuses_read, refuses_recovered, synced_on, synced_read, synced_recovered, synced_wanting, wants_memory}
 use Rattle.rr_store.proofs.Recovering.{no_damage}
+use Rattle.rr_store.proofs.Replays.{replayed_standing}
 use Rattle.rr_store.proofs.opening.find.Goals as goal
 
 names_chains : NamesChains table_files
@@ -131,3 +134,15 @@ pub returns-clause-place : goal.returns-clause-place
 returns-clause-place g c = λ honest.
     let file = (g.D.Disk.state c.args.disk.now).content in
     goes_along c.in_ok-opened.opened c.recover.new.opened file c.recover.ensures.same_writer (c.recover.ensures.same_held file) (c.in_ok-opened.ensures.place (c.recover.ensures.honest honest))
+
+pub returns-clause-replayed : goal.returns-clause-replayed
+returns-clause-replayed g c = λ honest texts tables stands.
+    let before = c.recover.ensures.honest honest in
+    let file = (g.D.Disk.state c.args.disk.now).content in
+    let opened = c.in_ok-opened.opened in
+    let recovered = c.in_ok-recovered.recovered in
+    let holds = c.in_ok-opened.ensures.holds before in
+    let is : HasTrueSnapshots (held_by file opened) → IsReplayed (held_by file opened) recovered.tables.kit recovered.replayed =
+    held_along opened (λ has. HasTrueSnapshots has → IsReplayed has recovered.tables.kit recovered.replayed) (g.D.Disk.state c.open_file.new.disk).content file (c.in_ok-opened.ensures.bytes before)
+    (c.in_ok-recovered.ensures.replayed honest) holds in
+    (held_by file opened, holds, replayed_standing file (held_by file opened) holds recovered.tables.kit recovered.replayed texts tables stands is)

@@ -11,6 +11,7 @@ use Rattle.rr_tables.specs.Tables.{ArePlayed, world_of}
 use Rattle.rr_store.specs.Recovery.Base.{IsRightBase, named_by}
 use Rattle.rr_store.specs.Recovery.Shown.{AreShown}
 use Rattle.rr_store.specs.Recovery.Texts.{texts_in}
+use Rattle.rr_store.specs.Replayed.{PlaysBase}
 use Rattle.rr_store.proofs.RecoveryLemmas.BaseLemmas.{told_formed}
 use Rattle.rr_store.proofs.RecoveryLemmas.Recovered.{kept_refuses, kit_refuses}
 use Rattle.rr_store.proofs.recovery.base.restore_base.Goals as goal
@@ -21,13 +22,13 @@ returns-in_err-kit-clause-refused g c =
     let named = named_by (g.D.Disk.state c.args.disk.now).content c.args.entries.now c.args.chains.now c.args.snapshots in
     rw (p.1, p.2) (λ honest directory formed. kit_refuses named (chains_held c.args.texts.now) _ c.in_err-kit.ensures formed)
 
-pub returns-in_err-tables-clause-refused : goal.returns-in_err-tables-clause-refused
-returns-in_err-tables-clause-refused g c =
-    let p = err_from_is_err_and c.from_residual-in_err-tables.result c.from_residual-in_err-tables.ensures.1 in
+pub returns-in_err-restored-clause-refused : goal.returns-in_err-restored-clause-refused
+returns-in_err-restored-clause-refused g c =
+    let p = err_from_is_err_and c.from_residual-in_err-restored.result c.from_residual-in_err-restored.ensures.1 in
     let file = (g.D.Disk.state c.args.disk.now).content in
     let named = named_by file c.args.entries.now c.args.chains.now c.args.snapshots in
     rw (p.1, p.2) (λ honest directory formed.
-    kept_refuses named (chains_held c.args.texts.now) _ c.in_err-tables.ensures.refused formed.words
+    kept_refuses named (chains_held c.args.texts.now) _ c.in_err-restored.ensures.refused formed.words
     (λ none. record {
       formed = formed;
       kit = c.in_ok-kit.kit;
@@ -39,16 +40,23 @@ pub returns-clause-right : goal.returns-clause-right
 returns-clause-right g c = λ honest directory.
     let file = (g.D.Disk.state c.args.disk.now).content in
     let named = named_by file c.args.entries.now c.args.chains.now c.args.snapshots in
-    let tables = world_of c.in_ok-tables.tables in
-    let told = c.in_ok-tables.ensures.told honest (directory.as_many ∙ length-map (all_of c.args.chains.now.chains) (held_in file)) in
-    subst (λ (kit : Kit). IsRightBase named (chains_held c.args.texts.now) kit tables) (sym c.in_ok-tables.ensures.kit)
-    (record { formed = told_formed named tables directory told c.in_ok-tables.ensures.games; right = c.in_ok-kit.ensures; told = told })
+    let tables = world_of c.in_ok-restored.restored.value in
+    let told = c.in_ok-restored.ensures.told honest (directory.as_many ∙ length-map (all_of c.args.chains.now.chains) (held_in file)) in
+    subst (λ (kit : Kit). IsRightBase named (chains_held c.args.texts.now) kit tables) (sym c.in_ok-restored.ensures.kit)
+    (record { formed = told_formed named tables directory told c.in_ok-restored.ensures.games; right = c.in_ok-kit.ensures; told = told })
 
 pub returns-clause-played : goal.returns-clause-played
 returns-clause-played g c =
-    let tables = c.in_ok-tables.tables in
-    subst (λ (kit : Kit). AreShown kit c.args.snapshots (world_of tables) → ArePlayed tables × ArePlayedTables kit (world_of tables)) (sym c.in_ok-tables.ensures.kit)
-    c.in_ok-tables.ensures.played
+    let tables = c.in_ok-restored.restored.value in
+    subst (λ (kit : Kit). AreShown kit c.args.snapshots (world_of tables) → ArePlayed tables × ArePlayedTables kit (world_of tables)) (sym c.in_ok-restored.ensures.kit)
+    c.in_ok-restored.ensures.played
 
 pub returns-clause-kit : goal.returns-clause-kit
-returns-clause-kit g c = subst (λ (kit : Kit). SpellsKit (texts_in (chains_held c.args.texts.now)) kit) (sym c.in_ok-tables.ensures.kit) c.in_ok-kit.ensures
+returns-clause-kit g c = subst (λ (kit : Kit). SpellsKit (texts_in (chains_held c.args.texts.now)) kit) (sym c.in_ok-restored.ensures.kit) c.in_ok-kit.ensures
+
+pub returns-clause-plays : goal.returns-clause-plays
+returns-clause-plays g c = λ honest directory.
+    let file = (g.D.Disk.state c.args.disk.now).content in
+    let named = named_by file c.args.entries.now c.args.chains.now c.args.snapshots in
+    subst (λ (kit : Kit). PlaysBase named kit c.in_ok-restored.restored.plays) (sym c.in_ok-restored.ensures.kit)
+    (c.in_ok-restored.ensures.plays honest (directory.as_many ∙ length-map (all_of c.args.chains.now.chains) (held_in file)))

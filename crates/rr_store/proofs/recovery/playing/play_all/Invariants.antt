@@ -1,4 +1,4 @@
-use Rattle.std.proofs.Common.{◌≡◌, All, List, []}
+use Rattle.std.proofs.Common.{◌≡◌, ◌+◌, ◌≤◌, All, List, [], length}
 use Rattle.rr_code.specs.declared.command.Command.{Command}
 use Rattle.rr_game.specs.History.Tables.{HasItsSnapshots, IsPlayed, kept_in}
 use Rattle.rr_reading.specs.Lending.Chains.{all_of, count_of}
@@ -6,6 +6,7 @@ use Rattle.rr_reading.specs.Lending.Commands.{bytes_at, rest_of, steps_left_of}
 use Rattle.rr_store.specs.Recovery.Kept.{AreWorded}
 use Rattle.rr_store.specs.Recovery.Playing.{IsFrontOf}
 use Rattle.rr_store.specs.Recovery.Shown.{ShowsPlayOf, shown_of}
+use Rattle.rr_store.specs.Replayed.{NoneDue, begins_behind, counts_played, counts_shown, left_behind}
 use Rattle.rr_store.proofs.RecoveryLemmas.PlayingLemmas.{IsPlaying}
 use Rattle.rr_store.proofs.recovery.playing.play_all.Given as goal
 
@@ -15,6 +16,10 @@ invariant-commands g l =
       so_far : g.D.Disk.Honest l.disk → IsPlaying (bytes_at (g.D.Disk.state l.fn.disk).content l.fn.chains l.fn.index) (rest_of (g.D.Disk.state l.fn.disk).content l.chains) l.left l.fn.count l.table;
       played : (commands : List Command) → IsFrontOf (kept_in l.table).commands commands → All (ShowsPlayOf l.kit commands) (shown_of l.fn.index l.fn.snapshots) → IsPlayed l.kit l.table;
       named : shown_of l.fn.index l.fn.snapshots ≡ [] → HasItsSnapshots l.table;
+      low : begins_behind (counts_shown (shown_of l.fn.index l.fn.snapshots)) ≤ length (kept_in l.table).commands;
+      counted : length (kept_in l.table).commands + l.left ≡ l.fn.count;
+      plays : l.plays + l.left ≡ left_behind l.fn.count (counts_shown (shown_of l.fn.index l.fn.snapshots));
+      shown : NoneDue (begins_behind (counts_shown (shown_of l.fn.index l.fn.snapshots))) (length (kept_in l.table).commands) → counts_played l.table.kept.snapshots ≡ counts_shown (shown_of l.fn.index l.fn.snapshots);
       floor : (kept_in l.table).floor ≡ 0;
       worded : AreWorded (kept_in l.table).commands;
       all : all_of l.chains.chains ≡ all_of l.fn.chains.chains;

@@ -1,4 +1,4 @@
-use Rattle.rr_store.proofs.RecoveryLemmas.LentLemmas.{lent_short, lent_words, played_named, played_never, played_worded}
+use Rattle.rr_store.proofs.RecoveryLemmas.LentLemmas.{lent_short, lent_words, played_front, played_named, played_never, played_worded}
 use Rattle.rr_store.proofs.recovery.playing.play_next.Goals as goal
 
 pub returns-in-Ok-Some-clause-worded : goal.returns-in-Ok-Some-clause-worded
@@ -14,3 +14,6 @@ returns-in-Ok-Some-clause-refused g c =
 
 pub returns-in-Ok-Some-clause-named : goal.returns-in-Ok-Some-clause-named
 returns-in-Ok-Some-clause-named g c = played_named c.args.kit.now c.in-Ok-Some.words.now c.args.table.now c.play_one.new.table c.play_one.result c.play_one.ensures.played
+
+pub returns-in-Ok-Some-clause-front : goal.returns-in-Ok-Some-clause-front
+returns-in-Ok-Some-clause-front g c = played_front c.args.kit.now c.in-Ok-Some.words.now c.args.table.now c.play_one.new.table c.play_one.result c.play_one.ensures.played

@@ -3,6 +3,7 @@ use Rattle.rr_code.specs.Request.{record_text}
 use Rattle.rr_log.specs.declared.fault.Fault.{Fault}
 use Rattle.rr_log.specs.Lent.{Lent}
 use Rattle.rr_tables.specs.declared.journal.Standing.{Standing}
+use Rattle.rr_tables.specs.Records.World.{for_table}
 use Rattle.rr_tables.specs.Tables.{lent_by, world_of}
 use Rattle.rr_store.proofs.RecoveryLemmas.VerdictLemmas.{refused_record}
 use Rattle.rr_store.proofs.recovery.records.replay_record.Goals as goal
@@ -14,3 +15,11 @@ returns-in-Err-clause-refused c =
     (refused_record c.requests_have_one_verdict.ensures c.args.tables.now.kit (world_of c.args.tables.now) c.args.bytes.now c.in_ok-name.name c.in_ok-name.request
     c.in_ok-name.ensures.only c.stamp-stamp.result c.stamp-stamp.ensures Keeps _ c.take.new.journal (lent_by c.args.tables.now) (record_text c.in_ok-name.name c.in_ok-name.request)
     (λ cause kept. absurd (cc (kept.0))) c.in-Err.fault c.in-Err.ensures.verdict c.in-Err.ensures.kept)
+
+pub returns-in-Ok-clause-plays : goal.returns-in-Ok-clause-plays
+returns-in-Ok-clause-plays c = λ played had.
+    record {
+      asked = for_table c.in_ok-name.name c.in_ok-name.request;
+      spelled = c.in_ok-name.ensures.found;
+      few = c.in-Ok.ensures.plays played had;
+    }

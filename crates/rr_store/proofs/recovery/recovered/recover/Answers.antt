@@ -1,4 +1,4 @@
-use Rattle.std.proofs.Common.{◌≡◌, List, inr, length, map, refl, sym, ap, subst, ◌∙◌}
+use Rattle.std.proofs.Common.{◌≡◌, List, inr, length, map, refl, sym, ap, subst, ◌∙◌, arith}
 use Rattle.std.proofs.lemmas.List.{length-map}
 use Rattle.std.proofs.lemmas.Result.{err_from_is_err_and}
 use Rattle.rr_checkpoint.specs.declared.plan.standing.StandingSnapshot.{StandingSnapshot}
@@ -13,6 +13,7 @@ use Rattle.rr_reading.specs.declared.dir.directory.SnapshotEntry.{SnapshotEntry}
 use Rattle.rr_reading.specs.declared.dir.directory.TableEntry.{TableEntry}
 use Rattle.rr_tables.specs.Tables.{world_of}
 use Rattle.rr_store.specs.Recovery.Base.{Named}
+use Rattle.rr_store.proofs.Replays.{replayed_from}
 use Rattle.rr_store.proofs.RecoveryLemmas.Recovered.{PlaysThem, bad_record, recovered_from, refuses_memory, refuses_read, refuses_records, right_read}
 use Rattle.rr_store.proofs.recovery.recovered.recover.Goals as goal
 
@@ -32,46 +33,46 @@ stand_read : (entries own : List SnapshotEntry) (read kept : List ReadChain) (st
 stand_read entries own read kept standing p q stand as_many =
     stand (ap length p ∙ (as_many ∙ (length-map kept held ∙ ap length (sym q)))) ∙ ap (λ (chains : List ReadChain). map held chains) q
 
-pub returns-in_err-tables-clause-refused : goal.returns-in_err-tables-clause-refused
-returns-in_err-tables-clause-refused g c =
+pub returns-in_err-value-clause-refused : goal.returns-in_err-value-clause-refused
+returns-in_err-value-clause-refused g c =
     let p = err_from_is_err_and c.from_residual.result c.from_residual.ensures.1 in
     let file = (g.D.Disk.state c.args.disk.now).content in
     let same = same_named (tables_in file c.args.opened.now.tables) _ _ _ _ _ _ c.deref-3.ensures.value c.deref.ensures.value c.deref-2.ensures.value in
     rw (p.1, p.2)
-    (λ honest holds. refuses_read file (held_by file c.args.opened.now) holds _ _ same (c.in_err-tables.ensures.refused honest))
+    (λ honest holds. refuses_read file (held_by file c.args.opened.now) holds _ _ same (c.in_err-value.ensures.refused honest))
 
-pub returns-in_err-base-clause-refused : goal.returns-in_err-base-clause-refused
-returns-in_err-base-clause-refused g c =
-    let p = err_from_is_err_and c.from_residual-in_err-base.result c.from_residual-in_err-base.ensures.1 in
+pub returns-in_err-replayed-clause-refused : goal.returns-in_err-replayed-clause-refused
+returns-in_err-replayed-clause-refused g c =
+    let p = err_from_is_err_and c.from_residual-in_err-replayed.result c.from_residual-in_err-replayed.ensures.1 in
     let file = (g.D.Disk.state c.args.disk.now).content in
     let has = held_by file c.args.opened.now in
-    let tables = c.in_ok-tables.tables in
+    let tables = c.in_ok-value.field-0.value in
     let same = same_named (tables_in file c.args.opened.now.tables) _ _ _ _ _ _ c.deref-3.ensures.value c.deref.ensures.value c.deref-2.ensures.value in
     rw (p.1, p.2)
     (λ honest holds.
-    let right = right_read file has holds _ tables.kit (world_of tables) same (c.in_ok-tables.ensures.right honest) in
+    let right = right_read file has holds _ tables.kit (world_of tables) same (c.in_ok-value.ensures.right honest) in
     refuses_records file has holds tables right (lines c.deref-4.result.now) (lines c.deref-5.result.now) _ (ap lines c.deref-4.ensures.value) (ap lines c.deref-5.ensures.value)
-    (subst (λ (n : Named). PlaysThem n tables) same c.in_ok-tables.ensures.played) c.in_err-base.ensures.refused)
+    (subst (λ (n : Named). PlaysThem n tables) same c.in_ok-value.ensures.played) c.in_err-replayed.ensures.refused)
 
 pub returns-then-is_damaged-clause-refused : goal.returns-then-is_damaged-clause-refused
 returns-then-is_damaged-clause-refused g c = λ honest holds.
     let file = (g.D.Disk.state c.args.disk.now).content in
     let has = held_by file c.args.opened.now in
-    let tables = c.in_ok-tables.tables in
+    let tables = c.in_ok-value.field-0.value in
     let same = same_named (tables_in file c.args.opened.now.tables) _ _ _ _ _ _ c.deref-3.ensures.value c.deref.ensures.value c.deref-2.ensures.value in
-    let right = right_read file has holds _ tables.kit (world_of tables) same (c.in_ok-tables.ensures.right honest) in
-    bad_record file has holds tables right (subst (λ (n : Named). PlaysThem n tables) same c.in_ok-tables.ensures.played) (λ played. inr (c.if-is_damaged.ensures.0 refl))
+    let right = right_read file has holds _ tables.kit (world_of tables) same (c.in_ok-value.ensures.right honest) in
+    bad_record file has holds tables right (subst (λ (n : Named). PlaysThem n tables) same c.in_ok-value.ensures.played) (λ played. inr (c.if-is_damaged.ensures.0 refl))
 
 pub returns-in_err-kit-clause-refused : goal.returns-in_err-kit-clause-refused
 returns-in_err-kit-clause-refused g c =
     let p = err_from_is_err_and c.from_residual-in_err-kit.result c.from_residual-in_err-kit.ensures.1 in
     let file = (g.D.Disk.state c.args.disk.now).content in
     let has = held_by file c.args.opened.now in
-    let tables = c.in_ok-tables.tables in
+    let tables = c.in_ok-value.field-0.value in
     let same = same_named (tables_in file c.args.opened.now.tables) _ _ _ _ _ _ c.deref-3.ensures.value c.deref.ensures.value c.deref-2.ensures.value in
     rw (p.1, p.2)
     (λ honest holds.
-    let right = right_read file has holds _ tables.kit (world_of tables) same (c.in_ok-tables.ensures.right honest) in
+    let right = right_read file has holds _ tables.kit (world_of tables) same (c.in_ok-value.ensures.right honest) in
     refuses_memory file has holds tables right _ c.in_err-kit.ensures.memory)
 
 pub returns-in_err-standing-clause-refused : goal.returns-in_err-standing-clause-refused
@@ -79,21 +80,32 @@ returns-in_err-standing-clause-refused g c =
     let p = err_from_is_err_and c.from_residual-in_err-standing.result c.from_residual-in_err-standing.ensures.1 in
     let file = (g.D.Disk.state c.args.disk.now).content in
     let has = held_by file c.args.opened.now in
-    let tables = c.in_ok-tables.tables in
+    let tables = c.in_ok-value.field-0.value in
     let same = same_named (tables_in file c.args.opened.now.tables) _ _ _ _ _ _ c.deref-3.ensures.value c.deref.ensures.value c.deref-2.ensures.value in
     rw (p.1, p.2)
     (λ honest holds.
-    let right = right_read file has holds _ tables.kit (world_of tables) same (c.in_ok-tables.ensures.right honest) in
+    let right = right_read file has holds _ tables.kit (world_of tables) same (c.in_ok-value.ensures.right honest) in
     refuses_memory file has holds tables right _ c.in_err-standing.ensures.memory)
 
 pub returns-clause-recovered : goal.returns-clause-recovered
 returns-clause-recovered g c = λ honest holds.
     let file = (g.D.Disk.state c.args.disk.now).content in
     let has = held_by file c.args.opened.now in
-    let tables = c.in_ok-tables.tables in
+    let tables = c.in_ok-value.field-0.value in
     let same = same_named (tables_in file c.args.opened.now.tables) _ _ _ _ _ _ c.deref-3.ensures.value c.deref.ensures.value c.deref-2.ensures.value in
-    let right = right_read file has holds _ tables.kit (world_of tables) same (c.in_ok-tables.ensures.right honest) in
-    recovered_from file has holds tables right c.replay_halves.new.tables c.in_ok-kit.kit c.in_ok-standing.standing c.in_ok-base.base (lines c.deref-4.result.now) (lines c.deref-5.result.now)
-    (ap lines c.deref-4.ensures.value) (ap lines c.deref-5.ensures.value) c.replay_halves.ensures.kit (subst (λ (n : Named). PlaysThem n tables) same c.in_ok-tables.ensures.played)
-    c.in_ok-base.ensures.replayed c.replay_halves.ensures.played c.in_ok-tables.ensures.snapshots c.replay_halves.ensures.snapshots (λ damaged. absurd (cc (c.if-is_damaged.ensures.1 damaged))) c.in_ok-kit.ensures.pages
+    let right = right_read file has holds _ tables.kit (world_of tables) same (c.in_ok-value.ensures.right honest) in
+    recovered_from file has holds tables right c.replay_halves.new.tables c.in_ok-kit.kit c.in_ok-standing.standing c.in_ok-replayed.replayed.value c.saturating_add.result (lines c.deref-4.result.now) (lines c.deref-5.result.now)
+    (ap lines c.deref-4.ensures.value) (ap lines c.deref-5.ensures.value) c.replay_halves.ensures.kit (subst (λ (n : Named). PlaysThem n tables) same c.in_ok-value.ensures.played)
+    c.in_ok-replayed.ensures.replayed c.replay_halves.ensures.played c.in_ok-value.ensures.snapshots c.replay_halves.ensures.snapshots (λ damaged. absurd (cc (c.if-is_damaged.ensures.1 damaged))) c.in_ok-kit.ensures.pages
     (stand_read _ _ _ _ c.in_ok-standing.standing.items c.deref-6.ensures.value c.deref-7.ensures.value c.in_ok-standing.ensures.chains)
+
+pub returns-clause-replayed : goal.returns-clause-replayed
+returns-clause-replayed g c = λ honest holds.
+    let file = (g.D.Disk.state c.args.disk.now).content in
+    let has = held_by file c.args.opened.now in
+    let tables = c.in_ok-value.field-0.value in
+    let same = same_named (tables_in file c.args.opened.now.tables) _ _ _ _ _ _ c.deref-3.ensures.value c.deref.ensures.value c.deref-2.ensures.value in
+    let right = right_read file has holds _ tables.kit (world_of tables) same (c.in_ok-value.ensures.right honest) in
+    replayed_from file has holds _ tables c.replay_halves.new.tables (lines c.deref-4.result.now) (lines c.deref-5.result.now) c.in_ok-value.field-0.plays c.in_ok-replayed.replayed.plays c.saturating_add.result same
+    (ap lines c.deref-4.ensures.value) (ap lines c.deref-5.ensures.value) c.replay_halves.ensures.kit right (subst (λ (n : Named). PlaysThem n tables) same c.in_ok-value.ensures.played) c.in_ok-value.ensures.snapshots
+    (c.in_ok-value.ensures.plays honest) c.in_ok-replayed.ensures.plays (omega (arith, c.saturating_add.ensures, c.in_ok-value.ensures.few_plays)) (omega (arith, c.saturating_add.ensures))

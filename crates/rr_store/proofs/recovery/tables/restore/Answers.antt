@@ -10,10 +10,10 @@ pub returns-clause-played : goal.returns-clause-played
 returns-clause-played g c =
     let kit = c.args.kit.now in
     let shown = shown_of c.args.index c.args.snapshots in
-    subst (λ (table : Table). All (ShowsPlayOf kit (kept_in table).commands) shown → IsPlayed kit table × IsPlayedTable kit (kept_in table)) (sym c.in_ok-table-2.ensures.ok) c.in_ok-table.ensures.played
+    subst (λ (table : Table). All (ShowsPlayOf kit (kept_in table).commands) shown → IsPlayed kit table × IsPlayedTable kit (kept_in table)) (sym c.in_ok-value-2.ensures.ok) c.in_ok-value.ensures.played
 
 pub returns-clause-named : goal.returns-clause-named
-returns-clause-named g c = subst (λ (table : Table). HasItsSnapshots table) (sym c.in_ok-table-2.ensures.ok) c.in_ok-table.ensures.named
+returns-clause-named g c = subst (λ (table : Table). HasItsSnapshots table) (sym c.in_ok-value-2.ensures.ok) c.in_ok-value.ensures.named
 
 pub returns-clause-writable : goal.returns-clause-writable
-returns-clause-writable g c = subst (λ (table : Table). IsWritable (kept_in table)) (sym c.in_ok-table-2.ensures.ok) c.in_ok-table.ensures.writable
+returns-clause-writable g c = subst (λ (table : Table). IsWritable (kept_in table)) (sym c.in_ok-value-2.ensures.ok) c.in_ok-value.ensures.writable

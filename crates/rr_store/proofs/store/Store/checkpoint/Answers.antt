@@ -28,3 +28,13 @@ returns-clause-whole g c = λ none honest texts carries.
 pub returns-clause-root : goal.returns-clause-root
 returns-clause-root g c = λ honest texts carries.
     c.in_ok-checkpoint.ensures.root honest (in_words texts (held_of c.args.self.now).tables) (carried_lent g.D.Disk.state c.args.self.now texts carries) carries.file
+
+pub returns-clause-grows : goal.returns-clause-grows
+returns-clause-grows g c = λ honest texts carries.
+    c.in_ok-checkpoint.ensures.grows honest (in_words texts (held_of c.args.self.now).tables) (carried_lent g.D.Disk.state c.args.self.now texts carries) carries.file
+
+pub returns-in_err-checkpoint-clause-grows_so_far : goal.returns-in_err-checkpoint-clause-grows_so_far
+returns-in_err-checkpoint-clause-grows_so_far g c =
+    let p = err_from_is_err_and c.from_residual.result c.from_residual.ensures.1 in
+    rw p.1 (λ honest texts carries.
+    c.in_err-checkpoint.ensures.grows_so_far honest (in_words texts (held_of c.args.self.now).tables) (carried_lent g.D.Disk.state c.args.self.now texts carries) carries.file)

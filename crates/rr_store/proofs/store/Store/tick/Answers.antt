@@ -23,3 +23,9 @@ returns-clause-fits g c = λ none due full. due (record { none_left = none; none
 
 pub returns-clause-root : goal.returns-clause-root
 returns-clause-root g c = λ honest texts carries. c.in_ok-tick.ensures.root honest (in_words texts (held_of c.args.self.now).tables) carries.file
+
+pub returns-in_err-tick-clause-grows : goal.returns-in_err-tick-clause-grows
+returns-in_err-tick-clause-grows g c = λ honest texts carries. c.in_err-tick.ensures.grows honest (in_words texts (held_of c.args.self.now).tables) carries.file
+
+pub returns-clause-grows : goal.returns-clause-grows
+returns-clause-grows g c = λ honest texts carries. c.in_ok-tick.ensures.grows honest (in_words texts (held_of c.args.self.now).tables) carries.file

@@ -1,3 +1,6 @@
+use Rattle.std.proofs.Common.{◌≡◌, arith}
+use Rattle.std.proofs.lemmas.Result.{IfOk-weaker}
+use Rattle.rr_tables.specs.declared.taking.Taken.{Taken}
 use Rattle.rr_tables.specs.Tables.{kept_in_box}
 use Rattle.rr_tables.proofs.Outcomes.{under}
 use Rattle.rr_tables.proofs.WorldLemmas.{named_by, named_stamp, opening_in, step_in}
@@ -36,3 +39,11 @@ returns-in-Some-clause-snapshots g c = c.open.ensures.snapshots
 
 pub returns-in-None-clause-snapshots : goal.returns-in-None-clause-snapshots
 returns-in-None-clause-snapshots g c = c.step.ensures.snapshots
+
+pub returns-in-Some-clause-plays : goal.returns-in-Some-clause-plays
+returns-in-Some-clause-plays g c =
+    rw c.in-Some.ensures
+    (IfOk-weaker c.open.result _ _ (λ (taken : Taken) (none : taken.plays ≡ 0). λ played named. omega (arith, none)) c.open.ensures.plays)
+
+pub returns-in-None-clause-plays : goal.returns-in-None-clause-plays
+returns-in-None-clause-plays g c = c.step.ensures.plays
