@@ -34,7 +34,7 @@ fn spelled(alloc: Global, game: &Game) -> Result<Vec<u8>, AllocError> {
 
 fn read(alloc: Global, bytes: &[u8]) -> Result<Option<Game>, AllocError> {
     match Parts::read(bytes) {
-        Some(parts) => Game::from_parts(alloc, parts),
+        Some(parts) => Game::from_parts(alloc, &parts),
         None => Ok(None),
     }
 }

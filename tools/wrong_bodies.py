@@ -17,6 +17,9 @@ WRONG_BODIES = {
     9: "a kept record is cleared during a later command, and put back",
     10: "a sync that failed is tried again",
     11: "`ok` is answered before the commit, which comes with the next command",
+    12: "a checkpoint looks for snapshots where the last root but one had them",
+    13: "the pages of a snapshot that stays are free behind the checkpoint",
+    14: "a snapshot that stands is kept for one of the same count and other bytes",
 }
 
 SWITCH = """// Which wrong body was chosen for this run.
@@ -62,11 +65,12 @@ pub use wrong::is_put_in;"""),
         let gate = self.next_gate();"""),
     ("rr_pages/src/journal/reading.rt", "    if BigEndian::read_u64(&header[1..]) != number {",
      "    if BigEndian::read_u64(&header[1..]) != number && !rr_disk::is_put_in(3) {"),
-    (RECORDS, "    replay(alloc, tables, near)?;", """    if rr_disk::is_put_in(4) && far.is_empty() {
-        replay(alloc, tables, own_front(near))?;
+    (RECORDS, "    let near_plays = replay(alloc, tables, near)?;", """
+    let near_plays = if rr_disk::is_put_in(4) && far.is_empty() {
+        replay(alloc, tables, own_front(near))?
     } else {
-        replay(alloc, tables, near)?;
-    }"""),
+        replay(alloc, tables, near)?
+    };"""),
     (RECORDS, "/// The tables, where there are far records.", """
 /// The records but for the newest, unless that begins as the first does.
 fn own_front(records: &[Vec<u8>]) -> &[Vec<u8>] {
@@ -100,4 +104,13 @@ fn own_front(records: &[Vec<u8>]) -> &[Vec<u8>] {
             keep_record(&mut self.file, tables, self.buffer.as_slice())?;
         }
         match spell(name, request, &mut self.buffer) {"""),
+    ("rr_log/src/ticking.rt", "                self.standing = standing;", """                if !rr_disk::is_put_in(12) || self.standing.is_empty() {
+                    self.standing = standing;
+                }"""),
+    ("rr_checkpoint/src/plan/keeping.rt", "        keep_pages(writer, &standing.pages);",
+     """        if !rr_disk::is_put_in(13) {
+            keep_pages(writer, &standing.pages);
+        }"""),
+    ("rr_checkpoint/src/plan/standing.rt", "            && self.bytes.as_slice() == snapshot.bytes.as_slice()",
+     "            && (rr_disk::is_put_in(14) || self.bytes.as_slice() == snapshot.bytes.as_slice())"),
 ]
