@@ -63,6 +63,15 @@ def load(path):
     return kit
 
 
+def library():
+    """Returns the kit's rtlib. It remembers, unless RT is set, so that the kit is to go as it is, or isn't known here."""
+    path = find()
+    try:
+        return (read if os.environ.get("RT") else load)(path).rtlib
+    except Unknown:
+        return read(path).rtlib
+
+
 def remembered(rtlib):
     """Returns `Crate.below` and `Crate.stamp` as methods that remember."""
     own_sum = OwnSums(rtlib)

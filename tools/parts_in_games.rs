@@ -1,12 +1,12 @@
-//! Plays a table's commands, a line each from standard input, and at each position spells the game's plain values, reads
-//! them, and makes the game of them again. Words: the files of the kit's four texts; without any it does nothing. It
+//! Plays what a table was asked, a record each from standard input, and at each position spells the game's plain values,
+//! reads them, and makes the game of them again. Words: the files of the kit's four texts; without any it does nothing. It
 //! prints how many positions there were of which the game was made again, the most bytes, and the nanoseconds that
 //! spelling and that reading took a time.
 #![tactic(auto)]
 
 use anyhow::{Result, bail};
-use rr_code::Command;
-use rr_game::history::Table;
+use rr_code::{Command, read_record};
+use rr_game::history::{Request, Table};
 use rr_game::{Game, Parts};
 use rr_kit::Kit;
 use rr_words::spelling::Spell;
@@ -99,12 +99,19 @@ fn kit(rt: &HostRuntime, words: &[String]) -> Result<Kit> {
     Ok(Kit::read(rt.alloc(), &chart, &roster, &tiles, &board)?)
 }
 
-fn play(rt: &HostRuntime, kit: &Kit, table: Option<Table>, words: &[u8]) -> Result<Table> {
-    match (table, Command::read(words)?) {
-        (None, Command::Open { players }) => Ok(Table::open(rt.alloc(), &players, kit)?),
-        (Some(mut table), command) => {
+fn play(rt: &HostRuntime, kit: &Kit, table: Option<Table>, record: &[u8]) -> Result<Table> {
+    let (_, request) = read_record(record)?;
+    match (table, request) {
+        (None, Request::Play(Command::Open { players })) => {
+            Ok(Table::open(rt.alloc(), &players, kit)?)
+        }
+        (Some(mut table), request) => {
             let stamp = table.stamp();
-            table.step(rt.alloc(), stamp, &command, kit)?;
+            match request {
+                Request::Play(command) => table.step(rt.alloc(), stamp, &command, kit)?,
+                Request::Back(turn) => table.take_back(rt.alloc(), stamp, turn, kit)?,
+                Request::Forget(turn) => table.forget(stamp, turn)?,
+            }
             Ok(table)
         }
         _ => bail!("no opening"),
