@@ -9,7 +9,7 @@ WRONG_BODIES = {
     1: "a command is acknowledged before its gate is synced",
     2: "body and gate of a record go out in one write",
     3: "records of a number that isn't expected are kept",
-    4: "each table is recovered to a prefix of its own: the newest record counts for one table alone",
+    4: "each table is recovered to a prefix of its own: the newest record counts, the one before it, of another table, doesn't",
     5: "a checkpoint takes pages that the present root reaches",
     6: "a gate that is shut is written when it is to be shut",
     7: "an opening makes no sync",
@@ -20,6 +20,7 @@ WRONG_BODIES = {
     12: "a checkpoint looks for snapshots where the last root but one had them",
     13: "the pages of a snapshot that stays are free behind the checkpoint",
     14: "a snapshot that stands is kept for one of the same count and other bytes",
+    15: "a checkpoint takes the pages of the snapshots that it drops, and no others that the present root reaches",
 }
 
 SWITCH = """// Which wrong body was chosen for this run.
@@ -67,18 +68,20 @@ pub use wrong::is_put_in;"""),
      "    if BigEndian::read_u64(&header[1..]) != number && !rr_disk::is_put_in(3) {"),
     (RECORDS, "    let near_plays = replay(alloc, tables, near)?;", """
     let near_plays = if rr_disk::is_put_in(4) && far.is_empty() {
-        replay(alloc, tables, own_front(near))?
+        replay_mixed(alloc, tables, near)?
     } else {
         replay(alloc, tables, near)?
     };"""),
     (RECORDS, "/// The tables, where there are far records.", """
-/// The records but for the newest, unless that begins as the first does.
-fn own_front(records: &[Vec<u8>]) -> &[Vec<u8>] {
+/// Takes records, but not the last but one where another table than its own took the last one. (The tables of a run have
+/// names of different first letters.)
+fn replay_mixed(alloc: Global, tables: &mut Tables, records: &[Vec<u8>]) -> Result<u64, Fault> {
     let count = records.len();
-    if count == 0 || records[count - 1].as_slice()[0] == records[0].as_slice()[0] {
-        return records;
+    if count < 2 || records[count - 1].as_slice()[0] == records[count - 2].as_slice()[0] {
+        return replay(alloc, tables, records);
     }
-    &records[..count - 1]
+    let plays = replay(alloc, tables, &records[..count - 2])?;
+    Ok(plays.saturating_add(replay(alloc, tables, &records[count - 1..])?))
 }
 
 /// The tables, where there are far records."""),
@@ -111,6 +114,32 @@ fn own_front(records: &[Vec<u8>]) -> &[Vec<u8>] {
      """        if !rr_disk::is_put_in(13) {
             keep_pages(writer, &standing.pages);
         }"""),
+    ("rr_pages/src/free_pages.rt", "    /// The coming root is the present one now", """    /// What the present root reaches is taken for free.
+    pub fn release(&mut self, page: u32) {
+        self.taken.free(page);
+    }
+
+    /// The coming root is the present one now"""),
+    ("rr_checkpoint/src/writer.rt", "    /// There will be no coming root", """    pub fn release(&mut self, page: u32) {
+        self.file.free.release(page);
+    }
+
+    /// There will be no coming root"""),
+    ("rr_checkpoint/src/plan/keeping.rt", "    let place = first_if_same(rest, snapshot);", """
+    if rr_disk::is_put_in(15) {
+        release_front(writer, standing, rest.len());
+    }
+    let place = first_if_same(rest, snapshot);"""),
+    ("rr_checkpoint/src/plan/keeping.rt", "fn keep_place<", """// Frees the pages of these snapshots but the last so many.
+fn release_front<R: Rules>(writer: &mut Writer<Worlds<R>>, standing: &[StandingSnapshot], last: usize) {
+    for gone in &standing[..standing.len() - last] {
+        for page in &gone.pages {
+            writer.release(*page);
+        }
+    }
+}
+
+fn keep_place<"""),
     ("rr_checkpoint/src/plan/standing.rt", "            && self.bytes.as_slice() == snapshot.bytes.as_slice()",
      "            && (rr_disk::is_put_in(14) || self.bytes.as_slice() == snapshot.bytes.as_slice())"),
 ]

@@ -1,5 +1,6 @@
-//! Stops and failures at each device call of a run of 440 commands on three tables, through three checkpoints: whatever
-//! the disk keeps, an opening gives the acknowledged commands, and perhaps the one under way.
+//! Stops and failures at each device call of a run of 525 commands on three tables, through four checkpoints, the last
+//! of which drops a snapshot: whatever the disk keeps, an opening gives the acknowledged commands, and perhaps the one
+//! under way.
 mod images;
 mod judging;
 mod lines;
@@ -12,6 +13,7 @@ use crate::stopping::images::{stop_behind, try_failures, try_stop};
 use crate::stopping::judging::judged;
 use crate::stopping::openings::{try_openings, try_whole};
 use crate::stopping::runs::{Plan, whole_plan};
+use crate::stopping::worlds::world_of;
 use rr_store::Fault;
 use std::alloc::{AllocError, AllocFailed, Global};
 use std::test::Fail;
@@ -114,7 +116,23 @@ fn try_run(alloc: Global) -> Result<(usize, usize), Fail> {
     Ok((plan.schedule.begun, plan.schedule.calls.len()))
 }
 
-fn tried_openings(alloc: Global) -> Result<[u64; 7], Fail> {
+// How many commands the second table keeps at its floor behind so many of all.
+fn kept_at_floor(alloc: Global, plan: &Plan, count: usize) -> Result<usize, Wrong> {
+    let world = world_of(alloc, &plan.lines, count)?;
+    match world.sides.get(1) {
+        Some(side) => Ok(side.kept_at_floor()),
+        None => Err(Wrong::Tables),
+    }
+}
+
+fn floors(alloc: Global) -> Result<(usize, usize), Fail> {
+    let plan = whole_plan(alloc)?;
+    let third = kept_at_floor(alloc, &plan, 3 * 128)?;
+    let fourth = kept_at_floor(alloc, &plan, 4 * 128)?;
+    Ok((third, fourth))
+}
+
+fn tried_openings(alloc: Global) -> Result<[u64; 8], Fail> {
     let plan = whole_plan(alloc)?;
     let counts = try_openings(alloc, &plan)?;
     Ok(counts)
@@ -132,11 +150,19 @@ fn wrong_files_are_seen(rt: HostRuntime) -> Result<(), Fail> {
     Ok(())
 }
 
-// Three checkpoints were begun. 440 commits make four calls each, the first checkpoint 12, and the others, which lay one
-// snapshot each, 15.
+// Four checkpoints were begun. 525 commits make four calls each, the first checkpoint 12, the next two, which lay one
+// snapshot each, 15, and the last one 14.
 #[test]
 fn the_run_makes_the_calls_of_its_schedule(rt: HostRuntime) -> Result<(), Fail> {
-    assert!(rt; try_run(rt.alloc())? == (3, 1802));
+    assert!(rt; try_run(rt.alloc())? == (4, 2156));
+    Ok(())
+}
+
+// As the third checkpoint begins the snapshot behind 64 commands is still wanted, for turns before the one that ended
+// behind 128; as the fourth does it isn't, and that checkpoint leaves its pages.
+#[test]
+fn the_last_checkpoint_drops_a_snapshot(rt: HostRuntime) -> Result<(), Fail> {
+    assert!(rt; floors(rt.alloc())? == (126, 186));
     Ok(())
 }
 

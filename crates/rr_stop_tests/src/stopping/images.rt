@@ -1,9 +1,10 @@
 //! Files that a stop leaves, or a call that failed, and what an opening makes of them.
-use crate::files::{commit, disk_of, disk_with, failing_after, last_number, opened};
+use crate::files::{commit, content, disk_of, disk_with, failing_after, last_number, opened};
 use crate::stopping::Wrong;
 use crate::stopping::lines::{Step, name_at};
+use crate::stopping::openings::fails_once;
 use crate::stopping::runs::{Plan, commit_line, holds, holds_table, refuses, run};
-use crate::stopping::schedule::{Call, Event};
+use crate::stopping::schedule::{Call, DUE, Event};
 use crate::stopping::worlds::{World, go_on, world_of};
 use rr_disk::{Choice, Disk, FaultyDisk, Kept, MemoryDisk};
 use rr_store::{Fault, Store};
@@ -24,6 +25,26 @@ pub(crate) struct Stop {
     pub(crate) pending: bool,
     /// A checkpoint is under way.
     pub(crate) within: bool,
+}
+
+impl Stop {
+    // How many calls an opening makes here at least, where it takes the root that was there as the checkpoint under way
+    // began: those of a new file, and two reads of each record since the last whole checkpoint began.
+    fn opening(&self) -> usize {
+        let since = self.count % DUE;
+        let before = if self.within { DUE } else { 0 };
+        since
+            .saturating_add(before)
+            .saturating_mul(2)
+            .saturating_add(OPENING)
+    }
+
+    // A number for each of a few files that are left here.
+    fn number(&self, index: usize) -> usize {
+        self.calls
+            .saturating_mul(WAYS.len().saturating_add(1))
+            .saturating_add(index)
+    }
 }
 
 /// The stop behind so many calls, if the run has more.
@@ -99,14 +120,14 @@ fn pending_of(calls: &[Call]) -> (usize, u64) {
     pending
 }
 
-// Whether a disk waits for a sync of just the writes of these calls that do.
-fn waits_for(disk: &MemoryDisk, calls: &[Call]) -> bool {
+// The same of a disk.
+fn waiting_in(disk: &MemoryDisk) -> (usize, u64) {
     let ranges = unsynced(disk);
     let bytes = match ranges.last() {
         Some(range) => range.1.saturating_sub(range.0),
         None => 0,
     };
-    (ranges.len(), bytes) == pending_of(calls)
+    (ranges.len(), bytes)
 }
 
 fn stopped(disk: &MemoryDisk, kept: &[Kept], len: u64) -> Result<MemoryDisk, Wrong> {
@@ -122,21 +143,42 @@ fn stopped(disk: &MemoryDisk, kept: &[Kept], len: u64) -> Result<MemoryDisk, Wro
 enum Way {
     Nothing,
     All,
-    Half,
     Zeros,
     // Each byte is that of an open gate.
     Open,
+    Half,
+    // The first byte alone.
+    First,
 }
 
-const WAYS: [Way; 5] = [Way::Nothing, Way::All, Way::Half, Way::Zeros, Way::Open];
+// Of a gate, which is one byte, the last two are the first two.
+const WAYS: [Way; 6] = [
+    Way::Nothing,
+    Way::All,
+    Way::Zeros,
+    Way::Open,
+    Way::Half,
+    Way::First,
+];
+
+// How many of these ways are tried where so many bytes are the last write that waits for a sync, if one does, and the
+// only one or not.
+fn ways_of(waiting: usize, bytes: u64) -> usize {
+    match (waiting, bytes) {
+        (0, _) => 1,
+        (1, 1) => 4,
+        _ => WAYS.len(),
+    }
+}
 
 fn kept_of(way: Way, range: (u64, u64)) -> Kept {
     match way {
         Way::Nothing => Kept::Old,
         Way::All => Kept::New,
-        Way::Half => Kept::Front(range.1.saturating_sub(range.0) / 2),
         Way::Zeros => Kept::Fill(0),
         Way::Open => Kept::Fill(0xa5),
+        Way::Half => Kept::Front(range.1.saturating_sub(range.0) / 2),
+        Way::First => Kept::Front(1),
     }
 }
 
@@ -156,15 +198,18 @@ fn left(alloc: Global, disk: &MemoryDisk, before: Way, last: Way) -> Result<Memo
     stopped(disk, &kept, len)
 }
 
-// Within a checkpoint the same image is opened twice: to go back turn by turn, and to one turn at once.
+// First an opening of the image fails. Within a checkpoint the same image is opened twice: to go back turn by turn, and
+// to one turn at once.
 fn try_image(
     alloc: Global,
     plan: &Plan,
     disk: &MemoryDisk,
     ways: (Way, Way),
     stop: &Stop,
+    number: usize,
 ) -> Result<(), Wrong> {
     let image = left(alloc, disk, ways.0, ways.1)?;
+    fails_once(alloc, content(&image), stop.opening(), number)?;
     try_opened(alloc, plan, opened(alloc, image)?, stop)?;
     if !stop.within {
         return Ok(());
@@ -184,11 +229,12 @@ fn try_way(
     disk: &MemoryDisk,
     way: Way,
     stop: &Stop,
+    number: usize,
 ) -> Result<(), Wrong> {
-    try_image(alloc, plan, disk, (way, way), stop)?;
+    try_image(alloc, plan, disk, (way, way), stop, number)?;
     if unsynced(disk).len() > 1 {
-        try_image(alloc, plan, disk, (Way::Nothing, way), stop)?;
-        try_image(alloc, plan, disk, (Way::All, way), stop)?;
+        try_image(alloc, plan, disk, (Way::Nothing, way), stop, number)?;
+        try_image(alloc, plan, disk, (Way::All, way), stop, number)?;
     }
     Ok(())
 }
@@ -198,25 +244,33 @@ fn try_way(
 pub(crate) fn try_stop(alloc: Global, plan: &Plan, stop: &Stop) -> Result<(), Wrong> {
     let disk = disk_at(alloc, plan, stop)?;
     match plan.schedule.calls.as_slice().split_at_checked(stop.calls) {
-        Some((made, _)) if waits_for(&disk, made) => {}
+        Some((made, _)) if waiting_in(&disk) == pending_of(made) => {}
         _ => return Err(Wrong::LastCall),
     }
-    let ways = if unsynced(&disk).is_empty() { 1 } else { 5 };
-    for way in WAYS.iter().take(ways) {
-        try_way(alloc, plan, &disk, *way, stop)?;
+    let (waiting, bytes) = waiting_in(&disk);
+    for (index, way) in WAYS.iter().enumerate().take(ways_of(waiting, bytes)) {
+        try_way(alloc, plan, &disk, *way, stop, stop.number(index))?;
     }
     Ok(())
 }
 
 // Where the run's next call alone fails, a write behind so many of its bytes, no call is made behind it, and the same
-// disk is opened again.
-fn try_failure(alloc: Global, plan: &Plan, bytes: usize, stop: &Stop) -> Result<(), Wrong> {
+// disk is opened again, the first time in vain.
+fn try_failure(
+    alloc: Global,
+    plan: &Plan,
+    bytes: usize,
+    stop: &Stop,
+    number: usize,
+) -> Result<(), Wrong> {
     let calls = OPENING.saturating_add(stop.calls) as u64;
     let disk = failing_once(disk_with(alloc, &plan.file)?, calls, bytes);
     let disk = run_to(alloc, plan, disk, stop)?;
     if counts(&disk) != counts_of(&plan.schedule.calls, stop.calls.saturating_add(1)) {
         return Err(Wrong::CallsBehind);
     }
+    let disk = beneath(disk);
+    fails_once(alloc, content(&disk), stop.opening(), number)?;
     try_opened(alloc, plan, opened(alloc, disk)?, stop)
 }
 
@@ -242,8 +296,8 @@ fn try_failures_of_write(
 ) -> Result<(), Wrong> {
     let ways = if bytes == 1 { 2 } else { 5 };
     let out = [0, 1, bytes / 2, bytes.saturating_sub(1), bytes];
-    for out in out.iter().take(ways) {
-        try_failure(alloc, plan, *out, stop)?;
+    for (index, out) in out.iter().enumerate().take(ways) {
+        try_failure(alloc, plan, *out, stop, stop.number(index))?;
     }
     Ok(())
 }
@@ -252,7 +306,7 @@ fn try_failures_of_write(
 pub(crate) fn try_failures(alloc: Global, plan: &Plan, stop: &Stop) -> Result<(), Wrong> {
     match plan.schedule.calls.get(stop.calls) {
         Some(Call::Write(bytes)) => try_failures_of_write(alloc, plan, *bytes, stop),
-        _ => try_failure(alloc, plan, 0, stop),
+        _ => try_failure(alloc, plan, 0, stop, stop.number(0)),
     }
 }
 

@@ -3,8 +3,8 @@
 use crate::stopping::Wrong;
 use std::alloc::Global;
 
-/// How many commands there are.
-pub(crate) const COUNT: usize = 440;
+/// How many commands the run makes.
+pub(crate) const COUNT: usize = 525;
 
 /// What a command makes of its table's turns.
 #[derive(Clone, Copy)]
@@ -37,7 +37,8 @@ pub(crate) fn name_at(table: usize) -> &'static str {
 
 // What the first table plays; + before what ends a turn. Six turns of an auction, and in the sixth the par of the B&O;
 // six of a stock round, one of a corporation, which lays a tile and buys a train; four of a stock round with a sale;
-// and one in which the train earns the 20 of A and the 30 of C.
+// and one in which the train earns the 20 of A and the 30 of C. The last run is told to be best, since no train could
+// earn more.
 const PLAYED: &str = "- open a b
 + buy a
 + buy b
@@ -81,7 +82,7 @@ back 17
 + end PRR
 + done a
 + done b
-- run PRR 2=1-2-3
+- run PRR 2=1-2-3 best b
 - pay PRR
 + end PRR";
 
@@ -215,12 +216,12 @@ fn words_in(
     }
 }
 
-/// All commands of the run.
+/// All commands of the run, and the one that comes behind them.
 pub(crate) fn all_lines(alloc: Global) -> Result<Vec<Line>, Wrong> {
     let mut rows = PLAYED.lines();
     let mut counts: Counts = [(0, 0); 3];
     let mut lines = Vec::new(alloc);
-    for index in 0..COUNT {
+    for index in 0..=COUNT {
         let table = table_of(index);
         let Some(count) = counts.get_mut(table) else {
             return Err(Wrong::Tables);

@@ -13,6 +13,14 @@ use rr_disk::{FaultyDisk, MemoryDisk};
 use rr_store::{Fault, Refused, Store};
 use std::alloc::Global;
 
+// Whether the run makes as many writes and syncs as its schedule has, on a disk that goes on.
+fn makes_its_calls(alloc: Global, plan: &Plan) -> Result<bool, Wrong> {
+    let mut store = opened(alloc, disk_with(alloc, &plan.file)?)?;
+    let (_, wrong) = run(&mut store, plan);
+    let wanted = counts_of(&plan.schedule.calls, plan.schedule.calls.len());
+    Ok(wrong.is_none() && counts(&disk_of(store)) == wanted)
+}
+
 // Where the run goes through, and a store that makes one call more is broken.
 fn is_whole(plan: &Plan, store: &mut Store<FaultyDisk<MemoryDisk>>) -> bool {
     let (done, wrong) = run(store, plan);
@@ -24,6 +32,9 @@ fn is_whole(plan: &Plan, store: &mut Store<FaultyDisk<MemoryDisk>>) -> bool {
 
 /// That the run makes just the calls of its schedule.
 pub(crate) fn try_whole(alloc: Global, plan: &Plan) -> Result<(), Wrong> {
+    if !makes_its_calls(alloc, plan)? {
+        return Err(Wrong::Calls);
+    }
     let calls = plan.schedule.calls.len();
     let through = OPENING.saturating_add(calls) as u64;
     let disk = failing_after(disk_with(alloc, &plan.file)?, through);
@@ -60,6 +71,29 @@ fn goes_through(alloc: Global, bytes: &[u8], call: u64) -> Result<bool, Wrong> {
     }
 }
 
+/// That an opening of this file, one of whose calls fails, is refused, and changes nothing: of each third number alone,
+/// since it takes time. Which of so many calls it is goes by that number.
+pub(crate) fn fails_once(
+    alloc: Global,
+    bytes: &[u8],
+    calls: usize,
+    number: usize,
+) -> Result<(), Wrong> {
+    let mixed = number.saturating_mul(MIXING);
+    if mixed % THIRD > 0 {
+        return Ok(());
+    }
+    if let Some(call) = (mixed / THIRD).checked_rem(calls) {
+        goes_through(alloc, bytes, call as u64)?;
+    }
+    Ok(())
+}
+
+const THIRD: usize = 3;
+
+// A prime, so that numbers that follow each other are told other calls.
+const MIXING: usize = 7919;
+
 // No opening makes so many calls.
 const MOST: u64 = 2000;
 
@@ -83,12 +117,12 @@ fn calls_behind(alloc: Global, plan: &Plan, calls: usize) -> Result<u64, Wrong> 
 }
 
 // Behind so many calls of the run openings are tried: of the new file, of one with 60 records, and of files within and
-// behind each checkpoint.
-const TRIED: [usize; 7] = [0, 240, 520, 540, 1043, 1300, 1590];
+// behind each checkpoint but the last, and within that.
+const TRIED: [usize; 8] = [0, 240, 520, 540, 1043, 1300, 1590, 2120];
 
 /// How many calls an opening makes of each of these files, each of which fails once.
-pub(crate) fn try_openings(alloc: Global, plan: &Plan) -> Result<[u64; 7], Wrong> {
-    let mut counts = [0u64; 7];
+pub(crate) fn try_openings(alloc: Global, plan: &Plan) -> Result<[u64; 8], Wrong> {
+    let mut counts = [0u64; 8];
     for (count, calls) in counts.iter_mut().zip(TRIED.iter()) {
         *count = calls_behind(alloc, plan, *calls)?;
     }

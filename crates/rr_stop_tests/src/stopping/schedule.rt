@@ -4,11 +4,11 @@ use crate::stopping::lines::COUNT;
 use std::alloc::{AllocError, Global};
 
 /// A checkpoint begins where so many slots of the half in use are used.
-const DUE: usize = 128;
+pub(crate) const DUE: usize = 128;
 
 /// The steps of a checkpoint of four pages: one for each of three tables, and one for the directory. Of the second table
 /// the second checkpoint lays the snapshot behind 64 commands, which stays where it stands at the third one, and the
-/// third lays that behind 128: so these two have five pages.
+/// third lays that behind 128: so these two have five pages. The fourth one drops the former, and lets the latter stay.
 const STEPS: usize = 8;
 
 const STEPS_WITH_SNAPSHOT: usize = 9;
@@ -129,17 +129,17 @@ impl Schedule {
     }
 }
 
-// How many steps a checkpoint has behind so many others: as they begin, the second table keeps 49, 98 and 143 commands.
+// How many steps a checkpoint has behind so many others: as they begin, the second table keeps 49, 98, 143 and 191
+// commands.
 fn steps_behind(begun: usize) -> usize {
-    if begun == 0 {
-        STEPS
-    } else {
-        STEPS_WITH_SNAPSHOT
+    match begun {
+        1 | 2 => STEPS_WITH_SNAPSHOT,
+        _ => STEPS,
     }
 }
 
 // How many ticks are called for behind the command at this place: so the first checkpoint is made by ticks and commits
-// in turn, the second one by ticks alone, and the third one by commits.
+// in turn, the second one by ticks alone, and the others by commits.
 fn ticks_behind(place: usize) -> usize {
     if place < 200 {
         return 1;

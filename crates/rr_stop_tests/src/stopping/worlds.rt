@@ -28,6 +28,19 @@ impl Side {
         self.ends.len() as u64
     }
 
+    /// How many commands are kept at the floor.
+    pub(crate) fn kept_at_floor(&self) -> usize {
+        self.kept_at(self.floor as usize)
+    }
+
+    // How many commands are kept at the end of a turn: at that of turn 0 the opening.
+    fn kept_at(&self, turn: usize) -> usize {
+        match turn.checked_sub(1) {
+            None => 1,
+            Some(before) => self.ends.get(before).copied().unwrap_or(0),
+        }
+    }
+
     /// The command that was kept last.
     pub(crate) fn last(&self) -> Option<usize> {
         self.kept.last().copied()
@@ -48,12 +61,8 @@ impl Side {
         Ok(())
     }
 
-    // Of turn 0 the opening is kept.
     fn go_back(&mut self, turn: usize) {
-        let count = match turn.checked_sub(1) {
-            None => 1,
-            Some(before) => self.ends.get(before).copied().unwrap_or(0),
-        };
+        let count = self.kept_at(turn);
         self.kept.truncate(count);
         self.ends.truncate(turn);
     }
