@@ -1,8 +1,8 @@
 -- That a disk that works refuses no call of a step: the file of a store has all places that a step reads.
-use Rattle.std.proofs.Common.{◌≡◌, ◌⊎◌, inl, inr, ℕ, ◌+◌, ◌*◌, ◌^◌, ◌<◌, ◌≤◌, Bool, length, Option, Some, arith}
+use Rattle.std.proofs.Common.{◌≡◌, ◌⊎◌, inl, inr, ℕ, ◌+◌, ◌*◌, ◌^◌, ◌<◌, ◌≤◌, Bool, length, Option, arith}
 use Rattle.std.specs.Prelude.{Result, Ok, Err, OnErr}
 use Rattle.rr_disk.specs.Disk.{DiskState, IsImage}
-use Rattle.rr_pages.specs.Roots.{root_gate, root_page}
+use Rattle.rr_pages.specs.Roots.{root_gate}
 use Rattle.rr_images.specs.Codec.{Codec}
 use Rattle.rr_images.proofs.Places.{root_low}
 use Rattle.rr_images.proofs.Steps.{long}

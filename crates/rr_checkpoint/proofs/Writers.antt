@@ -194,6 +194,10 @@ pub found_may : (codec : Codec) (layout : Layout codec) (free : FreePages) (begu
 found_may codec layout free None plan some may = absurd (cc)
 found_may codec layout free (Some first) plan some may = may
 
+pub found_none : (begun : Option ℕ) → is_some begun ≡ true → begun ≡ None → ⊥
+found_none None some none = cc some
+found_none (Some first) some none = cc none
+
 -- how many ticks its first one leaves
 pub left_found : (begun : Option ℕ) (pages : ℕ) → is_some begun ≡ true → left_behind_first begun pages ≡ pages + 2
 left_found None pages some = absurd (cc)

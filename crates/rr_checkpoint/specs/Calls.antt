@@ -1,5 +1,5 @@
 -- What the calls on an open file leave.
-use Rattle.std.specs.Prelude.{◌≡◌, ◌⊎◌, ℕ, List, Option, None, Some}
+use Rattle.std.specs.Prelude.{◌≡◌, ◌⊎◌, List, Option, None, Some}
 use Rattle.rr_disk.specs.Disk.{DiskState}
 use Rattle.rr_disk.specs.Moments.{EachImage, LeavesOnly}
 use Rattle.rr_images.specs.Calls.{TakesNewer}

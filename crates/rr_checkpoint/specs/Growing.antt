@@ -1,10 +1,9 @@
 -- When the file of a store grows: not while a page under its end is free.
-use Rattle.std.specs.Prelude.{◌≡◌, ℕ, ◌*◌, ◌<◌, ◌≤◌, Bool, List, All, Option, None, Some}
+use Rattle.std.specs.Prelude.{◌≡◌, ℕ, ◌*◌, ◌<◌, ◌≤◌, Bool, List, All}
 use Rattle.rr_pages.specs.declared.free_pages.FreePages.{FreePages}
 use Rattle.rr_pages.specs.declared.page.TheConstants.{PAGE_BYTES}
 use Rattle.rr_pages.specs.FreePages.{present_of, coming_of}
 use Rattle.rr_pages.specs.Sets.{IsEmpty, IsFree}
-use Rattle.rr_checkpoint.specs.declared.checkpoint.Checkpoint.{Checkpoint}
 use Rattle.rr_checkpoint.specs.declared.checkpoint.Plan.{Plan}
 use Rattle.rr_checkpoint.specs.declared.writer.Tick.{Tick}
 use Rattle.rr_checkpoint.specs.declared.writer.Tick.TheVariants.{Idle, More, Done}
@@ -31,11 +30,8 @@ pub record AreReclaimed (old new : FreePages) : Type 0 where
   pub present : present_of new ≡ coming_of old
   pub coming : IsEmpty (coming_of new)
 
--- that is so behind the last step of a checkpoint; before it the same pages are free
-abbrev pub FreesBehind : Option Checkpoint → FreePages → FreePages → Type 0
-FreesBehind (Some checkpoint) old new = new ≡ old
-FreesBehind None old new = AreReclaimed old new
-
+-- which pages are taken behind a tick: the same before the last one of a checkpoint, and behind that those of the root
+-- that was coming
 abbrev pub FreesAt : Tick → FreePages → FreePages → Type 0
 FreesAt Idle old new = new ≡ old
 FreesAt More old new = new ≡ old

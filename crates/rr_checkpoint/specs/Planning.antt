@@ -1,5 +1,5 @@
 -- How the plan of a checkpoint is made.
-use Rattle.std.specs.Prelude.{◌≡◌, ℕ, ◌+◌, Bool, not, List, Option, None, Some}
+use Rattle.std.specs.Prelude.{◌≡◌, ℕ, ◌+◌, Bool, List, Option, None, Some}
 use Rattle.std.specs.Option.{unwrap_or}
 use Rattle.rr_disk.specs.Disk.{DiskState}
 use Rattle.rr_pages.specs.declared.chain.FreshPage.{FreshPage}

@@ -10,7 +10,7 @@ ghost use Rattle.rr_pages.specs.FreePages.{present_of, coming_of};
 ghost use Rattle.rr_pages.specs.Sets.{Has};
 ghost use Rattle.rr_checkpoint.specs.Calls.{LeavesKept, LeavesEither, Renews, StaysTaken};
 ghost use Rattle.rr_checkpoint.specs.Checkpoint.{HasPageLeft, plan_of, begun, left_of};
-ghost use Rattle.rr_checkpoint.specs.Growing.{FreesBehind, GrowsWhereFull, IsPacked};
+ghost use Rattle.rr_checkpoint.specs.Growing.{AreReclaimed, FreesAt, GrowsWhereFull, IsPacked};
 ghost use Rattle.rr_checkpoint.specs.Holds.{HoldsOn, HoldsAsBegun, HoldsWithRecord, HoldsRenewed, HoldsBehind, RestsBehind};
 
 use crate::Place;
@@ -34,6 +34,7 @@ pub(crate) struct OpenFile<C> {
 // The half of the journal that is a half of it.
 impl<C: Codec> OpenFile<C> {
     ghost use Rattle.rr_checkpoint.specs.OpenFile.{CarriesWith};
+    ghost use Rattle.rr_checkpoint.specs.Writer.{told_at};
 
     // Appends a record.
     pub(crate) fn append<D: Disk>(
@@ -145,7 +146,7 @@ impl<C: Codec> OpenFile<C> {
             × (D.sync_count disk.new ≡ D.sync_count disk.old)) }
         ensures taken { IfOk result (λ next. StaysTaken next self.old.taken self.new.taken) }
         ensures err { OnErr result (self.new.taken ≡ self.old.taken) }
-        ensures frees { IfOk result (λ next. FreesBehind next self.old.free self.new.free) }
+        ensures frees { IfOk result (λ next. FreesAt (told_at next) self.old.free self.new.free) }
         ensures same_free { OnErr result (self.new.free ≡ self.old.free) }
         ensures grows { D.Honest disk.new → (world : C.codec.World)
             → CarriesWith C.codec self.old (Some checkpoint) (D.state disk.old) world
@@ -306,7 +307,7 @@ impl<C: Codec> OpenFile<C> {
         ensures half { self.new.place.half ≡ self.old.place.half }
         ensures rests { OnOk result (self.new.place.begun ≡ None) }
         ensures err { OnErr result (self.new.taken ≡ self.old.taken) }
-        ensures frees { OnOk result (FreesBehind None self.old.free self.new.free) }
+        ensures frees { OnOk result (AreReclaimed self.old.free self.new.free) }
         ensures same_free { OnErr result (self.new.free ≡ self.old.free) }
         ensures same_len { D.Honest disk.new → (world : C.codec.World)
             → CarriesWith C.codec self.old (Some checkpoint.now) (D.state disk.old) world

@@ -298,12 +298,16 @@ impl<C: Codec> Writer<C> {
             → (D.write_count disk.new ≡ counted (D.write_count disk.old)) × (D.sync_count disk.new ≡ D.sync_count disk.old)) }
 
         ensures free { free_of self.new ≡ free_of self.old }
-        // The file becomes longer only by a fresh page, and only where no page under its end is free.
+        // The file becomes longer only by a fresh page, and only where no page under its end is free. Where records
+        // went on in the root's half, no page is written yet.
         ensures grows { D.Honest disk.new → (world : C.codec.World)
             → (carries : Carries C.codec self.old (D.state disk.old) world)
             → MayStart C.codec carries.layout (free_of self.old) (place_of self.old).begun plan
             → GrowsWhereFull (present_of (free_of self.old)) (coming_of (free_of self.old)) (D.file_len disk.old)
             (D.file_len disk.new) }
+        ensures same_len { D.Honest disk.new → (world : C.codec.World)
+            → Carries C.codec self.old (D.state disk.old) world → (place_of self.old).begun ≡ None
+            → D.file_len disk.new ≡ D.file_len disk.old }
 
         ensures fault { device.CountsFault (D.fault_count disk.old) (D.fault_count disk.new) result }
         // A disk that works doesn't fail here, where its file is one of a store.

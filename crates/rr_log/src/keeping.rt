@@ -1,14 +1,12 @@
 // Records.
 ghost use Rattle.std.specs.Prelude.{◌≡◌, ◌⊎◌, ◌↔◌, ◌+◌, ◌^◌, ◌<◌, ◌≤◌, false, length, IfOk, IfErr, IsErrOf, IsTrue, OnOk, None, Ok, Err};
 ghost use Rattle.rr_checkpoint.specs.Calls.{LeavesKept, LeavesEither};
-ghost use Rattle.rr_checkpoint.specs.Growing.{GrowsWhereFull};
 ghost use Rattle.rr_checkpoint.specs.Holds.{IsRenewed};
 ghost use Rattle.rr_disk.specs.Moments.{EachImage};
 ghost use Rattle.rr_images.specs.Calls.{TakesNewer};
 ghost use Rattle.rr_images.specs.Steps.{with_line};
 ghost use Rattle.rr_log.specs.Fault.{CountsFault, IsWant, OnDeviceFault, ends_broken};
 ghost use Rattle.rr_log.specs.Lent.{AreLentOf, lent_of};
-ghost use Rattle.rr_pages.specs.FreePages.{coming_of, present_of};
 ghost use Rattle.rr_reading.specs.Worlds.Spelling.{worlds};
 ghost use Rattle.rr_reading.specs.Worlds.World.{World};
 
@@ -20,6 +18,7 @@ use rr_reading::worlds::Rules;
 impl<D: Disk + Drop, R: Rules> Log<D, R> {
     ghost use Rattle.rr_log.specs.Calls.{IsFileFull, MayRefuse, MeetsFullFile, NumberBehind, first_left, layout_behind, ticks_due, world_behind};
     ghost use Rattle.rr_log.specs.Carrying.{Carries, HaveSameTexts};
+    ghost use Rattle.rr_log.specs.Growing.{Grows, TakesPages};
     ghost use Rattle.rr_log.specs.Log.{disk_of, free_of, is_broken, next_number, place_of, ticks_left, HasNoRoom, IsDue, IsTooLong};
 
     /// Keeps a record. After `Ok` it is safe. Before it a tick is made, where a checkpoint is under way or is to begin;
@@ -90,8 +89,8 @@ impl<D: Disk + Drop, R: Rules> Log<D, R> {
         ensures grows { D.Honest (disk_of self.new) → (world : World)
             → AreLentOf R.rules world (lent_of T.TablesInWords tables.now)
             → Carries R.rules self.old (D.state (disk_of self.old)) world
-            → GrowsWhereFull (present_of (free_of self.new)) (coming_of (free_of self.new))
-            (D.file_len (disk_of self.old)) (D.file_len (disk_of self.new)) }
+            → Grows D.file_len self.old self.new }
+        ensures pages { TakesPages self.old self.new }
 
         // Two of each are the record's, and one the tick's, where it is one of a checkpoint. Where the half is full
         // only the tick's are made.
@@ -161,8 +160,8 @@ impl<D: Disk + Drop, R: Rules> Log<D, R> {
             → Carries R.rules self.old (D.state (disk_of self.old)) world → D.Works (disk_of self.new) → ⊥) }
         ensures grows { D.Honest (disk_of self.new) → (world : World)
             → Carries R.rules self.old (D.state (disk_of self.old)) world
-            → GrowsWhereFull (present_of (free_of self.new)) (coming_of (free_of self.new))
-            (D.file_len (disk_of self.old)) (D.file_len (disk_of self.new)) }
+            → Grows D.file_len self.old self.new }
+        ensures pages { TakesPages self.old self.new }
         ensures writes { D.write_count (disk_of self.new) ≤ D.write_count (disk_of self.old) + 1 }
         ensures syncs { D.sync_count (disk_of self.new) ≤ D.sync_count (disk_of self.old) + 1 }
         ensures honest { D.Honest (disk_of self.new) → D.Honest (disk_of self.old) }

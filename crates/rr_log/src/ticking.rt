@@ -24,6 +24,7 @@ const MANY_SLOTS: u8 = 128;
 impl<D: Disk + Drop, R: Rules> Log<D, R> {
     ghost use Rattle.rr_log.specs.Calls.{IsBegunOn, IsFileFull, IsUnchanged, LowersFrom, NumbersRoot, TakesRootOf, as_begun, first_left, tables_due, ticks_due};
     ghost use Rattle.rr_log.specs.Carrying.{Carries, HoldsWorld};
+    ghost use Rattle.rr_log.specs.Growing.{Grows, TakesPages};
     ghost use Rattle.rr_log.specs.Log.{disk_of, free_of, is_broken, known_snapshots, next_number, place_of, root_number, ticks_left, HasNoneBegun, IsDue};
 
     /// Makes one step of a checkpoint: it goes on with the one under way, or begins one where an opening found it begun
@@ -83,8 +84,8 @@ impl<D: Disk + Drop, R: Rules> Log<D, R> {
         // The file becomes longer only by a page of a checkpoint, and only where no page under its end is free.
         ensures grows { D.Honest (disk_of self.new) → (world : World)
             → Carries R.rules self.old (D.state (disk_of self.old)) world
-            → GrowsWhereFull (present_of (free_of self.new)) (coming_of (free_of self.new))
-            (D.file_len (disk_of self.old)) (D.file_len (disk_of self.new)) }
+            → Grows D.file_len self.old self.new }
+        ensures pages { TakesPages self.old self.new }
 
         ensures writes { D.write_count (disk_of self.new) ≤ D.write_count (disk_of self.old) + 1 }
         ensures syncs { D.sync_count (disk_of self.new) ≤ D.sync_count (disk_of self.old) + 1 }
@@ -149,8 +150,8 @@ impl<D: Disk + Drop, R: Rules> Log<D, R> {
             → Carries R.rules self.old (D.state (disk_of self.old)) world → D.Works (disk_of self.new) → ⊥) }
         ensures grows { D.Honest (disk_of self.new) → (world : World)
             → Carries R.rules self.old (D.state (disk_of self.old)) world
-            → GrowsWhereFull (present_of (free_of self.new)) (coming_of (free_of self.new))
-            (D.file_len (disk_of self.old)) (D.file_len (disk_of self.new)) }
+            → Grows D.file_len self.old self.new }
+        ensures pages { TakesPages self.old self.new }
         ensures writes { D.write_count (disk_of self.new) ≤ D.write_count (disk_of self.old) + 1 }
         ensures syncs { D.sync_count (disk_of self.new) ≤ D.sync_count (disk_of self.old) + 1 }
         ensures honest { D.Honest (disk_of self.new) → D.Honest (disk_of self.old) }
@@ -210,8 +211,8 @@ impl<D: Disk + Drop, R: Rules> Log<D, R> {
             → Carries R.rules self.old (D.state (disk_of self.old)) world → D.Works (disk_of self.new) → ⊥) }
         ensures grows { D.Honest (disk_of self.new) → (world : World)
             → Carries R.rules self.old (D.state (disk_of self.old)) world
-            → GrowsWhereFull (present_of (free_of self.new)) (coming_of (free_of self.new))
-            (D.file_len (disk_of self.old)) (D.file_len (disk_of self.new)) }
+            → Grows D.file_len self.old self.new }
+        ensures pages { TakesPages self.old self.new }
         ensures writes { D.write_count (disk_of self.new) ≤ D.write_count (disk_of self.old) + 1 }
         ensures syncs { D.sync_count (disk_of self.new) ≤ D.sync_count (disk_of self.old) + 1 }
         ensures honest { D.Honest (disk_of self.new) → D.Honest (disk_of self.old) }
@@ -267,8 +268,7 @@ impl<D: Disk + Drop, R: Rules> Log<D, R> {
             → Carries R.rules self.old (D.state (disk_of self.old)) world → D.Works (disk_of self.new) → ⊥) }
         ensures grows { D.Honest (disk_of self.new) → (world : World)
             → Carries R.rules self.old (D.state (disk_of self.old)) world
-            → GrowsWhereFull (present_of (free_of self.new)) (coming_of (free_of self.new))
-            (D.file_len (disk_of self.old)) (D.file_len (disk_of self.new)) }
+            → Grows D.file_len self.old self.new }
         ensures pages { present_of (free_of self.new) ≡ present_of (free_of self.old) }
         ensures writes { D.write_count (disk_of self.new) ≤ D.write_count (disk_of self.old) + 1 }
         ensures syncs { D.sync_count (disk_of self.new) ≤ D.sync_count (disk_of self.old) + 1 }
@@ -356,6 +356,8 @@ impl<D: Disk + Drop, R: Rules> Log<D, R> {
             → Carries R.rules self.old (D.state (disk_of self.old)) world
             → GrowsWhereFull (present_of (free_of self.old)) (coming_of (free_of self.new))
             (D.file_len (disk_of self.old)) (D.file_len (disk_of self.new))) }
+        ensures reclaims { OnOk result (0 < ticks_left self.old → AreReclaimed (free_of self.old) (free_of self.new)) }
+        ensures same_free { OnErr result (0 < ticks_left self.old → free_of self.new ≡ free_of self.old) }
 
         // A write and a sync at most for each tick that is left, or for each of the checkpoint that begins.
         ensures writes { 0 < ticks_left self.old

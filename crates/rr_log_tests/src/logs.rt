@@ -202,6 +202,23 @@ fn a_file_grows_only_where_no_page_is_free(rt: HostRuntime) -> Result<(), Fail> 
     Ok(())
 }
 
+// How many pages a new file has behind so many records.
+fn pages_behind_records(alloc: Global, count: u8) -> Result<u64, Fail> {
+    let tables = one_table(false)?;
+    let mut log = new_log(alloc)?;
+    keep_all(&mut log, &tables, count)?;
+    Ok(disk_of(log).len() / 4096)
+}
+
+// Of the six ticks that records 129 to 134 make, the second and the third write a page each.
+#[test]
+fn only_a_tick_that_writes_a_page_makes_a_file_longer(rt: HostRuntime) -> Result<(), Fail> {
+    for (count, pages) in [(128, 519), (129, 519), (130, 520), (131, 521), (134, 521)] {
+        assert!(rt; pages_behind_records(rt.alloc(), count)? == pages, "{count}");
+    }
+    Ok(())
+}
+
 // A log on a file with a record in the other half, which tells that a checkpoint was begun before that record.
 fn begun_log(alloc: Global) -> Result<Log<MemoryDisk, AnyLine>, Fail> {
     let mut disk = new_file(alloc)?;

@@ -18,7 +18,9 @@ use Rattle.rr_log.specs.declared.log.Log.{Log}
 use Rattle.rr_log.specs.Log.{is_broken, next_number}
 use Rattle.rr_log.specs.Log as file
 use Rattle.rr_log.specs.Carrying as carrying
+use Rattle.rr_log.specs.Growing.{Grows}
 use Rattle.rr_log.specs.Lent.{Lent}
+use Rattle.rr_log.proofs.Growing.{pages_still, stays_long}
 use Rattle.rr_tables.specs.Records.Taking.{table_files, table_rules}
 use Rattle.rr_tables.specs.declared.records.fault.Fault as rules
 use Rattle.rr_tables.specs.declared.records.fault.Fault.TheVariants as R
@@ -39,8 +41,8 @@ use Rattle.rr_store.specs.Committing.{Commits, NumberBehind, Spares, layout_behi
 use Rattle.rr_store.specs.Fault.{CountsEnd, OnDeviceFault, of_log, of_rules, of_tables}
 use Rattle.rr_store.specs.Files.{AreTablesOf}
 use Rattle.rr_store.specs.Held.{Accepted, Again, Fails, Held, NoRoom, Refused, Takes, Wants, stamp_after, with_tables}
-use Rattle.rr_store.specs.Holding.{Carries, GamesArePlayed, GamesHaveSnapshots, HasNoRoom, IsFull, IsUnchanged, disk_of, file_of, held_of, lent_of, number_of_next, ticks_left}
-use Rattle.rr_store.specs.Keeping.{Grows, GrowsOnTheWay, Keeping, MakesAtMost, length_in}
+use Rattle.rr_store.specs.Holding.{Carries, GamesArePlayed, GamesHaveSnapshots, HasNoRoom, IsFull, IsUnchanged, disk_of, file_of, held_of, lent_of, number_of_next, replayed_of, ticks_left}
+use Rattle.rr_store.specs.Keeping.{GrowsInAll, Keeping, MakesAtMost, length_on}
 use Rattle.rr_store.specs.World.{World, for_table, judgement_in, world_after}
 use Rattle.rr_store.proofs.Keepings.{grown_not}
 use Rattle.rr_store.proofs.Standing.{carried_keeps, carried_lent, carried_now, keeps_either, record_leads, stands_either, tables_after}
@@ -85,7 +87,7 @@ abbrev Kept : Type 0
 Kept = Result (Unit {0}) log.Fault
 
 module _ {D : Type 0} (Honest Works : D → Type 0) (state : D → DiskState) (past : D → List DiskState) (faults writes syncs : D → ℕ)
-    (old new : Store D) (stamp : ℕ) (name : List ℕ) (c : Request Command) where
+    (old new : Store D) (stamp : ℕ) (name : List ℕ) (c : Request Command) (counted_on : replayed_of new ≡ replayed_of old) where
   abbrev bytes_of : List ℕ
   bytes_of = record_text name c
 
@@ -162,8 +164,11 @@ module _ {D : Type 0} (Honest Works : D → Type 0) (state : D → DiskState) (p
         most_syncs = within syncs;
         comes_on = tt;
         makes_room = tt;
-        grows = λ room h texts s more. let length = same_length in absurd (omega (arith, length, more));
-        grows_in_all = λ not_last h texts s. let length = same_length in grown_not state past (in_words texts tables_now) (file_of old) (file_of new) (omega (arith, length));
+        grows = λ room h texts s. stays_long (length_on state) (file_of old) (file_of new) same_length;
+        pages = λ room. pages_still (file_of old) (file_of new) (ap (λ (f : Log D TableRules). file.free_of f) same.same_file) (λ one none whole.
+            let left : ticks_left new ≡ ticks_left old = ap (λ (f : Log D TableRules). file.ticks_left f) same.same_file in omega (arith, one, none, left));
+        grows_in_all = λ h texts s. let length = same_length in grown_not state (file_of old) (file_of new) (omega (arith, length));
+        replayed = counted_on;
         full = λ is. absurd (room (let one : fault ≡ F.FileFull = cc is in one));
         device = device_same _ fault other;
       }
@@ -171,8 +176,8 @@ module _ {D : Type 0} (Honest Works : D → Type 0) (state : D → DiskState) (p
       same_disk : disk_of new ≡ disk_of old
       same_disk = ap (λ (f : Log D TableRules). file.disk_of f) same.same_file
 
-      same_length : length_in state (file_of new) ≡ length_in state (file_of old)
-      same_length = ap (λ (f : Log D TableRules). length_in state f) same.same_file
+      same_length : length_on state (disk_of new) ≡ length_on state (disk_of old)
+      same_length = ap (length_on state) same_disk
 
       at_most : (count : D → ℕ) (more : ℕ) → count (disk_of new) ≤ count (disk_of old) + more
       at_most count more = let e : count (disk_of new) ≡ count (disk_of old) = ap count same_disk in omega arith
@@ -232,13 +237,14 @@ module _ {D : Type 0} (Honest Works : D → Type 0) (state : D → DiskState) (p
         weaker (k.stops h (in_words texts tables_now) (in_words texts behind) (record_leads texts kit_now tables_now stamp (for_table name c) is_lawful s.tables_of_kit) (carried_lent state old texts s) s.file)
         (KeepsTablesOr texts kit_now tables_now (Some (for_table name c))) (keeps_either texts kit_now tables_now stamp (for_table name c) is_lawful s.tables_of_kit)
 
-    grown_by : (kept : Kept) → KeptBy (file_of old) kept (file_of new) → (IsFull old name c → ⊥) → Honest (disk_of new) → (texts : KitTexts) → Carries state old texts → Grows state (file_of old) (file_of new)
+    grown_by : (kept : Kept) → KeptBy (file_of old) kept (file_of new) → (IsFull old name c → ⊥) → Honest (disk_of new) → (texts : KitTexts) → Carries state old texts
+        → Grows (length_on state) (file_of old) (file_of new)
     grown_by kept k room h texts s = k.grows room h (in_words texts tables_now) (carried_lent state old texts s) s.file
 
-    grown_in_all : (kept : Kept) → (Played → Lawful) → KeptBy (file_of old) kept (file_of new) → (ticks_left old ≡ 1 → ⊥) → Honest (disk_of new) → (texts : KitTexts) → Carries state old texts
-        → GrowsOnTheWay state past (in_words texts tables_now) (file_of old) (file_of new)
-    grown_in_all kept lawful k not_last h texts s =
-        k.grows_in_all not_last h (in_words texts tables_now) (in_words texts behind) (record_leads texts kit_now tables_now stamp (for_table name c) (lawful_in texts s (lawful s.played)) s.tables_of_kit) (carried_lent state old texts s) s.file
+    grown_in_all : (kept : Kept) → (Played → Lawful) → KeptBy (file_of old) kept (file_of new) → Honest (disk_of new) → (texts : KitTexts) → Carries state old texts
+        → GrowsInAll state (file_of old) (file_of new)
+    grown_in_all kept lawful k h texts s =
+        k.grows_in_all h (in_words texts tables_now) (in_words texts behind) (record_leads texts kit_now tables_now stamp (for_table name c) (lawful_in texts s (lawful s.played)) s.tables_of_kit) (carried_lent state old texts s) s.file
 
     -- the request was taken
     taken : (n : ℕ) → Told (Ok n) → (Played → Lawful) → (Played → held_of new ≡ with_tables (held_of old) behind)
@@ -272,6 +278,8 @@ module _ {D : Type 0} (Honest Works : D → Type 0) (state : D → DiskState) (p
           makes_room = k.makes_room;
           grows = grown_by (Ok tt) k;
           grows_in_all = grown_in_all (Ok tt) lawful k;
+          pages = k.pages;
+          replayed = counted_on;
           full = λ is. absurd (cc is);
           device = tt;
         }
@@ -315,6 +323,8 @@ module _ {D : Type 0} (Honest Works : D → Type 0) (state : D → DiskState) (p
           makes_room = tt;
           grows = grown_by (Err L.DeviceFailed) k;
           grows_in_all = grown_in_all (Err L.DeviceFailed) lawful k;
+          pages = k.pages;
+          replayed = counted_on;
           full = λ is. absurd (cc is);
           device = λ h texts s.
               k.device h (in_words texts tables_now) (in_words texts behind) (record_leads texts kit_now tables_now stamp (for_table name c) (lawful_in texts s (lawful s.played)) s.tables_of_kit) (carried_lent state old texts s) s.file;
@@ -368,6 +378,8 @@ module _ {D : Type 0} (Honest Works : D → Type 0) (state : D → DiskState) (p
           makes_room = tt;
           grows = grown_by (Err L.FileFull) k;
           grows_in_all = grown_in_all (Err L.FileFull) lawful k;
+          pages = k.pages;
+          replayed = counted_on;
           full = λ is. k.full refl;
           device = tt;
         }
@@ -399,6 +411,8 @@ module _ {D : Type 0} (Honest Works : D → Type 0) (state : D → DiskState) (p
           makes_room = tt;
           grows = grown_by (Err L.OutOfMemory) k;
           grows_in_all = grown_in_all (Err L.OutOfMemory) lawful k;
+          pages = k.pages;
+          replayed = counted_on;
           full = λ is. absurd (cc is);
           device = tt;
         }

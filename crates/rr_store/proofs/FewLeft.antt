@@ -1,5 +1,5 @@
 -- Few commands are left behind the last snapshots of a root that a checkpoint writes.
-use Rattle.std.proofs.Common.{◌≡◌, ◌≢◌, ◌⊎◌, ℕ, zero, suc, ◌+◌, ◌<◌, ◌≤◌, ◌==◌, Bool, true, false, All, List, [], ◌∷◌, ◌++◌, length, map, if◌then◌else◌, inl, inr, refl, sym, ap, subst, ◌∙◌, arith, append-nil}
+use Rattle.std.proofs.Common.{◌≡◌, ◌⊎◌, ℕ, ◌+◌, ◌<◌, ◌≤◌, ◌==◌, Bool, true, false, All, List, [], ◌∷◌, ◌++◌, length, map, if◌then◌else◌, inl, inr, refl, ap, ◌∙◌, arith, append-nil}
 use Rattle.std.specs.Cmp.Lexicographic.{nat_list_eq_equiv}
 use Rattle.std.specs.Global.{Box}
 use Rattle.std.specs.Map.{values_of}
@@ -9,7 +9,6 @@ use Rattle.std.proofs.lemmas.Map.Views.{All-values_from_lookup}
 use Rattle.rr_game.specs.declared.game.Game.{Game}
 use Rattle.rr_game.specs.declared.history.table.Table.{Table}
 use Rattle.rr_game.specs.History.GameBytes.{bytes_of}
-use Rattle.rr_game.specs.History.Playing.{ends_turn}
 use Rattle.rr_game.specs.History.Snapshots.{least_named, named_counts}
 use Rattle.rr_game.specs.History.Tables.{HasItsSnapshots, IsPlayed, kept_in}
 use Rattle.rr_images.specs.Holding.{HeldChain}
@@ -17,16 +16,18 @@ use Rattle.rr_kit.specs.declared.kit.Kit.{Kit}
 use Rattle.rr_reading.specs.declared.dir.directory.TheConstants.{MOST_SNAPSHOT_BYTES}
 use Rattle.rr_reading.specs.Worlds.Spelling.{snapshot_entries}
 use Rattle.rr_reading.specs.Worlds.World.{Snapshot}
-use Rattle.rr_tables.specs.declared.tables.Tables.{Tables}
 use Rattle.rr_tables.specs.Tables.{kept_in_box, lent_games, lent_snapshots, snapshot_at, world_by}
 use Rattle.rr_tables.proofs.WholeLending.{tables_lend_all}
-use Rattle.rr_turns.specs.Ends.{kept_at, turn_ends}
-use Rattle.rr_store.specs.Laws.{FewAreLeft, LentRootsAreNamed}
-use Rattle.rr_store.specs.Replayed.{HasNamed, HaveNamed, counts_at, counts_played}
-use Rattle.rr_store.proofs.RecoveryLemmas.PlaysLemmas.{named_left}
+use Rattle.rr_turns.specs.Ends.{kept_at}
+use Rattle.rr_store.specs.Laws.{BareTablesArePlayedOnce, FewAreLeft, LentRootsAreNamed}
+use Rattle.rr_store.specs.Replayed.{AreItsCounts, AreTheirCounts, counts_at, counts_played}
+use Rattle.rr_store.proofs.RecoveryLemmas.PlaysLemmas.{bare_played, few_played}
 
 pub few_are_left : FewAreLeft
-few_are_left kit table counts named = named_left kit table counts named
+few_are_left kit table counts plays are played = few_played kit table counts plays are played
+
+pub bare_are_played_once : BareTablesArePlayedOnce
+bare_are_played_once kit table plays played = bare_played kit table plays played
 
 -- ---- of how many commands snapshots of a table are
 
@@ -83,14 +84,14 @@ record Lends (kit : Kit) (table : Table) : Type 0 where
   pub named : HasItsSnapshots table
   pub short : All (λ (game : Game). length (bytes_of game) ≤ MOST_SNAPSHOT_BYTES) table.kept.snapshots
 
-lends_named : (kit : Kit) (table : Table) → Lends kit table → HasNamed kit (kept_in table) (counts_played (lent_games table))
+lends_named : (kit : Kit) (table : Table) → Lends kit table → AreItsCounts kit (kept_in table) (counts_played (lent_games table))
 lends_named kit table is =
     ap counts_played (tables_lend_all table is.named table.few is.short)
     ∙ is.named.counts
     ∙ ap (λ (ends : List ℕ). named_counts (least_named (kept_at ends table.floor)) (length table.kept.commands)) is.played.played.ends
 
 all_named : (kit : Kit) (counts : ℕ → List ℕ) (place : ℕ) (entries : List (List ℕ × Box Table)) → All (λ (table : Box Table). Lends kit table.value) (values_of entries)
-    → ((asked : ℕ) → place ≤ asked → counts asked ≡ counts_in (lent_snapshots place (map (λ e. e.1.value) entries)) asked) → HaveNamed kit counts place (world_by kept_in_box entries)
+    → ((asked : ℕ) → place ≤ asked → counts asked ≡ counts_in (lent_snapshots place (map (λ e. e.1.value) entries)) asked) → AreTheirCounts kit counts place (world_by kept_in_box entries)
 all_named kit counts place [] all same = tt
 all_named kit counts place (e ∷ es) all same =
     let table = e.1.value in

@@ -1,8 +1,9 @@
 -- What keeping a record does, from what the open file does.
 use Rattle.std.proofs.Common.{◌≡◌, ◌⊎◌, ◌↔◌, ℕ, ◌+◌, ◌^◌, ◌<◌, ◌≤◌, Bool, true, false, List, length, Option, None, Some, Result, Ok, Err, IfErr, IsErrOf, IsTrue, OnErr, OnOk, inl, inr, refl, sym, ap, subst, ◌∙◌, arith}
-use Rattle.std.proofs.lemmas.Bool.{cases_lt}
+use Rattle.std.proofs.lemmas.Bool.{cases_eq, cases_lt}
 use Rattle.rr_checkpoint.specs.Calls.{LeavesEither, LeavesKept}
-use Rattle.rr_checkpoint.specs.Growing.{GrowsWhereFull, NoneFreeUnder}
+use Rattle.rr_checkpoint.specs.Growing.{AreReclaimed, GrowsWhereFull}
+use Rattle.rr_checkpoint.proofs.Growing.{grows_on}
 use Rattle.rr_checkpoint.proofs.Writers.{carried_kept}
 use Rattle.rr_disk.specs.Disk.{DiskState}
 use Rattle.rr_disk.specs.Moments.{EachImage}
@@ -21,13 +22,15 @@ use Rattle.rr_log.specs.Calls.{MayRefuse, MeetsFullFile, NumberBehind, first_lef
 use Rattle.rr_log.specs.Carrying.{Carries, HaveSameTexts}
 use Rattle.rr_log.specs.Fault.{CountsFault, IsWant, OnDeviceFault, ends_broken}
 use Rattle.rr_log.specs.Log.{HasNoRoom, IsDue, IsPastLast, IsTooLong, disk_of, free_of, is_broken, next_number, place_of, ticks_left}
+use Rattle.rr_log.specs.Growing.{Grows, TakesPages}
 use Rattle.rr_log.proofs.Carried.{device_more}
+use Rattle.rr_log.proofs.Growing.{grows_to, grows_told, pages_still, stays_long}
 use Rattle.rr_tables.specs.declared.records.rules.TableRules.{TableRules}
 use Rattle.rr_tables.specs.Records.Taking.{Takes, table_files, table_rules}
 use Rattle.rr_kit.specs.Kits.{KitTexts}
 use Rattle.rr_log.specs.Lent.{AreLentOf, Lent, pages_of}
 use Rattle.rr_reading.specs.Worlds.World as words
-use Rattle.rr_store.specs.Keeping.{AreOfRoot, ComesOn, Grows, GrowsOnTheWay, IsFull, IsPassed, Keeping, MakesAtMost, length_in, told_of}
+use Rattle.rr_store.specs.Keeping.{AreComing, ComesOn, GrowsInAll, IsFull, Keeping, MakesAtMost, length_on, told_of}
 
 abbrev Kept : Type 0
 Kept = Result (Unit {0}) Fault
@@ -68,75 +71,91 @@ first_some (Some first) left standing tables (inr is) = inr (omega (arith, is))
 pub grows_so : (present coming : List Bool) (len len_new held held_new : ℕ) → len ≡ held → len_new ≡ held_new → GrowsWhereFull present coming len len_new → GrowsWhereFull present coming held held_new
 grows_so present coming len len_new held held_new is is_new grows more page within free = grows (omega (arith, is, is_new, more)) page (omega (arith, is_new, within)) free
 
--- none under the end of a file is free under that of a shorter one
-none_under : (present coming : List Bool) (len shorter : ℕ) → shorter ≤ len → NoneFreeUnder present coming len → NoneFreeUnder present coming shorter
-none_under present coming len shorter short none page within free = none page (omega (arith, short, within)) free
+-- the same of the lengths of what the disks hold, behind a step
+pub log_grows_so : {D : Type 0} (len held : D → ℕ) (old new : Log D TableRules) → len (disk_of old) ≡ held (disk_of old) → len (disk_of new) ≡ held (disk_of new) → Grows len old new → Grows held old new
+log_grows_so len held old new is is_new grows =
+    record {
+      full = grows_so (present_of (free_of new)) (coming_of (free_of new)) (len (disk_of old)) (len (disk_of new)) (held (disk_of old)) (held (disk_of new)) is is_new grows.full;
+      rests = λ whole none. by_len (grows.rests whole none);
+      ends = λ some few. by_len (grows.ends some few);
+      begins = λ none begun. by_len (grows.begins none begun);
+    }
+  where
+    by_len : len (disk_of new) ≡ len (disk_of old) → held (disk_of new) ≡ held (disk_of old)
+    by_len same = sym is_new ∙ (same ∙ is)
 
-module _ {D : Type 0} (state : D → DiskState) (past : D → List DiskState) (world : words.World) (old new : Log D TableRules) where
-  abbrev Way : Type 0
-  Way = GrowsOnTheWay state past world old new
+true_or_false : (b : Bool) → (b ≡ true) ⊎ (b ≡ false)
+true_or_false true = inl refl
+true_or_false false = inr refl
 
-  abbrev Met : Log D TableRules → Type 0
-  Met log = (log ≡ new) ⊎ IsPassed state past world log new
+-- before the last step of a checkpoint the same root is taken
+still_present : {D : Type 0} (old new : Log D TableRules) → TakesPages old new → (ticks_left old ≡ 1 → ⊥) → present_of (free_of new) ≡ present_of (free_of old)
+still_present old new takes other =
+    elim (cases_lt 1 (ticks_left old)) [ inl more ↦ ap present_of (takes.under_way more) | inr few ↦ takes.resting (omega (arith, few, other)) ]
 
-  present_met : (log : Log D TableRules) → Met log → AreOfRoot state past world new (present_of (free_of log))
-  present_met log met = record { log = log; met = met; pages_are = inl refl }
-
-  coming_met : (log : Log D TableRules) → Met log → (log ≡ new) ⊎ (0 < ticks_left log) → AreOfRoot state past world new (coming_of (free_of log))
-  coming_met log met some = record { log = log; met = met; pages_are = inr (refl, some) }
-
-  -- as the call left it
-  pub grown_last : Grows state old new → Way
-  grown_last grows = record {
-    present = present_of (free_of new);
-    coming = coming_of (free_of new);
-    of_present = present_met new (inl refl);
-    of_coming = coming_met new (inl refl) (inl refl);
-    grows = grows;
-  }
+module _ {D : Type 0} (state : D → DiskState) (old new : Log D TableRules) where
+  abbrev len_of : Log D TableRules → ℕ
+  len_of log = length_on state (disk_of log)
 
   -- it isn't longer
-  pub grown_not : length_in state new ≤ length_in state old → Way
-  grown_not short = grown_last (λ more. absurd (omega (arith, short, more)))
+  pub grown_not : len_of new ≤ len_of old → GrowsInAll state old new
+  grown_not short = record { pages = present_of (free_of new); of_root = inl refl; full = λ more. absurd (omega (arith, short, more)) }
 
-  -- or by a tick, and then by those that end its checkpoint
-  module _ (mid : Log D TableRules) (passed : IsPassed state past world mid new) (ticked : Grows state old mid) where
-    grown_first : 0 < ticks_left mid → length_in state new ≤ length_in state mid → Way
-    grown_first some short = record {
-      present = present_of (free_of mid);
-      coming = coming_of (free_of mid);
-      of_present = present_met mid (inr passed);
-      of_coming = coming_met mid (inr passed) (inr some);
-      grows = λ more. none_under (present_of (free_of mid)) (coming_of (free_of mid)) (length_in state mid) (length_in state new) short (ticked (omega (arith, short, more)));
+  grown_by_coming : AreComing old new → present_of (free_of new) ≡ present_of (free_of old) → Grows (length_on state) old new → GrowsInAll state old new
+  grown_by_coming coming same grows = record {
+    pages = coming_of (free_of new);
+    of_root = inr (refl, coming);
+    full = subst (λ (present : List Bool). GrowsWhereFull present (coming_of (free_of new)) (len_of old) (len_of new)) same grows.full;
+  }
+
+  -- by a step at most
+  pub grown_once : Grows (length_on state) old new → TakesPages old new → GrowsInAll state old new
+  grown_once grows takes = elim (cases_eq (ticks_left old) 1) [
+    | inl one ↦ let same = grows.ends (omega (arith, one)) (omega (arith, one)) in grown_not (omega (arith, same))
+    | inr other ↦
+        let present = still_present old new takes other in
+        elim (true_or_false (is_broken new)) [
+          | inl broken ↦ grown_by_coming (record { under_way = λ whole. let both : true ≡ false = sym broken ∙ whole in absurd (cc both); failed = λ is more. takes.under_way more }) present grows
+          | inr whole ↦ elim (cases_lt 0 (ticks_left new)) [
+            | inl some ↦ grown_by_coming (record { under_way = λ is. some; failed = λ is more. takes.under_way more }) present grows
+            | inr none ↦ let same = grows.rests whole (omega (arith, none)) in grown_not (omega (arith, same))
+          ]
+        ]
+  ]
+
+  -- by a step, and then by those that are left
+  module _ (mid : Log D TableRules) (ticked : Grows (length_on state) old mid) (takes : TakesPages old mid) where
+    -- as far as they come
+    pub grown_so_far : (ticks_left old ≡ 1 → ⊥) → free_of new ≡ free_of mid → (is_broken new ≡ false → ⊥)
+        → GrowsWhereFull (present_of (free_of mid)) (coming_of (free_of new)) (len_of mid) (len_of new) → GrowsInAll state old new
+    grown_so_far other same broken ended = record {
+      pages = coming_of (free_of new);
+      of_root = inr (refl, record { under_way = λ whole. absurd (broken whole); failed = λ is more. same ∙ takes.under_way more });
+      full = subst (λ (present : List Bool). GrowsWhereFull present (coming_of (free_of new)) (len_of old) (len_of new)) (still_present old mid takes other)
+          (grows_on (present_of (free_of mid)) (coming_of (free_of new)) (len_of old) (len_of mid) (len_of new)
+          (subst (λ (coming : List Bool). GrowsWhereFull (present_of (free_of mid)) coming (len_of old) (len_of mid)) (ap coming_of (sym same)) ticked.full) ended);
     }
 
-    pub grown_so_far : 0 < ticks_left mid → GrowsWhereFull (present_of (free_of mid)) (coming_of (free_of new)) (length_in state mid) (length_in state new) → Way
-    grown_so_far some ended = elim (cases_lt (length_in state mid) (length_in state new)) [
-      | inl more ↦ record {
-        present = present_of (free_of mid);
-        coming = coming_of (free_of new);
-        of_present = present_met mid (inr passed);
-        of_coming = coming_met new (inl refl) (inl refl);
-        grows = λ longer. ended more;
+    -- and then not by a second attempt
+    pub grown_in_turn : (0 < ticks_left mid → ticks_left old ≡ 1 → ⊥) → is_broken mid ≡ false → (made : Log D TableRules) → (0 < ticks_left mid → AreReclaimed (free_of mid) (free_of made))
+        → (ticks_left mid ≡ 0 → made ≡ mid) → GrowsWhereFull (present_of (free_of mid)) (present_of (free_of made)) (len_of mid) (len_of made) → len_of new ≡ len_of made
+        → present_of (free_of new) ≡ present_of (free_of made) → GrowsInAll state old new
+    grown_in_turn other whole made reclaims idle ended same present = elim (cases_lt 0 (ticks_left mid)) [
+      | inl some ↦ record {
+        pages = present_of (free_of new);
+        of_root = inl refl;
+        full =
+            let before = still_present old mid takes (other some) in
+            grows_to (present_of (free_of old)) (present_of (free_of new)) (len_of old) (len_of made) (len_of new) same
+            (grows_told (present_of (free_of mid)) (present_of (free_of made)) (present_of (free_of old)) (present_of (free_of new)) (len_of old) (len_of made) (sym before) present
+            (grows_on (present_of (free_of mid)) (present_of (free_of made)) (len_of old) (len_of mid) (len_of made)
+            (subst (λ (coming : List Bool). GrowsWhereFull (present_of (free_of mid)) coming (len_of old) (len_of mid)) (sym (reclaims some).present) ticked.full) ended));
       }
-      | inr short ↦ grown_first some short
-    ]
-
-    pub grown_in_turn : (0 < ticks_left mid) ⊎ (length_in state mid ≤ length_in state old) → (made : Log D TableRules) → IsPassed state past world made new
-        → GrowsWhereFull (present_of (free_of mid)) (present_of (free_of made)) (length_in state mid) (length_in state made) → Grows state made new → Way
-    grown_in_turn under_way made passed_made ended kept = elim (cases_lt (length_in state made) (length_in state new)) [
-      | inl more ↦ grown_last (λ longer. kept more)
-      | inr short ↦ elim (cases_lt (length_in state mid) (length_in state made)) [
-        | inl more ↦ record {
-          present = present_of (free_of mid);
-          coming = present_of (free_of made);
-          of_present = present_met mid (inr passed);
-          of_coming = present_met made (inr passed_made);
-          grows = λ longer. none_under (present_of (free_of mid)) (present_of (free_of made)) (length_in state made) (length_in state new) short (ended more);
-        }
-        | inr shorter ↦ let by_all : length_in state new ≤ length_in state mid = omega (arith, short, shorter) in
-            elim under_way [ inl some ↦ grown_first some by_all | inr not_yet ↦ grown_not (omega (arith, by_all, not_yet)) ]
-      ]
+      | inr none ↦
+          let still = idle (omega (arith, none)) in
+          let first = ticked.rests whole (omega (arith, none)) in
+          let then : len_of made ≡ len_of mid = ap len_of still in
+          grown_not (omega (arith, same, then, first))
     ]
 
 module _ {D : Type 0} (Honest Works : D → Type 0) (state : D → DiskState) (past : D → List DiskState) (faults writes syncs : D → ℕ)
@@ -178,7 +197,8 @@ module _ {D : Type 0} (Honest Works : D → Type 0) (state : D → DiskState) (p
     pub tick_syncs : IsErrOf result F.HalfFull → syncs (disk_of new) ≤ syncs (disk_of old) + 1
     pub own_writes : ticks_left old ≡ 0 → (IsDue (place_of old) → ⊥) → writes (disk_of new) ≤ writes (disk_of old) + 2
     pub own_syncs : ticks_left old ≡ 0 → (IsDue (place_of old) → ⊥) → syncs (disk_of new) ≤ syncs (disk_of old) + 2
-    pub grows : Honest (disk_of new) → (world : words.World) → AreLentOf table_rules world tables → Carries table_rules old (state (disk_of old)) world → Grows state old new
+    pub grows : Honest (disk_of new) → (world : words.World) → AreLentOf table_rules world tables → Carries table_rules old (state (disk_of old)) world → Grows (length_on state) old new
+    pub pages : TakesPages old new
     pub honest : Honest (disk_of new) → Honest (disk_of old)
     pub works : Works (disk_of new) → Works (disk_of old)
 
@@ -201,9 +221,11 @@ module _ {D : Type 0} (Honest Works : D → Type 0) (state : D → DiskState) (p
     pub all_writes : writes (disk_of new) ≤ writes (disk_of old) + ticks_left old
     pub all_syncs : syncs (disk_of new) ≤ syncs (disk_of old) + ticks_left old
     pub grows : OnOk result (Honest (disk_of new) → (world : words.World) → AreLentOf table_rules world tables → Carries table_rules old (state (disk_of old)) world
-        → GrowsWhereFull (present_of (free_of old)) (present_of (free_of new)) (length_in state old) (length_in state new))
+        → GrowsWhereFull (present_of (free_of old)) (present_of (free_of new)) (length_on state (disk_of old)) (length_on state (disk_of new)))
     pub grows_so_far : OnErr result (Honest (disk_of new) → (world : words.World) → AreLentOf table_rules world tables → Carries table_rules old (state (disk_of old)) world
-        → GrowsWhereFull (present_of (free_of old)) (coming_of (free_of new)) (length_in state old) (length_in state new))
+        → GrowsWhereFull (present_of (free_of old)) (coming_of (free_of new)) (length_on state (disk_of old)) (length_on state (disk_of new)))
+    pub reclaims : OnOk result (0 < ticks_left old → AreReclaimed (free_of old) (free_of new))
+    pub same_free : OnErr result (0 < ticks_left old → free_of new ≡ free_of old)
     pub honest : Honest (disk_of new) → Honest (disk_of old)
     pub works : Works (disk_of new) → Works (disk_of old)
     pub device : OnDeviceFault result (Honest (disk_of new) → (world : words.World) → AreLentOf table_rules world tables → Carries table_rules old (state (disk_of old)) world
@@ -240,6 +262,8 @@ module _ {D : Type 0} (Honest Works : D → Type 0) (state : D → DiskState) (p
         all_syncs = omega arith;
         grows = λ h world lent carries more. absurd (omega (arith, more));
         grows_so_far = tt;
+        reclaims = λ some. absurd (omega (arith, some, left));
+        same_free = tt;
         honest = λ h. h;
         works = λ w. w;
         device = tt;
@@ -275,8 +299,9 @@ module _ {D : Type 0} (Honest Works : D → Type 0) (state : D → DiskState) (p
         most_syncs = few_at_most syncs log log (omega arith);
         comes_on = tt;
         makes_room = tt;
-        grows = λ room h world lent carries more. absurd (omega (arith, more));
-        grows_in_all = λ not_last h before behind takes lent carries. grown_not state past before log log (omega arith);
+        grows = λ room h world lent carries. stays_long (length_on state) log log refl;
+        pages = λ room. pages_still log log refl (λ one none whole. omega (arith, one, none));
+        grows_in_all = λ h before behind takes lent carries. grown_not state log log (omega arith);
       }
 
   pub keeps_again : (log : Logs) → is_broken log ≡ true → Done log (Err F.OpenAgain) log
@@ -304,8 +329,9 @@ module _ {D : Type 0} (Honest Works : D → Type 0) (state : D → DiskState) (p
         most_syncs = few_at_most syncs log log (omega arith);
         comes_on = tt;
         makes_room = tt;
-        grows = λ room h world lent carries more. absurd (omega (arith, more));
-        grows_in_all = λ not_last h before behind takes lent carries. grown_not state past before log log (omega arith);
+        grows = λ room h world lent carries. stays_long (length_on state) log log refl;
+        pages = λ room. pages_still log log refl (λ one none whole. omega (arith, one, none));
+        grows_in_all = λ h before behind takes lent carries. grown_not state log log (omega arith);
       }
 
   -- where there was room and a number
@@ -346,7 +372,8 @@ module _ {D : Type 0} (Honest Works : D → Type 0) (state : D → DiskState) (p
         comes_on = comes_on old new result t;
         makes_room = t.makes_room;
         grows = λ room. t.grows;
-        grows_in_all = λ not_last h before behind takes lent carries. grown_last state past before old new (t.grows h before lent carries);
+        pages = λ room. t.pages;
+        grows_in_all = λ h before behind takes lent carries. grown_once state old new (t.grows h before lent carries) t.pages;
       }
 
   module _ (old mid : Logs) (t : Tried old (Err F.HalfFull) mid) where
@@ -368,6 +395,10 @@ module _ {D : Type 0} (Honest Works : D → Type 0) (state : D → DiskState) (p
           under_way = λ some. let one = t.comes refl some in omega (arith, tick, all, again, one);
           begun = λ none. let most = t.most t.broken none in omega (arith, tick, all, again, most);
         }
+
+    -- where steps are left behind its tick, that wasn't the last
+    not_last : 0 < ticks_left mid → ticks_left old ≡ 1 → ⊥
+    not_last some one = let left = t.comes refl (omega (arith, one)) in omega (arith, some, one, left)
 
     never_whole : (fault : Fault) (new : Logs) → 0 < ticks_left mid → Made mid (Err fault) new → is_broken new ≡ false → ⊥
     never_whole F.DeviceFailed new some m whole = let both : true ≡ false = sym m.broken ∙ whole in cc both
@@ -412,11 +443,10 @@ module _ {D : Type 0} (Honest Works : D → Type 0) (state : D → DiskState) (p
           comes_on = tt;
           makes_room = tt;
           grows = λ room. has_none room;
-          grows_in_all = λ not_last h before behind takes lent carries.
-              let there = carried (m.honest h) before behind takes lent carries in
-              let stops = m.stops h before lent there in
-              grown_so_far state past before old new mid (record { since = stops.since; goes_on = stops.goes_on; carries = there })
-              (t.grows (m.honest h) before lent carries) some (m.grows_so_far h before lent there);
+          pages = λ room. has_none room;
+          grows_in_all = λ h before behind takes lent carries.
+              grown_so_far state old new mid (t.grows (m.honest h) before lent carries) t.pages (not_last some) (m.same_free some) (never_whole fault new some m)
+              (m.grows_so_far h before lent (carried (m.honest h) before behind takes lent carries));
         }
       where
         same_fault : IsErrOf {T = Unit {0}} (Err fault) F.OpenAgain → ⊥
@@ -441,28 +471,14 @@ module _ {D : Type 0} (Honest Works : D → Type 0) (state : D → DiskState) (p
           again.carries h whole before behind takes (same_texts bytes before behind takes) lent
           (m.carries then m.broken before lent (carried (m.honest then) before behind takes lent carries))
 
-      -- a tick behind which no checkpoint is under way, and which wasn't its last, did nothing
-      under_way : (ticks_left old ≡ 1 → ⊥) → (0 < ticks_left mid) ⊎ (length_in state mid ≤ length_in state old)
-      under_way not_last = elim (cases_lt 0 (ticks_left mid)) [
-        | inl some ↦ inl some
-        | inr none ↦ elim (cases_lt 0 (ticks_left old)) [
-          | inl some ↦ let one = t.comes refl some in absurd (not_last (omega (arith, one, none)))
-          | inr none_before ↦
-              let same : length_in state mid ≡ length_in state old = ap (λ (disk : D). length (state disk).content) (t.nothing t.broken (omega (arith, none_before)) (omega (arith, none))) in
-              inr (omega (arith, same))
-        ]
-      ]
-
-      grows_by : (result : Kept) → Tried made result new → (ticks_left old ≡ 1 → ⊥) → Honest (disk_of new) → (before behind : words.World) → Takes bytes before behind → AreLentOf table_rules before tables
-          → Carries table_rules old (state (disk_of old)) before → GrowsOnTheWay state past before old new
-      grows_by result again not_last h before behind takes lent carries =
+      grows_by : (result : Kept) → Tried made result new → Honest (disk_of new) → (before behind : words.World) → Takes bytes before behind → AreLentOf table_rules before tables
+          → Carries table_rules old (state (disk_of old)) before → GrowsInAll state old new
+      grows_by result again h before behind takes lent carries =
           let then = again.honest h in
           let there = carried (m.honest then) before behind takes lent carries in
-          let made_there = m.carries then m.broken before lent there in
-          let last = again.stops h before behind takes (same_texts bytes before behind takes) lent made_there in
-          let both = joins (weaker (m.stops then before lent there) (λ image. Keeps table_files image before ⊎ Keeps table_files image behind) (λ image keeps. inl keeps)) last in
-          grown_in_turn state past before old new mid (record { since = both.since; goes_on = both.goes_on; carries = there }) (t.grows (m.honest then) before lent carries)
-          (under_way not_last) made (record { since = last.since; goes_on = last.goes_on; carries = made_there }) (m.grows then before lent there) (again.grows h before lent made_there)
+          let second = again.grows h before lent (m.carries then m.broken before lent there) in
+          grown_in_turn state old new mid (t.grows (m.honest then) before lent carries) t.pages not_last t.broken made m.reclaims m.idle
+          (m.grows then before lent there) (second.begins m.left m.rests) (again.pages.resting m.left)
 
       same_number : next_number made ≡ next_number old
       same_number = m.number ∙ t.number
@@ -511,6 +527,7 @@ module _ {D : Type 0} (Honest Works : D → Type 0) (state : D → DiskState) (p
             comes_on = λ room. has_none room;
             makes_room = λ none. begins_another again;
             grows = λ room. has_none room;
+            pages = λ room. has_none room;
             grows_in_all = grows_by (Ok tt) again;
           }
 
@@ -564,5 +581,6 @@ module _ {D : Type 0} (Honest Works : D → Type 0) (state : D → DiskState) (p
             comes_on = tt;
             makes_room = tt;
             grows = λ room. has_none room;
+            pages = λ room. has_none room;
             grows_in_all = grows_by (Err fault) again;
           }

@@ -10,6 +10,7 @@ pub mod Trusting
 pub mod Recovering
 pub mod Replays
 pub mod FewLeft
+pub mod NamedRoots
 pub mod Openings
 pub mod Numbers
 pub mod Events

@@ -1,64 +1,66 @@
 -- How many commands were played for what was recovered of a file.
-use Rattle.std.proofs.Common.{◌≡◌, ℕ, ◌+◌, ◌-◌, ◌≤◌, List, ◌++◌, sym, subst, arith}
+use Rattle.std.proofs.Common.{◌≡◌, ℕ, ◌+◌, ◌*◌, ◌^◌, ◌<◌, ◌≤◌, List, ◌++◌, length, sym, ap, subst, length-append, arith}
 use Rattle.rr_kit.specs.declared.kit.Kit.{Kit}
-use Rattle.rr_kit.specs.Kits.{KitTexts, SpellsKit}
+use Rattle.rr_log.proofs.OpeningLemmas.Places.{few_lines}
+use Rattle.rr_pages.specs.declared.journal.layout.HalfIndex.{HalfIndex}
+use Rattle.rr_pages.specs.declared.journal.layout.TheConstants.{LAST_SLOT}
+use Rattle.rr_pages.specs.declared.journal.reading.RunEnd.{RunEnd}
+use Rattle.rr_pages.specs.Journal.Run.{Run}
+use Rattle.rr_pages.proofs.JournalLemmas.Runs.{run_fits}
+use Rattle.rr_reading.specs.declared.dir.directory.TheConstants.{MOST_TABLES}
 use Rattle.rr_reading.specs.Held.{Held}
 use Rattle.rr_reading.specs.Reading.{Holds}
 use Rattle.rr_tables.specs.declared.tables.Tables.{Tables}
-use Rattle.rr_tables.specs.Records.Taking.{table_rules}
 use Rattle.rr_tables.specs.Records.Words.{in_words}
 use Rattle.rr_tables.specs.Tables.{ArePlayed, HaveTheirSnapshots, world_of}
 use Rattle.rr_store.specs.Files.{StandsFor}
-use Rattle.rr_store.specs.Recovery.Base.{IsOfDirectory, IsRightBase, Named, ShowsThem}
+use Rattle.rr_store.specs.Recovery.Base.{IsRightBase, Named, ShowsThem}
 use Rattle.rr_store.specs.Recovery.Telling.{HasTrueSnapshots}
-use Rattle.rr_store.specs.Recovery.Told.{TellTables}
-use Rattle.rr_store.specs.Replayed.{HaveNamed, IsReplayed, PlaysBase, PlaysRecords, all_kept, all_left, counts_at, counts_named}
+use Rattle.rr_store.specs.Replayed.{IsReplayed, PlaysRecords, PlaysTables, counts_at, counts_named}
 use Rattle.rr_store.specs.World.{World}
-use Rattle.rr_store.proofs.Recovering.{spelled_texts}
+use Rattle.rr_kit.specs.Kits.{KitTexts}
 use Rattle.rr_store.proofs.Trusting.{standing_true}
-use Rattle.rr_store.proofs.RecoveryLemmas.BaseLemmas.{base_told, each_snapshot, named_of, snapshots_play}
-use Rattle.rr_store.proofs.RecoveryLemmas.PlaysLemmas.{counts_same}
-use Rattle.rr_store.proofs.RecoveryLemmas.Recovered.{PlaysThem, base_played, of_directory}
+use Rattle.rr_store.proofs.RecoveryLemmas.BaseLemmas.{each_snapshot, named_of, told_base}
+use Rattle.rr_store.proofs.RecoveryLemmas.PlaysLemmas.{counts_same, few_records}
+use Rattle.rr_store.proofs.RecoveryLemmas.Recovered.{PlaysThem, base_played, shows_them}
 
--- fewer commands than some requests play at most
-fewer : (lines : List (List ℕ)) (plays less : ℕ) → less ≤ plays → PlaysRecords lines plays → PlaysRecords lines less
-fewer lines plays less le most = record { requests = most.requests; spelled = most.spelled; few = omega (arith, le, most.few) }
+-- so many commands are played of the tables before the records, where the snapshots show their play
+abbrev pub PlaysSo : Named → Tables → ℕ → Type 0
+PlaysSo named tables plays = ShowsThem tables.kit named (world_of tables) → PlaysTables tables.kit (counts_named named) 0 (world_of tables) plays
+
+-- a half has few records
+few_in : (file : List ℕ) (half : HalfIndex) (number : ℕ) (lines : List (List ℕ)) (end : RunEnd) → Run file half 0 number lines end → length lines ≤ LAST_SLOT
+few_in file half number lines end run = omega (arith, run_fits file half 0 number lines end (omega arith) run, few_lines lines)
 
 module _ (file : List ℕ) (has : Held) (holds : Holds file has) where
   counts_are : counts_named (named_of has) ≡ counts_at has.directory.snapshots
   counts_are = λ i place. counts_same has.directory.snapshots has.snapshots place (each_snapshot file has holds) i
 
   pub replayed_from : (named : Named) (old new : Tables) (near far : List (List ℕ)) (plays records count : ℕ) → named ≡ named_of has → near ≡ has.near → far ≡ has.far → new.kit ≡ old.kit
-      → IsRightBase (named_of has) has.texts old.kit (world_of old) → PlaysThem (named_of has) old → HaveTheirSnapshots old → (IsOfDirectory named → PlaysBase named old.kit plays)
-      → (ArePlayed old → HaveTheirSnapshots old → PlaysRecords (near ++ far) records) → plays ≤ count → count ≤ plays + records
-      → HasTrueSnapshots has → IsReplayed has new.kit count
-  replayed_from named old new near far plays records count same near_is far_is kit_is right plays_them had of_base of_records low high true =
-      let base : PlaysBase (named_of has) old.kit plays = subst (λ (n : Named). IsOfDirectory n → PlaysBase n old.kit plays) same of_base (of_directory file has holds) in
+      → IsRightBase (named_of has) has.texts old.kit (world_of old) → PlaysThem (named_of has) old → HaveTheirSnapshots old → PlaysSo named old plays → plays ≤ MOST_TABLES * 2 ^ 33
+      → (ArePlayed old → HaveTheirSnapshots old → length near ≤ LAST_SLOT → length far ≤ LAST_SLOT → PlaysRecords old.kit (world_of old) (near ++ far) (world_of new) records)
+      → (plays + records < 2 ^ 64 → count ≡ plays + records) → HasTrueSnapshots has → IsReplayed has new.kit count
+  replayed_from named old new near far plays records count same near_is far_is kit_is right plays_them had plays_so few of_records sum true =
+      let there = told_base file has holds (world_of old) right.formed right.told in
+      let shows = shows_them file has holds old.kit (world_of old) right.right true right.formed right.told in
       let played = base_played file has holds old right plays_them true in
+      let few_near : length near ≤ LAST_SLOT = omega (arith, ap length near_is, few_in file has.root.half has.root.first has.near has.near_end holds.near_run) in
+      let few_far : length far ≤ LAST_SLOT = omega (arith, ap length far_is, few_in file _ (has.root.first + length has.near) has.far has.far_end holds.far_run) in
+      let of_tables = subst (λ (n : Named). PlaysSo n old plays) same plays_so shows in
+      let played_records = of_records played.0 had few_near few_far in
+      let few_plays = few_records old.kit (world_of old) (near ++ far) (world_of new) records played_records in
       let lines : near ++ far ≡ has.near ++ has.far = λ i. near_is i ++ far_is i in
-      let played_records = subst (λ (l : List (List ℕ)). PlaysRecords l records) lines (of_records played.0 had) in
-      let with_counts : (counts : ℕ → List ℕ) → counts_named (named_of has) ≡ counts
-      → (all_left counts 0 has.directory.tables ≤ plays)
-      × (plays ≤ all_left counts 0 has.directory.tables + all_kept has.directory.tables)
-      × ((tables : World) → TellTables has.directory.tables has.tables tables → ShowsThem old.kit (named_of has) tables → HaveNamed old.kit counts 0 tables → plays ≡ all_left counts 0 has.directory.tables) =
-      λ counts is. subst (λ (c : ℕ → List ℕ). (all_left c 0 has.directory.tables ≤ plays)
-      × (plays ≤ all_left c 0 has.directory.tables + all_kept has.directory.tables)
-      × ((tables : World) → TellTables has.directory.tables has.tables tables → ShowsThem old.kit (named_of has) tables → HaveNamed old.kit c 0 tables → plays ≡ all_left c 0 has.directory.tables)) is
-      (base.least, base.most, base.few) in
-      let by = with_counts (counts_at has.directory.snapshots) counts_are in
       subst (λ (k : Kit). IsReplayed has k count) (sym kit_is)
       (record {
+        base = world_of old;
+        world = there.world;
+        is_base = record { spells = true there.world there.written; based = there.based };
         of_tables = plays;
-        of_records = count - plays;
-        both = omega (arith, low);
-        least = by.0;
-        most = by.1;
-        few = λ tables world is named_are.
-            let texts = spelled_texts has.root.version has.chain.text has.texts (has.tables ++ has.snapshots) world is.spells in
-            let right_kit = subst (λ (t : KitTexts). SpellsKit t old.kit) (sym texts) right.right in
-            by.2 tables (base_told file has holds table_rules world is.spells tables is.based)
-            (snapshots_play file has holds old.kit tables world is.spells is.based right_kit) named_are;
-        records = fewer (has.near ++ has.far) records (count - plays) (omega (arith, high)) played_records;
+        tables = subst (λ (c : ℕ → List ℕ). PlaysTables old.kit c 0 (world_of old) plays) counts_are of_tables;
+        now = world_of new;
+        of_records = records;
+        records = subst (λ (l : List (List ℕ)). PlaysRecords old.kit (world_of old) l (world_of new) records) lines played_records;
+        both = sum (omega (arith, few, few_plays, length-append near far, few_near, few_far));
       })
 
   -- so it is of a file that stands for a world

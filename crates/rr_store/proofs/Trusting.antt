@@ -85,15 +85,22 @@ module _ (file : List ℕ) (has : Held) (holds : Holds file has) where
   names_chains : NamesChains table_files
   names_chains version bytes heads = (λ named. named, λ named. named)
 
-  pub standing_spells : (world : words.World) → (stands : Stands table_files file world) → SpellBy table_rules has stands.base
-  standing_spells world stands =
+  -- its root, and what that holds, are those that were read
+  pub read_holding : (world : words.World) → (stands : Stands table_files file world) → (has.root ≡ stands.root) × (stands.holding ≡ holding_of has)
+  read_holding world stands =
       let taken = holds.chains.has_directory.taken in
       let same = one_taken file has.side stands.side has.root stands.root taken.0 stands.stale taken.1 stands.taken in
       let spelled : Spelled table_files file has.root stands.holding stands.base =
       subst (λ (root : Root). Spelled table_files file root stands.holding stands.base) (sym same.1) stands.spelled in
       let there = read_there table_files file has.root (holding_of has) has.reached taken.1.sound.pages_high (held_is_read table_files names_chains file has holds) in
-      let holding = one_holding_there table_files files_are_exact file has.root stands.holding (holding_of has) (there_of table_files file has.root stands.holding stands.base spelled) there.there in
-      subst (λ (held : Holding). table_files.Spells has.root.version held.directory.text (texts_of held.chains) stands.base) holding spelled.spells
+      (same.1, one_holding_there table_files files_are_exact file has.root stands.holding (holding_of has) (there_of table_files file has.root stands.holding stands.base spelled) there.there)
+
+  pub standing_spells : (world : words.World) → (stands : Stands table_files file world) → SpellBy table_rules has stands.base
+  standing_spells world stands =
+      let same = read_holding world stands in
+      let spelled : Spelled table_files file has.root stands.holding stands.base =
+      subst (λ (root : Root). Spelled table_files file root stands.holding stands.base) (sym same.0) stands.spelled in
+      subst (λ (held : Holding). table_files.Spells has.root.version held.directory.text (texts_of held.chains) stands.base) same.1 spelled.spells
 
   pub standing_true : (world : words.World) → Stands table_files file world → HasTrueSnapshots has
   standing_true world stands = true_snapshots has stands.base (standing_spells world stands)

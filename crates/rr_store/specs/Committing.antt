@@ -7,6 +7,7 @@ use Rattle.rr_code.specs.Request.{record_text}
 use Rattle.rr_images.specs.Calls.{TakesNewer}
 use Rattle.rr_images.specs.Layout.{Layout}
 use Rattle.rr_images.specs.Steps.{with_line}
+use Rattle.rr_log.specs.Growing.{Grows, TakesPages}
 use Rattle.rr_turns.specs.declared.request.Request.{Request}
 use Rattle.rr_turns.specs.Judgement.{IsVerdict}
 use Rattle.rr_kit.specs.Kits.{KitTexts}
@@ -19,8 +20,8 @@ use Rattle.rr_store.specs.declared.store.Store.{Store}
 use Rattle.rr_store.specs.Allowing.{Between, CommitAllows}
 use Rattle.rr_store.specs.Fault.{CountsEnd, OnDeviceFault}
 use Rattle.rr_store.specs.Held.{Takes}
-use Rattle.rr_store.specs.Holding.{Carries, GamesArePlayed, GamesHaveSnapshots, HasNoRoom, IsFull, IsFullFor, IsUnchanged, Rests, disk_of, file_of, held_of, lent_of, number_of_next, ticks_left}
-use Rattle.rr_store.specs.Keeping.{ComesOn, Grows, GrowsOnTheWay, MakesAtMost}
+use Rattle.rr_store.specs.Holding.{Carries, GamesArePlayed, GamesHaveSnapshots, HasNoRoom, IsFull, IsFullFor, IsUnchanged, Rests, disk_of, file_of, held_of, lent_of, number_of_next, replayed_of, ticks_left}
+use Rattle.rr_store.specs.Keeping.{ComesOn, GrowsInAll, MakesAtMost, length_on}
 use Rattle.rr_store.specs.World.{for_table, judgement_in}
 use Rattle.rr_reading.specs.Worlds.World as words
 
@@ -58,9 +59,9 @@ Spares old (Err fault) new = IsUnchanged old new
 -- checkpoint, which has four left at least. Whatever is to be done, three of each are made at most, and one for each step left of
 -- the checkpoint under way, or of one begun then. Where the last step of a checkpoint was made, and no other is begun, each file
 -- that a stop may leave takes a newer root, whose chains spell the world as the checkpoint began; only the records since then stand
--- behind it. The file becomes longer only where no page under its end is free: where the half had room, of the roots
--- that it has then, and whatever is to be done, of two that it had on the way, unless a checkpoint under way had one
--- step left. And an honest disk that works, and carries what was held, is never told to have failed.
+-- behind it. The file becomes longer only where no page under its end is free: where the half had room, as by one step
+-- of a checkpoint, and whatever is to be done, as `GrowsInAll` says. What the opening played stays told. And an honest
+-- disk that works, and carries what was held, is never told to have failed.
 pub record Commits {D : Type 0} (Honest Works : D → Type 0) (state : D → DiskState) (past : D → List DiskState) (faults writes syncs : D → ℕ)
     (old : Store D) (name : List ℕ) (stamp : ℕ) (request : Request Command) (new : Store D) (result : Result ℕ Fault) : Type 0 where
   pub takes : GamesArePlayed old → Takes (held_of old) stamp name request (held_of new) result
@@ -93,8 +94,9 @@ pub record Commits {D : Type 0} (Honest Works : D → Type 0) (state : D → Dis
   pub comes_on : OnOk result ((IsFull old name request → ⊥) → ComesOn (file_of old) (file_of new))
   pub makes_room : OnOk result (HasNoRoom old name request → 4 ≤ ticks_left new)
   pub grows : (IsFull old name request → ⊥) → Honest (disk_of new) → (texts : KitTexts) → Carries state old texts
-      → Grows state (file_of old) (file_of new)
-  pub grows_in_all : (ticks_left old ≡ 1 → ⊥) → Honest (disk_of new) → (texts : KitTexts) → Carries state old texts
-      → GrowsOnTheWay state past (in_words texts (held_of old).tables) (file_of old) (file_of new)
+      → Grows (length_on state) (file_of old) (file_of new)
+  pub pages : (IsFull old name request → ⊥) → TakesPages (file_of old) (file_of new)
+  pub grows_in_all : Honest (disk_of new) → (texts : KitTexts) → Carries state old texts → GrowsInAll state (file_of old) (file_of new)
+  pub replayed : replayed_of new ≡ replayed_of old
   pub full : result ≡ Err F.FileFull → IsFullFor new (lent_of old) name request
   pub device : OnDeviceFault result (Honest (disk_of new) → (texts : KitTexts) → Carries state old texts → Works (disk_of new) → ⊥)

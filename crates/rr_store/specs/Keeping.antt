@@ -1,5 +1,5 @@
 -- What keeping the record of a request does to the open file.
-use Rattle.std.specs.Prelude.{◌≡◌, ◌⊎◌, ◌↔◌, ℕ, ◌+◌, ◌<◌, ◌≤◌, Bool, false, List, ◌∷◌, ◌++◌, length, Result, IsErrOf, IsTrue, OnOk}
+use Rattle.std.specs.Prelude.{◌≡◌, ◌⊎◌, ◌↔◌, ℕ, ◌+◌, ◌<◌, ◌≤◌, Bool, false, true, List, length, Result, IsErrOf, IsTrue, OnOk}
 use Rattle.rr_checkpoint.specs.Calls.{LeavesEither}
 use Rattle.rr_checkpoint.specs.Checkpoint.{left_behind_first}
 use Rattle.rr_checkpoint.specs.Growing.{GrowsWhereFull}
@@ -12,6 +12,7 @@ use Rattle.rr_log.specs.declared.log.Log.{Log}
 use Rattle.rr_log.specs.Calls.{MeetsFullFile, NumberBehind, layout_behind, ticks_due, world_behind}
 use Rattle.rr_log.specs.Carrying.{Carries}
 use Rattle.rr_log.specs.Fault.{CountsFault, OnDeviceFault, ends_broken}
+use Rattle.rr_log.specs.Growing.{Grows, TakesPages}
 use Rattle.rr_log.specs.Log.{HasNoRoom, IsDue, IsPastLast, IsTooLong, disk_of, free_of, is_broken, next_number, place_of, ticks_left}
 use Rattle.rr_pages.specs.FreePages.{coming_of, present_of}
 use Rattle.rr_tables.specs.declared.records.rules.TableRules.{TableRules}
@@ -50,34 +51,22 @@ pub record MakesAtMost {D R : Type 0} (calls : D → ℕ) (lent : Lent) (old new
   pub under_way : 0 < ticks_left old → calls (disk_of new) ≤ calls (disk_of old) + ticks_left old + 3
   pub begun : ticks_left old ≡ 0 → calls (disk_of new) ≤ calls (disk_of old) + ticks_due old lent + 3
 
--- how long its file is
-abbrev pub length_in : {D R : Type 0} → (D → DiskState) → Log D R → ℕ
-length_in state log = length (state (disk_of log)).content
+-- how long a file on a disk is
+abbrev pub length_on : {D : Type 0} → (D → DiskState) → D → ℕ
+length_on state disk = length (state disk).content
 
--- the file becomes longer only where no page under its end is free
-abbrev pub Grows : {D R : Type 0} → (D → DiskState) → Log D R → Log D R → Type 0
-Grows state old new = GrowsWhereFull (present_of (free_of new)) (coming_of (free_of new)) (length_in state old) (length_in state new)
+-- The pages that are coming behind a call are those of a checkpoint that is under way then. If a device call failed,
+-- they are those of the one that was under way before, where that had more than one step left.
+pub record AreComing {D R : Type 0} (old new : Log D R) : Type 0 where
+  pub under_way : is_broken new ≡ false → 0 < ticks_left new
+  pub failed : is_broken new ≡ true → 1 < ticks_left old → free_of new ≡ free_of old
 
--- a log as it was at a moment of a call: the disk passed through its state, and it carried this world
-pub record IsPassed {D : Type 0} (state : D → DiskState) (past : D → List DiskState) (world : words.World) (log new : Log D TableRules) : Type 0 where
-  pub since : List DiskState
-  pub goes_on : state (disk_of new) ∷ past (disk_of new) ≡ since ++ state (disk_of log) ∷ past (disk_of log)
-  pub carries : Carries table_rules log (state (disk_of log)) world
-
--- The pages of a root at such a moment, or behind the call: of the one that is taken there, or of the one that a
--- checkpoint under way there writes.
-pub record AreOfRoot {D : Type 0} (state : D → DiskState) (past : D → List DiskState) (world : words.World) (new : Log D TableRules) (pages : List Bool) : Type 0 where
-  pub log : Log D TableRules
-  pub met : (log ≡ new) ⊎ IsPassed state past world log new
-  pub pages_are : (pages ≡ present_of (free_of log)) ⊎ ((pages ≡ coming_of (free_of log)) × ((log ≡ new) ⊎ (0 < ticks_left log)))
-
--- a call of several steps makes the file longer only where two such roots leave no page under its end free
-pub record GrowsOnTheWay {D : Type 0} (state : D → DiskState) (past : D → List DiskState) (world : words.World) (old new : Log D TableRules) : Type 0 where
-  pub present : List Bool
-  pub coming : List Bool
-  pub of_present : AreOfRoot state past world new present
-  pub of_coming : AreOfRoot state past world new coming
-  pub grows : GrowsWhereFull present coming (length_in state old) (length_in state new)
+-- A call makes the file longer only where two roots leave no page under its end free: the one that is taken before it,
+-- and the one that is taken behind it, or that is coming then.
+pub record GrowsInAll {D R : Type 0} (state : D → DiskState) (old new : Log D R) : Type 0 where
+  pub pages : List Bool
+  pub of_root : (pages ≡ present_of (free_of new)) ⊎ ((pages ≡ coming_of (free_of new)) × AreComing old new)
+  pub full : GrowsWhereFull (present_of (free_of old)) pages (length_on state (disk_of old)) (length_on state (disk_of new))
 
 -- What keeping a record does to an honest disk that carries a world of which these tables and snapshots are lent: a stop at any moment leaves a file that
 -- keeps this world, or the one to which the record leads; and behind it the file carries the one that the answer tells. Of
@@ -91,9 +80,8 @@ pub record GrowsOnTheWay {D : Type 0} (state : D → DiskState) (past : D → Li
 -- the first step of another, which has four left at least. Whatever is to be done, it makes at most the calls of `MakesAtMost`.
 -- Where the last step of a checkpoint was made, and no other is begun, each file that a stop may leave takes a newer root, whose
 -- chains spell the world as the checkpoint began; only the records since then stand behind it. The file becomes longer
--- only where no page under its end is free: where there was room, of the roots that it has then, and whatever is to be
--- done, of two that it had on the way, unless a checkpoint under way had one step left. And an honest disk that works,
--- and carries such a world, is never told to have failed.
+-- only where no page under its end is free: where there was room, as by one step of a checkpoint, and whatever is to be
+-- done, as `GrowsInAll` says. And an honest disk that works, and carries such a world, is never told to have failed.
 pub record Keeping {D : Type 0} (Honest Works : D → Type 0) (state : D → DiskState) (past : D → List DiskState) (faults writes syncs : D → ℕ)
     (old : Log D TableRules) (lent : Lent) (bytes : List ℕ) (result : Result (Unit {0}) Fault) (new : Log D TableRules) : Type 0 where
   pub honest : Honest (disk_of new) → Honest (disk_of old)
@@ -125,6 +113,7 @@ pub record Keeping {D : Type 0} (Honest Works : D → Type 0) (state : D → Dis
   pub comes_on : OnOk result ((IsFull old bytes → ⊥) → ComesOn old new)
   pub makes_room : OnOk result (HasNoRoom (place_of old) (length bytes) → 4 ≤ ticks_left new)
   pub grows : (IsFull old bytes → ⊥) → Honest (disk_of new) → (world : words.World) → AreLentOf table_rules world lent
-      → Carries table_rules old (state (disk_of old)) world → Grows state old new
-  pub grows_in_all : (ticks_left old ≡ 1 → ⊥) → Honest (disk_of new) → (before behind : words.World) → Takes bytes before behind → AreLentOf table_rules before lent
-      → Carries table_rules old (state (disk_of old)) before → GrowsOnTheWay state past before old new
+      → Carries table_rules old (state (disk_of old)) world → Grows (length_on state) old new
+  pub pages : (IsFull old bytes → ⊥) → TakesPages old new
+  pub grows_in_all : Honest (disk_of new) → (before behind : words.World) → Takes bytes before behind → AreLentOf table_rules before lent
+      → Carries table_rules old (state (disk_of old)) before → GrowsInAll state old new

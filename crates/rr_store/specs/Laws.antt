@@ -1,5 +1,5 @@
 -- What the definitions of files and worlds say.
-use Rattle.std.specs.Prelude.{◌≡◌, ℕ, ◌+◌, ◌<◌, ◌≤◌, All, List, length}
+use Rattle.std.specs.Prelude.{◌≡◌, ℕ, ◌+◌, ◌-◌, ◌<◌, ◌≤◌, All, List, [], length}
 use Rattle.std.specs.Global.{Box}
 use Rattle.std.specs.Map.{values_of}
 use Rattle.rr_disk.specs.Disk.{DiskState}
@@ -23,7 +23,7 @@ use Rattle.rr_tables.specs.declared.tables.Tables.{Tables}
 use Rattle.rr_store.specs.declared.store.Store.{Store}
 use Rattle.rr_store.specs.Files.{StandsFor}
 use Rattle.rr_store.specs.Holding.{Carries, disk_of, held_of, last_of, root_of}
-use Rattle.rr_store.specs.Replayed.{HasNamed, HaveNamed, counts_at, left_behind}
+use Rattle.rr_store.specs.Replayed.{AreItsCounts, AreTheirCounts, PlaysTable, counts_at}
 use Rattle.rr_store.specs.World.{World}
 
 -- a file stands for one kit and one world
@@ -44,18 +44,23 @@ NumbersAreInTheFile {D} state =
     (texts : KitTexts) (store : Store D) → Carries state store texts
     → EachImage (state (disk_of store)) (HasNumbersOf store (in_words texts (held_of store).tables))
 
--- Where a table's snapshots in a root are just those that it is to have, fewer commands stand behind the last of them than the
--- spacing of snapshots.
+-- Of a table whose snapshots in a root are just those that it is to have, fewer commands are played than the spacing of
+-- snapshots.
 abbrev pub FewAreLeft : Type 0
 FewAreLeft =
-    (kit : Kit) (table : TableState) (counts : List ℕ) → HasNamed kit table counts
-    → left_behind (length table.commands) counts < SNAPSHOT_SPACING
+    (kit : Kit) (table : TableState) (counts : List ℕ) (plays : ℕ) → AreItsCounts kit table counts
+    → PlaysTable kit table counts plays → plays < SNAPSHOT_SPACING
 
--- So it is in a directory that a checkpoint writes of tables that were played and have their snapshots, if none of these has
+-- Of a table of which a root has no snapshot each command is played once, but for its opening.
+abbrev pub BareTablesArePlayedOnce : Type 0
+BareTablesArePlayedOnce =
+    (kit : Kit) (table : TableState) (plays : ℕ) → PlaysTable kit table [] plays → plays ≡ length table.commands - 1
+
+-- Just those are in a directory that a checkpoint writes of tables that were played and have their snapshots, if none of these has
 -- more bytes than it may.
 abbrev pub LentRootsAreNamed : Type 0
 LentRootsAreNamed =
     (tables : Tables) (chains : List HeldChain) → ArePlayed tables → HaveTheirSnapshots tables
     → All (λ (table : Box Table). All (λ (game : Game). length (bytes_of game) ≤ MOST_SNAPSHOT_BYTES) table.value.kept.snapshots) (values_of tables.map.entries)
     → length chains ≡ length (lent_by tables).snapshots
-    → HaveNamed tables.kit (counts_at (snapshot_entries chains (lent_by tables).snapshots)) 0 (world_of tables)
+    → AreTheirCounts tables.kit (counts_at (snapshot_entries chains (lent_by tables).snapshots)) 0 (world_of tables)

@@ -15,3 +15,4 @@ pub mod Events
 pub mod Sessions
 pub mod Recovery
 pub mod Replayed
+pub mod Named

@@ -1,23 +1,21 @@
 -- How many commands an opening plays.
-use Rattle.std.specs.Prelude.{◌≡◌, ℕ, ◌+◌, ◌-◌, ◌<◌, ◌==◌, ◌≤◌, max, false, List, [], ◌∷◌, ◌++◌, if◌then◌else◌, length, map, sum_by}
-use Rattle.std.specs.List.{AllZip}
-use Rattle.rr_code.specs.Request.{SpellsRecord}
+use Rattle.std.specs.Prelude.{◌≡◌, ℕ, ◌+◌, ◌-◌, ◌==◌, max, List, [], ◌∷◌, ◌++◌, if◌then◌else◌, length, map}
+use Rattle.std.specs.List.{filter}
 use Rattle.rr_game.specs.declared.game.Game.{Game}
 use Rattle.rr_game.specs.History.Playing.{ends_turn}
-use Rattle.rr_game.specs.History.Snapshots.{is_spaced, least_named, named_counts}
+use Rattle.rr_game.specs.History.Snapshots.{is_between, least_named, named_counts}
 use Rattle.rr_kit.specs.declared.kit.Kit.{Kit}
 use Rattle.rr_reading.specs.declared.dir.directory.SnapshotEntry.{SnapshotEntry}
-use Rattle.rr_reading.specs.declared.dir.directory.TableEntry.{TableEntry}
 use Rattle.rr_reading.specs.Held.{Held}
 use Rattle.rr_reading.specs.Reading.{Holds}
 use Rattle.rr_reading.specs.Worlds.World as words
-use Rattle.rr_tables.specs.Records.World.{TableRequest, TableState, World}
-use Rattle.rr_tables.specs.Taking.{most_plays}
+use Rattle.rr_tables.specs.Records.Lines.{TakesRecord}
+use Rattle.rr_tables.specs.Records.World.{TableState, World, table_named}
+use Rattle.rr_tables.specs.Taking.{plays_of}
 use Rattle.rr_turns.specs.Ends.{kept_at, turn_ends}
-use Rattle.rr_store.specs.Recovery.Base.{Named, ShowsThem}
+use Rattle.rr_store.specs.Recovery.Base.{Named}
 use Rattle.rr_store.specs.Recovery.Shown.{Shown, shown_at}
 use Rattle.rr_store.specs.Recovery.Telling.{IsBase}
-use Rattle.rr_store.specs.Recovery.Told.{TellTables}
 
 -- of how many commands each a root has snapshots of the table at this place
 abbrev pub counts_at : List SnapshotEntry → ℕ → List ℕ
@@ -47,69 +45,71 @@ abbrev pub begins_behind : List ℕ → ℕ
 begins_behind [] = 1
 begins_behind (count ∷ counts) = greatest (count ∷ counts)
 
--- how many of its commands stand behind that
-abbrev pub left_behind : ℕ → List ℕ → ℕ
-left_behind kept counts = kept - begins_behind counts
+-- how many of so many commands stand behind that
+abbrev pub plays_behind : ℕ → List ℕ → ℕ
+plays_behind kept counts = kept - begins_behind counts
 
--- those of all these tables, the first of which stands at this place
-abbrev pub all_left : (ℕ → List ℕ) → ℕ → List TableEntry → ℕ
-all_left counts place [] = 0
-all_left counts place (entry ∷ entries) = left_behind entry.kept (counts place) + all_left counts (place + 1) entries
+-- these counts, and of the commands that are played on behind them each count of which a snapshot is made
+abbrev pub with_due : List ℕ → ℕ → List ℕ
+with_due counts kept = counts ++ named_counts (begins_behind counts + 1) kept
 
--- all that they keep
-abbrev pub all_kept : List TableEntry → ℕ
-all_kept entries = sum_by (λ (entry : TableEntry). entry.kept) entries
-
--- no snapshot is made of a game that has played more than the first and no more than the second number of commands
-abbrev pub NoneDue : ℕ → ℕ → Type 0
-NoneDue last most = (count : ℕ) → last < count → count ≤ most → is_spaced count ≡ false
+-- of how many commands at least a table's snapshots are that its floor leaves it
+abbrev pub least_kept : Kit → TableState → ℕ
+least_kept kit table = least_named (kept_at (turn_ends (ends_turn kit) table.commands) table.floor)
 
 -- snapshots of these counts are just those that a table which keeps this is to have
-abbrev pub HasNamed : Kit → TableState → List ℕ → Type 0
-HasNamed kit table counts =
-    counts ≡ named_counts (least_named (kept_at (turn_ends (ends_turn kit) table.commands) table.floor)) (length table.commands)
+abbrev pub AreItsCounts : Kit → TableState → List ℕ → Type 0
+AreItsCounts kit table counts = counts ≡ named_counts (least_kept kit table) (length table.commands)
 
 -- so it is of each of these tables, the first of which stands at this place
-abbrev pub HaveNamed : Kit → (ℕ → List ℕ) → ℕ → World → Type 0
-HaveNamed kit counts place [] = Unit {0}
-HaveNamed kit counts place (table ∷ tables) = HasNamed kit table.1 (counts place) × HaveNamed kit counts (place + 1) tables
+abbrev pub AreTheirCounts : Kit → (ℕ → List ℕ) → ℕ → World → Type 0
+AreTheirCounts kit counts place [] = Unit {0}
+AreTheirCounts kit counts place (table ∷ tables) =
+    AreItsCounts kit table.1 (counts place) × AreTheirCounts kit counts (place + 1) tables
 
--- So many commands are played of a root's tables: those behind the last snapshot of each; and more, but no more than all
--- that they keep, where some table lacks snapshots that it is to have.
-pub record PlaysBase (named : Named) (kit : Kit) (plays : ℕ) : Type 0 where
-  pub least : all_left (counts_named named) 0 named.entries ≤ plays
-  pub most : plays ≤ all_left (counts_named named) 0 named.entries + all_kept named.entries
-  pub few : (tables : World) → TellTables named.entries named.chains tables → ShowsThem kit named tables
-      → HaveNamed kit (counts_named named) 0 tables → plays ≡ all_left (counts_named named) 0 named.entries
+-- of how many commands each a table has snapshots that was played on from those of these counts: the ones that its floor
+-- leaves it
+abbrev pub counts_then : Kit → TableState → List ℕ → List ℕ
+counts_then kit table counts =
+    filter (is_between (least_kept kit table) (length table.commands)) (with_due counts (length table.commands))
 
--- so many of a record: no more than its request plays at most
-pub record PlaysRecord (line : List ℕ) (plays : ℕ) : Type 0 where
-  pub asked : TableRequest
-  pub spelled : SpellsRecord line asked.name asked.request
-  pub few : plays ≤ most_plays asked.request
+-- So many commands are played of a table that keeps this and of which a root has snapshots of these counts: those behind the
+-- last of them. If it then has other snapshots than it is to have, it is played once more, from its opening.
+pub record PlaysTable (kit : Kit) (table : TableState) (counts : List ℕ) (plays : ℕ) : Type 0 where
+  pub once : AreItsCounts kit table (counts_then kit table counts) → plays ≡ plays_behind (length table.commands) counts
+  pub twice : (AreItsCounts kit table (counts_then kit table counts) → ⊥)
+      → plays ≡ plays_behind (length table.commands) counts + plays_behind (length table.commands) []
 
--- and of these records
-pub record PlaysRecords (lines : List (List ℕ)) (plays : ℕ) : Type 0 where
-  pub requests : List TableRequest
-  pub spelled : AllZip (λ (line : List ℕ) (asked : TableRequest). SpellsRecord line asked.name asked.request) lines requests
-  pub few : plays ≤ sum_by (λ (asked : TableRequest). most_plays asked.request) requests
+-- so many of these tables, the first of which stands at this place
+abbrev pub PlaysTables : Kit → (ℕ → List ℕ) → ℕ → World → ℕ → Type 0
+PlaysTables kit counts place [] plays = plays ≡ 0
+PlaysTables kit counts place (table ∷ tables) plays =
+    (first : ℕ) × (others : ℕ) × PlaysTable kit table.1 (counts place) first × PlaysTables kit counts (place + 1) tables others
+    × (plays ≡ first + others)
 
--- how many kept commands stand behind the last snapshots of the tables in a root
-abbrev pub left_in : Held → ℕ
-left_in has = all_left (counts_at has.directory.snapshots) 0 has.directory.tables
+-- a record is taken, and so many commands are played to work out what its request makes of its table
+pub record PlaysRecord (kit : Kit) (old : World) (line : List ℕ) (new : World) (plays : ℕ) : Type 0 where
+  pub takes : TakesRecord kit old line new
+  pub counted : plays ≡ plays_of kit (table_named old takes.name) takes.request
 
--- An opening plays so many commands: of each table of the root those behind its last snapshot, and of each record at most as
--- many as its request plays. Where a table's snapshots in the root aren't just those that it is to have, it may be played once
--- more, from its opening.
+-- and so many for records, which are taken in turn
+abbrev pub PlaysRecords : Kit → World → List (List ℕ) → World → ℕ → Type 0
+PlaysRecords kit old [] new plays = (new ≡ old) × (plays ≡ 0)
+PlaysRecords kit old (line ∷ lines) new plays =
+    (mid : World) × (first : ℕ) × (others : ℕ) × PlaysRecord kit old line mid first × PlaysRecords kit mid lines new others
+    × (plays ≡ first + others)
+
+-- An opening plays so many commands: those of the tables that the root spells, and then those of the records.
 pub record IsReplayed (has : Held) (kit : Kit) (count : ℕ) : Type 0 where
+  pub base : World
+  pub world : words.World
+  pub is_base : IsBase has base world
   pub of_tables : ℕ
+  pub tables : PlaysTables kit (counts_at has.directory.snapshots) 0 base of_tables
+  pub now : World
   pub of_records : ℕ
+  pub records : PlaysRecords kit base (has.near ++ has.far) now of_records
   pub both : count ≡ of_tables + of_records
-  pub least : left_in has ≤ of_tables
-  pub most : of_tables ≤ left_in has + all_kept has.directory.tables
-  pub few : (base : World) (world : words.World) → IsBase has base world
-      → HaveNamed kit (counts_at has.directory.snapshots) 0 base → of_tables ≡ left_in has
-  pub records : PlaysRecords (has.near ++ has.far) of_records
 
 -- so many commands are played to open this file
 abbrev pub ReplaysFile : List ℕ → Kit → ℕ → Type 0

@@ -1,7 +1,8 @@
 //! What the definitions of files and worlds say, and the law over sessions. The functions do nothing: their contracts
 //! hold of all files, worlds and disks.
 ghost use Rattle.rr_store.specs.Events.{CommitsAreEvents, OpensAreEvents, StepsAreEvents};
-ghost use Rattle.rr_store.specs.Laws.{FewAreLeft, LentRootsAreNamed, NumbersAreInTheFile, OneWorld};
+ghost use Rattle.rr_store.specs.Laws.{BareTablesArePlayedOnce, FewAreLeft, LentRootsAreNamed, NumbersAreInTheFile, OneWorld};
+ghost use Rattle.rr_store.specs.Named.{CheckpointsPlayFew, OpeningsPlayFew};
 ghost use Rattle.rr_store.specs.Sessions.{OpeningsAndRequestsAreSessions, PartsOfWritesAreLeft, SessionsAreSafe};
 
 use rr_checkpoint::Tick;
@@ -18,12 +19,24 @@ pub fn numbers_are_in_the_file<D: Disk>()
     ensures { NumbersAreInTheFile D.state }
 {}
 
-/// Few commands are left behind the last snapshots, where a directory names those that each table is to have.
+/// Few commands are left to be played behind the last snapshots, where a directory names those that each table is to have.
 pub fn few_are_left()
     // Fewer than 64 of a table whose snapshots are just those that it is to have;
     ensures few { FewAreLeft }
-    // and so they are of each table, in a directory that is written of what played tables with their snapshots lend.
+    // all behind its opening of one of which there is none;
+    ensures bare { BareTablesArePlayedOnce }
+    // and it names just those of each table, where it is written of what played tables with their snapshots lend.
     ensures named { LentRootsAreNamed }
+{}
+
+/// An opening plays few commands of a file whose root has of each table just the snapshots that it is to have. That each
+/// file which a checkpoint leaves has such a root is what `Store::checkpoint` tells (`names`), and `open` tells how many
+/// commands it played (`replayed`).
+pub fn openings_play_few()
+    // Fewer than 64 of each table in the root, beside those of the records;
+    ensures few { OpeningsPlayFew }
+    // and where no record stands behind the root, as behind a checkpoint, fewer than 64 of each table that is held.
+    ensures behind_a_checkpoint { CheckpointsPlayFew }
 {}
 
 /// What the contracts of the calls on a store say is what the law over schedules allows of events, however they end and

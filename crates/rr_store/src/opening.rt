@@ -43,8 +43,8 @@ pub struct Refused<D: Drop> {
 }
 
 /// Opens a file that `format` made. It makes a sync, and no write. The file's snapshots are trusted: the commands before
-/// one aren't judged. A table that lacks one of those that it is to have, as in a file of a program that wrote fewer, is
-/// played once more, from its opening.
+/// one aren't judged. A table that was played on from its last one and still has others than it is to have, as of a file
+/// of a program that wrote fewer, is played once more, from its opening.
 ///
 /// # Errors
 /// `DeviceFailed`; `NotAStore` where the file has no roots of this version; `Damaged` with the least clause that it
@@ -84,7 +84,7 @@ pub fn open<D: Disk + Drop>(alloc: Global, disk: D) -> Result<Store<D>, Refused<
     ensures snapshots { IfOk result (λ store. D.Honest (disk_of store) → (texts : KitTexts) (tables : World)
         → StandsFor (D.state disk).content texts tables → GamesHaveSnapshots store) }
 
-    // And for that few commands are played.
+    // And for that so many commands are played.
     ensures replayed { IfOk result (λ store. D.Honest (disk_of store) → (texts : KitTexts) (tables : World)
         → StandsFor (D.state disk).content texts tables
         → ReplaysFile (D.state disk).content (held_of store).kit (replayed_of store)) }

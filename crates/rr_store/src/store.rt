@@ -1,6 +1,6 @@
 ghost use Rattle.std.specs.Prelude.{◌≡◌, ◌↔◌, ◌+◌, ◌<◌, ◌≤◌, true, false, IfOk, MatchResult, OnErr, OnOk, Some, slice_get, length};
 ghost use Rattle.std.specs.Option.{option_copied};
-ghost use Rattle.rr_checkpoint.specs.Growing.{GrowsWhereFull};
+ghost use Rattle.rr_checkpoint.specs.Growing.{AreReclaimed, GrowsWhereFull};
 ghost use Rattle.rr_checkpoint.specs.Writer.{RenewsAt};
 ghost use Rattle.rr_code.specs.Request.{IsRequest};
 ghost use Rattle.rr_disk.specs.Moments.{EachImage};
@@ -9,6 +9,7 @@ ghost use Rattle.rr_images.specs.Calls.{TakesNewer};
 ghost use Rattle.rr_kit.specs.Kits.{KitTexts};
 ghost use Rattle.rr_reading.specs.declared.dir.directory.TheConstants.{MOST_TABLES};
 ghost use Rattle.rr_log.specs.Calls.{IsFileFull, LowersFrom, NumbersRoot, TakesRootOf, as_begun, first_left, ticks_due};
+ghost use Rattle.rr_log.specs.Growing.{Grows, TakesPages};
 ghost use Rattle.rr_pages.specs.FreePages.{coming_of, present_of};
 ghost use Rattle.rr_tables.specs.Records.Taking.{table_files};
 ghost use Rattle.rr_tables.specs.Records.Words.{in_words};
@@ -38,7 +39,8 @@ pub struct Store<D: Drop> {
 
 impl<D: Disk + Drop> Store<D> {
     ghost use Rattle.rr_store.specs.Committing.{Commits};
-    ghost use Rattle.rr_store.specs.Holding.{Carries, GamesArePlayed, HasNoneBegun, IsUnchanged, Rests, disk_of, file_of, free_of, held_of, lent_of, last_of, replayed_of, root_of, ticks_left};
+    ghost use Rattle.rr_store.specs.Holding.{Carries, GamesArePlayed, GamesHaveSnapshots, HasNoneBegun, IsUnchanged, Rests, disk_of, file_of, free_of, held_of, lent_of, last_of, replayed_of, root_of, ticks_left};
+    ghost use Rattle.rr_store.specs.Named.{HasShortSnapshots, NamesSnapshots};
     ghost use Rattle.rr_store.specs.Ticking.{MakesFew, Steps};
 
     /// The disk on which the file stands, with all that it went through.
@@ -92,9 +94,10 @@ impl<D: Disk + Drop> Store<D> {
         self.journal.file.is_broken()
     }
 
-    /// How many commands the opening of this store played: for each table those behind its last snapshot in the file,
-    /// and for the records behind the root one for each play, and for a take-back as many as it played again. A table
-    /// that lacked snapshots which it is to have was played once more. A store that is broken tells it too.
+    /// How many commands the opening of this store played: as often as it stepped a game, where an opening of a table is
+    /// no step. `open` says which they are (`ReplaysFile`): of each table in the root those behind its last snapshot, or
+    /// behind its opening where there is none; if the table then had other snapshots than it is to have, all behind its
+    /// opening as well; and of each record in turn as many as `Taken::plays` tells. A store that is broken tells it too.
     pub fn replayed(&self) -> u64
         ensures { result ≡ replayed_of self.now }
     {
@@ -203,10 +206,10 @@ impl<D: Disk + Drop> Store<D> {
             → RenewsAt table_files tick carries.file.carried.layout (D.state (disk_of self.new)) (in_words texts (held_of self.old).tables)) }
         ensures replayed { replayed_of self.new ≡ replayed_of self.old }
 
-        // The file becomes longer only where no page under its end is free.
+        // The file becomes longer only by a page of a checkpoint, and only where no page under its end is free.
         ensures grows { D.Honest (disk_of self.new) → (texts : KitTexts) → Carries D.state self.old texts
-            → GrowsWhereFull (present_of (free_of self.new)) (coming_of (free_of self.new))
-            (D.file_len (disk_of self.old)) (D.file_len (disk_of self.new)) }
+            → Grows D.file_len (file_of self.old) (file_of self.new) }
+        ensures pages { TakesPages (file_of self.old) (file_of self.new) }
         ensures writes { D.write_count (disk_of self.new) ≤ D.write_count (disk_of self.old) + 1 }
         ensures syncs { D.sync_count (disk_of self.new) ≤ D.sync_count (disk_of self.old) + 1 }
     {
@@ -231,6 +234,12 @@ impl<D: Disk + Drop> Store<D> {
             → EachImage (D.state (disk_of self.new)) (TakesRootOf table_files (root_of self.old) (in_words texts (held_of self.old).tables))) }
         ensures root { OnOk result (D.Honest (disk_of self.new) → (texts : KitTexts) → Carries D.state self.old texts
             → root_of self.new ≡ root_of self.old + 1) }
+
+        // And its root has of each table just the snapshots that it is to have, so that few commands are played to open
+        // it.
+        ensures names { OnOk result (ticks_left self.old ≡ 0 → HasNoneBegun self.old → D.Honest (disk_of self.new)
+            → (texts : KitTexts) → Carries D.state self.old texts → GamesHaveSnapshots self.old → HasShortSnapshots self.old
+            → EachImage (D.state (disk_of self.new)) (NamesSnapshots (held_of self.old).kit)) }
         ensures fits { OnOk result (ticks_left self.old ≡ 0
             → IsFileFull (file_of self.old) (lent_of self.old) → ⊥) }
         ensures replayed { replayed_of self.new ≡ replayed_of self.old }
@@ -243,6 +252,8 @@ impl<D: Disk + Drop> Store<D> {
         ensures grows_so_far { OnErr result (D.Honest (disk_of self.new) → (texts : KitTexts)
             → Carries D.state self.old texts → GrowsWhereFull (present_of (free_of self.old)) (coming_of (free_of self.new))
             (D.file_len (disk_of self.old)) (D.file_len (disk_of self.new))) }
+        ensures reclaims { OnOk result (0 < ticks_left self.old → AreReclaimed (free_of self.old) (free_of self.new)) }
+        ensures same_free { OnErr result (0 < ticks_left self.old → free_of self.new ≡ free_of self.old) }
         ensures writes { MakesFew D.write_count self.old self.new }
         ensures syncs { MakesFew D.sync_count self.old self.new }
     {

@@ -132,3 +132,17 @@ fn a_store_whose_device_failed_is_to_be_opened_again(rt: HostRuntime) -> Result<
     assert!(rt; broken(rt.alloc())? == (false, ends, true, 1));
     Ok(())
 }
+
+// How many commands a store tells that its opening played, before and behind a commit that is taken.
+fn counted_around_a_commit(alloc: Global) -> Result<(u64, bool, u64), Fail> {
+    let mut store = opened(alloc, disk_of(played_store(alloc)?))?;
+    let before = replayed(&store);
+    let taken = commit(&mut store, 2, b"t1 pass b").is_ok();
+    Ok((before, taken, replayed(&store)))
+}
+
+#[test]
+fn a_commit_leaves_what_the_opening_played(rt: HostRuntime) -> Result<(), Fail> {
+    assert!(rt; counted_around_a_commit(rt.alloc())? == (1, true, 1));
+    Ok(())
+}

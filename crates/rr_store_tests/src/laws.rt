@@ -3,7 +3,8 @@ use crate::files::{new_store, table_count};
 use rr_disk::Disk;
 use rr_store::Store;
 use rr_store::laws::{
-    calls_are_events, few_are_left, numbers_are_in_the_file, one_world, sessions_are_safe,
+    calls_are_events, few_are_left, numbers_are_in_the_file, one_world, openings_play_few,
+    sessions_are_safe,
 };
 use std::test::Fail;
 
@@ -12,6 +13,7 @@ use std::test::Fail;
 fn call_laws_of_worlds() {
     one_world();
     few_are_left();
+    openings_play_few();
     rr_world_laws::whatever_comes_is_sound();
     rr_world_laws::worlds_are_sound();
     rr_world_laws::files_are_sound();

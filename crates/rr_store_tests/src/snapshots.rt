@@ -218,16 +218,18 @@ fn long_file(alloc: Global) -> Result<MemoryDisk, Fail> {
     Ok(disk_of(store))
 }
 
-// Of that file; of one whose third command wasn't lawful; of one that a checkpoint made of the table taken back to 70
-// commands; and of one with a record that takes such a table back to 67.
-fn openings(alloc: Global) -> Result<[Opening; 4], Fail> {
+// Of that file; of one whose root has all 130 commands; of one whose third command wasn't lawful; of one that a
+// checkpoint made of the table taken back to 70 commands; and of one with a record that takes such a table back to 67.
+fn openings(alloc: Global) -> Result<[Opening; 5], Fail> {
     let long = long_file(alloc)?;
+    let whole = checkpointed(alloc, long_file(alloc)?, 130, b"t1 forget 1")?;
     let unlawful = with_byte(alloc, &long, THIRD, b"a")?;
     let back = checkpointed(alloc, long_file(alloc)?, 130, b"t1 back 69")?;
     let mut store = opened(alloc, file(alloc)?)?;
     commit(&mut store, 70, b"t1 back 66")?;
     Ok([
         opening(alloc, long),
+        opening(alloc, whole),
         opening(alloc, unlawful),
         opening(alloc, back),
         opening(alloc, disk_of(store)),
@@ -239,11 +241,84 @@ fn openings(alloc: Global) -> Result<[Opening; 4], Fail> {
 fn few_commands_are_played_by_an_opening(rt: HostRuntime) -> Result<(), Fail> {
     let whole = [
         Ok((2, (130, 0, 129, 130))),
+        Ok((2, (131, 1, 129, 130))),
         Ok((2, (130, 0, 129, 130))),
         Ok((6, (131, 0, 69, 70))),
         Ok((9, (71, 0, 66, 67))),
     ];
     assert!(rt; openings(rt.alloc())? == whole);
+    Ok(())
+}
+
+// Of the file of 130 commands, and of one of two tables, page 522 has the directory: how many of its bytes are used, and
+// from byte 10 on what stands before the tables, in 50 bytes, 31 for each table, the number of snapshots in two, and 18
+// for each of these.
+const USED: u64 = 2_138_121;
+
+const NUMBER: u64 = 2_138_204;
+
+const FIRST: u64 = 2_138_205;
+
+const SECOND: usize = 2_138_223;
+
+// A file of two tables, of 70 commands with a snapshot of the first 64, and of two; and a record that takes the first one
+// back to 67.
+fn pair(alloc: Global) -> Result<MemoryDisk, Fail> {
+    let mut store = played_store(alloc)?;
+    pass_on(&mut store, 2, 70)?;
+    commit(&mut store, 0, b"t2 open a b")?;
+    commit(&mut store, 1, b"t2 buy a")?;
+    checkpoint(&mut store)?;
+    commit(&mut store, 70, b"t1 back 66")?;
+    Ok(disk_of(store))
+}
+
+// The file of 130 commands whose root names the first of both snapshots alone, or the second.
+fn with_one_snapshot(alloc: Global, second: bool) -> Result<MemoryDisk, Fail> {
+    let long = long_file(alloc)?;
+    let short = with_byte(alloc, &long, USED, b"\x65")?;
+    let first = with_byte(alloc, &short, NUMBER, b"\x01")?;
+    if !second {
+        return Ok(first);
+    }
+    let Some(entry) = content(&long).get(SECOND..SECOND + 18) else {
+        return Err(Fail::from("a directory of other bytes"));
+    };
+    with_byte(alloc, &first, FIRST, entry)
+}
+
+// Of the file of 130 commands, whose root names no snapshot, or one of both; and of two tables, whose root names the
+// snapshot, or none.
+fn lacking_openings(alloc: Global) -> Result<[Opening; 5], Fail> {
+    let none = with_byte(alloc, &long_file(alloc)?, USED, b"\x51")?;
+    let first = with_one_snapshot(alloc, false)?;
+    let second = with_one_snapshot(alloc, true)?;
+    let two = pair(alloc)?;
+    let bare = with_byte(alloc, &two, USED, b"\x70")?;
+    Ok([
+        opening(alloc, none),
+        opening(alloc, first),
+        opening(alloc, second),
+        opening(alloc, two),
+        opening(alloc, bare),
+    ])
+}
+
+// Two records behind 127 commands that are played from the opening, behind 64 from the first snapshot, and behind none
+// from the second and then 127, since the first is lacking then. Of two tables 6 and 1, or 69 and 1, and then 3 for the
+// record.
+#[test]
+fn tables_that_lack_snapshots_are_played_from_what_there_is(rt: HostRuntime) -> Result<(), Fail> {
+    let whole = (130, 0, 129, 130);
+    let back = (71, 0, 66, 67);
+    let told = [
+        Ok((129, whole)),
+        Ok((66, whole)),
+        Ok((129, whole)),
+        Ok((10, back)),
+        Ok((73, back)),
+    ];
+    assert!(rt; lacking_openings(rt.alloc())? == told);
     Ok(())
 }
 

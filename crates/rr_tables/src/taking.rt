@@ -1,5 +1,5 @@
 //! Requests: judged, their records kept, and then taken.
-ghost use Rattle.std.specs.Prelude.{◌≡◌, ◌<◌, ◌≤◌, ℕ, List, IfOk, IfErr, OnOk, OnErr, MatchOption, MatchResult, None, Some, bytes_eq, option_map};
+ghost use Rattle.std.specs.Prelude.{◌≡◌, ◌<◌, ℕ, List, IfOk, IfErr, OnOk, OnErr, MatchOption, MatchResult, None, Some, bytes_eq, option_map};
 ghost use Rattle.indexmap.specs.IndexMap.{get, index_map_len};
 ghost use Rattle.rr_code.specs.Request.{IsRequest, record_text};
 ghost use Rattle.rr_code.specs.declared.command.Command.{Command as Line};
@@ -11,7 +11,7 @@ ghost use Rattle.rr_tables.specs.Records.World.{judgement_in, opening_verdict, s
 ghost use Rattle.rr_tables.specs.declared.records.fault.Fault.TheVariants as R;
 ghost use Rattle.rr_tables.specs.Changing.{HasRoomIn, IsChangeOf, IsWritableChange};
 ghost use Rattle.rr_tables.specs.Tables.{AreSame, ArePlayed, HaveTheirSnapshots, kept_in_box, lent_by, world_of};
-ghost use Rattle.rr_tables.specs.Taking.{MayRefuse, Passed, most_plays};
+ghost use Rattle.rr_tables.specs.Taking.{MayRefuse, Passed, plays_of};
 ghost use Rattle.rr_tables.specs.Writable.{IsWritable};
 ghost use Rattle.rr_turns.specs.Judgement.{IsVerdict, MayFind, settled};
 ghost use Rattle.rr_turns.specs.Kept.{kept_after};
@@ -30,7 +30,7 @@ use std::alloc::Global;
 pub struct Taken {
     /// The table's new stamp.
     pub stamp: u64,
-    /// How many commands were played to work out what the request makes of the table. An opening is none of them.
+    /// How many commands were played to work out what the request makes of the table: as often was its game stepped.
     pub plays: usize,
 }
 
@@ -59,7 +59,8 @@ impl Tables {
         ensures world { OnOk result (ArePlayed self.old
             → world_of self.new ≡ world_after self.old.kit (world_of self.old) name.now request.now) }
         ensures stamp { IfOk result (λ taken. taken.stamp ≡ (state_after self.old.kit (table_named (world_of self.old) name.now) request.now).stamp) }
-        ensures plays { IfOk result (λ taken. ArePlayed self.old → HaveTheirSnapshots self.old → taken.plays ≤ most_plays request.now) }
+        ensures plays { IfOk result (λ taken. ArePlayed self.old → HaveTheirSnapshots self.old
+            → taken.plays ≡ plays_of self.old.kit (table_named (world_of self.old) name.now) request.now) }
         ensures played { ArePlayed self.old → ArePlayed self.new }
         ensures snapshots { ArePlayed self.old → HaveTheirSnapshots self.old → HaveTheirSnapshots self.new }
         ensures kit { self.new.kit ≡ self.old.kit }
@@ -137,7 +138,8 @@ impl Tables {
         ensures world { OnOk result (ArePlayed self.old
             → world_of self.new ≡ world_after self.old.kit (world_of self.old) name.now request.now) }
         ensures stamp { IfOk result (λ taken. taken.stamp ≡ (state_after self.old.kit (option_map kept_in_box (get bytes_eq self.old.map name.now)) request.now).stamp) }
-        ensures plays { IfOk result (λ taken. ArePlayed self.old → HaveTheirSnapshots self.old → taken.plays ≤ most_plays request.now) }
+        ensures plays { IfOk result (λ taken. ArePlayed self.old → HaveTheirSnapshots self.old
+            → taken.plays ≡ plays_of self.old.kit (option_map kept_in_box (get bytes_eq self.old.map name.now)) request.now) }
         ensures played { ArePlayed self.old → ArePlayed self.new }
         ensures snapshots { ArePlayed self.old → HaveTheirSnapshots self.old → HaveTheirSnapshots self.new }
         ensures kit { self.new.kit ≡ self.old.kit }

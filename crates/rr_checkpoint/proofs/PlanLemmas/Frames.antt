@@ -1,5 +1,5 @@
 -- What taking pages leaves as it was, over several calls.
-use Rattle.std.proofs.Common.{true, false, not, suc, arith, ◌≡◌, ℕ, ◌+◌, ◌<◌, Bool, List, [], ◌∷◌, ◌++◌, length, take, get_or, refl, sym, ◌∙◌, ap}
+use Rattle.std.proofs.Common.{true, false, suc, arith, ◌≡◌, ℕ, ◌+◌, ◌<◌, Bool, List, [], ◌∷◌, ◌++◌, length, take, get_or, refl, sym, ◌∙◌, ap}
 use Rattle.std.proofs.lemmas.List.{take_more}
 use Rattle.std.specs.Option.{unwrap_or}
 use Rattle.rr_checkpoint.specs.declared.writer.Writer.{Writer}

@@ -249,6 +249,7 @@ module _ (rules : WorldRules) (layout : Layout (worlds rules)) (kit : KitPages) 
           chains = chains;
           named = there;
           written = made.2 ∙ (bytes_are ∙ ap (λ (there : World). bytes_for NEWEST texts chains there snapshots) (sym of.world));
+          is_directory = subst (λ (there : World). IsDirectory (directory_for texts chains there snapshots)) (sym of.world) is_directory;
           held = subst (λ (there : World). HoldTexts texts chains there snapshots) (sym of.world) all_held;
         } in
         subst (λ (l : Layout (worlds rules)). (may : MayBegin (worlds rules) l after plan) × StandIn texts placed may.holding × HoldsAll texts layout.middle snapshots may.holding) is (made.0, stand, all)

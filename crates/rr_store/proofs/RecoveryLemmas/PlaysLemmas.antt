@@ -1,41 +1,41 @@
 -- How many commands are played for a table, and which snapshots it has then.
-use Rattle.std.proofs.Common.{◌≡◌, ◌⊎◌, ℕ, zero, suc, ◌+◌, ◌-◌, ◌%◌, ◌<◌, ◌≤◌, ◌==◌, Bool, true, false, nat_le, List, [], ◌∷◌, ◌++◌, All, length, map, max, take, get_or, option_to_list, Option, None, Some, Result, Ok, Err, IfOk, OnOk, if◌then◌else◌, inl, inr, refl, sym, ap, subst, ◌∙◌, append-nil, length-append, arith}
-use Rattle.std.specs.List.{AllZip, Contains, filter}
+use Rattle.std.proofs.Common.{◌≡◌, ◌⊎◌, ℕ, zero, suc, ◌+◌, ◌*◌, ◌-◌, ◌%◌, ◌<◌, ◌≤◌, ◌==◌, ◌&&◌, ◌↔◌, Bool, true, false, cond, nat_le, List, [], ◌∷◌, ◌++◌, All, length, map, max, take, get_or, option_to_list, Option, None, Some, Result, Ok, Err, IfOk, if◌then◌else◌, inl, inr, refl, sym, ap, subst, ◌∙◌, append-nil, append_assoc, arith}
+use Rattle.std.specs.List.{AllZip, filter, range_with_len}
 use Rattle.std.proofs.lemmas.Bool.{cases_Bool}
 use Rattle.std.proofs.lemmas.Bool.Decides.{nat_tests}
-use Rattle.std.proofs.lemmas.List.{get_or_past, length-take-le, map-append, take_more}
-use Rattle.std.proofs.lemmas.List.Sums.{sum_by-append, sum_by_more, sum_by_push}
-use Rattle.std.proofs.lemmas.List.Elements.{All-cons, All-contains, All-head, All-nil, All-tail, All-weaker}
+use Rattle.std.proofs.lemmas.List.{get_or_past, map-append, take_more}
+use Rattle.std.proofs.lemmas.List.Elements.{All-append, All-cons, All-contains, All-filter, All-head, All-nil, All-tail, All-weaker}
 use Rattle.rr_code.specs.declared.command.Command.{Command}
-use Rattle.rr_code.specs.Request.{SpellsRecord}
 use Rattle.rr_game.specs.declared.game.Game.{Game}
 use Rattle.rr_game.specs.declared.history.change.Change.{Change}
 use Rattle.rr_game.specs.declared.history.snapshots.TheConstants.{SNAPSHOT_SPACING}
 use Rattle.rr_game.specs.declared.history.table.Table.{Table}
-use Rattle.rr_game.specs.History.Changing.{game_after, kept_with, snapshots_after}
+use Rattle.rr_game.specs.History.Changing.{game_after, snapshots_after}
 use Rattle.rr_game.specs.History.Playing.{ends_turn}
-use Rattle.rr_game.specs.History.Snapshots.{AreNamed, is_between, is_named, is_spaced, least_named, named_counts, snapshot_due}
+use Rattle.rr_game.specs.History.Snapshots.{is_between, is_named, is_spaced, least_named, named_counts, snapshot_due}
 use Rattle.rr_game.specs.History.Tables.{HasItsSnapshots, IsPlayed, ShowsBy, kept_in, turns_in}
-use Rattle.rr_game.proofs.HistoryLemmas.Counts.{kept_above, least-below, least-near, least-rises, map-filter, nearest_named, opening_named, true-le}
+use Rattle.rr_game.proofs.HistoryLemmas.Counts.{kept_above, least-below, least-near, least-rises, map-filter, named_more, nearest_named, opening_named, true-le}
 use Rattle.rr_game.proofs.HistoryLemmas.Making.{ended_within}
 use Rattle.rr_images.specs.Holding.{HeldChain}
 use Rattle.rr_kit.specs.declared.kit.Kit.{Kit}
 use Rattle.rr_reading.specs.declared.dir.directory.SnapshotEntry.{SnapshotEntry}
 use Rattle.rr_reading.specs.declared.dir.directory.TableEntry.{TableEntry}
-use Rattle.rr_tables.specs.Records.Words.{SpellCommands}
-use Rattle.rr_tables.specs.Records.World.{TableRequest, TableState, World}
-use Rattle.rr_turns.specs.declared.request.Request.TheVariants.{Play}
-use Rattle.rr_tables.specs.Taking.{most_plays}
+use Rattle.rr_tables.specs.Records.World.{TableState, World, table_named}
+use Rattle.rr_tables.specs.Taking.{plays_of}
+use Rattle.rr_turns.specs.declared.request.Request.{Request}
+use Rattle.rr_turns.specs.declared.request.Request.TheVariants.{Play, Back, Forget}
+use Rattle.rr_turns.specs.Counts.{numbers_with}
 use Rattle.rr_turns.specs.Ends.{kept_at, turn_ends}
-use Rattle.rr_turns.specs.Kept.{Kept}
-use Rattle.rr_turns.proofs.CountLemmas.{passes-at}
+use Rattle.rr_turns.proofs.CountLemmas.{none-above, passes-at}
 use Rattle.rr_turns.proofs.EndLemmas.{ends_within}
 use Rattle.rr_store.specs.declared.recovery.fault.Fault.{Fault}
 use Rattle.rr_store.specs.Recovery.Kept.{IsBegunBy}
 use Rattle.rr_store.specs.Recovery.Playing.{Recalls, ShowsNext}
+use Rattle.rr_store.specs.Recovery.Restoring.{Puts}
 use Rattle.rr_store.specs.Recovery.Shown.{IsLast, ShowPlays, Shown, ShowsPlayOf, SpellsTheGame, shown_at}
-use Rattle.rr_store.specs.Recovery.Told.{TellTables, TellsTable}
-use Rattle.rr_store.specs.Replayed.{HasNamed, HaveNamed, NoneDue, PlaysRecord, PlaysRecords, all_kept, all_left, begins_behind, counts_at, counts_played, counts_shown, greatest, left_behind}
+use Rattle.rr_store.specs.Recovery.Told.{TellsTable}
+use Rattle.rr_store.specs.Replayed.{AreItsCounts, PlaysRecord, PlaysRecords, PlaysTable, PlaysTables, begins_behind, counts_at, counts_played, counts_shown, counts_then, greatest, least_kept, plays_behind, with_due}
+use Rattle.rr_store.proofs.RecoveryLemmas.RestoringLemmas.{show_last}
 use Rattle.rr_store.proofs.RecoveryLemmas.WordLemmas.{as_many}
 
 -- ---- the greatest of some counts
@@ -166,17 +166,59 @@ shows_next old middle new command change kept game snapshots shows game_is snaps
           ∙ ap (λ (n : ℕ). counts_played old.kept.snapshots ++ (if is_spaced n then n ∷ [] else [])) played;
     }
 
--- where none is due the counts stay
+-- ---- those that are due behind some counts
+
+and_no : (a b : Bool) → b ≡ false → (a && b) ≡ false
+and_no true b is = is
+and_no false b is = refl
+
+none_counted : (test : ℕ → Bool) → numbers_with test 0 ≡ []
+unfolding numbers_with
+none_counted test = refl
+
+-- above a count there is none up to it
+none_past : (count : ℕ) → named_counts (count + 1) count ≡ []
+none_past count =
+    none-above (is_named (count + 1)) 0 count (omega arith)
+    (λ place low high. and_no (is_spaced (place + 1)) (nat_le (count + 1) (place + 1)) (let e : nat_le (count + 1) (place + 1) ≡ false = grind (arith, nat_tests, high) in e))
+    ∙ none_counted (is_named (count + 1))
+
+-- at first these are the counts themselves
+pub due_first : (counts : List ℕ) → with_due counts (begins_behind counts) ≡ counts
+due_first counts = ap (λ (l : List ℕ). counts ++ l) (none_past (begins_behind counts)) ∙ append-nil counts
+
+range_within : (first n : ℕ) → All (λ (k : ℕ). (first ≤ k) × (k < first + n)) (range_with_len first n)
+range_within first zero = All-nil (λ (k : ℕ). (first ≤ k) × (k < first + 0))
+range_within first (suc n) =
+    let P : ℕ → Type 0 = λ k. (first ≤ k) × (k < first + suc n) in
+    All-cons P first (range_with_len (first + 1) n) (omega arith, omega arith)
+    (All-weaker (λ (k : ℕ). (first + 1 ≤ k) × (k < first + 1 + n)) P (λ k is. (omega (arith, is.0), omega (arith, is.1))) (range_with_len (first + 1) n) (range_within (first + 1) n))
+
+named_within : (least count : ℕ) → All (λ (k : ℕ). k ≤ count) (named_counts least count)
+unfolding numbers_with
+named_within least count =
+    All-weaker (λ (k : ℕ). (1 ≤ k) × (k < 1 + count)) (λ (k : ℕ). k ≤ count) (λ k is. omega (arith, is.1)) (named_counts least count)
+    (All-filter (is_named least) (λ (k : ℕ). (1 ≤ k) × (k < 1 + count)) (range_with_len 1 count) (range_within 1 count))
+
+-- none is greater than what was played
+due_within : (counts : List ℕ) (kept : ℕ) → begins_behind counts ≤ kept → All (λ (n : ℕ). n ≤ kept) (with_due counts kept)
+due_within counts kept low =
+    All-append (λ (n : ℕ). n ≤ kept) counts (named_counts (begins_behind counts + 1) kept) (all_behind counts kept low) (named_within (begins_behind counts + 1) kept)
+
+-- one command more
 pub next_shown : (counts : List ℕ) (old new : Table) → ShowsNext old new → begins_behind counts ≤ length old.kept.commands
-    → (NoneDue (begins_behind counts) (length old.kept.commands) → counts_played old.kept.snapshots ≡ counts) → NoneDue (begins_behind counts) (length new.kept.commands)
-    → counts_played new.kept.snapshots ≡ counts
-next_shown counts old new shows low before none =
+    → counts_played old.kept.snapshots ≡ with_due counts (length old.kept.commands) → counts_played new.kept.snapshots ≡ with_due counts (length new.kept.commands)
+next_shown counts old new shows low before =
     let m = length old.kept.commands in
     let one : length new.kept.commands ≡ m + 1 = shows.counted in
-    let same = before (λ count above few. none count above (omega (arith, few, one))) in
-    let all : All (λ (n : ℕ). n ≤ m) (counts_played old.kept.snapshots) = subst (λ (l : List ℕ). All (λ (n : ℕ). n ≤ m) l) (sym same) (all_behind counts m low) in
-    let not_due : is_spaced (length new.kept.commands) ≡ false = none (length new.kept.commands) (omega (arith, low, one)) (omega arith) in
-    shows.shown all ∙ ap (λ (b : Bool). counts_played old.kept.snapshots ++ (if b then length new.kept.commands ∷ [] else [])) not_due ∙ append-nil (counts_played old.kept.snapshots) ∙ same
+    let b = begins_behind counts in
+    let all : All (λ (n : ℕ). n ≤ m) (counts_played old.kept.snapshots) = subst (λ (l : List ℕ). All (λ (n : ℕ). n ≤ m) l) (sym before) (due_within counts m low) in
+    let last : ℕ → List ℕ = λ n. if is_spaced n then n ∷ [] else [] in
+    shows.shown all
+    ∙ (λ i. before i ++ last (one i))
+    ∙ append_assoc counts (named_counts (b + 1) m) (last (m + 1))
+    ∙ ap (λ (l : List ℕ). counts ++ l) (sym (named_more (b + 1) m (omega (arith, low))))
+    ∙ ap (with_due counts) (sym one)
 
 -- ---- the snapshots that a table is to have
 
@@ -202,187 +244,196 @@ among_named counts least kept count are spaced low some few =
     let among : count - 1 + 1 ≤ begins_behind counts = behind_among counts _ _ (count - 1 + 1) (are ∙ named) in
     omega (arith, among, one)
 
--- so none is due behind the last of them
-due_never : (counts : List ℕ) (kept least : ℕ) → least ≤ kept → is_spaced least ≡ true → counts ≡ named_counts least kept → NoneDue (begins_behind counts) kept
-due_never counts kept least low least_spaced are count above few = by_test (cases_Bool (is_spaced count)) (cases_Bool (nat_le least count))
+-- so none is named behind the last of them
+past_last : (counts : List ℕ) (kept least : ℕ) → least ≤ kept → is_spaced least ≡ true → counts ≡ named_counts least kept → named_counts (begins_behind counts + 1) kept ≡ []
+past_last counts kept least low least_spaced are =
+    let b = begins_behind counts in
+    none-above (is_named (b + 1)) 0 kept (omega arith) (λ place from few. by_test place few (cases_Bool (is_spaced (place + 1))) (cases_Bool (nat_le (b + 1) (place + 1))))
+    ∙ none_counted (is_named (b + 1))
   where
-    by_test : (is_spaced count ≡ true) ⊎ (is_spaced count ≡ false) → (nat_le least count ≡ true) ⊎ (nat_le least count ≡ false) → is_spaced count ≡ false
-    by_test (inr not) where_is = not
-    by_test (inl spaced) (inl there) =
-        absurd (omega (arith, above, among_named counts least kept count are spaced (true-le least count there) (omega (arith, above)) few))
-    by_test (inl spaced) (inr below) =
-        let less : count < least = grind (arith, nat_tests, below) in
-        absurd (omega (arith, above, less, among_named counts least kept least are least_spaced (omega arith) (omega (arith, less)) low))
+    no_more : (place : ℕ) → place < kept → is_spaced (place + 1) ≡ true → begins_behind counts + 1 ≤ place + 1 → (nat_le least (place + 1) ≡ true) ⊎ (nat_le least (place + 1) ≡ false) → ⊥
+    no_more place few spaced above (inl there) =
+        omega (arith, above, among_named counts least kept (place + 1) are spaced (true-le least (place + 1) there) (omega arith) (omega (arith, few)))
+    no_more place few spaced above (inr below) =
+        let less : place + 1 < least = grind (arith, nat_tests, below) in
+        omega (arith, above, less, among_named counts least kept least are least_spaced (omega arith) (omega (arith, less)) low)
 
-pub none_due : (counts : List ℕ) (kept at : ℕ) → at ≤ kept → counts ≡ named_counts (least_named at) kept → NoneDue (begins_behind counts) kept
-none_due counts kept at low are =
-    let least = least_named at in
-    let least_spaced : is_spaced least ≡ true = (let e : least % SNAPSHOT_SPACING ≡ 0 = omega arith in ap (λ (x : ℕ). x == 0) e) in
-    due_never counts kept least (omega (arith, least-below at, low)) least_spaced are
+    by_test : (place : ℕ) → place < kept → (is_spaced (place + 1) ≡ true) ⊎ (is_spaced (place + 1) ≡ false) → (nat_le (begins_behind counts + 1) (place + 1) ≡ true) ⊎ (nat_le (begins_behind counts + 1) (place + 1) ≡ false)
+        → is_named (begins_behind counts + 1) (place + 1) ≡ false
+    by_test place few (inr not) above = ap (λ (x : Bool). x && nat_le (begins_behind counts + 1) (place + 1)) not
+    by_test place few (inl spaced) (inr below) = and_no (is_spaced (place + 1)) (nat_le (begins_behind counts + 1) (place + 1)) below
+    by_test place few (inl spaced) (inl above) =
+        absurd (no_more place few spaced (true-le (begins_behind counts + 1) (place + 1) above) (cases_Bool (nat_le least (place + 1))))
 
 -- and fewer than the spacing are left
-pub few_left : (counts : List ℕ) (kept at : ℕ) → at ≤ kept → counts ≡ named_counts (least_named at) kept → left_behind kept counts < SNAPSHOT_SPACING
+few_left : (counts : List ℕ) (kept at : ℕ) → at ≤ kept → counts ≡ named_counts (least_named at) kept → plays_behind kept counts < SNAPSHOT_SPACING
 few_left counts kept at low are = by_least (cases_Bool (nat_le 1 (least_named kept)))
   where
-    by_least : (nat_le 1 (least_named kept) ≡ true) ⊎ (nat_le 1 (least_named kept) ≡ false) → left_behind kept counts < SNAPSHOT_SPACING
+    by_least : (nat_le 1 (least_named kept) ≡ true) ⊎ (nat_le 1 (least_named kept) ≡ false) → plays_behind kept counts < SNAPSHOT_SPACING
     by_least (inl some) =
         let named = nearest_named (least_named at) kept kept (least-rises at kept low) (true-le 1 (least_named kept) some) (omega arith) in
         omega (arith, behind_among counts named.0 named.1 (least_named kept) (are ∙ named.2), least-near kept)
     by_least (inr none) =
         let zero_is : least_named kept < 1 = grind (arith, nat_tests, none) in omega (arith, zero_is, least-near kept)
 
-pub named_left : (kit : Kit) (table : TableState) (counts : List ℕ) → HasNamed kit table counts → left_behind (length table.commands) counts < SNAPSHOT_SPACING
-named_left kit table counts named = few_left counts (length table.commands) (kept_at (turn_ends (ends_turn kit) table.commands) table.floor) (kept_at_few kit table.commands table.floor) named
+-- a table that was played on from those that it is to have still has these
+still_its : (kit : Kit) (table : TableState) (counts : List ℕ) → AreItsCounts kit table counts → AreItsCounts kit table (counts_then kit table counts)
+still_its kit table counts are =
+    let at = kept_at (turn_ends (ends_turn kit) table.commands) table.floor in
+    let kept = length table.commands in
+    let least = least_named at in
+    let low : least ≤ kept = omega (arith, least-below at, kept_at_few kit table.commands table.floor) in
+    let least_spaced : is_spaced least ≡ true = (let e : least % SNAPSHOT_SPACING ≡ 0 = omega arith in ap (λ (x : ℕ). x == 0) e) in
+    ap (filter (is_between least kept)) (ap (λ (l : List ℕ). counts ++ l) (past_last counts kept least low least_spaced are) ∙ append-nil counts ∙ are)
+    ∙ kept_above least least kept (omega arith)
 
-pub named_due : (kit : Kit) (table : TableState) (counts : List ℕ) → HasNamed kit table counts → NoneDue (begins_behind counts) (length table.commands)
-named_due kit table counts named = none_due counts (length table.commands) (kept_at (turn_ends (ends_turn kit) table.commands) table.floor) (kept_at_few kit table.commands table.floor) named
+pub few_played : (kit : Kit) (table : TableState) (counts : List ℕ) (plays : ℕ) → AreItsCounts kit table counts → PlaysTable kit table counts plays → plays < SNAPSHOT_SPACING
+few_played kit table counts plays are played =
+    let once = played.once (still_its kit table counts are) in
+    omega (arith, once, few_left counts (length table.commands) (kept_at (turn_ends (ends_turn kit) table.commands) table.floor) (kept_at_few kit table.commands table.floor) are)
 
--- a table that goes on with its floor has those that were read, where they are the ones that it is to have
-pub resumed_named : (kit : Kit) (old new : Table) (floor : ℕ) (counts : List ℕ) → IsPlayed kit old → IsPlayed kit new → (kept_in new).commands ≡ (kept_in old).commands → (kept_in new).floor ≡ floor
-    → new.kept.snapshots ≡ filter (λ (game : Game). is_between (least_named (kept_at old.game.ends floor)) (length old.kept.commands) game.played) old.kept.snapshots
-    → floor ≤ turns_in old → (NoneDue (begins_behind counts) (length (kept_in old).commands) → counts_played old.kept.snapshots ≡ counts) → HasNamed kit (kept_in new) counts → HasItsSnapshots new
-resumed_named kit old new floor counts old_played new_played commands floored snapshots below shown named =
-    let ends : old.game.ends ≡ new.game.ends =
-    old_played.played.ends ∙ ap (λ (cs : List Command). turn_ends (ends_turn kit) cs) (sym commands) ∙ sym new_played.played.ends in
-    let within : floor < length old.game.ends = ended_within kit old floor old_played below in
-    let least = least_named (kept_at old.game.ends floor) in
-    let n = length old.kept.commands in
-    let long : length new.kept.commands ≡ n = ap length commands in
-    let least_is : least ≡ least_named (kept_at new.game.ends new.floor) = λ i. least_named (kept_at (ends i) (sym floored i)) in
-    let own : least_named (kept_at (turn_ends (ends_turn kit) new.kept.commands) new.floor) ≡ least = ap (λ (es : List ℕ). least_named (kept_at es new.floor)) (sym new_played.played.ends) ∙ sym least_is in
-    let are : counts ≡ named_counts least n = named ∙ (λ i. named_counts (own i) (long i)) in
-    let due = named_due kit (kept_in new) counts named in
-    let read = shown (subst (λ (k : ℕ). NoneDue (begins_behind counts) k) long due) in
-    let f : Game → ℕ = λ game. game.played in
-    record {
-      floored = omega (arith, within, ap length ends, floored);
-      counts =
-          ap counts_played snapshots
-          ∙ map-filter f (is_between least n) old.kept.snapshots
-          ∙ ap (filter (is_between least n)) (read ∙ are)
-          ∙ kept_above least least n (omega arith)
-          ∙ (λ i. named_counts (least_is i) (sym long i));
-    }
+-- and one that was played on from none has all
+
+filtered : (p q r : ℕ → Bool) (xs : List ℕ) → All (λ (k : ℕ). (q k && p k) ≡ r k) xs → filter p (filter q xs) ≡ filter r xs
+filtered p q r [] same = refl
+filtered p q r (x ∷ xs) same =
+    let P : ℕ → Type 0 = λ k. (q k && p k) ≡ r k in
+    step (q x) (p x) (r x) (All-head P x xs same) refl (filtered p q r xs (All-tail P x xs same))
+  where
+    step : (b c d : Bool) → (b && c) ≡ d → p x ≡ c → filter p (filter q xs) ≡ filter r xs → filter p (cond b (x ∷ filter q xs) (filter q xs)) ≡ cond d (x ∷ filter r xs) (filter r xs)
+    step true c d is own rest = (λ i. cond (own i) (x ∷ rest i) (rest i)) ∙ ap (λ (e : Bool). cond e (x ∷ filter r xs) (filter r xs)) is
+    step false c d is own rest = rest ∙ ap (λ (e : Bool). cond e (x ∷ filter r xs) (filter r xs)) is
+
+and_true : (a : Bool) → (a && true) ≡ a
+and_true true = refl
+and_true false = refl
+
+bare_test : (least kept k : ℕ) → 1 ≤ k → k ≤ kept → (is_named 2 k && is_between least kept k) ≡ is_named least k
+bare_test least kept k some few = by_test (cases_Bool (is_spaced k))
+  where
+    by_test : (is_spaced k ≡ true) ⊎ (is_spaced k ≡ false) → (is_named 2 k && is_between least kept k) ≡ is_named least k
+    by_test (inr not) = rw (not) refl
+    by_test (inl spaced) =
+        let whole : k % SNAPSHOT_SPACING ≡ 0 = grind (arith, nat_tests, spaced) in
+        let two : 2 ≤ k = omega (arith, whole, some) in
+        let low : nat_le 2 k ≡ true = grind (arith, nat_tests, two) in
+        let high : nat_le k kept ≡ true = grind (arith, nat_tests, few) in
+        rw (spaced, low, high) (and_true (nat_le least k))
+
+bare_counts : (least kept : ℕ) → filter (is_between least kept) (named_counts 2 kept) ≡ named_counts least kept
+unfolding numbers_with
+bare_counts least kept =
+    filtered (is_between least kept) (is_named 2) (is_named least) (range_with_len 1 kept)
+    (All-weaker (λ (k : ℕ). (1 ≤ k) × (k < 1 + kept)) (λ (k : ℕ). (is_named 2 k && is_between least kept k) ≡ is_named least k) (λ k is. bare_test least kept k is.0 (omega (arith, is.1))) (range_with_len 1 kept) (range_within 1 kept))
+
+pub bare_played : (kit : Kit) (table : TableState) (plays : ℕ) → PlaysTable kit table [] plays → plays ≡ plays_behind (length table.commands) []
+bare_played kit table plays played = played.once (bare_counts (least_kept kit table) (length table.commands))
+
+-- a table that goes on with its floor has its snapshots just where those that were read lead to them
+module _ (kit : Kit) (old new : Table) (floor : ℕ) (counts : List ℕ) (old_played : IsPlayed kit old) (new_played : IsPlayed kit new) (commands : (kept_in new).commands ≡ (kept_in old).commands) (floored : (kept_in new).floor ≡ floor)
+    (snapshots : new.kept.snapshots ≡ filter (λ (game : Game). is_between (least_named (kept_at old.game.ends floor)) (length old.kept.commands) game.played) old.kept.snapshots)
+    (below : floor ≤ turns_in old) (shown : counts_played old.kept.snapshots ≡ with_due counts (length old.kept.commands)) where
+  same_ends : old.game.ends ≡ new.game.ends
+  same_ends = old_played.played.ends ∙ ap (λ (cs : List Command). turn_ends (ends_turn kit) cs) (sym commands) ∙ sym new_played.played.ends
+
+  resumed_counts : counts_played new.kept.snapshots ≡ counts_then kit (kept_in new) counts
+  resumed_counts =
+      let f : Game → ℕ = λ game. game.played in
+      let least_is : least_named (kept_at old.game.ends floor) ≡ least_kept kit (kept_in new) = λ i. least_named (kept_at ((same_ends ∙ new_played.played.ends) i) (sym floored i)) in
+      let long : length old.kept.commands ≡ length new.kept.commands = sym (ap length commands) in
+      ap counts_played snapshots
+      ∙ map-filter f (is_between (least_named (kept_at old.game.ends floor)) (length old.kept.commands)) old.kept.snapshots
+      ∙ (λ i. filter (is_between (least_is i) (long i)) (shown i))
+      ∙ ap (λ (n : ℕ). filter (is_between (least_kept kit (kept_in new)) (length new.kept.commands)) (with_due counts n)) long
+
+  own_least : least_named (kept_at new.game.ends new.floor) ≡ least_kept kit (kept_in new)
+  own_least = ap (λ (es : List ℕ). least_named (kept_at es new.floor)) new_played.played.ends
+
+  pub resumed_named : HasItsSnapshots new ↔ AreItsCounts kit (kept_in new) (counts_then kit (kept_in new) counts)
+  resumed_named = (
+    λ named. sym resumed_counts ∙ named.counts ∙ ap (λ (n : ℕ). named_counts n (length new.kept.commands)) own_least,
+    λ are. record {
+      floored = (let within = ended_within kit old floor old_played below in omega (arith, within, ap length same_ends, floored));
+      counts = resumed_counts ∙ are ∙ ap (λ (n : ℕ). named_counts n (length new.kept.commands)) (sym own_least);
+    },
+  )
+
+-- how many were played for it
+pub tells_counted : (entry : TableEntry) (bytes : List ℕ) (state : TableState) → TellsTable entry bytes (entry.name, state) → length state.commands ≡ entry.kept
+tells_counted entry bytes state tells = sym (as_many tells.kept.words state.commands tells.kept.spelled) ∙ tells.kept.counted
 
 -- ---- all tables of a directory
 
--- one more
-left_push : (counts : ℕ → List ℕ) (place : ℕ) (entries : List TableEntry) (entry : TableEntry)
-    → all_left counts place (entries ++ entry ∷ []) ≡ all_left counts place entries + left_behind entry.kept (counts (place + length entries))
-left_push counts place [] entry =
-    let at : place ≡ place + 0 = omega arith in
-    let here : left_behind entry.kept (counts place) ≡ left_behind entry.kept (counts (place + 0)) = ap (λ (n : ℕ). left_behind entry.kept (counts n)) at in omega (arith, here)
-left_push counts place (e ∷ es) entry =
-    let at : place + 1 + length es ≡ place + length (e ∷ es) = omega arith in
-    let here : left_behind entry.kept (counts (place + 1 + length es)) ≡ left_behind entry.kept (counts (place + length (e ∷ es))) = ap (λ (n : ℕ). left_behind entry.kept (counts n)) at in
-    omega (arith, left_push counts (place + 1) es entry, here)
+module _ (kit : Kit) (counts : ℕ → List ℕ) where
+  tables_push : (place : ℕ) (tables : World) (table : List ℕ × TableState) (so_far one : ℕ) → PlaysTables kit counts place tables so_far → PlaysTable kit table.1 (counts (place + length tables)) one
+      → PlaysTables kit counts place (tables ++ table ∷ []) (so_far + one)
+  tables_push place [] table so_far one none here =
+      let at : place + 0 ≡ place = omega arith in
+      (one, 0, subst (λ (n : ℕ). PlaysTable kit table.1 (counts n) one) at here, refl, omega (arith, none))
+  tables_push place (t ∷ ts) table so_far one before here =
+      let at : place + length (t ∷ ts) ≡ place + 1 + length ts = omega arith in
+      (before.0, before.1 + one, before.2, tables_push (place + 1) ts table before.1 one before.3 (subst (λ (n : ℕ). PlaysTable kit table.1 (counts n) one) at here), omega (arith, before.4))
 
-pub left_more : (counts : ℕ → List ℕ) (entries : List TableEntry) (i : ℕ) (entry : TableEntry) → i < length entries → entry ≡ get_or entries i entry
-    → all_left counts 0 (take (i + 1) entries) ≡ all_left counts 0 (take i entries) + left_behind entry.kept (counts i)
-left_more counts entries i entry within is =
-    let front : take (i + 1) entries ≡ take i entries ++ entry ∷ [] = take_more entries i entry within ∙ ap (λ (e : TableEntry). take i entries ++ e ∷ []) (sym is) in
-    let at : 0 + length (take i entries) ≡ i = omega (arith, length-take-le i entries (omega (arith, within))) in
-    ap (λ (es : List TableEntry). all_left counts 0 es) front ∙ left_push counts 0 (take i entries) entry
-    ∙ ap (λ (n : ℕ). all_left counts 0 (take i entries) + left_behind entry.kept (counts n)) at
-
-pub kept_more : (entries : List TableEntry) (i : ℕ) (entry : TableEntry) → i < length entries → entry ≡ get_or entries i entry → all_kept (take (i + 1) entries) ≡ all_kept (take i entries) + entry.kept
-kept_more entries i entry within is =
-    sum_by_more (λ (e : TableEntry). e.kept) entries i entry within ∙ ap (λ (e : TableEntry). all_kept (take i entries) + e.kept) (sym is)
-
--- the table of an entry among those that are told, whose snapshots show their play, and are those that they are to have
-record NamedAt (kit : Kit) (shown : ℕ → List Shown) (place : ℕ) (entry : TableEntry) (bytes : List ℕ) : Type 0 where
-  pub state : TableState
-  pub tells : TellsTable entry bytes (entry.name, state)
-  pub shows : All (ShowsPlayOf kit state.commands) (shown place)
-  pub named : HasNamed kit state (counts_shown (shown place))
-
+-- one table more, where the snapshots show its play and those of the others
 module _ (kit : Kit) (shown_entries : List SnapshotEntry) (shown_chains : List HeldChain) where
-  abbrev shown : ℕ → List Shown
-  shown place = shown_at place shown_entries shown_chains
-
   abbrev counts : ℕ → List ℕ
-  counts place = counts_shown (shown place)
+  counts place = counts_shown (shown_at place shown_entries shown_chains)
 
-  named_there : (place : ℕ) (entries : List TableEntry) (chains : List HeldChain) (tables : World) (i : ℕ) (d : TableEntry) (c : HeldChain) → i < length entries → i < length chains
-      → TellTables entries chains tables → ShowPlays kit shown_entries shown_chains place tables → HaveNamed kit counts place tables
-      → NamedAt kit shown (place + i) (get_or entries i d) (get_or chains i c).text
-  named_there place [] chains tables i d c entry_in chain_in told shows named = absurd (omega (arith, entry_in))
-  named_there place (e ∷ es) [] tables i d c entry_in chain_in told shows named = absurd (omega (arith, chain_in))
-  named_there place (e ∷ es) (h ∷ hs) [] i d c entry_in chain_in told shows named = absurd told
-  named_there place (e ∷ es) (h ∷ hs) (t ∷ ts) zero d c entry_in chain_in told shows named =
-      let at : place ≡ place + 0 = omega arith in
-      record {
-        state = t.1;
-        tells = record { named = refl; stamped = told.0.stamped; floored = told.0.floored; kept = told.0.kept };
-        shows = subst (λ (n : ℕ). All (ShowsPlayOf kit t.1.commands) (shown n)) at shows.0;
-        named = subst (λ (n : ℕ). HasNamed kit t.1 (counts n)) at named.0;
-      }
-  named_there place (e ∷ es) (h ∷ hs) (t ∷ ts) (suc i) d c entry_in chain_in told shows named =
-      let at : place + 1 + i ≡ place + suc i = omega arith in
-      subst (λ (n : ℕ). NamedAt kit shown n (get_or es i d) (get_or hs i c).text) at
-      (named_there (place + 1) es hs ts i d c (omega (arith, entry_in)) (omega (arith, chain_in)) told.1 shows.1 named.1)
-
-  -- so few commands are played for it
-  pub few_there : (now : Kit) (entries : List TableEntry) (chains : List HeldChain) (i : ℕ) (entry : TableEntry) (chain : HeldChain) (bytes : List ℕ) (plays : ℕ) → i < length entries → i < length chains
-      → entry ≡ get_or entries i entry → chain ≡ get_or chains i chain → bytes ≡ chain.text → now ≡ kit
-      → ((state : TableState) → TellsTable entry bytes (entry.name, state) → All (ShowsPlayOf now state.commands) (shown i) → HasNamed now state (counts i) → plays ≡ left_behind entry.kept (counts i))
-      → (tables : World) → TellTables entries chains tables → ShowPlays kit shown_entries shown_chains 0 tables → HaveNamed kit counts 0 tables → plays ≡ left_behind entry.kept (counts i)
-  few_there now entries chains i entry chain bytes plays entry_in chain_in entry_is chain_is bytes_are same few tables told shows named =
-      let there = named_there 0 entries chains tables i entry chain entry_in chain_in told shows named in
-      let at : 0 + i ≡ i = omega arith in
-      let of_entry = subst (λ (e : TableEntry). NamedAt kit shown (0 + i) e (get_or chains i chain).text) (sym entry_is) there in
-      let of_chain = subst (λ (c : HeldChain). NamedAt kit shown (0 + i) entry c.text) (sym chain_is) of_entry in
-      let here = subst (λ (n : ℕ). NamedAt kit shown n entry chain.text) at of_chain in
-      few here.state (subst (λ (b : List ℕ). TellsTable entry b (entry.name, here.state)) (sym bytes_are) here.tells)
-      (subst (λ (k : Kit). All (ShowsPlayOf k here.state.commands) (shown i)) (sym same) here.shows)
-      (subst (λ (k : Kit). HasNamed k here.state (counts i)) (sym same) here.named)
+  pub plays_put : (now : Kit) (i : ℕ) (entry : TableEntry) (old new : World) (state : TableState) (so_far one plays : ℕ) → now ≡ kit → Puts entry old state new → length old ≡ i → plays ≡ so_far + one
+      → (ShowPlays kit shown_entries shown_chains 0 old → PlaysTables kit counts 0 old so_far)
+      → (All (ShowsPlayOf now state.commands) (shown_at i shown_entries shown_chains) → PlaysTable now state (counts i) one)
+      → ShowPlays kit shown_entries shown_chains 0 new → PlaysTables kit counts 0 new plays
+  plays_put now i entry old new state so_far one plays same puts count sum before here shows =
+      let parts = show_last kit shown_entries shown_chains 0 old (entry.name, state) (subst (λ (w : World). ShowPlays kit shown_entries shown_chains 0 w) puts.last shows) in
+      let at : 0 + length old ≡ i = omega (arith, count) in
+      let shown = subst (λ (n : ℕ). All (ShowsPlayOf kit state.commands) (shown_at n shown_entries shown_chains)) at parts.1 in
+      let played = subst (λ (k : Kit). All (ShowsPlayOf k state.commands) (shown_at i shown_entries shown_chains) → PlaysTable k state (counts i) one) same here shown in
+      let there = subst (λ (n : ℕ). PlaysTable kit state (counts n) one) (sym at) played in
+      subst (λ (w : World). PlaysTables kit counts 0 w plays) (sym puts.last)
+      (subst (λ (n : ℕ). PlaysTables kit counts 0 (old ++ (entry.name, state) ∷ []) n) (sym sum) (tables_push kit counts 0 old (entry.name, state) so_far one (before parts.0) there))
 
 -- ---- records
 
-zip_push : {A B : Type 0} (R : A → B → Type 0) (xs : List A) (ys : List B) (x : A) (y : B) → AllZip R xs ys → R x y → AllZip R (xs ++ x ∷ []) (ys ++ y ∷ [])
-zip_push R [] [] x y all here = (here, tt)
-zip_push R [] (b ∷ bs) x y all here = absurd all
-zip_push R (a ∷ others) [] x y all here = absurd all
-zip_push R (a ∷ others) (b ∷ bs) x y all here = (all.0, zip_push R others bs x y all.1 here)
+-- a request plays few commands
+few_of : (kit : Kit) (table : Option TableState) (request : Request Command) → plays_of kit table request ≤ SNAPSHOT_SPACING
+few_of kit None request = omega arith
+few_of kit (Some table) (Play command) = omega arith
+few_of kit (Some table) (Back k) = omega arith
+few_of kit (Some table) (Forget k) = omega arith
 
-zip_join : {A B : Type 0} (R : A → B → Type 0) (xs more : List A) (ys others : List B) → AllZip R xs ys → AllZip R more others → AllZip R (xs ++ more) (ys ++ others)
-zip_join R [] more [] others all behind = behind
-zip_join R [] more (b ∷ bs) others all behind = absurd all
-zip_join R (a ∷ rest) more [] others all behind = absurd all
-zip_join R (a ∷ rest) more (b ∷ bs) others all behind = (all.0, zip_join R rest more bs others all.1 behind)
+module _ (kit : Kit) where
+  pub few_record : (old : World) (line : List ℕ) (new : World) (plays : ℕ) → PlaysRecord kit old line new plays → plays ≤ SNAPSHOT_SPACING
+  few_record old line new plays played = omega (arith, played.counted, few_of kit (table_named old played.takes.name) played.takes.request)
 
-abbrev spells : List ℕ → TableRequest → Type 0
-spells line asked = SpellsRecord line asked.name asked.request
+  pub few_records : (old : World) (lines : List (List ℕ)) (new : World) (plays : ℕ) → PlaysRecords kit old lines new plays → plays ≤ length lines * SNAPSHOT_SPACING
+  few_records old [] new plays played = omega (arith, played.1)
+  few_records old (line ∷ lines) new plays played =
+      omega (arith, played.5, few_record old line played.0 played.1 played.3, few_records played.0 lines new played.2 played.4)
 
-abbrev most : TableRequest → ℕ
-most asked = most_plays asked.request
+  records_push : (old : World) (lines : List (List ℕ)) (mid : World) (line : List ℕ) (new : World) (so_far one : ℕ) → PlaysRecords kit old lines mid so_far → PlaysRecord kit mid line new one
+      → PlaysRecords kit old (lines ++ line ∷ []) new (so_far + one)
+  records_push old [] mid line new so_far one none here =
+      (new, one, 0, subst (λ (w : World). PlaysRecord kit w line new one) none.0 here, (refl, refl), omega (arith, none.1))
+  records_push old (first ∷ lines) mid line new so_far one before here =
+      (before.0, before.1, before.2 + one, before.3, records_push before.0 lines mid line new before.2 one before.4 here, omega (arith, before.5))
 
-pub plays_none : PlaysRecords [] 0
-plays_none = record { requests = []; spelled = tt; few = omega arith }
+  pub records_join : (old : World) (lines : List (List ℕ)) (mid : World) (more : List (List ℕ)) (new : World) (first second plays : ℕ) → plays ≡ first + second → PlaysRecords kit old lines mid first → PlaysRecords kit mid more new second
+      → PlaysRecords kit old (lines ++ more) new plays
+  records_join old [] mid more new first second plays sum none behind =
+      let same : second ≡ plays = omega (arith, sum, none.1) in
+      subst (λ (n : ℕ). PlaysRecords kit old more new n) same (subst (λ (w : World). PlaysRecords kit w more new second) none.0 behind)
+  records_join old (line ∷ lines) mid more new first second plays sum before behind =
+      (before.0, before.1, before.2 + second, before.3, records_join before.0 lines mid more new before.2 second (before.2 + second) refl before.4 behind, omega (arith, sum, before.5))
 
-pub plays_push : (lines : List (List ℕ)) (line : List ℕ) (so_far one plays : ℕ) → plays ≤ so_far + one → PlaysRecords lines so_far → PlaysRecord line one → PlaysRecords (lines ++ line ∷ []) plays
-plays_push lines line so_far one plays le before here =
-    record {
-      requests = before.requests ++ here.asked ∷ [];
-      spelled = zip_push spells lines before.requests line here.asked before.spelled here.spelled;
-      few = omega (arith, le, before.few, here.few, sum_by_push most before.requests here.asked);
-    }
-
--- a record more of a list
-pub plays_more : {X : Type 0} (f : X → List ℕ) (xs : List X) (i : ℕ) (d : X) → i < length xs → (bytes : List ℕ) → bytes ≡ f (get_or xs i d) → (so_far one plays : ℕ) → plays ≤ so_far + one
-    → PlaysRecords (map f (take i xs)) so_far → PlaysRecord bytes one → PlaysRecords (map f (take (i + 1) xs)) plays
-plays_more {X} f xs i d within bytes same so_far one plays le before here =
-    let front : map f (take (i + 1) xs) ≡ map f (take i xs) ++ bytes ∷ [] =
-    ap (map f) (take_more xs i d within) ∙ map-append f (take i xs) (get_or xs i d ∷ []) ∙ ap (λ (b : List ℕ). map f (take i xs) ++ b ∷ []) (sym same) in
-    subst (λ (lines : List (List ℕ)). PlaysRecords lines plays) (sym front) (plays_push (map f (take i xs)) bytes so_far one plays le before here)
-
-pub plays_join : (near far : List (List ℕ)) (first second plays : ℕ) → plays ≤ first + second → PlaysRecords near first → PlaysRecords far second → PlaysRecords (near ++ far) plays
-plays_join near far first second plays le before behind =
-    record {
-      requests = before.requests ++ behind.requests;
-      spelled = zip_join spells near far before.requests behind.requests before.spelled behind.spelled;
-      few = omega (arith, le, before.few, behind.few, sum_by-append most before.requests behind.requests);
-    }
+  -- a record more of a list
+  pub plays_more : {X : Type 0} (f : X → List ℕ) (xs : List X) (i : ℕ) (d : X) → i < length xs → (now : Kit) → now ≡ kit → (old mid new : World) (bytes : List ℕ) → bytes ≡ f (get_or xs i d) → (so_far one plays : ℕ)
+      → plays ≡ so_far + one → PlaysRecords kit old (map f (take i xs)) mid so_far → PlaysRecord now mid bytes new one → PlaysRecords kit old (map f (take (i + 1) xs)) new plays
+  plays_more {X} f xs i d within now of_kit old mid new bytes same so_far one plays sum before here =
+      let front : map f (take (i + 1) xs) ≡ map f (take i xs) ++ bytes ∷ [] =
+      ap (map f) (take_more xs i d within) ∙ map-append f (take i xs) (get_or xs i d ∷ []) ∙ ap (λ (b : List ℕ). map f (take i xs) ++ b ∷ []) (sym same) in
+      subst (λ (n : ℕ). PlaysRecords kit old (map f (take (i + 1) xs)) new n) (sym sum)
+      (subst (λ (lines : List (List ℕ)). PlaysRecords kit old lines new (so_far + one)) (sym front)
+      (records_push old (map f (take i xs)) mid bytes new so_far one before (subst (λ (k : Kit). PlaysRecord k mid bytes new one) of_kit here)))
 
 -- ---- by the directory alone
 

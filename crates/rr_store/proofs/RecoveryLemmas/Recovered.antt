@@ -62,7 +62,7 @@ PlaysThem named tables = ShowsThem tables.kit named (world_of tables) → ArePla
 
 module _ (file : List ℕ) (has : Held) (holds : Holds file has) where
   -- snapshots that show the play of a world in words show that of its tables
-  shows_them : (kit : Kit) (base : World) → SpellsKit (texts_in has.texts) kit → HasTrueSnapshots has → IsWellFormed (named_of has) → TellTables has.directory.tables has.tables base
+  pub shows_them : (kit : Kit) (base : World) → SpellsKit (texts_in has.texts) kit → HasTrueSnapshots has → IsWellFormed (named_of has) → TellTables has.directory.tables has.tables base
       → ShowsThem kit (named_of has) base
   shows_them kit base right true formed told =
       let there = told_base file has holds base formed told in

@@ -118,7 +118,7 @@ count_put entry old new state i puts same = omega (arith, same, ap length puts.l
 
 -- the snapshots show the plays of some tables, and of one more
 module _ (kit : Kit) (shown_entries : List SnapshotEntry) (shown_chains : List HeldChain) where
-  show_last : (place : ℕ) (tables : World) (table : List ℕ × TableState) → ShowPlays kit shown_entries shown_chains place (tables ++ table ∷ [])
+  pub show_last : (place : ℕ) (tables : World) (table : List ℕ × TableState) → ShowPlays kit shown_entries shown_chains place (tables ++ table ∷ [])
       → ShowPlays kit shown_entries shown_chains place tables × All (ShowsPlayOf kit table.1.commands) (shown_at (place + length tables) shown_entries shown_chains)
   show_last place [] table shows =
       let at : place ≡ place + 0 = omega arith in

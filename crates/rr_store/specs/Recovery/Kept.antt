@@ -10,6 +10,7 @@ use Rattle.rr_game.specs.History.Playing.{IsLawfulAfter, ends_turn}
 use Rattle.rr_game.specs.History.Tables.{HasItsSnapshots, IsPlayed, kept_in}
 use Rattle.rr_kit.specs.declared.kit.Kit.{Kit}
 use Rattle.rr_tables.specs.Records.Words.{SpellCommands}
+use Rattle.rr_turns.specs.declared.limits.TheConstants.{LAST_STAMP}
 use Rattle.rr_turns.specs.declared.request.Request.TheVariants.{Play}
 use Rattle.rr_turns.specs.Kept.{kept_after}
 
@@ -54,4 +55,4 @@ pub record HasPlayed (kit : Kit) (old : Table) (words : List ℕ) (new : Table) 
 -- a table that has room for a command more, and a stamp after its own
 pub record HasRoom (table : Table) : Type 0 where
   pub room : length (kept_in table).commands < MOST_KEPT
-  pub stamp : (kept_in table).stamp < 4000000000
+  pub stamp : (kept_in table).stamp < LAST_STAMP

@@ -1,15 +1,16 @@
 //! The tables of a root before its records: what was read is taken as it comes, and where it is refused, it is asked
 //! first whether the file's form is broken.
-ghost use Rattle.std.specs.Prelude.{◌≡◌, ◌↔◌, ◌*◌, ◌<◌, IfOk, IfErr, IsTrue};
+ghost use Rattle.std.specs.Prelude.{◌≡◌, ◌↔◌, ◌*◌, ◌^◌, ◌<◌, ◌≤◌, IfOk, IfErr, IsTrue};
 ghost use Rattle.rr_kit.specs.Kits.{SpellsKit};
 ghost use Rattle.rr_pages.specs.declared.page.TheConstants.{PAGE_BYTES};
+ghost use Rattle.rr_reading.specs.declared.dir.directory.TheConstants.{MOST_TABLES};
 ghost use Rattle.rr_reading.specs.Held.{TextChains, chains_held};
 ghost use Rattle.rr_reading.specs.Lending.Chains.{all_of, count_of};
 ghost use Rattle.rr_store.specs.Recovery.Base.{IsOfDirectory, IsRightBase, IsWellFormed, RefusesBase, TellsInPlace, named_by};
 ghost use Rattle.rr_store.specs.Recovery.Fault.{CountsFault, CountsTold, IsOfDevice, OnDeviceFault, WhereDeviceTold};
-ghost use Rattle.rr_store.specs.Recovery.Shown.{AreShown};
+ghost use Rattle.rr_store.specs.Recovery.Shown.{AreShown, shown_of};
 ghost use Rattle.rr_store.specs.Recovery.Texts.{texts_in};
-ghost use Rattle.rr_store.specs.Replayed.{PlaysBase};
+ghost use Rattle.rr_store.specs.Replayed.{PlaysTables, counts_shown};
 ghost use Rattle.rr_tables.specs.Records.Played.{ArePlayedTables};
 ghost use Rattle.rr_tables.specs.Tables.{ArePlayed, HaveTheirSnapshots, world_of};
 
@@ -46,10 +47,10 @@ pub(crate) fn recover_base<D: Disk>(
     ensures snapshots { IfOk result (λ restored. HaveTheirSnapshots restored.value) }
     ensures kit { IfOk result (λ restored. SpellsKit (texts_in (chains_held texts.now)) restored.value.kit) }
     ensures plays { IfOk result (λ restored. D.Honest disk.new
-        → IsOfDirectory (named_by (D.state disk.old).content entries.now chains.old snapshots.entry)
-        → PlaysBase (named_by (D.state disk.old).content entries.now chains.old snapshots.entry)
-        restored.value.kit restored.plays) }
-    ensures few_plays { IfOk result (λ restored. restored.plays < 1099511627776) }
+        → AreShown restored.value.kit snapshots.entry (world_of restored.value)
+        → PlaysTables restored.value.kit (λ place. counts_shown (shown_of place snapshots.entry)) 0
+        (world_of restored.value) restored.plays) }
+    ensures few_plays { IfOk result (λ restored. restored.plays ≤ MOST_TABLES * 2 ^ 33) }
     ensures refused { IfErr result (λ fault. D.Honest disk.new
         → IsOfDirectory (named_by (D.state disk.old).content entries.now chains.old snapshots.entry)
         → RefusesBase (named_by (D.state disk.old).content entries.now chains.old snapshots.entry)
@@ -98,10 +99,10 @@ fn restore_base<D: Disk>(
     ensures snapshots { IfOk result (λ restored. HaveTheirSnapshots restored.value) }
     ensures kit { IfOk result (λ restored. SpellsKit (texts_in (chains_held texts.now)) restored.value.kit) }
     ensures plays { IfOk result (λ restored. D.Honest disk.new
-        → IsOfDirectory (named_by (D.state disk.old).content entries.now chains.old snapshots.entry)
-        → PlaysBase (named_by (D.state disk.old).content entries.now chains.old snapshots.entry)
-        restored.value.kit restored.plays) }
-    ensures few_plays { IfOk result (λ restored. restored.plays < 1099511627776) }
+        → AreShown restored.value.kit snapshots.entry (world_of restored.value)
+        → PlaysTables restored.value.kit (λ place. counts_shown (shown_of place snapshots.entry)) 0
+        (world_of restored.value) restored.plays) }
+    ensures few_plays { IfOk result (λ restored. restored.plays ≤ MOST_TABLES * 2 ^ 33) }
     // Whether the form is right isn't told.
     ensures refused { IfErr result (λ fault. D.Honest disk.new
         → IsOfDirectory (named_by (D.state disk.old).content entries.now chains.old snapshots.entry)

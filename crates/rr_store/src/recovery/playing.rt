@@ -1,5 +1,5 @@
 //! One table: its kept commands are kept again up to its last snapshot, and played from there, or from the opening.
-ghost use Rattle.std.specs.Prelude.{◌≡◌, ◌≢◌, ◌⊎◌, ◌+◌, ◌*◌, ◌<◌, ◌≤◌, ℕ, List, [], ◌∷◌, ◌++◌, None, All, length, IsTrue, IfOk, IfErr, OnErr, OnOk, MatchOption, MatchResult};
+ghost use Rattle.std.specs.Prelude.{◌≡◌, ◌≢◌, ◌⊎◌, ◌+◌, ◌*◌, ◌^◌, ◌<◌, ◌≤◌, ℕ, List, [], ◌∷◌, ◌++◌, None, All, length, IsTrue, IfOk, IfErr, OnErr, OnOk, MatchOption, MatchResult};
 ghost use Rattle.std.specs.Bool.{OnTrue, OnFalse};
 ghost use Rattle.rr_code.specs.Command.{IsCommand, SpellsCommand};
 ghost use Rattle.rr_code.specs.declared.command.Command.{Command as Line};
@@ -15,7 +15,7 @@ ghost use Rattle.rr_store.specs.Recovery.Fault.{CountsFault, IsOrBreaks, OnDevic
 ghost use Rattle.rr_store.specs.Recovery.Kept.{AreWorded, HasPlayed, HasRoom, HoldsCommands, IsBegunBy, IsUnlawfulAfter, SpellsNoOpening};
 ghost use Rattle.rr_store.specs.Recovery.Playing.{BeginsNoTable, BeginsTable, IsFrontOf, KeepsFront, KeepsNext, KeepsNoMore, PlaysNext, PlaysNoMore, Recalls, ShowsNext};
 ghost use Rattle.rr_store.specs.Recovery.Shown.{IsPlayWithin, ShowsPlayOf, SpellsItsGame, shown_of};
-ghost use Rattle.rr_store.specs.Replayed.{NoneDue, begins_behind, counts_played, counts_shown, left_behind};
+ghost use Rattle.rr_store.specs.Replayed.{begins_behind, counts_played, counts_shown, plays_behind, with_due};
 ghost use Rattle.rr_turns.specs.Judgement.{IsVerdict, MayFind};
 ghost use Rattle.rr_turns.specs.Kept.{kept_after};
 
@@ -55,10 +55,10 @@ pub(crate) fn play_all<D: Disk>(
     ensures named { IfOk result (λ restored. shown_of index snapshots.entry ≡ [] → HasItsSnapshots restored.value) }
     // What stands behind the last one is played, and makes those that are due there.
     ensures plays { IfOk result (λ restored.
-        restored.plays ≡ left_behind count (counts_shown (shown_of index snapshots.entry))) }
-    ensures few_plays { IfOk result (λ restored. restored.plays < 4294967296) }
-    ensures shown { IfOk result (λ restored. NoneDue (begins_behind (counts_shown (shown_of index snapshots.entry))) count
-        → counts_played restored.value.kept.snapshots ≡ counts_shown (shown_of index snapshots.entry)) }
+        restored.plays ≡ plays_behind count (counts_shown (shown_of index snapshots.entry))) }
+    ensures few_plays { IfOk result (λ restored. restored.plays < 2 ^ 32) }
+    ensures shown { IfOk result (λ restored. counts_played restored.value.kept.snapshots
+        ≡ with_due (counts_shown (shown_of index snapshots.entry)) count) }
     ensures counted { IfOk result (λ restored. length (kept_in restored.value).commands ≡ count) }
     ensures floor { IfOk result (λ restored. (kept_in restored.value).floor ≡ 0) }
     ensures games { IfOk result (λ restored. All SpellsItsGame (shown_of index snapshots.entry)) }

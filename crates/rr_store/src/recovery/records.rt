@@ -1,5 +1,6 @@
 //! Records, taken in turn.
-ghost use Rattle.std.specs.Prelude.{◌≡◌, ◌⊎◌, ◌++◌, IfOk, IfErr, OnOk};
+ghost use Rattle.std.specs.Prelude.{◌≡◌, ◌⊎◌, ◌≤◌, ◌++◌, length, IfOk, IfErr, OnOk};
+ghost use Rattle.rr_pages.specs.declared.journal.layout.TheConstants.{LAST_SLOT};
 ghost use Rattle.rr_pages.specs.Journal.Reading.{lines};
 ghost use Rattle.rr_tables.specs.Records.Lines.{IsUnlawful, TakesRecord};
 ghost use Rattle.rr_store.specs.Recovery.Taking.{of_tables};
@@ -25,8 +26,10 @@ pub(crate) fn replay_halves(
 ) -> Result<Restored<Option<Transcript>>, Fault>
     ensures replayed { IfOk result (λ restored. ArePlayed tables.old
         → AreReplayed tables.old.kit (world_of tables.old) (lines near.now) (lines far.now) restored.value (world_of tables.new)) }
+    // Of as many records as the halves of a journal may have.
     ensures plays { IfOk result (λ restored. ArePlayed tables.old → HaveTheirSnapshots tables.old
-        → PlaysRecords (lines near.now ++ lines far.now) restored.plays) }
+        → length near.now ≤ LAST_SLOT → length far.now ≤ LAST_SLOT
+        → PlaysRecords tables.old.kit (world_of tables.old) (lines near.now ++ lines far.now) (world_of tables.new) restored.plays) }
     ensures refused { IfErr result (λ fault. (fault ≡ Fault.OutOfMemory)
         ⊎ ((fault ≡ Fault.Damaged Damage.Records) × (ArePlayed tables.old
         → BreaksOff tables.old.kit (world_of tables.old) (lines near.now ++ lines far.now)))) }
@@ -65,8 +68,8 @@ fn transcript_before(
 fn replay(alloc: Global, tables: &mut Tables, records: &[Vec<u8>]) -> Result<u64, Fault>
     ensures replayed { OnOk result (ArePlayed tables.old
         → Replays tables.old.kit (world_of tables.old) (lines records.now) (world_of tables.new)) }
-    ensures plays { IfOk result (λ plays. ArePlayed tables.old → HaveTheirSnapshots tables.old
-        → PlaysRecords (lines records.now) plays) }
+    ensures plays { IfOk result (λ plays. ArePlayed tables.old → HaveTheirSnapshots tables.old → length records.now ≤ LAST_SLOT
+        → PlaysRecords tables.old.kit (world_of tables.old) (lines records.now) (world_of tables.new) plays) }
     ensures refused { IfErr result (λ fault. (fault ≡ Fault.OutOfMemory)
         ⊎ ((fault ≡ Fault.Damaged Damage.Records) × (ArePlayed tables.old
         → BreaksOff tables.old.kit (world_of tables.old) (lines records.now)))) }
@@ -86,7 +89,7 @@ fn replay_record(alloc: Global, tables: &mut Tables, bytes: &[u8]) -> Result<u64
     ensures taken { OnOk result (ArePlayed tables.old
         → TakesRecord tables.old.kit (world_of tables.old) bytes.now (world_of tables.new)) }
     ensures plays { IfOk result (λ plays. ArePlayed tables.old → HaveTheirSnapshots tables.old
-        → PlaysRecord bytes.now plays) }
+        → PlaysRecord tables.old.kit (world_of tables.old) bytes.now (world_of tables.new) plays) }
     ensures refused { IfErr result (λ fault. (fault ≡ Fault.OutOfMemory)
         ⊎ ((fault ≡ Fault.Damaged Damage.Records) × (ArePlayed tables.old
         → IsUnlawful tables.old.kit (world_of tables.old) bytes.now))) }

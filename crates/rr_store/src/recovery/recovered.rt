@@ -36,7 +36,7 @@ pub struct Recovered {
     /// The tables from before the records of the half that the root doesn't name, where that has records: a checkpoint
     /// was begun there, and these are what it is to be made of anew.
     pub base: Option<Transcript>,
-    /// How many commands were played, 2^64 - 1 where it were more.
+    /// How many commands were played.
     pub replayed: u64,
 }
 
@@ -65,7 +65,7 @@ pub fn recover<D: Disk, R: Rules>(
         → Holds (D.state disk.old).content (held_by (D.state disk.old).content opened.old)
         → Refuses (held_by (D.state disk.old).content opened.old) fault) }
 
-    // Where each snapshot shows the game that the commands before it play, few commands are played.
+    // Where each snapshot shows the game that the commands before it play, so many commands are played.
     ensures replayed { IfOk result (λ recovered. D.Honest disk.new
         → Holds (D.state disk.old).content (held_by (D.state disk.old).content opened.old)
         → HasTrueSnapshots (held_by (D.state disk.old).content opened.old)

@@ -1,5 +1,5 @@
 //! All tables of a directory, in its order.
-ghost use Rattle.std.specs.Prelude.{◌≡◌, ◌↔◌, ℕ, ◌+◌, ◌*◌, ◌<◌, ◌≤◌, [], All, length, IsTrue, IfOk, IfErr};
+ghost use Rattle.std.specs.Prelude.{◌≡◌, ◌↔◌, ℕ, ◌+◌, ◌*◌, ◌^◌, ◌<◌, ◌≤◌, [], All, length, IsTrue, IfOk, IfErr};
 ghost use Rattle.rr_game.specs.History.Tables.{HasItsSnapshots, IsPlayed, kept_in};
 ghost use Rattle.rr_pages.specs.declared.page.TheConstants.{PAGE_BYTES};
 ghost use Rattle.rr_reading.specs.Dir.Directory.{AreTables};
@@ -7,12 +7,11 @@ ghost use Rattle.rr_reading.specs.declared.dir.directory.TheConstants.{MOST_KEPT
 ghost use Rattle.rr_reading.specs.Held.{tables_in};
 ghost use Rattle.rr_reading.specs.Lending.Chains.{all_of, count_of};
 ghost use Rattle.rr_reading.specs.Lending.Commands.{bytes_at};
-ghost use Rattle.rr_store.specs.Recovery.Base.{named_by};
 ghost use Rattle.rr_store.specs.Recovery.Fault.{CountsFault, IsOrBreaks, OnDeviceFault};
 ghost use Rattle.rr_store.specs.Recovery.Restoring.{IsFreeFor, Puts};
 ghost use Rattle.rr_store.specs.Recovery.Shown.{AreShown, ShowsPlayOf, SpellsItsGame, shown_of};
 ghost use Rattle.rr_store.specs.Recovery.Told.{TellTables, TellsTable};
-ghost use Rattle.rr_store.specs.Replayed.{HasNamed, PlaysBase, counts_shown, left_behind};
+ghost use Rattle.rr_store.specs.Replayed.{AreItsCounts, PlaysTable, PlaysTables, counts_shown, counts_then, plays_behind};
 ghost use Rattle.rr_tables.specs.Records.Played.{ArePlayedTables, IsPlayedTable};
 ghost use Rattle.rr_tables.specs.Records.World.{TableState, World};
 ghost use Rattle.rr_tables.specs.Tables.{ArePlayed, HaveTheirSnapshots, world_of};
@@ -52,9 +51,9 @@ pub(crate) fn restore_tables<D: Disk>(
     // Each snapshot of these tables was read as a game.
     ensures games { IfOk result (λ restored. (place : ℕ) → place < length entries.now
         → All SpellsItsGame (shown_of place snapshots.entry)) }
-    ensures plays { IfOk result (λ restored. D.Honest disk.new → length entries.now ≡ length (all_of chains.old.chains)
-        → PlaysBase (named_by (D.state disk.old).content entries.now chains.old snapshots.entry) kit restored.plays) }
-    ensures few_plays { IfOk result (λ restored. restored.plays < 1099511627776) }
+    ensures plays { IfOk result (λ restored. D.Honest disk.new → AreShown kit snapshots.entry (world_of restored.value)
+        → PlaysTables kit (λ place. counts_shown (shown_of place snapshots.entry)) 0 (world_of restored.value) restored.plays) }
+    ensures few_plays { IfOk result (λ restored. restored.plays ≤ MOST_TABLES * 2 ^ 33) }
     ensures refused { IfErr result (IsOrBreaks Damage.Kept (D.Honest disk.new
         → length entries.now ≡ length (all_of chains.old.chains) → AreTables entries.now → (tables : World) → TellTables entries.now (tables_in (D.state disk.old).content chains.old) tables
         → AreShown kit snapshots.entry tables → ArePlayedTables kit tables → ⊥)) }
@@ -109,18 +108,12 @@ fn restore_table<D: Disk>(
         × (D.Honest disk.new
         → TellsTable entry.now (bytes_at (D.state disk.old).content chains.old index) (entry.now.name, state))
         × (All (ShowsPlayOf tables.old.kit state.commands) (shown_of index snapshots.entry)
-        → IsPlayedTable tables.old.kit state × (ArePlayed tables.old → ArePlayed tables.new))) }
+        → IsPlayedTable tables.old.kit state × (ArePlayed tables.old → ArePlayed tables.new))
+        × (D.Honest disk.new → All (ShowsPlayOf tables.old.kit state.commands) (shown_of index snapshots.entry)
+        → PlaysTable tables.old.kit state (counts_shown (shown_of index snapshots.entry)) plays)) }
     ensures snapshots { IfOk result (λ plays. HaveTheirSnapshots tables.old → HaveTheirSnapshots tables.new) }
     ensures games { IfOk result (λ plays. All SpellsItsGame (shown_of index snapshots.entry)) }
-    ensures least { IfOk result (λ plays. left_behind entry.now.kept (counts_shown (shown_of index snapshots.entry)) ≤ plays) }
-    ensures most { IfOk result (λ plays. plays
-        ≤ left_behind entry.now.kept (counts_shown (shown_of index snapshots.entry)) + entry.now.kept) }
-    ensures few { IfOk result (λ plays. D.Honest disk.new → (state : TableState)
-        → TellsTable entry.now (bytes_at (D.state disk.old).content chains.old index) (entry.now.name, state)
-        → All (ShowsPlayOf tables.old.kit state.commands) (shown_of index snapshots.entry)
-        → HasNamed tables.old.kit state (counts_shown (shown_of index snapshots.entry))
-        → plays ≡ left_behind entry.now.kept (counts_shown (shown_of index snapshots.entry))) }
-    ensures few_plays { IfOk result (λ plays. plays < 8589934592) }
+    ensures few_plays { IfOk result (λ plays. plays < 2 ^ 33) }
     ensures few_tables { IfOk result (λ plays. length (world_of tables.old) < MOST_TABLES) }
     ensures refused { IfErr result (IsOrBreaks Damage.Kept (D.Honest disk.new
         → IsFreeFor (world_of tables.old) entry.now → entry.now.kept ≤ MOST_KEPT → (state : TableState)
@@ -176,7 +169,7 @@ fn restore<D: Disk>(
     index: usize,
     snapshots: Snapshots,
 ) -> Result<Restored<Box<Table>>, Fault>
-    requires { entry.now.stamp ≤ 4000000000 }
+    requires { entry.now.stamp ≤ LAST_STAMP }
     ensures told { IfOk result (λ restored. D.Honest disk.new → TellsTable entry.now
         (bytes_at (D.state disk.old).content chains.old index) (entry.now.name, kept_in restored.value.value)) }
     ensures played { IfOk result (λ restored.
@@ -184,15 +177,10 @@ fn restore<D: Disk>(
         → IsPlayed kit.now restored.value.value × IsPlayedTable kit.now (kept_in restored.value.value)) }
     ensures named { IfOk result (λ restored. HasItsSnapshots restored.value.value) }
     ensures writable { IfOk result (λ restored. IsWritable (kept_in restored.value.value)) }
-    ensures least { IfOk result (λ restored. left_behind entry.now.kept (counts_shown (shown_of index snapshots.entry)) ≤ restored.plays) }
-    ensures most { IfOk result (λ restored. restored.plays
-        ≤ left_behind entry.now.kept (counts_shown (shown_of index snapshots.entry)) + entry.now.kept) }
-    ensures few { IfOk result (λ restored. D.Honest disk.new → (state : TableState)
-        → TellsTable entry.now (bytes_at (D.state disk.old).content chains.old index) (entry.now.name, state)
-        → All (ShowsPlayOf kit.now state.commands) (shown_of index snapshots.entry)
-        → HasNamed kit.now state (counts_shown (shown_of index snapshots.entry))
-        → restored.plays ≡ left_behind entry.now.kept (counts_shown (shown_of index snapshots.entry))) }
-    ensures few_plays { IfOk result (λ restored. restored.plays < 8589934592) }
+    ensures plays { IfOk result (λ restored. D.Honest disk.new
+        → All (ShowsPlayOf kit.now (kept_in restored.value.value).commands) (shown_of index snapshots.entry)
+        → PlaysTable kit.now (kept_in restored.value.value) (counts_shown (shown_of index snapshots.entry)) restored.plays) }
+    ensures few_plays { IfOk result (λ restored. restored.plays < 2 ^ 33) }
     ensures games { IfOk result (λ restored. All SpellsItsGame (shown_of index snapshots.entry)) }
     ensures refused { IfErr result (IsOrBreaks Damage.Kept (D.Honest disk.new → entry.now.kept ≤ MOST_KEPT
         → (state : TableState)
@@ -229,7 +217,7 @@ fn restore_whole<D: Disk>(
     index: usize,
     snapshots: Snapshots,
 ) -> Result<Restored<Table>, Fault>
-    requires { entry.now.stamp ≤ 4000000000 }
+    requires { entry.now.stamp ≤ LAST_STAMP }
     ensures told { IfOk result (λ restored. D.Honest disk.new → TellsTable entry.now
         (bytes_at (D.state disk.old).content chains.old index) (entry.now.name, kept_in restored.value)) }
     ensures played { IfOk result (λ restored.
@@ -237,15 +225,10 @@ fn restore_whole<D: Disk>(
         → IsPlayed kit.now restored.value × IsPlayedTable kit.now (kept_in restored.value)) }
     ensures named { IfOk result (λ restored. HasItsSnapshots restored.value) }
     ensures writable { IfOk result (λ restored. IsWritable (kept_in restored.value)) }
-    ensures least { IfOk result (λ restored. left_behind entry.now.kept (counts_shown (shown_of index snapshots.entry)) ≤ restored.plays) }
-    ensures most { IfOk result (λ restored. restored.plays
-        ≤ left_behind entry.now.kept (counts_shown (shown_of index snapshots.entry)) + entry.now.kept) }
-    ensures few { IfOk result (λ restored. D.Honest disk.new → (state : TableState)
-        → TellsTable entry.now (bytes_at (D.state disk.old).content chains.old index) (entry.now.name, state)
-        → All (ShowsPlayOf kit.now state.commands) (shown_of index snapshots.entry)
-        → HasNamed kit.now state (counts_shown (shown_of index snapshots.entry))
-        → restored.plays ≡ left_behind entry.now.kept (counts_shown (shown_of index snapshots.entry))) }
-    ensures few_plays { IfOk result (λ restored. restored.plays < 8589934592) }
+    ensures plays { IfOk result (λ restored. D.Honest disk.new
+        → All (ShowsPlayOf kit.now (kept_in restored.value).commands) (shown_of index snapshots.entry)
+        → PlaysTable kit.now (kept_in restored.value) (counts_shown (shown_of index snapshots.entry)) restored.plays) }
+    ensures few_plays { IfOk result (λ restored. restored.plays < 2 ^ 33) }
     ensures games { IfOk result (λ restored. All SpellsItsGame (shown_of index snapshots.entry)) }
     ensures refused { IfErr result (IsOrBreaks Damage.Kept (D.Honest disk.new → entry.now.kept ≤ MOST_KEPT
         → (state : TableState)
@@ -289,7 +272,7 @@ fn restore_from<D: Disk>(
     index: usize,
     snapshots: Snapshots,
 ) -> Result<Restored<Table>, Fault>
-    requires { entry.now.stamp ≤ 4000000000 }
+    requires { entry.now.stamp ≤ LAST_STAMP }
     ensures told { IfOk result (λ restored. D.Honest disk.new → TellsTable entry.now
         (bytes_at (D.state disk.old).content chains.old index) (entry.now.name, kept_in restored.value)) }
     ensures played { IfOk result (λ restored.
@@ -298,12 +281,12 @@ fn restore_from<D: Disk>(
     ensures named { IfOk result (λ restored. shown_of index snapshots.entry ≡ [] → HasItsSnapshots restored.value) }
     ensures writable { IfOk result (λ restored. IsWritable (kept_in restored.value)) }
     ensures plays { IfOk result (λ restored.
-        restored.plays ≡ left_behind entry.now.kept (counts_shown (shown_of index snapshots.entry))) }
-    ensures few_plays { IfOk result (λ restored. restored.plays < 4294967296) }
+        restored.plays ≡ plays_behind entry.now.kept (counts_shown (shown_of index snapshots.entry))) }
+    ensures few_plays { IfOk result (λ restored. restored.plays < 2 ^ 32) }
     ensures shown { IfOk result (λ restored.
         All (ShowsPlayOf kit.now (kept_in restored.value).commands) (shown_of index snapshots.entry)
-        → HasNamed kit.now (kept_in restored.value) (counts_shown (shown_of index snapshots.entry))
-        → HasItsSnapshots restored.value) }
+        → (HasItsSnapshots restored.value ↔ AreItsCounts kit.now (kept_in restored.value)
+        (counts_then kit.now (kept_in restored.value) (counts_shown (shown_of index snapshots.entry))))) }
     ensures games { IfOk result (λ restored. All SpellsItsGame (shown_of index snapshots.entry)) }
     ensures refused { IfErr result (IsOrBreaks Damage.Kept (D.Honest disk.new → entry.now.kept ≤ MOST_KEPT
         → (state : TableState)

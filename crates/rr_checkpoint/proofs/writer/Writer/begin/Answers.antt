@@ -5,7 +5,7 @@ use Rattle.rr_checkpoint.specs.Holds.{HoldsAsBegun}
 use Rattle.rr_checkpoint.specs.OpenFile.{CarriesWith}
 use Rattle.rr_checkpoint.specs.Writer.{free_of}
 use Rattle.rr_checkpoint.proofs.Records.{none_there}
-use Rattle.rr_checkpoint.proofs.Writers.{carries_same, found_may, none_left}
+use Rattle.rr_checkpoint.proofs.Writers.{carries_same, found_may, found_none, none_left}
 use Rattle.rr_checkpoint.proofs.Working.{on_err}
 use Rattle.rr_checkpoint.proofs.Growing.{never_grows}
 use Rattle.rr_checkpoint.proofs.writer.Writer.begin.Goals as goal
@@ -90,3 +90,23 @@ returns-clause-grows g c = λ honest world carries may.
     never_grows
     (c.in_ok-begin.ensures.same_len honest world
     (carries_same g.C.Codec.codec writer.file (g.D.Disk.state c.args.disk.now) world writer.checkpoint None (none_left writer.checkpoint c.requires) carries))
+
+pub returns-in_err-begin-clause-same_len : goal.returns-in_err-begin-clause-same_len
+returns-in_err-begin-clause-same_len g c = λ honest world carries none.
+    let writer = c.args.self.now in
+    c.in_err-begin.ensures.same_len honest world
+    (carries_same g.C.Codec.codec writer.file (g.D.Disk.state c.args.disk.now) world writer.checkpoint None (none_left writer.checkpoint c.requires) carries)
+
+pub returns-clause-same_len : goal.returns-clause-same_len
+returns-clause-same_len g c = λ honest world carries none.
+    let writer = c.args.self.now in
+    c.in_ok-begin.ensures.same_len honest world
+    (carries_same g.C.Codec.codec writer.file (g.D.Disk.state c.args.disk.now) world writer.checkpoint None (none_left writer.checkpoint c.requires) carries)
+
+pub returns-in_err-take_up-clause-same_len : goal.returns-in_err-take_up-clause-same_len
+returns-in_err-take_up-clause-same_len g c = λ honest world carries none.
+    absurd (found_none c.args.self.now.file.place.begun (sym c.is_some.ensures ∙ c.if-is_some.true) none)
+
+pub returns-then-is_some-clause-same_len : goal.returns-then-is_some-clause-same_len
+returns-then-is_some-clause-same_len g c = λ honest world carries none.
+    absurd (found_none c.args.self.now.file.place.begun (sym c.is_some.ensures ∙ c.if-is_some.true) none)

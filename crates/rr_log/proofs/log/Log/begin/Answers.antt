@@ -14,8 +14,8 @@ use Rattle.rr_log.specs.Lent.{lent_of}
 use Rattle.rr_log.proofs.Carried.{kept_now, begun_carries, half_behind, some_behind, starts_with}
 use Rattle.rr_reading.specs.Worlds.Spelling.{worlds}
 use Rattle.rr_pages.specs.FreePages.{coming_of, present_of}
-use Rattle.rr_checkpoint.proofs.Growing.{grows_by_pages, never_grows}
-use Rattle.rr_log.proofs.Growing.{grows_from}
+use Rattle.rr_checkpoint.proofs.Growing.{grows_by_pages}
+use Rattle.rr_log.proofs.Growing.{grows_from, stays_long}
 use Rattle.rr_log.proofs.log.Log.begin.Goals as goal
 
 pub returns-in_err-plan-clause-stops : goal.returns-in_err-plan-clause-stops
@@ -144,7 +144,8 @@ pub returns-in-Err-clause-unchanged : goal.returns-in-Err-clause-unchanged
 returns-in-Err-clause-unchanged g c = λ want. elim want [ inl is ↦ absurd (cc is) | inr is ↦ absurd (cc is) ]
 
 pub returns-in_err-plan-clause-grows : goal.returns-in_err-plan-clause-grows
-returns-in_err-plan-clause-grows g c = λ honest world carries. never_grows (ap (λ (d : g.row.D.Denot). g.D.Disk.file_len d) c.plan.ensures.unchanged.disk)
+returns-in_err-plan-clause-grows g c = λ honest world carries.
+    stays_long g.D.Disk.file_len c.args.self.now c.plan.new.self (ap (λ (d : g.row.D.Denot). g.D.Disk.file_len d) c.plan.ensures.unchanged.disk)
 
 pub returns-in-Ok-clause-grows : goal.returns-in-Ok-clause-grows
 returns-in-Ok-clause-grows g c = λ honest world carries.
@@ -161,8 +162,18 @@ returns-in-Ok-clause-grows g c = λ honest world carries.
     (plan.carries.carried, plan.may)) in
     let free = file.free_of c.begin.new.self in
     let disk = c.begin.new.disk in
-    grows_from (present_of free) (coming_of free) (g.D.Disk.file_len planned.disk) (g.D.Disk.file_len log.disk) (g.D.Disk.file_len disk) (ap (λ (d : g.row.D.Denot). g.D.Disk.file_len d) (sym c.plan.ensures.unchanged.disk))
-    (grows_by_pages (file.free_of planned.writer) free (g.D.Disk.file_len planned.disk) (g.D.Disk.file_len disk) c.in-Ok.ensures.free (c.in-Ok.ensures.grows honest world starts.0 starts.1))
+    record {
+      full = grows_from (present_of free) (coming_of free) (g.D.Disk.file_len planned.disk) (g.D.Disk.file_len log.disk) (g.D.Disk.file_len disk)
+          (ap (λ (d : g.row.D.Denot). g.D.Disk.file_len d) (sym c.plan.ensures.unchanged.disk))
+          (grows_by_pages (file.free_of planned.writer) free (g.D.Disk.file_len planned.disk) (g.D.Disk.file_len disk) c.in-Ok.ensures.free (c.in-Ok.ensures.grows honest world starts.0 starts.1));
+      rests = λ whole none.
+          let some = some_behind (place_of planned).begun (length c.in_ok-plan.field-0.plan.fresh.items) (file.ticks_left_of c.begin.new.self) c.in_ok-plan.ensures.some c.in-Ok.ensures.left in
+          absurd (omega (arith, some, none));
+      ends = λ some few. absurd (omega (arith, some, c.requires.resting));
+      begins = λ none begun.
+          c.in-Ok.ensures.same_len honest world there.carried (ap (λ (place : Place). place.begun) c.plan.ensures.unchanged.place ∙ begun)
+          ∙ ap (λ (d : g.row.D.Denot). g.D.Disk.file_len d) c.plan.ensures.unchanged.disk;
+    }
 
 pub returns-in-Err-clause-grows : goal.returns-in-Err-clause-grows
 returns-in-Err-clause-grows g c = λ honest world carries.
@@ -179,5 +190,13 @@ returns-in-Err-clause-grows g c = λ honest world carries.
     (plan.carries.carried, plan.may)) in
     let free = file.free_of c.begin.new.self in
     let disk = c.begin.new.disk in
-    grows_from (present_of free) (coming_of free) (g.D.Disk.file_len planned.disk) (g.D.Disk.file_len log.disk) (g.D.Disk.file_len disk) (ap (λ (d : g.row.D.Denot). g.D.Disk.file_len d) (sym c.plan.ensures.unchanged.disk))
-    (grows_by_pages (file.free_of planned.writer) free (g.D.Disk.file_len planned.disk) (g.D.Disk.file_len disk) c.in-Err.ensures.free (c.in-Err.ensures.grows honest world starts.0 starts.1))
+    record {
+      full = grows_from (present_of free) (coming_of free) (g.D.Disk.file_len planned.disk) (g.D.Disk.file_len log.disk) (g.D.Disk.file_len disk)
+          (ap (λ (d : g.row.D.Denot). g.D.Disk.file_len d) (sym c.plan.ensures.unchanged.disk))
+          (grows_by_pages (file.free_of planned.writer) free (g.D.Disk.file_len planned.disk) (g.D.Disk.file_len disk) c.in-Err.ensures.free (c.in-Err.ensures.grows honest world starts.0 starts.1));
+      rests = λ whole none. absurd (cc whole);
+      ends = λ some few. absurd (omega (arith, some, c.requires.resting));
+      begins = λ none begun.
+          c.in-Err.ensures.same_len honest world there.carried (ap (λ (place : Place). place.begun) c.plan.ensures.unchanged.place ∙ begun)
+          ∙ ap (λ (d : g.row.D.Denot). g.D.Disk.file_len d) c.plan.ensures.unchanged.disk;
+    }

@@ -11,9 +11,8 @@ use Rattle.rr_log.specs.Fault.{IsWant}
 use Rattle.rr_log.proofs.Carried.{device_more, device_so, kept_now, newer_begun, newer_under_way, next_begun, next_under_way, ok_so, renews_next, root_next, takes_root}
 use Rattle.rr_reading.specs.Worlds.Spelling.{worlds}
 use Rattle.std.proofs.lemmas.Result.{err_from_is_err_and}
-use Rattle.rr_pages.specs.declared.free_pages.FreePages.{FreePages}
 use Rattle.rr_pages.specs.FreePages.{coming_of, present_of}
-use Rattle.rr_checkpoint.proofs.Growing.{grows_on, never_grows}
+use Rattle.rr_checkpoint.proofs.Growing.{grows_on}
 use Rattle.rr_checkpoint.proofs.Working.{on_err}
 use Rattle.rr_log.specs.Log.{free_of}
 use Rattle.rr_log.proofs.Growing.{err_so, grows_told}
@@ -152,7 +151,7 @@ returns-in_err-begin-clause-grows_so_far g c =
     let log = c.args.self.now in
     let begun = c.begin.new.self in
     grows_told (present_of (free_of begun)) (coming_of (free_of begun)) (present_of (free_of log)) (coming_of (free_of begun)) (g.D.Disk.file_len log.disk) (g.D.Disk.file_len begun.disk) (sym c.in_err-begin.ensures.pages) refl
-    (c.in_err-begin.ensures.grows honest world carries))
+    (c.in_err-begin.ensures.grows honest world carries).full)
 
 pub returns-in_err-finish-clause-grows_so_far : goal.returns-in_err-finish-clause-grows_so_far
 returns-in_err-finish-clause-grows_so_far g c =
@@ -163,7 +162,7 @@ returns-in_err-finish-clause-grows_so_far g c =
     let ended = c.finish-2.new.self in
     let then = c.in_err-finish.ensures.honest honest in
     grows_told (present_of (free_of begun)) (coming_of (free_of begun)) (present_of (free_of log)) (coming_of (free_of ended)) (g.D.Disk.file_len log.disk) (g.D.Disk.file_len ended.disk) (sym c.in_ok-begin.ensures.pages) (ap coming_of c.in_err-finish.ensures.same_free)
-    (grows_on (present_of (free_of begun)) (coming_of (free_of begun)) (g.D.Disk.file_len log.disk) (g.D.Disk.file_len begun.disk) (g.D.Disk.file_len ended.disk) (c.in_ok-begin.ensures.grows then world carries)
+    (grows_on (present_of (free_of begun)) (coming_of (free_of begun)) (g.D.Disk.file_len log.disk) (g.D.Disk.file_len begun.disk) (g.D.Disk.file_len ended.disk) (c.in_ok-begin.ensures.grows then world carries).full
     (c.in_err-finish.ensures.grows honest world (c.in_ok-begin.ensures.carries then c.in_ok-begin.ensures.broken world lent carries))))
 
 pub returns-clause-grows : goal.returns-clause-grows
@@ -173,5 +172,20 @@ returns-clause-grows g c = λ honest world lent carries.
     let ended = c.finish-2.new.self in
     let then = c.in_ok-finish.ensures.honest honest in
     grows_told (present_of (free_of begun)) (coming_of (free_of begun)) (present_of (free_of log)) (present_of (free_of ended)) (g.D.Disk.file_len log.disk) (g.D.Disk.file_len ended.disk) (sym c.in_ok-begin.ensures.pages) c.in_ok-finish.ensures.frees.present
-    (grows_on (present_of (free_of begun)) (coming_of (free_of begun)) (g.D.Disk.file_len log.disk) (g.D.Disk.file_len begun.disk) (g.D.Disk.file_len ended.disk) (c.in_ok-begin.ensures.grows then world carries)
+    (grows_on (present_of (free_of begun)) (coming_of (free_of begun)) (g.D.Disk.file_len log.disk) (g.D.Disk.file_len begun.disk) (g.D.Disk.file_len ended.disk) (c.in_ok-begin.ensures.grows then world carries).full
     (c.in_ok-finish.ensures.grows honest world (c.in_ok-begin.ensures.carries then c.in_ok-begin.ensures.broken world lent carries)))
+
+pub returns-then-ticks_left-gt0-clause-reclaims : goal.returns-then-ticks_left-gt0-clause-reclaims
+returns-then-ticks_left-gt0-clause-reclaims g c = ok_so c.finish.result _ _ (λ told some. told) c.finish.ensures.frees
+
+pub returns-then-ticks_left-gt0-clause-same_free : goal.returns-then-ticks_left-gt0-clause-same_free
+returns-then-ticks_left-gt0-clause-same_free g c = err_so c.finish.result _ _ (λ told some. told) c.finish.ensures.same_free
+
+pub returns-in_err-begin-clause-same_free : goal.returns-in_err-begin-clause-same_free
+returns-in_err-begin-clause-same_free g c = on_err c.from_residual.result (λ some. absurd (omega (arith, some, c.ticks_left.ensures, c.if-ticks_left-gt0.false)))
+
+pub returns-in_err-finish-clause-same_free : goal.returns-in_err-finish-clause-same_free
+returns-in_err-finish-clause-same_free g c = on_err c.from_residual-in_err-finish.result (λ some. absurd (omega (arith, some, c.ticks_left.ensures, c.if-ticks_left-gt0.false)))
+
+pub returns-clause-reclaims : goal.returns-clause-reclaims
+returns-clause-reclaims g c = λ some. absurd (omega (arith, some, c.ticks_left.ensures, c.if-ticks_left-gt0.false))

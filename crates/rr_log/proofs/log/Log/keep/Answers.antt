@@ -1,4 +1,4 @@
-use Rattle.std.proofs.Common.{◌≡◌, ◌⊎◌, inl, inr, ◌+◌, ◌∙◌, Err, length, sym, ap, subst, arith}
+use Rattle.std.proofs.Common.{◌≡◌, ◌⊎◌, inl, inr, ◌+◌, ◌∙◌, Err, length, refl, sym, ap, subst, arith}
 use Rattle.std.proofs.lemmas.Result.{err_from_is_err_and}
 use Rattle.rr_disk.proofs.MomentLemmas.{started, joins, weaker}
 use Rattle.rr_images.specs.Calls.{TakesNewer}
@@ -10,10 +10,8 @@ use Rattle.rr_log.specs.declared.fault.Fault.TheVariants as F
 use Rattle.rr_log.proofs.Carried.{full_on, is_full, is_put_off, kept_now, no_more_room, only_breaks, renewed_line, renews_now, renews_refused, same_count, same_disk, same_images, told_behind}
 use Rattle.rr_reading.specs.Worlds.Spelling.{worlds}
 use Rattle.rr_reading.specs.Worlds.World.{World}
-use Rattle.rr_log.specs.Log.{place_of, free_of}
-use Rattle.rr_pages.specs.FreePages.{coming_of, present_of}
-use Rattle.rr_checkpoint.proofs.Growing.{grows_by_pages}
-use Rattle.rr_log.proofs.Growing.{grows_to}
+use Rattle.rr_log.specs.Log.{place_of}
+use Rattle.rr_log.proofs.Growing.{kept_grows, kept_pages, pages_still, stays_long}
 use Rattle.rr_log.proofs.log.Log.keep.Goals as goal
 
 pub returns-then-self-clause-stops : goal.returns-then-self-clause-stops
@@ -144,20 +142,32 @@ returns-in_err-full-clause-grows g c = λ honest world lent carries. c.in_err-fu
 
 pub returns-in_err-append-clause-grows : goal.returns-in_err-append-clause-grows
 returns-in_err-append-clause-grows g c = λ honest world lent carries.
-    let log = c.args.self.now in
-    let ticked = c.tick_before.new.self in
-    let kept = c.append.new.self in
     let then = c.in_err-append.ensures.honest honest in
-    grows_to (present_of (free_of kept)) (coming_of (free_of kept)) (g.D.Disk.file_len log.disk) (g.D.Disk.file_len ticked.disk) (g.D.Disk.file_len kept.disk)
-    (c.in_err-append.ensures.same_len honest world (c.in_ok-full.ensures.carries then c.in_ok-full.ensures.broken world lent carries))
-    (grows_by_pages (free_of ticked) (free_of kept) (g.D.Disk.file_len log.disk) (g.D.Disk.file_len ticked.disk) c.in_err-append.ensures.free (c.in_ok-full.ensures.grows then world carries))
+    kept_grows g.D.Disk.file_len c.args.self.now c.append.new.self c.tick_before.new.self (c.in_ok-full.ensures.grows then world carries) c.in_ok-full.ensures.broken
+    (c.in_err-append.ensures.same_len honest world (c.in_ok-full.ensures.carries then c.in_ok-full.ensures.broken world lent carries)) c.in_err-append.ensures.free c.in_err-append.ensures.left
 
 pub returns-clause-grows : goal.returns-clause-grows
 returns-clause-grows g c = λ honest world lent carries.
-    let log = c.args.self.now in
-    let ticked = c.tick_before.new.self in
-    let kept = c.append.new.self in
     let then = c.in_ok-append.ensures.honest honest in
-    grows_to (present_of (free_of kept)) (coming_of (free_of kept)) (g.D.Disk.file_len log.disk) (g.D.Disk.file_len ticked.disk) (g.D.Disk.file_len kept.disk)
-    (c.in_ok-append.ensures.same_len honest world (c.in_ok-full.ensures.carries then c.in_ok-full.ensures.broken world lent carries))
-    (grows_by_pages (free_of ticked) (free_of kept) (g.D.Disk.file_len log.disk) (g.D.Disk.file_len ticked.disk) c.in_ok-append.ensures.free (c.in_ok-full.ensures.grows then world carries))
+    kept_grows g.D.Disk.file_len c.args.self.now c.append.new.self c.tick_before.new.self (c.in_ok-full.ensures.grows then world carries) c.in_ok-full.ensures.broken
+    (c.in_ok-append.ensures.same_len honest world (c.in_ok-full.ensures.carries then c.in_ok-full.ensures.broken world lent carries)) c.in_ok-append.ensures.free c.in_ok-append.ensures.left
+
+pub returns-then-self-clause-grows : goal.returns-then-self-clause-grows
+returns-then-self-clause-grows g c = λ honest world lent carries. let log = c.args.self.now in stays_long g.D.Disk.file_len log log refl
+
+pub returns-then-is_past_last-clause-grows : goal.returns-then-is_past_last-clause-grows
+returns-then-is_past_last-clause-grows g c = λ honest world lent carries. let log = c.args.self.now in stays_long g.D.Disk.file_len log log refl
+
+pub returns-then-self-clause-pages : goal.returns-then-self-clause-pages
+returns-then-self-clause-pages g c = let log = c.args.self.now in pages_still log log refl (λ one none whole. omega (arith, one, none))
+
+pub returns-then-is_past_last-clause-pages : goal.returns-then-is_past_last-clause-pages
+returns-then-is_past_last-clause-pages g c = let log = c.args.self.now in pages_still log log refl (λ one none whole. omega (arith, one, none))
+
+pub returns-in_err-append-clause-pages : goal.returns-in_err-append-clause-pages
+returns-in_err-append-clause-pages g c =
+    kept_pages c.args.self.now c.append.new.self c.tick_before.new.self c.in_ok-full.ensures.pages c.in_ok-full.ensures.broken c.in_err-append.ensures.free c.in_err-append.ensures.left
+
+pub returns-clause-pages : goal.returns-clause-pages
+returns-clause-pages g c =
+    kept_pages c.args.self.now c.append.new.self c.tick_before.new.self c.in_ok-full.ensures.pages c.in_ok-full.ensures.broken c.in_ok-append.ensures.free c.in_ok-append.ensures.left

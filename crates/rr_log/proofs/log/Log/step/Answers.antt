@@ -1,7 +1,8 @@
-use Rattle.std.proofs.Common.{◌∙◌, sym, arith}
+use Rattle.std.proofs.Common.{◌∙◌, refl, sym, arith}
 use Rattle.rr_disk.proofs.MomentLemmas.{started}
 use Rattle.rr_images.specs.Layout.{Keeps}
 use Rattle.rr_log.proofs.Carried.{is_want, kept_now}
+use Rattle.rr_log.proofs.Growing.{pages_resting, stays_long}
 use Rattle.rr_reading.specs.Worlds.Spelling.{worlds}
 use Rattle.rr_log.proofs.log.Log.step.Goals as goal
 
@@ -30,3 +31,19 @@ returns-in_err-begin-clause-nothing g c = λ whole none left. (c.in_err-begin.en
 
 pub returns-clause-nothing : goal.returns-clause-nothing
 returns-clause-nothing g c = λ whole none left. let some = c.in_ok-begin.ensures.some in absurd (omega (arith, some, left))
+
+pub returns-then-not-is_due-clause-grows : goal.returns-then-not-is_due-clause-grows
+returns-then-not-is_due-clause-grows g c = λ honest world carries. let log = c.args.self.now in stays_long g.D.Disk.file_len log log refl
+
+pub returns-then-not-is_due-clause-pages : goal.returns-then-not-is_due-clause-pages
+returns-then-not-is_due-clause-pages g c =
+    let log = c.args.self.now in
+    pages_resting log log (omega (arith, c.ticks_left.ensures, c.if-ticks_left-gt0.false)) refl
+
+pub returns-in_err-begin-clause-pages : goal.returns-in_err-begin-clause-pages
+returns-in_err-begin-clause-pages g c =
+    pages_resting c.args.self.now c.begin.new.self (omega (arith, c.ticks_left.ensures, c.if-ticks_left-gt0.false)) c.in_err-begin.ensures.pages
+
+pub returns-clause-pages : goal.returns-clause-pages
+returns-clause-pages g c =
+    pages_resting c.args.self.now c.begin.new.self (omega (arith, c.ticks_left.ensures, c.if-ticks_left-gt0.false)) c.in_ok-begin.ensures.pages

@@ -1,4 +1,4 @@
-use Rattle.std.proofs.Common.{sym, subst, ◌∙◌}
+use Rattle.std.proofs.Common.{ℕ, List, sym, subst, ◌∙◌}
 use Rattle.std.proofs.lemmas.List.{length-map}
 use Rattle.std.proofs.lemmas.Result.{err_from_is_err_and}
 use Rattle.rr_kit.specs.declared.kit.Kit.{Kit}
@@ -9,9 +9,9 @@ use Rattle.rr_reading.specs.Lending.Chains.{all_of}
 use Rattle.rr_tables.specs.Records.Played.{ArePlayedTables}
 use Rattle.rr_tables.specs.Tables.{ArePlayed, world_of}
 use Rattle.rr_store.specs.Recovery.Base.{IsRightBase, named_by}
-use Rattle.rr_store.specs.Recovery.Shown.{AreShown}
+use Rattle.rr_store.specs.Recovery.Shown.{AreShown, shown_of}
 use Rattle.rr_store.specs.Recovery.Texts.{texts_in}
-use Rattle.rr_store.specs.Replayed.{PlaysBase}
+use Rattle.rr_store.specs.Replayed.{PlaysTables, counts_shown}
 use Rattle.rr_store.proofs.RecoveryLemmas.BaseLemmas.{told_formed}
 use Rattle.rr_store.proofs.RecoveryLemmas.Recovered.{kept_refuses, kit_refuses}
 use Rattle.rr_store.proofs.recovery.base.restore_base.Goals as goal
@@ -55,8 +55,8 @@ pub returns-clause-kit : goal.returns-clause-kit
 returns-clause-kit g c = subst (λ (kit : Kit). SpellsKit (texts_in (chains_held c.args.texts.now)) kit) (sym c.in_ok-restored.ensures.kit) c.in_ok-kit.ensures
 
 pub returns-clause-plays : goal.returns-clause-plays
-returns-clause-plays g c = λ honest directory.
-    let file = (g.D.Disk.state c.args.disk.now).content in
-    let named = named_by file c.args.entries.now c.args.chains.now c.args.snapshots in
-    subst (λ (kit : Kit). PlaysBase named kit c.in_ok-restored.restored.plays) (sym c.in_ok-restored.ensures.kit)
-    (c.in_ok-restored.ensures.plays honest (directory.as_many ∙ length-map (all_of c.args.chains.now.chains) (held_in file)))
+returns-clause-plays g c =
+    let restored = c.in_ok-restored.restored in
+    let counts : ℕ → List ℕ = λ place. counts_shown (shown_of place c.args.snapshots) in
+    subst (λ (kit : Kit). g.D.Disk.Honest c.restore_tables.new.disk → AreShown kit c.args.snapshots (world_of restored.value) → PlaysTables kit counts 0 (world_of restored.value) restored.plays) (sym c.in_ok-restored.ensures.kit)
+    c.in_ok-restored.ensures.plays

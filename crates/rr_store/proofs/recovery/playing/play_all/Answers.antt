@@ -1,4 +1,4 @@
-use Rattle.std.proofs.Common.{◌≡◌, ◌≢◌, ◌<◌, ◌≤◌, ◌-◌, ℕ, List, [], length, Result, Ok, Err, IfOk, IfErr, MatchResult, All, ap, refl, sym, subst, ◌∙◌, arith, rules}
+use Rattle.std.proofs.Common.{◌≡◌, ◌≢◌, ◌<◌, ◌≤◌, ◌-◌, ◌^◌, ℕ, List, [], length, Result, Ok, Err, IfOk, IfErr, MatchResult, All, ap, refl, sym, subst, ◌∙◌, arith, rules}
 use Rattle.std.proofs.lemmas.Result.{err_from_is_err_and}
 use Rattle.rr_disk.specs.Disk.{DiskState}
 use Rattle.rr_game.specs.declared.history.table.Table.{Table}
@@ -14,8 +14,8 @@ use Rattle.rr_store.specs.Recovery.Fault.{IsOrBreaks}
 use Rattle.rr_store.specs.Recovery.Kept.{AreWorded, HoldsCommands}
 use Rattle.rr_store.specs.Recovery.Playing.{KeepsFront, PlaysNext, PlaysNoMore, ShowsNext}
 use Rattle.rr_store.specs.Recovery.Shown.{ShowsPlayOf, SpellsItsGame, shown_of}
-use Rattle.rr_store.specs.Replayed.{NoneDue, begins_behind, counts_played, counts_shown, left_behind}
-use Rattle.rr_store.proofs.RecoveryLemmas.PlaysLemmas.{counts_read, next_shown}
+use Rattle.rr_store.specs.Replayed.{begins_behind, counts_played, counts_shown, plays_behind, with_due}
+use Rattle.rr_store.proofs.RecoveryLemmas.PlaysLemmas.{counts_read, due_first, next_shown}
 use Rattle.rr_store.proofs.RecoveryLemmas.PlayingLemmas.{breaks, breaks_so, ends, ends_early, front_before, goes_on, held_front, or_breaks, played_whole, starts, too_many}
 use Rattle.rr_store.proofs.RecoveryLemmas.RestoringLemmas.{device_behind}
 use Rattle.rr_store.proofs.RecoveryLemmas.ShownLemmas.{are_within, none_read, read_are_games, show_games}
@@ -87,7 +87,9 @@ commands-init g c =
       low = low;
       counted = omega (arith, c.if-done-count.false, c.len-done.ensures.value, ap length c.commands-2.ensures);
       plays = omega (arith, low, c.if-done-count.false, c.len-done.ensures.value, ap length c.commands-2.ensures, behind);
-      shown = λ none. c.in_ok-table.ensures.shown ∙ sym counts;
+      shown =
+          c.in_ok-table.ensures.shown ∙ sym counts ∙ sym (due_first (counts_shown (shown_of c.args.index c.args.snapshots)))
+          ∙ ap (with_due (counts_shown (shown_of c.args.index c.args.snapshots))) (sym behind);
       floor = c.in_ok-table.ensures.floor;
       worded = c.in_ok-table.ensures.worded;
       all = c.in_ok-table.ensures.all ∙ c.turn_to.ensures.all;
@@ -207,19 +209,19 @@ returns-then-not-more-clause-refused g c =
 pub returns-then-not-more-clause-plays : goal.returns-then-not-more-clause-plays
 returns-then-not-more-clause-plays g c =
     let counts = counts_shown (shown_of c.args.index c.args.snapshots) in
-    whole_is (λ restored. restored.plays ≡ left_behind c.args.count counts) (one_of c.play_next.new.table c.commands.plays) c.commands.left c.whole.result c.whole.ensures (λ none. omega (arith, none, c.commands.invariant.plays))
+    whole_is (λ restored. restored.plays ≡ plays_behind c.args.count counts) (one_of c.play_next.new.table c.commands.plays) c.commands.left c.whole.result c.whole.ensures (λ none. omega (arith, none, c.commands.invariant.plays))
 
 pub returns-then-not-more-clause-few_plays : goal.returns-then-not-more-clause-few_plays
 returns-then-not-more-clause-few_plays g c =
-    whole_is (λ restored. restored.plays < 4294967296) (one_of c.play_next.new.table c.commands.plays) c.commands.left c.whole.result c.whole.ensures (λ none. omega (arith, c.commands.invariant.plays))
+    whole_is (λ restored. restored.plays < 2 ^ 32) (one_of c.play_next.new.table c.commands.plays) c.commands.left c.whole.result c.whole.ensures (λ none. omega (arith, c.commands.invariant.plays))
 
 pub returns-then-not-more-clause-shown : goal.returns-then-not-more-clause-shown
 returns-then-not-more-clause-shown g c =
     let counts = counts_shown (shown_of c.args.index c.args.snapshots) in
-    whole_is (λ restored. NoneDue (begins_behind counts) c.args.count → counts_played restored.value.kept.snapshots ≡ counts) (one_of c.play_next.new.table c.commands.plays) c.commands.left c.whole.result c.whole.ensures (λ none due.
+    whole_is (λ restored. counts_played restored.value.kept.snapshots ≡ with_due counts c.args.count) (one_of c.play_next.new.table c.commands.plays) c.commands.left c.whole.result c.whole.ensures (λ none.
     let same = at_false (c.play_next.new.table ≡ c.commands.table) c.if-not-more.true c.in_ok-more.ensures.same in
-    ap (λ (table : Table). counts_played table.kept.snapshots) same
-    ∙ c.commands.invariant.shown (λ count above few. due count above (omega (arith, few, c.commands.invariant.counted))))
+    let whole : length (kept_in c.commands.table).commands ≡ c.args.count = omega (arith, none, c.commands.invariant.counted) in
+    ap (λ (table : Table). counts_played table.kept.snapshots) same ∙ c.commands.invariant.shown ∙ ap (with_due counts) whole)
 
 pub returns-then-not-more-clause-counted : goal.returns-then-not-more-clause-counted
 returns-then-not-more-clause-counted g c =

@@ -6,7 +6,7 @@ use Rattle.rr_reading.specs.Lending.Commands.{bytes_at, rest_of, steps_left_of}
 use Rattle.rr_store.specs.Recovery.Kept.{AreWorded}
 use Rattle.rr_store.specs.Recovery.Playing.{IsFrontOf}
 use Rattle.rr_store.specs.Recovery.Shown.{ShowsPlayOf, shown_of}
-use Rattle.rr_store.specs.Replayed.{NoneDue, begins_behind, counts_played, counts_shown, left_behind}
+use Rattle.rr_store.specs.Replayed.{begins_behind, counts_played, counts_shown, plays_behind, with_due}
 use Rattle.rr_store.proofs.RecoveryLemmas.PlayingLemmas.{IsPlaying}
 use Rattle.rr_store.proofs.recovery.playing.play_all.Given as goal
 
@@ -18,8 +18,8 @@ invariant-commands g l =
       named : shown_of l.fn.index l.fn.snapshots ≡ [] → HasItsSnapshots l.table;
       low : begins_behind (counts_shown (shown_of l.fn.index l.fn.snapshots)) ≤ length (kept_in l.table).commands;
       counted : length (kept_in l.table).commands + l.left ≡ l.fn.count;
-      plays : l.plays + l.left ≡ left_behind l.fn.count (counts_shown (shown_of l.fn.index l.fn.snapshots));
-      shown : NoneDue (begins_behind (counts_shown (shown_of l.fn.index l.fn.snapshots))) (length (kept_in l.table).commands) → counts_played l.table.kept.snapshots ≡ counts_shown (shown_of l.fn.index l.fn.snapshots);
+      plays : l.plays + l.left ≡ plays_behind l.fn.count (counts_shown (shown_of l.fn.index l.fn.snapshots));
+      shown : counts_played l.table.kept.snapshots ≡ with_due (counts_shown (shown_of l.fn.index l.fn.snapshots)) (length (kept_in l.table).commands);
       floor : (kept_in l.table).floor ≡ 0;
       worded : AreWorded (kept_in l.table).commands;
       all : all_of l.chains.chains ≡ all_of l.fn.chains.chains;

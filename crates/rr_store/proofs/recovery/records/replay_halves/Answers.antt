@@ -1,8 +1,12 @@
-use Rattle.std.proofs.Common.{arith}
+use Rattle.std.proofs.Common.{ℕ, Vec, subst, arith}
+use Rattle.std.specs.declared.alloc.Global.{Global}
+use Rattle.std.proofs.lemmas.List.{length-map}
 use Rattle.std.proofs.lemmas.Result.{err_from_is_err_and}
 use Rattle.rr_pages.specs.Journal.Reading.{lines}
+use Rattle.rr_kit.specs.declared.kit.Kit.{Kit}
 use Rattle.rr_tables.specs.Tables.{world_of}
-use Rattle.rr_store.proofs.RecoveryLemmas.PlaysLemmas.{plays_join}
+use Rattle.rr_store.specs.Replayed.{PlaysRecords}
+use Rattle.rr_store.proofs.RecoveryLemmas.PlaysLemmas.{few_records, records_join}
 use Rattle.rr_store.proofs.RecoveryLemmas.ReplayLemmas.{both_replayed, far_stops, near_stops}
 use Rattle.rr_store.proofs.recovery.records.replay_halves.Goals as goal
 
@@ -24,9 +28,19 @@ returns-clause-replayed c = λ played.
     (c.replay.ensures.played played) (c.in_ok-near_plays.ensures.replayed played) (c.in_ok-far_plays.ensures.replayed (c.replay.ensures.played played)) c.in_ok-base.ensures.base
 
 pub returns-clause-plays : goal.returns-clause-plays
-returns-clause-plays c = λ played had.
-    plays_join (lines c.args.near.now) (lines c.args.far.now) c.in_ok-near_plays.near_plays c.in_ok-far_plays.far_plays c.saturating_add.result (omega (arith, c.saturating_add.ensures))
-    (c.in_ok-near_plays.ensures.plays played had) (c.in_ok-far_plays.ensures.plays (c.replay.ensures.played played) (c.replay.ensures.snapshots played had))
+returns-clause-plays c = λ played had few_near few_far.
+    let kit = c.args.tables.now.kit in
+    let near = lines c.args.near.now in
+    let far = lines c.args.far.now in
+    let middle = world_of c.replay.new.tables in
+    let end = world_of c.replay-2.new.tables in
+    let first = c.in_ok-near_plays.ensures.plays played had few_near in
+    let second = subst (λ (k : Kit). PlaysRecords k middle far end c.in_ok-far_plays.far_plays) c.replay.ensures.kit
+    (c.in_ok-far_plays.ensures.plays (c.replay.ensures.played played) (c.replay.ensures.snapshots played had) few_far) in
+    let bytes_of = λ (v : Vec ℕ Global). v.items in
+    records_join kit (world_of c.args.tables.now) near middle far end c.in_ok-near_plays.near_plays c.in_ok-far_plays.far_plays c.saturating_add.result
+    (omega (arith, c.saturating_add.ensures, few_records kit _ near middle _ first, few_records kit middle far end _ second, length-map c.args.near.now bytes_of, length-map c.args.far.now bytes_of, few_near, few_far))
+    first second
 
 pub returns-clause-played : goal.returns-clause-played
 returns-clause-played c = λ played. c.replay-2.ensures.played (c.replay.ensures.played played)

@@ -1,10 +1,11 @@
-use Rattle.std.proofs.Common.{◌≡◌, ℕ, List, Result, Ok}
+use Rattle.std.proofs.Common.{◌≡◌, ℕ, List, None, Result, Ok, subst}
 use Rattle.rr_code.specs.Request.{record_text}
 use Rattle.rr_log.specs.declared.fault.Fault.{Fault}
 use Rattle.rr_log.specs.Lent.{Lent}
 use Rattle.rr_tables.specs.declared.journal.Standing.{Standing}
-use Rattle.rr_tables.specs.Records.World.{for_table}
+use Rattle.rr_tables.specs.Records.World.{judgement_in}
 use Rattle.rr_tables.specs.Tables.{lent_by, world_of}
+use Rattle.rr_turns.specs.Judgement.{IsVerdict}
 use Rattle.rr_store.proofs.RecoveryLemmas.VerdictLemmas.{refused_record}
 use Rattle.rr_store.proofs.recovery.records.replay_record.Goals as goal
 
@@ -18,8 +19,17 @@ returns-in-Err-clause-refused c =
 
 pub returns-in-Ok-clause-plays : goal.returns-in-Ok-clause-plays
 returns-in-Ok-clause-plays c = λ played had.
+    let kit = c.args.tables.now.kit in
+    let old = world_of c.args.tables.now in
+    let name = c.in_ok-name.name in
+    let request = c.in_ok-name.request in
     record {
-      asked = for_table c.in_ok-name.name c.in_ok-name.request;
-      spelled = c.in_ok-name.ensures.found;
-      few = c.in-Ok.ensures.plays played had;
+      takes = record {
+        name = name;
+        request = request;
+        spelled = c.in_ok-name.ensures.found;
+        lawful = subst (λ (stamp : ℕ). IsVerdict (judgement_in kit old stamp name request) None) c.stamp-stamp.ensures (c.in-Ok.ensures.verdict played);
+        taken = c.in-Ok.ensures.world played;
+      };
+      counted = c.in-Ok.ensures.plays played had;
     }

@@ -1,4 +1,5 @@
-use Rattle.std.proofs.Common.{◌≡◌, List, inr, length, map, refl, sym, ap, subst, ◌∙◌, arith}
+use Rattle.std.proofs.Common.{◌≡◌, ℕ, List, Vec, inr, length, map, refl, sym, ap, subst, ◌∙◌, arith}
+use Rattle.std.specs.declared.alloc.Global.{Global}
 use Rattle.std.proofs.lemmas.List.{length-map}
 use Rattle.std.proofs.lemmas.Result.{err_from_is_err_and}
 use Rattle.rr_checkpoint.specs.declared.plan.standing.StandingSnapshot.{StandingSnapshot}
@@ -106,6 +107,10 @@ returns-clause-replayed g c = λ honest holds.
     let tables = c.in_ok-value.field-0.value in
     let same = same_named (tables_in file c.args.opened.now.tables) _ _ _ _ _ _ c.deref-3.ensures.value c.deref.ensures.value c.deref-2.ensures.value in
     let right = right_read file has holds _ tables.kit (world_of tables) same (c.in_ok-value.ensures.right honest) in
+    let vec_of = λ (v : Vec ℕ Global). v.items in
     replayed_from file has holds _ tables c.replay_halves.new.tables (lines c.deref-4.result.now) (lines c.deref-5.result.now) c.in_ok-value.field-0.plays c.in_ok-replayed.replayed.plays c.saturating_add.result same
     (ap lines c.deref-4.ensures.value) (ap lines c.deref-5.ensures.value) c.replay_halves.ensures.kit right (subst (λ (n : Named). PlaysThem n tables) same c.in_ok-value.ensures.played) c.in_ok-value.ensures.snapshots
-    (c.in_ok-value.ensures.plays honest) c.in_ok-replayed.ensures.plays (omega (arith, c.saturating_add.ensures, c.in_ok-value.ensures.few_plays)) (omega (arith, c.saturating_add.ensures))
+    (c.in_ok-value.ensures.plays honest) c.in_ok-value.ensures.few_plays
+    (λ played had few_near few_far.
+    c.in_ok-replayed.ensures.plays played had (omega (arith, few_near, length-map c.deref-4.result.now vec_of)) (omega (arith, few_far, length-map c.deref-5.result.now vec_of)))
+    (λ small. omega (arith, c.saturating_add.ensures, small))

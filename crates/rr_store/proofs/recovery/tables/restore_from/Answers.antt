@@ -1,10 +1,10 @@
-use Rattle.std.proofs.Common.{◌≡◌, ℕ, ◌<◌, ◌≤◌, ◌^◌, All, List, refl, sym, subst, arith}
+use Rattle.std.proofs.Common.{◌≡◌, ◌<◌, ◌≤◌, ◌^◌, All, List, refl, sym, ap, subst, ◌∙◌, arith}
 use Rattle.rr_code.specs.declared.command.Command.{Command}
 use Rattle.std.proofs.lemmas.Result.{err_from_is_err_and}
 use Rattle.rr_game.specs.History.Tables.{kept_in, turns_in}
 use Rattle.rr_reading.specs.Lending.Commands.{bytes_at}
 use Rattle.rr_store.specs.Recovery.Shown.{ShowsPlayOf, shown_of}
-use Rattle.rr_store.specs.Replayed.{NoneDue, begins_behind, counts_played, counts_shown}
+use Rattle.rr_store.specs.Replayed.{counts_shown, with_due}
 use Rattle.rr_store.proofs.RecoveryLemmas.PlayingLemmas.{breaks_so}
 use Rattle.rr_store.proofs.RecoveryLemmas.PlaysLemmas.{resumed_named}
 use Rattle.rr_store.proofs.RecoveryLemmas.RestoringLemmas.{above_turns, is_writable, resumed}
@@ -50,12 +50,12 @@ returns-then-floor-turns-clause-refused g c =
     )
 
 pub returns-clause-shown : goal.returns-clause-shown
-returns-clause-shown g c = λ shows named.
+returns-clause-shown g c = λ shows.
     let kit = c.args.kit.now in
     let old = c.in_ok-value.field-0.value in
     let shown = shown_of c.args.index c.args.snapshots in
     let old_played = c.in_ok-value.ensures.played (subst (λ (cs : List Command). All (ShowsPlayOf kit cs) shown) c.resume.ensures.commands shows) in
     let below : c.from-floor.result ≤ turns_in old = omega (arith, c.if-floor-turns.false, c.turns.ensures.value) in
-    let due = subst (λ (n : ℕ). NoneDue (begins_behind (counts_shown shown)) n → counts_played old.kept.snapshots ≡ counts_shown shown) (sym c.in_ok-value.ensures.counted) c.in_ok-value.ensures.shown in
+    let due = c.in_ok-value.ensures.shown ∙ ap (with_due (counts_shown shown)) (sym c.in_ok-value.ensures.counted) in
     resumed_named kit old c.resume.new.self c.from-floor.result (counts_shown shown) old_played (c.resume.ensures.played kit old_played) c.resume.ensures.commands c.resume.ensures.floor
-    c.resume.ensures.snapshots below due named
+    c.resume.ensures.snapshots below due

@@ -1,9 +1,8 @@
-use Rattle.std.proofs.Common.{◌≡◌, ◌+◌, ◌<◌, ◌≤◌, ◌∙◌, ℕ, All, List, length, map, take, ap, subst, arith, below_more, rules}
-use Rattle.std.proofs.lemmas.List.{length-map, take_all}
+use Rattle.std.proofs.Common.{◌≡◌, ◌+◌, ◌<◌, ◌∙◌, ℕ, All, List, length, map, refl, arith, below_more, rules}
+use Rattle.std.proofs.lemmas.List.{length-map}
 use Rattle.std.proofs.lemmas.Result.{err_from_is_err_and}
 use Rattle.rr_disk.specs.Disk.{DiskState}
 use Rattle.rr_reading.specs.Chains.{held, held_in}
-use Rattle.rr_reading.specs.declared.dir.directory.TableEntry.{TableEntry}
 use Rattle.rr_reading.specs.Held.{tables_in}
 use Rattle.rr_reading.specs.Lending.Chains.{all_of}
 use Rattle.rr_reading.specs.Lending.Commands.{bytes_at}
@@ -12,9 +11,8 @@ use Rattle.rr_reading.specs.Lending.Pages.{joined}
 use Rattle.rr_reading.proofs.FormLemmas.{get_held, held_at}
 use Rattle.rr_tables.specs.Tables.{world_of}
 use Rattle.rr_store.specs.Recovery.Shown.{SpellsItsGame, shown_of}
-use Rattle.rr_store.specs.Replayed.{all_kept, all_left, counts_shown}
 use Rattle.rr_store.proofs.RecoveryLemmas.PlayingLemmas.{breaks_so}
-use Rattle.rr_store.proofs.RecoveryLemmas.PlaysLemmas.{few_there, kept_more, left_more}
+use Rattle.rr_store.proofs.RecoveryLemmas.PlaysLemmas.{plays_put}
 use Rattle.rr_store.proofs.RecoveryLemmas.RestoringLemmas.{count_put, played_put, told_end, told_put}
 use Rattle.rr_store.proofs.recovery.tables.restore_tables.Goals as goal
 
@@ -51,9 +49,6 @@ loop-index-preserved g c =
     let old = world_of c.loop-index.tables in
     let new = world_of c.restore_table.new.tables in
     let put = c.in_ok-played.ensures.put in
-    let counts : ℕ → List ℕ = λ place. counts_shown (shown_of place c.args.snapshots) in
-    let left = left_more counts c.args.entries.now index entry within c.index-entries-index.is in
-    let kept = kept_more c.args.entries.now index entry within c.index-entries-index.is in
     record {
       told = λ honest as_many.
           let chain_in : index < length all = omega (arith, within, as_many) in
@@ -68,17 +63,9 @@ loop-index-preserved g c =
           c.loop-index.invariant.counted c.loop-index.invariant.played put.3;
       snapshots = c.in_ok-played.ensures.snapshots c.loop-index.invariant.snapshots;
       games = below_more (λ place. All SpellsItsGame (shown_of place c.args.snapshots)) index c.loop-index.invariant.games c.in_ok-played.ensures.games;
-      least = omega (arith, c.loop-index.invariant.least, c.in_ok-played.ensures.least, left);
-      most = omega (arith, c.loop-index.invariant.most, c.in_ok-played.ensures.most, left, kept);
-      few = λ honest as_many.
-          let chain_in : index < length all = omega (arith, within, as_many) in
-          let before = c.in_ok-played.ensures.honest honest in
-          let bytes : bytes_at now c.loop-index.chains index ≡ joined file (links_at all index) = λ i. joined (content (c.loop-index.invariant.same_state before i)) (links_at (c.loop-index.invariant.all i) index) in
-          λ world told shows named.
-          let here = few_there c.args.kit c.args.snapshots.entries.now (map held c.args.snapshots.chains.now) c.loop-index.tables.kit c.args.entries.now (tables_in file c.args.chains.now) index entry
-          (held_at file all index) (bytes_at now c.loop-index.chains index) c.in_ok-played.played within (omega (arith, chain_in, length-map all (held_in file))) c.index-entries-index.is
-          (get_held file all index (held_at file all index) chain_in) bytes c.loop-index.invariant.kit (c.in_ok-played.ensures.few honest) world told shows named in
-          omega (arith, here, left, c.loop-index.invariant.few before as_many world told shows named);
+      plays = λ honest.
+          plays_put c.args.kit c.args.snapshots.entries.now (map held c.args.snapshots.chains.now) c.loop-index.tables.kit index entry old new put.0 c.loop-index.plays c.in_ok-played.played (c.loop-index.plays + c.in_ok-played.played)
+          c.loop-index.invariant.kit put.1 c.loop-index.invariant.counted refl (c.loop-index.invariant.plays (c.in_ok-played.ensures.honest honest)) (put.4 honest);
       bounded = omega (arith, c.loop-index.invariant.bounded, c.in_ok-played.ensures.few_plays);
       room = omega (arith, c.loop-index.invariant.counted, c.in_ok-played.ensures.few_tables);
       all = c.restore_table.ensures.all ∙ c.loop-index.invariant.all;
@@ -95,14 +82,3 @@ loop-index-preserved g c =
 
 pub returns-clause-games : goal.returns-clause-games
 returns-clause-games g c = λ place within. c.loop-index.invariant.games place (omega (arith, within, c.loop-index-test.false))
-
-pub returns-clause-plays : goal.returns-clause-plays
-returns-clause-plays g c = λ honest as_many.
-    let entries = c.args.entries.now in
-    let whole : take c.loop-index.index entries ≡ entries = take_all c.loop-index.index entries (omega (arith, c.loop-index-test.false)) in
-    let counts : ℕ → List ℕ = λ place. counts_shown (shown_of place c.args.snapshots) in
-    record {
-      least = subst (λ (es : List TableEntry). all_left counts 0 es ≤ c.loop-index.plays) whole c.loop-index.invariant.least;
-      most = subst (λ (es : List TableEntry). c.loop-index.plays ≤ all_left counts 0 es + all_kept es) whole c.loop-index.invariant.most;
-      few = λ world told shows named. c.loop-index.invariant.few honest as_many world told shows named ∙ ap (λ (es : List TableEntry). all_left counts 0 es) whole;
-    }

@@ -1,12 +1,11 @@
-use Rattle.std.proofs.Common.{◌≡◌, ℕ, ◌+◌, ◌*◌, ◌<◌, ◌≤◌, All, length, take}
+use Rattle.std.proofs.Common.{◌≡◌, ℕ, ◌*◌, ◌^◌, ◌<◌, ◌≤◌, All, length, take}
 use Rattle.rr_reading.specs.Held.{tables_in}
 use Rattle.rr_reading.specs.Lending.Chains.{all_of, count_of}
 use Rattle.rr_tables.specs.Records.Played.{ArePlayedTables}
 use Rattle.rr_tables.specs.Tables.{ArePlayed, HaveTheirSnapshots, world_of}
 use Rattle.rr_store.specs.Recovery.Shown.{AreShown, SpellsItsGame, shown_of}
 use Rattle.rr_store.specs.Recovery.Told.{TellTables}
-use Rattle.rr_store.specs.Replayed.{HaveNamed, all_kept, all_left, counts_shown}
-use Rattle.rr_tables.specs.Records.World.{World}
+use Rattle.rr_store.specs.Replayed.{PlaysTables, counts_shown}
 use Rattle.rr_reading.specs.declared.dir.directory.TheConstants.{MOST_TABLES}
 use Rattle.rr_store.proofs.recovery.tables.restore_tables.Given as goal
 
@@ -19,11 +18,8 @@ invariant-loop-index g l =
       played : AreShown l.fn.kit l.snapshots (world_of l.tables) → ArePlayed l.tables × ArePlayedTables l.fn.kit (world_of l.tables);
       snapshots : HaveTheirSnapshots l.tables;
       games : (place : ℕ) → place < l.index → All SpellsItsGame (shown_of place l.snapshots);
-      least : all_left (λ place. counts_shown (shown_of place l.snapshots)) 0 (take l.index l.entries) ≤ l.plays;
-      most : l.plays ≤ all_left (λ place. counts_shown (shown_of place l.snapshots)) 0 (take l.index l.entries) + all_kept (take l.index l.entries);
-      few : g.D.Disk.Honest l.disk → length l.entries ≡ length (all_of l.fn.chains.chains) → (tables : World) → TellTables l.entries (tables_in (g.D.Disk.state l.fn.disk).content l.fn.chains) tables → AreShown l.fn.kit l.snapshots tables
-          → HaveNamed l.fn.kit (λ place. counts_shown (shown_of place l.snapshots)) 0 tables → l.plays ≡ all_left (λ place. counts_shown (shown_of place l.snapshots)) 0 (take l.index l.entries);
-      bounded : l.plays ≤ l.index * 8589934592;
+      plays : g.D.Disk.Honest l.disk → AreShown l.fn.kit l.snapshots (world_of l.tables) → PlaysTables l.fn.kit (λ place. counts_shown (shown_of place l.snapshots)) 0 (world_of l.tables) l.plays;
+      bounded : l.plays ≤ l.index * 2 ^ 33;
       room : l.index ≤ MOST_TABLES;
       all : all_of l.chains.chains ≡ all_of l.fn.chains.chains;
       pages : count_of l.chains.chains ≡ count_of l.fn.chains.chains;

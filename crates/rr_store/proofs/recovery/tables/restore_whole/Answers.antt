@@ -1,4 +1,4 @@
-use Rattle.std.proofs.Common.{◌≡◌, ℕ, All, List, refl, sym, subst}
+use Rattle.std.proofs.Common.{◌≡◌, ℕ, All, List, [], ap, arith, refl, sym, subst, ◌∙◌}
 use Rattle.std.proofs.lemmas.List.Elements.{All-nil}
 use Rattle.std.proofs.lemmas.Result.{err_from_is_err_and}
 use Rattle.rr_disk.specs.Disk.{DiskState}
@@ -9,9 +9,10 @@ use Rattle.rr_reading.specs.Lending.Fitting.{links_at}
 use Rattle.rr_reading.specs.Lending.Pages.{joined}
 use Rattle.rr_store.specs.Recovery.Shown.{ShowsPlayOf, shown_of}
 use Rattle.rr_store.specs.Recovery.Told.{TellsTable}
-use Rattle.rr_store.specs.Replayed.{HasNamed, counts_shown}
+use Rattle.rr_store.specs.Replayed.{AreItsCounts, counts_shown, counts_then, plays_behind}
 use Rattle.rr_tables.specs.Records.World.{TableState}
 use Rattle.rr_store.proofs.RecoveryLemmas.PlayingLemmas.{breaks_so}
+use Rattle.rr_store.proofs.RecoveryLemmas.PlaysLemmas.{tells_counted}
 use Rattle.rr_store.proofs.RecoveryLemmas.RestoringLemmas.{device_behind, one_told}
 use Rattle.rr_store.proofs.recovery.tables.restore_whole.Goals as goal
 
@@ -54,14 +55,35 @@ returns-clause-played g c = λ shown. c.in_ok-played.ensures.played (All-nil (Sh
 pub returns-clause-named : goal.returns-clause-named
 returns-clause-named g c = c.in_ok-played.ensures.named refl
 
-pub returns-clause-few : goal.returns-clause-few
+pub returns-then-has_its_snapshots-clause-plays : goal.returns-then-has_its_snapshots-clause-plays
+returns-then-has_its_snapshots-clause-plays g c = λ honest shows.
+    let counted = tells_counted c.args.entry.now _ (kept_in c.in_ok-told.told.value) (c.in_ok-told.ensures.told honest) in
+    let has = (c.in_ok-told.ensures.shown shows).0 (c.if-has_its_snapshots.ensures.0 refl) in
+    record {
+      once = λ are. c.in_ok-told.ensures.plays ∙ ap (λ (n : ℕ). plays_behind n (counts_shown (shown_of c.args.index c.args.snapshots))) (sym counted);
+      twice = λ others. absurd (others has);
+    }
+
+pub returns-clause-plays : goal.returns-clause-plays
 unfolding content
-returns-clause-few g c = λ honest state tells shows named.
+returns-clause-plays g c = λ honest shows.
     let index = c.args.index in
     let kit = c.args.kit.now in
+    let entry = c.args.entry.now in
     let shown = shown_of index c.args.snapshots in
-    let told = kept_in c.in_ok-told.told.value in
+    let file = (g.D.Disk.state c.args.disk.now).content in
+    let now = (g.D.Disk.state c.restore_from.new.disk).content in
+    let first = kept_in c.in_ok-told.told.value in
+    let second = kept_in c.in_ok-played.played.value in
     let before = c.in_ok-played.ensures.honest honest in
-    let same = one_told c.args.entry.now (bytes_at (g.D.Disk.state c.args.disk.now).content c.args.chains.now index) state told tells (c.in_ok-told.ensures.told before) in
-    let has = c.in_ok-told.ensures.shown (subst (λ (s : TableState). All (ShowsPlayOf kit s.commands) shown) same shows) (subst (λ (s : TableState). HasNamed kit s (counts_shown shown)) same named) in
-    absurd (cc (c.if-has_its_snapshots.ensures.1 has))
+    let bytes : bytes_at now c.restore_from.new.chains index ≡ bytes_at file c.args.chains.now index = λ i. joined (content (c.in_ok-told.ensures.same_state before i)) (links_at (c.in_ok-told.ensures.all i) index) in
+    let tells = subst (λ (bs : List ℕ). TellsTable entry bs (entry.name, second)) bytes (c.in_ok-played.ensures.told honest) in
+    let same : second ≡ first = one_told entry (bytes_at file c.args.chains.now index) second first tells (c.in_ok-told.ensures.told before) in
+    let counted = tells_counted entry (bytes_at file c.args.chains.now index) second tells in
+    record {
+      once = λ are.
+          let named = (c.in_ok-told.ensures.shown (subst (λ (s : TableState). All (ShowsPlayOf kit s.commands) shown) same shows)).1 (subst (λ (s : TableState). AreItsCounts kit s (counts_then kit s (counts_shown shown))) same are) in
+          absurd (cc (c.if-has_its_snapshots.ensures.1 named));
+      twice = λ others.
+          omega (arith, c.in_ok-told.ensures.plays, c.in_ok-played.ensures.plays, ap (λ (n : ℕ). plays_behind n (counts_shown shown)) counted, ap (λ (n : ℕ). plays_behind n []) counted);
+    }

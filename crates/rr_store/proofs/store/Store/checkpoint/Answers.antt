@@ -2,6 +2,7 @@ use Rattle.std.proofs.Common.{refl}
 use Rattle.std.proofs.lemmas.Result.{err_from_is_err_and}
 use Rattle.rr_tables.specs.Records.Words.{in_words}
 use Rattle.rr_store.specs.Holding.{held_of}
+use Rattle.rr_store.proofs.NamedRoots.{checkpoint_names}
 use Rattle.rr_store.proofs.Standing.{carried_lent}
 use Rattle.rr_store.proofs.Steps.{steps_done, steps_refused}
 use Rattle.rr_store.proofs.store.Store.checkpoint.Goals as goal
@@ -28,6 +29,13 @@ returns-clause-whole g c = λ none honest texts carries.
 pub returns-clause-root : goal.returns-clause-root
 returns-clause-root g c = λ honest texts carries.
     c.in_ok-checkpoint.ensures.root honest (in_words texts (held_of c.args.self.now).tables) (carried_lent g.D.Disk.state c.args.self.now texts carries) carries.file
+
+pub returns-clause-names : goal.returns-clause-names
+returns-clause-names g c = λ rests none honest texts carries named short.
+    let world = in_words texts (held_of c.args.self.now).tables in
+    let lent = carried_lent g.D.Disk.state c.args.self.now texts carries in
+    checkpoint_names g.D.Disk.state c.args.self.now texts carries rests none named short
+    (c.in_ok-checkpoint.ensures.holds rests honest world lent carries.file) (c.in_ok-checkpoint.ensures.whole none honest world lent carries.file)
 
 pub returns-clause-grows : goal.returns-clause-grows
 returns-clause-grows g c = λ honest texts carries.

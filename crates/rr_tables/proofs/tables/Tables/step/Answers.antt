@@ -1,7 +1,8 @@
 use Rattle.std.proofs.Common.{◌∙◌, bytes_eq, rules}
 use Rattle.indexmap.specs.IndexMap.{get}
 use Rattle.rr_tables.specs.Records.World.{state_after, world_after}
-use Rattle.rr_tables.proofs.PlayedTables.{few_played}
+use Rattle.rr_tables.specs.Taking.{plays_of}
+use Rattle.rr_tables.proofs.PlayedTables.{counted_at}
 use Rattle.rr_tables.proofs.tables.Tables.step.Goals as goal
 
 pub returns-in_err-keep-clause-kept : goal.returns-in_err-keep-clause-kept
@@ -38,4 +39,5 @@ returns-clause-plays g c = λ all shown.
     let name = c.args.name.now in
     let tables = c.prepare.new.self in
     rw c.plays-plays.ensures
-    (few_played tables.kit (get bytes_eq tables.map name) c.args.request.now c.in_ok-change.change c.in_ok-change.ensures.change (same.played all name) (same.snapshots shown name))
+    (counted_at tables.kit (get bytes_eq tables.map name) c.args.request.now c.in_ok-change.change c.in_ok-change.ensures.change (same.played all name) (same.snapshots shown name)
+    ∙ (λ i. plays_of (same.kit i) (same.table i) c.args.request.now))

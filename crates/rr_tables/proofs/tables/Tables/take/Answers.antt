@@ -1,8 +1,9 @@
-use Rattle.std.proofs.Common.{◌≡◌, arith}
 use Rattle.std.proofs.lemmas.Result.{IfOk-weaker}
-use Rattle.rr_tables.specs.declared.taking.Taken.{Taken}
+use Rattle.rr_code.specs.declared.command.Command.TheVariants.{Open}
+use Rattle.rr_turns.specs.declared.request.Request.TheVariants.{Play}
 use Rattle.rr_tables.specs.Tables.{kept_in_box}
 use Rattle.rr_tables.proofs.Outcomes.{under}
+use Rattle.rr_tables.proofs.PlayedTables.{none_played}
 use Rattle.rr_tables.proofs.WorldLemmas.{named_by, named_stamp, opening_in, step_in}
 use Rattle.rr_tables.proofs.tables.Tables.take.Goals as goal
 
@@ -42,8 +43,9 @@ returns-in-None-clause-snapshots g c = c.step.ensures.snapshots
 
 pub returns-in-Some-clause-plays : goal.returns-in-Some-clause-plays
 returns-in-Some-clause-plays g c =
-    rw c.in-Some.ensures
-    (IfOk-weaker c.open.result _ _ (λ (taken : Taken) (none : taken.plays ≡ 0). λ played named. omega (arith, none)) c.open.ensures.plays)
+    rw (c.in-Some.ensures, named_by kept_in_box c.args.name.now c.args.self.now.map.entries)
+    (IfOk-weaker c.open.result _ _ (λ taken counted. λ played named. counted)
+    (none_played c.args.self.now.kit (Play (Open c.in-Some.players.now)) c.open.result _ c.open.ensures.stamp c.open.ensures.plays))
 
 pub returns-in-None-clause-plays : goal.returns-in-None-clause-plays
-returns-in-None-clause-plays g c = c.step.ensures.plays
+returns-in-None-clause-plays g c = rw (named_by kept_in_box c.args.name.now c.args.self.now.map.entries) c.step.ensures.plays

@@ -1,0 +1,60 @@
+-- Roots that name just the snapshots that their tables are to have, so that few commands are played to open their files.
+use Rattle.std.specs.Prelude.{ℕ, ◌+◌, ◌-◌, ◌*◌, ◌≤◌, All, List, ◌++◌, length}
+use Rattle.std.specs.Global.{Box}
+use Rattle.std.specs.Map.{values_of}
+use Rattle.rr_game.specs.declared.game.Game.{Game}
+use Rattle.rr_game.specs.declared.history.snapshots.TheConstants.{SNAPSHOT_SPACING}
+use Rattle.rr_game.specs.declared.history.table.Table.{Table}
+use Rattle.rr_game.specs.History.GameBytes.{bytes_of}
+use Rattle.rr_kit.specs.declared.kit.Kit.{Kit}
+use Rattle.rr_kit.specs.Kits.{KitTexts}
+use Rattle.rr_log.specs.Calls.{TakesRootOf}
+use Rattle.rr_reading.specs.declared.dir.directory.TheConstants.{MOST_SNAPSHOT_BYTES}
+use Rattle.rr_reading.specs.Held.{Held}
+use Rattle.rr_reading.specs.Reading.{Holds}
+use Rattle.rr_reading.specs.Worlds.World as words
+use Rattle.rr_tables.specs.Records.Taking.{table_files}
+use Rattle.rr_tables.specs.Records.Words.{in_words}
+use Rattle.rr_store.specs.declared.store.Store.{Store}
+use Rattle.rr_store.specs.Files.{StandsFor}
+use Rattle.rr_store.specs.Recovery.Telling.{IsBase}
+use Rattle.rr_store.specs.Replayed.{AreTheirCounts, PlaysRecords, ReplaysFile, counts_at}
+use Rattle.rr_store.specs.World.{World}
+
+-- whatever an opening reads of this file, its root has of each table just the snapshots that it is to have
+abbrev pub NamesSnapshots : Kit → List ℕ → Type 0
+NamesSnapshots kit file =
+    (has : Held) (base : World) (world : words.World) → Holds file has → IsBase has base world
+    → AreTheirCounts kit (counts_at has.directory.snapshots) 0 base
+
+-- no snapshot that its tables keep has more bytes than a file takes
+abbrev pub HasShortSnapshots : {D : Type 0} → Store D → Type 0
+HasShortSnapshots store =
+    All (λ (table : Box Table). All (λ (game : Game). length (bytes_of game) ≤ MOST_SNAPSHOT_BYTES) table.value.kept.snapshots)
+    (values_of store.tables.map.entries)
+
+-- so many commands are played to open this file: of each table in its root fewer than the spacing of snapshots, beside
+-- those of its records
+pub record PlaysFew (file : List ℕ) (kit : Kit) (count : ℕ) : Type 0 where
+  pub has : Held
+  pub holds : Holds file has
+  pub base : World
+  pub world : words.World
+  pub is_base : IsBase has base world
+  pub now : World
+  pub of_records : ℕ
+  pub records : PlaysRecords kit base (has.near ++ has.far) now of_records
+  pub few : count ≤ (SNAPSHOT_SPACING - 1) * length base + of_records
+
+-- so it is of each file whose root has of each table just the snapshots that it is to have
+abbrev pub OpeningsPlayFew : Type 0
+OpeningsPlayFew =
+    (file : List ℕ) (kit : Kit) (count : ℕ) → NamesSnapshots kit file → ReplaysFile file kit count → PlaysFew file kit count
+
+-- And where the file stands for tables, and no record stands behind that root, which spells these tables themselves,
+-- that is all.
+abbrev pub CheckpointsPlayFew : Type 0
+CheckpointsPlayFew =
+    (file : List ℕ) (texts : KitTexts) (tables : World) (kit : Kit) (number count : ℕ) → StandsFor file texts tables
+    → TakesRootOf table_files number (in_words texts tables) file → NamesSnapshots kit file → ReplaysFile file kit count
+    → count ≤ (SNAPSHOT_SPACING - 1) * length tables
