@@ -214,7 +214,10 @@ fn pages_behind_records(alloc: Global, count: u8) -> Result<u64, Fail> {
 #[test]
 fn only_a_tick_that_writes_a_page_makes_a_file_longer(rt: HostRuntime) -> Result<(), Fail> {
     for (count, pages) in [(128, 519), (129, 519), (130, 520), (131, 521), (134, 521)] {
-        assert!(rt; pages_behind_records(rt.alloc(), count)? == pages, "{count}");
+        assert!(rt;
+            pages_behind_records(rt.alloc(), count)? == pages,
+            "{count}"
+        );
     }
     Ok(())
 }
