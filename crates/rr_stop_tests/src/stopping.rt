@@ -98,7 +98,7 @@ fn try_at(alloc: Global, plan: &Plan, calls: usize) -> Result<(), At> {
 }
 
 // So many tests share the calls out. (Most commits make four, so that each test has all kinds.)
-const PARTS: usize = 5;
+const PARTS: usize = 11;
 
 fn try_part(alloc: Global, part: usize) -> Result<(), Fail> {
     let plan = whole_plan(alloc)?;
@@ -201,5 +201,41 @@ fn stops_and_failures_at_calls_from_3(rt: HostRuntime) -> Result<(), Fail> {
 #[test]
 fn stops_and_failures_at_calls_from_4(rt: HostRuntime) -> Result<(), Fail> {
     try_part(rt.alloc(), 4)?;
+    Ok(())
+}
+
+#[test]
+fn stops_and_failures_at_calls_from_5(rt: HostRuntime) -> Result<(), Fail> {
+    try_part(rt.alloc(), 5)?;
+    Ok(())
+}
+
+#[test]
+fn stops_and_failures_at_calls_from_6(rt: HostRuntime) -> Result<(), Fail> {
+    try_part(rt.alloc(), 6)?;
+    Ok(())
+}
+
+#[test]
+fn stops_and_failures_at_calls_from_7(rt: HostRuntime) -> Result<(), Fail> {
+    try_part(rt.alloc(), 7)?;
+    Ok(())
+}
+
+#[test]
+fn stops_and_failures_at_calls_from_8(rt: HostRuntime) -> Result<(), Fail> {
+    try_part(rt.alloc(), 8)?;
+    Ok(())
+}
+
+#[test]
+fn stops_and_failures_at_calls_from_9(rt: HostRuntime) -> Result<(), Fail> {
+    try_part(rt.alloc(), 9)?;
+    Ok(())
+}
+
+#[test]
+fn stops_and_failures_at_calls_from_10(rt: HostRuntime) -> Result<(), Fail> {
+    try_part(rt.alloc(), 10)?;
     Ok(())
 }
