@@ -87,16 +87,16 @@ class Moderator:
         self.stamps[table] = int(stamp)
         return more
 
-    def play_again(self, table, words):
+    def play_again(self, table, words, stamp):
         """Where `play` met an EOFError or a 60: serves the file again, and plays the command if it wasn't taken.
 
-        Where it was, nobody tells the words of its reply any more.
+        It was sent with this stamp. Who may be killed writes table, stamp and words to the disk before he sends them, and
+        asks so in a new Moderator. Where it was taken, nobody tells the words of its reply any more.
         """
         self.close()
         self.start()
-        sent = self.stamps.get(table)
         self.stamps[table] = self.stamp(table)
-        return self.play(table, words) if sent in (None, self.stamps[table]) else []
+        return self.play(table, words) if self.stamps[table] == stamp else []
 
     def close(self):
         with suppress(BrokenPipeError):
@@ -113,7 +113,7 @@ def main(program, file):
         try:
             moderator.play("t1", f"buy {player}")
         except EOFError:
-            moderator.play_again("t1", f"buy {player}")
+            moderator.play_again("t1", f"buy {player}", moderator.stamps["t1"])
     try:
         moderator.play("t1", "buy bob")
     except Refused as refusal:
