@@ -1,7 +1,7 @@
 use crate::calls::{Bytes, in_memory, written};
 use rr_disk::{Disk, FaultyDisk, MemoryDisk};
-use rr_pages::Damage;
 use rr_pages::journal::RunEnd;
+use rr_pages::{Damage, FollowedChain};
 use rr_reading::laws::files_have_one_answer;
 use rr_reading::lending::Commands;
 use rr_reading::{Contents, Fault, read_file};
@@ -69,9 +69,19 @@ pub(crate) fn has_texts(has: &Contents) -> bool {
         && has.texts.board.bytes.as_slice() == b"board".as_slice()
 }
 
-// Whether the directory has its bytes, its only table the two commands, and the pages 514 to 519 are reached.
+// Whether a chain is this page with so many used bytes.
+fn is_page(chain: &FollowedChain, page: u32, used: usize) -> bool {
+    match chain.links.first() {
+        Some(link) => {
+            chain.links.len() == 1 && link.page == page && usize::from(link.used) == used
+        }
+        None => false,
+    }
+}
+
+// Whether the directory is its page, its only table has the two commands, and the pages 514 to 519 are reached.
 fn has_the_table<D: Disk>(disk: &mut D, has: &mut Contents) -> bool {
-    has.directory.bytes.as_slice() == DIRECTORY
+    is_page(&has.directory, 514, DIRECTORY.len())
         && has.reached.has(514)
         && has.reached.has(519)
         && !has.reached.has(513)

@@ -1,5 +1,5 @@
 -- What each call on the file leaves of what a log knows.
-use Rattle.std.proofs.Common.{Global, Vec, ◌≡◌, ◌⊎◌, inl, inr, ℕ, zero, suc, ◌+◌, ◌<◌, ◌≤◌, Bool, true, false, List, [], ◌∷◌, ◌++◌, length, get_or, replicate, Option, None, Some, Result, Ok, Err, OnOk, refl, sym, ◌∙◌, ap, subst, arith}
+use Rattle.std.proofs.Common.{Global, Vec, ◌≡◌, ◌⊎◌, inl, inr, ℕ, zero, suc, ◌+◌, ◌<◌, ◌≤◌, Bool, true, false, List, [], ◌∷◌, ◌++◌, length, get_or, replicate, Option, None, Some, Result, Ok, Err, IfErr, OnOk, OnErr, refl, sym, ◌∙◌, ap, subst, arith}
 use Rattle.std.proofs.lemmas.List.{length-replicate}
 use Rattle.rr_disk.specs.Disk.{DiskState}
 use Rattle.rr_disk.specs.Moments.{EachImage}
@@ -32,7 +32,7 @@ use Rattle.rr_checkpoint.proofs.Writers.{base_is_carried, carried_kept}
 use Rattle.rr_pages.specs.Journal.Layout.{HasRoom}
 use Rattle.rr_log.specs.declared.fault.Fault.{Fault}
 use Rattle.rr_log.specs.declared.fault.Fault.TheVariants as F
-use Rattle.rr_log.specs.Fault.{IsWant, OnDeviceFault, breaks}
+use Rattle.rr_log.specs.Fault.{IsWant, OnDeviceFault, breaks, ends_broken}
 use Rattle.rr_log.specs.declared.log.Log.{Log}
 use Rattle.rr_log.specs.Calls.{IsBegunOn, IsFileFull, MeetsFullFile, NumbersRoot, TakesRootOf, as_begun, layout_behind, tables_due, world_behind}
 use Rattle.rr_log.specs.Lent.{AreLentOf, Lent, lent_in, pages_of}
@@ -179,6 +179,10 @@ next_begun codec layout then world file begun takes =
 pub only_breaks : {fault : Fault} → fault ≡ F.DeviceFailed → breaks fault ≡ false → ⊥
 only_breaks {fault} failed whole = let both : true ≡ false = sym (ap (λ (f : Fault). breaks f) failed) ∙ whole in cc both
 
+pub never_whole : {T : Type 0} (result : Result T Fault) (broken : Bool) → IfErr result (λ fault. fault ≡ F.DeviceFailed) → broken ≡ ends_broken result → OnErr result (broken ≡ false → ⊥)
+never_whole (Ok value) broken failed is = tt
+never_whole (Err fault) broken failed is = λ whole. only_breaks failed (sym is ∙ whole)
+
 pub is_want : {fault : Fault} → IsWant fault ⊎ (fault ≡ F.DeviceFailed) → breaks fault ≡ false → IsWant fault
 is_want (inl want) whole = want
 is_want (inr failed) whole = absurd (only_breaks failed whole)
@@ -289,6 +293,9 @@ module _ {D R : Type 0} (rules : WorldRules) (log : Log D R) (state : DiskState)
               (subst (λ (l : Layout codec). IsBase rules (place_of log).begun log.base l.middle) (sym then.1) (carries.base resting));
         }
 
+    pub taken_on : (on : Carries rules (record log { writer = new }) state world) × (on.carried.layout ≡ layout)
+    taken_on = (taken_carries, then.1)
+
     pub is_planned : (planned : Planned) (base : Option Transcript) (lent : Lent) (snapshots : List Snapshot) → log.base ≡ base → (tables_due base lent).snapshots ≡ snapshots
         → (may : MayBegin codec layout (file.free_of new) planned.plan) × StandIn texts planned.standing.items may.holding × HoldsAll texts layout.middle snapshots may.holding
         → IsPlanned rules (record log { writer = new }) planned state world layout (tables_due log.base lent).snapshots
@@ -325,7 +332,7 @@ module _ {D R : Type 0} (rules : WorldRules) (log : Log D R) (state : DiskState)
         }
 
     -- a later one that isn't the last
-    more_carries : 0 < ticks_left log → 0 < file.ticks_left_of new
+    abbrev pub more_carries : 0 < ticks_left log → 0 < file.ticks_left_of new
         → (then : file.Carries codec new after world) × HoldsOn layout carries.carried.holding then.layout then.holding
         → Carries rules (record log { disk = disk; writer = new }) after world
     more_carries some left then =

@@ -1,4 +1,5 @@
 pub mod Carried
 pub mod Growing
+pub mod Roots
 pub mod OpeningLemmas
 pub mod FormattingLemmas

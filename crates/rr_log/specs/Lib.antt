@@ -4,5 +4,6 @@ pub mod Lent
 pub mod Carrying
 pub mod Calls
 pub mod Growing
+pub mod Roots
 pub mod Opening
 pub mod Formatting

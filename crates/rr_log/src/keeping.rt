@@ -1,5 +1,5 @@
 // Records.
-ghost use Rattle.std.specs.Prelude.{◌≡◌, ◌⊎◌, ◌↔◌, ◌+◌, ◌^◌, ◌<◌, ◌≤◌, false, length, IfOk, IfErr, IsErrOf, IsTrue, OnOk, None, Ok, Err};
+ghost use Rattle.std.specs.Prelude.{◌≡◌, ◌⊎◌, ◌↔◌, ◌+◌, ◌^◌, ◌<◌, ◌≤◌, false, List, length, IfOk, IfErr, IsErrOf, IsTrue, OnOk, None, Ok, Err};
 ghost use Rattle.rr_checkpoint.specs.Calls.{LeavesKept, LeavesEither};
 ghost use Rattle.rr_checkpoint.specs.Holds.{IsRenewed};
 ghost use Rattle.rr_disk.specs.Moments.{EachImage};
@@ -8,7 +8,7 @@ ghost use Rattle.rr_images.specs.Steps.{with_line};
 ghost use Rattle.rr_log.specs.Fault.{CountsFault, IsWant, OnDeviceFault, ends_broken};
 ghost use Rattle.rr_log.specs.Lent.{AreLentOf, lent_of};
 ghost use Rattle.rr_reading.specs.Worlds.Spelling.{worlds};
-ghost use Rattle.rr_reading.specs.Worlds.World.{World};
+ghost use Rattle.rr_reading.specs.Worlds.World.{Snapshot, World};
 
 use crate::planning::is_past_last;
 use crate::{Fault, Log, TablesInWords};
@@ -16,10 +16,11 @@ use rr_disk::Disk;
 use rr_reading::worlds::Rules;
 
 impl<D: Disk + Drop, R: Rules> Log<D, R> {
-    ghost use Rattle.rr_log.specs.Calls.{IsFileFull, MayRefuse, MeetsFullFile, NumberBehind, first_left, layout_behind, ticks_due, world_behind};
+    ghost use Rattle.rr_log.specs.Calls.{IsFileFull, MayRefuse, MeetsFullFile, NumberBehind, first_left, layout_behind, tables_due, ticks_due, world_behind};
     ghost use Rattle.rr_log.specs.Carrying.{Carries, HaveSameTexts};
     ghost use Rattle.rr_log.specs.Growing.{Grows, TakesPages};
     ghost use Rattle.rr_log.specs.Log.{disk_of, free_of, is_broken, next_number, place_of, ticks_left, HasNoRoom, IsDue, IsTooLong};
+    ghost use Rattle.rr_log.specs.Roots.{KeepsRoots};
 
     /// Keeps a record. After `Ok` it is safe. Before it a tick is made, where a checkpoint is under way or is to begin;
     /// the tables are those of the world before the record, and the snapshots show games there. A line has a byte at
@@ -54,6 +55,15 @@ impl<D: Disk + Drop, R: Rules> Log<D, R> {
             → (carries : Carries R.rules self.old (D.state (disk_of self.old)) old)
             → EachImage (D.state (disk_of self.new)) (TakesNewer (worlds R.rules)
             (layout_behind result carries.carried.layout line.now new) (world_behind result old new)) }
+        // What becomes of the root that is taken and of the coming one: where the tick began a checkpoint, that is to
+        // hold these snapshots.
+        ensures roots { is_broken self.new ≡ false → D.Honest (disk_of self.new) → (old new : World)
+            → R.rules.takes line.now old new → HaveSameTexts old new
+            → AreLentOf R.rules old (lent_of T.TablesInWords tables.now)
+            → (carries : Carries R.rules self.old (D.state (disk_of self.old)) old)
+            → (then : Carries R.rules self.new (D.state (disk_of self.new)) (world_behind result old new))
+            × KeepsRoots self.old self.new (tables_due self.old.base (lent_of T.TablesInWords tables.now)).snapshots
+            carries.carried.layout carries.carried.holding then.carried.layout then.carried.holding }
         ensures most { is_broken self.new ≡ false → ticks_left self.old ≡ 0
             → ticks_left self.new < ticks_due self.old (lent_of T.TablesInWords tables.now) }
         ensures left { is_broken self.new ≡ false → next_number self.old + 1 < 2 ^ 63 → 0 < ticks_left self.old
@@ -132,6 +142,12 @@ impl<D: Disk + Drop, R: Rules> Log<D, R> {
             → (world : World) → (carries : Carries R.rules self.old (D.state (disk_of self.old)) world)
             → (then : Carries R.rules self.new (D.state (disk_of self.new)) world)
             × IsRenewed carries.carried.layout then.carried.layout }
+        ensures roots { is_broken self.new ≡ false → D.Honest (disk_of self.new) → (world : World)
+            → AreLentOf R.rules world (lent_of T.TablesInWords tables.now)
+            → (carries : Carries R.rules self.old (D.state (disk_of self.old)) world)
+            → (then : Carries R.rules self.new (D.state (disk_of self.new)) world)
+            × KeepsRoots self.old self.new (tables_due self.old.base (lent_of T.TablesInWords tables.now)).snapshots
+            carries.carried.layout carries.carried.holding then.carried.layout then.carried.holding }
         ensures full { IfOk result (λ full. IsWant full ⊎ (full ≡ Fault.HalfFull)) }
         ensures want { IfOk result (λ full. IsWant full → (ticks_left self.old ≡ 0) × IsDue (place_of self.old)) }
         ensures err { IfErr result (λ fault. fault ≡ Fault.DeviceFailed) }
@@ -191,6 +207,13 @@ impl<D: Disk + Drop, R: Rules> Log<D, R> {
             → HaveSameTexts old new → (carries : Carries R.rules self.old (D.state (disk_of self.old)) old)
             → (then : Carries R.rules self.new (D.state (disk_of self.new)) new)
             × (then.carried.layout ≡ with_line carries.carried.layout line.now new)) }
+        // Both roots stay, whatever snapshots are due, since no checkpoint is begun.
+        ensures roots { is_broken self.new ≡ false → D.Honest (disk_of self.new) → (due : List Snapshot) → (old new : World)
+            → R.rules.takes line.now old new → HaveSameTexts old new
+            → (carries : Carries R.rules self.old (D.state (disk_of self.old)) old)
+            → (then : Carries R.rules self.new (D.state (disk_of self.new)) (world_behind result old new))
+            × KeepsRoots self.old self.new due carries.carried.layout carries.carried.holding
+            then.carried.layout then.carried.holding }
         ensures number { NumberBehind result (next_number self.old) (next_number self.new) }
         ensures left { ticks_left self.new ≡ ticks_left self.old }
         ensures broken { is_broken self.new ≡ ends_broken result }

@@ -8,6 +8,7 @@ mod file;
 pub mod laws;
 mod opened;
 mod place;
+mod standing;
 
 pub use file::open_file;
 pub use opened::Opened;

@@ -96,8 +96,8 @@ impl<D: Disk + Drop, R: Rules> Log<D, R> {
         ensures count { IfOk result (λ planned. length planned.plan.fresh.items
             ≡ pages_of self.old.standing.items (tables_due self.old.base (lent_of T.TablesInWords tables.now))) }
         ensures fits { IfOk result (λ _. IsFileFull self.old (lent_of T.TablesInWords tables.now) → ⊥) }
-        ensures carries { (state : DiskState) (world : World) → Carries R.rules self.old state world
-            → Carries R.rules self.new state world }
+        ensures carries { (state : DiskState) (world : World) → (carries : Carries R.rules self.old state world)
+            → (then : Carries R.rules self.new state world) × (then.carried.layout ≡ carries.carried.layout) }
         ensures full { IsErrOf result Fault.FileFull → IsFileFull self.old (lent_of T.TablesInWords tables.now) }
         ensures full_behind { IsErrOf result Fault.FileFull → IsFileFull self.new (lent_of T.TablesInWords tables.now) }
         ensures err { IfErr result IsWant }

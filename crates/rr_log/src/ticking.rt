@@ -1,5 +1,5 @@
 // Checkpoints, in ticks.
-ghost use Rattle.std.specs.Prelude.{◌≡◌, ◌⊎◌, ◌↔◌, ◌+◌, ◌<◌, ◌≤◌, false, OnOk, OnErr, IfOk, IfErr, IsErrOf, IsTrue, None};
+ghost use Rattle.std.specs.Prelude.{◌≡◌, ◌⊎◌, ◌↔◌, ◌+◌, ◌<◌, ◌≤◌, false, List, OnOk, OnErr, IfOk, IfErr, IsErrOf, IsTrue, None};
 ghost use Rattle.rr_checkpoint.specs.Calls.{LeavesKept};
 ghost use Rattle.rr_checkpoint.specs.Growing.{AreReclaimed, GrowsWhereFull};
 ghost use Rattle.rr_checkpoint.specs.Holds.{IsRenewed};
@@ -10,7 +10,7 @@ ghost use Rattle.rr_log.specs.Fault.{CountsFault, IsWant, OnDeviceFault, ends_br
 ghost use Rattle.rr_log.specs.Lent.{AreLentOf, lent_of};
 ghost use Rattle.rr_pages.specs.FreePages.{coming_of, present_of};
 ghost use Rattle.rr_reading.specs.Worlds.Spelling.{worlds};
-ghost use Rattle.rr_reading.specs.Worlds.World.{World};
+ghost use Rattle.rr_reading.specs.Worlds.World.{Snapshot, World};
 
 use crate::{Fault, Log, TablesInWords};
 use rr_checkpoint::Tick;
@@ -26,6 +26,7 @@ impl<D: Disk + Drop, R: Rules> Log<D, R> {
     ghost use Rattle.rr_log.specs.Carrying.{Carries, HoldsWorld};
     ghost use Rattle.rr_log.specs.Growing.{Grows, TakesPages};
     ghost use Rattle.rr_log.specs.Log.{disk_of, free_of, is_broken, known_snapshots, next_number, place_of, root_number, ticks_left, HasNoneBegun, IsDue};
+    ghost use Rattle.rr_log.specs.Roots.{IsComingRoot, KeepsRoots, TakesRoot};
 
     /// Makes one step of a checkpoint: it goes on with the one under way, or begins one where an opening found it begun
     /// or at least 128 slots of the half in use are used. The tables are those of the world that the log carries, and
@@ -48,6 +49,14 @@ impl<D: Disk + Drop, R: Rules> Log<D, R> {
         ensures renews { IfOk result (λ tick. D.Honest (disk_of self.new) → (world : World)
             → (carries : Carries R.rules self.old (D.state (disk_of self.old)) world)
             → RenewsAt (worlds R.rules) tick carries.carried.layout (D.state (disk_of self.new)) world) }
+        // What becomes of the root that is taken and of the coming one: where a checkpoint is begun, that is to hold these
+        // snapshots.
+        ensures roots { is_broken self.new ≡ false → D.Honest (disk_of self.new) → (world : World)
+            → AreLentOf R.rules world (lent_of T.TablesInWords tables.now)
+            → (carries : Carries R.rules self.old (D.state (disk_of self.old)) world)
+            → (then : Carries R.rules self.new (D.state (disk_of self.new)) world)
+            × KeepsRoots self.old self.new (tables_due self.old.base (lent_of T.TablesInWords tables.now)).snapshots
+            carries.carried.layout carries.carried.holding then.carried.layout then.carried.holding }
 
         // How far it comes.
         ensures left { IfOk result (λ tick.
@@ -115,6 +124,12 @@ impl<D: Disk + Drop, R: Rules> Log<D, R> {
             → (world : World) → (carries : Carries R.rules self.old (D.state (disk_of self.old)) world)
             → (then : Carries R.rules self.new (D.state (disk_of self.new)) world)
             × IsRenewed carries.carried.layout then.carried.layout }
+        ensures roots { is_broken self.new ≡ false → D.Honest (disk_of self.new) → (world : World)
+            → AreLentOf R.rules world (lent_of T.TablesInWords tables.now)
+            → (carries : Carries R.rules self.old (D.state (disk_of self.old)) world)
+            → (then : Carries R.rules self.new (D.state (disk_of self.new)) world)
+            × KeepsRoots self.old self.new (tables_due self.old.base (lent_of T.TablesInWords tables.now)).snapshots
+            carries.carried.layout carries.carried.holding then.carried.layout then.carried.holding }
         ensures left { IfOk result (λ tick.
             LowersFrom (first_left self.old (lent_of T.TablesInWords tables.now)) tick (ticks_left self.old) (ticks_left self.new)) }
         ensures most { IfOk result (λ tick. ticks_left self.old ≡ 0
@@ -196,6 +211,12 @@ impl<D: Disk + Drop, R: Rules> Log<D, R> {
             → (world : World) → (carries : Carries R.rules self.old (D.state (disk_of self.old)) world)
             → (then : Carries R.rules self.new (D.state (disk_of self.new)) world)
             × IsRenewed carries.carried.layout then.carried.layout }
+        // What becomes of the roots, whatever snapshots are due, since no checkpoint is begun.
+        ensures roots { is_broken self.new ≡ false → D.Honest (disk_of self.new) → (due : List Snapshot) → (world : World)
+            → (carries : Carries R.rules self.old (D.state (disk_of self.old)) world)
+            → (then : Carries R.rules self.new (D.state (disk_of self.new)) world)
+            × KeepsRoots self.old self.new due carries.carried.layout carries.carried.holding
+            then.carried.layout then.carried.holding }
         ensures left { IfOk result (λ tick. Lowers tick (ticks_left self.old) (ticks_left self.new)) }
         ensures root { IfOk result (λ tick. D.Honest (disk_of self.new) → (world : World)
             → Carries R.rules self.old (D.state (disk_of self.old)) world
@@ -242,12 +263,12 @@ impl<D: Disk + Drop, R: Rules> Log<D, R> {
             → (carries : Carries R.rules self.old (D.state (disk_of self.old)) world)
             → (then : Carries R.rules self.new (D.state (disk_of self.new)) world)
             × IsBegunOn carries.carried.layout then.carried.layout) }
-        ensures holds { OnOk result (D.Honest (disk_of self.new) → (world : World)
+        ensures roots { is_broken self.new ≡ false → D.Honest (disk_of self.new) → (world : World)
             → AreLentOf R.rules world (lent_of T.TablesInWords tables.now)
             → (carries : Carries R.rules self.old (D.state (disk_of self.old)) world)
             → (then : Carries R.rules self.new (D.state (disk_of self.new)) world)
-            × HoldsWorld carries.carried.layout.middle
-            (tables_due self.old.base (lent_of T.TablesInWords tables.now)).snapshots then.carried.holding) }
+            × KeepsRoots self.old self.new (tables_due self.old.base (lent_of T.TablesInWords tables.now)).snapshots
+            carries.carried.layout carries.carried.holding then.carried.layout then.carried.holding }
         ensures left { OnOk result (ticks_left self.new ≡ first_left self.old (lent_of T.TablesInWords tables.now)) }
         ensures some { OnOk result (3 ≤ ticks_left self.new) }
         ensures most { OnOk result (ticks_left self.new < ticks_due self.old (lent_of T.TablesInWords tables.now)) }
@@ -324,6 +345,20 @@ impl<D: Disk + Drop, R: Rules> Log<D, R> {
             → (then : Carries R.rules self.new (D.state (disk_of self.new)) world)
             × HoldsWorld carries.carried.layout.middle
             (tables_due self.old.base (lent_of T.TablesInWords tables.now)).snapshots then.carried.layout.holding) }
+        // Which root is taken then: the one that was coming, or the one of the checkpoint that it begins.
+        ensures takes_root { OnOk result (D.Honest (disk_of self.new) → (world : World)
+            → AreLentOf R.rules world (lent_of T.TablesInWords tables.now)
+            → (carries : Carries R.rules self.old (D.state (disk_of self.old)) world)
+            → (then : Carries R.rules self.new (D.state (disk_of self.new)) world)
+            × TakesRoot self.old (tables_due self.old.base (lent_of T.TablesInWords tables.now)).snapshots
+            carries.carried.layout carries.carried.holding then.carried.layout) }
+        // Where it is refused and the log goes on, the root that is taken stays.
+        ensures roots { OnErr result (is_broken self.new ≡ false → D.Honest (disk_of self.new) → (world : World)
+            → AreLentOf R.rules world (lent_of T.TablesInWords tables.now)
+            → (carries : Carries R.rules self.old (D.state (disk_of self.old)) world)
+            → (then : Carries R.rules self.new (D.state (disk_of self.new)) world)
+            × KeepsRoots self.old self.new (tables_due self.old.base (lent_of T.TablesInWords tables.now)).snapshots
+            carries.carried.layout carries.carried.holding then.carried.layout then.carried.holding) }
         ensures left { OnOk result (ticks_left self.new ≡ 0) }
         ensures rests { OnOk result ((place_of self.new).begun ≡ None) }
         ensures half { 0 < ticks_left self.old → (place_of self.new).half ≡ (place_of self.old).half }
@@ -401,10 +436,10 @@ impl<D: Disk + Drop, R: Rules> Log<D, R> {
             → (then : Carries R.rules self.new (D.state (disk_of self.new)) world)
             × IsRenewed carries.carried.layout then.carried.layout) }
         // The root that is taken then is the one that was coming.
-        ensures takes { OnOk result (D.Honest (disk_of self.new) → (world : World)
+        ensures takes_root { OnOk result (D.Honest (disk_of self.new) → (world : World)
             → (carries : Carries R.rules self.old (D.state (disk_of self.old)) world)
             → (then : Carries R.rules self.new (D.state (disk_of self.new)) world)
-            × (then.carried.layout.holding ≡ carries.carried.holding)) }
+            × IsComingRoot carries.carried.layout carries.carried.holding then.carried.layout) }
         ensures left { OnOk result (ticks_left self.new ≡ 0) }
         ensures rests { OnOk result ((place_of self.new).begun ≡ None) }
         ensures known { known_snapshots self.new ≡ known_snapshots self.old }

@@ -13,7 +13,9 @@ use Rattle.rr_pages.specs.declared.fault.Damage.{Damage}
 use Rattle.rr_pages.specs.declared.fault.Fault.{Fault as PageFault}
 use Rattle.rr_pages.specs.declared.fault.Fault.TheVariants as pages
 use Rattle.rr_pages.specs.declared.root.Root.{Root}
-use Rattle.rr_pages.specs.Reading.{Reads, IsWhole, IsBroken}
+use Rattle.rr_pages.specs.declared.reading.Link.{Link}
+use Rattle.rr_pages.specs.Links.{pages_of}
+use Rattle.rr_pages.specs.Reading.{Follows, IsWhole, IsBroken, IsUnbroken}
 use Rattle.rr_pages.proofs.ChoosingLemmas.{taken_store, taken_good}
 use Rattle.rr_pages.specs.declared.fault.Damage.TheVariants.{RootField, PageOutside, PageTwice, UsedBytes, Form, Kit, Kept, Records}
 use Rattle.rr_reading.specs.declared.fault.Fault.{Fault}
@@ -26,6 +28,8 @@ use Rattle.rr_reading.specs.Reading.{TakesRoot, HasRoot, NoneReached, ReadsDirec
 use Rattle.rr_reading.specs.Told.{IsToldBroken}
 use Rattle.rr_reading.proofs.ChainLemmas.{all_right, read_followed}
 use Rattle.rr_reading.proofs.FormLemmas.{forms_behind}
+use Rattle.rr_reading.specs.Lending.Pages.{joined}
+use Rattle.rr_reading.proofs.LendingLemmas.LinkLemmas.{whole_joined}
 use Rattle.rr_reading.proofs.Least.{IsAtMost, least_is, least_low, least_none, BreaksBy, breaks_of, AllRight, walk_right, outside_low, twice_low, overfull_low, length_low, one_more, none_of}
 use Rattle.rr_reading.proofs.OneAnswer.{one_empty, whole_broken, one_read, one_found, same_chains, same_root, has_there}
 use Rattle.rr_reading.proofs.DirLemmas.VersionLemmas.{one_version}
@@ -181,7 +185,7 @@ module _ (file : List ℕ) where
       count_is : count ≡ root.pages
       count_is = same taken.1.sound.pages_high
 
-      pub directory_told : (before after : List Bool) (fault : PageFault) → NoneReached before → Reads file count before root.directory None after (Err fault) → Refuses file (of_pages fault)
+      pub directory_told : (before after : List Bool) (fault : PageFault) → NoneReached before → Follows file count before root.directory None after (Err fault) → Refuses file (of_pages fault)
       directory_told before after pages.FileFull none read = absurd read
       directory_told before after pages.HalfFull none read = absurd read
       directory_told before after (pages.Damaged damage) none read =
@@ -189,6 +193,16 @@ module _ (file : List ℕ) where
       directory_told before after pages.NotAStore none read = absurd read
       directory_told before after (pages.Disk fault) none read = tt
       directory_told before after pages.OutOfMemory none read = (side, root, taken)
+
+      -- one that was followed has the bytes of its pages
+      pub directory_read : (before after : List Bool) (links : List Link) → NoneReached before → IsUnbroken file count before root.directory None after links
+          → ReadsDirectory file root after (record { pages = pages_of links; text = joined file links })
+      directory_read before after links none followed =
+          record {
+            before = before;
+            none = none;
+            whole = subst (λ (n : ℕ). IsWhole file n before root.directory None after (pages_of links) (joined file links)) count_is (whole_joined file count before root.directory None after links followed);
+          }
 
     formless_directory : (reached : List Bool) (chain : HeldChain) → ReadsDirectory file root reached chain → ((directory : Directory) → IsDirectory root.version chain.text directory → ⊥) → IsDamage file Form
     formless_directory reached chain read none =

@@ -11,7 +11,7 @@ use Rattle.rr_pages.specs.declared.journal.layout.HalfIndex.{HalfIndex}
 use Rattle.rr_pages.specs.declared.root.Root.{Root}
 use Rattle.rr_reading.specs.declared.contents.Contents.{Contents}
 use Rattle.rr_reading.specs.declared.contents.KitTexts.{KitTexts}
-use Rattle.rr_reading.specs.Chains.{held, all_held_in}
+use Rattle.rr_reading.specs.Chains.{held, held_in, all_held_in}
 use Rattle.rr_reading.specs.Lending.Chains.{all_of}
 use Rattle.rr_reading.specs.declared.lending.commands.Commands.{Commands}
 
@@ -60,14 +60,14 @@ pub record Held : Type 0 where
 abbrev pub holding_of : Held → Holding
 holding_of held = record { directory = held.chain; chains = chains_of held.texts (held.tables ++ held.snapshots) }
 
--- what was read of a file: the bytes of its tables' chains are those of their pages in the file
+-- what was read of a file: the bytes of its directory and of its tables' chains are those of their pages in the file
 abbrev pub held_of : List ℕ → Contents → Held
 held_of file contents =
     record {
       side = contents.taken.side;
       root = contents.taken.root;
       directory = directory_of contents.dir;
-      chain = held contents.directory;
+      chain = held_in file contents.directory;
       texts = chains_held contents.texts;
       tables = tables_in file contents.tables;
       snapshots = map held contents.snapshots.items;

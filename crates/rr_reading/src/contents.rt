@@ -2,7 +2,7 @@ ghost use Rattle.std.specs.Prelude.{◌≡◌, ◌+◌, ◌*◌, ◌<◌, ◌≤
 ghost use Rattle.rr_pages.specs.Journal.Layout.{other_half};
 ghost use Rattle.rr_reading.specs.Dir.Directory.{directory_of};
 ghost use Rattle.rr_pages.specs.ReachedPages.{marks_of};
-ghost use Rattle.rr_reading.specs.Chains.{held, all_held_in, AreOfForm};
+ghost use Rattle.rr_reading.specs.Chains.{held, held_in, all_held_in, AreOfForm};
 ghost use Rattle.rr_reading.specs.Faults.{CountsFault, OnDeviceFault};
 ghost use Rattle.rr_reading.specs.Held.{GoesOn, chains_held, chains_of, tables_in};
 ghost use Rattle.rr_reading.specs.Lending.Chains.{all_of, count_of};
@@ -40,8 +40,8 @@ pub struct KitTexts {
 pub struct Contents {
     pub taken: Taken,
     pub dir: Dir,
-    /// The directory's chain.
-    pub directory: ReadChain,
+    /// The directory's chain, whose bytes aren't kept.
+    pub directory: FollowedChain,
     pub texts: KitTexts,
     /// The kept commands in the chain of each table, in the order of the directory: as many as that says.
     pub tables: Commands,
@@ -59,7 +59,7 @@ pub struct Contents {
 #[derive(Drop)]
 struct FoundChains {
     dir: Dir,
-    directory: ReadChain,
+    directory: FollowedChain,
     texts: KitTexts,
     tables: Commands,
     snapshots: Vec<ReadChain>,
@@ -126,7 +126,7 @@ pub fn read_file<D: Disk>(alloc: Global, disk: &mut D) -> Result<Contents, Fault
 // Reads all chains of the root that is taken.
 fn read_found<D: Disk>(alloc: Global, disk: &mut D, root: &Root) -> Result<FoundChains, Fault>
     ensures found { IfOk result (λ found. D.Honest disk.new → (side : Bool) → TakesRoot (D.state disk.old).content side root.now
-        → HoldsChains (D.state disk.old).content side root.now (directory_of found.dir) (held found.directory)
+        → HoldsChains (D.state disk.old).content side root.now (directory_of found.dir) (held_in (D.state disk.old).content found.directory)
         (chains_held found.texts) (tables_in (D.state disk.old).content found.tables) (map held found.snapshots.items)
         (marks_of found.reached)) }
     ensures refused { IfErr result (λ fault. D.Honest disk.new → (side : Bool) → TakesRoot (D.state disk.old).content side root.now

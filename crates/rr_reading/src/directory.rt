@@ -2,7 +2,7 @@
 ghost use Rattle.std.specs.Prelude.{◌≡◌, ◌*◌, ◌<◌, Bool, IfOk, IfErr};
 ghost use Rattle.rr_reading.specs.Dir.Directory.{directory_of};
 ghost use Rattle.rr_pages.specs.ReachedPages.{marks_of};
-ghost use Rattle.rr_reading.specs.Chains.{held};
+ghost use Rattle.rr_reading.specs.Chains.{held, held_in};
 ghost use Rattle.rr_reading.specs.Faults.{CountsFault, OnDeviceFault};
 ghost use Rattle.rr_reading.specs.Reading.{TakesRoot, HasDirectory, ReadsDirectory, Refuses};
 ghost use Rattle.rr_pages.specs.declared.page.TheConstants.{PAGE_BYTES};
@@ -10,22 +10,24 @@ ghost use Rattle.rr_pages.specs.declared.page.TheConstants.{PAGE_BYTES};
 use crate::Fault;
 use crate::dir::{Dir, Version};
 use crate::root::page_count;
+use crate::texts::read_text;
 use rr_disk::Disk;
-use rr_pages::{ReachedPages, ReadChain, Root, chain_read};
+use rr_pages::{FollowedChain, ReachedPages, ReadChain, Root, chain_follow};
 use std::alloc::Global;
 
 // A directory as it was read.
 #[derive(Drop)]
 pub(crate) struct FoundDirectory {
     pub(crate) dir: Dir,
-    pub(crate) chain: ReadChain,
+    pub(crate) chain: FollowedChain,
     pub(crate) reached: ReachedPages,
 }
 
-// Its chain as it was read.
+// Its chain as it was followed, and the bytes in it.
 #[derive(Drop)]
 struct FoundChain {
-    chain: ReadChain,
+    chain: FollowedChain,
+    read: ReadChain,
     reached: ReachedPages,
 }
 
@@ -36,7 +38,7 @@ pub(crate) fn read_directory<D: Disk>(
     root: &Root,
 ) -> Result<FoundDirectory, Fault>
     ensures found { IfOk result (λ found. D.Honest disk.new → (side : Bool) → TakesRoot (D.state disk.old).content side root.now
-        → HasDirectory (D.state disk.old).content side root.now (marks_of found.reached) (held found.chain) (directory_of found.dir)) }
+        → HasDirectory (D.state disk.old).content side root.now (marks_of found.reached) (held_in (D.state disk.old).content found.chain) (directory_of found.dir)) }
     ensures refused { IfErr result (λ fault. D.Honest disk.new → (side : Bool) → TakesRoot (D.state disk.old).content side root.now
         → Refuses (D.state disk.old).content fault) }
     ensures fault { CountsFault (D.fault_count disk.old) (D.fault_count disk.new) result }
@@ -49,11 +51,15 @@ pub(crate) fn read_directory<D: Disk>(
     ensures works { D.Works disk.new → D.Works disk.old }
     ensures same_len { D.file_len disk.new ≡ D.file_len disk.old }
 {
-    let FoundChain { chain, reached } = read_chain_of(alloc, disk, root)?;
+    let FoundChain {
+        chain,
+        read,
+        reached,
+    } = read_chain_of(alloc, disk, root)?;
     let Some(version) = Version::of(root.version) else {
         return Err(Fault::NotAStore);
     };
-    let dir = Dir::read(alloc, version, &chain.bytes)?;
+    let dir = Dir::read(alloc, version, &read.bytes)?;
     Ok(FoundDirectory {
         dir,
         chain,
@@ -61,10 +67,11 @@ pub(crate) fn read_directory<D: Disk>(
     })
 }
 
-// Reads its chain up to the page that ends it, beginning with no page reached.
+// Follows its chain up to the page that ends it, beginning with no page reached, and then reads it.
 fn read_chain_of<D: Disk>(alloc: Global, disk: &mut D, root: &Root) -> Result<FoundChain, Fault>
     ensures found { IfOk result (λ found. D.Honest disk.new → (side : Bool) → TakesRoot (D.state disk.old).content side root.now
-        → ReadsDirectory (D.state disk.old).content root.now (marks_of found.reached) (held found.chain)) }
+        → ReadsDirectory (D.state disk.old).content root.now (marks_of found.reached) (held_in (D.state disk.old).content found.chain)) }
+    ensures bytes { IfOk result (λ found. D.Honest disk.new → held found.read ≡ held_in (D.state disk.old).content found.chain) }
     ensures refused { IfErr result (λ fault. D.Honest disk.new → (side : Bool) → TakesRoot (D.state disk.old).content side root.now
         → Refuses (D.state disk.old).content fault) }
     ensures fault { CountsFault (D.fault_count disk.old) (D.fault_count disk.new) result }
@@ -78,7 +85,7 @@ fn read_chain_of<D: Disk>(alloc: Global, disk: &mut D, root: &Root) -> Result<Fo
     ensures same_len { D.file_len disk.new ≡ D.file_len disk.old }
 {
     let mut reached = ReachedPages::new(alloc)?;
-    let chain = chain_read(
+    let chain = chain_follow(
         alloc,
         disk,
         page_count(root.pages),
@@ -86,5 +93,10 @@ fn read_chain_of<D: Disk>(alloc: Global, disk: &mut D, root: &Root) -> Result<Fo
         root.directory,
         None,
     )?;
-    Ok(FoundChain { chain, reached })
+    let read = read_text(alloc, disk, &chain)?;
+    Ok(FoundChain {
+        chain,
+        read,
+        reached,
+    })
 }

@@ -1,4 +1,4 @@
-// What is read whole, by its chains: the texts of a kit, and snapshots.
+// What is read whole, by its chains: the texts of a kit, snapshots, and a directory.
 ghost use Rattle.std.specs.Prelude.{◌≡◌, ◌*◌, ◌<◌, ℕ, true, map, IfOk, IfErr};
 ghost use Rattle.rr_pages.specs.Links.{all_fit};
 ghost use Rattle.rr_reading.specs.Chains.{all_held_in, held, held_in};
@@ -66,7 +66,11 @@ pub(crate) fn read_snapshots<D: Disk>(
     Ok(read)
 }
 
-fn read_text<D: Disk>(alloc: Global, disk: &mut D, text: &FollowedChain) -> Result<ReadChain, Fault>
+pub(crate) fn read_text<D: Disk>(
+    alloc: Global,
+    disk: &mut D,
+    text: &FollowedChain,
+) -> Result<ReadChain, Fault>
     ensures text { IfOk result (λ read. D.Honest disk.new → held read ≡ held_in (D.state disk.old).content text.now) }
     ensures only { IfErr result IsNoVerdict }
     ensures fault { CountsFault (D.fault_count disk.old) (D.fault_count disk.new) result }

@@ -8,6 +8,7 @@ use rr_kit::Kit;
 use rr_words::spelling::Spell;
 use std::alloc::Global;
 use std::process::Abort;
+use std::rc::RcSlice;
 
 const CHART: &[u8] = b"60y 67 71 76 82 90 100p\n";
 
@@ -349,8 +350,8 @@ fn kept_again(rt: &impl Abort, alloc: Global, club: &Club, count: usize) -> Kept
 
 /// The table again by the bytes of its last snapshot and the words of the commands before that, as a file has both.
 fn told_again(rt: &impl Abort, alloc: Global, club: &Club) -> Option<Table> {
-    let bytes = club.table.snapshots().last()?.bytes();
-    let snapshot = Snapshot::read(alloc, bytes).expect(rt, "memory")?;
+    let bytes = club.table.snapshots().last()?.shared();
+    let snapshot = Snapshot::read(bytes).expect(rt, "memory")?;
     let game = snapshot.game(alloc).expect(rt, "memory");
     let mut kept = kept_again(rt, alloc, club, snapshot.played());
     kept.keep_snapshot(snapshot).expect(rt, "memory");
@@ -405,6 +406,7 @@ fn other_bytes_are_no_snapshot(rt: HostRuntime) {
     let club = club_of_passes(&rt, alloc, 64);
     let snapshot = club.table.snapshots().first().expect(&rt, "a snapshot");
     let bytes = snapshot.bytes();
-    let cut = Snapshot::read(alloc, &bytes[..bytes.len() - 1]).expect(&rt, "memory");
-    assert!(rt; cut.is_none());
+    let cut = RcSlice::from_slice(alloc, &bytes[..bytes.len() - 1]).expect(&rt, "memory");
+    let read = Snapshot::read(&cut).expect(&rt, "memory");
+    assert!(rt; read.is_none());
 }

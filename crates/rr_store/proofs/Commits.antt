@@ -22,6 +22,7 @@ use Rattle.rr_log.specs.Growing.{Grows}
 use Rattle.rr_log.specs.Lent.{Lent}
 use Rattle.rr_log.proofs.Growing.{pages_still, stays_long}
 use Rattle.rr_tables.specs.Records.Taking.{table_files, table_rules}
+use Rattle.rr_tables.specs.Records.Taking.{Takes as Takes_line}
 use Rattle.rr_tables.specs.declared.records.fault.Fault as rules
 use Rattle.rr_tables.specs.declared.records.fault.Fault.TheVariants as R
 use Rattle.rr_tables.specs.declared.records.rules.TableRules.{TableRules}
@@ -41,10 +42,12 @@ use Rattle.rr_store.specs.Committing.{Commits, NumberBehind, Spares, layout_behi
 use Rattle.rr_store.specs.Fault.{CountsEnd, OnDeviceFault, of_log, of_rules, of_tables}
 use Rattle.rr_store.specs.Files.{AreTablesOf}
 use Rattle.rr_store.specs.Held.{Accepted, Again, Fails, Held, NoRoom, Refused, Takes, Wants, stamp_after, with_tables}
-use Rattle.rr_store.specs.Holding.{Carries, GamesArePlayed, GamesHaveSnapshots, HasNoRoom, IsFull, IsUnchanged, disk_of, file_of, held_of, lent_of, number_of_next, replayed_of, ticks_left}
+use Rattle.rr_store.specs.Holding.{Carries, GamesArePlayed, GamesHaveSnapshots, HasNoRoom, HasNoneBegun, IsFull, IsUnchanged, disk_of, file_of, held_of, lent_of, number_of_next, replayed_of, ticks_left}
 use Rattle.rr_store.specs.Keeping.{GrowsInAll, Keeping, MakesAtMost, length_on}
+use Rattle.rr_store.specs.Named.{KeepsNames, LendsNamed, NamesComing, NamesRoots}
 use Rattle.rr_store.specs.World.{World, for_table, judgement_in, world_after}
 use Rattle.rr_store.proofs.Keepings.{grown_not}
+use Rattle.rr_store.proofs.NamedRoots.{names_there, names_unchanged, roots_there, store_named}
 use Rattle.rr_store.proofs.Standing.{carried_keeps, carried_lent, carried_now, keeps_either, record_leads, stands_either, tables_after}
 use Rattle.rr_store.proofs.Verdicts.{no_again, no_failure, no_full}
 
@@ -151,6 +154,8 @@ module _ {D : Type 0} (Honest Works : D → Type 0) (state : D → DiskState) (p
         };
         carries = λ h whole texts s. carried texts s;
         renews = λ whole one none h texts s. let left : ticks_left new ≡ ticks_left old = ap (λ (f : Log D TableRules). file.ticks_left f) same.same_file in absurd (omega (arith, one, none, left));
+        names = λ h whole texts s lends none. names_unchanged state old new texts same;
+        renews_names = λ h whole one none texts s names. let left : ticks_left new ≡ ticks_left old = ap (λ (f : Log D TableRules). file.ticks_left f) same.same_file in absurd (omega (arith, one, none, left));
         number = number_same fault (number_of_next old) (number_of_next new) (ap (λ (f : Log D TableRules). next_number f) same.same_file);
         spares = spares_same old new fault same;
         wanting = λ played is. inl same;
@@ -263,6 +268,13 @@ module _ {D : Type 0} (Honest Works : D → Type 0) (state : D → DiskState) (p
           renews = λ whole one none h texts s.
               subst (λ (x : Held). EachImage (state (disk_of new)) (TakesNewer table_files (layout_behind (Ok n) s.file.carried.layout bytes_of (in_words texts x.tables)) (in_words texts x.tables))) (sym (held_is s.played))
               (k.renews k.broken one none h (in_words texts tables_now) (in_words texts behind) (record_leads texts kit_now tables_now stamp (for_table name c) (lawful_in texts s (lawful s.played)) s.tables_of_kit) s.file);
+          names = λ h whole texts s lends none.
+              names_there state old new texts behind (held_of old).broken (held_is s.played)
+              (k.names h k.broken kit_now (in_words texts tables_now) (in_words texts behind) (leads texts s) (carried_lent state old texts s)
+              (λ may. store_named state old texts s (lends may)) none);
+          renews_names = λ h whole one none texts s names.
+              roots_there state old new texts behind (held_of old).broken (held_is s.played)
+              (k.renews_names h k.broken one none kit_now (in_words texts tables_now) (in_words texts behind) (leads texts s) (carried_lent state old texts s) names);
           number = k.number;
           spares = tt;
           wanting = λ played is. absurd (cc is);
@@ -284,6 +296,9 @@ module _ {D : Type 0} (Honest Works : D → Type 0) (state : D → DiskState) (p
           device = tt;
         }
       where
+        leads : (texts : KitTexts) → Carries state old texts → Takes_line bytes_of (in_words texts tables_now) (in_words texts behind)
+        leads texts s = record_leads texts kit_now tables_now stamp (for_table name c) (lawful_in texts s (lawful s.played)) s.tables_of_kit
+
         on : Honest (disk_of new) → (texts : KitTexts) → Carries state old texts → Carries state new texts
         on h texts s =
             let is_lawful = lawful_in texts s (lawful s.played) in
@@ -308,6 +323,8 @@ module _ {D : Type 0} (Honest Works : D → Type 0) (state : D → DiskState) (p
           keeps = kept_by (Err L.DeviceFailed) lawful k;
           carries = λ h whole texts s. let both : true ≡ false = sym k.broken ∙ whole in absurd (cc both);
           renews = λ whole one none h texts s. let both : true ≡ false = sym k.broken ∙ whole in absurd (cc both);
+          names = λ h whole texts s lends none. let both : true ≡ false = sym k.broken ∙ whole in absurd (cc both);
+          renews_names = λ h whole one none texts s names. let both : true ≡ false = sym k.broken ∙ whole in absurd (cc both);
           number = tt;
           spares = tt;
           wanting = λ played is. absurd (cc is);
@@ -348,6 +365,19 @@ module _ {D : Type 0} (Honest Works : D → Type 0) (state : D → DiskState) (p
           subst (λ (x : Held). EachImage (state (disk_of new)) (TakesNewer table_files s.file.carried.layout (in_words texts x.tables))) (sym held_is)
           (k.renews whole one none h (in_words texts tables_now) (in_words texts behind) (record_leads texts kit_now tables_now stamp (for_table name c) (lawful_in texts s (lawful s.played)) s.tables_of_kit) s.file)
 
+      names_on : Honest (disk_of new) → (texts : KitTexts) → Carries state old texts → ((ticks_left old ≡ 0) ⊎ IsFull old name c → LendsNamed old) → (ticks_left old ≡ 0 → HasNoneBegun old)
+          → KeepsNames state old new texts
+      names_on h texts s lends none =
+          names_there state old new texts tables_now (held_of old).broken held_is
+          (k.names h whole kit_now (in_words texts tables_now) (in_words texts behind) (record_leads texts kit_now tables_now stamp (for_table name c) (lawful_in texts s (lawful s.played)) s.tables_of_kit)
+          (carried_lent state old texts s) (λ may. store_named state old texts s (lends may)) none)
+
+      renews_names_on : ticks_left old ≡ 1 → ticks_left new ≡ 0 → Honest (disk_of new) → (texts : KitTexts) → Carries state old texts → NamesComing state old texts → NamesRoots state new texts
+      renews_names_on one none h texts s names =
+          roots_there state old new texts tables_now (held_of old).broken held_is
+          (k.renews_names h whole one none kit_now (in_words texts tables_now) (in_words texts behind) (record_leads texts kit_now tables_now stamp (for_table name c) (lawful_in texts s (lawful s.played)) s.tables_of_kit)
+          (carried_lent state old texts s) names)
+
       keeps_on : Honest (disk_of new) → (texts : KitTexts) → Carries state old texts → Keeps (state (disk_of new)) texts tables_now
       keeps_on h texts s = subst (λ (w : World). Keeps (state (disk_of new)) texts w) (ap (λ (x : Held). x.tables) held_is) (carried_keeps state new texts (goes_on h texts s))
 
@@ -363,6 +393,8 @@ module _ {D : Type 0} (Honest Works : D → Type 0) (state : D → DiskState) (p
           keeps = kept_by (Err L.FileFull) lawful k;
           carries = λ h whole texts s. goes_on L.FileFull lawful k whole held_is h texts s;
           renews = λ whole one none h texts s. renews_on L.FileFull lawful k whole held_is one none h texts s;
+          names = λ h whole texts s lends none. names_on L.FileFull lawful k whole held_is h texts s lends none;
+          renews_names = λ h whole one none texts s names. renews_names_on L.FileFull lawful k whole held_is one none h texts s names;
           number = k.number;
           spares = tt;
           wanting = λ played is. absurd (cc is);
@@ -396,6 +428,8 @@ module _ {D : Type 0} (Honest Works : D → Type 0) (state : D → DiskState) (p
           keeps = kept_by (Err L.OutOfMemory) lawful k;
           carries = λ h whole texts s. goes_on L.OutOfMemory lawful k whole held_is h texts s;
           renews = λ whole one none h texts s. renews_on L.OutOfMemory lawful k whole held_is one none h texts s;
+          names = λ h whole texts s lends none. names_on L.OutOfMemory lawful k whole held_is h texts s lends none;
+          renews_names = λ h whole one none texts s names. renews_names_on L.OutOfMemory lawful k whole held_is one none h texts s names;
           number = k.number;
           spares = tt;
           wanting = λ played is. wants played (k.memory refl);

@@ -21,15 +21,19 @@ use Rattle.rr_checkpoint.specs.declared.plan.standing.StandingSnapshot.{Standing
 use Rattle.rr_log.specs.Calls.{MayRefuse, MeetsFullFile, NumberBehind, first_left, layout_behind, tables_due, ticks_due, world_behind}
 use Rattle.rr_log.specs.Carrying.{Carries, HaveSameTexts}
 use Rattle.rr_log.specs.Fault.{CountsFault, IsWant, OnDeviceFault, ends_broken}
-use Rattle.rr_log.specs.Log.{HasNoRoom, IsDue, IsPastLast, IsTooLong, disk_of, free_of, is_broken, next_number, place_of, ticks_left}
+use Rattle.rr_log.specs.Log.{HasNoRoom, HasNoneBegun, IsDue, IsPastLast, IsTooLong, disk_of, free_of, is_broken, next_number, place_of, ticks_left}
 use Rattle.rr_log.specs.Growing.{Grows, TakesPages}
+use Rattle.rr_log.specs.Roots.{KeepsRoots}
 use Rattle.rr_log.proofs.Carried.{device_more}
 use Rattle.rr_log.proofs.Growing.{grows_to, grows_told, pages_still, stays_long}
 use Rattle.rr_tables.specs.declared.records.rules.TableRules.{TableRules}
 use Rattle.rr_tables.specs.Records.Taking.{Takes, table_files, table_rules}
+use Rattle.rr_kit.specs.declared.kit.Kit.{Kit}
 use Rattle.rr_kit.specs.Kits.{KitTexts}
 use Rattle.rr_log.specs.Lent.{AreLentOf, Lent, pages_of}
 use Rattle.rr_reading.specs.Worlds.World as words
+use Rattle.rr_store.specs.NamedRoots.{AreTheirSnapshots, KeepsNames, NamesComing, NamesRoots}
+use Rattle.rr_store.proofs.KeptNames.{keeps_names, names_on, names_still, renews_names, rests_named}
 use Rattle.rr_store.specs.Keeping.{AreComing, ComesOn, GrowsInAll, IsFull, Keeping, MakesAtMost, length_on, told_of}
 
 abbrev Kept : Type 0
@@ -173,6 +177,9 @@ module _ {D : Type 0} (Honest Works : D → Type 0) (state : D → DiskState) (p
     pub renews : is_broken new ≡ false → ticks_left old ≡ 1 → ticks_left new ≡ 0 → Honest (disk_of new) → (before behind : words.World) → Takes bytes before behind → HaveSameTexts before behind
         → (carries : Carries table_rules old (state (disk_of old)) before)
         → EachImage (state (disk_of new)) (TakesNewer table_files (layout_behind result carries.carried.layout bytes behind) (world_behind result before behind))
+    pub roots : is_broken new ≡ false → Honest (disk_of new) → (before behind : words.World) → Takes bytes before behind → HaveSameTexts before behind → AreLentOf table_rules before tables
+        → (carries : Carries table_rules old (state (disk_of old)) before) → (then : Carries table_rules new (state (disk_of new)) (world_behind result before behind))
+        × KeepsRoots old new (tables_due old.base tables).snapshots carries.carried.layout carries.carried.holding then.carried.layout then.carried.holding
     pub nothing : IfErr result (λ fault. is_broken new ≡ false → ticks_left old ≡ 0 → ticks_left new ≡ 0 → disk_of new ≡ disk_of old)
     pub number : NumberBehind result (next_number old) (next_number new)
     pub again : IsErrOf result F.OpenAgain ↔ IsTrue (is_broken old)
@@ -208,6 +215,7 @@ module _ {D : Type 0} (Honest Works : D → Type 0) (state : D → DiskState) (p
         → LeavesKept table_files (past (disk_of old)) (state (disk_of old)) (past (disk_of new)) (state (disk_of new)) world
     pub carries : Honest (disk_of new) → is_broken new ≡ false → (world : words.World) → AreLentOf table_rules world tables
         → Carries table_rules old (state (disk_of old)) world → Carries table_rules new (state (disk_of new)) world
+    pub names : OnOk result (Honest (disk_of new) → (world : words.World) → AreLentOf table_rules world tables → (kit : Kit) → KeepsNames kit state old world new world)
     pub number : next_number new ≡ next_number old
     pub again : IsErrOf result F.OpenAgain ↔ IsTrue (is_broken old)
     pub broken : is_broken new ≡ ends_broken result
@@ -248,6 +256,7 @@ module _ {D : Type 0} (Honest Works : D → Type 0) (state : D → DiskState) (p
             started (past (disk_of log)) (state (disk_of log)) (λ image. Keeps table_files image world)
             (carried_kept table_files log.writer.file log.writer.checkpoint (state (disk_of log)) world carries.carried);
         carries = λ h still world lent carries. carries;
+        names = λ h world lent kit. names_still kit state log world;
         number = refl;
         again = (λ is. absurd (cc is), λ broken. let both : true ≡ false = sym broken ∙ whole in absurd (cc both));
         broken = whole;
@@ -281,6 +290,8 @@ module _ {D : Type 0} (Honest Works : D → Type 0) (state : D → DiskState) (p
         stops = λ h before behind takes lent carries. kept_now log before behind carries;
         carries = λ h still before behind takes lent carries. carries;
         renews = λ still one none h before behind takes carries. absurd (omega (arith, one, none));
+        names = λ h still kit before behind takes lent named none. names_still kit state log before;
+        renews_names = λ h still one none kit before behind takes lent names. absurd (omega (arith, one, none));
         number = refl;
         again = (λ is. absurd (cc is), λ broken. let both : true ≡ false = sym broken ∙ whole in absurd (cc both));
         untouched = λ is. absurd (cc is);
@@ -311,6 +322,8 @@ module _ {D : Type 0} (Honest Works : D → Type 0) (state : D → DiskState) (p
         stops = λ h before behind takes lent carries. kept_now log before behind carries;
         carries = λ h still before behind takes lent carries. carries;
         renews = λ still one none h before behind takes carries. absurd (omega (arith, one, none));
+        names = λ h still kit before behind takes lent named none. names_still kit state log before;
+        renews_names = λ h still one none kit before behind takes lent names. absurd (omega (arith, one, none));
         number = refl;
         again = (λ is. broken, λ was. refl);
         untouched = λ is. refl;
@@ -353,6 +366,11 @@ module _ {D : Type 0} (Honest Works : D → Type 0) (state : D → DiskState) (p
         stops = λ h before behind takes lent carries. t.stops h before behind takes (same_texts bytes before behind takes) lent carries;
         carries = λ h whole before behind takes lent carries. t.carries h whole before behind takes (same_texts bytes before behind takes) lent carries;
         renews = λ whole one none h before behind takes carries. t.renews whole one none h before behind takes (same_texts bytes before behind takes) carries;
+        names = λ h whole kit before behind takes lent named none.
+            keeps_names kit state old new before (world_behind result before behind) tables (t.roots whole h before behind takes (same_texts bytes before behind takes) lent)
+            (λ rests. named (inl rests)) none;
+        renews_names = λ h whole one none kit before behind takes lent names.
+            renews_names kit state old new before (world_behind result before behind) tables (t.roots whole h before behind takes (same_texts bytes before behind takes) lent) one none names;
         number = t.number;
         again = t.again;
         untouched = t.untouched;
@@ -386,6 +404,11 @@ module _ {D : Type 0} (Honest Works : D → Type 0) (state : D → DiskState) (p
     carried : Honest (disk_of mid) → (before behind : words.World) → Takes bytes before behind → AreLentOf table_rules before tables
         → Carries table_rules old (state (disk_of old)) before → Carries table_rules mid (state (disk_of mid)) before
     carried h before behind takes lent carries = t.carries h t.broken before behind takes (same_texts bytes before behind takes) lent carries
+
+    names_before : Honest (disk_of mid) → (kit : Kit) (before behind : words.World) → Takes bytes before behind → AreLentOf table_rules before tables → AreTheirSnapshots kit before tables.snapshots
+        → (ticks_left old ≡ 0 → HasNoneBegun (place_of old)) → KeepsNames kit state old before mid before
+    names_before h kit before behind takes lent named none =
+        keeps_names kit state old mid before before tables (t.roots t.broken h before behind takes (same_texts bytes before behind takes) lent) (λ rests. named) none
 
     -- one tick, all that are then left, and a second attempt
     in_all : (calls : D → ℕ) (made new : Logs) → calls (disk_of mid) ≤ calls (disk_of old) + 1 → calls (disk_of made) ≤ calls (disk_of mid) + ticks_left mid → calls (disk_of new) ≤ calls (disk_of made) + 3
@@ -424,6 +447,8 @@ module _ {D : Type 0} (Honest Works : D → Type 0) (state : D → DiskState) (p
               (weaker (m.stops h before lent (carried (m.honest h) before behind takes lent carries)) (λ image. Keeps table_files image before ⊎ Keeps table_files image behind) (λ image keeps. inl keeps));
           carries = λ h whole before behind takes lent carries. m.carries h whole before lent (carried (m.honest h) before behind takes lent carries);
           renews = λ whole one none h before behind takes carries. absurd (never_whole fault new some m whole);
+          names = λ h whole kit before behind takes lent named none. absurd (never_whole fault new some m whole);
+          renews_names = λ h whole one none kit before behind takes lent names. absurd (never_whole fault new some m whole);
           number = number_same fault (next_number old) (next_number new) (m.number ∙ t.number);
           again = (λ is. absurd (same_fault is), λ broken. never_again broken);
           untouched = λ is. absurd (same_fault is);
@@ -471,6 +496,17 @@ module _ {D : Type 0} (Honest Works : D → Type 0) (state : D → DiskState) (p
           again.carries h whole before behind takes (same_texts bytes before behind takes) lent
           (m.carries then m.broken before lent (carried (m.honest then) before behind takes lent carries))
 
+      names_by : (result : Kept) → Tried made result new → Honest (disk_of new) → is_broken new ≡ false → (kit : Kit) (before behind : words.World) → Takes bytes before behind
+          → AreLentOf table_rules before tables → ((ticks_left old ≡ 0) ⊎ IsFull old bytes → AreTheirSnapshots kit before tables.snapshots) → (ticks_left old ≡ 0 → HasNoneBegun (place_of old))
+          → KeepsNames kit state old before new (world_behind result before behind)
+      names_by result again h whole kit before behind takes lent named none =
+          let then = again.honest h in
+          let is_named = named (inr (inl (t.full_half refl))) in
+          let ended = names_on kit state old mid made before before before (names_before (m.honest then) kit before behind takes lent is_named none) (m.names then before lent kit) in
+          let second = keeps_names kit state made new before (world_behind result before behind) tables
+          (again.roots whole h before behind takes (same_texts bytes before behind takes) lent) (λ rests. is_named) (λ rests. m.rests) in
+          names_on kit state old made new before before (world_behind result before behind) ended second
+
       grows_by : (result : Kept) → Tried made result new → Honest (disk_of new) → (before behind : words.World) → Takes bytes before behind → AreLentOf table_rules before tables
           → Carries table_rules old (state (disk_of old)) before → GrowsInAll state old new
       grows_by result again h before behind takes lent carries =
@@ -500,6 +536,15 @@ module _ {D : Type 0} (Honest Works : D → Type 0) (state : D → DiskState) (p
           subst (λ (disk : D). EachImage (state disk) (TakesNewer table_files carries.carried.layout before)) (sym same)
           (t.renews t.broken one rested (m.honest (again.honest h)) before behind takes (same_texts bytes before behind takes) carries)
 
+      renews_names_still : (fault : Fault) → Tried made (Err fault) new → Honest (disk_of new) → is_broken new ≡ false → ticks_left old ≡ 1 → ticks_left new ≡ 0 → (kit : Kit) (before behind : words.World)
+          → Takes bytes before behind → AreLentOf table_rules before tables → NamesComing kit old (state (disk_of old)) before → NamesRoots kit new (state (disk_of new)) before
+      renews_names_still fault again h whole one none kit before behind takes lent names =
+          let then = again.honest h in
+          let texts = same_texts bytes before behind takes in
+          let left = t.comes refl (omega (arith, one)) in
+          let first = renews_names kit state old mid before before tables (t.roots t.broken (m.honest then) before behind takes texts lent) one (omega (arith, one, left)) names in
+          rests_named kit state made new before before tables (again.roots whole h before behind takes texts lent) m.left none ((m.names then before lent kit).roots first)
+
       -- a second attempt
       pub kept_twice : Tried made (Ok tt) new → Done old (Ok tt) new
       kept_twice again =
@@ -508,6 +553,8 @@ module _ {D : Type 0} (Honest Works : D → Type 0) (state : D → DiskState) (p
             stops = stops_by (Ok tt) again;
             carries = carries_by (Ok tt) again;
             renews = λ whole one none h before behind takes carries. let some = begins_another again in absurd (omega (arith, none, some));
+            names = names_by (Ok tt) again;
+            renews_names = λ h whole one none kit before behind takes lent names. let some = begins_another again in absurd (omega (arith, none, some));
             number = subst (λ (n : ℕ). next_number new ≡ n + 1) same_number again.number;
             again = (λ is. absurd (cc is), λ broken. never_again broken);
             untouched = λ is. absurd (cc is);
@@ -558,6 +605,8 @@ module _ {D : Type 0} (Honest Works : D → Type 0) (state : D → DiskState) (p
             stops = stops_by (Err fault) again;
             carries = carries_by (Err fault) again;
             renews = renews_still fault again;
+            names = names_by (Err fault) again;
+            renews_names = renews_names_still fault again;
             number = subst (λ (n : ℕ). NumberBehind {T = Unit {0}} (Err (told_of fault)) n (next_number new)) same_number so.4;
             again = (λ is. absurd (so.0 (let same : told_of fault ≡ F.OpenAgain = cc is in same)), λ broken. never_again broken);
             untouched = λ is. absurd (so.0 (let same : told_of fault ≡ F.OpenAgain = cc is in same));

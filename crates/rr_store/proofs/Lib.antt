@@ -1,4 +1,5 @@
 pub mod Kits
+pub mod KeptNames
 pub mod Keepings
 pub mod Verdicts
 pub mod Worlds

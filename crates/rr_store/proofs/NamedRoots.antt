@@ -1,10 +1,9 @@
 -- The root that a checkpoint writes names just the snapshots that its tables are to have, and few commands are played to open its
 -- file.
-use Rattle.std.proofs.Common.{◌≡◌, ℕ, ◌+◌, ◌-◌, ◌*◌, ◌≤◌, All, List, [], ◌∷◌, ◌++◌, length, Option, None, refl, sym, ap, subst, ◌∙◌, arith}
+use Rattle.std.proofs.Common.{◌≡◌, ℕ, ◌+◌, ◌-◌, ◌*◌, ◌≤◌, Bool, false, All, List, [], ◌∷◌, ◌++◌, length, refl, sym, ap, subst, ◌∙◌, arith}
 use Rattle.std.specs.Global.{Box}
 use Rattle.std.specs.Map.{values_of}
 use Rattle.std.proofs.lemmas.List.{length-map}
-use Rattle.rr_checkpoint.specs.declared.plan.transcript.Transcript.{Transcript}
 use Rattle.rr_disk.specs.Disk.{DiskState}
 use Rattle.rr_disk.specs.Moments.{EachImage}
 use Rattle.rr_game.specs.declared.game.Game.{Game}
@@ -12,7 +11,7 @@ use Rattle.rr_game.specs.declared.history.snapshots.TheConstants.{SNAPSHOT_SPACI
 use Rattle.rr_game.specs.declared.history.table.Table.{Table}
 use Rattle.rr_game.specs.History.GameBytes.{bytes_of}
 use Rattle.rr_images.specs.Holding.{HeldChain, Holding, texts_of}
-use Rattle.rr_images.specs.Layout.{Layout, KeepsAt, Stands}
+use Rattle.rr_images.specs.Layout.{Layout, KeepsAt, Stands, formatted}
 use Rattle.rr_images.proofs.OneWorld.{kept_stands}
 use Rattle.rr_kit.specs.declared.kit.Kit.{Kit}
 use Rattle.rr_kit.specs.Kits.{KitTexts}
@@ -20,7 +19,8 @@ use Rattle.rr_log.specs.declared.log.Log.{Log}
 use Rattle.rr_log.specs.Calls.{TakesRootOf, tables_due}
 use Rattle.rr_log.specs.Carrying as carrying
 use Rattle.rr_log.specs.Carrying.{HoldsWorld}
-use Rattle.rr_log.specs.Log as log
+use Rattle.rr_log.specs.Lent.{AreLentOf}
+use Rattle.rr_log.specs.Roots.{TakesRoot}
 use Rattle.rr_pages.specs.declared.root.Root.{Root}
 use Rattle.rr_pages.specs.Journal.Layout.{other_half}
 use Rattle.rr_pages.specs.Journal.Run.{Run}
@@ -41,18 +41,23 @@ use Rattle.rr_reading.proofs.WorldLemmas.Exact as spelling
 use Rattle.rr_tables.specs.declared.records.rules.TableRules.{TableRules}
 use Rattle.rr_tables.specs.declared.tables.Tables.{Tables}
 use Rattle.rr_tables.specs.Records.Taking.{table_files, table_rules}
-use Rattle.rr_tables.specs.Records.Words.{IsInWords, KeepCommands, in_words}
+use Rattle.rr_tables.specs.Records.Words.{AreInWords, IsInWords, KeepCommands, in_words}
 use Rattle.rr_tables.specs.Tables.{ArePlayed, HaveTheirSnapshots, lent_by, world_of}
 use Rattle.rr_tables.proofs.RecordLemmas.WordLemmas.{are_in_words, one_of_commands}
 use Rattle.rr_store.specs.declared.store.Store.{Store}
-use Rattle.rr_store.specs.Holding.{Carries, GamesHaveSnapshots, HasNoneBegun, file_of, held_of, lent_of, root_of, ticks_left}
-use Rattle.rr_store.specs.Named.{CheckpointsPlayFew, HasShortSnapshots, NamesSnapshots, OpeningsPlayFew}
+use Rattle.rr_store.specs.Held.{Held as StoreHeld}
+use Rattle.rr_store.specs.Holding.{Carries, HasNoneBegun, IsUnchanged, disk_of, file_of, held_of, lent_of, ticks_left}
+use Rattle.rr_store.specs.Named.{CheckpointsPlayFew, KeepsNames, LendsNamed, NamedRootsPlayFew, NamesComing, NamesRoots, NamesSnapshots, NewFilesNameSnapshots, OpeningsPlayFew}
+use Rattle.rr_store.specs.NamedRoots.{AreTheirSnapshots, HoldsNamed}
+use Rattle.rr_store.specs.NamedRoots as open_file
 use Rattle.rr_store.specs.Recovery.Telling.{IsBase, SpellBy}
 use Rattle.rr_store.specs.Recovery.Told.{TellTables}
 use Rattle.rr_store.specs.Replayed.{AreTheirCounts, PlaysRecords, PlaysTables, counts_at}
 use Rattle.rr_store.specs.World.{World}
 use Rattle.rr_store.proofs.FewLeft.{few_are_left, lent_roots_are_named}
+use Rattle.rr_store.proofs.KeptNames.{names_still, takes_names}
 use Rattle.rr_store.proofs.RecoveryLemmas.BaseLemmas.{base_told}
+use Rattle.rr_store.proofs.Standing.{carried_lent}
 use Rattle.rr_store.proofs.Trusting.{read_holding, standing_spells}
 
 -- ---- the directory of a root
@@ -86,46 +91,98 @@ record AreLendable (tables : Tables) : Type 0 where
   pub named : HaveTheirSnapshots tables
   pub short : All (λ (table : Box Table). All (λ (game : Game). length (bytes_of game) ≤ MOST_SNAPSHOT_BYTES) table.value.kept.snapshots) (values_of tables.map.entries)
 
-module _ (image : List ℕ) (texts : KitTexts) (tables : Tables) (are : AreLendable tables) where
-  abbrev world : words.World
-  world = in_words texts (world_of tables)
+-- what they lend is named, as the words of their world tell them
+lent_named : (texts : KitTexts) (tables : Tables) → AreLendable tables → AreTheirSnapshots tables.kit (in_words texts (world_of tables)) (lent_by tables).snapshots
+lent_named texts tables are base chains based many =
+    let same : world_of tables ≡ base = one_of_commands (world_of tables) base (in_words texts (world_of tables)) (are_in_words texts (world_of tables) are.commands) based in
+    subst (λ (ts : World). AreTheirCounts tables.kit (counts_at (snapshot_entries chains (lent_by tables).snapshots)) 0 ts) same
+    (lent_roots_are_named tables chains are.played are.named are.short many)
 
-  -- a root that spells them, and holds the snapshots that they lend, names them
-  lent_named : (number : ℕ) (layout : Layout table_files) (other : words.World) → TakesRootOf table_files number world image → KeepsAt table_files layout image world
-      → HoldsWorld other (lent_by tables).snapshots layout.holding → NamesSnapshots tables.kit image
-  unfolding kept_stands
-  lent_named number layout other takes kept all has base written holds is =
-      let snapshots = (lent_by tables).snapshots in
-      let directory = reads_directory image has holds world other snapshots (kept_stands table_files layout image world kept) all in
-      let chains = all.all.chains.snapshots in
-      let chain_texts = texts_of (chains_of has.texts (has.tables ++ has.snapshots)) in
-      let spelled : written ≡ takes.stands.base =
-      spelling.one_world table_rules has.root.version has.chain.text chain_texts written takes.stands.base is.spells (standing_spells image has holds world takes.stands) in
-      let based : IsInWords base world = subst (λ (w : words.World). IsInWords base w) (spelled ∙ takes.base) is.based in
-      let same : world_of tables ≡ base = one_of_commands (world_of tables) base world (are_in_words texts (world_of tables) are.commands) based in
-      let many : length chains ≡ length snapshots =
-      sym (as_many_texts chains) ∙ ap length all.all.held.of_snapshots ∙ length-map snapshots (λ (s : Snapshot). s.bytes) in
-      let named = lent_roots_are_named tables chains are.played are.named are.short many in
-      subst (λ (d : Directory). AreTheirCounts tables.kit (counts_at d.snapshots) 0 base) (sym directory)
-      (subst (λ (ts : World). AreTheirCounts tables.kit (counts_at (snapshot_entries chains snapshots)) 0 ts) same named)
+-- a root that holds them so names them
+pub root_named : (image : List ℕ) (kit : Kit) (layout : Layout table_files) (world : words.World) → KeepsAt table_files layout image world → HoldsNamed kit layout.holding layout.base
+    → NamesSnapshots kit image
+unfolding kept_stands
+root_named image kit layout world kept named has base written holds is =
+    let snapshots = named.snapshots in
+    let all = named.holds.all in
+    let stands = kept_stands table_files layout image world kept in
+    let directory = reads_directory image has holds world layout.base snapshots stands named.holds in
+    let chains = all.chains.snapshots in
+    let chain_texts = texts_of (chains_of has.texts (has.tables ++ has.snapshots)) in
+    let spelled : written ≡ layout.base =
+    spelling.one_world table_rules has.root.version has.chain.text chain_texts written layout.base is.spells (standing_spells image has holds world stands) in
+    let many : length chains ≡ length snapshots =
+    sym (as_many_texts chains) ∙ ap length all.held.of_snapshots ∙ length-map snapshots (λ (s : Snapshot). s.bytes) in
+    subst (λ (d : Directory). AreTheirCounts kit (counts_at d.snapshots) 0 base) (sym directory)
+    (named.named base chains (subst (λ (w : words.World). IsInWords base w) spelled is.based) many)
 
--- so it is of the root that a checkpoint writes where none was begun before
-module _ {D : Type 0} (state : D → DiskState) (store : Store D) (texts : KitTexts) (carries : Carries state store texts) where
-  abbrev held_world : words.World
-  held_world = in_words texts (held_of store).tables
+-- of no table there are no snapshots to name
+no_counts : (kit : Kit) (counts : ℕ → List ℕ) (base : World) → AreInWords base [] → AreTheirCounts kit counts 0 base
+no_counts kit counts [] none = tt
+no_counts kit counts (t ∷ ts) none = absurd none
 
-  pub checkpoint_names : {new : Log D TableRules} → ticks_left store ≡ 0 → HasNoneBegun store → GamesHaveSnapshots store → HasShortSnapshots store
-      → (then : carrying.Carries table_rules new (state (log.disk_of new)) held_world)
-      × HoldsWorld carries.file.carried.layout.middle (tables_due (file_of store).base (lent_of store)).snapshots then.carried.layout.holding
-      → EachImage (state (log.disk_of new)) (TakesRootOf table_files (root_of store) held_world)
-      → EachImage (state (log.disk_of new)) (NamesSnapshots (held_of store).kit)
-  checkpoint_names rests none named short then takes = λ image is.
-      let middle = carries.file.carried.layout.middle in
-      let layout = then.0.carried.layout in
-      let no_base : (file_of store).base ≡ None = subst (λ (begun : Option ℕ). carrying.IsBase table_rules begun (file_of store).base middle) none (carries.file.base rests) in
-      let all = subst (λ (base : Option Transcript). HoldsWorld middle (tables_due base (lent_of store)).snapshots layout.holding) no_base then.1 in
-      lent_named image texts store.tables (record { commands = carries.tables_of_kit.spelled; played = carries.played; named = named; short = short })
-      (root_of store) layout middle (takes image is) (then.0.carried.between.each image is) all
+pub new_files_named : NewFilesNameSnapshots
+unfolding kept_stands
+new_files_named file texts kit new has base written holds is =
+    let world = in_words texts [] in
+    let stands = kept_stands table_files (formatted false new.root new.holding world) file world new.kept in
+    let chain_texts = texts_of (chains_of has.texts (has.tables ++ has.snapshots)) in
+    let spelled : written ≡ world = spelling.one_world table_rules has.root.version has.chain.text chain_texts written world is.spells (standing_spells file has holds world stands) in
+    no_counts kit (counts_at has.directory.snapshots) base (subst (λ (w : words.World). IsInWords base w) spelled is.based)
+
+-- ---- what a store holds
+
+module _ {D : Type 0} (state : D → DiskState) (store : Store D) (texts : KitTexts) where
+  -- so it is of each file that a stop may leave
+  pub images_named : NamesRoots state store texts → EachImage (state (disk_of store)) (NamesSnapshots (held_of store).kit)
+  images_named roots image is =
+      let carried = roots.names.carries.carried in
+      root_named image (held_of store).kit carried.layout (in_words texts (held_of store).tables) (carried.between.each image is) roots.taken
+
+  pub none_coming : ticks_left store ≡ 0 → Carries state store texts → NamesComing state store texts
+  none_coming rests carries = record { carries = carries.file; coming = λ some. absurd (omega (arith, some, rests)) }
+
+  -- what it lends is named
+  pub store_named : Carries state store texts → LendsNamed store → AreTheirSnapshots (held_of store).kit (in_words texts (held_of store).tables) (lent_of store).snapshots
+  store_named carries lends =
+      lent_named texts store.tables (record { commands = carries.tables_of_kit.spelled; played = carries.played; named = lends.snapshots; short = lends.short })
+
+module _ {D : Type 0} (state : D → DiskState) (old new : Store D) (texts : KitTexts) where
+  -- what calls on its file leave of it, where it then holds these tables
+  module _ (tables : World) (broken : Bool) (held_is : held_of new ≡ record { kit = (held_of old).kit; tables = tables; broken = broken }) where
+    coming_there : open_file.NamesComing (held_of old).kit (file_of new) (state (disk_of new)) (in_words texts tables) → NamesComing state new texts
+    coming_there names = subst (λ (held : StoreHeld). open_file.NamesComing held.kit (file_of new) (state (disk_of new)) (in_words texts held.tables)) (sym held_is) names
+
+    pub roots_there : open_file.NamesRoots (held_of old).kit (file_of new) (state (disk_of new)) (in_words texts tables) → NamesRoots state new texts
+    roots_there names = subst (λ (held : StoreHeld). open_file.NamesRoots held.kit (file_of new) (state (disk_of new)) (in_words texts held.tables)) (sym held_is) names
+
+    pub names_there : open_file.KeepsNames (held_of old).kit state (file_of old) (in_words texts (held_of old).tables) (file_of new) (in_words texts tables) → KeepsNames state old new texts
+    names_there keeps =
+        record {
+          coming = λ names. coming_there (keeps.coming names);
+          roots = λ names. roots_there (keeps.roots names);
+          takes = λ differs names. roots_there (keeps.takes differs names);
+        }
+
+  -- behind a whole checkpoint the root is named that was coming, or that was made of what it lends
+  pub whole_named : new.tables ≡ old.tables
+      → ((world : words.World) → AreLentOf table_rules world (lent_of old) → (before : carrying.Carries table_rules (file_of old) (state (disk_of old)) world)
+      → (then : carrying.Carries table_rules (file_of new) (state (disk_of new)) world)
+      × TakesRoot (file_of old) (tables_due (file_of old).base (lent_of old)).snapshots before.carried.layout before.carried.holding then.carried.layout)
+      → ticks_left new ≡ 0 → Carries state old texts → (ticks_left old ≡ 0 → LendsNamed old × HasNoneBegun old) → NamesComing state old texts → NamesRoots state new texts
+  whole_named same takes left carries may names =
+      let world = in_words texts (held_of old).tables in
+      roots_there (held_of old).tables (held_of new).broken (λ i. record { kit = (same i).kit; tables = world_of (same i); broken = (held_of new).broken })
+      (takes_names (held_of old).kit state (file_of old) (file_of new) world world (lent_of old) (takes world (carried_lent state old texts carries)) left
+      (λ rests. store_named state old texts carries (may rests).0) (λ rests. (may rests).1) names)
+
+  -- it is as it was
+  pub names_unchanged : IsUnchanged old new → KeepsNames state old new texts
+  names_unchanged same =
+      let world = in_words texts (held_of old).tables in
+      names_there (held_of old).tables (held_of old).broken same.same_held
+      (subst (λ (log : Log D TableRules). open_file.KeepsNames (held_of old).kit state (file_of old) world log world) (sym same.same_file)
+      (names_still (held_of old).kit state (file_of old) world))
 
 -- ---- how many commands are played
 
@@ -155,6 +212,12 @@ openings_play_few file kit count names plays =
       records = is.records;
       few = omega (arith, is.both, few_in_all kit counts 0 is.base is.of_tables (names has is.base is.world holds is.is_base) is.tables);
     }
+
+-- so it is of each file that a stop may leave of a store whose roots are named
+pub named_roots_play_few : {D : Type 0} (state : D → DiskState) → NamedRootsPlayFew state
+named_roots_play_few state texts store roots image is =
+    let named = images_named state store texts roots image is in
+    (named, λ count plays. openings_play_few image (held_of store).kit count named plays)
 
 -- ---- and of a root behind which no record stands
 

@@ -4,7 +4,6 @@ pub mod PlayingLemmas
 pub mod LentLemmas
 pub mod KeepingLemmas
 pub mod ShownLemmas
-pub mod StandingLemmas
 pub mod TellingLemmas
 pub mod GameLemmas
 pub mod BaseLemmas

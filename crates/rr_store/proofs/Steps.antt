@@ -1,9 +1,10 @@
 -- What steps of a checkpoint do, from what the open file does.
-use Rattle.std.proofs.Common.{◌≡◌, ◌↔◌, ℕ, Bool, true, false, List, [], ◌∷◌, ◌++◌, Result, Ok, Err, IfErr, IsErrOf, IsTrue, inl, inr, refl, sym, ap, subst, ◌∙◌}
+use Rattle.std.proofs.Common.{◌≡◌, ◌↔◌, ℕ, Bool, true, false, List, [], ◌∷◌, ◌++◌, Result, Ok, Err, IfErr, IsErrOf, IsTrue, inl, inr, refl, sym, ap, subst, ◌∙◌, arith}
 use Rattle.rr_checkpoint.specs.Calls.{LeavesKept}
 use Rattle.rr_disk.specs.Disk.{DiskState}
 use Rattle.rr_disk.specs.Moments.{EachImage, EachImageOf, LeavesOnly}
 use Rattle.rr_disk.proofs.MomentLemmas.{EachImageOf-weaker}
+use Rattle.rr_kit.specs.declared.kit.Kit.{Kit}
 use Rattle.rr_kit.specs.Kits.{KitTexts, SpellsKit}
 use Rattle.rr_log.specs.declared.fault.Fault as log
 use Rattle.rr_log.specs.declared.fault.Fault.TheVariants as L
@@ -13,6 +14,7 @@ use Rattle.rr_log.specs.Carrying as carrying
 use Rattle.rr_log.specs.Fault.{CountsFault, IsWant, ends_broken}
 use Rattle.rr_log.specs.Fault as log_fault
 use Rattle.rr_log.specs.Log as file
+use Rattle.rr_log.specs.Roots.{KeepsRoots, TakesRoot}
 use Rattle.rr_tables.specs.declared.records.rules.TableRules.{TableRules}
 use Rattle.rr_tables.specs.Records.Headline.{KeepsTables}
 use Rattle.rr_tables.specs.Records.Taking.{table_files, table_rules}
@@ -27,9 +29,13 @@ use Rattle.rr_store.specs.declared.store.Store.{Store}
 use Rattle.rr_store.specs.Allowing.{Between, TickAllows}
 use Rattle.rr_store.specs.Fault.{CountsEnd, OnDeviceFault, of_log}
 use Rattle.rr_store.specs.Files.{AreTablesOf, StandsFor}
-use Rattle.rr_store.specs.Holding.{Carries, disk_of, file_of, held_of, lent_of}
+use Rattle.rr_store.specs.Holding.{Carries, HasNoneBegun, disk_of, file_of, held_of, lent_of, ticks_left}
+use Rattle.rr_store.specs.Named.{KeepsNames, LendsNamed, NamesComing, NamesRoots}
+use Rattle.rr_store.specs.NamedRoots as roots
 use Rattle.rr_store.specs.Ticking.{RefusesStep, Steps, held_behind}
 use Rattle.rr_store.specs.World.{World}
+use Rattle.rr_store.proofs.KeptNames.{ends_names, keeps_names, renews_names, takes_names}
+use Rattle.rr_store.proofs.NamedRoots.{names_there, roots_there, store_named}
 use Rattle.rr_store.proofs.Standing.{carried_keeps, carried_lent}
 use Rattle.rr_store.proofs.Worlds.{kept_stand}
 
@@ -55,12 +61,46 @@ device_of T L.OpenAgain so given = tt
 device_of T L.OutOfMemory so given = tt
 
 module _ {D : Type 0} (Honest Works : D → Type 0) (state : D → DiskState) (past : D → List DiskState) (faults : D → ℕ) where
+  -- what becomes of its roots
+  pub record Named (old : Log D TableRules) (tables : Lent) (new : Log D TableRules) : Type 0 where
+    pub keeps : file.is_broken new ≡ false → Honest (file.disk_of new) → (world : words.World) → AreLentOf table_rules world tables → (kit : Kit)
+        → (file.ticks_left old ≡ 0 → roots.AreTheirSnapshots kit world tables.snapshots) → (file.ticks_left old ≡ 0 → file.HasNoneBegun (file.place_of old))
+        → roots.KeepsNames kit state old world new world
+    pub renews : file.is_broken new ≡ false → Honest (file.disk_of new) → (world : words.World) → AreLentOf table_rules world tables → (kit : Kit)
+        → file.ticks_left old ≡ 1 → file.ticks_left new ≡ 0 → roots.NamesComing kit old (state (file.disk_of old)) world → roots.NamesRoots kit new (state (file.disk_of new)) world
+
+  -- by steps
+  pub named_by_steps : (old : Log D TableRules) (tables : Lent) (new : Log D TableRules)
+      → (file.is_broken new ≡ false → Honest (file.disk_of new) → (world : words.World) → AreLentOf table_rules world tables
+      → (carries : carrying.Carries table_rules old (state (file.disk_of old)) world) → (then : carrying.Carries table_rules new (state (file.disk_of new)) world)
+      × KeepsRoots old new (calls.tables_due old.base tables).snapshots carries.carried.layout carries.carried.holding then.carried.layout then.carried.holding)
+      → Named old tables new
+  named_by_steps old tables new keeps =
+      record {
+        keeps = λ whole h world lent kit named none. keeps_names kit state old new world world tables (keeps whole h world lent) named none;
+        renews = λ whole h world lent kit one none names. renews_names kit state old new world world tables (keeps whole h world lent) one none names;
+      }
+
+  -- by a whole checkpoint
+  pub named_by_whole : (old : Log D TableRules) (tables : Lent) (new : Log D TableRules)
+      → (Honest (file.disk_of new) → (world : words.World) → AreLentOf table_rules world tables
+      → (carries : carrying.Carries table_rules old (state (file.disk_of old)) world) → (then : carrying.Carries table_rules new (state (file.disk_of new)) world)
+      × TakesRoot old (calls.tables_due old.base tables).snapshots carries.carried.layout carries.carried.holding then.carried.layout)
+      → file.ticks_left new ≡ 0 → Named old tables new
+  named_by_whole old tables new takes left =
+      record {
+        keeps = λ whole h world lent kit named none. ends_names kit state old new world world tables (takes h world lent) left named none;
+        renews = λ whole h world lent kit one none names.
+            takes_names kit state old new world world tables (takes h world lent) left (λ rests. absurd (omega (arith, one, rests))) (λ rests. absurd (omega (arith, one, rests))) names;
+      }
+
   -- what the open file does
   pub record Stepped {T : Type 0} (old : Log D TableRules) (tables : Lent) (result : Result T log.Fault) (new : Log D TableRules) : Type 0 where
     pub stops : Honest (file.disk_of new) → (world : words.World) → AreLentOf table_rules world tables → carrying.Carries table_rules old (state (file.disk_of old)) world
         → LeavesKept table_files (past (file.disk_of old)) (state (file.disk_of old)) (past (file.disk_of new)) (state (file.disk_of new)) world
     pub carries : Honest (file.disk_of new) → file.is_broken new ≡ false → (world : words.World) → AreLentOf table_rules world tables
         → carrying.Carries table_rules old (state (file.disk_of old)) world → carrying.Carries table_rules new (state (file.disk_of new)) world
+    pub named : Named old tables new
     pub number : file.next_number new ≡ file.next_number old
     pub again : IsErrOf result L.OpenAgain ↔ IsTrue (file.is_broken old)
     pub untouched : IsErrOf result L.OpenAgain → new ≡ old
@@ -117,6 +157,19 @@ module _ {D : Type 0} (Honest Works : D → Type 0) (state : D → DiskState) (p
             (s.carries h whole (in_words texts tables_now) (carried_lent state old texts carries) carries.file);
       }
 
+      names_by : Honest (disk_of new) → (held_of new).broken ≡ false → (texts : KitTexts) → Carries state old texts
+          → (ticks_left old ≡ 0 → LendsNamed old × HasNoneBegun old) → KeepsNames state old new texts
+      names_by h whole texts carries may =
+          names_there state old new texts tables_now (file.is_broken (file_of new)) (held_if (file.is_broken (file_of new)) refl)
+          (s.named.keeps whole h (in_words texts tables_now) (carried_lent state old texts carries) (held_of old).kit
+          (λ rests. store_named state old texts carries (may rests).0) (λ rests. (may rests).1))
+
+      renews_by : Honest (disk_of new) → (held_of new).broken ≡ false → ticks_left old ≡ 1 → ticks_left new ≡ 0 → (texts : KitTexts) → Carries state old texts
+          → NamesComing state old texts → NamesRoots state new texts
+      renews_by h whole one none texts carries names =
+          roots_there state old new texts tables_now (file.is_broken (file_of new)) (held_if (file.is_broken (file_of new)) refl)
+          (s.named.renews whole h (in_words texts tables_now) (carried_lent state old texts carries) (held_of old).kit one none names)
+
     pub steps_done : {T : Type 0} (value : T) → Stepped (file_of old) (lent_of old) (Ok value) (file_of new) → StepsTo (Ok value)
     steps_done value s =
         record {
@@ -124,6 +177,8 @@ module _ {D : Type 0} (Honest Works : D → Type 0) (state : D → DiskState) (p
           allowed = allowed_by (Ok value) s;
           keeps = keeps_by (Ok value) s;
           carries = carries_by (Ok value) s;
+          names = names_by (Ok value) s;
+          renews_names = renews_by (Ok value) s;
           held = held_if (file.is_broken (file_of old)) (s.broken ∙ sym (not_true (file.is_broken (file_of old)) (λ broken. never (s.again.1 broken))));
           played = λ played. subst ArePlayed (sym same) played;
           snapshots = λ had. subst HaveTheirSnapshots (sym same) had;
@@ -151,6 +206,8 @@ module _ {D : Type 0} (Honest Works : D → Type 0) (state : D → DiskState) (p
             allowed = allowed_by (Err fault) s;
             keeps = keeps_by (Err fault) s;
             carries = carries_by (Err fault) s;
+            names = names_by (Err fault) s;
+            renews_names = renews_by (Err fault) s;
             held = held;
             played = λ played. subst ArePlayed (sym same) played;
             snapshots = λ had. subst HaveTheirSnapshots (sym same) had;

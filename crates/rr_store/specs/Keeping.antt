@@ -6,6 +6,7 @@ use Rattle.rr_checkpoint.specs.Growing.{GrowsWhereFull}
 use Rattle.rr_disk.specs.Disk.{DiskState}
 use Rattle.rr_disk.specs.Moments.{EachImage}
 use Rattle.rr_images.specs.Calls.{TakesNewer}
+use Rattle.rr_kit.specs.declared.kit.Kit.{Kit}
 use Rattle.rr_log.specs.declared.fault.Fault.{Fault}
 use Rattle.rr_log.specs.declared.fault.Fault.TheVariants as F
 use Rattle.rr_log.specs.declared.log.Log.{Log}
@@ -13,12 +14,13 @@ use Rattle.rr_log.specs.Calls.{MeetsFullFile, NumberBehind, layout_behind, ticks
 use Rattle.rr_log.specs.Carrying.{Carries}
 use Rattle.rr_log.specs.Fault.{CountsFault, OnDeviceFault, ends_broken}
 use Rattle.rr_log.specs.Growing.{Grows, TakesPages}
-use Rattle.rr_log.specs.Log.{HasNoRoom, IsDue, IsPastLast, IsTooLong, disk_of, free_of, is_broken, next_number, place_of, ticks_left}
+use Rattle.rr_log.specs.Log.{HasNoRoom, HasNoneBegun, IsDue, IsPastLast, IsTooLong, disk_of, free_of, is_broken, next_number, place_of, ticks_left}
 use Rattle.rr_pages.specs.FreePages.{coming_of, present_of}
 use Rattle.rr_tables.specs.declared.records.rules.TableRules.{TableRules}
 use Rattle.rr_tables.specs.Records.Taking.{Takes, table_files, table_rules}
 use Rattle.rr_log.specs.Lent.{AreLentOf, Lent}
 use Rattle.rr_reading.specs.Worlds.World as words
+use Rattle.rr_store.specs.NamedRoots.{AreTheirSnapshots, KeepsNames, NamesComing, NamesRoots}
 
 -- the half in use has no room for a record of these bytes, or the record's number would be past the last
 abbrev pub IsFull : {D R : Type 0} → Log D R → List ℕ → Type 0
@@ -81,7 +83,10 @@ pub record GrowsInAll {D R : Type 0} (state : D → DiskState) (old new : Log D 
 -- Where the last step of a checkpoint was made, and no other is begun, each file that a stop may leave takes a newer root, whose
 -- chains spell the world as the checkpoint began; only the records since then stand behind it. The file becomes longer
 -- only where no page under its end is free: where there was room, as by one step of a checkpoint, and whatever is to be
--- done, as `GrowsInAll` says. And an honest disk that works, and carries such a world, is never told to have failed.
+-- done, as `GrowsInAll` says. Roots that name just the snapshots that their tables are to have stay so, and so does the one
+-- that is coming, if what is lent to a checkpoint that begins is so and the opening found none begun; behind the last step
+-- of one the root is so that was coming. And an honest disk that works, and carries such a world, is never told to have
+-- failed.
 pub record Keeping {D : Type 0} (Honest Works : D → Type 0) (state : D → DiskState) (past : D → List DiskState) (faults writes syncs : D → ℕ)
     (old : Log D TableRules) (lent : Lent) (bytes : List ℕ) (result : Result (Unit {0}) Fault) (new : Log D TableRules) : Type 0 where
   pub honest : Honest (disk_of new) → Honest (disk_of old)
@@ -93,6 +98,12 @@ pub record Keeping {D : Type 0} (Honest Works : D → Type 0) (state : D → Dis
   pub renews : is_broken new ≡ false → ticks_left old ≡ 1 → ticks_left new ≡ 0 → Honest (disk_of new) → (before behind : words.World) → Takes bytes before behind
       → (carries : Carries table_rules old (state (disk_of old)) before)
       → EachImage (state (disk_of new)) (TakesNewer table_files (layout_behind result carries.carried.layout bytes behind) (world_behind result before behind))
+  pub names : Honest (disk_of new) → is_broken new ≡ false → (kit : Kit) (before behind : words.World) → Takes bytes before behind → AreLentOf table_rules before lent
+      → ((ticks_left old ≡ 0) ⊎ IsFull old bytes → AreTheirSnapshots kit before lent.snapshots) → (ticks_left old ≡ 0 → HasNoneBegun (place_of old))
+      → KeepsNames kit state old before new (world_behind result before behind)
+  pub renews_names : Honest (disk_of new) → is_broken new ≡ false → ticks_left old ≡ 1 → ticks_left new ≡ 0 → (kit : Kit) (before behind : words.World)
+      → Takes bytes before behind → AreLentOf table_rules before lent
+      → NamesComing kit old (state (disk_of old)) before → NamesRoots kit new (state (disk_of new)) (world_behind result before behind)
   pub number : NumberBehind result (next_number old) (next_number new)
   pub again : IsErrOf result F.OpenAgain ↔ IsTrue (is_broken old)
   pub untouched : IsErrOf result F.OpenAgain → new ≡ old

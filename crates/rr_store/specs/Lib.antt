@@ -5,6 +5,7 @@ pub mod Allowing
 pub mod Held
 pub mod Lent
 pub mod Formatting
+pub mod NamedRoots
 pub mod Keeping
 pub mod Holding
 pub mod Committing

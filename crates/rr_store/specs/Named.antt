@@ -1,7 +1,9 @@
 -- Roots that name just the snapshots that their tables are to have, so that few commands are played to open their files.
-use Rattle.std.specs.Prelude.{ℕ, ◌+◌, ◌-◌, ◌*◌, ◌≤◌, All, List, ◌++◌, length}
+use Rattle.std.specs.Prelude.{◌≡◌, ℕ, ◌+◌, ◌-◌, ◌*◌, ◌≤◌, All, List, ◌++◌, length}
 use Rattle.std.specs.Global.{Box}
 use Rattle.std.specs.Map.{values_of}
+use Rattle.rr_disk.specs.Disk.{DiskState}
+use Rattle.rr_disk.specs.Moments.{EachImage}
 use Rattle.rr_game.specs.declared.game.Game.{Game}
 use Rattle.rr_game.specs.declared.history.snapshots.TheConstants.{SNAPSHOT_SPACING}
 use Rattle.rr_game.specs.declared.history.table.Table.{Table}
@@ -16,7 +18,9 @@ use Rattle.rr_reading.specs.Worlds.World as words
 use Rattle.rr_tables.specs.Records.Taking.{table_files}
 use Rattle.rr_tables.specs.Records.Words.{in_words}
 use Rattle.rr_store.specs.declared.store.Store.{Store}
-use Rattle.rr_store.specs.Files.{StandsFor}
+use Rattle.rr_store.specs.Files.{IsNewStore, StandsFor}
+use Rattle.rr_store.specs.Holding.{Carries, GamesHaveSnapshots, disk_of, file_of, held_of, root_of, ticks_left}
+use Rattle.rr_store.specs.NamedRoots as open_file
 use Rattle.rr_store.specs.Recovery.Telling.{IsBase}
 use Rattle.rr_store.specs.Replayed.{AreTheirCounts, PlaysRecords, ReplaysFile, counts_at}
 use Rattle.rr_store.specs.World.{World}
@@ -32,6 +36,28 @@ abbrev pub HasShortSnapshots : {D : Type 0} → Store D → Type 0
 HasShortSnapshots store =
     All (λ (table : Box Table). All (λ (game : Game). length (bytes_of game) ≤ MOST_SNAPSHOT_BYTES) table.value.kept.snapshots)
     (values_of store.tables.map.entries)
+
+-- each table that it holds has just the snapshots that it is to have, none of which is too long for a file
+pub record LendsNamed {D : Type 0} (store : Store D) : Type 0 where
+  pub snapshots : GamesHaveSnapshots store
+  pub short : HasShortSnapshots store
+
+-- The store's file carries what it holds; while a checkpoint is under way, the root that is coming will have of each table just
+-- the snapshots that it is to have.
+abbrev pub NamesComing : {D : Type 0} → (D → DiskState) → Store D → KitTexts → Type 0
+NamesComing state store texts =
+    open_file.NamesComing (held_of store).kit (file_of store) (state (disk_of store)) (in_words texts (held_of store).tables)
+
+-- and the root that is taken has just those
+abbrev pub NamesRoots : {D : Type 0} → (D → DiskState) → Store D → KitTexts → Type 0
+NamesRoots state store texts =
+    open_file.NamesRoots (held_of store).kit (file_of store) (state (disk_of store)) (in_words texts (held_of store).tables)
+
+-- A call leaves what is coming so, and what is taken. Where another root is taken behind it, that is one that was coming.
+pub record KeepsNames {D : Type 0} (state : D → DiskState) (old new : Store D) (texts : KitTexts) : Type 0 where
+  pub coming : NamesComing state old texts → NamesComing state new texts
+  pub roots : NamesRoots state old texts → NamesRoots state new texts
+  pub takes : (root_of new ≡ root_of old → ⊥) → NamesComing state old texts → NamesRoots state new texts
 
 -- so many commands are played to open this file: of each table in its root fewer than the spacing of snapshots, beside
 -- those of its records
@@ -58,3 +84,19 @@ CheckpointsPlayFew =
     (file : List ℕ) (texts : KitTexts) (tables : World) (kit : Kit) (number count : ℕ) → StandsFor file texts tables
     → TakesRootOf table_files number (in_words texts tables) file → NamesSnapshots kit file → ReplaysFile file kit count
     → count ≤ (SNAPSHOT_SPACING - 1) * length tables
+
+-- Where no checkpoint is under way, no root is coming.
+abbrev pub NoneIsComingAtRest : {D : Type 0} → (D → DiskState) → Type 0
+NoneIsComingAtRest {D} state =
+    (texts : KitTexts) (store : Store D) → ticks_left store ≡ 0 → Carries state store texts → NamesComing state store texts
+
+-- Of a store whose roots are so each file that a stop may leave has such a root, and few commands are played to open it.
+abbrev pub NamedRootsPlayFew : {D : Type 0} → (D → DiskState) → Type 0
+NamedRootsPlayFew {D} state =
+    (texts : KitTexts) (store : Store D) → NamesRoots state store texts
+    → EachImage (state (disk_of store)) (λ image. NamesSnapshots (held_of store).kit image
+    × ((count : ℕ) → ReplaysFile image (held_of store).kit count → PlaysFew image (held_of store).kit count))
+
+-- The root of a new file is so: there is no table in it.
+abbrev pub NewFilesNameSnapshots : Type 0
+NewFilesNameSnapshots = (file : List ℕ) (texts : KitTexts) (kit : Kit) → IsNewStore texts file → NamesSnapshots kit file

@@ -2,7 +2,7 @@
 //! hold of all files, worlds and disks.
 ghost use Rattle.rr_store.specs.Events.{CommitsAreEvents, OpensAreEvents, StepsAreEvents};
 ghost use Rattle.rr_store.specs.Laws.{BareTablesArePlayedOnce, FewAreLeft, LentRootsAreNamed, NumbersAreInTheFile, OneWorld};
-ghost use Rattle.rr_store.specs.Named.{CheckpointsPlayFew, OpeningsPlayFew};
+ghost use Rattle.rr_store.specs.Named.{CheckpointsPlayFew, NamedRootsPlayFew, NewFilesNameSnapshots, NoneIsComingAtRest, OpeningsPlayFew};
 ghost use Rattle.rr_store.specs.Sessions.{OpeningsAndRequestsAreSessions, PartsOfWritesAreLeft, SessionsAreSafe};
 
 use rr_checkpoint::Tick;
@@ -30,13 +30,24 @@ pub fn few_are_left()
 {}
 
 /// An opening plays few commands of a file whose root has of each table just the snapshots that it is to have. That each
-/// file which a checkpoint leaves has such a root is what `Store::checkpoint` tells (`names`), and `open` tells how many
-/// commands it played (`replayed`).
+/// file which a checkpoint leaves has such a root is what `Store::checkpoint` tells (`names`), of one that is made by
+/// steps `named_roots_play_few`, and `open` tells how many commands it played (`replayed`).
 pub fn openings_play_few()
     // Fewer than 64 of each table in the root, beside those of the records;
     ensures few { OpeningsPlayFew }
     // and where no record stands behind the root, as behind a checkpoint, fewer than 64 of each table that is held.
     ensures behind_a_checkpoint { CheckpointsPlayFew }
+    // A new file has such a root.
+    ensures new_files { NewFilesNameSnapshots }
+{}
+
+/// Few commands are played to open what a stop leaves of a store whose roots have of each table just the snapshots that it
+/// is to have. Each call keeps that they have them, and that the root which is coming is to have them; behind the last
+/// step of a checkpoint the one is taken that was coming (`names` and `renews_names` of `Steps` and `Commits`).
+pub fn named_roots_play_few<D: Disk>()
+    ensures images { NamedRootsPlayFew D.state }
+    // Where no checkpoint is under way, no root is coming.
+    ensures at_rest { NoneIsComingAtRest D.state }
 {}
 
 /// What the contracts of the calls on a store say is what the law over schedules allows of events, however they end and

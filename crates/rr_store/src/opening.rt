@@ -179,7 +179,6 @@ fn begin<D: Disk + Drop>(alloc: Global, disk: D, found: Found) -> Store<D>
     let Recovered {
         tables,
         kit,
-        standing,
         base,
         replayed,
     } = recovered;
@@ -189,11 +188,11 @@ fn begin<D: Disk + Drop>(alloc: Global, disk: D, found: Found) -> Store<D>
         directory: _,
         texts: _,
         tables: _,
-        snapshots: _,
+        snapshots,
         near: _,
         far: _,
     } = opened;
-    let file = Log::new(alloc, disk, writer, kit, standing, base);
+    let file = Log::new(alloc, disk, writer, kit, snapshots, base);
     Store {
         alloc,
         journal: FileJournal { file, buffer },

@@ -12,7 +12,6 @@ mod plays;
 mod records;
 mod recovered;
 mod shown;
-mod standing;
 mod tables;
 mod texts;
 mod words;

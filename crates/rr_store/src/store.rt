@@ -40,7 +40,7 @@ pub struct Store<D: Drop> {
 impl<D: Disk + Drop> Store<D> {
     ghost use Rattle.rr_store.specs.Committing.{Commits};
     ghost use Rattle.rr_store.specs.Holding.{Carries, GamesArePlayed, GamesHaveSnapshots, HasNoneBegun, IsUnchanged, Rests, disk_of, file_of, free_of, held_of, lent_of, last_of, replayed_of, root_of, ticks_left};
-    ghost use Rattle.rr_store.specs.Named.{HasShortSnapshots, NamesSnapshots};
+    ghost use Rattle.rr_store.specs.Named.{HasShortSnapshots, LendsNamed, NamesComing, NamesRoots, NamesSnapshots};
     ghost use Rattle.rr_store.specs.Ticking.{MakesFew, Steps};
 
     /// The disk on which the file stands, with all that it went through.
@@ -240,6 +240,10 @@ impl<D: Disk + Drop> Store<D> {
         ensures names { OnOk result (ticks_left self.old ≡ 0 → HasNoneBegun self.old → D.Honest (disk_of self.new)
             → (texts : KitTexts) → Carries D.state self.old texts → GamesHaveSnapshots self.old → HasShortSnapshots self.old
             → EachImage (D.state (disk_of self.new)) (NamesSnapshots (held_of self.old).kit)) }
+        // Of one that was under way, if the root that was coming was to have them.
+        ensures takes_named { OnOk result (D.Honest (disk_of self.new) → (texts : KitTexts) → Carries D.state self.old texts
+            → (ticks_left self.old ≡ 0 → LendsNamed self.old × HasNoneBegun self.old)
+            → NamesComing D.state self.old texts → NamesRoots D.state self.new texts) }
         ensures fits { OnOk result (ticks_left self.old ≡ 0
             → IsFileFull (file_of self.old) (lent_of self.old) → ⊥) }
         ensures replayed { replayed_of self.new ≡ replayed_of self.old }

@@ -108,10 +108,9 @@ fn bytes_of_no_game_are_damage(rt: HostRuntime) -> Result<(), Fail> {
 type Named = (u64, Option<u64>, [Option<(u32, u64)>; 4]);
 
 fn snapshot_at(opened: &Opened<Worlds<TableRules>>, place: usize) -> Option<(u32, u64)> {
-    match opened.dir.snapshots.get(place) {
-        None => None,
-        Some(snapshot) => Some((snapshot.kept, snapshot.chain.head)),
-    }
+    let snapshot = opened.snapshots.get(place)?;
+    let page = snapshot.pages.first()?;
+    Some((snapshot.kept, u64::from(*page)))
 }
 
 fn commands_page(opened: &Opened<Worlds<TableRules>>) -> Option<u64> {

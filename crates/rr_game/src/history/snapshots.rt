@@ -18,6 +18,9 @@ use std::rc::RcSlice;
 /// So many commands stand between two snapshots of a table.
 pub const SNAPSHOT_SPACING: usize = 64;
 
+// A usual game has fewer bytes. A longer one has its buffer grow.
+const USUAL_BYTES: usize = 2048;
+
 /// A game as the bytes of its plain values, which take less memory than the game. Who writes them to a file shares them.
 #[derive(Drop)]
 pub struct Snapshot {
@@ -35,19 +38,19 @@ impl Model for Snapshot {
 }
 
 impl Snapshot {
-    /// The game that these bytes spell, as a snapshot, if they spell one that can stand. It isn't asked whether commands
-    /// come to it.
+    /// The game that these bytes spell, as a snapshot, which shares them, if they spell one that can stand. It isn't asked
+    /// whether commands come to it.
     ///
     /// # Errors
     ///
     /// `OutOfMemory`.
-    pub fn read(alloc: Global, bytes: &[u8]) -> Result<Option<Snapshot>, Fault>
+    pub fn read(bytes: &RcSlice<u8>) -> Result<Option<Snapshot>, Fault>
         ensures value { IfOk result (λ found. MatchOption found
-            ((count : ℕ) → SpellsOneGame bytes.now count → ⊥)
-            (λ snapshot. SpellsGame bytes.now snapshot.played snapshot)) }
+            ((count : ℕ) → SpellsOneGame (rc_slice_items bytes.now) count → ⊥)
+            (λ snapshot. SpellsGame (rc_slice_items bytes.now) snapshot.played snapshot)) }
         ensures memory { IsOkUnless result OutOfMemory }
     {
-        let parts = match Parts::read(bytes) {
+        let parts = match Parts::read(bytes.as_slice()) {
             Some(parts) => parts,
             None => return Ok(None),
         };
@@ -55,7 +58,7 @@ impl Snapshot {
             return Ok(None);
         }
         Ok(Some(Snapshot {
-            bytes: RcSlice::from_slice(alloc, bytes)?,
+            bytes: bytes.clone()?,
             played: parts.played,
         }))
     }
@@ -68,7 +71,7 @@ impl Snapshot {
         ensures spelled { IfOk result (λ snapshot. SpellsGame (bytes_of snapshot) snapshot.played snapshot) }
         ensures memory { IsOkUnless result OutOfMemory }
     {
-        let mut bytes = Vec::new(alloc);
+        let mut bytes = Vec::with_capacity(alloc, USUAL_BYTES)?;
         game.parts().write(&mut bytes)?;
         // A table keeps it for long: what a write took beyond its bytes goes back.
         bytes.shrink_to_fit();

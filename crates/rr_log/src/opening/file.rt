@@ -1,11 +1,11 @@
-ghost use Rattle.std.specs.Prelude.{◌≡◌, ◌*◌, ◌<◌, ◌≤◌, ◌^◌, ℕ, List, not, IfOk, IfErr, IsErrOf};
+ghost use Rattle.std.specs.Prelude.{◌≡◌, ◌*◌, ◌<◌, ◌≤◌, ◌^◌, ℕ, List, not, length, IfOk, IfErr, IsErrOf};
 ghost use Rattle.rr_checkpoint.specs.Writer.{free_of, place_of, taken_of, ticks_left_of};
 ghost use Rattle.rr_disk.specs.Disk.{IsImage, counted};
 ghost use Rattle.rr_disk.specs.Moments.{LeavesOnly};
 ghost use Rattle.rr_images.specs.Codec.{IsExact};
 ghost use Rattle.rr_images.specs.Layout.{Keeps, Stands};
 ghost use Rattle.rr_log.specs.Opening.Carrying.{CarriesRead};
-ghost use Rattle.rr_log.specs.Opening.Opened.{held_by};
+ghost use Rattle.rr_log.specs.Opening.Opened.{AreOfEntries, held_by};
 ghost use Rattle.rr_log.specs.Opening.Place.{GoesBehind};
 ghost use Rattle.rr_log.specs.Opening.Syncing.{IsSynced};
 ghost use Rattle.rr_pages.specs.FreePages.{coming_of};
@@ -21,6 +21,7 @@ ghost use Rattle.rr_reading.specs.Reading.{Holds, Refuses};
 
 use crate::opening::Opened;
 use crate::opening::place::next_place;
+use crate::opening::standing::standing_snapshots;
 use rr_checkpoint::Writer;
 use rr_disk::Disk;
 use rr_images::Codec;
@@ -46,6 +47,7 @@ use std::alloc::Global;
 pub fn open_file<D: Disk, C: Codec>(alloc: Global, disk: &mut D) -> Result<Opened<C>, Fault>
     // What is given is what the file holds, and the next record goes behind it.
     ensures holds { IfOk result (λ opened. D.Honest disk.new → Holds (D.state disk.old).content (held_by (D.state disk.old).content opened)) }
+    ensures snapshots { IfOk result (λ opened. D.Honest disk.new → AreOfEntries opened.dir.snapshots.items opened.snapshots.items) }
     ensures place { IfOk result (λ opened. D.Honest disk.new
         → GoesBehind (taken_of opened.writer).root (lines opened.near.records.items) (lines opened.far.records.items) (place_of opened.writer)) }
     // The near records are in the half that the root names, and the far ones in the other.
@@ -112,7 +114,11 @@ fn sync<D: Disk>(disk: &mut D) -> Result<(), Fault>
 fn begin<C: Codec>(alloc: Global, contents: Contents) -> Result<Opened<C>, Fault>
     requires near { GoesOn contents.taken.root.half contents.near }
     requires far { GoesOn (other_half contents.taken.root.half) contents.far }
-    ensures held { IfOk result (λ opened. (file : List ℕ) → held_by file opened ≡ held_of file contents) }
+    ensures taken { IfOk result (λ opened. taken_of opened.writer ≡ contents.taken) }
+    ensures held { IfOk result (λ opened. length contents.dir.snapshots.items ≡ length contents.snapshots.items
+        → (file : List ℕ) → held_by file opened ≡ held_of file contents) }
+    ensures snapshots { IfOk result (λ opened. length contents.dir.snapshots.items ≡ length contents.snapshots.items
+        → AreOfEntries opened.dir.snapshots.items opened.snapshots.items) }
     ensures place { IfOk result (λ opened. contents.taken.root.first < 2 ^ 63
         → GoesBehind contents.taken.root (lines contents.near.records.items) (lines contents.far.records.items) (place_of opened.writer)) }
     ensures near { IfOk result (λ opened. GoesOn contents.taken.root.half opened.near) }
@@ -136,13 +142,14 @@ fn begin<C: Codec>(alloc: Global, contents: Contents) -> Result<Opened<C>, Fault
     let place = next_place(&taken.root, &near, &far);
     let free = FreePages::new(alloc, reached)?;
     let buffer = RecordBuffer::new(alloc)?;
+    let standing = standing_snapshots(alloc, &dir.snapshots, snapshots)?;
     Ok(Opened {
         writer: Writer::new(taken, place, free, buffer),
         dir,
         directory,
         texts,
         tables,
-        snapshots,
+        snapshots: standing,
         near,
         far,
     })

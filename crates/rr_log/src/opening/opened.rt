@@ -1,7 +1,8 @@
 ghost use Rattle.std.specs.Prelude.{◌≡◌, ◌↔◌, IsTrue};
 
 use rr_checkpoint::Writer;
-use rr_pages::ReadChain;
+use rr_checkpoint::plan::StandingSnapshot;
+use rr_pages::FollowedChain;
 use rr_pages::journal::{RunEnd, Scanned};
 use rr_reading::KitTexts;
 use rr_reading::dir::Dir;
@@ -14,13 +15,13 @@ pub struct Opened<C> {
     /// where the file is one of ours: no record is damaged, and what the file holds spells a world.
     pub writer: Writer<C>,
     pub dir: Dir,
-    /// The directory's chain.
-    pub directory: ReadChain,
+    /// The directory's chain, whose bytes aren't kept.
+    pub directory: FollowedChain,
     pub texts: KitTexts,
     /// The kept commands in the chain of each table, in the order of the directory: as many as that says.
     pub tables: Commands,
-    /// The bytes of the snapshots, in the order of the directory. Whether they show games isn't judged.
-    pub snapshots: Vec<ReadChain>,
+    /// The snapshots and where they stand, in the order of the directory. Whether they show games isn't judged.
+    pub snapshots: Vec<StandingSnapshot>,
     /// The records in the half that the root names, and why they end.
     pub near: Scanned,
     /// Those in the other half, numbered on.

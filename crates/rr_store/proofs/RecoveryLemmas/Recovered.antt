@@ -1,5 +1,5 @@
 -- What a file tells, from what is told of its root's entries and chains.
-use Rattle.std.proofs.Common.{◌≡◌, ◌⊎◌, ℕ, Global, List, Vec, ◌++◌, inl, inr, length, sym, subst, ◌∙◌}
+use Rattle.std.proofs.Common.{◌≡◌, ◌⊎◌, ℕ, List, ◌++◌, inl, inr, sym, subst, ◌∙◌}
 use Rattle.std.specs.Prelude.{Option}
 use Rattle.rr_kit.specs.declared.kit.Kit.{Kit}
 use Rattle.rr_kit.specs.Kits.{IsWrongKit, KitTexts, SpellsKit}
@@ -10,10 +10,8 @@ use Rattle.rr_tables.specs.Records.Played.{ArePlayedTables}
 use Rattle.rr_tables.specs.Records.Taking.{table_rules}
 use Rattle.rr_tables.specs.Records.World.{World}
 use Rattle.rr_checkpoint.specs.declared.plan.kit.KitPages.{KitPages}
-use Rattle.rr_checkpoint.specs.declared.plan.standing.StandingSnapshot.{StandingSnapshot}
 use Rattle.rr_checkpoint.specs.declared.plan.transcript.Transcript.{Transcript}
 use Rattle.rr_checkpoint.specs.Plan.Kit.{AreTextChains}
-use Rattle.rr_checkpoint.specs.Plan.Standing.{standing_chains}
 use Rattle.rr_tables.specs.declared.tables.Tables.{Tables}
 use Rattle.rr_tables.specs.Tables.{ArePlayed, HaveTheirSnapshots, world_of}
 use Rattle.rr_pages.specs.declared.fault.Damage.{Damage}
@@ -27,7 +25,7 @@ use Rattle.rr_store.specs.Recovery.Telling.{HasBadRecord, HasTrueSnapshots, IsRe
 use Rattle.rr_store.specs.Recovery.Replaying.{AreReplayed, BreaksOff, IsTranscriptBefore, Replays}
 use Rattle.rr_store.specs.Recovery.Texts.{NameTexts, texts_in}
 use Rattle.rr_store.specs.Recovery.Told.{TellTables}
-use Rattle.rr_store.proofs.RecoveryLemmas.BaseLemmas.{base_told, each_chain, each_snapshot, formed_written, named_of, snapshots_limited, snapshots_play, tables_limited, texts_named, told_base, words_worded, written_formed}
+use Rattle.rr_store.proofs.RecoveryLemmas.BaseLemmas.{base_told, each_chain, formed_written, named_of, snapshots_limited, snapshots_play, tables_limited, texts_named, told_base, words_worded, written_formed}
 use Rattle.rr_store.proofs.RecoveryLemmas.ReplayLemmas.{StopsAt}
 
 -- why there are no tables of a root: the device failed, or some table wasn't played
@@ -139,10 +137,10 @@ module _ (file : List ℕ) (has : Held) (holds : Holds file has) where
         subst (λ (f : Fault). Refuses has f) (sym breaks.0) (bad_record plays there)
 
     -- all is right
-    module _ (new : Tables) (pages : KitPages) (standing : Vec StandingSnapshot Global) (transcript : Option Transcript) (count : ℕ) (near far : List (List ℕ)) (near_is : near ≡ has.near) (far_is : far ≡ has.far) (same : new.kit ≡ old.kit)
+    module _ (new : Tables) (pages : KitPages) (transcript : Option Transcript) (count : ℕ) (near far : List (List ℕ)) (near_is : near ≡ has.near) (far_is : far ≡ has.far) (same : new.kit ≡ old.kit)
         (plays : PlaysThem (named_of has) old) (replayed : ArePlayed old → AreReplayed old.kit (world_of old) near far transcript (world_of new)) (stays : ArePlayed old → ArePlayed new)
         (had : HaveTheirSnapshots old) (have : ArePlayed old → HaveTheirSnapshots old → HaveTheirSnapshots new) (whole : HasDamagedRecord has → ⊥) where
-      is_told : HasTrueSnapshots has → IsTold has (texts_in has.texts) (record { tables = new; kit = pages; standing = standing; base = transcript; replayed = count })
+      is_told : HasTrueSnapshots has → IsTold has (texts_in has.texts) (record { tables = new; kit = pages; base = transcript; replayed = count })
       is_told true =
           let there = told_base file has holds (world_of old) right.formed right.told in
           let played = base_played plays true in
@@ -172,13 +170,12 @@ module _ (file : List ℕ) (has : Held) (holds : Holds file has) where
             snapshots = have played.0 had;
           }
 
-      pub recovered_from : (NameTexts has.directory.kit has.texts → AreTextChains pages has.texts) → (length has.directory.snapshots ≡ length has.snapshots → standing_chains standing.items ≡ has.snapshots)
-          → IsRecoveredFrom has (record { tables = new; kit = pages; standing = standing; base = transcript; replayed = count })
-      recovered_from on_pages stand =
+      pub recovered_from : (NameTexts has.directory.kit has.texts → AreTextChains pages has.texts)
+          → IsRecoveredFrom has (record { tables = new; kit = pages; base = transcript; replayed = count })
+      recovered_from on_pages =
           record {
             texts = texts_in has.texts;
             right = subst (λ (k : Kit). SpellsKit (texts_in has.texts) k) (sym same) right.right;
             on_pages = on_pages (texts_named file has holds);
-            standing = stand (each_snapshot file has holds);
             told = is_told;
           }

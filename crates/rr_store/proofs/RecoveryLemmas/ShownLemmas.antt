@@ -1,10 +1,13 @@
 -- The snapshots of a file, one entry after another, and the games that they are.
-use Rattle.std.proofs.Common.{◌≡◌, ◌⊎◌, ℕ, zero, suc, ◌+◌, ◌<◌, ◌≤◌, ◌==◌, Bool, true, false, if◌then◌else◌, List, [], ◌∷◌, ◌++◌, All, length, map, take, get_or, min, inl, inr, refl, sym, ap, subst, ◌∙◌, arith}
+use Rattle.std.proofs.Common.{◌≡◌, ◌⊎◌, ℕ, zero, suc, ◌+◌, ◌<◌, ◌≤◌, ◌==◌, Bool, true, false, if◌then◌else◌, List, [], ◌∷◌, ◌++◌, All, length, take, get_or, min, inl, inr, refl, sym, ap, subst, ◌∙◌, arith}
 use Rattle.std.proofs.lemmas.Bool.Decides.{nat_tests}
 use Rattle.std.proofs.lemmas.List.{length-take-le, take_more}
 use Rattle.std.proofs.lemmas.List.Elements.{All-cons, All-head, All-nil, All-push, All-tail, All-weaker}
 use Rattle.std.proofs.lemmas.Option.{slice_get_within}
 use Rattle.std.specs.List.{AllZip}
+use Rattle.std.specs.Rc.{rc_slice_items}
+use Rattle.rr_checkpoint.specs.declared.plan.standing.StandingSnapshot.{StandingSnapshot}
+use Rattle.rr_checkpoint.specs.Plan.Standing.{standing_chain, standing_chains}
 use Rattle.rr_code.specs.declared.command.Command.{Command}
 use Rattle.rr_game.specs.declared.game.Game.{Game}
 use Rattle.rr_game.specs.History.GameBytes.{SpellsOneGame, one_spelled}
@@ -12,8 +15,6 @@ use Rattle.rr_game.specs.History.Playing.{IsPlayOf}
 use Rattle.rr_images.specs.Holding.{HeldChain}
 use Rattle.rr_kit.specs.declared.kit.Kit.{Kit}
 use Rattle.rr_pages.specs.declared.fault.Damage.TheVariants.{Kept as NotPlayed}
-use Rattle.rr_pages.specs.declared.reading.ReadChain.{ReadChain}
-use Rattle.rr_reading.specs.Chains.{held}
 use Rattle.rr_reading.specs.Dir.Directory.{IsSnapshot}
 use Rattle.rr_reading.specs.declared.dir.directory.SnapshotEntry.{SnapshotEntry}
 use Rattle.rr_reading.specs.declared.dir.directory.TableEntry.{TableEntry}
@@ -43,32 +44,32 @@ in_push (e ∷ es) [] entry chain same = absurd (omega (arith, same))
 in_push (e ∷ es) (c ∷ cs) entry chain same =
     ap (λ (l : List Shown). record { kept = e.kept; bytes = c.text } ∷ l) (in_push es cs entry chain (omega (arith, same)))
 
-held_push : (chains : List ReadChain) (chain : ReadChain) → map held (chains ++ chain ∷ []) ≡ map held chains ++ held chain ∷ []
-held_push [] chain = refl
-held_push (c ∷ cs) chain = ap (λ (l : List HeldChain). held c ∷ l) (held_push cs chain)
+chains_push : (chains : List StandingSnapshot) (chain : StandingSnapshot) → standing_chains (chains ++ chain ∷ []) ≡ standing_chains chains ++ standing_chain chain ∷ []
+chains_push [] chain = refl
+chains_push (c ∷ cs) chain = ap (λ (l : List HeldChain). standing_chain c ∷ l) (chains_push cs chain)
 
-held_long : (chains : List ReadChain) → length (map held chains) ≡ length chains
-held_long [] = refl
-held_long (c ∷ cs) = ap suc (held_long cs)
+chains_long : (chains : List StandingSnapshot) → length (standing_chains chains) ≡ length chains
+chains_long [] = refl
+chains_long (c ∷ cs) = ap suc (chains_long cs)
 
-module _ (entries : List SnapshotEntry) (chains : List ReadChain) (n : ℕ) (entry : SnapshotEntry) (chain : ReadChain) (entry_in : n < length entries) (chain_in : n < length chains)
+module _ (entries : List SnapshotEntry) (chains : List StandingSnapshot) (n : ℕ) (entry : SnapshotEntry) (chain : StandingSnapshot) (entry_in : n < length entries) (chain_in : n < length chains)
     (entry_is : entry ≡ get_or entries n entry) (chain_is : chain ≡ get_or chains n chain) where
   fronts : take (n + 1) entries ≡ take n entries ++ entry ∷ []
   fronts = take_more entries n entry entry_in ∙ ap (λ (e : SnapshotEntry). take n entries ++ e ∷ []) (sym entry_is)
 
-  helds : map held (take (n + 1) chains) ≡ map held (take n chains) ++ held chain ∷ []
+  helds : standing_chains (take (n + 1) chains) ≡ standing_chains (take n chains) ++ standing_chain chain ∷ []
   helds =
-      ap (λ (cs : List ReadChain). map held cs) (take_more chains n chain chain_in ∙ ap (λ (c : ReadChain). take n chains ++ c ∷ []) (sym chain_is))
-      ∙ held_push (take n chains) chain
+      ap (λ (cs : List StandingSnapshot). standing_chains cs) (take_more chains n chain chain_in ∙ ap (λ (c : StandingSnapshot). take n chains ++ c ∷ []) (sym chain_is))
+      ∙ chains_push (take n chains) chain
 
-  as_long : length (take n entries) ≡ length (map held (take n chains))
-  as_long = omega (arith, held_long (take n chains), length-take-le n entries (omega (arith, entry_in)), length-take-le n chains (omega (arith, chain_in)))
+  as_long : length (take n entries) ≡ length (standing_chains (take n chains))
+  as_long = omega (arith, chains_long (take n chains), length-take-le n entries (omega (arith, entry_in)), length-take-le n chains (omega (arith, chain_in)))
 
-  pub at_more : (place : ℕ) → shown_at place (take (n + 1) entries) (map held (take (n + 1) chains)) ≡ shown_at place (take n entries) (map held (take n chains)) ++ shown_at place (entry ∷ []) (held chain ∷ [])
-  at_more place = (λ i. shown_at place (fronts i) (helds i)) ∙ at_push place (take n entries) (map held (take n chains)) entry (held chain) as_long
+  pub at_more : (place : ℕ) → shown_at place (take (n + 1) entries) (standing_chains (take (n + 1) chains)) ≡ shown_at place (take n entries) (standing_chains (take n chains)) ++ shown_at place (entry ∷ []) (standing_chain chain ∷ [])
+  at_more place = (λ i. shown_at place (fronts i) (helds i)) ∙ at_push place (take n entries) (standing_chains (take n chains)) entry (standing_chain chain) as_long
 
-  pub in_more : shown_in (take (n + 1) entries) (map held (take (n + 1) chains)) ≡ shown_in (take n entries) (map held (take n chains)) ++ shown_in (entry ∷ []) (held chain ∷ [])
-  in_more = (λ i. shown_in (fronts i) (helds i)) ∙ in_push (take n entries) (map held (take n chains)) entry (held chain) as_long
+  pub in_more : shown_in (take (n + 1) entries) (standing_chains (take (n + 1) chains)) ≡ shown_in (take n entries) (standing_chains (take n chains)) ++ shown_in (entry ∷ []) (standing_chain chain ∷ [])
+  in_more = (λ i. shown_in (fronts i) (helds i)) ∙ in_push (take n entries) (standing_chains (take n chains)) entry (standing_chain chain) as_long
 
 -- ---- the shorter of the two lists is gone through
 
@@ -76,25 +77,25 @@ same_pick : (b : Bool) (s : Shown) (some all : List Shown) → some ≡ all → 
 same_pick true s some all same = ap (λ (l : List Shown). s ∷ l) same
 same_pick false s some all same = same
 
-pub at_whole : (place : ℕ) (entries : List SnapshotEntry) (chains : List ReadChain) (n : ℕ) → n ≡ min (length entries) (length chains)
-    → shown_at place (take n entries) (map held (take n chains)) ≡ shown_at place entries (map held chains)
+pub at_whole : (place : ℕ) (entries : List SnapshotEntry) (chains : List StandingSnapshot) (n : ℕ) → n ≡ min (length entries) (length chains)
+    → shown_at place (take n entries) (standing_chains (take n chains)) ≡ shown_at place entries (standing_chains chains)
 at_whole place [] chains zero same = refl
 at_whole place [] chains (suc n) same = absurd (omega (arith, same))
 at_whole place (e ∷ es) [] zero same = refl
 at_whole place (e ∷ es) [] (suc n) same = absurd (omega (arith, same))
 at_whole place (e ∷ es) (c ∷ cs) zero same = absurd (omega (arith, same))
 at_whole place (e ∷ es) (c ∷ cs) (suc n) same =
-    same_pick (e.table == place) (record { kept = e.kept; bytes = c.bytes.items }) _ _ (at_whole place es cs n (omega (arith, same)))
+    same_pick (e.table == place) (record { kept = e.kept; bytes = rc_slice_items c.bytes }) _ _ (at_whole place es cs n (omega (arith, same)))
 
-pub in_whole : (entries : List SnapshotEntry) (chains : List ReadChain) (n : ℕ) → n ≡ min (length entries) (length chains)
-    → shown_in (take n entries) (map held (take n chains)) ≡ shown_in entries (map held chains)
+pub in_whole : (entries : List SnapshotEntry) (chains : List StandingSnapshot) (n : ℕ) → n ≡ min (length entries) (length chains)
+    → shown_in (take n entries) (standing_chains (take n chains)) ≡ shown_in entries (standing_chains chains)
 in_whole [] chains zero same = refl
 in_whole [] chains (suc n) same = absurd (omega (arith, same))
 in_whole (e ∷ es) [] zero same = refl
 in_whole (e ∷ es) [] (suc n) same = absurd (omega (arith, same))
 in_whole (e ∷ es) (c ∷ cs) zero same = absurd (omega (arith, same))
 in_whole (e ∷ es) (c ∷ cs) (suc n) same =
-    ap (λ (l : List Shown). record { kept = e.kept; bytes = c.bytes.items } ∷ l) (in_whole es cs n (omega (arith, same)))
+    ap (λ (l : List Shown). record { kept = e.kept; bytes = rc_slice_items c.bytes } ∷ l) (in_whole es cs n (omega (arith, same)))
 
 -- ---- what holds of all holds of each
 
@@ -107,34 +108,34 @@ of_one P true s all holds = All-cons P s [] (All-head P s all holds) (All-nil P)
 of_one P false s all holds = All-nil P
 
 module _ (P : Shown → Type 0) where
-  at_there : (place : ℕ) (entries : List SnapshotEntry) (chains : List ReadChain) (n : ℕ) (d : SnapshotEntry) (c : ReadChain) → n < length entries → n < length chains
-      → All P (shown_at place entries (map held chains)) → All P (shown_at place (get_or entries n d ∷ []) (held (get_or chains n c) ∷ []))
+  at_there : (place : ℕ) (entries : List SnapshotEntry) (chains : List StandingSnapshot) (n : ℕ) (d : SnapshotEntry) (c : StandingSnapshot) → n < length entries → n < length chains
+      → All P (shown_at place entries (standing_chains chains)) → All P (shown_at place (get_or entries n d ∷ []) (standing_chain (get_or chains n c) ∷ []))
   at_there place [] chains n d c entry_in chain_in all = absurd (omega (arith, entry_in))
   at_there place (e ∷ es) [] n d c entry_in chain_in all = absurd (omega (arith, chain_in))
   at_there place (e ∷ es) (h ∷ hs) zero d c entry_in chain_in all = of_one P (e.table == place) _ _ all
   at_there place (e ∷ es) (h ∷ hs) (suc n) d c entry_in chain_in all =
       at_there place es hs n d c (omega (arith, entry_in)) (omega (arith, chain_in)) (of_picked P (e.table == place) _ _ all)
 
-  in_there : (entries : List SnapshotEntry) (chains : List ReadChain) (n : ℕ) (d : SnapshotEntry) (c : ReadChain) → n < length entries → n < length chains
-      → All P (shown_in entries (map held chains)) → P (record { kept = (get_or entries n d).kept; bytes = (get_or chains n c).bytes.items })
+  in_there : (entries : List SnapshotEntry) (chains : List StandingSnapshot) (n : ℕ) (d : SnapshotEntry) (c : StandingSnapshot) → n < length entries → n < length chains
+      → All P (shown_in entries (standing_chains chains)) → P (record { kept = (get_or entries n d).kept; bytes = rc_slice_items (get_or chains n c).bytes })
   in_there [] chains n d c entry_in chain_in all = absurd (omega (arith, entry_in))
   in_there (e ∷ es) [] n d c entry_in chain_in all = absurd (omega (arith, chain_in))
   in_there (e ∷ es) (h ∷ hs) zero d c entry_in chain_in all = All-head P _ _ all
   in_there (e ∷ es) (h ∷ hs) (suc n) d c entry_in chain_in all =
       in_there es hs n d c (omega (arith, entry_in)) (omega (arith, chain_in)) (All-tail P _ _ all)
 
-  pub at_one : (place : ℕ) (entries : List SnapshotEntry) (chains : List ReadChain) (n : ℕ) (entry : SnapshotEntry) (chain : ReadChain) → n < length entries → n < length chains
-      → entry ≡ get_or entries n entry → chain ≡ get_or chains n chain → All P (shown_at place entries (map held chains)) → All P (shown_at place (entry ∷ []) (held chain ∷ []))
+  pub at_one : (place : ℕ) (entries : List SnapshotEntry) (chains : List StandingSnapshot) (n : ℕ) (entry : SnapshotEntry) (chain : StandingSnapshot) → n < length entries → n < length chains
+      → entry ≡ get_or entries n entry → chain ≡ get_or chains n chain → All P (shown_at place entries (standing_chains chains)) → All P (shown_at place (entry ∷ []) (standing_chain chain ∷ []))
   at_one place entries chains n entry chain entry_in chain_in entry_is chain_is all =
-      subst (λ (e : SnapshotEntry). All P (shown_at place (e ∷ []) (held chain ∷ []))) (sym entry_is)
-      (subst (λ (c : ReadChain). All P (shown_at place (get_or entries n entry ∷ []) (held c ∷ []))) (sym chain_is)
+      subst (λ (e : SnapshotEntry). All P (shown_at place (e ∷ []) (standing_chain chain ∷ []))) (sym entry_is)
+      (subst (λ (c : StandingSnapshot). All P (shown_at place (get_or entries n entry ∷ []) (standing_chain c ∷ []))) (sym chain_is)
       (at_there place entries chains n entry chain entry_in chain_in all))
 
-  pub in_one : (entries : List SnapshotEntry) (chains : List ReadChain) (n : ℕ) (entry : SnapshotEntry) (chain : ReadChain) → n < length entries → n < length chains
-      → entry ≡ get_or entries n entry → chain ≡ get_or chains n chain → All P (shown_in entries (map held chains)) → P (record { kept = entry.kept; bytes = chain.bytes.items })
+  pub in_one : (entries : List SnapshotEntry) (chains : List StandingSnapshot) (n : ℕ) (entry : SnapshotEntry) (chain : StandingSnapshot) → n < length entries → n < length chains
+      → entry ≡ get_or entries n entry → chain ≡ get_or chains n chain → All P (shown_in entries (standing_chains chains)) → P (record { kept = entry.kept; bytes = rc_slice_items chain.bytes })
   in_one entries chains n entry chain entry_in chain_in entry_is chain_is all =
-      subst (λ (e : SnapshotEntry). P (record { kept = e.kept; bytes = chain.bytes.items })) (sym entry_is)
-      (subst (λ (c : ReadChain). P (record { kept = (get_or entries n entry).kept; bytes = c.bytes.items })) (sym chain_is)
+      subst (λ (e : SnapshotEntry). P (record { kept = e.kept; bytes = rc_slice_items chain.bytes })) (sym entry_is)
+      (subst (λ (c : StandingSnapshot). P (record { kept = (get_or entries n entry).kept; bytes = rc_slice_items c.bytes })) (sym chain_is)
       (in_there entries chains n entry chain entry_in chain_in all))
 
 -- what holds of those of each table holds of all, where each is of one of the tables
@@ -171,19 +172,19 @@ keeps_more all some one old new parted before more =
 
 -- ---- the snapshots that were told so far
 
-module _ (entries : List SnapshotEntry) (chains : List ReadChain) (n : ℕ) (entry : SnapshotEntry) (chain : ReadChain) (entry_in : n < length entries) (chain_in : n < length chains)
+module _ (entries : List SnapshotEntry) (chains : List StandingSnapshot) (n : ℕ) (entry : SnapshotEntry) (chain : StandingSnapshot) (entry_in : n < length entries) (chain_in : n < length chains)
     (entry_is : entry ≡ get_or entries n entry) (chain_is : chain ≡ get_or chains n chain) (next : ℕ) (one : next ≡ n + 1) where
-  pub told_one_more : All SpellsItsGame (shown_in (take n entries) (map held (take n chains))) → SpellsOneGame chain.bytes.items entry.kept
-      → All SpellsItsGame (shown_in (take next entries) (map held (take next chains)))
+  pub told_one_more : All SpellsItsGame (shown_in (take n entries) (standing_chains (take n chains))) → SpellsOneGame (rc_slice_items chain.bytes) entry.kept
+      → All SpellsItsGame (shown_in (take next entries) (standing_chains (take next chains)))
   told_one_more before here =
-      subst (λ (k : ℕ). All SpellsItsGame (shown_in (take k entries) (map held (take k chains)))) (sym one)
+      subst (λ (k : ℕ). All SpellsItsGame (shown_in (take k entries) (standing_chains (take k chains)))) (sym one)
       (subst (λ (l : List Shown). All SpellsItsGame l) (sym (in_more entries chains n entry chain entry_in chain_in entry_is chain_is))
-      (All-push SpellsItsGame (shown_in (take n entries) (map held (take n chains))) _ before here))
+      (All-push SpellsItsGame (shown_in (take n entries) (standing_chains (take n chains))) _ before here))
 
-  pub kept_one_more : (place : ℕ) (old new : List Game) → AllZip SpellsTheGame (shown_at place (take n entries) (map held (take n chains))) old
-      → KeepsShown (shown_at place (entry ∷ []) (held chain ∷ [])) old new → AllZip SpellsTheGame (shown_at place (take next entries) (map held (take next chains))) new
+  pub kept_one_more : (place : ℕ) (old new : List Game) → AllZip SpellsTheGame (shown_at place (take n entries) (standing_chains (take n chains))) old
+      → KeepsShown (shown_at place (entry ∷ []) (standing_chain chain ∷ [])) old new → AllZip SpellsTheGame (shown_at place (take next entries) (standing_chains (take next chains))) new
   kept_one_more place old new before more =
-      subst (λ (k : ℕ). AllZip SpellsTheGame (shown_at place (take k entries) (map held (take k chains))) new) (sym one)
+      subst (λ (k : ℕ). AllZip SpellsTheGame (shown_at place (take k entries) (standing_chains (take k chains))) new) (sym one)
       (keeps_more _ _ _ old new (at_more entries chains n entry chain entry_in chain_in entry_is chain_is place) before more)
 
 -- a snapshot of this table that is no game
@@ -191,7 +192,7 @@ one_wrong : (b : Bool) (shown : Shown) → b ≡ true → (SpellsItsGame shown �
 one_wrong true shown is wrong all = wrong (All-head SpellsItsGame shown [] all)
 one_wrong false shown is wrong all = absurd cc
 
-pub is_wrong : (place : ℕ) (entry : SnapshotEntry) (chain : ReadChain) → entry.table ≡ place → (SpellsOneGame chain.bytes.items entry.kept → ⊥) → All SpellsItsGame (shown_at place (entry ∷ []) (held chain ∷ [])) → ⊥
+pub is_wrong : (place : ℕ) (entry : SnapshotEntry) (chain : StandingSnapshot) → entry.table ≡ place → (SpellsOneGame (rc_slice_items chain.bytes) entry.kept → ⊥) → All SpellsItsGame (shown_at place (entry ∷ []) (standing_chain chain ∷ [])) → ⊥
 is_wrong place entry chain same wrong all = one_wrong (entry.table == place) _ (equal_test entry.table place same) wrong all
 
 -- a fault that says so of all

@@ -1,6 +1,6 @@
 -- The tables of a root before its records, by its directory's entries, its chains and its snapshots.
-use Rattle.std.specs.Prelude.{◌≡◌, ℕ, All, List, length, map}
-use Rattle.rr_reading.specs.Chains.{held}
+use Rattle.std.specs.Prelude.{◌≡◌, ℕ, All, List, length}
+use Rattle.rr_checkpoint.specs.Plan.Standing.{standing_chains}
 use Rattle.rr_reading.specs.Held.{tables_in}
 use Rattle.rr_reading.specs.declared.lending.commands.Commands.{Commands}
 use Rattle.rr_store.specs.declared.recovery.shown.Snapshots.{Snapshots}
@@ -87,5 +87,5 @@ named_by file entries chains snapshots =
       entries = entries;
       chains = tables_in file chains;
       snapshot_entries = snapshots.entries.now;
-      snapshot_chains = map held snapshots.chains.now;
+      snapshot_chains = standing_chains snapshots.chains.now;
     }

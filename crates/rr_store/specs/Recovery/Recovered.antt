@@ -3,7 +3,6 @@ use Rattle.std.specs.Prelude.{◌≡◌}
 use Rattle.rr_kit.specs.Kits.{KitTexts, SpellsKit}
 use Rattle.rr_reading.specs.Held.{Held}
 use Rattle.rr_checkpoint.specs.Plan.Kit.{AreTextChains}
-use Rattle.rr_checkpoint.specs.Plan.Standing.{standing_chains}
 use Rattle.rr_tables.specs.Records.World.{World}
 use Rattle.rr_tables.specs.Tables.{ArePlayed, HaveTheirSnapshots, world_of}
 use Rattle.rr_tables.specs.declared.tables.Tables.{Tables}
@@ -23,11 +22,10 @@ pub record IsTold (has : Held) (texts : KitTexts) (recovered : Recovered) : Type
   pub played : ArePlayed recovered.tables
   pub snapshots : HaveTheirSnapshots recovered.tables
 
--- The kit is that of the file's texts, which stand where the root has them, and so do its snapshots; and where each snapshot
--- shows the game that the commands before it play, the tables are those that the file tells.
+-- The kit is that of the file's texts, which stand where the root has them; and where each snapshot shows the game that the
+-- commands before it play, the tables are those that the file tells.
 pub record IsRecoveredFrom (has : Held) (recovered : Recovered) : Type 0 where
   pub texts : KitTexts
   pub right : SpellsKit texts recovered.tables.kit
   pub on_pages : AreTextChains recovered.kit has.texts
-  pub standing : standing_chains recovered.standing.items ≡ has.snapshots
   pub told : HasTrueSnapshots has → IsTold has texts recovered

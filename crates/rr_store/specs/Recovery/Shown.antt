@@ -1,5 +1,5 @@
 -- The snapshots of a file, and whether they show the games that its commands play.
-use Rattle.std.specs.Prelude.{◌≡◌, ℕ, ◌+◌, ◌==◌, ◌≤◌, All, List, [], ◌∷◌, ◌++◌, Option, None, Some, if◌then◌else◌, length, map, nat_le, take}
+use Rattle.std.specs.Prelude.{◌≡◌, ℕ, ◌+◌, ◌==◌, ◌≤◌, All, List, [], ◌∷◌, ◌++◌, Option, None, Some, if◌then◌else◌, length, nat_le, take}
 use Rattle.std.specs.List.{AllZip, Contains}
 use Rattle.rr_code.specs.declared.command.Command.{Command}
 use Rattle.rr_game.specs.declared.game.Game.{Game}
@@ -8,7 +8,7 @@ use Rattle.rr_game.specs.History.Playing.{IsPlayOf}
 use Rattle.rr_images.specs.Holding.{HeldChain}
 use Rattle.rr_kit.specs.declared.kit.Kit.{Kit}
 use Rattle.rr_reading.specs.declared.dir.directory.SnapshotEntry.{SnapshotEntry}
-use Rattle.rr_reading.specs.Chains.{held}
+use Rattle.rr_checkpoint.specs.Plan.Standing.{standing_chains}
 use Rattle.rr_tables.specs.Records.World.{World}
 use Rattle.rr_store.specs.declared.recovery.shown.Snapshots.{Snapshots}
 
@@ -32,7 +32,7 @@ shown_at place (entry ∷ entries) (chain ∷ chains) =
 
 -- the same of snapshots that were read
 abbrev pub shown_of : ℕ → Snapshots → List Shown
-shown_of place snapshots = shown_at place snapshots.entries.now (map held snapshots.chains.now)
+shown_of place snapshots = shown_at place snapshots.entries.now (standing_chains snapshots.chains.now)
 
 -- the bytes spell a game that has played as many commands as the snapshot tells
 abbrev pub SpellsTheGame : Shown → Game → Type 0
@@ -76,4 +76,4 @@ ShowPlays kit entries chains place (table ∷ tables) =
 
 -- these snapshots, which were read, show the plays of a world's tables
 abbrev pub AreShown : Kit → Snapshots → World → Type 0
-AreShown kit snapshots tables = ShowPlays kit snapshots.entries.now (map held snapshots.chains.now) 0 tables
+AreShown kit snapshots tables = ShowPlays kit snapshots.entries.now (standing_chains snapshots.chains.now) 0 tables

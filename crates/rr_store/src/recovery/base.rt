@@ -72,11 +72,11 @@ pub(crate) fn recover_base<D: Disk>(
         Err(Fault::Disk(fault)) => Err(Fault::Disk(fault)),
         Err(Fault::Damaged(damage)) => {
             let refused = Fault::Damaged(damage);
-            Err(refusal(alloc, disk, entries, chains, snapshots, refused))
+            Err(refusal(disk, entries, chains, snapshots, refused))
         }
         Err(Fault::OutOfMemory) => {
             let refused = Fault::OutOfMemory;
-            Err(refusal(alloc, disk, entries, chains, snapshots, refused))
+            Err(refusal(disk, entries, chains, snapshots, refused))
         }
     }
 }
@@ -128,7 +128,6 @@ fn restore_base<D: Disk>(
 
 /// What is told where the tables are refused with a fault that isn't the device's: a broken form comes before it.
 fn refusal<D: Disk>(
-    alloc: Global,
     disk: &mut D,
     entries: &[TableEntry],
     chains: &mut Commands,
@@ -151,7 +150,7 @@ fn refusal<D: Disk>(
     ensures works { D.Works disk.new → D.Works disk.old }
     ensures same_len { D.file_len disk.new ≡ D.file_len disk.old }
 {
-    match tell_form(alloc, disk, entries, chains, snapshots) {
+    match tell_form(disk, entries, chains, snapshots) {
         Ok(true) => refused,
         Ok(false) => Fault::Damaged(Damage::Form),
         Err(fault) => fault,
@@ -160,7 +159,6 @@ fn refusal<D: Disk>(
 
 /// Whether the kept words are those of lines, and each snapshot is a game that has played as many commands as it tells.
 fn tell_form<D: Disk>(
-    alloc: Global,
     disk: &mut D,
     entries: &[TableEntry],
     chains: &mut Commands,
@@ -188,6 +186,6 @@ fn tell_form<D: Disk>(
     if !told {
         return Ok(false);
     }
-    let games = tell_games(alloc, snapshots)?;
+    let games = tell_games(snapshots)?;
     Ok(games)
 }

@@ -14,9 +14,8 @@ use crate::recovery::base::recover_base;
 use crate::recovery::plays::Restored;
 use crate::recovery::records::replay_halves;
 use crate::recovery::shown::Snapshots;
-use crate::recovery::standing::standing_snapshots;
 use crate::recovery::texts::kit_pages;
-use rr_checkpoint::plan::{KitPages, StandingSnapshot, Transcript};
+use rr_checkpoint::plan::{KitPages, Transcript};
 use rr_disk::Disk;
 use rr_log::opening::Opened;
 use rr_pages::Damage;
@@ -31,8 +30,6 @@ pub struct Recovered {
     pub tables: Tables,
     /// Where the root holds the texts of the kit.
     pub kit: KitPages,
-    /// Where it holds its snapshots, in the directory's order.
-    pub standing: Vec<StandingSnapshot>,
     /// The tables from before the records of the half that the root doesn't name, where that has records: a checkpoint
     /// was begun there, and these are what it is to be made of anew.
     pub base: Option<Transcript>,
@@ -110,11 +107,9 @@ pub fn recover<D: Disk, R: Rules>(
         return Err(Fault::Damaged(Damage::Records));
     }
     let kit = kit_pages(alloc, &opened.dir.kit, &opened.texts)?;
-    let standing = standing_snapshots(alloc, &opened.dir.snapshots, &opened.snapshots)?;
     Ok(Recovered {
         tables,
         kit,
-        standing,
         base: replayed.value,
         replayed: plays.saturating_add(replayed.plays),
     })

@@ -1,41 +1,43 @@
 //! The snapshots that were read of a file: games that the first commands of its tables make.
-ghost use Rattle.std.specs.Prelude.{◌≡◌, ◌≢◌, ◌↔◌, ◌⊎◌, [], ◌∷◌, ◌++◌, All, IsTrue, IfOk, IfErr, MatchOption, OnOk, map};
+ghost use Rattle.std.specs.Prelude.{◌≡◌, ◌≢◌, ◌↔◌, ◌⊎◌, [], ◌∷◌, ◌++◌, All, IsTrue, IfOk, IfErr, MatchOption, OnOk};
 ghost use Rattle.std.specs.List.{AllZip};
 ghost use Rattle.std.specs.Option.{option_copied};
+ghost use Rattle.std.specs.Rc.{rc_slice_items};
+ghost use Rattle.rr_checkpoint.specs.Plan.Standing.{standing_chain, standing_chains};
 ghost use Rattle.rr_game.specs.History.GameBytes.{SpellsGame, SpellsOneGame};
-ghost use Rattle.rr_reading.specs.Chains.{held};
 ghost use Rattle.rr_store.specs.Recovery.Shown.{IsLast, KeepsShown, SpellsItsGame, SpellsTheGame, later, shown_at, shown_in};
 
 use crate::recovery::Fault;
+use rr_checkpoint::plan::StandingSnapshot;
 use rr_game::Game;
 use rr_game::history::{KeptCommands, Snapshot};
-use rr_pages::{Damage, ReadChain};
+use rr_pages::Damage;
 use rr_reading::dir::SnapshotEntry;
 use std::alloc::Global;
 
-/// What a directory says of its snapshots, and their chains, in the same order.
+/// What a directory says of its snapshots, and these with their chains, in the same order.
 #[derive(Clone, Copy)]
 pub(crate) struct Snapshots<'a> {
     pub(crate) entries: &'a [SnapshotEntry],
-    pub(crate) chains: &'a [ReadChain],
+    pub(crate) chains: &'a [StandingSnapshot],
 }
 
 /// Whether each snapshot is a game that has played as many commands as it tells.
-pub(crate) fn tell_games(alloc: Global, snapshots: Snapshots) -> Result<bool, Fault>
+pub(crate) fn tell_games(snapshots: Snapshots) -> Result<bool, Fault>
     ensures told { IfOk result (λ told. IsTrue told
-        ↔ All SpellsItsGame (shown_in snapshots.entry.entries.now (map held snapshots.entry.chains.now))) }
+        ↔ All SpellsItsGame (shown_in snapshots.entry.entries.now (standing_chains snapshots.entry.chains.now))) }
     ensures memory { IfErr result (λ fault. fault ≡ Fault.OutOfMemory) }
 {
-    tell_each(alloc, snapshots.entries, snapshots.chains)
+    tell_each(snapshots.entries, snapshots.chains)
 }
 
-fn tell_each(alloc: Global, entries: &[SnapshotEntry], chains: &[ReadChain]) -> Result<bool, Fault>
+fn tell_each(entries: &[SnapshotEntry], chains: &[StandingSnapshot]) -> Result<bool, Fault>
     ensures told { IfOk result (λ told. IsTrue told
-        ↔ All SpellsItsGame (shown_in entries.now (map held chains.now))) }
+        ↔ All SpellsItsGame (shown_in entries.now (standing_chains chains.now))) }
     ensures memory { IfErr result (λ fault. fault ≡ Fault.OutOfMemory) }
 {
     for (entry, chain) in entries.iter().zip(chains) {
-        let told = tells_game(alloc, entry, chain)?;
+        let told = tells_game(entry, chain)?;
         if !told {
             return Ok(false);
         }
@@ -43,26 +45,25 @@ fn tell_each(alloc: Global, entries: &[SnapshotEntry], chains: &[ReadChain]) -> 
     Ok(true)
 }
 
-fn tells_game(alloc: Global, entry: &SnapshotEntry, chain: &ReadChain) -> Result<bool, Fault>
-    ensures told { IfOk result (λ told. IsTrue told ↔ SpellsOneGame chain.now.bytes.items entry.now.kept) }
+fn tells_game(entry: &SnapshotEntry, chain: &StandingSnapshot) -> Result<bool, Fault>
+    ensures told { IfOk result (λ told. IsTrue told ↔ SpellsOneGame (rc_slice_items chain.now.bytes) entry.now.kept) }
     ensures memory { IfErr result (λ fault. fault ≡ Fault.OutOfMemory) }
 {
-    let snapshot = read_shown(alloc, entry, chain)?;
+    let snapshot = read_shown(entry, chain)?;
     Ok(snapshot.is_some())
 }
 
 /// The snapshot whose bytes a chain has, if they are a game that has played as many commands as the entry says.
 pub(crate) fn read_shown(
-    alloc: Global,
     entry: &SnapshotEntry,
-    chain: &ReadChain,
+    chain: &StandingSnapshot,
 ) -> Result<Option<Snapshot>, Fault>
     ensures value { IfOk result (λ found. MatchOption found
-        (SpellsOneGame chain.now.bytes.items entry.now.kept → ⊥)
-        (λ snapshot. SpellsGame chain.now.bytes.items entry.now.kept snapshot)) }
+        (SpellsOneGame (rc_slice_items chain.now.bytes) entry.now.kept → ⊥)
+        (λ snapshot. SpellsGame (rc_slice_items chain.now.bytes) entry.now.kept snapshot)) }
     ensures memory { IfErr result (λ fault. fault ≡ Fault.OutOfMemory) }
 {
-    match Snapshot::read(alloc, &chain.bytes) {
+    match Snapshot::read(&chain.bytes) {
         Ok(Some(snapshot)) => Ok(of_count(snapshot, entry.kept)),
         Ok(None) => Ok(None),
         Err(_) => Err(Fault::OutOfMemory),
@@ -85,41 +86,40 @@ pub(crate) fn snapshots_at(
     alloc: Global,
     index: usize,
     entries: &[SnapshotEntry],
-    chains: &[ReadChain],
+    chains: &[StandingSnapshot],
 ) -> Result<KeptCommands, Fault>
     ensures none { IfOk result (λ kept. kept.commands ≡ []) }
     ensures shown { IfOk result (λ kept.
-        AllZip SpellsTheGame (shown_at index entries.now (map held chains.now)) kept.snapshots) }
+        AllZip SpellsTheGame (shown_at index entries.now (standing_chains chains.now)) kept.snapshots) }
     ensures refused { IfErr result (λ fault. (fault ≡ Fault.OutOfMemory)
         ⊎ ((fault ≡ Fault.Damaged Damage.Kept)
-        × (All SpellsItsGame (shown_at index entries.now (map held chains.now)) → ⊥))) }
+        × (All SpellsItsGame (shown_at index entries.now (standing_chains chains.now)) → ⊥))) }
 {
     let mut kept = KeptCommands::new(alloc);
     for (entry, chain) in entries.iter().zip(chains) {
-        keep_shown(alloc, index, entry, chain, &mut kept)?;
+        keep_shown(index, entry, chain, &mut kept)?;
     }
     Ok(kept)
 }
 
 /// Keeps a snapshot, if it is one of the table at this place.
 fn keep_shown(
-    alloc: Global,
     index: usize,
     entry: &SnapshotEntry,
-    chain: &ReadChain,
+    chain: &StandingSnapshot,
     kept: &mut KeptCommands,
 ) -> Result<(), Fault>
-    ensures shown { OnOk result (KeepsShown (shown_at index (entry.now ∷ []) (held chain.now ∷ []))
+    ensures shown { OnOk result (KeepsShown (shown_at index (entry.now ∷ []) (standing_chain chain.now ∷ []))
         kept.old.snapshots kept.new.snapshots) }
     ensures refused { IfErr result (λ fault. (fault ≡ Fault.OutOfMemory)
         ⊎ ((fault ≡ Fault.Damaged Damage.Kept)
-        × (All SpellsItsGame (shown_at index (entry.now ∷ []) (held chain.now ∷ [])) → ⊥))) }
+        × (All SpellsItsGame (shown_at index (entry.now ∷ []) (standing_chain chain.now ∷ [])) → ⊥))) }
     ensures commands { kept.new.commands ≡ kept.old.commands }
 {
     if entry.table as usize != index {
         return Ok(());
     }
-    match read_shown(alloc, entry, chain)? {
+    match read_shown(entry, chain)? {
         Some(snapshot) => keep_snapshot(kept, snapshot),
         None => Err(Fault::Damaged(Damage::Kept)),
     }

@@ -7,7 +7,7 @@ use Rattle.rr_disk.specs.Disk.{DiskState}
 use Rattle.rr_pages.specs.ReachedPages.{marks_of}
 use Rattle.rr_reading.specs.declared.fault.Fault.{Fault}
 use Rattle.rr_reading.specs.Reading.{Refuses}
-use Rattle.rr_reading.specs.Chains.{held, all_held_in, AreOfForm}
+use Rattle.rr_reading.specs.Chains.{held, held_in, all_held_in, AreOfForm}
 use Rattle.rr_reading.specs.Held.{chains_held, chains_of, tables_in}
 use Rattle.rr_reading.proofs.FormLemmas.{four_first, refuses_form}
 use Rattle.rr_reading.proofs.Told.{told_later, read_later, table_told, all_held_there}
@@ -29,7 +29,7 @@ returns-in_err-chains-clause-refused g c =
     rw (p.1, p.2) (λ honest side taken.
     let first = c.in_err-chains.ensures.honest honest in
     told_later
-    (g.D.Disk.state c.args.disk.now).content side c.args.root.now (marks_of found.reached) (held found.chain) (directory_of found.dir) (c.in_ok-dir.ensures.found first side taken)
+    (g.D.Disk.state c.args.disk.now).content side c.args.root.now (marks_of found.reached) (held_in (g.D.Disk.state c.args.disk.now).content found.chain) (directory_of found.dir) (c.in_ok-dir.ensures.found first side taken)
     c.page_count-count.result c.page_count-count.ensures.same
     (g.D.Disk.state c.read_directory.new.disk).content (map head_of c.deref.result.now) (ap content (c.in_ok-dir.ensures.same_state first))
     (ap (λ (chains : List ChainRef). map head_of chains) c.deref.ensures.value ∙ c.in_ok-named.ensures.heads) _ (c.in_err-chains.ensures.broken honest))
@@ -61,14 +61,14 @@ returns-in_err-texts-clause-refused g c =
     let some : 4 ≤ length chains =
     omega (arith, c.in_ok-chains.ensures.each, ap (λ (cs : List ChainRef). length cs) c.deref.ensures.value, c.in_ok-named.ensures.each) in
     let four = four_first file chains some in
-    let read = read_later file side c.args.root.now (marks_of found.reached) (held found.chain) (directory_of found.dir) has
+    let read = read_later file side c.args.root.now (marks_of found.reached) (held_in file found.chain) (directory_of found.dir) has
     c.page_count-count.result c.page_count-count.ensures.same
     file_named (map head_of c.deref.result.now) same
     (ap (λ (cs : List ChainRef). map head_of cs) c.deref.ensures.value ∙ c.in_ok-named.ensures.heads)
     (marks_of c.follow_chains.new.reached) (all_held_in file_named chains) (all_held_in file (drop 4 chains)) four.texts
     (ap (λ (f : List ℕ). all_held_in f chains) same ∙ four.halves) (c.in_ok-chains.ensures.whole second) in
     refuses_form file _ (AreOfForm found.dir.tables.items (all_held_in file_found (drop 4 chains))) (c.in_err-texts.ensures.refused honest)
-    (λ none. table_told file side c.args.root.now (marks_of found.reached) (held found.chain) (directory_of found.dir) has
+    (λ none. table_told file side c.args.root.now (marks_of found.reached) (held_in file found.chain) (directory_of found.dir) has
     c.page_count-count.result c.page_count-count.ensures.same
     (marks_of c.follow_chains.new.reached) four.texts (all_held_in file (drop 4 chains)) read
     (λ forms. none (subst (λ (f : List ℕ). AreOfForm found.dir.tables.items (all_held_in f (drop 4 chains))) (sym same_found) forms)))
@@ -91,12 +91,12 @@ returns-clause-found g c = λ honest side taken.
     let snapshots = map held named.snapshots.items in
     let halves : all_held_in file_named chains ≡ chains_of (chains_held named.texts) (tables_in file named.tables ++ snapshots) =
     ap (λ (f : List ℕ). all_held_in f chains) (same ∙ sym same_found) ∙ c.in_ok-texts.ensures.found honest ∙ ap (λ (f : List ℕ). chains_of (chains_held named.texts) (tables_in f named.tables ++ snapshots)) same_found in
-    let read = read_later file side c.args.root.now (marks_of found.reached) (held found.chain) (directory_of found.dir) has
+    let read = read_later file side c.args.root.now (marks_of found.reached) (held_in file found.chain) (directory_of found.dir) has
     c.page_count-count.result c.page_count-count.ensures.same
     file_named (map head_of c.deref.result.now) same
     (ap (λ (cs : List ChainRef). map head_of cs) c.deref.ensures.value ∙ c.in_ok-named.ensures.heads)
     (marks_of c.follow_chains.new.reached) (all_held_in file_named chains) (tables_in file named.tables ++ snapshots) (chains_held named.texts) halves (c.in_ok-chains.ensures.whole second) in
-    all_held_there file side c.args.root.now (marks_of found.reached) (held found.chain) (directory_of found.dir) has
+    all_held_there file side c.args.root.now (marks_of found.reached) (held_in file found.chain) (directory_of found.dir) has
     c.page_count-count.result c.page_count-count.ensures.same
     (marks_of c.follow_chains.new.reached) (chains_held named.texts) (tables_in file named.tables) snapshots read
     (subst (λ (f : List ℕ). length (tables_in f named.tables) ≡ length found.dir.tables.items) same_found (c.in_ok-texts.ensures.counted honest))

@@ -1,4 +1,4 @@
-use Rattle.std.proofs.Common.{sym, subst}
+use Rattle.std.proofs.Common.{refl, sym, subst}
 use Rattle.rr_kit.specs.Kits.{KitTexts, SpellsKit}
 use Rattle.rr_log.specs.Carrying.{Carries}
 use Rattle.rr_log.specs.Opening.Opened.{held_by}
@@ -22,5 +22,5 @@ returns-clause-carries g c = λ texts found resting place read.
       played = r.played;
       file = subst (λ (d : g.row.D.Denot). Carries table_rules c.new-file.result (g.D.Disk.state d) (in_words texts (world_of recovered.tables))) (sym c.new-file.ensures.disk)
           (c.new-file.ensures.carries (g.D.Disk.state c.args.disk) (in_words texts (world_of recovered.tables)) read.carries resting
-          (holds_kit has is.texts recovered r texts layout read.is_read is.on_pages) (stand_in has is.texts recovered r texts layout read.is_read recovered.standing.items is.standing) (is_base has is.texts recovered r texts layout read.is_read _ place.begun));
+          (holds_kit has is.texts recovered r texts layout read.is_read is.on_pages) (stand_in has is.texts recovered r texts layout read.is_read c.args.found.opened.snapshots.items refl) (is_base has is.texts recovered r texts layout read.is_read _ place.begun));
     }

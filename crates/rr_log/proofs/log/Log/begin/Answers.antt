@@ -16,6 +16,7 @@ use Rattle.rr_reading.specs.Worlds.Spelling.{worlds}
 use Rattle.rr_pages.specs.FreePages.{coming_of, present_of}
 use Rattle.rr_checkpoint.proofs.Growing.{grows_by_pages}
 use Rattle.rr_log.proofs.Growing.{grows_from, stays_long}
+use Rattle.rr_log.proofs.Roots.{one_root, roots_begun, roots_still, same_root}
 use Rattle.rr_log.proofs.log.Log.begin.Goals as goal
 
 pub returns-in_err-plan-clause-stops : goal.returns-in_err-plan-clause-stops
@@ -29,7 +30,7 @@ pub returns-in_err-plan-clause-carries : goal.returns-in_err-plan-clause-carries
 returns-in_err-plan-clause-carries g c = λ honest whole world lent carries.
     let log = c.args.self.now in
     subst (λ (disk : g.row.D.Denot). Carries g.R.Rules.rules c.plan.new.self (g.D.Disk.state disk) world) (sym c.plan.ensures.unchanged.disk)
-    (c.plan.ensures.carries (g.D.Disk.state log.disk) world carries)
+    (c.plan.ensures.carries (g.D.Disk.state log.disk) world carries).0
 
 pub returns-in-Ok-clause-stops : goal.returns-in-Ok-clause-stops
 returns-in-Ok-clause-stops g c = λ honest world carries.
@@ -38,7 +39,7 @@ returns-in-Ok-clause-stops g c = λ honest world carries.
     let planned = c.plan.new.self in
     let new = c.begin.new.disk in
     let there = subst (λ (disk : g.row.D.Denot). Carries g.R.Rules.rules planned (g.D.Disk.state disk) world) (sym c.plan.ensures.unchanged.disk)
-    (c.plan.ensures.carries (g.D.Disk.state log.disk) world carries) in
+    (c.plan.ensures.carries (g.D.Disk.state log.disk) world carries).0 in
     let starts =
     starts_with codec planned.writer (g.D.Disk.state planned.disk) world c.in_ok-plan.field-0.plan (place_of planned).begun there.carried
     (λ found.
@@ -55,7 +56,7 @@ returns-in-Err-clause-stops g c = λ honest world carries.
     let planned = c.plan.new.self in
     let new = c.begin.new.disk in
     let there = subst (λ (disk : g.row.D.Denot). Carries g.R.Rules.rules planned (g.D.Disk.state disk) world) (sym c.plan.ensures.unchanged.disk)
-    (c.plan.ensures.carries (g.D.Disk.state log.disk) world carries) in
+    (c.plan.ensures.carries (g.D.Disk.state log.disk) world carries).0 in
     let starts =
     starts_with codec planned.writer (g.D.Disk.state planned.disk) world c.in_ok-plan.field-0.plan (place_of planned).begun there.carried
     (λ found.
@@ -91,18 +92,36 @@ returns-in-Ok-clause-starts g c = λ honest world lent carries.
       },
     )
 
-pub returns-in-Ok-clause-holds : goal.returns-in-Ok-clause-holds
-returns-in-Ok-clause-holds g c = λ honest world lent carries.
+pub returns-in_err-plan-clause-roots : goal.returns-in_err-plan-clause-roots
+returns-in_err-plan-clause-roots g c = λ whole honest world lent carries.
     let log = c.args.self.now in
+    let rules = g.R.Rules.rules in
+    let planned = subst (λ (disk : g.row.D.Denot). (then : Carries rules c.plan.new.self (g.D.Disk.state disk) world) × (then.carried.layout ≡ carries.carried.layout)) (sym c.plan.ensures.unchanged.disk)
+    (c.plan.ensures.carries (g.D.Disk.state log.disk) world carries) in (
+      planned.0,
+      roots_still {new = c.plan.new.self} c.plan.ensures.unchanged.left (one_root carries.carried.layout planned.0.carried.layout planned.1) (λ some. absurd (omega (arith, some, c.requires.resting))),
+    )
+
+pub returns-in-Ok-clause-roots : goal.returns-in-Ok-clause-roots
+returns-in-Ok-clause-roots g c = λ whole honest world lent carries.
+    let log = c.args.self.now in
+    let rules = g.R.Rules.rules in
+    let codec = worlds rules in
     let due = (tables_due log.base (lent_of g.T.TablesInWords c.args.tables.now)).snapshots in
-    let planned = subst (λ (disk : g.row.D.Denot). IsPlanned g.R.Rules.rules c.plan.new.self c.in_ok-plan.field-0 (g.D.Disk.state disk) world carries.carried.layout due) (sym c.plan.ensures.unchanged.disk)
+    let planned = subst (λ (disk : g.row.D.Denot). IsPlanned rules c.plan.new.self c.in_ok-plan.field-0 (g.D.Disk.state disk) world carries.carried.layout due) (sym c.plan.ensures.unchanged.disk)
     (c.in_ok-plan.ensures.plan (g.D.Disk.state log.disk) world lent carries) in
     let left = some_behind (place_of c.plan.new.self).begun (length c.in_ok-plan.field-0.plan.fresh.items) (file.ticks_left_of c.begin.new.self) c.in_ok-plan.ensures.some c.in-Ok.ensures.left in
     let begun = c.in-Ok.ensures.carries honest world planned.carries.carried planned.may in (
-      begun_carries g.R.Rules.rules c.plan.new.self (g.D.Disk.state c.plan.new.self.disk) world planned.carries c.begin.new.disk c.begin.new.self (g.D.Disk.state c.begin.new.disk)
+      begun_carries rules c.plan.new.self (g.D.Disk.state c.plan.new.self.disk) world planned.carries c.begin.new.disk c.begin.new.self (g.D.Disk.state c.begin.new.disk)
           c.in_ok-plan.field-0.standing planned.may.holding planned.standing (omega (arith, left)) begun,
-      subst (λ (h : Holding). HoldsWorld carries.carried.layout.middle due h) (sym begun.1.coming) planned.all,
+      roots_begun c.requires.resting (omega (arith, left))
+          (same_root rules log.writer c.begin.new.self (g.D.Disk.state log.disk) (g.D.Disk.state c.begin.new.disk) world world carries.carried begun.0 (begun.1.root ∙ ap (λ (l : Layout codec). l.root) planned.same)
+          (begun.1.present ∙ ap (λ (l : Layout codec). l.holding) planned.same))
+          (begun.1.middle ∙ ap (λ (l : Layout codec). l.middle) planned.same) (subst (λ (h : Holding). HoldsWorld carries.carried.layout.middle due h) (sym begun.1.coming) planned.all),
     )
+
+pub returns-in-Err-clause-roots : goal.returns-in-Err-clause-roots
+returns-in-Err-clause-roots g c = λ whole honest world lent carries. absurd (cc whole)
 
 pub returns-in-Err-clause-device : goal.returns-in-Err-clause-device
 returns-in-Err-clause-device g c = λ honest world carries.
@@ -110,7 +129,7 @@ returns-in-Err-clause-device g c = λ honest world carries.
     let codec = worlds g.R.Rules.rules in
     let planned = c.plan.new.self in
     let there = subst (λ (disk : g.row.D.Denot). Carries g.R.Rules.rules planned (g.D.Disk.state disk) world) (sym c.plan.ensures.unchanged.disk)
-    (c.plan.ensures.carries (g.D.Disk.state log.disk) world carries) in
+    (c.plan.ensures.carries (g.D.Disk.state log.disk) world carries).0 in
     let starts =
     starts_with codec planned.writer (g.D.Disk.state planned.disk) world c.in_ok-plan.field-0.plan (place_of planned).begun there.carried
     (λ found.
@@ -153,7 +172,7 @@ returns-in-Ok-clause-grows g c = λ honest world carries.
     let codec = worlds g.R.Rules.rules in
     let planned = c.plan.new.self in
     let there = subst (λ (disk : g.row.D.Denot). Carries g.R.Rules.rules planned (g.D.Disk.state disk) world) (sym c.plan.ensures.unchanged.disk)
-    (c.plan.ensures.carries (g.D.Disk.state log.disk) world carries) in
+    (c.plan.ensures.carries (g.D.Disk.state log.disk) world carries).0 in
     let starts =
     starts_with codec planned.writer (g.D.Disk.state planned.disk) world c.in_ok-plan.field-0.plan (place_of planned).begun there.carried
     (λ found.
@@ -181,7 +200,7 @@ returns-in-Err-clause-grows g c = λ honest world carries.
     let codec = worlds g.R.Rules.rules in
     let planned = c.plan.new.self in
     let there = subst (λ (disk : g.row.D.Denot). Carries g.R.Rules.rules planned (g.D.Disk.state disk) world) (sym c.plan.ensures.unchanged.disk)
-    (c.plan.ensures.carries (g.D.Disk.state log.disk) world carries) in
+    (c.plan.ensures.carries (g.D.Disk.state log.disk) world carries).0 in
     let starts =
     starts_with codec planned.writer (g.D.Disk.state planned.disk) world c.in_ok-plan.field-0.plan (place_of planned).begun there.carried
     (λ found.

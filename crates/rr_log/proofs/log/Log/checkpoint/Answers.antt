@@ -8,14 +8,15 @@ use Rattle.rr_log.specs.Calls.{tables_due}
 use Rattle.rr_log.specs.Carrying.{HoldsWorld}
 use Rattle.rr_log.specs.Lent.{lent_of}
 use Rattle.rr_log.specs.Fault.{IsWant}
-use Rattle.rr_log.proofs.Carried.{device_more, device_so, kept_now, newer_begun, newer_under_way, next_begun, next_under_way, ok_so, renews_next, root_next, takes_root}
+use Rattle.rr_log.proofs.Carried.{device_more, device_so, kept_now, newer_begun, newer_under_way, never_whole, next_begun, next_under_way, ok_so, only_breaks, renews_next, root_next, takes_root}
 use Rattle.rr_reading.specs.Worlds.Spelling.{worlds}
 use Rattle.std.proofs.lemmas.Result.{err_from_is_err_and}
 use Rattle.rr_pages.specs.FreePages.{coming_of, present_of}
 use Rattle.rr_checkpoint.proofs.Growing.{grows_on}
 use Rattle.rr_checkpoint.proofs.Working.{on_err}
-use Rattle.rr_log.specs.Log.{free_of}
+use Rattle.rr_log.specs.Log.{free_of, is_broken}
 use Rattle.rr_log.proofs.Growing.{err_so, grows_told}
+use Rattle.rr_log.proofs.Roots.{no_step}
 use Rattle.rr_log.proofs.log.Log.checkpoint.Goals as goal
 
 pub returns-then-self-clause-stops : goal.returns-then-self-clause-stops
@@ -97,9 +98,45 @@ pub returns-clause-holds : goal.returns-clause-holds
 returns-clause-holds g c = λ none honest world lent carries.
     let log = c.args.self.now in
     let due = (tables_due log.base (lent_of g.T.TablesInWords c.args.tables.now)).snapshots in
-    let begun = c.in_ok-begin.ensures.holds (c.in_ok-finish.ensures.honest honest) world lent carries in
-    let then = c.in_ok-finish.ensures.takes honest world begun.0 in
-    (then.0, subst (λ (h : Holding). HoldsWorld carries.carried.layout.middle due h) (sym then.1) begun.1)
+    let begun = c.in_ok-begin.ensures.roots c.in_ok-begin.ensures.broken (c.in_ok-finish.ensures.honest honest) world lent carries in
+    let then = c.in_ok-finish.ensures.takes_root honest world begun.0 in
+    (then.0, subst (λ (h : Holding). HoldsWorld carries.carried.layout.middle due h) (sym then.1.holding) (begun.1.begins none (omega (arith, c.in_ok-begin.ensures.some))).1)
+
+pub returns-then-ticks_left-gt0-clause-takes_root : goal.returns-then-ticks_left-gt0-clause-takes_root
+returns-then-ticks_left-gt0-clause-takes_root g c = ok_so c.finish.result _ _ (λ takes honest world lent carries.
+    let then = takes honest world carries in
+    (then.0, record { under_way = λ some. then.1; whole = λ none. absurd (omega (arith, none, c.ticks_left.ensures, c.if-ticks_left-gt0.true)) }))
+    c.finish.ensures.takes_root
+
+pub returns-clause-takes_root : goal.returns-clause-takes_root
+returns-clause-takes_root g c = λ honest world lent carries.
+    let log = c.args.self.now in
+    let due = (tables_due log.base (lent_of g.T.TablesInWords c.args.tables.now)).snapshots in
+    let begun = c.in_ok-begin.ensures.roots c.in_ok-begin.ensures.broken (c.in_ok-finish.ensures.honest honest) world lent carries in
+    let then = c.in_ok-finish.ensures.takes_root honest world begun.0 in (
+      then.0,
+      record {
+        under_way = λ some. absurd (omega (arith, some, c.ticks_left.ensures, c.if-ticks_left-gt0.false));
+        whole = λ none.
+            let starts = begun.1.begins none (omega (arith, c.in_ok-begin.ensures.some)) in
+            (then.1.base ∙ starts.0, subst (λ (h : Holding). HoldsWorld carries.carried.layout.middle due h) (sym then.1.holding) starts.1);
+      },
+    )
+
+pub returns-then-self-clause-roots : goal.returns-then-self-clause-roots
+returns-then-self-clause-roots g c = λ whole honest world lent carries. (carries, no_step)
+
+pub returns-then-ticks_left-gt0-clause-roots : goal.returns-then-ticks_left-gt0-clause-roots
+returns-then-ticks_left-gt0-clause-roots g c =
+    err_so c.finish.result _ _ (λ never whole honest world lent carries. absurd (never whole)) (never_whole c.finish.result (is_broken c.finish.new.self) c.finish.ensures.err c.finish.ensures.broken)
+
+pub returns-in_err-begin-clause-roots : goal.returns-in_err-begin-clause-roots
+returns-in_err-begin-clause-roots g c = on_err c.from_residual.result (λ whole honest world lent carries. c.in_err-begin.ensures.roots whole honest world lent carries)
+
+pub returns-in_err-finish-clause-roots : goal.returns-in_err-finish-clause-roots
+returns-in_err-finish-clause-roots g c =
+    on_err c.from_residual-in_err-finish.result
+    (λ whole honest world lent carries. absurd (only_breaks c.in_err-finish.ensures.err (sym c.in_err-finish.ensures.broken ∙ whole)))
 
 pub returns-then-ticks_left-gt0-clause-device : goal.returns-then-ticks_left-gt0-clause-device
 returns-then-ticks_left-gt0-clause-device g c =

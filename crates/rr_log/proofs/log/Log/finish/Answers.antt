@@ -19,14 +19,14 @@ returns-in-Ok-clause-renewed g c = λ honest world carries.
       (then.1 some).renewed,
     )
 
-pub returns-in-Ok-clause-takes : goal.returns-in-Ok-clause-takes
-returns-in-Ok-clause-takes g c = λ honest world carries.
+pub returns-in-Ok-clause-takes_root : goal.returns-in-Ok-clause-takes_root
+returns-in-Ok-clause-takes_root g c = λ honest world carries.
     let log = c.args.self.now in
     let some = c.requires.under_way in
     let then = c.in-Ok.ensures.carries honest world carries.carried in (
       done_carries g.R.Rules.rules log (g.D.Disk.state log.disk) world carries c.finish.new.disk c.finish.new.self (g.D.Disk.state c.finish.new.disk) some c.in-Ok.ensures.left (c.in-Ok.ensures.rests some)
           (then.0, (then.1 some).present),
-      (then.1 some).present,
+      record { base = (then.1 some).renewed.base; holding = (then.1 some).present },
     )
 
 pub returns-in-Ok-clause-renews : goal.returns-in-Ok-clause-renews

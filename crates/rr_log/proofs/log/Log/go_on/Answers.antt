@@ -3,6 +3,7 @@ use Rattle.rr_log.proofs.Carried.{last_carries, ticked_carries, ticked_root}
 use Rattle.rr_checkpoint.specs.Writer as file
 use Rattle.rr_checkpoint.proofs.Growing.{freed_last, grows_by_pages, ticked_grows}
 use Rattle.rr_log.proofs.Growing.{any_last, last_few, not_last, still_or_last}
+use Rattle.rr_log.proofs.Roots.{ticked_roots}
 use Rattle.rr_pages.specs.FreePages.{present_of}
 use Rattle.rr_log.specs.Log.{free_of, ticks_left}
 use Rattle.rr_log.proofs.log.Log.go_on.Goals as goal
@@ -18,6 +19,15 @@ returns-in-Ok-clause-renewed g c = λ whole one honest world carries.
     let log = c.args.self.now in
     last_carries g.R.Rules.rules log (g.D.Disk.state log.disk) world carries c.tick.new.disk c.tick.new.self (g.D.Disk.state c.tick.new.disk) c.in-Ok.tick one
     c.in-Ok.ensures.left c.in-Ok.ensures.rests (c.in-Ok.ensures.carries honest world carries.carried)
+
+pub returns-in-Ok-clause-roots : goal.returns-in-Ok-clause-roots
+returns-in-Ok-clause-roots g c = λ whole honest due world carries.
+    let log = c.args.self.now in
+    ticked_roots g.R.Rules.rules log (g.D.Disk.state log.disk) world carries c.tick.new.disk c.tick.new.self (g.D.Disk.state c.tick.new.disk) due c.in-Ok.tick c.requires.under_way
+    c.in-Ok.ensures.left c.in-Ok.ensures.rests (c.in-Ok.ensures.carries honest world carries.carried)
+
+pub returns-in-Err-clause-roots : goal.returns-in-Err-clause-roots
+returns-in-Err-clause-roots g c = λ whole honest due world carries. absurd (cc whole)
 
 pub returns-in-Ok-clause-root : goal.returns-in-Ok-clause-root
 returns-in-Ok-clause-root g c = λ honest world carries.

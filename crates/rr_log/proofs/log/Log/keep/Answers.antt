@@ -12,6 +12,9 @@ use Rattle.rr_reading.specs.Worlds.Spelling.{worlds}
 use Rattle.rr_reading.specs.Worlds.World.{World}
 use Rattle.rr_log.specs.Log.{place_of}
 use Rattle.rr_log.proofs.Growing.{kept_grows, kept_pages, pages_still, stays_long}
+use Rattle.rr_log.proofs.Roots.{no_step, then_record}
+use Rattle.rr_log.specs.Calls.{tables_due}
+use Rattle.rr_log.specs.Roots.{KeepsRoots}
 use Rattle.rr_log.proofs.log.Log.keep.Goals as goal
 
 pub returns-then-self-clause-stops : goal.returns-then-self-clause-stops
@@ -110,6 +113,34 @@ returns-clause-renews g c = λ whole one none honest old new takes same carries.
     let appended = c.in_ok-append.ensures.appends honest old new takes same renewed.0 in
     renews_now g.R.Rules.rules c.append.new.self (g.D.Disk.state c.append.new.self.disk) new appended.0 (with_line carries.carried.layout line new)
     (renewed_line codec carries.carried.layout renewed.0.carried.layout appended.0.carried.layout line new appended.1 renewed.1)
+
+pub returns-then-self-clause-roots : goal.returns-then-self-clause-roots
+returns-then-self-clause-roots g c = λ whole honest old new takes same lent carries. (carries, no_step)
+
+pub returns-then-is_past_last-clause-roots : goal.returns-then-is_past_last-clause-roots
+returns-then-is_past_last-clause-roots g c = λ whole honest old new takes same lent carries. (carries, no_step)
+
+pub returns-in_err-full-clause-roots : goal.returns-in_err-full-clause-roots
+returns-in_err-full-clause-roots g c = λ whole honest old new takes same lent carries. absurd (only_breaks c.in_err-full.ensures.err (sym c.in_err-full.ensures.broken ∙ whole))
+
+pub returns-in_err-append-clause-roots : goal.returns-in_err-append-clause-roots
+returns-in_err-append-clause-roots g c = λ whole honest old new takes same lent carries.
+    let rules = g.R.Rules.rules in
+    let log = c.args.self.now in
+    let due = (tables_due log.base (lent_of g.T.TablesInWords c.args.tables.now)).snapshots in
+    let told = err_from_is_err_and c.from_residual-in_err-append.result c.from_residual-in_err-append.ensures.1 in
+    let ticked = c.in_ok-full.ensures.roots c.in_ok-full.ensures.broken (c.in_err-append.ensures.honest honest) old lent carries in
+    let refused = c.in_err-append.ensures.roots whole honest due old new takes same ticked.0 in
+    subst (λ (world : World). (then : Carries rules c.append.new.self (g.D.Disk.state c.append.new.self.disk) world)
+    × KeepsRoots log c.append.new.self due carries.carried.layout carries.carried.holding then.carried.layout then.carried.holding)
+    (sym (told_behind c.from_residual-in_err-append.result told.0 old new told.1)) (refused.0, then_record ticked.1 refused.1 c.in_err-append.ensures.left)
+
+pub returns-clause-roots : goal.returns-clause-roots
+returns-clause-roots g c = λ whole honest old new takes same lent carries.
+    let due = (tables_due c.args.self.now.base (lent_of g.T.TablesInWords c.args.tables.now)).snapshots in
+    let ticked = c.in_ok-full.ensures.roots c.in_ok-full.ensures.broken (c.in_ok-append.ensures.honest honest) old lent carries in
+    let kept = c.in_ok-append.ensures.roots whole honest due old new takes same ticked.0 in
+    (kept.0, then_record ticked.1 kept.1 c.in_ok-append.ensures.left)
 
 pub returns-in_err-append-clause-tick_writes : goal.returns-in_err-append-clause-tick_writes
 returns-in_err-append-clause-tick_writes g c = λ half.

@@ -4,20 +4,26 @@ use Rattle.rr_checkpoint.specs.Plan.Transcript.{snapshots_of}
 use Rattle.rr_log.specs.Calls.{tables_due}
 use Rattle.rr_log.specs.Lent.{Lent, lent_in, lent_of}
 use Rattle.rr_log.specs.Log.{place_of}
-use Rattle.rr_log.proofs.Carried.{of_layout, lent_are, base_are, never_full, no_base, is_planned, taken_carries}
+use Rattle.rr_log.proofs.Carried.{of_layout, lent_are, base_are, never_full, no_base, is_planned, taken_on}
 use Rattle.rr_log.proofs.log.Log.plan.Goals as goal
 
+pub returns-then-has_last_number-clause-carries : goal.returns-then-has_last_number-clause-carries
+returns-then-has_last_number-clause-carries g c = λ state world carries. (carries, refl)
+
+pub returns-in_err-transcript-in-None-clause-carries : goal.returns-in_err-transcript-in-None-clause-carries
+returns-in_err-transcript-in-None-clause-carries g c = λ state world carries. (carries, refl)
+
 pub returns-in_err-planned-in-Some-clause-carries : goal.returns-in_err-planned-in-Some-clause-carries
-returns-in_err-planned-in-Some-clause-carries g c = λ state world carries. taken_carries g.R.Rules.rules c.args.self.now state world carries c.requires c.plan_of.new.writer c.plan_of.ensures.only
+returns-in_err-planned-in-Some-clause-carries g c = λ state world carries. taken_on g.R.Rules.rules c.args.self.now state world carries c.requires c.plan_of.new.writer c.plan_of.ensures.only
 
 pub returns-in_err-planned-in-None-clause-carries : goal.returns-in_err-planned-in-None-clause-carries
-returns-in_err-planned-in-None-clause-carries g c = λ state world carries. taken_carries g.R.Rules.rules c.args.self.now state world carries c.requires c.plan_of-in-None.new.writer c.plan_of-in-None.ensures.only
+returns-in_err-planned-in-None-clause-carries g c = λ state world carries. taken_on g.R.Rules.rules c.args.self.now state world carries c.requires c.plan_of-in-None.new.writer c.plan_of-in-None.ensures.only
 
 pub returns-in_ok-planned-in-Some-clause-carries : goal.returns-in_ok-planned-in-Some-clause-carries
-returns-in_ok-planned-in-Some-clause-carries g c = λ state world carries. taken_carries g.R.Rules.rules c.args.self.now state world carries c.requires c.plan_of.new.writer c.plan_of.ensures.only
+returns-in_ok-planned-in-Some-clause-carries g c = λ state world carries. taken_on g.R.Rules.rules c.args.self.now state world carries c.requires c.plan_of.new.writer c.plan_of.ensures.only
 
 pub returns-in_ok-planned-in-None-clause-carries : goal.returns-in_ok-planned-in-None-clause-carries
-returns-in_ok-planned-in-None-clause-carries g c = λ state world carries. taken_carries g.R.Rules.rules c.args.self.now state world carries c.requires c.plan_of-in-None.new.writer c.plan_of-in-None.ensures.only
+returns-in_ok-planned-in-None-clause-carries g c = λ state world carries. taken_on g.R.Rules.rules c.args.self.now state world carries c.requires c.plan_of-in-None.new.writer c.plan_of-in-None.ensures.only
 
 pub returns-in_ok-planned-in-Some-clause-plan : goal.returns-in_ok-planned-in-Some-clause-plan
 returns-in_ok-planned-in-Some-clause-plan g c = λ state world lent carries.

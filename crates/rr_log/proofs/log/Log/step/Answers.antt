@@ -3,6 +3,9 @@ use Rattle.rr_disk.proofs.MomentLemmas.{started}
 use Rattle.rr_images.specs.Layout.{Keeps}
 use Rattle.rr_log.proofs.Carried.{is_want, kept_now}
 use Rattle.rr_log.proofs.Growing.{pages_resting, stays_long}
+use Rattle.rr_log.proofs.Roots.{no_step}
+use Rattle.rr_log.specs.Calls.{tables_due}
+use Rattle.rr_log.specs.Lent.{lent_of}
 use Rattle.rr_reading.specs.Worlds.Spelling.{worlds}
 use Rattle.rr_log.proofs.log.Log.step.Goals as goal
 
@@ -22,6 +25,13 @@ returns-in_err-begin-clause-renewed g c = λ whole one honest world carries. abs
 
 pub returns-clause-renewed : goal.returns-clause-renewed
 returns-clause-renewed g c = λ whole one honest world carries. absurd (omega (arith, one, c.ticks_left.ensures, c.if-ticks_left-gt0.false))
+
+pub returns-then-ticks_left-gt0-clause-roots : goal.returns-then-ticks_left-gt0-clause-roots
+returns-then-ticks_left-gt0-clause-roots g c = λ whole honest world lent carries.
+    c.go_on.ensures.roots whole honest (tables_due c.args.self.now.base (lent_of g.T.TablesInWords c.args.tables.now)).snapshots world carries
+
+pub returns-then-not-is_due-clause-roots : goal.returns-then-not-is_due-clause-roots
+returns-then-not-is_due-clause-roots g c = λ whole honest world lent carries. (carries, no_step)
 
 pub returns-then-ticks_left-gt0-clause-nothing : goal.returns-then-ticks_left-gt0-clause-nothing
 returns-then-ticks_left-gt0-clause-nothing g c = λ whole none left. absurd (omega (arith, none, c.ticks_left.ensures, c.if-ticks_left-gt0.true))

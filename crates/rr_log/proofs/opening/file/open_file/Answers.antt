@@ -1,13 +1,19 @@
-use Rattle.std.proofs.Common.{◌≡◌, ℕ, List, [], Err, sym, ◌∙◌, ap, subst}
+use Rattle.std.proofs.Common.{◌≡◌, ℕ, List, Err, length, sym, ◌∙◌, ap, subst}
+use Rattle.std.proofs.lemmas.List.{length-map}
 use Rattle.std.proofs.lemmas.Result.{err_from_is_err_and}
 use Rattle.rr_checkpoint.specs.Writer.{place_of}
 use Rattle.rr_disk.specs.Disk.{DiskState}
 use Rattle.rr_images.specs.Layout.{Stands}
+use Rattle.rr_log.specs.declared.opening.opened.Opened.{Opened}
 use Rattle.rr_log.specs.Opening.Opened.{held_by}
 use Rattle.rr_log.specs.Opening.Place.{GoesBehind}
 use Rattle.rr_log.proofs.OpeningLemmas.Layouts.{carries_read}
 use Rattle.rr_log.proofs.OpeningLemmas.Refusals.{device_refuses, memory_refuses, stands_no_verdict}
+use Rattle.rr_log.proofs.OpeningLemmas.Standings.{as_many}
 use Rattle.rr_log.proofs.OpeningLemmas.Syncs.{synced_left, read_left}
+use Rattle.rr_pages.specs.declared.choosing.Taken.{Taken}
+use Rattle.rr_reading.specs.declared.contents.Contents.{Contents}
+use Rattle.rr_reading.specs.Chains.{held}
 use Rattle.rr_reading.specs.Held.{Held, GoesOn, held_of}
 use Rattle.rr_reading.specs.Reading.{Holds}
 use Rattle.rr_log.proofs.opening.file.open_file.Goals as goal
@@ -15,6 +21,11 @@ use Rattle.rr_pages.specs.Journal.Layout.{other_half}
 
 content : DiskState → List ℕ
 content state = state.content
+
+-- it gives what was read of a file that holds that
+opened_same : {C : Type 0} (opened : Opened C) (contents : Contents) → (length contents.dir.snapshots.items ≡ length contents.snapshots.items → (file : List ℕ) → held_by file opened ≡ held_of file contents)
+    → (file : List ℕ) → Holds file (held_of file contents) → held_by file opened ≡ held_of file contents
+opened_same opened contents same file holds = same (as_many file (held_of file contents) holds ∙ length-map contents.snapshots.items held) file
 
 pub returns-in_err-sync-clause-stops : goal.returns-in_err-sync-clause-stops
 returns-in_err-sync-clause-stops g c = λ honest.
@@ -58,8 +69,9 @@ returns-clause-carries g c = λ honest exact names world keeps.
     let contents = c.in_ok-contents.contents in
     let read : Holds (g.D.Disk.state c.sync.new.disk).content (held_of (g.D.Disk.state c.sync.new.disk).content contents) = c.in_ok-contents.ensures.read honest in
     let first_high = read.chains.has_directory.taken.1.sound.first_high in
-    let same : held_by old.content opened ≡ held_of old.content contents = c.in_ok-opened.ensures.held old.content in
-    let holds = subst (λ (has : Held). Holds old.content has) (sym same) (subst (λ (file : List ℕ). Holds file (held_of file contents)) (ap content was.settled) read) in
+    let there = subst (λ (file : List ℕ). Holds file (held_of file contents)) (ap content was.settled) read in
+    let same : held_by old.content opened ≡ held_of old.content contents = opened_same opened contents c.in_ok-opened.ensures.held old.content there in
+    let holds = subst (λ (has : Held). Holds old.content has) (sym same) there in
     let goes = subst (λ (has : Held). GoesBehind has.root has.near has.far (place_of opened.writer)) (sym same) (c.in_ok-opened.ensures.place first_high) in
     carries_read g.C.Codec.codec opened old new holds goes c.in_ok-opened.ensures.resting (c.read_file.ensures.same_state honest ∙ was.settled) exact names world keeps
 
@@ -86,9 +98,40 @@ returns-in_err-opened-clause-refused g c =
 pub returns-clause-near : goal.returns-clause-near
 returns-clause-near g c =
     let opened = c.in_ok-opened.opened in
-    subst (λ (has : Held). GoesOn has.root.half opened.near) (sym (c.in_ok-opened.ensures.held [])) c.in_ok-opened.ensures.near
+    subst (λ (taken : Taken). GoesOn taken.root.half opened.near) (sym c.in_ok-opened.ensures.taken) c.in_ok-opened.ensures.near
 
 pub returns-clause-far : goal.returns-clause-far
 returns-clause-far g c =
     let opened = c.in_ok-opened.opened in
-    subst (λ (has : Held). GoesOn (other_half has.root.half) opened.far) (sym (c.in_ok-opened.ensures.held [])) c.in_ok-opened.ensures.far
+    subst (λ (taken : Taken). GoesOn (other_half taken.root.half) opened.far) (sym c.in_ok-opened.ensures.taken) c.in_ok-opened.ensures.far
+
+pub returns-clause-holds : goal.returns-clause-holds
+unfolding content
+returns-clause-holds g c = λ honest.
+    let old = g.D.Disk.state c.args.disk.now in
+    let opened = c.in_ok-opened.opened in
+    let was = c.in_ok-sync.ensures.synced (c.read_file.ensures.honest honest) in
+    let contents = c.in_ok-contents.contents in
+    let read : Holds (g.D.Disk.state c.sync.new.disk).content (held_of (g.D.Disk.state c.sync.new.disk).content contents) = c.in_ok-contents.ensures.read honest in
+    let there = subst (λ (file : List ℕ). Holds file (held_of file contents)) (ap content was.settled) read in
+    subst (λ (has : Held). Holds old.content has) (sym (opened_same opened contents c.in_ok-opened.ensures.held old.content there)) there
+
+pub returns-clause-place : goal.returns-clause-place
+unfolding content
+returns-clause-place g c = λ honest.
+    let old = g.D.Disk.state c.args.disk.now in
+    let opened = c.in_ok-opened.opened in
+    let was = c.in_ok-sync.ensures.synced (c.read_file.ensures.honest honest) in
+    let contents = c.in_ok-contents.contents in
+    let read : Holds (g.D.Disk.state c.sync.new.disk).content (held_of (g.D.Disk.state c.sync.new.disk).content contents) = c.in_ok-contents.ensures.read honest in
+    let there = subst (λ (file : List ℕ). Holds file (held_of file contents)) (ap content was.settled) read in
+    let same = opened_same opened contents c.in_ok-opened.ensures.held old.content there in
+    let first_high = read.chains.has_directory.taken.1.sound.first_high in
+    subst (λ (has : Held). GoesBehind has.root has.near has.far (place_of opened.writer)) (sym same) (c.in_ok-opened.ensures.place first_high)
+
+pub returns-clause-snapshots : goal.returns-clause-snapshots
+returns-clause-snapshots g c = λ honest.
+    let contents = c.in_ok-contents.contents in
+    let file = (g.D.Disk.state c.sync.new.disk).content in
+    let read : Holds file (held_of file contents) = c.in_ok-contents.ensures.read honest in
+    c.in_ok-opened.ensures.snapshots (as_many file (held_of file contents) read ∙ length-map contents.snapshots.items held)

@@ -1,7 +1,8 @@
-use Rattle.std.proofs.Common.{◌≡◌, ℕ, List, map, sym, ap}
+use Rattle.std.proofs.Common.{◌≡◌, ℕ, List, sym, ap}
 use Rattle.rr_disk.specs.Disk.{DiskState}
 use Rattle.rr_images.specs.Holding.{HeldChain}
-use Rattle.rr_reading.specs.Chains.{all_held_in, held}
+use Rattle.rr_checkpoint.specs.Plan.Standing.{standing_chains}
+use Rattle.rr_reading.specs.Chains.{all_held_in}
 use Rattle.rr_reading.specs.Held.{chains_held, tables_in}
 use Rattle.rr_reading.specs.declared.dir.directory.SnapshotEntry.{SnapshotEntry}
 use Rattle.rr_reading.specs.declared.dir.directory.TableEntry.{TableEntry}
@@ -20,7 +21,7 @@ pub returns-in-Err-Damaged-clause-refused : goal.returns-in-Err-Damaged-clause-r
 unfolding content
 returns-in-Err-Damaged-clause-refused g c = λ honest.
     let before = c.refusal.ensures.honest honest in
-    let named = named_with c.args.entries.now c.args.snapshots.entries.now (map held c.args.snapshots.chains.now) in
+    let named = named_with c.args.entries.now c.args.snapshots.entries.now (standing_chains c.args.snapshots.chains.now) in
     let chains : tables_in (g.D.Disk.state c.restore_base.new.disk).content c.restore_base.new.chains ≡ tables_in (g.D.Disk.state c.args.disk.now).content c.args.chains.now =
     λ i. all_held_in (content (c.in-Err-Damaged.ensures.same_state before i)) (c.in-Err-Damaged.ensures.all i) in
     told_instead _ _ (chains_held c.args.texts.now) c.in-Err-Damaged.field-0 _ c.refusal.result (ap named chains) (sym c.in-Err-Damaged.field-0-is) (c.refusal.ensures.told honest) (c.in-Err-Damaged.ensures.refused before)
@@ -29,7 +30,7 @@ pub returns-in-Err-OutOfMemory-clause-refused : goal.returns-in-Err-OutOfMemory-
 unfolding content
 returns-in-Err-OutOfMemory-clause-refused g c = λ honest.
     let before = c.refusal-in-Err-OutOfMemory.ensures.honest honest in
-    let named = named_with c.args.entries.now c.args.snapshots.entries.now (map held c.args.snapshots.chains.now) in
+    let named = named_with c.args.entries.now c.args.snapshots.entries.now (standing_chains c.args.snapshots.chains.now) in
     let chains : tables_in (g.D.Disk.state c.restore_base.new.disk).content c.restore_base.new.chains ≡ tables_in (g.D.Disk.state c.args.disk.now).content c.args.chains.now =
     λ i. all_held_in (content (c.in-Err-OutOfMemory.ensures.same_state before i)) (c.in-Err-OutOfMemory.ensures.all i) in
     told_instead _ _ (chains_held c.args.texts.now) c.in-Err-OutOfMemory.field-0 _ c.refusal-in-Err-OutOfMemory.result (ap named chains) (sym c.in-Err-OutOfMemory.field-0-is) (c.refusal-in-Err-OutOfMemory.ensures.told honest) (c.in-Err-OutOfMemory.ensures.refused before)

@@ -1,4 +1,4 @@
-use Rattle.std.proofs.Common.{◌≡◌, ℕ, List, Vec, inr, length, map, refl, sym, ap, subst, ◌∙◌, arith}
+use Rattle.std.proofs.Common.{◌≡◌, ℕ, List, Vec, inr, refl, ap, subst, arith}
 use Rattle.std.specs.declared.alloc.Global.{Global}
 use Rattle.std.proofs.lemmas.List.{length-map}
 use Rattle.std.proofs.lemmas.Result.{err_from_is_err_and}
@@ -7,8 +7,6 @@ use Rattle.rr_checkpoint.specs.Plan.Standing.{standing_chains}
 use Rattle.rr_images.specs.Holding.{HeldChain}
 use Rattle.rr_log.specs.Opening.Opened.{held_by}
 use Rattle.rr_pages.specs.Journal.Reading.{lines}
-use Rattle.rr_pages.specs.declared.reading.ReadChain.{ReadChain}
-use Rattle.rr_reading.specs.Chains.{held}
 use Rattle.rr_reading.specs.Held.{tables_in}
 use Rattle.rr_reading.specs.declared.dir.directory.SnapshotEntry.{SnapshotEntry}
 use Rattle.rr_reading.specs.declared.dir.directory.TableEntry.{TableEntry}
@@ -18,21 +16,14 @@ use Rattle.rr_store.proofs.Replays.{replayed_from}
 use Rattle.rr_store.proofs.RecoveryLemmas.Recovered.{PlaysThem, bad_record, recovered_from, refuses_memory, refuses_read, refuses_records, right_read}
 use Rattle.rr_store.proofs.recovery.recovered.recover.Goals as goal
 
--- what a root names, of which the snapshots' chains were read
+-- what a root names, of which the snapshots were read
 
-abbrev named : List TableEntry → List HeldChain → List SnapshotEntry → List ReadChain → Named
-named entries chains shown read = record { entries = entries; chains = chains; snapshot_entries = shown; snapshot_chains = map held read }
+abbrev named : List TableEntry → List HeldChain → List SnapshotEntry → List StandingSnapshot → Named
+named entries chains shown read = record { entries = entries; chains = chains; snapshot_entries = shown; snapshot_chains = standing_chains read }
 
-same_named : (chains : List HeldChain) (entries tables : List TableEntry) (shown snapshots : List SnapshotEntry) (read kept : List ReadChain) → entries ≡ tables → shown ≡ snapshots → read ≡ kept
+same_named : (chains : List HeldChain) (entries tables : List TableEntry) (shown snapshots : List SnapshotEntry) (read kept : List StandingSnapshot) → entries ≡ tables → shown ≡ snapshots → read ≡ kept
     → named entries chains shown read ≡ named tables chains snapshots kept
 same_named chains entries tables shown snapshots read kept p q r = λ i. named (p i) chains (q i) (r i)
-
--- of as many entries as chains
-
-stand_read : (entries own : List SnapshotEntry) (read kept : List ReadChain) (standing : List StandingSnapshot) → entries ≡ own → read ≡ kept
-    → (length entries ≡ length read → standing_chains standing ≡ map held read) → length own ≡ length (map held kept) → standing_chains standing ≡ map held kept
-stand_read entries own read kept standing p q stand as_many =
-    stand (ap length p ∙ (as_many ∙ (length-map kept held ∙ ap length (sym q)))) ∙ ap (λ (chains : List ReadChain). map held chains) q
 
 pub returns-in_err-value-clause-refused : goal.returns-in_err-value-clause-refused
 returns-in_err-value-clause-refused g c =
@@ -76,18 +67,6 @@ returns-in_err-kit-clause-refused g c =
     let right = right_read file has holds _ tables.kit (world_of tables) same (c.in_ok-value.ensures.right honest) in
     refuses_memory file has holds tables right _ c.in_err-kit.ensures.memory)
 
-pub returns-in_err-standing-clause-refused : goal.returns-in_err-standing-clause-refused
-returns-in_err-standing-clause-refused g c =
-    let p = err_from_is_err_and c.from_residual-in_err-standing.result c.from_residual-in_err-standing.ensures.1 in
-    let file = (g.D.Disk.state c.args.disk.now).content in
-    let has = held_by file c.args.opened.now in
-    let tables = c.in_ok-value.field-0.value in
-    let same = same_named (tables_in file c.args.opened.now.tables) _ _ _ _ _ _ c.deref-3.ensures.value c.deref.ensures.value c.deref-2.ensures.value in
-    rw (p.1, p.2)
-    (λ honest holds.
-    let right = right_read file has holds _ tables.kit (world_of tables) same (c.in_ok-value.ensures.right honest) in
-    refuses_memory file has holds tables right _ c.in_err-standing.ensures.memory)
-
 pub returns-clause-recovered : goal.returns-clause-recovered
 returns-clause-recovered g c = λ honest holds.
     let file = (g.D.Disk.state c.args.disk.now).content in
@@ -95,10 +74,9 @@ returns-clause-recovered g c = λ honest holds.
     let tables = c.in_ok-value.field-0.value in
     let same = same_named (tables_in file c.args.opened.now.tables) _ _ _ _ _ _ c.deref-3.ensures.value c.deref.ensures.value c.deref-2.ensures.value in
     let right = right_read file has holds _ tables.kit (world_of tables) same (c.in_ok-value.ensures.right honest) in
-    recovered_from file has holds tables right c.replay_halves.new.tables c.in_ok-kit.kit c.in_ok-standing.standing c.in_ok-replayed.replayed.value c.saturating_add.result (lines c.deref-4.result.now) (lines c.deref-5.result.now)
+    recovered_from file has holds tables right c.replay_halves.new.tables c.in_ok-kit.kit c.in_ok-replayed.replayed.value c.saturating_add.result (lines c.deref-4.result.now) (lines c.deref-5.result.now)
     (ap lines c.deref-4.ensures.value) (ap lines c.deref-5.ensures.value) c.replay_halves.ensures.kit (subst (λ (n : Named). PlaysThem n tables) same c.in_ok-value.ensures.played)
     c.in_ok-replayed.ensures.replayed c.replay_halves.ensures.played c.in_ok-value.ensures.snapshots c.replay_halves.ensures.snapshots (λ damaged. absurd (cc (c.if-is_damaged.ensures.1 damaged))) c.in_ok-kit.ensures.pages
-    (stand_read _ _ _ _ c.in_ok-standing.standing.items c.deref-6.ensures.value c.deref-7.ensures.value c.in_ok-standing.ensures.chains)
 
 pub returns-clause-replayed : goal.returns-clause-replayed
 returns-clause-replayed g c = λ honest holds.

@@ -1,4 +1,5 @@
 use Rattle.std.proofs.Common.{◌≡◌, ◌≢◌, ℕ, List, [], ◌++◌, Option, None, Some, MatchOption, ap, sym, subst, ◌∙◌}
+use Rattle.std.specs.Rc.{rc_slice_items}
 use Rattle.rr_game.specs.declared.game.Game.{Game}
 use Rattle.rr_game.specs.declared.parts.Parts.{Parts}
 use Rattle.rr_game.specs.History.GameBytes.{SpellsGame, SpellsOneGame}
@@ -21,9 +22,9 @@ of_this_count bytes count game (Some found) spells same =
 pub returns-in-Ok-Some-clause-value : goal.returns-in-Ok-Some-clause-value
 returns-in-Ok-Some-clause-value c =
     let read = rw c.in-Ok-Some.field-0-is at c.in-Ok-Some.ensures.value in
-    of_this_count c.args.chain.now.bytes.items c.args.entry.now.kept c.in-Ok-Some.snapshot c.of_count.result (rw c.deref.ensures.value at read) c.of_count.ensures
+    of_this_count (rc_slice_items c.args.chain.now.bytes) c.args.entry.now.kept c.in-Ok-Some.snapshot c.of_count.result read c.of_count.ensures
 
 pub returns-in-Ok-None-clause-value : goal.returns-in-Ok-None-clause-value
 returns-in-Ok-None-clause-value c =
     let none = rw c.in-Ok-None.field-0-is at c.in-Ok-None.ensures.value in
-    λ spells. rw c.deref.ensures.value at none c.args.entry.now.kept spells
+    λ spells. none c.args.entry.now.kept spells

@@ -1,5 +1,6 @@
 use Rattle.std.proofs.Common.{◌↔◌, ℕ, List, Bool, Option, None, Some, IsTrue, MatchOption, refl, sym, subst}
 use Rattle.std.specs.Option.{is_some}
+use Rattle.std.specs.Rc.{rc_slice_items}
 use Rattle.rr_game.specs.declared.game.Game.{Game}
 use Rattle.rr_game.specs.History.GameBytes.{SpellsGame, SpellsOneGame}
 use Rattle.rr_store.proofs.recovery.shown.tells_game.Goals as goal
@@ -10,5 +11,5 @@ some_told bytes count (Some game) spells = (λ is. (game, spells), λ one. refl)
 
 pub returns-clause-told : goal.returns-clause-told
 returns-clause-told c =
-    subst (λ (told : Bool). IsTrue told ↔ SpellsOneGame c.args.chain.now.bytes.items c.args.entry.now.kept) (sym c.is_some.ensures)
-    (some_told c.args.chain.now.bytes.items c.args.entry.now.kept c.in_ok-snapshot.snapshot c.in_ok-snapshot.ensures.value)
+    subst (λ (told : Bool). IsTrue told ↔ SpellsOneGame (rc_slice_items c.args.chain.now.bytes) c.args.entry.now.kept) (sym c.is_some.ensures)
+    (some_told (rc_slice_items c.args.chain.now.bytes) c.args.entry.now.kept c.in_ok-snapshot.snapshot c.in_ok-snapshot.ensures.value)

@@ -1,8 +1,9 @@
-use Rattle.std.proofs.Common.{◌≡◌, ◌+◌, ◌<◌, ◌∙◌, ℕ, All, List, length, map, refl, arith, below_more, rules}
+use Rattle.std.proofs.Common.{◌≡◌, ◌+◌, ◌<◌, ◌∙◌, ℕ, All, List, length, refl, arith, below_more, rules}
 use Rattle.std.proofs.lemmas.List.{length-map}
 use Rattle.std.proofs.lemmas.Result.{err_from_is_err_and}
 use Rattle.rr_disk.specs.Disk.{DiskState}
-use Rattle.rr_reading.specs.Chains.{held, held_in}
+use Rattle.rr_checkpoint.specs.Plan.Standing.{standing_chains}
+use Rattle.rr_reading.specs.Chains.{held_in}
 use Rattle.rr_reading.specs.Held.{tables_in}
 use Rattle.rr_reading.specs.Lending.Chains.{all_of}
 use Rattle.rr_reading.specs.Lending.Commands.{bytes_at}
@@ -33,7 +34,7 @@ returns-in_err-played-clause-refused g c =
     let chain_in : index < length all = omega (arith, within, as_many) in
     let before = c.in_err-played.ensures.honest honest in
     let bytes : bytes_at now c.loop-index.chains index ≡ joined file (links_at all index) = λ i. joined (content (c.loop-index.invariant.same_state before i)) (links_at (c.loop-index.invariant.all i) index) in
-    told_end c.args.kit c.args.snapshots.entries.now (map held c.args.snapshots.chains.now) c.loop-index.tables.kit c.args.entries.now (tables_in file c.args.chains.now) index c.index-entries-index.result
+    told_end c.args.kit c.args.snapshots.entries.now (standing_chains c.args.snapshots.chains.now) c.loop-index.tables.kit c.args.entries.now (tables_in file c.args.chains.now) index c.index-entries-index.result
     (held_at file all index) (bytes_at now c.loop-index.chains index) (world_of c.loop-index.tables) within (omega (arith, chain_in, length-map all (held_in file))) c.index-entries-index.is
     (get_held file all index (held_at file all index) chain_in) bytes c.loop-index.invariant.kit (c.loop-index.invariant.told before as_many) (refused honest)))
 
@@ -59,12 +60,12 @@ loop-index-preserved g c =
           (c.loop-index.invariant.told before as_many) put.1 (put.2 honest);
       counted = count_put entry old new put.0 index put.1 c.loop-index.invariant.counted;
       kit = c.restore_table.ensures.kit ∙ c.loop-index.invariant.kit;
-      played = played_put c.args.kit c.args.snapshots.entries.now (map held c.args.snapshots.chains.now) c.loop-index.tables.kit index entry c.loop-index.tables c.restore_table.new.tables put.0 c.loop-index.invariant.kit put.1
+      played = played_put c.args.kit c.args.snapshots.entries.now (standing_chains c.args.snapshots.chains.now) c.loop-index.tables.kit index entry c.loop-index.tables c.restore_table.new.tables put.0 c.loop-index.invariant.kit put.1
           c.loop-index.invariant.counted c.loop-index.invariant.played put.3;
       snapshots = c.in_ok-played.ensures.snapshots c.loop-index.invariant.snapshots;
       games = below_more (λ place. All SpellsItsGame (shown_of place c.args.snapshots)) index c.loop-index.invariant.games c.in_ok-played.ensures.games;
       plays = λ honest.
-          plays_put c.args.kit c.args.snapshots.entries.now (map held c.args.snapshots.chains.now) c.loop-index.tables.kit index entry old new put.0 c.loop-index.plays c.in_ok-played.played (c.loop-index.plays + c.in_ok-played.played)
+          plays_put c.args.kit c.args.snapshots.entries.now (standing_chains c.args.snapshots.chains.now) c.loop-index.tables.kit index entry old new put.0 c.loop-index.plays c.in_ok-played.played (c.loop-index.plays + c.in_ok-played.played)
           c.loop-index.invariant.kit put.1 c.loop-index.invariant.counted refl (c.loop-index.invariant.plays (c.in_ok-played.ensures.honest honest)) (put.4 honest);
       bounded = omega (arith, c.loop-index.invariant.bounded, c.in_ok-played.ensures.few_plays);
       room = omega (arith, c.loop-index.invariant.counted, c.in_ok-played.ensures.few_tables);
