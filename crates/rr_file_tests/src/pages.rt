@@ -4,8 +4,8 @@ use crate::calls::{content, counts, in_memory, write};
 use rr_disk::MemoryDisk;
 use rr_pages::journal::HalfIndex;
 use rr_pages::{
-    Damage, Fault, FreePages, FreshPage, ReachedPages, ReadChain, Root, Roots, Taken, chain_read,
-    chain_write, laws, shut, take_root,
+    Damage, Fault, FreePages, FreshPage, ReachedPages, ReadChain, Root, Roots, Taken, chain_follow,
+    chain_write, laws, read_pieces, shut, take_root,
 };
 use std::alloc::Global;
 use std::process::Abort;
@@ -48,7 +48,8 @@ fn read(
     stated: Option<u32>,
 ) -> Result<ReadChain, Fault> {
     let mut reached = ReachedPages::new(alloc)?;
-    chain_read(alloc, disk, 516, &mut reached, head, stated)
+    let followed = chain_follow(alloc, disk, 516, &mut reached, head, stated)?;
+    read_pieces(alloc, disk, &followed.links)
 }
 
 fn lay(

@@ -9,14 +9,13 @@ use Rattle.rr_pages.specs.declared.fault.Damage.TheVariants.{PageOutside, PageTw
 use Rattle.rr_pages.specs.declared.fault.Fault.{Fault}
 use Rattle.rr_pages.specs.declared.fault.Fault.TheVariants.{FileFull, HalfFull, Damaged, NotAStore, Disk, OutOfMemory}
 use Rattle.rr_pages.specs.declared.reading.Link.{Link}
-use Rattle.rr_pages.specs.declared.reading.ReadChain.{ReadChain}
 use Rattle.rr_pages.specs.Pages.{IsData, IsIn, AllApart, AreData}
 use Rattle.rr_pages.specs.Chains.{next_of, used_of, Links, Chain}
 use Rattle.rr_pages.specs.Sets.{IsMarked, marked, all_marked, Has}
 use Rattle.rr_pages.specs.Walk.{Walk, length_damage, damage_of}
-use Rattle.rr_pages.specs.Faults.{NoVerdict, OnDeviceFault}
+use Rattle.rr_pages.specs.Faults.{OnDeviceFault}
 use Rattle.rr_pages.specs.Links.{all_fit, pages_of, AreLinks, AreBelow, EndsPast, Gathers, AddsPiece, links_damage, judged}
-use Rattle.rr_pages.specs.Reading.{BeginsAnew, IsUnbroken, IsWhole, IsBroken, Follows, Reads}
+use Rattle.rr_pages.specs.Reading.{BeginsAnew, IsUnbroken, IsBroken}
 use Rattle.rr_pages.proofs.SetLemmas.{not_both, in_last, has_more}
 
 few_of : (over : Bool) (other : Option Damage) → (if over then Some UsedBytes else other) ≡ None → over ≡ false
@@ -142,22 +141,6 @@ module _ (file : List ℕ) where
         marks = marks;
       }
 
-  pub read_whole : (count : ℕ) (reached : List Bool) (head : ℕ) (stated : Option ℕ) (after : List Bool) (links : List Link) (end : Option Damage) (pages bytes : List ℕ) → Walk file count reached head (pages_of links) end → AreLinks file links
-      → None ≡ judged links end stated → after ≡ all_marked reached (pages_of links) → Gathers file links bytes → pages ≡ pages_of links → IsWhole file count reached head stated after pages bytes
-  read_whole count reached head stated after links end pages bytes walk are is marks gathers same =
-      let no_damage : end ≡ None = judged_end links end stated (sym is) in
-      let whole : Walk file count reached head (pages_of links) None = subst (λ (e : Option Damage). Walk file count reached head (pages_of links) e) no_damage walk in
-      let none : links_damage links stated ≡ None = subst (λ (e : Option Damage). judged links e stated ≡ None) no_damage (sym is) in
-      let few : list_any (λ (link : Link). nat_lt 4086 link.used) links ≡ false = few_of (list_any (λ (link : Link). nat_lt 4086 link.used) links) (length_damage (sum_by (λ (link : Link). link.used) links) stated) none in
-      subst (λ (ps : List ℕ). IsWhole file count reached head stated after ps bytes) (sym same)
-      (record { walk = whole; unbroken = damage_same links stated are ∙ none; chain = walk_chain count reached head links bytes whole are gathers few; marks = marks })
-
-  -- one that was followed whole, with the bytes of its pages
-  pub read_unbroken : (count : ℕ) (reached : List Bool) (head : ℕ) (stated : Option ℕ) (after : List Bool) (links : List Link) (pages bytes : List ℕ) → IsUnbroken file count reached head stated after links → Gathers file links bytes
-      → pages ≡ pages_of links → IsWhole file count reached head stated after pages bytes
-  read_unbroken count reached head stated after links pages bytes is gathers same =
-      read_whole count reached head stated after links None pages bytes is.walk is.used (sym is.unbroken ∙ damage_same links stated is.used) is.marks gathers same
-
   -- there is one way from a page on
   pub walk_only : (count : ℕ) (reached : List Bool) (head : ℕ) (pages others : List ℕ) (end other : Option Damage) → Walk file count reached head pages end → Walk file count reached head others other → (pages ≡ others) × (end ≡ other)
   walk_only count reached head [] [] end other (inl a) (inl b) = (refl, a.1 ∙ sym b.1)
@@ -224,13 +207,6 @@ past_fit len count [] fit past = absurd past
 past_fit len count (link ∷ links) fit (inl past) = let first = fit_first count link links fit in omega (arith, past, first.0, first.1)
 past_fit len count (link ∷ links) fit (inr past) = past_fit len count links (fit_first count link links fit).2 past
 
--- a chain that breaks no clause lies below the page count
-pub past_whole : (len count : ℕ) (links : List Link) (end : Option Damage) (stated : Option ℕ) → AreBelow count links → None ≡ judged links end stated → EndsPast len links → len < 4096 * count
-past_whole len count links (Some damage) stated below is past = absurd (cc)
-past_whole len count links None stated below is past =
-    past_count len count links below
-    (few_of (list_any (λ (link : Link). nat_lt 4086 link.used) links) (length_damage (sum_by (λ (link : Link). link.used) links) stated) (sym is)) past
-
 -- as far as a chain was followed, it is still at its first page, or that was a data page which wasn't reached before
 abbrev pub HasBegun : ℕ → List Bool → ℕ → List Bool → ℕ → Type 0
 HasBegun count start head reached page = ((reached ≡ start) × (page ≡ head)) ⊎ BeginsAnew count start head
@@ -239,47 +215,6 @@ pub begins_there : (count : ℕ) (start : List Bool) (head : ℕ) (reached : Lis
 begins_there count start head reached page (inl at_first) is_data new =
     (subst (λ (p : ℕ). IsData count p) at_first.1 is_data, λ marked_there. not_both (get_or reached page false) ((λ i. get_or (at_first.0 i) (at_first.1 i) false) ∙ marked_there) new)
 begins_there count start head reached page (inr begun) is_data new = begun
-
--- a chain that was followed to a last page has a first one
-pub walk_begins : (file : List ℕ) (count : ℕ) (reached : List Bool) (head : ℕ) (pages : List ℕ) → Walk file count reached head pages None → BeginsAnew count reached head
-walk_begins file count reached head [] (inl outside) = absurd (cc (outside.1))
-walk_begins file count reached head [] (inr twice) = absurd (cc (twice.2))
-walk_begins file count reached head (p ∷ pages) walk =
-    (subst (λ (q : ℕ). IsData count q) (sym walk.0) walk.1, subst (λ (q : ℕ). IsMarked reached q → ⊥) (sym walk.0) walk.2)
-
-pub judged_begins : (file : List ℕ) (count : ℕ) (reached : List Bool) (head : ℕ) (links : List Link) (end : Option Damage) (stated : Option ℕ) → Walk file count reached head (pages_of links) end → None ≡ judged links end stated
-    → BeginsAnew count reached head
-judged_begins file count reached head links end stated walk none =
-    walk_begins file count reached head (pages_of links) (subst (λ (e : Option Damage). Walk file count reached head (pages_of links) e) (judged_end file links end stated (sym none)) walk)
-
--- a fault of the device says nothing of the file, and want of memory that the chain has a page
-fault_failed : (T : Type 0) (file : List ℕ) (count : ℕ) (reached : List Bool) (head : ℕ) (stated : Option ℕ) (after : List Bool) (fault : Fault) → NoVerdict {T = T} (Err fault) → (fault ≡ OutOfMemory → BeginsAnew count reached head)
-    → Reads file count reached head stated after (Err fault)
-fault_failed T file count reached head stated after FileFull none begins = none
-fault_failed T file count reached head stated after HalfFull none begins = none
-fault_failed T file count reached head stated after (Damaged damage) none begins = absurd none
-fault_failed T file count reached head stated after NotAStore none begins = none
-fault_failed T file count reached head stated after (Disk fault) none begins = tt
-fault_failed T file count reached head stated after OutOfMemory none begins = begins refl
-
-pub reads_failed : (T : Type 0) (file : List ℕ) (count : ℕ) (reached : List Bool) (head : ℕ) (stated : Option ℕ) (after : List Bool) (result : Result ReadChain Fault) (fault : Fault) → result ≡ Err fault → NoVerdict {T = T} (Err fault)
-    → (fault ≡ OutOfMemory → BeginsAnew count reached head) → Reads file count reached head stated after result
-reads_failed T file count reached head stated after result fault is none begins =
-    subst (λ (r : Result ReadChain Fault). Reads file count reached head stated after r) (sym is) (fault_failed T file count reached head stated after fault none begins)
-
--- what isn't followed isn't read
-follows_reads : (file : List ℕ) (count : ℕ) (reached : List Bool) (head : ℕ) (stated : Option ℕ) (after : List Bool) (fault : Fault) → Follows file count reached head stated after (Err fault) → Reads file count reached head stated after (Err fault)
-follows_reads file count reached head stated after FileFull told = told
-follows_reads file count reached head stated after HalfFull told = told
-follows_reads file count reached head stated after (Damaged damage) told = told
-follows_reads file count reached head stated after NotAStore told = told
-follows_reads file count reached head stated after (Disk fault) told = told
-follows_reads file count reached head stated after OutOfMemory told = told
-
-pub unfollowed : (file : List ℕ) (count : ℕ) (reached : List Bool) (head : ℕ) (stated : Option ℕ) (after : List Bool) (result : Result ReadChain Fault) (fault : Fault) → result ≡ Err fault
-    → Follows file count reached head stated after (Err fault) → Reads file count reached head stated after result
-unfollowed file count reached head stated after result fault is told =
-    subst (λ (r : Result ReadChain Fault). Reads file count reached head stated after r) (sym is) (follows_reads file count reached head stated after fault told)
 
 -- a chain that stands is followed to its end, and breaks no clause
 module _ (file : List ℕ) (count : ℕ) (low : count ≤ 65536) where

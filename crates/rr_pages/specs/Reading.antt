@@ -1,11 +1,10 @@
--- What reading a chain answers.
+-- What following a chain answers.
 use Rattle.std.specs.Prelude.{◌≡◌, ℕ, Bool, List, Option, None, Some, Result, Ok, Err}
 use Rattle.rr_pages.specs.declared.fault.Fault.{Fault}
 use Rattle.rr_pages.specs.declared.fault.Damage.{Damage}
 use Rattle.rr_pages.specs.declared.fault.Fault.TheVariants.{FileFull, HalfFull, Damaged, NotAStore, Disk, OutOfMemory}
 use Rattle.rr_pages.specs.declared.reading.FollowedChain.{FollowedChain}
 use Rattle.rr_pages.specs.declared.reading.Link.{Link}
-use Rattle.rr_pages.specs.declared.reading.ReadChain.{ReadChain}
 use Rattle.rr_pages.specs.Chains.{Chain}
 use Rattle.rr_pages.specs.Links.{pages_of, AreLinks}
 use Rattle.rr_pages.specs.Pages.{IsData}
@@ -47,13 +46,3 @@ Follows file count reached head stated after (Err (Damaged damage)) = IsBroken f
 Follows file count reached head stated after (Err NotAStore) = ⊥
 Follows file count reached head stated after (Err (Disk fault)) = Unit {0}
 Follows file count reached head stated after (Err OutOfMemory) = BeginsAnew count reached head
-
--- what reading it answers; memory is wanted only for one that has a page
-abbrev pub Reads : List ℕ → ℕ → List Bool → ℕ → Option ℕ → List Bool → Result ReadChain Fault → Type 0
-Reads file count reached head stated after (Ok chain) = IsWhole file count reached head stated after chain.pages.items chain.bytes.items
-Reads file count reached head stated after (Err FileFull) = ⊥
-Reads file count reached head stated after (Err HalfFull) = ⊥
-Reads file count reached head stated after (Err (Damaged damage)) = IsBroken file count reached head stated after damage
-Reads file count reached head stated after (Err NotAStore) = ⊥
-Reads file count reached head stated after (Err (Disk fault)) = Unit {0}
-Reads file count reached head stated after (Err OutOfMemory) = BeginsAnew count reached head

@@ -1,7 +1,7 @@
 //! What a store's file is made of: pages of 4,096 bytes, chains of them, which of them are free, two roots with gates,
 //! of which one is taken, and the two halves of its journal (`journal`). Numbers in the file are big-endian.
 //!
-//! Stands on `rr_disk`. Its promises: `chain_read` and `take_root` tell exactly what the bytes have, or the first
+//! Stands on `rr_disk`. Its promises: `chain_follow` and `take_root` tell exactly what the bytes have, or the first
 //! clause broken; and `journal::Half::append` leaves each image with the records from before, or with the new one
 //! whole.
 #![tactic(auto)]
@@ -27,5 +27,5 @@ pub use free_pages::FreePages;
 pub use page::{FIRST_DATA, LEAST_PAGES, LINK_BYTES, MOST_PAGES, MOST_USED, OPEN, PAGE_BYTES};
 pub use page_set::PageSet;
 pub use reached_pages::ReachedPages;
-pub use reading::{FollowedChain, Link, ReadChain, chain_follow, chain_read, read_pieces};
+pub use reading::{FollowedChain, Link, ReadChain, chain_follow, read_pieces};
 pub use root::{NEWEST_VERSION, ROOT_BYTES, Root, Roots};

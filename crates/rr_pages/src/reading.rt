@@ -2,7 +2,7 @@ ghost use Rattle.std.specs.Prelude.{◌≡◌, ◌+◌, ◌*◌, ◌<◌, ◌≤
 ghost use Rattle.rr_pages.specs.Chains.{next_of, used_of};
 ghost use Rattle.rr_pages.specs.Faults.{CountsFault, NoVerdict, OnDeviceFault};
 ghost use Rattle.rr_pages.specs.ReachedPages.{marks_of};
-ghost use Rattle.rr_pages.specs.Reading.{BeginsAnew, Follows, Reads};
+ghost use Rattle.rr_pages.specs.Reading.{BeginsAnew, Follows};
 ghost use Rattle.rr_pages.specs.Links.{all_fit, pages_of, AreLinks, AreBelow, EndsPast, Gathers, AddsPiece, links_damage, judged};
 ghost use Rattle.rr_pages.specs.Sets.{all_marked};
 ghost use Rattle.rr_pages.specs.Walk.{Walk};
@@ -53,38 +53,13 @@ struct Walked {
     end: Option<Damage>,
 }
 
-/// Reads a chain from its first page on, and puts its pages among those that are reached. `count` is the root's page
-/// count; `stated` is the length that the chain should have, `None` where none is stated.
+/// Follows a chain from its first page on, reads the front of each page alone, and puts its pages among those that are
+/// reached. `count` is the root's page count; `stated` is the length that the chain should have, `None` where none is
+/// stated.
 ///
+/// # Errors
 /// `Damaged` with the first clause that the chain breaks, as far as it can be followed; then too its pages are reached.
 /// `OutOfMemory` only where the chain has a page. It writes nothing, and reads no page that was reached before.
-pub fn chain_read<D: Disk>(
-    alloc: Global,
-    disk: &mut D,
-    count: u32,
-    reached: &mut ReachedPages,
-    head: u64,
-    stated: Option<u32>,
-) -> Result<ReadChain, Fault>
-    requires { count ≤ MOST_PAGES }
-    ensures read { D.Honest disk.new
-        → Reads (D.state disk.old).content count (marks_of reached.old) head stated (marks_of reached.new) result }
-    ensures fault { CountsFault (D.fault_count disk.old) (D.fault_count disk.new) result }
-    ensures honest { D.Honest disk.new → D.Honest disk.old }
-    ensures same_state { D.Honest disk.new → D.state disk.new ≡ D.state disk.old }
-    ensures same_past { D.Honest disk.new → D.past disk.new ≡ D.past disk.old }
-    ensures writes { D.write_count disk.new ≡ D.write_count disk.old }
-    ensures syncs { D.sync_count disk.new ≡ D.sync_count disk.old }
-    ensures device { OnDeviceFault result (D.Works disk.new → D.file_len disk.old < PAGE_BYTES * count) }
-    ensures works { D.Works disk.new → D.Works disk.old }
-    ensures same_len { D.file_len disk.new ≡ D.file_len disk.old }
-{
-    let followed = chain_follow(alloc, disk, count, reached, head, stated)?;
-    let chain = read_pieces(alloc, disk, &followed.links)?;
-    Ok(chain)
-}
-
-/// Follows a chain as `chain_read` does, with the same faults, and reads the front of each page alone.
 pub fn chain_follow<D: Disk>(
     alloc: Global,
     disk: &mut D,
@@ -272,13 +247,21 @@ pub fn read_pieces<D: Disk>(alloc: Global, disk: &mut D, links: &[Link]) -> Resu
     ensures works { D.Works disk.new → D.Works disk.old }
     ensures same_len { D.file_len disk.new ≡ D.file_len disk.old }
 {
-    let mut pages = Vec::new(alloc);
-    let mut bytes = Vec::new(alloc);
+    let mut pages = Vec::with_capacity(alloc, links.len())?;
+    let mut bytes = Vec::with_capacity(alloc, used_by(links))?;
     for link in links {
         read_piece(alloc, disk, link.page, link.used, &mut bytes)?;
         pages.push(link.page)?;
     }
     Ok(ReadChain { pages, bytes })
+}
+
+// How many bytes the links use, as far as a machine can hold them: room alone, so that none is left over.
+fn used_by(links: &[Link]) -> usize {
+    links.iter().fold(
+        0,
+        |used: usize, link| used.saturating_add(link.used as usize),
+    )
 }
 
 // Puts the used bytes of a page behind those that are there.

@@ -1,6 +1,6 @@
 //! Chains that lend their bytes piece by piece, one page at a time, and the commands in them.
 //!
-//! Its promise: the pieces that `Chains::next` lends, joined, are the bytes that `chain_read` would give, and the
+//! Its promise: the pieces that `Chains::next` lends, joined, are the bytes that `read_pieces` would give, and the
 //! commands that `Commands::next` lends are those that the bytes spell.
 
 mod chains;

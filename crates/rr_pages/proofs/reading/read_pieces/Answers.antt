@@ -35,11 +35,11 @@ loop-link-preserved g c =
 
 pub returns-in_err-read_piece-clause-device : goal.returns-in_err-read_piece-clause-device
 returns-in_err-read_piece-clause-device g c =
-    let told = err_from_is_err_and c.from_residual.result c.from_residual.ensures.1 in
+    let told = err_from_is_err_and c.from_residual-in_err-read_piece.result c.from_residual-in_err-read_piece.ensures.1 in
     let len = g.D.Disk.file_len c.args.disk.now in
     let same : g.D.Disk.file_len c.loop-link.disk ≡ len = c.loop-link.invariant.same_len in
     let blank : Link = record { page = 0; used = 0 } in
     let link : Link = get_or c.args.links.now c.loop-link.link-index blank in
-    device_so (Unit {0}) c.from_residual.result c.in_err-read_piece.field-0.0 (told.1 ∙ ap (λ f. Err f) told.2)
+    device_so (Unit {0}) c.from_residual-in_err-read_piece.result c.in_err-read_piece.field-0.0 (told.1 ∙ ap (λ f. Err f) told.2)
     (λ past works. ends_past len c.args.links.now c.loop-link.link-index blank c.loop-link-test.true (subst (λ (n : ℕ). n < 4096 * link.page + 10 + link.used) same (past works)))
     c.in_err-read_piece.ensures.device
