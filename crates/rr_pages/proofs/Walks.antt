@@ -15,7 +15,7 @@ use Rattle.rr_pages.specs.Sets.{IsMarked, marked, all_marked, Has}
 use Rattle.rr_pages.specs.Walk.{Walk, length_damage, damage_of}
 use Rattle.rr_pages.specs.Faults.{OnDeviceFault}
 use Rattle.rr_pages.specs.Links.{all_fit, pages_of, AreLinks, AreBelow, EndsPast, Gathers, AddsPiece, links_damage, judged}
-use Rattle.rr_pages.specs.Reading.{BeginsAnew, IsUnbroken, IsBroken}
+use Rattle.rr_pages.specs.Reading.{BeginsAnew, IsUnbroken, IsWhole, IsBroken}
 use Rattle.rr_pages.proofs.SetLemmas.{not_both, in_last, has_more}
 
 few_of : (over : Bool) (other : Option Damage) → (if over then Some UsedBytes else other) ≡ None → over ≡ false
@@ -140,6 +140,22 @@ module _ (file : List ℕ) where
         used = are;
         marks = marks;
       }
+
+  pub read_whole : (count : ℕ) (reached : List Bool) (head : ℕ) (stated : Option ℕ) (after : List Bool) (links : List Link) (end : Option Damage) (pages bytes : List ℕ) → Walk file count reached head (pages_of links) end → AreLinks file links
+      → None ≡ judged links end stated → after ≡ all_marked reached (pages_of links) → Gathers file links bytes → pages ≡ pages_of links → IsWhole file count reached head stated after pages bytes
+  read_whole count reached head stated after links end pages bytes walk are is marks gathers same =
+      let no_damage : end ≡ None = judged_end links end stated (sym is) in
+      let whole : Walk file count reached head (pages_of links) None = subst (λ (e : Option Damage). Walk file count reached head (pages_of links) e) no_damage walk in
+      let none : links_damage links stated ≡ None = subst (λ (e : Option Damage). judged links e stated ≡ None) no_damage (sym is) in
+      let few : list_any (λ (link : Link). nat_lt 4086 link.used) links ≡ false = few_of (list_any (λ (link : Link). nat_lt 4086 link.used) links) (length_damage (sum_by (λ (link : Link). link.used) links) stated) none in
+      subst (λ (ps : List ℕ). IsWhole file count reached head stated after ps bytes) (sym same)
+      (record { walk = whole; unbroken = damage_same links stated are ∙ none; chain = walk_chain count reached head links bytes whole are gathers few; marks = marks })
+
+  -- one that was followed whole, with the bytes of its pages
+  pub read_unbroken : (count : ℕ) (reached : List Bool) (head : ℕ) (stated : Option ℕ) (after : List Bool) (links : List Link) (pages bytes : List ℕ) → IsUnbroken file count reached head stated after links → Gathers file links bytes
+      → pages ≡ pages_of links → IsWhole file count reached head stated after pages bytes
+  read_unbroken count reached head stated after links pages bytes is gathers same =
+      read_whole count reached head stated after links None pages bytes is.walk is.used (sym is.unbroken ∙ damage_same links stated is.used) is.marks gathers same
 
   -- there is one way from a page on
   pub walk_only : (count : ℕ) (reached : List Bool) (head : ℕ) (pages others : List ℕ) (end other : Option Damage) → Walk file count reached head pages end → Walk file count reached head others other → (pages ≡ others) × (end ≡ other)
