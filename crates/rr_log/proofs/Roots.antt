@@ -1,5 +1,5 @@
 -- What becomes of the roots of a log.
-use Rattle.std.proofs.Common.{◌≡◌, ℕ, ◌<◌, List, Option, None, Some, refl, sym, ◌∙◌, ap, subst, arith}
+use Rattle.std.proofs.Common.{◌≡◌, ◌⊎◌, inl, inr, ℕ, ◌+◌, ◌<◌, List, length, Option, None, Some, refl, sym, ◌∙◌, ap, subst, arith}
 use Rattle.rr_disk.specs.Disk.{DiskState}
 use Rattle.rr_images.specs.Codec.{Codec}
 use Rattle.rr_images.specs.Holding.{Holding, texts_of}
@@ -16,11 +16,12 @@ use Rattle.rr_checkpoint.specs.declared.writer.Tick.TheVariants.{Idle, More, Don
 use Rattle.rr_checkpoint.specs.declared.writer.Writer.{Writer}
 use Rattle.rr_checkpoint.specs.Checkpoint.{left_of, plan_of, come_to, progress_of}
 use Rattle.rr_checkpoint.specs.Holds.{HoldsAt, HoldsWithRecord, RestsAt}
+use Rattle.rr_checkpoint.specs.OpenFile.{IsBegunAt}
 use Rattle.rr_checkpoint.specs.Writer as file
 use Rattle.rr_checkpoint.specs.Writer.{Lowers}
 use Rattle.rr_log.specs.declared.log.Log.{Log}
-use Rattle.rr_log.specs.Carrying.{Carries, HoldsWorld}
-use Rattle.rr_log.specs.Log.{ticks_left}
+use Rattle.rr_log.specs.Carrying.{Carries, HoldsWorld, IsBase}
+use Rattle.rr_log.specs.Log.{place_of, ticks_left}
 use Rattle.rr_log.specs.Roots.{IsComingRoot, IsSameRoot, KeepsRoots}
 use Rattle.rr_log.proofs.Carried.{done_carries, more_carries}
 use Rattle.rr_reading.specs.declared.worlds.rules.Worlds.{Worlds}
@@ -56,16 +57,18 @@ module _ {D R : Type 0} {rules : WorldRules} {old new : Log D R} {due : List Sna
         takes = λ one none. absurd (omega (arith, left, none));
         goes_on = λ under_way more. (middle, holding);
         begins = λ none more. absurd (omega (arith, some, none));
+        rests = λ none. absurd (omega (arith, left, none));
       }
 
   -- behind the last one
-  pub roots_last : ticks_left old ≡ 1 → ticks_left new ≡ 0 → IsComingRoot before coming after → KeepsRoots old new due before coming after coming_after
-  roots_last one none taken =
+  pub roots_last : ticks_left old ≡ 1 → ticks_left new ≡ 0 → IsComingRoot before coming after → new.base ≡ None → KeepsRoots old new due before coming after coming_after
+  roots_last one none taken no_base =
       record {
         stays = λ never. absurd (never one none);
         takes = λ last ended. taken;
         goes_on = λ under_way more. absurd (omega (arith, none, more));
         begins = λ resting more. absurd (omega (arith, none, more));
+        rests = λ ended. inl no_base;
       }
 
   -- behind the first one
@@ -76,16 +79,21 @@ module _ {D R : Type 0} {rules : WorldRules} {old new : Log D R} {due : List Sna
         takes = λ one ended. absurd (omega (arith, left, ended));
         goes_on = λ under_way more. absurd (omega (arith, none, under_way));
         begins = λ resting more. (middle, holds);
+        rests = λ ended. absurd (omega (arith, left, ended));
       }
 
   -- behind a call that is no step
-  pub roots_still : ticks_left new ≡ ticks_left old → IsSameRoot before after → (0 < ticks_left old → (after.middle ≡ before.middle) × (coming_after ≡ coming)) → KeepsRoots old new due before coming after coming_after
-  roots_still left root goes_on =
+  pub roots_still : ticks_left new ≡ ticks_left old → IsSameRoot before after → (0 < ticks_left old → (after.middle ≡ before.middle) × (coming_after ≡ coming))
+      → (ticks_left old ≡ 0 → (new.base ≡ None) ⊎ ((new.base ≡ old.base) × (after.middle ≡ before.middle))) → KeepsRoots old new due before coming after coming_after
+  roots_still left root goes_on rests =
       record {
         stays = λ never. root;
         takes = λ one none. absurd (omega (arith, left, one, none));
         goes_on = λ under_way more. goes_on under_way;
         begins = λ none more. absurd (omega (arith, left, none, more));
+        rests = λ none.
+            let rested : ticks_left old ≡ 0 = sym left ∙ none in
+            elim (rests rested) [ inl gone ↦ inl gone | inr same ↦ inr (rested, same.0, same.1) ];
       }
 
 -- a step of the checkpoint under way
@@ -101,12 +109,12 @@ module _ {D R : Type 0} (rules : WorldRules) (log : Log D R) (state : DiskState)
   )
   ticked_roots Done some lowers rests then = (
     done_carries rules log state world carries disk new after some lowers.1 rests (then.0, then.1.present),
-    roots_last lowers.0 lowers.1 (record { base = then.1.renewed.base; holding = then.1.present }),
+    roots_last lowers.0 lowers.1 (record { base = then.1.renewed.base; holding = then.1.present }) (carries.no_base some),
   )
 
 -- a call that leaves all
 pub no_step : {D R : Type 0} {rules : WorldRules} {log : Log D R} {due : List Snapshot} {layout : Layout (worlds rules)} {coming : Holding} → KeepsRoots log log due layout coming layout coming
-no_step = roots_still refl (record { root = refl; base = refl; holding = refl }) (λ some. (refl, refl))
+no_step = roots_still refl (record { root = refl; base = refl; holding = refl }) (λ some. (refl, refl)) (λ none. inr (refl, refl))
 
 pub still_roots : {D R : Type 0} (rules : WorldRules) (log : Log D R) (state : D → DiskState) (world : World) (due : List Snapshot) (disk : D) (new : Writer (Worlds R)) → disk ≡ log.disk → new ≡ log.writer
     → (carries : Carries rules log (state log.disk) world)
@@ -147,9 +155,20 @@ line_base codec layout Unused line world = refl
 line_base codec layout Old line world = refl
 line_base codec layout (Begun lines) line world = refl
 
+-- and what is kept for a checkpoint that an opening found begun
+record_rests : {D R : Type 0} (rules : WorldRules) (log new : Log D R) (state : DiskState) (world : World) (carries : Carries rules log state world) (line : List ℕ) (next : World) (layout : Layout (worlds rules)) (coming : Holding)
+    → new.base ≡ log.base → HoldsWithRecord carries.carried.layout carries.carried.holding line next layout coming → (begun : Option ℕ) → (place_of log).begun ≡ begun → ticks_left log ≡ 0
+    → (new.base ≡ None) ⊎ ((new.base ≡ log.base) × (layout.middle ≡ carries.carried.layout.middle))
+record_rests rules log new state world carries line next layout coming same holds None is none =
+    inl (same ∙ subst (λ (b : Option ℕ). IsBase rules b log.base carries.carried.layout.middle) is (carries.base none))
+record_rests rules log new state world carries line next layout coming same holds (Some first) is none =
+    let before = carries.carried.layout in
+    let begun : IsBegunAt (Some first) (before.root.first + length before.near) before.far = subst (λ (b : Option ℕ). IsBegunAt b (before.root.first + length before.near) before.far) is carries.carried.tells.begun in
+    inr (same, holds.middle begun.0)
+
 pub record_roots : {D R : Type 0} {due : List Snapshot} (rules : WorldRules) (log new : Log D R) (state : DiskState) (world : World) (carries : Carries rules log state world) (line : List ℕ) (next : World) (layout : Layout (worlds rules)) (coming : Holding)
-    → ticks_left new ≡ ticks_left log → HoldsWithRecord carries.carried.layout carries.carried.holding line next layout coming → KeepsRoots log new due carries.carried.layout carries.carried.holding layout coming
-record_roots rules log new state world carries line next layout coming left holds =
+    → ticks_left new ≡ ticks_left log → new.base ≡ log.base → HoldsWithRecord carries.carried.layout carries.carried.holding line next layout coming → KeepsRoots log new due carries.carried.layout carries.carried.holding layout coming
+record_roots rules log new state world carries line next layout coming left same holds =
     let codec = worlds rules in
     let before = carries.carried.layout in
     roots_still left
@@ -159,6 +178,7 @@ record_roots rules log new state world carries line next layout coming left hold
       holding = holds.present;
     })
     (λ some. (holds.middle (far_begun codec before state log.writer.checkpoint carries.carried.holding some carries.carried.between.come), holds.coming))
+    (record_rests rules log new state world carries line next layout coming same holds (place_of log).begun refl)
 
 -- two calls that leave the root
 same_twice : {rules : WorldRules} {before then after : Layout (worlds rules)} → IsSameRoot before then → IsSameRoot then after → IsSameRoot before after
@@ -182,4 +202,8 @@ then_record {due = due} {before = before} first second left =
           let begun = first.begins none (omega (arith, more, left)) in
           let on = second.goes_on (omega (arith, more, left)) more in
           (on.0 ∙ begun.0, subst (λ (h : Holding). HoldsWorld before.middle due h) (sym on.1) begun.1);
+      rests = λ none. elim (second.rests none) [
+        | inl gone ↦ inl gone
+        | inr same ↦ elim (first.rests same.0) [ inl gone ↦ inl (same.1 ∙ gone) | inr still ↦ inr (still.0, same.1 ∙ still.1, same.2 ∙ still.2) ]
+      ];
     }

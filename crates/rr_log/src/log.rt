@@ -49,6 +49,7 @@ impl<D: Disk + Drop, R: Rules> Log<D, R> {
         ensures known { known_snapshots result ≡ map standing_as standing.items }
         ensures disk { disk_of result ≡ disk }
         ensures writer { writer_of result ≡ writer }
+        ensures base { result.base ≡ base }
         ensures whole { is_broken result ≡ false }
     {
         Log {

@@ -42,7 +42,7 @@ use Rattle.rr_store.specs.Committing.{Commits, NumberBehind, Spares, layout_behi
 use Rattle.rr_store.specs.Fault.{CountsEnd, OnDeviceFault, of_log, of_rules, of_tables}
 use Rattle.rr_store.specs.Files.{AreTablesOf}
 use Rattle.rr_store.specs.Held.{Accepted, Again, Fails, Held, NoRoom, Refused, Takes, Wants, stamp_after, with_tables}
-use Rattle.rr_store.specs.Holding.{Carries, GamesArePlayed, GamesHaveSnapshots, HasNoRoom, HasNoneBegun, IsFull, IsUnchanged, disk_of, file_of, held_of, lent_of, number_of_next, replayed_of, ticks_left}
+use Rattle.rr_store.specs.Holding.{Carries, GamesArePlayed, GamesHaveSnapshots, HasNoRoom, IsFull, IsUnchanged, disk_of, file_of, held_of, lent_of, number_of_next, replayed_of, ticks_left}
 use Rattle.rr_store.specs.Keeping.{GrowsInAll, Keeping, MakesAtMost, length_on}
 use Rattle.rr_store.specs.Named.{KeepsNames, LendsNamed, NamesComing, NamesRoots}
 use Rattle.rr_store.specs.World.{World, for_table, judgement_in, world_after}
@@ -154,7 +154,7 @@ module _ {D : Type 0} (Honest Works : D → Type 0) (state : D → DiskState) (p
         };
         carries = λ h whole texts s. carried texts s;
         renews = λ whole one none h texts s. let left : ticks_left new ≡ ticks_left old = ap (λ (f : Log D TableRules). file.ticks_left f) same.same_file in absurd (omega (arith, one, none, left));
-        names = λ h whole texts s lends none. names_unchanged state old new texts same;
+        names = λ h whole texts s lends. names_unchanged state old new texts same;
         renews_names = λ h whole one none texts s names. let left : ticks_left new ≡ ticks_left old = ap (λ (f : Log D TableRules). file.ticks_left f) same.same_file in absurd (omega (arith, one, none, left));
         number = number_same fault (number_of_next old) (number_of_next new) (ap (λ (f : Log D TableRules). next_number f) same.same_file);
         spares = spares_same old new fault same;
@@ -268,10 +268,10 @@ module _ {D : Type 0} (Honest Works : D → Type 0) (state : D → DiskState) (p
           renews = λ whole one none h texts s.
               subst (λ (x : Held). EachImage (state (disk_of new)) (TakesNewer table_files (layout_behind (Ok n) s.file.carried.layout bytes_of (in_words texts x.tables)) (in_words texts x.tables))) (sym (held_is s.played))
               (k.renews k.broken one none h (in_words texts tables_now) (in_words texts behind) (record_leads texts kit_now tables_now stamp (for_table name c) (lawful_in texts s (lawful s.played)) s.tables_of_kit) s.file);
-          names = λ h whole texts s lends none.
+          names = λ h whole texts s lends.
               names_there state old new texts behind (held_of old).broken (held_is s.played)
               (k.names h k.broken kit_now (in_words texts tables_now) (in_words texts behind) (leads texts s) (carried_lent state old texts s)
-              (λ may. store_named state old texts s (lends may)) none);
+              (λ may. store_named state old texts s (lends may)));
           renews_names = λ h whole one none texts s names.
               roots_there state old new texts behind (held_of old).broken (held_is s.played)
               (k.renews_names h k.broken one none kit_now (in_words texts tables_now) (in_words texts behind) (leads texts s) (carried_lent state old texts s) names);
@@ -323,7 +323,7 @@ module _ {D : Type 0} (Honest Works : D → Type 0) (state : D → DiskState) (p
           keeps = kept_by (Err L.DeviceFailed) lawful k;
           carries = λ h whole texts s. let both : true ≡ false = sym k.broken ∙ whole in absurd (cc both);
           renews = λ whole one none h texts s. let both : true ≡ false = sym k.broken ∙ whole in absurd (cc both);
-          names = λ h whole texts s lends none. let both : true ≡ false = sym k.broken ∙ whole in absurd (cc both);
+          names = λ h whole texts s lends. let both : true ≡ false = sym k.broken ∙ whole in absurd (cc both);
           renews_names = λ h whole one none texts s names. let both : true ≡ false = sym k.broken ∙ whole in absurd (cc both);
           number = tt;
           spares = tt;
@@ -365,12 +365,12 @@ module _ {D : Type 0} (Honest Works : D → Type 0) (state : D → DiskState) (p
           subst (λ (x : Held). EachImage (state (disk_of new)) (TakesNewer table_files s.file.carried.layout (in_words texts x.tables))) (sym held_is)
           (k.renews whole one none h (in_words texts tables_now) (in_words texts behind) (record_leads texts kit_now tables_now stamp (for_table name c) (lawful_in texts s (lawful s.played)) s.tables_of_kit) s.file)
 
-      names_on : Honest (disk_of new) → (texts : KitTexts) → Carries state old texts → ((ticks_left old ≡ 0) ⊎ IsFull old name c → LendsNamed old) → (ticks_left old ≡ 0 → HasNoneBegun old)
+      names_on : Honest (disk_of new) → (texts : KitTexts) → Carries state old texts → ((ticks_left old ≡ 0) ⊎ IsFull old name c → LendsNamed old)
           → KeepsNames state old new texts
-      names_on h texts s lends none =
+      names_on h texts s lends =
           names_there state old new texts tables_now (held_of old).broken held_is
           (k.names h whole kit_now (in_words texts tables_now) (in_words texts behind) (record_leads texts kit_now tables_now stamp (for_table name c) (lawful_in texts s (lawful s.played)) s.tables_of_kit)
-          (carried_lent state old texts s) (λ may. store_named state old texts s (lends may)) none)
+          (carried_lent state old texts s) (λ may. store_named state old texts s (lends may)))
 
       renews_names_on : ticks_left old ≡ 1 → ticks_left new ≡ 0 → Honest (disk_of new) → (texts : KitTexts) → Carries state old texts → NamesComing state old texts → NamesRoots state new texts
       renews_names_on one none h texts s names =
@@ -393,7 +393,7 @@ module _ {D : Type 0} (Honest Works : D → Type 0) (state : D → DiskState) (p
           keeps = kept_by (Err L.FileFull) lawful k;
           carries = λ h whole texts s. goes_on L.FileFull lawful k whole held_is h texts s;
           renews = λ whole one none h texts s. renews_on L.FileFull lawful k whole held_is one none h texts s;
-          names = λ h whole texts s lends none. names_on L.FileFull lawful k whole held_is h texts s lends none;
+          names = λ h whole texts s lends. names_on L.FileFull lawful k whole held_is h texts s lends;
           renews_names = λ h whole one none texts s names. renews_names_on L.FileFull lawful k whole held_is one none h texts s names;
           number = k.number;
           spares = tt;
@@ -428,7 +428,7 @@ module _ {D : Type 0} (Honest Works : D → Type 0) (state : D → DiskState) (p
           keeps = kept_by (Err L.OutOfMemory) lawful k;
           carries = λ h whole texts s. goes_on L.OutOfMemory lawful k whole held_is h texts s;
           renews = λ whole one none h texts s. renews_on L.OutOfMemory lawful k whole held_is one none h texts s;
-          names = λ h whole texts s lends none. names_on L.OutOfMemory lawful k whole held_is h texts s lends none;
+          names = λ h whole texts s lends. names_on L.OutOfMemory lawful k whole held_is h texts s lends;
           renews_names = λ h whole one none texts s names. renews_names_on L.OutOfMemory lawful k whole held_is one none h texts s names;
           number = k.number;
           spares = tt;

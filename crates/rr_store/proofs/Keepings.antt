@@ -21,7 +21,7 @@ use Rattle.rr_checkpoint.specs.declared.plan.standing.StandingSnapshot.{Standing
 use Rattle.rr_log.specs.Calls.{MayRefuse, MeetsFullFile, NumberBehind, first_left, layout_behind, tables_due, ticks_due, world_behind}
 use Rattle.rr_log.specs.Carrying.{Carries, HaveSameTexts}
 use Rattle.rr_log.specs.Fault.{CountsFault, IsWant, OnDeviceFault, ends_broken}
-use Rattle.rr_log.specs.Log.{HasNoRoom, HasNoneBegun, IsDue, IsPastLast, IsTooLong, disk_of, free_of, is_broken, next_number, place_of, ticks_left}
+use Rattle.rr_log.specs.Log.{HasNoRoom, IsDue, IsPastLast, IsTooLong, disk_of, free_of, is_broken, next_number, place_of, ticks_left}
 use Rattle.rr_log.specs.Growing.{Grows, TakesPages}
 use Rattle.rr_log.specs.Roots.{KeepsRoots}
 use Rattle.rr_log.proofs.Carried.{device_more}
@@ -290,7 +290,7 @@ module _ {D : Type 0} (Honest Works : D → Type 0) (state : D → DiskState) (p
         stops = λ h before behind takes lent carries. kept_now log before behind carries;
         carries = λ h still before behind takes lent carries. carries;
         renews = λ still one none h before behind takes carries. absurd (omega (arith, one, none));
-        names = λ h still kit before behind takes lent named none. names_still kit state log before;
+        names = λ h still kit before behind takes lent named. names_still kit state log before;
         renews_names = λ h still one none kit before behind takes lent names. absurd (omega (arith, one, none));
         number = refl;
         again = (λ is. absurd (cc is), λ broken. let both : true ≡ false = sym broken ∙ whole in absurd (cc both));
@@ -322,7 +322,7 @@ module _ {D : Type 0} (Honest Works : D → Type 0) (state : D → DiskState) (p
         stops = λ h before behind takes lent carries. kept_now log before behind carries;
         carries = λ h still before behind takes lent carries. carries;
         renews = λ still one none h before behind takes carries. absurd (omega (arith, one, none));
-        names = λ h still kit before behind takes lent named none. names_still kit state log before;
+        names = λ h still kit before behind takes lent named. names_still kit state log before;
         renews_names = λ h still one none kit before behind takes lent names. absurd (omega (arith, one, none));
         number = refl;
         again = (λ is. broken, λ was. refl);
@@ -366,9 +366,9 @@ module _ {D : Type 0} (Honest Works : D → Type 0) (state : D → DiskState) (p
         stops = λ h before behind takes lent carries. t.stops h before behind takes (same_texts bytes before behind takes) lent carries;
         carries = λ h whole before behind takes lent carries. t.carries h whole before behind takes (same_texts bytes before behind takes) lent carries;
         renews = λ whole one none h before behind takes carries. t.renews whole one none h before behind takes (same_texts bytes before behind takes) carries;
-        names = λ h whole kit before behind takes lent named none.
+        names = λ h whole kit before behind takes lent named.
             keeps_names kit state old new before (world_behind result before behind) tables (t.roots whole h before behind takes (same_texts bytes before behind takes) lent)
-            (λ rests. named (inl rests)) none;
+            (λ rests. named (inl rests));
         renews_names = λ h whole one none kit before behind takes lent names.
             renews_names kit state old new before (world_behind result before behind) tables (t.roots whole h before behind takes (same_texts bytes before behind takes) lent) one none names;
         number = t.number;
@@ -406,9 +406,9 @@ module _ {D : Type 0} (Honest Works : D → Type 0) (state : D → DiskState) (p
     carried h before behind takes lent carries = t.carries h t.broken before behind takes (same_texts bytes before behind takes) lent carries
 
     names_before : Honest (disk_of mid) → (kit : Kit) (before behind : words.World) → Takes bytes before behind → AreLentOf table_rules before tables → AreTheirSnapshots kit before tables.snapshots
-        → (ticks_left old ≡ 0 → HasNoneBegun (place_of old)) → KeepsNames kit state old before mid before
-    names_before h kit before behind takes lent named none =
-        keeps_names kit state old mid before before tables (t.roots t.broken h before behind takes (same_texts bytes before behind takes) lent) (λ rests. named) none
+        → KeepsNames kit state old before mid before
+    names_before h kit before behind takes lent named =
+        keeps_names kit state old mid before before tables (t.roots t.broken h before behind takes (same_texts bytes before behind takes) lent) (λ rests. named)
 
     -- one tick, all that are then left, and a second attempt
     in_all : (calls : D → ℕ) (made new : Logs) → calls (disk_of mid) ≤ calls (disk_of old) + 1 → calls (disk_of made) ≤ calls (disk_of mid) + ticks_left mid → calls (disk_of new) ≤ calls (disk_of made) + 3
@@ -447,7 +447,7 @@ module _ {D : Type 0} (Honest Works : D → Type 0) (state : D → DiskState) (p
               (weaker (m.stops h before lent (carried (m.honest h) before behind takes lent carries)) (λ image. Keeps table_files image before ⊎ Keeps table_files image behind) (λ image keeps. inl keeps));
           carries = λ h whole before behind takes lent carries. m.carries h whole before lent (carried (m.honest h) before behind takes lent carries);
           renews = λ whole one none h before behind takes carries. absurd (never_whole fault new some m whole);
-          names = λ h whole kit before behind takes lent named none. absurd (never_whole fault new some m whole);
+          names = λ h whole kit before behind takes lent named. absurd (never_whole fault new some m whole);
           renews_names = λ h whole one none kit before behind takes lent names. absurd (never_whole fault new some m whole);
           number = number_same fault (next_number old) (next_number new) (m.number ∙ t.number);
           again = (λ is. absurd (same_fault is), λ broken. never_again broken);
@@ -497,14 +497,14 @@ module _ {D : Type 0} (Honest Works : D → Type 0) (state : D → DiskState) (p
           (m.carries then m.broken before lent (carried (m.honest then) before behind takes lent carries))
 
       names_by : (result : Kept) → Tried made result new → Honest (disk_of new) → is_broken new ≡ false → (kit : Kit) (before behind : words.World) → Takes bytes before behind
-          → AreLentOf table_rules before tables → ((ticks_left old ≡ 0) ⊎ IsFull old bytes → AreTheirSnapshots kit before tables.snapshots) → (ticks_left old ≡ 0 → HasNoneBegun (place_of old))
+          → AreLentOf table_rules before tables → ((ticks_left old ≡ 0) ⊎ IsFull old bytes → AreTheirSnapshots kit before tables.snapshots)
           → KeepsNames kit state old before new (world_behind result before behind)
-      names_by result again h whole kit before behind takes lent named none =
+      names_by result again h whole kit before behind takes lent named =
           let then = again.honest h in
           let is_named = named (inr (inl (t.full_half refl))) in
-          let ended = names_on kit state old mid made before before before (names_before (m.honest then) kit before behind takes lent is_named none) (m.names then before lent kit) in
+          let ended = names_on kit state old mid made before before before (names_before (m.honest then) kit before behind takes lent is_named) (m.names then before lent kit) in
           let second = keeps_names kit state made new before (world_behind result before behind) tables
-          (again.roots whole h before behind takes (same_texts bytes before behind takes) lent) (λ rests. is_named) (λ rests. m.rests) in
+          (again.roots whole h before behind takes (same_texts bytes before behind takes) lent) (λ rests. is_named) in
           names_on kit state old made new before before (world_behind result before behind) ended second
 
       grows_by : (result : Kept) → Tried made result new → Honest (disk_of new) → (before behind : words.World) → Takes bytes before behind → AreLentOf table_rules before tables

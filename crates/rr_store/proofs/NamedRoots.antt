@@ -1,8 +1,9 @@
 -- The root that a checkpoint writes names just the snapshots that its tables are to have, and few commands are played to open its
 -- file.
-use Rattle.std.proofs.Common.{◌≡◌, ℕ, ◌+◌, ◌-◌, ◌*◌, ◌≤◌, Bool, false, All, List, [], ◌∷◌, ◌++◌, length, refl, sym, ap, subst, ◌∙◌, arith}
+use Rattle.std.proofs.Common.{◌≡◌, ℕ, ◌+◌, ◌-◌, ◌*◌, ◌≤◌, Bool, false, All, List, [], ◌∷◌, ◌++◌, length, Option, None, inl, inr, refl, sym, ap, subst, ◌∙◌, arith}
 use Rattle.std.specs.Global.{Box}
 use Rattle.std.specs.Map.{values_of}
+use Rattle.std.proofs.lemmas.Bool.{cases_eq}
 use Rattle.std.proofs.lemmas.List.{length-map}
 use Rattle.rr_disk.specs.Disk.{DiskState}
 use Rattle.rr_disk.specs.Moments.{EachImage}
@@ -46,8 +47,8 @@ use Rattle.rr_tables.specs.Tables.{ArePlayed, HaveTheirSnapshots, lent_by, world
 use Rattle.rr_tables.proofs.RecordLemmas.WordLemmas.{are_in_words, one_of_commands}
 use Rattle.rr_store.specs.declared.store.Store.{Store}
 use Rattle.rr_store.specs.Held.{Held as StoreHeld}
-use Rattle.rr_store.specs.Holding.{Carries, HasNoneBegun, IsUnchanged, disk_of, file_of, held_of, lent_of, ticks_left}
-use Rattle.rr_store.specs.Named.{CheckpointsPlayFew, KeepsNames, LendsNamed, NamedRootsPlayFew, NamesComing, NamesRoots, NamesSnapshots, NewFilesNameSnapshots, OpeningsPlayFew}
+use Rattle.rr_store.specs.Holding.{Carries, HasNoneBegun, IsUnchanged, disk_of, file_of, held_of, lent_of, root_of, ticks_left}
+use Rattle.rr_store.specs.Named.{CallsKeepNames, CheckpointsPlayFew, KeepsNames, LendsNamed, NamedRootsPlayFew, NamesComing, NamesRoots, NamesSnapshots, NewFilesNameSnapshots, OpeningsPlayFew, store_behind}
 use Rattle.rr_store.specs.NamedRoots.{AreTheirSnapshots, HoldsNamed}
 use Rattle.rr_store.specs.NamedRoots as open_file
 use Rattle.rr_store.specs.Recovery.Telling.{IsBase, SpellBy}
@@ -55,66 +56,65 @@ use Rattle.rr_store.specs.Recovery.Told.{TellTables}
 use Rattle.rr_store.specs.Replayed.{AreTheirCounts, PlaysRecords, PlaysTables, counts_at}
 use Rattle.rr_store.specs.World.{World}
 use Rattle.rr_store.proofs.FewLeft.{few_are_left, lent_roots_are_named}
-use Rattle.rr_store.proofs.KeptNames.{names_still, takes_names}
+use Rattle.rr_store.proofs.KeptNames.{names_still, one_form, takes_names}
 use Rattle.rr_store.proofs.RecoveryLemmas.BaseLemmas.{base_told}
 use Rattle.rr_store.proofs.Standing.{carried_lent}
 use Rattle.rr_store.proofs.Trusting.{read_holding, standing_spells}
 
 -- ---- the directory of a root
 
--- each version is the newest
-one_form : (version : Version) → version ≡ NEWEST
-one_form One = refl
-
-as_many_texts : (chains : List HeldChain) → length (texts_of chains) ≡ length chains
-as_many_texts [] = refl
-as_many_texts (chain ∷ chains) = omega (arith, as_many_texts chains)
-
 module _ (image : List ℕ) (has : Held) (holds : Holds image has) where
-  -- where the root holds what is written of a world, the directory that is read is the one that is written
-  reads_directory : (world other : words.World) (snapshots : List Snapshot) (stands : Stands table_files image world) → (all : HoldsWorld other snapshots stands.holding)
-      → has.directory ≡ directory_for all.texts all.all.chains other snapshots
-  reads_directory world other snapshots stands all =
+  -- the directory that is read is the one that the root spells
+  reads_directory : (world : words.World) (stands : Stands table_files image world) (version : Version) (directory : Directory) → Spells version stands.holding.directory.text directory
+      → directory ≡ has.directory
+  reads_directory world stands version directory spelled =
       let form = holds.chains.has_directory.form in
-      let written = directory_for all.texts all.all.chains other snapshots in
-      let text : has.chain.text ≡ bytes_for NEWEST all.texts all.all.chains other snapshots =
-      ap (λ (held : Holding). held.directory.text) (sym (read_holding image has holds world stands).1) ∙ all.all.written in
-      one_directory NEWEST has.chain.text has.directory written (subst (λ (v : Version). Spells v has.chain.text has.directory) (one_form form.version) form.spelled)
-      (record { is_directory = all.all.is_directory; spelled = text })
+      let text : stands.holding.directory.text ≡ has.chain.text = ap (λ (held : Holding). held.directory.text) (read_holding image has holds world stands).1 in
+      let there : Spells NEWEST has.chain.text directory =
+      subst (λ (t : List ℕ). Spells NEWEST t directory) text (subst (λ (v : Version). Spells v stands.holding.directory.text directory) (one_form version) spelled) in
+      one_directory NEWEST has.chain.text directory has.directory there (subst (λ (v : Version). Spells v has.chain.text has.directory) (one_form form.version) form.spelled)
+
+  -- and the world that is read is the one that it spells
+  reads_base : (world base : words.World) (stands : Stands table_files image world) → SpellBy table_rules has base → base ≡ stands.base
+  reads_base world base stands spells =
+      let chain_texts = texts_of (chains_of has.texts (has.tables ++ has.snapshots)) in
+      spelling.one_world table_rules has.root.version has.chain.text chain_texts base stands.base spells (standing_spells image has holds world stands)
 
 -- ---- a root that is written of tables
 
 -- tables that were played and have their snapshots, none of which is too long
-record AreLendable (tables : Tables) : Type 0 where
+pub record AreLendable (tables : Tables) : Type 0 where
   pub commands : KeepCommands (world_of tables)
   pub played : ArePlayed tables
   pub named : HaveTheirSnapshots tables
   pub short : All (λ (table : Box Table). All (λ (game : Game). length (bytes_of game) ≤ MOST_SNAPSHOT_BYTES) table.value.kept.snapshots) (values_of tables.map.entries)
 
 -- what they lend is named, as the words of their world tell them
-lent_named : (texts : KitTexts) (tables : Tables) → AreLendable tables → AreTheirSnapshots tables.kit (in_words texts (world_of tables)) (lent_by tables).snapshots
+pub lent_named : (texts : KitTexts) (tables : Tables) → AreLendable tables → AreTheirSnapshots tables.kit (in_words texts (world_of tables)) (lent_by tables).snapshots
 lent_named texts tables are base chains based many =
     let same : world_of tables ≡ base = one_of_commands (world_of tables) base (in_words texts (world_of tables)) (are_in_words texts (world_of tables) are.commands) based in
     subst (λ (ts : World). AreTheirCounts tables.kit (counts_at (snapshot_entries chains (lent_by tables).snapshots)) 0 ts) same
     (lent_roots_are_named tables chains are.played are.named are.short many)
 
--- a root that holds them so names them
+-- what is read of a file whose root names them
 pub root_named : (image : List ℕ) (kit : Kit) (layout : Layout table_files) (world : words.World) → KeepsAt table_files layout image world → HoldsNamed kit layout.holding layout.base
     → NamesSnapshots kit image
 unfolding kept_stands
 root_named image kit layout world kept named has base written holds is =
-    let snapshots = named.snapshots in
-    let all = named.holds.all in
     let stands = kept_stands table_files layout image world kept in
-    let directory = reads_directory image has holds world layout.base snapshots stands named.holds in
-    let chains = all.chains.snapshots in
-    let chain_texts = texts_of (chains_of has.texts (has.tables ++ has.snapshots)) in
-    let spelled : written ≡ layout.base =
-    spelling.one_world table_rules has.root.version has.chain.text chain_texts written layout.base is.spells (standing_spells image has holds world stands) in
-    let many : length chains ≡ length snapshots =
-    sym (as_many_texts chains) ∙ ap length all.held.of_snapshots ∙ length-map snapshots (λ (s : Snapshot). s.bytes) in
-    subst (λ (d : Directory). AreTheirCounts kit (counts_at d.snapshots) 0 base) (sym directory)
-    (named.named base chains (subst (λ (w : words.World). IsInWords base w) spelled is.based) many)
+    let form = holds.chains.has_directory.form in
+    let text : has.chain.text ≡ layout.holding.directory.text = ap (λ (held : Holding). held.directory.text) (sym (read_holding image has holds world stands).1) in
+    named form.version has.directory base (subst (λ (t : List ℕ). Spells form.version t has.directory) text form.spelled)
+    (subst (λ (w : words.World). IsInWords base w) (reads_base image has holds world written stands is.spells) is.based)
+
+-- and the other way round
+pub names_root : (image : List ℕ) (kit : Kit) (layout : Layout table_files) (world : words.World) → KeepsAt table_files layout image world → (has : Held) → Holds image has → NamesSnapshots kit image
+    → HoldsNamed kit layout.holding layout.base
+unfolding kept_stands
+names_root image kit layout world kept has holds names version directory base spelled based =
+    let stands = kept_stands table_files layout image world kept in
+    subst (λ (d : Directory). AreTheirCounts kit (counts_at d.snapshots) 0 base) (sym (reads_directory image has holds world stands version directory spelled))
+    (names has base layout.base holds (record { spells = standing_spells image has holds world stands; based = based }))
 
 -- of no table there are no snapshots to name
 no_counts : (kit : Kit) (counts : ℕ → List ℕ) (base : World) → AreInWords base [] → AreTheirCounts kit counts 0 base
@@ -126,8 +126,7 @@ unfolding kept_stands
 new_files_named file texts kit new has base written holds is =
     let world = in_words texts [] in
     let stands = kept_stands table_files (formatted false new.root new.holding world) file world new.kept in
-    let chain_texts = texts_of (chains_of has.texts (has.tables ++ has.snapshots)) in
-    let spelled : written ≡ world = spelling.one_world table_rules has.root.version has.chain.text chain_texts written world is.spells (standing_spells file has holds world stands) in
+    let spelled : written ≡ world = reads_base file has holds world written stands is.spells in
     no_counts kit (counts_at has.directory.snapshots) base (subst (λ (w : words.World). IsInWords base w) spelled is.based)
 
 -- ---- what a store holds
@@ -139,8 +138,12 @@ module _ {D : Type 0} (state : D → DiskState) (store : Store D) (texts : KitTe
       let carried = roots.names.carries.carried in
       root_named image (held_of store).kit carried.layout (in_words texts (held_of store).tables) (carried.between.each image is) roots.taken
 
-  pub none_coming : ticks_left store ≡ 0 → Carries state store texts → NamesComing state store texts
-  none_coming rests carries = record { carries = carries.file; coming = λ some. absurd (omega (arith, some, rests)) }
+  pub none_coming : ticks_left store ≡ 0 → HasNoneBegun store → Carries state store texts → NamesComing state store texts
+  none_coming rests none carries =
+      let log = file_of store in
+      let middle = carries.file.carried.layout.middle in
+      let no_base : log.base ≡ None = subst (λ (begun : Option ℕ). carrying.IsBase table_rules begun log.base middle) none (carries.file.base rests) in
+      record { carries = carries.file; coming = λ some. absurd (omega (arith, some, rests)); found = λ still transcript is. absurd (cc (no_base, is)) }
 
   -- what it lends is named
   pub store_named : Carries state store texts → LendsNamed store → AreTheirSnapshots (held_of store).kit (in_words texts (held_of store).tables) (lent_of store).snapshots
@@ -169,12 +172,12 @@ module _ {D : Type 0} (state : D → DiskState) (old new : Store D) (texts : Kit
       → ((world : words.World) → AreLentOf table_rules world (lent_of old) → (before : carrying.Carries table_rules (file_of old) (state (disk_of old)) world)
       → (then : carrying.Carries table_rules (file_of new) (state (disk_of new)) world)
       × TakesRoot (file_of old) (tables_due (file_of old).base (lent_of old)).snapshots before.carried.layout before.carried.holding then.carried.layout)
-      → ticks_left new ≡ 0 → Carries state old texts → (ticks_left old ≡ 0 → LendsNamed old × HasNoneBegun old) → NamesComing state old texts → NamesRoots state new texts
-  whole_named same takes left carries may names =
+      → ticks_left new ≡ 0 → HasNoneBegun new → Carries state old texts → (ticks_left old ≡ 0 → LendsNamed old) → NamesComing state old texts → NamesRoots state new texts
+  whole_named same takes left rested carries may names =
       let world = in_words texts (held_of old).tables in
       roots_there (held_of old).tables (held_of new).broken (λ i. record { kit = (same i).kit; tables = world_of (same i); broken = (held_of new).broken })
-      (takes_names (held_of old).kit state (file_of old) (file_of new) world world (lent_of old) (takes world (carried_lent state old texts carries)) left
-      (λ rests. store_named state old texts carries (may rests).0) (λ rests. (may rests).1) names)
+      (takes_names (held_of old).kit state (file_of old) (file_of new) world world (lent_of old) (takes world (carried_lent state old texts carries)) left rested
+      (λ rests. store_named state old texts carries (may rests)) names)
 
   -- it is as it was
   pub names_unchanged : IsUnchanged old new → KeepsNames state old new texts
@@ -183,6 +186,25 @@ module _ {D : Type 0} (state : D → DiskState) (old new : Store D) (texts : Kit
       names_there (held_of old).tables (held_of old).broken same.same_held
       (subst (λ (log : Log D TableRules). open_file.KeepsNames (held_of old).kit state (file_of old) world log world) (sym same.same_file)
       (names_still (held_of old).kit state (file_of old) world))
+
+-- ---- what calls keep, one after another
+
+kept_in_turn : {D : Type 0} (state : D → DiskState) (texts : KitTexts) (first next last : Store D) → KeepsNames state first next texts → KeepsNames state next last texts
+    → KeepsNames state first last texts
+kept_in_turn state texts first next last one other =
+    record {
+      coming = λ names. other.coming (one.coming names);
+      roots = λ names. other.roots (one.roots names);
+      takes = λ differs names. elim (cases_eq (root_of next) (root_of first)) [
+        | inl same ↦ other.takes (λ is. differs (is ∙ same)) (one.coming names)
+        | inr another ↦ other.roots (one.takes another names)
+      ];
+    }
+
+pub calls_keep_names : {D : Type 0} (state : D → DiskState) → CallsKeepNames state
+calls_keep_names state texts first [] keep = record { coming = λ names. names; roots = λ names. names; takes = λ differs names. absurd (differs refl) }
+calls_keep_names state texts first (next ∷ later) keep =
+    kept_in_turn state texts first next (store_behind next later) keep.0 (calls_keep_names state texts next later keep.1)
 
 -- ---- how many commands are played
 

@@ -29,7 +29,7 @@ use Rattle.rr_store.specs.declared.store.Store.{Store}
 use Rattle.rr_store.specs.Allowing.{Between, TickAllows}
 use Rattle.rr_store.specs.Fault.{CountsEnd, OnDeviceFault, of_log}
 use Rattle.rr_store.specs.Files.{AreTablesOf, StandsFor}
-use Rattle.rr_store.specs.Holding.{Carries, HasNoneBegun, disk_of, file_of, held_of, lent_of, ticks_left}
+use Rattle.rr_store.specs.Holding.{Carries, disk_of, file_of, held_of, lent_of, ticks_left}
 use Rattle.rr_store.specs.Named.{KeepsNames, LendsNamed, NamesComing, NamesRoots}
 use Rattle.rr_store.specs.NamedRoots as roots
 use Rattle.rr_store.specs.Ticking.{RefusesStep, Steps, held_behind}
@@ -64,7 +64,7 @@ module _ {D : Type 0} (Honest Works : D → Type 0) (state : D → DiskState) (p
   -- what becomes of its roots
   pub record Named (old : Log D TableRules) (tables : Lent) (new : Log D TableRules) : Type 0 where
     pub keeps : file.is_broken new ≡ false → Honest (file.disk_of new) → (world : words.World) → AreLentOf table_rules world tables → (kit : Kit)
-        → (file.ticks_left old ≡ 0 → roots.AreTheirSnapshots kit world tables.snapshots) → (file.ticks_left old ≡ 0 → file.HasNoneBegun (file.place_of old))
+        → (file.ticks_left old ≡ 0 → roots.AreTheirSnapshots kit world tables.snapshots)
         → roots.KeepsNames kit state old world new world
     pub renews : file.is_broken new ≡ false → Honest (file.disk_of new) → (world : words.World) → AreLentOf table_rules world tables → (kit : Kit)
         → file.ticks_left old ≡ 1 → file.ticks_left new ≡ 0 → roots.NamesComing kit old (state (file.disk_of old)) world → roots.NamesRoots kit new (state (file.disk_of new)) world
@@ -77,7 +77,7 @@ module _ {D : Type 0} (Honest Works : D → Type 0) (state : D → DiskState) (p
       → Named old tables new
   named_by_steps old tables new keeps =
       record {
-        keeps = λ whole h world lent kit named none. keeps_names kit state old new world world tables (keeps whole h world lent) named none;
+        keeps = λ whole h world lent kit named. keeps_names kit state old new world world tables (keeps whole h world lent) named;
         renews = λ whole h world lent kit one none names. renews_names kit state old new world world tables (keeps whole h world lent) one none names;
       }
 
@@ -86,12 +86,12 @@ module _ {D : Type 0} (Honest Works : D → Type 0) (state : D → DiskState) (p
       → (Honest (file.disk_of new) → (world : words.World) → AreLentOf table_rules world tables
       → (carries : carrying.Carries table_rules old (state (file.disk_of old)) world) → (then : carrying.Carries table_rules new (state (file.disk_of new)) world)
       × TakesRoot old (calls.tables_due old.base tables).snapshots carries.carried.layout carries.carried.holding then.carried.layout)
-      → file.ticks_left new ≡ 0 → Named old tables new
-  named_by_whole old tables new takes left =
+      → file.ticks_left new ≡ 0 → file.HasNoneBegun (file.place_of new) → Named old tables new
+  named_by_whole old tables new takes left rests =
       record {
-        keeps = λ whole h world lent kit named none. ends_names kit state old new world world tables (takes h world lent) left named none;
+        keeps = λ whole h world lent kit named. ends_names kit state old new world world tables (takes h world lent) left rests named;
         renews = λ whole h world lent kit one none names.
-            takes_names kit state old new world world tables (takes h world lent) left (λ rests. absurd (omega (arith, one, rests))) (λ rests. absurd (omega (arith, one, rests))) names;
+            takes_names kit state old new world world tables (takes h world lent) left rests (λ still. absurd (omega (arith, one, still))) names;
       }
 
   -- what the open file does
@@ -158,11 +158,11 @@ module _ {D : Type 0} (Honest Works : D → Type 0) (state : D → DiskState) (p
       }
 
       names_by : Honest (disk_of new) → (held_of new).broken ≡ false → (texts : KitTexts) → Carries state old texts
-          → (ticks_left old ≡ 0 → LendsNamed old × HasNoneBegun old) → KeepsNames state old new texts
+          → (ticks_left old ≡ 0 → LendsNamed old) → KeepsNames state old new texts
       names_by h whole texts carries may =
           names_there state old new texts tables_now (file.is_broken (file_of new)) (held_if (file.is_broken (file_of new)) refl)
           (s.named.keeps whole h (in_words texts tables_now) (carried_lent state old texts carries) (held_of old).kit
-          (λ rests. store_named state old texts carries (may rests).0) (λ rests. (may rests).1))
+          (λ rests. store_named state old texts carries (may rests)))
 
       renews_by : Honest (disk_of new) → (held_of new).broken ≡ false → ticks_left old ≡ 1 → ticks_left new ≡ 0 → (texts : KitTexts) → Carries state old texts
           → NamesComing state old texts → NamesRoots state new texts

@@ -20,7 +20,7 @@ use Rattle.rr_store.specs.declared.store.Store.{Store}
 use Rattle.rr_store.specs.Allowing.{Between, CommitAllows}
 use Rattle.rr_store.specs.Fault.{CountsEnd, OnDeviceFault}
 use Rattle.rr_store.specs.Held.{Takes}
-use Rattle.rr_store.specs.Holding.{Carries, GamesArePlayed, GamesHaveSnapshots, HasNoRoom, HasNoneBegun, IsFull, IsFullFor, IsUnchanged, Rests, disk_of, file_of, held_of, lent_of, number_of_next, replayed_of, ticks_left}
+use Rattle.rr_store.specs.Holding.{Carries, GamesArePlayed, GamesHaveSnapshots, HasNoRoom, IsFull, IsFullFor, IsUnchanged, Rests, disk_of, file_of, held_of, lent_of, number_of_next, replayed_of, ticks_left}
 use Rattle.rr_store.specs.Keeping.{ComesOn, GrowsInAll, MakesAtMost, length_on}
 use Rattle.rr_store.specs.Named.{KeepsNames, LendsNamed, NamesComing, NamesRoots}
 use Rattle.rr_store.specs.World.{for_table, judgement_in}
@@ -62,8 +62,8 @@ Spares old (Err fault) new = IsUnchanged old new
 -- that a stop may leave takes a newer root, whose chains spell the world as the checkpoint began; only the records since then stand
 -- behind it. The file becomes longer only where no page under its end is free: where the half had room, as by one step
 -- of a checkpoint, and whatever is to be done, as `GrowsInAll` says. Roots that have just the snapshots that their tables
--- are to have stay so, and so does the one that is coming, if what is lent to a checkpoint that begins is so and the opening
--- found none begun; behind the last step of one the root is so that was coming. What the opening played stays told. And an honest
+-- are to have stay so, and so does the one that is coming, if what is lent to a checkpoint that begins is so; behind the
+-- last step of one the root is so that was coming. What the opening played stays told. And an honest
 -- disk that works, and carries what was held, is never told to have failed.
 pub record Commits {D : Type 0} (Honest Works : D → Type 0) (state : D → DiskState) (past : D → List DiskState) (faults writes syncs : D → ℕ)
     (old : Store D) (name : List ℕ) (stamp : ℕ) (request : Request Command) (new : Store D) (result : Result ℕ Fault) : Type 0 where
@@ -83,7 +83,7 @@ pub record Commits {D : Type 0} (Honest Works : D → Type 0) (state : D → Dis
       → EachImage (state (disk_of new)) (TakesNewer table_files
       (layout_behind result carries.file.carried.layout (record_text name request) (in_words texts (held_of new).tables)) (in_words texts (held_of new).tables))
   pub names : Honest (disk_of new) → (held_of new).broken ≡ false → (texts : KitTexts) → Carries state old texts
-      → ((ticks_left old ≡ 0) ⊎ IsFull old name request → LendsNamed old) → (ticks_left old ≡ 0 → HasNoneBegun old) → KeepsNames state old new texts
+      → ((ticks_left old ≡ 0) ⊎ IsFull old name request → LendsNamed old) → KeepsNames state old new texts
   pub renews_names : Honest (disk_of new) → (held_of new).broken ≡ false → ticks_left old ≡ 1 → ticks_left new ≡ 0 → (texts : KitTexts)
       → Carries state old texts → NamesComing state old texts → NamesRoots state new texts
   pub number : NumberBehind result (number_of_next old) (number_of_next new)

@@ -14,7 +14,7 @@ use Rattle.rr_log.specs.Calls.{MeetsFullFile, NumberBehind, layout_behind, ticks
 use Rattle.rr_log.specs.Carrying.{Carries}
 use Rattle.rr_log.specs.Fault.{CountsFault, OnDeviceFault, ends_broken}
 use Rattle.rr_log.specs.Growing.{Grows, TakesPages}
-use Rattle.rr_log.specs.Log.{HasNoRoom, HasNoneBegun, IsDue, IsPastLast, IsTooLong, disk_of, free_of, is_broken, next_number, place_of, ticks_left}
+use Rattle.rr_log.specs.Log.{HasNoRoom, IsDue, IsPastLast, IsTooLong, disk_of, free_of, is_broken, next_number, place_of, ticks_left}
 use Rattle.rr_pages.specs.FreePages.{coming_of, present_of}
 use Rattle.rr_tables.specs.declared.records.rules.TableRules.{TableRules}
 use Rattle.rr_tables.specs.Records.Taking.{Takes, table_files, table_rules}
@@ -84,7 +84,7 @@ pub record GrowsInAll {D R : Type 0} (state : D → DiskState) (old new : Log D 
 -- chains spell the world as the checkpoint began; only the records since then stand behind it. The file becomes longer
 -- only where no page under its end is free: where there was room, as by one step of a checkpoint, and whatever is to be
 -- done, as `GrowsInAll` says. Roots that name just the snapshots that their tables are to have stay so, and so does the one
--- that is coming, if what is lent to a checkpoint that begins is so and the opening found none begun; behind the last step
+-- that is coming, if what is lent to a checkpoint that begins is so; behind the last step
 -- of one the root is so that was coming. And an honest disk that works, and carries such a world, is never told to have
 -- failed.
 pub record Keeping {D : Type 0} (Honest Works : D → Type 0) (state : D → DiskState) (past : D → List DiskState) (faults writes syncs : D → ℕ)
@@ -99,7 +99,7 @@ pub record Keeping {D : Type 0} (Honest Works : D → Type 0) (state : D → Dis
       → (carries : Carries table_rules old (state (disk_of old)) before)
       → EachImage (state (disk_of new)) (TakesNewer table_files (layout_behind result carries.carried.layout bytes behind) (world_behind result before behind))
   pub names : Honest (disk_of new) → is_broken new ≡ false → (kit : Kit) (before behind : words.World) → Takes bytes before behind → AreLentOf table_rules before lent
-      → ((ticks_left old ≡ 0) ⊎ IsFull old bytes → AreTheirSnapshots kit before lent.snapshots) → (ticks_left old ≡ 0 → HasNoneBegun (place_of old))
+      → ((ticks_left old ≡ 0) ⊎ IsFull old bytes → AreTheirSnapshots kit before lent.snapshots)
       → KeepsNames kit state old before new (world_behind result before behind)
   pub renews_names : Honest (disk_of new) → is_broken new ≡ false → ticks_left old ≡ 1 → ticks_left new ≡ 0 → (kit : Kit) (before behind : words.World)
       → Takes bytes before behind → AreLentOf table_rules before lent

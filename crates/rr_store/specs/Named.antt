@@ -1,5 +1,5 @@
 -- Roots that name just the snapshots that their tables are to have, so that few commands are played to open their files.
-use Rattle.std.specs.Prelude.{◌≡◌, ℕ, ◌+◌, ◌-◌, ◌*◌, ◌≤◌, All, List, ◌++◌, length}
+use Rattle.std.specs.Prelude.{◌≡◌, ℕ, ◌+◌, ◌-◌, ◌*◌, ◌≤◌, All, List, [], ◌∷◌, ◌++◌, length}
 use Rattle.std.specs.Global.{Box}
 use Rattle.std.specs.Map.{values_of}
 use Rattle.rr_disk.specs.Disk.{DiskState}
@@ -15,11 +15,13 @@ use Rattle.rr_reading.specs.declared.dir.directory.TheConstants.{MOST_SNAPSHOT_B
 use Rattle.rr_reading.specs.Held.{Held}
 use Rattle.rr_reading.specs.Reading.{Holds}
 use Rattle.rr_reading.specs.Worlds.World as words
+use Rattle.rr_tables.specs.declared.tables.Tables.{Tables}
+use Rattle.rr_tables.specs.Tables.{ArePlayed}
 use Rattle.rr_tables.specs.Records.Taking.{table_files}
 use Rattle.rr_tables.specs.Records.Words.{in_words}
 use Rattle.rr_store.specs.declared.store.Store.{Store}
 use Rattle.rr_store.specs.Files.{IsNewStore, StandsFor}
-use Rattle.rr_store.specs.Holding.{Carries, GamesHaveSnapshots, disk_of, file_of, held_of, root_of, ticks_left}
+use Rattle.rr_store.specs.Holding.{Carries, GamesHaveSnapshots, HasNoneBegun, disk_of, file_of, held_of, root_of, ticks_left}
 use Rattle.rr_store.specs.NamedRoots as open_file
 use Rattle.rr_store.specs.Recovery.Telling.{IsBase}
 use Rattle.rr_store.specs.Replayed.{AreTheirCounts, PlaysRecords, ReplaysFile, counts_at}
@@ -31,11 +33,18 @@ NamesSnapshots kit file =
     (has : Held) (base : World) (world : words.World) → Holds file has → IsBase has base world
     → AreTheirCounts kit (counts_at has.directory.snapshots) 0 base
 
--- no snapshot that its tables keep has more bytes than a file takes
-abbrev pub HasShortSnapshots : {D : Type 0} → Store D → Type 0
-HasShortSnapshots store =
+-- no snapshot that these tables keep has more bytes than a file takes
+abbrev pub HaveShortSnapshots : Tables → Type 0
+HaveShortSnapshots tables =
     All (λ (table : Box Table). All (λ (game : Game). length (bytes_of game) ≤ MOST_SNAPSHOT_BYTES) table.value.kept.snapshots)
-    (values_of store.tables.map.entries)
+    (values_of tables.map.entries)
+
+abbrev pub HasShortSnapshots : {D : Type 0} → Store D → Type 0
+HasShortSnapshots store = HaveShortSnapshots store.tables
+
+-- nor does any that tables keep which are played by the rules of this kit
+abbrev pub SnapshotsAreShort : Kit → Type 0
+SnapshotsAreShort kit = (tables : Tables) → tables.kit ≡ kit → ArePlayed tables → HaveShortSnapshots tables
 
 -- each table that it holds has just the snapshots that it is to have, none of which is too long for a file
 pub record LendsNamed {D : Type 0} (store : Store D) : Type 0 where
@@ -85,10 +94,27 @@ CheckpointsPlayFew =
     → TakesRootOf table_files number (in_words texts tables) file → NamesSnapshots kit file → ReplaysFile file kit count
     → count ≤ (SNAPSHOT_SPACING - 1) * length tables
 
--- Where no checkpoint is under way, no root is coming.
+-- Where no checkpoint is under way, and the opening found none begun, no root is coming.
 abbrev pub NoneIsComingAtRest : {D : Type 0} → (D → DiskState) → Type 0
 NoneIsComingAtRest {D} state =
-    (texts : KitTexts) (store : Store D) → ticks_left store ≡ 0 → Carries state store texts → NamesComing state store texts
+    (texts : KitTexts) (store : Store D) → ticks_left store ≡ 0 → HasNoneBegun store → Carries state store texts → NamesComing state store texts
+
+-- stores of one file, each left by a call on the one before it that keeps what the roots name
+abbrev pub KeepNames : {D : Type 0} → (D → DiskState) → KitTexts → Store D → List (Store D) → Type 0
+KeepNames state texts first [] = Unit {0}
+KeepNames state texts first (next ∷ later) = KeepsNames state first next texts × KeepNames state texts next later
+
+-- the last of them
+abbrev pub store_behind : {D : Type 0} → Store D → List (Store D) → Store D
+store_behind first [] = first
+store_behind first (next ∷ later) = store_behind next later
+
+-- Whatever calls are made, one after another, what each of them keeps they keep together; and where another root is taken
+-- behind them, it has just the snapshots that its tables are to have.
+abbrev pub CallsKeepNames : {D : Type 0} → (D → DiskState) → Type 0
+CallsKeepNames {D} state =
+    (texts : KitTexts) (first : Store D) (later : List (Store D)) → KeepNames state texts first later
+    → KeepsNames state first (store_behind first later) texts
 
 -- Of a store whose roots are so each file that a stop may leave has such a root, and few commands are played to open it.
 abbrev pub NamedRootsPlayFew : {D : Type 0} → (D → DiskState) → Type 0

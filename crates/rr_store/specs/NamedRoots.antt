@@ -1,11 +1,15 @@
 -- Whether the roots of an open file name just the snapshots that their tables are to have.
-use Rattle.std.specs.Prelude.{◌≡◌, ◌<◌, List, length}
+use Rattle.std.specs.Prelude.{◌≡◌, ◌<◌, List, Option, Some, length}
+use Rattle.rr_checkpoint.specs.declared.plan.transcript.Transcript.{Transcript}
 use Rattle.rr_disk.specs.Disk.{DiskState}
 use Rattle.rr_images.specs.Holding.{HeldChain, Holding}
 use Rattle.rr_kit.specs.declared.kit.Kit.{Kit}
 use Rattle.rr_log.specs.declared.log.Log.{Log}
-use Rattle.rr_log.specs.Carrying.{Carries, HoldsWorld}
+use Rattle.rr_log.specs.Carrying.{Carries}
+use Rattle.rr_log.specs.Lent.{lent_in}
 use Rattle.rr_log.specs.Log.{disk_of, root_number, ticks_left}
+use Rattle.rr_reading.specs.declared.dir.version.Version.{Version}
+use Rattle.rr_reading.specs.Dir.Directory.{Directory, Spells}
 use Rattle.rr_reading.specs.Worlds.Spelling.{snapshot_entries}
 use Rattle.rr_reading.specs.Worlds.World.{Snapshot}
 use Rattle.rr_reading.specs.Worlds.World as words
@@ -21,19 +25,24 @@ AreTheirSnapshots kit world snapshots =
     (base : World) (chains : List HeldChain) → IsInWords base world → length chains ≡ length snapshots
     → AreTheirCounts kit (counts_at (snapshot_entries chains snapshots)) 0 base
 
--- a root holds the world, and just the snapshots that its tables are to have
-pub record HoldsNamed (kit : Kit) (holding : Holding) (world : words.World) : Type 0 where
-  pub snapshots : List Snapshot
-  pub holds : HoldsWorld world snapshots holding
-  pub named : AreTheirSnapshots kit world snapshots
+-- whatever directory a root has, it names just the snapshots that the tables of this world are to have
+abbrev pub HoldsNamed : Kit → Holding → words.World → Type 0
+HoldsNamed kit holding world =
+    (version : Version) (directory : Directory) (base : World) → Spells version holding.directory.text directory → IsInWords base world
+    → AreTheirCounts kit (counts_at directory.snapshots) 0 base
 
--- The open file carries this world. While a checkpoint is under way, the root that is coming will hold the world from before
--- the first record of the other half so.
+-- where tables are kept for a checkpoint that an opening found begun, what is written of them names just those too
+abbrev pub NamesBase : Kit → Option Transcript → words.World → Type 0
+NamesBase kit base world = (transcript : Transcript) → base ≡ Some transcript → AreTheirSnapshots kit world (lent_in transcript).snapshots
+
+-- The open file carries this world. While a checkpoint is under way, the root that is coming will name those of the world from
+-- before the first record of the other half; and where an opening found one begun, it is to be written so.
 pub record NamesComing {D : Type 0} (kit : Kit) (log : Log D TableRules) (state : DiskState) (world : words.World) : Type 0 where
   pub carries : Carries table_rules log state world
   pub coming : 0 < ticks_left log → HoldsNamed kit carries.carried.holding carries.carried.layout.middle
+  pub found : ticks_left log ≡ 0 → NamesBase kit log.base carries.carried.layout.middle
 
--- and the root that is taken holds so the world that it spells
+-- and the root that is taken names those of the world that it spells
 pub record NamesRoots {D : Type 0} (kit : Kit) (log : Log D TableRules) (state : DiskState) (world : words.World) : Type 0 where
   pub names : NamesComing kit log state world
   pub taken : HoldsNamed kit names.carries.carried.layout.holding names.carries.carried.layout.base

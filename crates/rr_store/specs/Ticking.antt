@@ -11,7 +11,7 @@ use Rattle.rr_store.specs.declared.store.Store.{Store}
 use Rattle.rr_store.specs.Allowing.{Between, TickAllows}
 use Rattle.rr_store.specs.Fault.{CountsEnd, OnDeviceFault}
 use Rattle.rr_store.specs.Held.{Held, with_failure}
-use Rattle.rr_store.specs.Holding.{Carries, GamesArePlayed, GamesHaveSnapshots, HasNoneBegun, IsUnchanged, disk_of, file_of, held_of, lent_of, number_of_next, ticks_left}
+use Rattle.rr_store.specs.Holding.{Carries, GamesArePlayed, GamesHaveSnapshots, IsUnchanged, disk_of, file_of, held_of, lent_of, number_of_next, ticks_left}
 use Rattle.rr_store.specs.Named.{KeepsNames, LendsNamed, NamesComing, NamesRoots}
 
 -- what is held behind a call that takes no request: the same, unless the device failed
@@ -38,8 +38,8 @@ RefusesStep old new _ = ⊥
 -- for that and keeps it, and the disk carries it on. Of every disk: what is held stays, and so does the number of the next
 -- record; a broken store refuses, and no other; and a device fault is told exactly where the disk counts one. An honest disk
 -- that works, and carries what is held, is never told to have failed. Roots that have just the snapshots that their tables are
--- to have stay so, and so does the one that is coming, if what is lent to a checkpoint that begins is so and the opening found
--- none begun; behind the last step of one the root is so that was coming.
+-- to have stay so, and so does the one that is coming, if what is lent to a checkpoint that begins is so; behind the last
+-- step of one the root is so that was coming.
 pub record Steps {D T : Type 0} (Honest Works : D → Type 0) (state : D → DiskState) (past : D → List DiskState) (faults : D → ℕ)
     (old : Store D) (result : Result T Fault) (new : Store D) : Type 0 where
   pub honest : Honest (disk_of new) → Honest (disk_of old)
@@ -51,7 +51,7 @@ pub record Steps {D T : Type 0} (Honest Works : D → Type 0) (state : D → Dis
       (KeepsTables texts (held_of old).tables)
   pub carries : Honest (disk_of new) → (held_of new).broken ≡ false → (texts : KitTexts) → Carries state old texts → Carries state new texts
   pub names : Honest (disk_of new) → (held_of new).broken ≡ false → (texts : KitTexts) → Carries state old texts
-      → (ticks_left old ≡ 0 → LendsNamed old × HasNoneBegun old) → KeepsNames state old new texts
+      → (ticks_left old ≡ 0 → LendsNamed old) → KeepsNames state old new texts
   pub renews_names : Honest (disk_of new) → (held_of new).broken ≡ false → ticks_left old ≡ 1 → ticks_left new ≡ 0 → (texts : KitTexts)
       → Carries state old texts → NamesComing state old texts → NamesRoots state new texts
   pub held : held_of new ≡ held_behind result (held_of old)

@@ -2,7 +2,7 @@
 //! hold of all files, worlds and disks.
 ghost use Rattle.rr_store.specs.Events.{CommitsAreEvents, OpensAreEvents, StepsAreEvents};
 ghost use Rattle.rr_store.specs.Laws.{BareTablesArePlayedOnce, FewAreLeft, LentRootsAreNamed, NumbersAreInTheFile, OneWorld};
-ghost use Rattle.rr_store.specs.Named.{CheckpointsPlayFew, NamedRootsPlayFew, NewFilesNameSnapshots, NoneIsComingAtRest, OpeningsPlayFew};
+ghost use Rattle.rr_store.specs.Named.{CallsKeepNames, CheckpointsPlayFew, NamedRootsPlayFew, NewFilesNameSnapshots, NoneIsComingAtRest, OpeningsPlayFew};
 ghost use Rattle.rr_store.specs.Sessions.{OpeningsAndRequestsAreSessions, PartsOfWritesAreLeft, SessionsAreSafe};
 
 use rr_checkpoint::Tick;
@@ -46,8 +46,10 @@ pub fn openings_play_few()
 /// step of a checkpoint the one is taken that was coming (`names` and `renews_names` of `Steps` and `Commits`).
 pub fn named_roots_play_few<D: Disk>()
     ensures images { NamedRootsPlayFew D.state }
-    // Where no checkpoint is under way, no root is coming.
+    // Where no checkpoint is under way, and none was found begun, no root is coming.
     ensures at_rest { NoneIsComingAtRest D.state }
+    // What each call keeps, all of them keep.
+    ensures calls { CallsKeepNames D.state }
 {}
 
 /// What the contracts of the calls on a store say is what the law over schedules allows of events, however they end and

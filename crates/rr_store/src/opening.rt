@@ -19,6 +19,7 @@ ghost use Rattle.rr_store.specs.Allowing.{Between};
 ghost use Rattle.rr_store.specs.Fault.{CountsEnd, CountsFailure, OnDevice, OnDeviceFault};
 ghost use Rattle.rr_store.specs.Files.{AreTablesOf, StandsFor};
 ghost use Rattle.rr_store.specs.Holding.{Carries, GamesArePlayed, GamesHaveSnapshots, disk_of, held_of, replayed_of};
+ghost use Rattle.rr_store.specs.Named.{NamesRoots, NamesSnapshots, SnapshotsAreShort};
 ghost use Rattle.rr_store.specs.Opening.{IsFound, IsNoVerdict, IsSyncedFirst, OpenAllows, Refuses};
 ghost use Rattle.rr_store.specs.Replayed.{ReplaysFile};
 
@@ -83,6 +84,12 @@ pub fn open<D: Disk + Drop>(alloc: Global, disk: D) -> Result<Store<D>, Refused<
     // Each has its snapshots then, whichever the file has.
     ensures snapshots { IfOk result (λ store. D.Honest (disk_of store) → (texts : KitTexts) (tables : World)
         → StandsFor (D.state disk).content texts tables → GamesHaveSnapshots store) }
+
+    // Where its root names just the snapshots that its tables are to have, as that of a new file does and each that a
+    // checkpoint wrote, the roots of the store do.
+    ensures names { IfOk result (λ store. D.Honest (disk_of store) → (texts : KitTexts)
+        → KeepsTables texts (held_of store).tables (D.state disk).content → SnapshotsAreShort (held_of store).kit
+        → NamesSnapshots (held_of store).kit (D.state disk).content → NamesRoots D.state store texts) }
 
     // And for that so many commands are played.
     ensures replayed { IfOk result (λ store. D.Honest (disk_of store) → (texts : KitTexts) (tables : World)

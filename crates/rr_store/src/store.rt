@@ -242,7 +242,7 @@ impl<D: Disk + Drop> Store<D> {
             → EachImage (D.state (disk_of self.new)) (NamesSnapshots (held_of self.old).kit)) }
         // Of one that was under way, if the root that was coming was to have them.
         ensures takes_named { OnOk result (D.Honest (disk_of self.new) → (texts : KitTexts) → Carries D.state self.old texts
-            → (ticks_left self.old ≡ 0 → LendsNamed self.old × HasNoneBegun self.old)
+            → (ticks_left self.old ≡ 0 → LendsNamed self.old)
             → NamesComing D.state self.old texts → NamesRoots D.state self.new texts) }
         ensures fits { OnOk result (ticks_left self.old ≡ 0
             → IsFileFull (file_of self.old) (lent_of self.old) → ⊥) }

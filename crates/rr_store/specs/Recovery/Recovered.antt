@@ -11,13 +11,14 @@ use Rattle.rr_store.specs.Recovery.Telling.{HasTrueSnapshots, IsRecovered}
 use Rattle.rr_store.specs.Recovery.Replaying.{IsTranscriptBefore}
 
 -- The tables are the world that the file tells, with its kit, were played, and have their snapshots; and there is a transcript
--- just where the other half has records: of the tables before these, which were played, too.
+-- just where the other half has records: of the tables before these, which were played, and have theirs, too.
 pub record IsTold (has : Held) (texts : KitTexts) (recovered : Recovered) : Type 0 where
   pub base : World
   pub middle : Tables
   pub told : IsRecovered has texts recovered.tables.kit base (world_of middle) (world_of recovered.tables)
   pub of_kit : middle.kit ≡ recovered.tables.kit
   pub middle_played : ArePlayed middle
+  pub middle_snapshots : HaveTheirSnapshots middle
   pub before : IsTranscriptBefore has.far middle recovered.base
   pub played : ArePlayed recovered.tables
   pub snapshots : HaveTheirSnapshots recovered.tables

@@ -3,7 +3,7 @@ use Rattle.std.specs.Prelude.{◌≡◌, ℕ, List, [], ◌∷◌, ◌++◌, Opt
 use Rattle.rr_kit.specs.declared.kit.Kit.{Kit}
 use Rattle.rr_tables.specs.Records.Lines.{IsUnlawful, TakesRecord}
 use Rattle.rr_tables.specs.Records.World.{World}
-use Rattle.rr_tables.specs.Tables.{ArePlayed, lent_by, world_of}
+use Rattle.rr_tables.specs.Tables.{ArePlayed, HaveTheirSnapshots, lent_by, world_of}
 use Rattle.rr_tables.specs.declared.tables.Tables.{Tables}
 use Rattle.rr_checkpoint.specs.declared.plan.transcript.Transcript.{Transcript}
 use Rattle.rr_log.specs.Lent.{lent_in}
@@ -29,11 +29,13 @@ IsTranscriptBefore [] tables base = base ≡ None
 IsTranscriptBefore (line ∷ lines) tables None = ⊥
 IsTranscriptBefore (line ∷ lines) tables (Some transcript) = lent_in transcript ≡ lent_by tables
 
--- the near records are taken and then the far ones, and between them the transcript was made of tables that were played
-pub record AreReplayed (kit : Kit) (old : World) (near far : List (List ℕ)) (base : Option Transcript) (new : World) : Type 0 where
+-- The near records are taken and then the far ones, and between them the transcript was made of tables that were played, and
+-- that have their snapshots if those had them with which it began.
+pub record AreReplayed (kit : Kit) (old : Tables) (near far : List (List ℕ)) (base : Option Transcript) (new : World) : Type 0 where
   pub middle : Tables
   pub of_kit : middle.kit ≡ kit
   pub played : ArePlayed middle
-  pub replays_near : Replays kit old near (world_of middle)
+  pub snapshots : HaveTheirSnapshots old → HaveTheirSnapshots middle
+  pub replays_near : Replays kit (world_of old) near (world_of middle)
   pub replays_far : Replays kit (world_of middle) far new
   pub before : IsTranscriptBefore far middle base

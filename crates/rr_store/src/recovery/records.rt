@@ -25,7 +25,7 @@ pub(crate) fn replay_halves(
     far: &[Vec<u8>],
 ) -> Result<Restored<Option<Transcript>>, Fault>
     ensures replayed { IfOk result (λ restored. ArePlayed tables.old
-        → AreReplayed tables.old.kit (world_of tables.old) (lines near.now) (lines far.now) restored.value (world_of tables.new)) }
+        → AreReplayed tables.old.kit tables.old (lines near.now) (lines far.now) restored.value (world_of tables.new)) }
     // Of as many records as the halves of a journal may have.
     ensures plays { IfOk result (λ restored. ArePlayed tables.old → HaveTheirSnapshots tables.old
         → length near.now ≤ LAST_SLOT → length far.now ≤ LAST_SLOT

@@ -43,7 +43,7 @@ returns-in-Ok g c =
       | then-ticks_left-gt0+in_ok-checkpoint w ↦
           let some : 0 < ticks_left c.keep-kept.new.self = omega (arith, c.ticks_left.ensures, w.if-ticks_left-gt0.true) in
           subst (λ (file : Log g.row.D.Denot TableRules). Made g.D.Disk.Honest g.D.Disk.Works g.D.Disk.state g.D.Disk.past g.D.Disk.fault_count g.D.Disk.write_count g.D.Disk.sync_count (lent_of g.T.TablesInWords c.args.tables.now) c.args.line.now c.keep-kept.new.self (Ok tt) file) (sym w.file-is)
-          (record { stops = w.in_ok-checkpoint.ensures.stops; carries = w.in_ok-checkpoint.ensures.carries; names = λ h world lent kit. ends_names kit g.D.Disk.state c.keep-kept.new.self w.checkpoint.new.self world world (lent_of g.T.TablesInWords c.args.tables.now) (λ carries. w.in_ok-checkpoint.ensures.takes_root h world lent carries) w.in_ok-checkpoint.ensures.left (λ none. absurd (omega (arith, some, none))) (λ none. absurd (omega (arith, some, none))); number = w.in_ok-checkpoint.ensures.number; again = w.in_ok-checkpoint.ensures.again; broken = w.in_ok-checkpoint.ensures.broken; left = w.in_ok-checkpoint.ensures.left; rests = w.in_ok-checkpoint.ensures.rests; first = w.in_ok-checkpoint.ensures.first; room = w.in_ok-checkpoint.ensures.room; fault = w.in_ok-checkpoint.ensures.fault; grows = λ h world lent carries. grows_so _ _ _ _ _ _ (g.met.D.Disk.length_is_told c.keep-kept.new.self.disk (w.in_ok-checkpoint.ensures.honest h)) (g.met.D.Disk.length_is_told w.checkpoint.new.self.disk h) (w.in_ok-checkpoint.ensures.grows h world lent carries); grows_so_far = tt; reclaims = w.in_ok-checkpoint.ensures.reclaims; same_free = tt; honest = w.in_ok-checkpoint.ensures.honest; works = w.in_ok-checkpoint.ensures.works; device = w.in_ok-checkpoint.ensures.device; half = w.in_ok-checkpoint.ensures.half some; all_writes = w.in_ok-checkpoint.ensures.writes some; all_syncs = w.in_ok-checkpoint.ensures.syncs some; idle = λ none. absurd (omega (arith, some, none)) })
+          (record { stops = w.in_ok-checkpoint.ensures.stops; carries = w.in_ok-checkpoint.ensures.carries; names = λ h world lent kit. ends_names kit g.D.Disk.state c.keep-kept.new.self w.checkpoint.new.self world world (lent_of g.T.TablesInWords c.args.tables.now) (λ carries. w.in_ok-checkpoint.ensures.takes_root h world lent carries) w.in_ok-checkpoint.ensures.left w.in_ok-checkpoint.ensures.rests (λ none. absurd (omega (arith, some, none))); number = w.in_ok-checkpoint.ensures.number; again = w.in_ok-checkpoint.ensures.again; broken = w.in_ok-checkpoint.ensures.broken; left = w.in_ok-checkpoint.ensures.left; rests = w.in_ok-checkpoint.ensures.rests; first = w.in_ok-checkpoint.ensures.first; room = w.in_ok-checkpoint.ensures.room; fault = w.in_ok-checkpoint.ensures.fault; grows = λ h world lent carries. grows_so _ _ _ _ _ _ (g.met.D.Disk.length_is_told c.keep-kept.new.self.disk (w.in_ok-checkpoint.ensures.honest h)) (g.met.D.Disk.length_is_told w.checkpoint.new.self.disk h) (w.in_ok-checkpoint.ensures.grows h world lent carries); grows_so_far = tt; reclaims = w.in_ok-checkpoint.ensures.reclaims; same_free = tt; honest = w.in_ok-checkpoint.ensures.honest; works = w.in_ok-checkpoint.ensures.works; device = w.in_ok-checkpoint.ensures.device; half = w.in_ok-checkpoint.ensures.half some; all_writes = w.in_ok-checkpoint.ensures.writes some; all_syncs = w.in_ok-checkpoint.ensures.syncs some; idle = λ none. absurd (omega (arith, some, none)) })
       | else-ticks_left-gt0 w ↦
           let none : ticks_left c.keep-kept.new.self ≡ 0 = omega (arith, c.ticks_left.ensures, w.if-ticks_left-gt0.false) in
           subst (λ (file : Log g.row.D.Denot TableRules). Made g.D.Disk.Honest g.D.Disk.Works g.D.Disk.state g.D.Disk.past g.D.Disk.fault_count g.D.Disk.write_count g.D.Disk.sync_count (lent_of g.T.TablesInWords c.args.tables.now) c.args.line.now c.keep-kept.new.self (Ok tt) file) (sym w.file-is)
@@ -63,7 +63,7 @@ returns-in-Err g c =
       | then-ticks_left-gt0+in_ok-checkpoint w ↦
           let some : 0 < ticks_left c.keep-kept.new.self = omega (arith, c.ticks_left.ensures, w.if-ticks_left-gt0.true) in
           subst (λ (file : Log g.row.D.Denot TableRules). Made g.D.Disk.Honest g.D.Disk.Works g.D.Disk.state g.D.Disk.past g.D.Disk.fault_count g.D.Disk.write_count g.D.Disk.sync_count (lent_of g.T.TablesInWords c.args.tables.now) c.args.line.now c.keep-kept.new.self (Ok tt) file) (sym w.file-is)
-          (record { stops = w.in_ok-checkpoint.ensures.stops; carries = w.in_ok-checkpoint.ensures.carries; names = λ h world lent kit. ends_names kit g.D.Disk.state c.keep-kept.new.self w.checkpoint.new.self world world (lent_of g.T.TablesInWords c.args.tables.now) (λ carries. w.in_ok-checkpoint.ensures.takes_root h world lent carries) w.in_ok-checkpoint.ensures.left (λ none. absurd (omega (arith, some, none))) (λ none. absurd (omega (arith, some, none))); number = w.in_ok-checkpoint.ensures.number; again = w.in_ok-checkpoint.ensures.again; broken = w.in_ok-checkpoint.ensures.broken; left = w.in_ok-checkpoint.ensures.left; rests = w.in_ok-checkpoint.ensures.rests; first = w.in_ok-checkpoint.ensures.first; room = w.in_ok-checkpoint.ensures.room; fault = w.in_ok-checkpoint.ensures.fault; grows = λ h world lent carries. grows_so _ _ _ _ _ _ (g.met.D.Disk.length_is_told c.keep-kept.new.self.disk (w.in_ok-checkpoint.ensures.honest h)) (g.met.D.Disk.length_is_told w.checkpoint.new.self.disk h) (w.in_ok-checkpoint.ensures.grows h world lent carries); grows_so_far = tt; reclaims = w.in_ok-checkpoint.ensures.reclaims; same_free = tt; honest = w.in_ok-checkpoint.ensures.honest; works = w.in_ok-checkpoint.ensures.works; device = w.in_ok-checkpoint.ensures.device; half = w.in_ok-checkpoint.ensures.half some; all_writes = w.in_ok-checkpoint.ensures.writes some; all_syncs = w.in_ok-checkpoint.ensures.syncs some; idle = λ none. absurd (omega (arith, some, none)) })
+          (record { stops = w.in_ok-checkpoint.ensures.stops; carries = w.in_ok-checkpoint.ensures.carries; names = λ h world lent kit. ends_names kit g.D.Disk.state c.keep-kept.new.self w.checkpoint.new.self world world (lent_of g.T.TablesInWords c.args.tables.now) (λ carries. w.in_ok-checkpoint.ensures.takes_root h world lent carries) w.in_ok-checkpoint.ensures.left w.in_ok-checkpoint.ensures.rests (λ none. absurd (omega (arith, some, none))); number = w.in_ok-checkpoint.ensures.number; again = w.in_ok-checkpoint.ensures.again; broken = w.in_ok-checkpoint.ensures.broken; left = w.in_ok-checkpoint.ensures.left; rests = w.in_ok-checkpoint.ensures.rests; first = w.in_ok-checkpoint.ensures.first; room = w.in_ok-checkpoint.ensures.room; fault = w.in_ok-checkpoint.ensures.fault; grows = λ h world lent carries. grows_so _ _ _ _ _ _ (g.met.D.Disk.length_is_told c.keep-kept.new.self.disk (w.in_ok-checkpoint.ensures.honest h)) (g.met.D.Disk.length_is_told w.checkpoint.new.self.disk h) (w.in_ok-checkpoint.ensures.grows h world lent carries); grows_so_far = tt; reclaims = w.in_ok-checkpoint.ensures.reclaims; same_free = tt; honest = w.in_ok-checkpoint.ensures.honest; works = w.in_ok-checkpoint.ensures.works; device = w.in_ok-checkpoint.ensures.device; half = w.in_ok-checkpoint.ensures.half some; all_writes = w.in_ok-checkpoint.ensures.writes some; all_syncs = w.in_ok-checkpoint.ensures.syncs some; idle = λ none. absurd (omega (arith, some, none)) })
       | else-ticks_left-gt0 w ↦
           let none : ticks_left c.keep-kept.new.self ≡ 0 = omega (arith, c.ticks_left.ensures, w.if-ticks_left-gt0.false) in
           subst (λ (file : Log g.row.D.Denot TableRules). Made g.D.Disk.Honest g.D.Disk.Works g.D.Disk.state g.D.Disk.past g.D.Disk.fault_count g.D.Disk.write_count g.D.Disk.sync_count (lent_of g.T.TablesInWords c.args.tables.now) c.args.line.now c.keep-kept.new.self (Ok tt) file) (sym w.file-is)

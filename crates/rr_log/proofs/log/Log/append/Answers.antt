@@ -1,3 +1,4 @@
+use Rattle.std.proofs.Common.{refl}
 use Rattle.rr_log.proofs.Carried.{same_carries, kept_carries}
 use Rattle.rr_log.proofs.Roots.{record_roots, still_roots}
 use Rattle.rr_log.proofs.log.Log.append.Goals as goal
@@ -24,7 +25,7 @@ returns-in-Ok-clause-roots g c = λ whole honest due old new takes same carries.
     let line = c.args.line.now in
     let appended = c.in-Ok.ensures.carries honest old new takes carries.carried in (
       kept_carries rules log (g.D.Disk.state log.disk) old carries c.append.new.disk c.append.new.self (g.D.Disk.state c.append.new.disk) line new same c.in-Ok.ensures.left appended c.in-Ok.ensures.begun,
-      record_roots rules log (record log { disk = c.append.new.disk; writer = c.append.new.self }) (g.D.Disk.state log.disk) old carries line new appended.0.layout appended.0.holding c.in-Ok.ensures.left appended.1,
+      record_roots rules log (record log { disk = c.append.new.disk; writer = c.append.new.self }) (g.D.Disk.state log.disk) old carries line new appended.0.layout appended.0.holding c.in-Ok.ensures.left refl appended.1,
     )
 
 pub returns-in-Err-HalfFull-clause-roots : goal.returns-in-Err-HalfFull-clause-roots

@@ -99,7 +99,8 @@ returns-in_err-plan-clause-roots g c = λ whole honest world lent carries.
     let planned = subst (λ (disk : g.row.D.Denot). (then : Carries rules c.plan.new.self (g.D.Disk.state disk) world) × (then.carried.layout ≡ carries.carried.layout)) (sym c.plan.ensures.unchanged.disk)
     (c.plan.ensures.carries (g.D.Disk.state log.disk) world carries) in (
       planned.0,
-      roots_still {new = c.plan.new.self} c.plan.ensures.unchanged.left (one_root carries.carried.layout planned.0.carried.layout planned.1) (λ some. absurd (omega (arith, some, c.requires.resting))),
+      roots_still {new = c.plan.new.self} c.plan.ensures.unchanged.left (one_root carries.carried.layout planned.0.carried.layout planned.1) (λ some. absurd (omega (arith, some, c.requires.resting)))
+          (λ none. inr (c.plan.ensures.unchanged.base, ap (λ (l : Layout (worlds rules)). l.middle) planned.1)),
     )
 
 pub returns-in-Ok-clause-roots : goal.returns-in-Ok-clause-roots

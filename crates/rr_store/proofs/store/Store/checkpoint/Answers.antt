@@ -20,7 +20,7 @@ returns-in_err-checkpoint-clause-steps g c =
 pub returns-clause-steps : goal.returns-clause-steps
 returns-clause-steps g c =
     steps_done g.D.Disk.Honest g.D.Disk.Works g.D.Disk.state g.D.Disk.past g.D.Disk.fault_count c.args.self.now _ refl tt
-    (record { stops = c.in_ok-checkpoint.ensures.stops; carries = c.in_ok-checkpoint.ensures.carries; named = named_by_whole g.D.Disk.Honest g.D.Disk.Works g.D.Disk.state g.D.Disk.past g.D.Disk.fault_count c.args.self.now.journal.file (lent_of c.args.self.now) c.checkpoint.new.self c.in_ok-checkpoint.ensures.takes_root c.in_ok-checkpoint.ensures.left; number = c.in_ok-checkpoint.ensures.number; again = c.in_ok-checkpoint.ensures.again; untouched = c.in_ok-checkpoint.ensures.untouched; broken = c.in_ok-checkpoint.ensures.broken; full = c.in_ok-checkpoint.ensures.full; first = c.in_ok-checkpoint.ensures.first; unchanged = c.in_ok-checkpoint.ensures.unchanged; room = c.in_ok-checkpoint.ensures.room; fault = c.in_ok-checkpoint.ensures.fault; honest = c.in_ok-checkpoint.ensures.honest; works = c.in_ok-checkpoint.ensures.works; device = tt })
+    (record { stops = c.in_ok-checkpoint.ensures.stops; carries = c.in_ok-checkpoint.ensures.carries; named = named_by_whole g.D.Disk.Honest g.D.Disk.Works g.D.Disk.state g.D.Disk.past g.D.Disk.fault_count c.args.self.now.journal.file (lent_of c.args.self.now) c.checkpoint.new.self c.in_ok-checkpoint.ensures.takes_root c.in_ok-checkpoint.ensures.left c.in_ok-checkpoint.ensures.rests; number = c.in_ok-checkpoint.ensures.number; again = c.in_ok-checkpoint.ensures.again; untouched = c.in_ok-checkpoint.ensures.untouched; broken = c.in_ok-checkpoint.ensures.broken; full = c.in_ok-checkpoint.ensures.full; first = c.in_ok-checkpoint.ensures.first; unchanged = c.in_ok-checkpoint.ensures.unchanged; room = c.in_ok-checkpoint.ensures.room; fault = c.in_ok-checkpoint.ensures.fault; honest = c.in_ok-checkpoint.ensures.honest; works = c.in_ok-checkpoint.ensures.works; device = tt })
 
 pub returns-clause-renews : goal.returns-clause-renews
 returns-clause-renews g c = λ honest texts carries.
@@ -42,12 +42,12 @@ pub returns-clause-names : goal.returns-clause-names
 returns-clause-names g c = λ rests none honest texts carries named short.
     let lends : LendsNamed c.args.self.now = record { snapshots = named; short = short } in
     images_named g.D.Disk.state (behind g c) texts
-    (whole_named g.D.Disk.state c.args.self.now (behind g c) texts refl (c.in_ok-checkpoint.ensures.takes_root honest) c.in_ok-checkpoint.ensures.left carries (λ still. (lends, none))
-    (none_coming g.D.Disk.state c.args.self.now texts rests carries))
+    (whole_named g.D.Disk.state c.args.self.now (behind g c) texts refl (c.in_ok-checkpoint.ensures.takes_root honest) c.in_ok-checkpoint.ensures.left c.in_ok-checkpoint.ensures.rests carries (λ still. lends)
+    (none_coming g.D.Disk.state c.args.self.now texts rests none carries))
 
 pub returns-clause-takes_named : goal.returns-clause-takes_named
 returns-clause-takes_named g c = λ honest texts carries may names.
-    whole_named g.D.Disk.state c.args.self.now (behind g c) texts refl (c.in_ok-checkpoint.ensures.takes_root honest) c.in_ok-checkpoint.ensures.left carries may names
+    whole_named g.D.Disk.state c.args.self.now (behind g c) texts refl (c.in_ok-checkpoint.ensures.takes_root honest) c.in_ok-checkpoint.ensures.left c.in_ok-checkpoint.ensures.rests carries may names
 
 pub returns-clause-grows : goal.returns-clause-grows
 returns-clause-grows g c = λ honest texts carries.
