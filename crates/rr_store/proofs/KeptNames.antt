@@ -25,7 +25,6 @@ use Rattle.rr_reading.proofs.DirLemmas.TableLemmas.{one_directory}
 use Rattle.rr_tables.specs.declared.records.rules.TableRules.{TableRules}
 use Rattle.rr_tables.specs.Records.Taking.{table_files, table_rules}
 use Rattle.rr_store.specs.Replayed.{AreTheirCounts, counts_at}
-use Rattle.rr_store.specs.World.{World}
 use Rattle.rr_store.specs.NamedRoots.{AreTheirSnapshots, HoldsNamed, KeepsNames, NamesBase, NamesComing, NamesRoots}
 
 -- each version is the newest

@@ -4,7 +4,6 @@ use Rattle.std.proofs.Common.{◌≡◌, ℕ, ◌+◌, ◌-◌, ◌*◌, ◌≤�
 use Rattle.std.specs.Global.{Box}
 use Rattle.std.specs.Map.{values_of}
 use Rattle.std.proofs.lemmas.Bool.{cases_eq}
-use Rattle.std.proofs.lemmas.List.{length-map}
 use Rattle.rr_disk.specs.Disk.{DiskState}
 use Rattle.rr_disk.specs.Moments.{EachImage}
 use Rattle.rr_game.specs.declared.game.Game.{Game}
@@ -30,11 +29,10 @@ use Rattle.rr_reading.specs.declared.dir.directory.TableEntry.{TableEntry}
 use Rattle.rr_reading.specs.declared.dir.directory.TheConstants.{MOST_SNAPSHOT_BYTES}
 use Rattle.rr_reading.specs.declared.dir.version.TheConstants.{NEWEST}
 use Rattle.rr_reading.specs.declared.dir.version.Version.{Version}
-use Rattle.rr_reading.specs.declared.dir.version.Version.TheVariants.{One}
 use Rattle.rr_reading.specs.Dir.Directory.{Directory, Spells}
 use Rattle.rr_reading.specs.Held.{Held, chains_of}
 use Rattle.rr_reading.specs.Reading.{Holds}
-use Rattle.rr_reading.specs.Worlds.Spelling.{bytes_for, directory_for, snapshot_entries}
+use Rattle.rr_reading.specs.Worlds.Spelling.{snapshot_entries}
 use Rattle.rr_reading.specs.Worlds.World.{Snapshot}
 use Rattle.rr_reading.specs.Worlds.World as words
 use Rattle.rr_reading.proofs.DirLemmas.TableLemmas.{one_directory}

@@ -1,14 +1,18 @@
 -- What an opening does, from what was found in the file.
-use Rattle.std.proofs.Common.{◌≡◌, ℕ, List, [], ◌∷◌, Ok, Err, inl, inr, refl, sym, ap, subst, ◌∙◌}
+use Rattle.std.proofs.Common.{◌≡◌, ℕ, List, [], ◌∷◌, Option, Ok, Err, inl, inr, refl, sym, ap, subst, ◌∙◌, arith}
+use Rattle.rr_checkpoint.specs.declared.plan.transcript.Transcript.{Transcript}
 use Rattle.rr_checkpoint.specs.declared.writer.Writer.{Writer}
 use Rattle.rr_checkpoint.specs.Writer as writer
 use Rattle.rr_disk.specs.declared.fault.Fault.TheVariants as D
-use Rattle.rr_disk.specs.Disk.{DiskState, after_sync, counted}
+use Rattle.rr_disk.specs.Disk.{DiskState, IsImage, after_sync, counted}
 use Rattle.rr_disk.specs.Moments.{SyncsOnce, Not_synced, Synced}
-use Rattle.rr_disk.proofs.ImageLemmas.{each_synced}
+use Rattle.rr_disk.proofs.ImageLemmas.{each_synced, synced_may_stay}
 use Rattle.rr_images.specs.Layout.{Keeps as KeepsFile}
+use Rattle.rr_images.proofs.OneWorld.{kept_stands}
 use Rattle.rr_kit.specs.declared.kit.Kit.{Kit}
 use Rattle.rr_kit.specs.Kits.{KitTexts, SpellsKit}
+use Rattle.rr_log.specs.Carrying.{IsBase as IsLogBase}
+use Rattle.rr_log.specs.Log.{place_of}
 use Rattle.rr_log.specs.Opening.Carrying.{CarriesRead, IsReadAs}
 use Rattle.rr_log.specs.declared.opening.opened.Opened.{Opened}
 use Rattle.rr_log.specs.Opening.Opened.{held_by}
@@ -21,7 +25,7 @@ use Rattle.rr_reading.specs.Held.{Held}
 use Rattle.rr_reading.specs.Reading as reading_says
 use Rattle.rr_reading.specs.Reading.{HasRoot, Holds}
 use Rattle.rr_tables.specs.Records.Headline.{KeepsTables}
-use Rattle.rr_tables.specs.Records.Taking.{table_files}
+use Rattle.rr_tables.specs.Records.Taking.{table_files, table_rules}
 use Rattle.rr_tables.specs.Records.Words.{in_words}
 use Rattle.rr_pages.specs.Journal.Reading.{lines}
 use Rattle.rr_pages.specs.declared.fault.Damage.{Damage}
@@ -38,11 +42,15 @@ use Rattle.rr_store.specs.Allowing.{Between, Keeps}
 use Rattle.rr_store.specs.Fault.{CountsFailure, OnDevice, of_reading, of_recovery}
 use Rattle.rr_store.specs.Recovery.Fault as recovery_of
 use Rattle.rr_store.specs.Files.{StandsFor}
-use Rattle.rr_store.specs.Holding.{Carries, GamesArePlayed, GamesHaveSnapshots, disk_of, held_of, replayed_of}
+use Rattle.rr_store.specs.Holding.{Carries, GamesArePlayed, GamesHaveSnapshots, disk_of, file_of, held_of, replayed_of, ticks_left}
+use Rattle.rr_store.specs.Named.{NamesComing, NamesRoots, NamesSnapshots, SnapshotsAreShort}
+use Rattle.rr_store.specs.NamedRoots.{NamesBase}
 use Rattle.rr_store.specs.Replayed.{ReplaysFile}
 use Rattle.rr_store.specs.Opening.{IsFound, IsNoVerdict, IsSyncedFirst, OpenAllows, Refuses, SyncsAtMost, SyncsFirst}
 use Rattle.rr_store.specs.World.{World}
-use Rattle.rr_store.proofs.Recovering.{only_recovered, recovered_played, recovered_snapshots}
+use Rattle.rr_store.proofs.NamedRoots.{names_root}
+use Rattle.rr_store.proofs.Recovering.{base_named, only_recovered, recovered_played, recovered_snapshots}
+use Rattle.rr_store.proofs.Trusting.{standing_true}
 
 -- refusals of the layers below
 
@@ -227,3 +235,42 @@ module _ {D : Type 0} (Honest : D → Type 0) (state : D → DiskState) (past : 
       let here = subst (λ (s : DiskState). IsFound s.content found) (sym (was honest).settled) (is_found honest) in
       begun texts here resting (place honest)
       (goes_on honest (in_words texts (world_of found.recovered.tables)) (subst (λ (w : World). KeepsTables texts w (state old).content) tables_are keeps))
+
+  module _ (rests : ticks_left store ≡ 0) (same_base : (file_of store).base ≡ found.recovered.base) (was : Honest then → WasSynced (past old) (state old) (past then) (state then))
+      (goes_on : Honest (disk_of store) → (texts : KitTexts) → KeepsTables texts (held_of store).tables (state old).content → Carries state store texts) where
+    -- and where it found a checkpoint begun, that is to name just the snapshots that its tables are to have
+    pub comes_store : Honest (disk_of store) → (texts : KitTexts) → KeepsTables texts (held_of store).tables (state old).content → SnapshotsAreShort (held_of store).kit
+        → NamesComing state store texts
+    comes_store h texts keeps short =
+        let honest = subst Honest disk_is h in
+        let file = (state old).content in
+        let world = in_words texts (held_of store).tables in
+        let log = file_of store in
+        let f = is_found honest in
+        let has = held_by file found.opened in
+        let r = f.recovered.told (standing_true file has f.holds world (kept_stands table_files keeps.layout file world keeps.kept)) in
+        let carries = (goes_on h texts keeps).file in
+        let middle = carries.carried.layout.middle in
+        let of_log = subst (λ (base : Option Transcript). IsLogBase table_rules (place_of log).begun base middle) same_base (carries.base rests) in
+        let named = base_named has f.recovered.texts found.recovered r (subst (λ (k : Kit). SnapshotsAreShort k) kit_is short) (place_of log).begun middle of_log in
+        let named_here = subst (λ (base : Option Transcript). NamesBase found.recovered.tables.kit base middle) (sym same_base) named in
+        record {
+          carries = carries;
+          coming = λ some. absurd (omega (arith, some, rests));
+          found = λ still. subst (λ (k : Kit). NamesBase k log.base middle) (sym kit_is) named_here;
+        }
+
+    -- and where the root of the file does, so does the store's
+    pub names_store : Honest (disk_of store) → (texts : KitTexts) → KeepsTables texts (held_of store).tables (state old).content → SnapshotsAreShort (held_of store).kit
+        → NamesSnapshots (held_of store).kit (state old).content → NamesRoots state store texts
+    names_store h texts keeps short names =
+        let honest = subst Honest disk_is h in
+        let file = (state old).content in
+        let coming = comes_store h texts keeps short in
+        let carried = coming.carries.carried in
+        let synced : state (disk_of store) ≡ after_sync (state old) = ap state disk_is ∙ (was honest).settled in
+        let image = subst (λ (s : DiskState). IsImage s file) (sym synced) (synced_may_stay (state old)) in
+        record {
+          names = coming;
+          taken = names_root file (held_of store).kit carried.layout (in_words texts (held_of store).tables) (carried.between.each file image) (held_by file found.opened) (is_found honest).holds names;
+        }

@@ -16,9 +16,9 @@ use Rattle.rr_reading.proofs.Standing.{held_stands}
 use Rattle.rr_tables.specs.Records.Played.{ArePlayedTables, IsPlayedWorld}
 use Rattle.rr_tables.specs.Records.Lines.{TakesRecord}
 use Rattle.rr_tables.specs.Records.Taking.{Takes, table_files, table_rules}
-use Rattle.rr_log.specs.Lent.{AreLentOf, Lent}
+use Rattle.rr_log.specs.Lent.{AreLentOf, Lent, lent_in}
 use Rattle.rr_tables.proofs.RecordLemmas.LentLemmas.{played_are_lent}
-use Rattle.rr_tables.specs.Records.Words.{IsInWords, in_words, kit_texts}
+use Rattle.rr_tables.specs.Records.Words.{AreInWords, IsInWords, in_words, kit_texts}
 use Rattle.rr_tables.proofs.RecordLemmas.PlayedLemmas.{played_after, read_have_played_bases, tables_of_played_are_played}
 use Rattle.rr_tables.proofs.RecordLemmas.TakingLemmas.{files_are_exact, unlawful_lead_nowhere}
 use Rattle.rr_tables.proofs.RecordLemmas.WordLemmas.{are_in_words, of_form, one_in_words}
@@ -37,12 +37,17 @@ use Rattle.rr_checkpoint.specs.declared.plan.standing.StandingSnapshot.{Standing
 use Rattle.rr_checkpoint.specs.declared.plan.transcript.Transcript.{Transcript}
 use Rattle.rr_tables.specs.Tables.{ArePlayed, HaveTheirSnapshots, lent_by, world_of}
 use Rattle.rr_tables.specs.declared.tables.Tables.{Tables}
-use Rattle.rr_reading.specs.Worlds.Spelling.{Spells}
+use Rattle.rr_reading.specs.Worlds.Spelling.{Spells, snapshot_entries}
+use Rattle.rr_reading.specs.Worlds.World.{Snapshot, Table}
 use Rattle.rr_reading.specs.Worlds.World as words
 use Rattle.rr_reading.proofs.WorldLemmas.Exact.{one_world}
 use Rattle.rr_store.specs.Files.{AreTablesOf, StandsFor}
+use Rattle.rr_store.specs.Named.{SnapshotsAreShort}
+use Rattle.rr_store.specs.NamedRoots.{AreTheirSnapshots, NamesBase}
+use Rattle.rr_store.specs.Replayed.{AreTheirCounts, counts_at}
 use Rattle.rr_store.specs.World.{World}
 use Rattle.rr_store.proofs.Kits.{right_is_not_wrong}
+use Rattle.rr_store.proofs.NamedRoots.{lent_named}
 use Rattle.rr_store.proofs.Trusting.{is_written, one_written, standing_true, true_snapshots}
 use Rattle.rr_store.proofs.Worlds as standing
 
@@ -71,6 +76,23 @@ base_before (line ∷ far) middle None begun number world is before lent = absur
 base_before (line ∷ far) middle (Some transcript) begun number world is before lent =
     subst (λ (b : Option ℕ). IsLogBase table_rules b (Some transcript) world) (sym is)
     (transcript, refl, subst (λ (l : Lent). AreLentOf table_rules world l) (sym before) lent)
+
+-- it is what the tables lend
+transcript_lent : (far : List (List ℕ)) (middle : Tables) (base : Option Transcript) (transcript : Transcript) → IsTranscriptBefore far middle base → base ≡ Some transcript
+    → lent_in transcript ≡ lent_by middle
+transcript_lent [] middle base transcript none is = absurd (cc (none, is))
+transcript_lent (line ∷ far) middle None transcript before is = absurd before
+transcript_lent (line ∷ far) middle (Some other) transcript before is =
+    let same : other ≡ transcript = cc (is) in
+    subst (λ (t : Transcript). lent_in t ≡ lent_by middle) same before
+
+-- and has the tables of the world from before those records
+transcript_tables : (begun : Option ℕ) (base : Option Transcript) (transcript : Transcript) (world : words.World) → IsLogBase table_rules begun base world → base ≡ Some transcript
+    → world.tables ≡ (lent_in transcript).tables
+transcript_tables None base transcript world none is = absurd (cc (none, is))
+transcript_tables (Some first) base transcript world there is =
+    let same : there.0 ≡ transcript = cc (there.1, is) in
+    subst (λ (t : Transcript). world.tables ≡ (lent_in t).tables) same there.2.tables
 
 -- the texts that chains hold are those of the world that they spell
 pub spelled_texts : (number : ℕ) (bytes : List ℕ) (texts : TextChains) (tables : List HeldChain) (world : words.World)
@@ -165,6 +187,22 @@ module _ (has : Held) (texts : KitTexts) (recovered : Recovered) (r : IsTold has
   -- what the tables before the far records lend is of the world that they are
   middle_lent : AreLentOf table_rules (in_words texts middle) (lent_by r.middle)
   middle_lent = played_are_lent texts r.middle (subst (λ (k : Kit). SpellsKit texts k) (sym r.of_kit) r.told.right) near_on.0.spelled r.middle_played
+
+  -- and names just the snapshots that they are to have
+  module _ (short : SnapshotsAreShort kit) where
+    middle_named : AreTheirSnapshots kit (in_words texts middle) (lent_by r.middle).snapshots
+    middle_named =
+        subst (λ (k : Kit). AreTheirSnapshots k (in_words texts middle) (lent_by r.middle).snapshots) r.of_kit
+        (lent_named texts r.middle (record { commands = near_on.0.spelled; played = r.middle_played; named = r.middle_snapshots; short = short r.middle r.of_kit r.middle_played }))
+
+    -- so where a checkpoint was found begun, what is to be written of them does
+    pub base_named : (begun : Option ℕ) (world : words.World) → IsLogBase table_rules begun recovered.base world → NamesBase kit recovered.base world
+    base_named begun world there transcript is base chains based =
+        let lent = transcript_lent has.far r.middle recovered.base transcript r.before is in
+        let tables : world.tables ≡ (in_words texts middle).tables = transcript_tables begun recovered.base transcript world there is ∙ ap (λ (l : Lent). l.tables) lent in
+        let here : IsInWords base (in_words texts middle) = subst (λ (ts : List Table). AreInWords base ts) tables based in
+        subst (λ (snapshots : List Snapshot). length chains ≡ length snapshots → AreTheirCounts kit (counts_at (snapshot_entries chains snapshots)) 0 base)
+        (sym (ap (λ (l : Lent). l.snapshots) lent)) (middle_named base chains here)
 
   -- and where the file keeps it, what writes to it goes on by a layout of it
   module _ (kept : KitTexts) (layout : Layout table_files) (is_read : IsReadAs layout has (in_words kept now)) where

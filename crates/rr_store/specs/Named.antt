@@ -52,7 +52,7 @@ pub record LendsNamed {D : Type 0} (store : Store D) : Type 0 where
   pub short : HasShortSnapshots store
 
 -- The store's file carries what it holds; while a checkpoint is under way, the root that is coming will have of each table just
--- the snapshots that it is to have.
+-- the snapshots that it is to have, and so will that of a checkpoint that the opening found begun.
 abbrev pub NamesComing : {D : Type 0} → (D → DiskState) → Store D → KitTexts → Type 0
 NamesComing state store texts =
     open_file.NamesComing (held_of store).kit (file_of store) (state (disk_of store)) (in_words texts (held_of store).tables)
@@ -62,14 +62,15 @@ abbrev pub NamesRoots : {D : Type 0} → (D → DiskState) → Store D → KitTe
 NamesRoots state store texts =
     open_file.NamesRoots (held_of store).kit (file_of store) (state (disk_of store)) (in_words texts (held_of store).tables)
 
--- A call leaves what is coming so, and what is taken. Where another root is taken behind it, that is one that was coming.
+-- A call leaves what is coming so, and what is taken. Where another root is taken behind it, it has just those if the coming
+-- one was to, whatever the one before it had.
 pub record KeepsNames {D : Type 0} (state : D → DiskState) (old new : Store D) (texts : KitTexts) : Type 0 where
   pub coming : NamesComing state old texts → NamesComing state new texts
   pub roots : NamesRoots state old texts → NamesRoots state new texts
   pub takes : (root_of new ≡ root_of old → ⊥) → NamesComing state old texts → NamesRoots state new texts
 
--- so many commands are played to open this file: of each table in its root fewer than the spacing of snapshots, beside
--- those of its records
+-- so many commands are played to open this file: for the tables in its root fewer in all than the spacing of snapshots for
+-- each of them, beside those of its records
 pub record PlaysFew (file : List ℕ) (kit : Kit) (count : ℕ) : Type 0 where
   pub has : Held
   pub holds : Holds file has
@@ -94,10 +95,15 @@ CheckpointsPlayFew =
     → TakesRootOf table_files number (in_words texts tables) file → NamesSnapshots kit file → ReplaysFile file kit count
     → count ≤ (SNAPSHOT_SPACING - 1) * length tables
 
--- Where no checkpoint is under way, and the opening found none begun, no root is coming.
+-- Where no checkpoint is under way, and none was found begun, nothing is asked of a coming root.
 abbrev pub NoneIsComingAtRest : {D : Type 0} → (D → DiskState) → Type 0
 NoneIsComingAtRest {D} state =
     (texts : KitTexts) (store : Store D) → ticks_left store ≡ 0 → HasNoneBegun store → Carries state store texts → NamesComing state store texts
+
+-- Where no snapshot of the kit is too long for a file, a store that has its snapshots lends just those.
+abbrev pub ShortSnapshotsAreLent : {D : Type 0} → (D → DiskState) → Type 0
+ShortSnapshotsAreLent {D} state =
+    (texts : KitTexts) (store : Store D) → SnapshotsAreShort (held_of store).kit → Carries state store texts → GamesHaveSnapshots store → LendsNamed store
 
 -- stores of one file, each left by a call on the one before it that keeps what the roots name
 abbrev pub KeepNames : {D : Type 0} → (D → DiskState) → KitTexts → Store D → List (Store D) → Type 0

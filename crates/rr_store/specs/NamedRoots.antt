@@ -25,7 +25,7 @@ AreTheirSnapshots kit world snapshots =
     (base : World) (chains : List HeldChain) → IsInWords base world → length chains ≡ length snapshots
     → AreTheirCounts kit (counts_at (snapshot_entries chains snapshots)) 0 base
 
--- whatever directory a root has, it names just the snapshots that the tables of this world are to have
+-- the directory of a root names just the snapshots that the tables of this world are to have
 abbrev pub HoldsNamed : Kit → Holding → words.World → Type 0
 HoldsNamed kit holding world =
     (version : Version) (directory : Directory) (base : World) → Spells version holding.directory.text directory → IsInWords base world
@@ -36,7 +36,8 @@ abbrev pub NamesBase : Kit → Option Transcript → words.World → Type 0
 NamesBase kit base world = (transcript : Transcript) → base ≡ Some transcript → AreTheirSnapshots kit world (lent_in transcript).snapshots
 
 -- The open file carries this world. While a checkpoint is under way, the root that is coming will name those of the world from
--- before the first record of the other half; and where an opening found one begun, it is to be written so.
+-- before the first record of the other half; and where tables are kept for one that an opening found begun, so will the root
+-- that is written of them.
 pub record NamesComing {D : Type 0} (kit : Kit) (log : Log D TableRules) (state : DiskState) (world : words.World) : Type 0 where
   pub carries : Carries table_rules log state world
   pub coming : 0 < ticks_left log → HoldsNamed kit carries.carried.holding carries.carried.layout.middle
@@ -48,7 +49,7 @@ pub record NamesRoots {D : Type 0} (kit : Kit) (log : Log D TableRules) (state :
   pub taken : HoldsNamed kit names.carries.carried.layout.holding names.carries.carried.layout.base
 
 -- What calls leave of that, from one world to another: what is coming stays so, and what is taken. Where another root is taken
--- behind them, that is one that was coming.
+-- behind them, it names just those if the coming one was to, whatever the one before it named.
 pub record KeepsNames {D : Type 0} (kit : Kit) (state : D → DiskState) (old : Log D TableRules) (before : words.World) (new : Log D TableRules)
     (behind : words.World) : Type 0 where
   pub coming : NamesComing kit old (state (disk_of old)) before → NamesComing kit new (state (disk_of new)) behind

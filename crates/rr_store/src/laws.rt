@@ -2,7 +2,7 @@
 //! hold of all files, worlds and disks.
 ghost use Rattle.rr_store.specs.Events.{CommitsAreEvents, OpensAreEvents, StepsAreEvents};
 ghost use Rattle.rr_store.specs.Laws.{BareTablesArePlayedOnce, FewAreLeft, LentRootsAreNamed, NumbersAreInTheFile, OneWorld};
-ghost use Rattle.rr_store.specs.Named.{CallsKeepNames, CheckpointsPlayFew, NamedRootsPlayFew, NewFilesNameSnapshots, NoneIsComingAtRest, OpeningsPlayFew};
+ghost use Rattle.rr_store.specs.Named.{CallsKeepNames, CheckpointsPlayFew, NamedRootsPlayFew, NewFilesNameSnapshots, NoneIsComingAtRest, OpeningsPlayFew, ShortSnapshotsAreLent};
 ghost use Rattle.rr_store.specs.Sessions.{OpeningsAndRequestsAreSessions, PartsOfWritesAreLeft, SessionsAreSafe};
 
 use rr_checkpoint::Tick;
@@ -41,14 +41,18 @@ pub fn openings_play_few()
     ensures new_files { NewFilesNameSnapshots }
 {}
 
-/// Few commands are played to open what a stop leaves of a store whose roots have of each table just the snapshots that it
-/// is to have. Each call keeps that they have them, and that the root which is coming is to have them; behind the last
-/// step of a checkpoint the one is taken that was coming (`names` and `renews_names` of `Steps` and `Commits`).
+/// Few commands are played to open what a stop between calls leaves of a store whose roots have of each table just the
+/// snapshots that it is to have. Each call that doesn't break the store keeps that they have them, and that the root which
+/// is coming is to have them; behind the last step of a checkpoint the one is taken that was coming (`names` and
+/// `renews_names` of `Steps` and `Commits`). An opening begins with such roots, of a file that has such a one (`names` of
+/// `open`).
 pub fn named_roots_play_few<D: Disk>()
     ensures images { NamedRootsPlayFew D.state }
-    // Where no checkpoint is under way, and none was found begun, no root is coming.
+    // Where no checkpoint is under way, and none was found begun, nothing is asked of a coming root;
     ensures at_rest { NoneIsComingAtRest D.state }
-    // What each call keeps, all of them keep.
+    // such a store lends a checkpoint what it is to have, if no snapshot is too long for a file;
+    ensures lends { ShortSnapshotsAreLent D.state }
+    // and what each call keeps, all of them keep.
     ensures calls { CallsKeepNames D.state }
 {}
 

@@ -18,8 +18,8 @@ ghost use Rattle.rr_reading.specs.Worlds.World as words;
 ghost use Rattle.rr_store.specs.Allowing.{Between};
 ghost use Rattle.rr_store.specs.Fault.{CountsEnd, CountsFailure, OnDevice, OnDeviceFault};
 ghost use Rattle.rr_store.specs.Files.{AreTablesOf, StandsFor};
-ghost use Rattle.rr_store.specs.Holding.{Carries, GamesArePlayed, GamesHaveSnapshots, disk_of, held_of, replayed_of};
-ghost use Rattle.rr_store.specs.Named.{NamesRoots, NamesSnapshots, SnapshotsAreShort};
+ghost use Rattle.rr_store.specs.Holding.{Carries, GamesArePlayed, GamesHaveSnapshots, disk_of, file_of, held_of, replayed_of, ticks_left};
+ghost use Rattle.rr_store.specs.Named.{NamesComing, NamesRoots, NamesSnapshots, SnapshotsAreShort};
 ghost use Rattle.rr_store.specs.Opening.{IsFound, IsNoVerdict, IsSyncedFirst, OpenAllows, Refuses};
 ghost use Rattle.rr_store.specs.Replayed.{ReplaysFile};
 
@@ -85,8 +85,12 @@ pub fn open<D: Disk + Drop>(alloc: Global, disk: D) -> Result<Store<D>, Refused<
     ensures snapshots { IfOk result (λ store. D.Honest (disk_of store) → (texts : KitTexts) (tables : World)
         → StandsFor (D.state disk).content texts tables → GamesHaveSnapshots store) }
 
-    // Where its root names just the snapshots that its tables are to have, as that of a new file does and each that a
-    // checkpoint wrote, the roots of the store do.
+    // Where no snapshot of the kit is too long for a file, the next root is to name just the snapshots that its tables are
+    // to have, also that of a checkpoint found begun;
+    ensures comes { IfOk result (λ store. D.Honest (disk_of store) → (texts : KitTexts)
+        → KeepsTables texts (held_of store).tables (D.state disk).content → SnapshotsAreShort (held_of store).kit
+        → NamesComing D.state store texts) }
+    // and where the file's root names just these, as a new file's does, so does the store's.
     ensures names { IfOk result (λ store. D.Honest (disk_of store) → (texts : KitTexts)
         → KeepsTables texts (held_of store).tables (D.state disk).content → SnapshotsAreShort (held_of store).kit
         → NamesSnapshots (held_of store).kit (D.state disk).content → NamesRoots D.state store texts) }
@@ -175,6 +179,8 @@ fn begin<D: Disk + Drop>(alloc: Global, disk: D, found: Found) -> Store<D>
         (lines found.opened.far.records.items) (writer.place_of found.opened.writer)
         → CarriesRead table_files found.opened (D.state disk) (in_words texts (world_of found.recovered.tables))
         → Carries D.state result texts }
+    ensures resting { ticks_left result ≡ writer.ticks_left_of found.opened.writer }
+    ensures base { (file_of result).base ≡ found.recovered.base }
     ensures played { ArePlayed found.recovered.tables → GamesArePlayed result }
     ensures snapshots { HaveTheirSnapshots found.recovered.tables → GamesHaveSnapshots result }
 {

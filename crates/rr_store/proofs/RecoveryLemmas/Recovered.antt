@@ -138,7 +138,7 @@ module _ (file : List ℕ) (has : Held) (holds : Holds file has) where
 
     -- all is right
     module _ (new : Tables) (pages : KitPages) (transcript : Option Transcript) (count : ℕ) (near far : List (List ℕ)) (near_is : near ≡ has.near) (far_is : far ≡ has.far) (same : new.kit ≡ old.kit)
-        (plays : PlaysThem (named_of has) old) (replayed : ArePlayed old → AreReplayed old.kit (world_of old) near far transcript (world_of new)) (stays : ArePlayed old → ArePlayed new)
+        (plays : PlaysThem (named_of has) old) (replayed : ArePlayed old → AreReplayed old.kit old near far transcript (world_of new)) (stays : ArePlayed old → ArePlayed new)
         (had : HaveTheirSnapshots old) (have : ArePlayed old → HaveTheirSnapshots old → HaveTheirSnapshots new) (whole : HasDamagedRecord has → ⊥) where
       is_told : HasTrueSnapshots has → IsTold has (texts_in has.texts) (record { tables = new; kit = pages; base = transcript; replayed = count })
       is_told true =
@@ -165,6 +165,7 @@ module _ (file : List ℕ) (has : Held) (holds : Holds file has) where
             told = subst (λ (k : Kit). IsRecovered has (texts_in has.texts) k (world_of old) (world_of both.middle) (world_of new)) (sym same) recovered;
             of_kit = both.of_kit ∙ sym same;
             middle_played = both.played;
+            middle_snapshots = both.snapshots had;
             before = subst (λ (l : List (List ℕ)). IsTranscriptBefore l both.middle transcript) far_is both.before;
             played = stays played.0;
             snapshots = have played.0 had;

@@ -5,7 +5,7 @@ use Rattle.std.proofs.Math.Seq.{drop-cons}
 use Rattle.rr_kit.specs.declared.kit.Kit.{Kit}
 use Rattle.rr_tables.specs.Records.Lines.{IsUnlawful, TakesRecord}
 use Rattle.rr_tables.specs.Records.World.{World}
-use Rattle.rr_tables.specs.Tables.{ArePlayed, lent_by, world_of}
+use Rattle.rr_tables.specs.Tables.{ArePlayed, HaveTheirSnapshots, lent_by, world_of}
 use Rattle.rr_tables.specs.declared.tables.Tables.{Tables}
 use Rattle.rr_checkpoint.specs.declared.plan.transcript.Transcript.{Transcript}
 use Rattle.rr_checkpoint.specs.Plan.Transcript.{snapshots_of, tables_of}
@@ -75,13 +75,15 @@ far_stops kit now old mid near far fault same stays before (inr stops) =
       λ played. far_breaks kit old mid near far (before played) (subst (λ (k : Kit). BreaksOff k mid far) same (stops.1 (stays played))),
     )
 
-pub both_replayed : (kit : Kit) (old : World) (mid : Tables) (new : World) (near far : List (List ℕ)) (base : Option Transcript) → mid.kit ≡ kit → ArePlayed mid → Replays kit old near (world_of mid)
+pub both_replayed : (kit : Kit) (old mid : Tables) (new : World) (near far : List (List ℕ)) (base : Option Transcript) → mid.kit ≡ kit → ArePlayed mid → (HaveTheirSnapshots old → HaveTheirSnapshots mid)
+    → Replays kit (world_of old) near (world_of mid)
     → Replays mid.kit (world_of mid) far new → IsTranscriptBefore far mid base → AreReplayed kit old near far base new
-both_replayed kit old mid new near far base same played first second before =
+both_replayed kit old mid new near far base same played have first second before =
     record {
       middle = mid;
       of_kit = same;
       played = played;
+      snapshots = have;
       replays_near = first;
       replays_far = subst (λ (k : Kit). Replays k (world_of mid) far new) same second;
       before = before;

@@ -1,7 +1,7 @@
-use Rattle.std.proofs.Common.{sym, subst}
+use Rattle.std.proofs.Common.{◌∙◌, sym, subst}
 use Rattle.rr_kit.specs.declared.kit.Kit.{Kit}
 use Rattle.rr_kit.specs.Kits.{SpellsKit}
-use Rattle.rr_store.proofs.Openings.{carries_store, left_by, opened_store, played_store, replayed_store, snapshots_store}
+use Rattle.rr_store.proofs.Openings.{carries_store, comes_store, left_by, names_store, opened_store, played_store, replayed_store, snapshots_store}
 use Rattle.rr_store.proofs.opening.open.Goals as goal
 
 pub returns-in-Ok-clause-opened : goal.returns-in-Ok-clause-opened
@@ -34,6 +34,18 @@ pub returns-in-Ok-clause-snapshots : goal.returns-in-Ok-clause-snapshots
 returns-in-Ok-clause-snapshots g c =
     snapshots_store g.D.Disk.Honest g.D.Disk.state g.D.Disk.past c.args.disk c.find.new.disk c.begin.result c.in-Ok.found
     c.begin.ensures.disk c.begin.ensures.kit c.begin.ensures.tables c.in-Ok.ensures.found c.begin.ensures.snapshots
+
+pub returns-in-Ok-clause-comes : goal.returns-in-Ok-clause-comes
+returns-in-Ok-clause-comes g c =
+    comes_store g.D.Disk.Honest g.D.Disk.state g.D.Disk.past c.args.disk c.find.new.disk c.begin.result c.in-Ok.found
+    c.begin.ensures.disk c.begin.ensures.kit c.begin.ensures.tables c.in-Ok.ensures.found
+    (c.begin.ensures.resting ∙ c.in-Ok.ensures.resting) c.begin.ensures.base c.in-Ok.ensures.synced (returns-in-Ok-clause-carries g c)
+
+pub returns-in-Ok-clause-names : goal.returns-in-Ok-clause-names
+returns-in-Ok-clause-names g c =
+    names_store g.D.Disk.Honest g.D.Disk.state g.D.Disk.past c.args.disk c.find.new.disk c.begin.result c.in-Ok.found
+    c.begin.ensures.disk c.begin.ensures.kit c.begin.ensures.tables c.in-Ok.ensures.found
+    (c.begin.ensures.resting ∙ c.in-Ok.ensures.resting) c.begin.ensures.base c.in-Ok.ensures.synced (returns-in-Ok-clause-carries g c)
 
 pub returns-in-Ok-clause-replayed : goal.returns-in-Ok-clause-replayed
 returns-in-Ok-clause-replayed g c =

@@ -24,8 +24,8 @@ returns-in_err-far_plays-clause-refused c =
 
 pub returns-clause-replayed : goal.returns-clause-replayed
 returns-clause-replayed c = λ played.
-    both_replayed c.args.tables.now.kit (world_of c.args.tables.now) c.replay.new.tables (world_of c.replay-2.new.tables) (lines c.args.near.now) (lines c.args.far.now) _ c.replay.ensures.kit
-    (c.replay.ensures.played played) (c.in_ok-near_plays.ensures.replayed played) (c.in_ok-far_plays.ensures.replayed (c.replay.ensures.played played)) c.in_ok-base.ensures.base
+    both_replayed c.args.tables.now.kit c.args.tables.now c.replay.new.tables (world_of c.replay-2.new.tables) (lines c.args.near.now) (lines c.args.far.now) _ c.replay.ensures.kit
+    (c.replay.ensures.played played) (c.replay.ensures.snapshots played) (c.in_ok-near_plays.ensures.replayed played) (c.in_ok-far_plays.ensures.replayed (c.replay.ensures.played played)) c.in_ok-base.ensures.base
 
 pub returns-clause-plays : goal.returns-clause-plays
 returns-clause-plays c = λ played had few_near few_far.
