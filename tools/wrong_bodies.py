@@ -21,6 +21,8 @@ WRONG_BODIES = {
     13: "the pages of a snapshot that stays are free behind the checkpoint",
     14: "a snapshot that stands is kept for one of the same count and other bytes",
     15: "a checkpoint takes the pages of the snapshots that it drops, and no others that the present root reaches",
+    16: "an opening plays all kept commands of a table, and tells that it played those behind its last snapshot",
+    17: "each command is refused for want of memory",
 }
 
 SWITCH = """// Which wrong body was chosen for this run.
@@ -43,6 +45,7 @@ unsigned wrong_body(void) {
 HALF = "rr_pages/src/journal/half.rt"
 RECORDS = "rr_store/src/recovery/records.rt"
 JOURNAL = "rr_store/src/journal.rt"
+TABLES = "rr_store/src/recovery/tables.rt"
 # Of each edit the file under crates/, the old text and the new one.
 EDITS = [
     ("rr_disk/src/lib.rt", "mod start;", "mod start;\nmod wrong;"),
@@ -142,4 +145,14 @@ fn release_front<R: Rules>(writer: &mut Writer<Worlds<R>>, standing: &[StandingS
 fn keep_place<"""),
     ("rr_checkpoint/src/plan/standing.rt", "            && self.bytes.as_slice() == snapshot.bytes.as_slice()",
      "            && (rr_disk::is_put_in(14) || self.bytes.as_slice() == snapshot.bytes.as_slice())"),
+    (TABLES, "    if told.value.has_its_snapshots() {", "    if told.value.has_its_snapshots() && !rr_disk::is_put_in(16) {"),
+    (TABLES, "        plays: told.plays + played.plays,", """        plays: if rr_disk::is_put_in(16) {
+            told.plays
+        } else {
+            told.plays + played.plays
+        },"""),
+    ("rr_store/src/store.rt", "        let taken = self", """        if rr_disk::is_put_in(17) {
+            return Err(Fault::OutOfMemory);
+        }
+        let taken = self"""),
 ]
