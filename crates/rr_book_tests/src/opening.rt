@@ -54,5 +54,18 @@ pub(crate) fn check_entries(
 ) {
     let later = entries.get(first..).expect(rt, "so many entries");
     let written = format!(in rt.alloc(); "{later:?}").expect(rt, "memory");
-    assert_eq!(rt; written.as_str(), wanted);
+    check(rt, "entries", written.as_str(), wanted);
+}
+
+/// The position that a desk leaves, whose entries beyond the first ones are to be written so by `Debug`. The desk is let
+/// go here and in no test, so that this is proved once.
+pub(crate) fn leave(
+    rt: &(impl Abort + AllocGlobal),
+    desk: Desk,
+    first: usize,
+    wanted: &str,
+) -> Position {
+    let (position, entries) = desk.into_parts();
+    check_entries(rt, entries.as_slice(), first, wanted);
+    *position
 }

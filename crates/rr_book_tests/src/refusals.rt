@@ -2,7 +2,7 @@
 use crate::opening::check;
 use rr_books::{Clause, Refusal};
 
-const REFUSALS: [(Refusal, u8, &str); 34] = [
+static REFUSALS: [(Refusal, u8, &str); 34] = [
     (Refusal::NoSuchName, 1, "no such name"),
     (Refusal::TooLittleCash, 2, "too little cash"),
     (Refusal::NotYourTurn, 20, "not your turn"),
@@ -48,7 +48,7 @@ const REFUSALS: [(Refusal, u8, &str); 34] = [
     (Refusal::OutOfMemory, 70, "out of memory"),
 ];
 
-const CLAUSES: [(Clause, u8); 7] = [
+static CLAUSES: [(Clause, u8); 7] = [
     (Clause::WrongWord, 1),
     (Clause::NoWalk, 2),
     (Clause::NodeTwice, 3),
@@ -60,16 +60,17 @@ const CLAUSES: [(Clause, u8); 7] = [
 
 #[test]
 fn refusals_have_numbers_and_texts(rt: HostRuntime) {
-    for (refusal, number, text) in REFUSALS {
-        let words = format!(in rt.alloc(); "{refusal}").expect(&rt, "memory");
-        check(&rt, "text", words.as_str(), text);
-        check(&rt, text, refusal.number(), number);
+    let rt = &rt;
+    for &(refusal, number, text) in &REFUSALS {
+        let words = format!(in rt.alloc(); "{refusal}").expect(rt, "memory");
+        check(rt, "text", words.as_str(), text);
+        check(rt, text, refusal.number(), number);
     }
 }
 
 #[test]
 fn clauses_have_numbers(rt: HostRuntime) {
-    for (clause, number) in CLAUSES {
+    for &(clause, number) in &CLAUSES {
         check(&rt, "number", clause.number(), number);
     }
 }

@@ -1,6 +1,6 @@
-use crate::opening::{self, check, check_entries};
-use rr_books::{Books, Cert, Corp, Entry, Party, Place, Seat};
-use rr_desk::Desk;
+use crate::opening::{self, check, leave};
+use rr_books::{Cert, Corp, Entry, Party, Place, Seat};
+use rr_desk::{Desk, Position};
 use rr_shares::laws::{
     heir_has_the_most, presidency_stays_with_a_seat, president_has_the_most, sales_move_shares,
     worked_heirs,
@@ -61,113 +61,135 @@ fn float_where_due(rt: &impl Abort, desk: &mut Desk, par: Option<u16>) {
 }
 
 /// What the seats hold.
-fn held(desk: &Desk) -> [u16; 6] {
-    percents(desk.books(), PRR)
+fn held(position: &Position) -> [u16; 6] {
+    percents(position.books(), PRR)
 }
 
 /// What the corporation has.
-fn cash(desk: &Desk) -> i64 {
-    desk.books().balance(Party::Corp(PRR)).0
+fn cash(position: &Position) -> i64 {
+    position.books().balance(Party::Corp(PRR)).0
 }
 
-fn counted(books: &Books, seat: Seat) -> u8 {
-    books.counted(seat, PRR)
+/// How many certificates the two seats have.
+fn counted(position: &Position) -> [u8; 2] {
+    let books = position.books();
+    [books.counted(A, PRR), books.counted(B, PRR)]
 }
 
-fn floats(books: &Books, floated: bool) -> bool {
-    floats_now(books, PRR, Some(100), floated)
+fn floats(desk: &Desk, floated: bool) -> bool {
+    floats_now(desk.books(), PRR, Some(100), floated)
 }
 
 #[test]
 fn an_equal_holder_does_not_take_over(rt: HostRuntime) {
-    let mut desk = dealt(&rt, 4);
-    settle(&rt, &mut desk);
-    check(&rt, "entries", desk.entries().as_slice().len(), 7);
-    check(&rt, "handover", handover_due(desk.books(), PRR), None);
-    check(&rt, "percents", held(&desk), [40, 40, 0, 0, 0, 0]);
+    let rt = &rt;
+    let mut desk = dealt(rt, 4);
+    settle(rt, &mut desk);
+    // no eighth entry
+    let position = leave(rt, desk, 7, "[]");
+    let found = (handover_due(position.books(), PRR), held(&position));
+    check(rt, "handover", found, (None, [40, 40, 0, 0, 0, 0]));
 }
 
 #[test]
 fn a_greater_holder_takes_over(rt: HostRuntime) {
-    let mut desk = dealt(&rt, 5);
-    settle(&rt, &mut desk);
-    check_entries(
-        &rt,
-        desk.entries().as_slice(),
+    let rt = &rt;
+    let mut desk = dealt(rt, 5);
+    settle(rt, &mut desk);
+    let position = leave(
+        rt,
+        desk,
         8,
         "[Move { cert: Share(Prr, Three), to: Seat(Seat(0)) }, Move { cert: Share(Prr, Four), to: Seat(Seat(0)) }, Move { cert: President(Prr), to: Seat(Seat(1)) }]",
     );
-    check(&rt, "percents", held(&desk), [40, 50, 0, 0, 0, 0]);
-    check(&rt, "certificates of A", counted(desk.books(), A), 4);
-    check(&rt, "certificates of B", counted(desk.books(), B), 4);
+    let wanted = ([40, 50, 0, 0, 0, 0], [4, 4]);
+    check(rt, "shares", (held(&position), counted(&position)), wanted);
 }
 
 #[test]
 fn hands_the_presidency_over(rt: HostRuntime) {
-    let mut desk = dealt(&rt, 3);
-    hand(&rt, &mut desk, &Handover { from: A, to: B });
-    check(&rt, "president", desk.books().president(PRR), Some(B));
-    check(&rt, "percents", held(&desk), [40, 30, 0, 0, 0, 0]);
+    let rt = &rt;
+    let mut desk = dealt(rt, 3);
+    hand(rt, &mut desk, &Handover { from: A, to: B });
+    let position = *desk.position();
+    drop(desk);
+    let found = (position.books().president(PRR), held(&position));
+    check(rt, "president", found, (Some(B), [40, 30, 0, 0, 0, 0]));
 }
 
 #[test]
 fn the_heir_is_the_nearest_on_the_left(rt: HostRuntime) {
+    let rt = &rt;
     check(
-        &rt,
+        rt,
         "heir of B",
         heir(&[30, 20, 0, 30, 0, 0], 4, B),
         Some(Seat(3)),
     );
     check(
-        &rt,
+        rt,
         "heir of D",
         heir(&[30, 20, 40, 30, 0, 0], 4, Seat(3)),
         Some(Seat(2)),
     );
-    check(&rt, "no heir", heir(&[20, 20, 0, 10, 0, 0], 4, B), None);
+    check(rt, "no heir", heir(&[20, 20, 0, 10, 0, 0], 4, B), None);
 }
 
 #[test]
 fn sells_shares_and_the_presidency_goes(rt: HostRuntime) {
-    let mut desk = dealt(&rt, 3);
+    let rt = &rt;
+    let mut desk = dealt(rt, 3);
     check(
-        &rt,
+        rt,
         "handover",
         handover_after_sale(desk.books(), PRR, A, 1),
         None,
     );
-    sell(&rt, &mut desk, A, 2);
-    check_entries(
-        &rt,
-        desk.entries().as_slice(),
+    sell(rt, &mut desk, A, 2);
+    let position = leave(
+        rt,
+        desk,
         6,
         "[Move { cert: Share(Prr, Three), to: Seat(Seat(0)) }, Move { cert: Share(Prr, Four), to: Seat(Seat(0)) }, Move { cert: President(Prr), to: Seat(Seat(1)) }, Move { cert: Share(Prr, One), to: Pool }, Move { cert: Share(Prr, Two), to: Pool }]",
     );
-    check(&rt, "percents", held(&desk), [20, 30, 0, 0, 0, 0]);
+    check(rt, "percents", held(&position), [20, 30, 0, 0, 0, 0]);
 }
 
 #[test]
 fn floats_with_ten_times_its_par(rt: HostRuntime) {
-    let mut desk = dealt(&rt, 2);
-    assert!(rt; floats(desk.books(), false) && !floats(desk.books(), true));
-    float_where_due(&rt, &mut desk, Some(100));
-    check(&rt, "cash", cash(&desk), 1000);
-    check_entries(
-        &rt,
-        desk.entries().as_slice(),
+    let rt = &rt;
+    let mut desk = dealt(rt, 2);
+    check(
+        rt,
+        "floats",
+        [floats(&desk, false), floats(&desk, true)],
+        [true, false],
+    );
+    float_where_due(rt, &mut desk, Some(100));
+    let position = leave(
+        rt,
+        desk,
         5,
         "[Pay { from: Bank, to: Corp(Prr), amount: Money(1000) }, Step(Float(Prr))]",
     );
+    check(rt, "cash", cash(&position), 1000);
 }
 
 #[test]
 fn does_not_float_with_half_in_the_offer(rt: HostRuntime) {
-    let mut desk = dealt(&rt, 1);
-    assert!(rt; !floats(desk.books(), false));
-    float_where_due(&rt, &mut desk, None);
-    check(&rt, "entries", desk.entries().as_slice().len(), 4);
-    float_with(&rt, &mut desk, 67);
-    check(&rt, "cash", cash(&desk), 670);
+    let rt = &rt;
+    let mut desk = dealt(rt, 1);
+    check(rt, "floats", floats(&desk, false), false);
+    float_where_due(rt, &mut desk, None);
+    float_with(rt, &mut desk, 67);
+    // the fifth entry is of this float
+    let position = leave(
+        rt,
+        desk,
+        4,
+        "[Pay { from: Bank, to: Corp(Prr), amount: Money(670) }, Step(Float(Prr))]",
+    );
+    check(rt, "cash", cash(&position), 670);
 }
 
 #[test]

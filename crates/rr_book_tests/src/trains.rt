@@ -1,4 +1,4 @@
-use crate::opening::{self, check, check_entries};
+use crate::opening::{self, check, check_entries, leave};
 use rr_books::{Books, Cert, Corp, Entry, Kind, Money, Place, Private, Seat, Train, TrainSource};
 use rr_desk::Desk;
 use rr_trains::laws::{
@@ -20,7 +20,10 @@ fn give(rt: &impl Abort, books: &mut Books, kind: Kind, number: u8, to: Place) {
         .expect(rt, "a train of the roster");
 }
 
-fn move_train(rt: &impl Abort, desk: &mut Desk, train: Train, to: Place) {
+/// Moves the 2 of this number.
+fn move_two(rt: &impl Abort, desk: &mut Desk, number: u8, to: Place) {
+    let kind = Kind::Two;
+    let train = Train { kind, number };
     assert!(rt; desk.books().has_train(train));
     desk.push(Entry::Train { train, to }).expect(rt, "memory");
 }
@@ -44,17 +47,12 @@ fn table(rt: &(impl Abort + AllocGlobal), sold: &[Kind]) -> Books {
     books
 }
 
-/// Checks the entries of a corporation's first train of a kind, behind so many earlier ones.
-fn check_first(
-    rt: &(impl Abort + AllocGlobal),
-    desk: &mut Desk,
-    kind: Kind,
-    corp: Corp,
-    wanted: &str,
-) {
+/// Checks the entries of a corporation's first train of a kind, behind the earlier ones.
+fn check_first(rt: &(impl Abort + AllocGlobal), desk: Desk, kind: Kind, corp: Corp, wanted: &str) {
+    let mut desk = desk;
     let earlier = desk.entries().as_slice().len();
-    bring_about(rt, desk, kind, corp);
-    check_entries(rt, desk.entries().as_slice(), earlier, wanted);
+    bring_about(rt, &mut desk, kind, corp);
+    let _position = leave(rt, desk, earlier, wanted);
 }
 
 fn bring_about(rt: &impl Abort, desk: &mut Desk, kind: Kind, corp: Corp) {
@@ -67,95 +65,93 @@ fn buy(rt: &impl Abort, desk: &mut Desk, kind: Kind, corp: Corp) {
 
 #[test]
 fn six_trains_are_too_many(rt: HostRuntime) {
-    let books = table(&rt, &[Kind::Two]);
-    assert!(rt; is_over_train_limit(&books, Corp::Prr));
-    assert!(rt; !is_over_train_limit(&books, Corp::Nyc));
+    let rt = &rt;
+    let books = table(rt, &[Kind::Two]);
+    let too_many = [
+        is_over_train_limit(&books, Corp::Prr),
+        is_over_train_limit(&books, Corp::Nyc),
+    ];
+    check(rt, "too many", too_many, [true, false]);
 }
 
 #[test]
 fn what_the_phase_says(rt: HostRuntime) {
-    check(&rt, "limit", train_limit(Kind::Four), 3);
-    assert!(rt; sells_privates(Kind::Four));
+    let rt = &rt;
+    check(rt, "limit", train_limit(Kind::Four), 3);
+    check(rt, "privates", sells_privates(Kind::Four), true);
 }
 
 #[test]
 fn trains_at_a_place(rt: HostRuntime) {
-    let mut books = table(&rt, &[]);
-    for (kind, number) in [(Kind::Two, 3), (Kind::Two, 2), (Kind::Five, 1)] {
-        give(&rt, &mut books, kind, number, ERIE);
-    }
-    assert!(rt; has_train_at(&books, ERIE, Kind::Five));
-    check(&rt, "2s", trains_at(&books, ERIE, Kind::Two), 2);
-    check(&rt, "trains", trains_held(&books, ERIE), 3);
-    check(
-        &rt,
-        "lowest",
+    let rt = &rt;
+    let mut books = table(rt, &[]);
+    give(rt, &mut books, Kind::Two, 3, ERIE);
+    give(rt, &mut books, Kind::Two, 2, ERIE);
+    give(rt, &mut books, Kind::Five, 1, ERIE);
+    let found = (
+        has_train_at(&books, ERIE, Kind::Five),
+        trains_at(&books, ERIE, Kind::Two),
+        trains_held(&books, ERIE),
+    );
+    check(rt, "a 5, 2s and trains", found, (true, 2, 3));
+    let lowest = [
         lowest_train(&books, ERIE, Kind::Two),
-        Some(Train {
-            kind: Kind::Two,
-            number: 2,
-        }),
-    );
-    check(
-        &rt,
-        "lowest of none",
         lowest_train(&books, ERIE, Kind::Three),
-        None,
-    );
+    ];
+    let kind = Kind::Two;
+    let two = Train { kind, number: 2 };
+    check(rt, "lowest", lowest, [Some(two), None]);
 }
 
 #[test]
 fn the_cheapest_train_is_on_sale(rt: HostRuntime) {
-    let roster = opening::roster(&rt);
-    let mut books = table(&rt, &[Kind::Two, Kind::Three]);
-    assert!(rt; is_on_sale(&books, Kind::Four, TrainSource::Bank));
-    assert!(rt; !is_on_sale(&books, Kind::Five, TrainSource::Bank));
-    for (kind, number, source) in [
-        (Kind::Four, 1, TrainSource::Bank),
-        (Kind::Three, 5, TrainSource::Pool),
-    ] {
-        give(&rt, &mut books, kind, number, Place::Pool);
-        check(
-            &rt,
-            "cheapest",
-            cheapest(&books, &roster),
-            Some(TrainOnSale { kind, source }),
-        );
-    }
+    let rt = &rt;
+    let roster = opening::roster(rt);
+    let mut books = table(rt, &[Kind::Two, Kind::Three]);
+    let on_sale = [
+        is_on_sale(&books, Kind::Four, TrainSource::Bank),
+        is_on_sale(&books, Kind::Five, TrainSource::Bank),
+    ];
+    check(rt, "on sale", on_sale, [true, false]);
+    give(rt, &mut books, Kind::Four, 1, Place::Pool);
+    let kind = Kind::Four;
+    let source = TrainSource::Bank;
+    let wanted = Some(TrainOnSale { kind, source });
+    check(rt, "cheapest", cheapest(&books, &roster), wanted);
+    give(rt, &mut books, Kind::Three, 5, Place::Pool);
+    let kind = Kind::Three;
+    let source = TrainSource::Pool;
+    let wanted = Some(TrainOnSale { kind, source });
+    check(rt, "cheaper", cheapest(&books, &roster), wanted);
 }
 
 #[test]
 fn what_trains_cost(rt: HostRuntime) {
-    let roster = opening::roster(&rt);
-    check(&rt, "price", price(&roster, Kind::Three), Money(180));
-    check(&rt, "trade price", trade_price(&roster), Money(800));
-    assert!(rt; is_traded_in(Kind::Six) && !is_traded_in(Kind::Three));
+    let rt = &rt;
+    let roster = opening::roster(rt);
+    check(rt, "price", price(&roster, Kind::Three), Money(180));
+    check(rt, "trade price", trade_price(&roster), Money(800));
+    let traded_in = [is_traded_in(Kind::Six), is_traded_in(Kind::Three)];
+    check(rt, "traded in", traded_in, [true, false]);
 }
 
 #[test]
 fn the_first_four(rt: HostRuntime) {
-    let mut desk = opening::desk(&rt);
-    for (number, place) in [
-        (1, Place::Gone),
-        (2, Place::Pool),
-        (3, Place::Corp(Corp::Prr)),
-    ] {
-        let train = Train {
-            kind: Kind::Two,
-            number,
-        };
-        move_train(&rt, &mut desk, train, place);
-    }
-    buy(&rt, &mut desk, Kind::Four, Corp::Erie);
+    let rt = &rt;
+    let mut desk = opening::desk(rt);
+    move_two(rt, &mut desk, 1, Place::Gone);
+    move_two(rt, &mut desk, 2, Place::Pool);
+    move_two(rt, &mut desk, 3, Place::Corp(Corp::Prr));
+    buy(rt, &mut desk, Kind::Four, Corp::Erie);
     check_entries(
-        &rt,
+        rt,
         desk.entries().as_slice(),
         3,
         "[Train { train: Train { kind: Four, number: 1 }, to: Corp(Erie) }]",
     );
     check_first(
-        &rt,
-        &mut desk,
+        rt,
+        desk,
         Kind::Four,
         Corp::Erie,
         "[Train { train: Train { kind: Two, number: 2 }, to: Gone }, Train { train: Train { kind: Two, number: 3 }, to: Gone }, Train { train: Train { kind: Two, number: 4 }, to: Gone }, Train { train: Train { kind: Two, number: 5 }, to: Gone }, Train { train: Train { kind: Two, number: 6 }, to: Gone }]",
@@ -164,12 +160,13 @@ fn the_first_four(rt: HostRuntime) {
 
 #[test]
 fn the_first_five_is_the_first_train_of_the_bo(rt: HostRuntime) {
-    let mut desk = opening::desk(&rt);
-    move_private(&rt, &mut desk, Private::Mh, Place::Gone);
-    move_private(&rt, &mut desk, Private::Bo, Place::Seat(Seat(1)));
+    let rt = &rt;
+    let mut desk = opening::desk(rt);
+    move_private(rt, &mut desk, Private::Mh, Place::Gone);
+    move_private(rt, &mut desk, Private::Bo, Place::Seat(Seat(1)));
     check_first(
-        &rt,
-        &mut desk,
+        rt,
+        desk,
         Kind::Five,
         Corp::Bo,
         "[Move { cert: Private(Sv), to: Gone }, Move { cert: Private(Csl), to: Gone }, Move { cert: Private(Dh), to: Gone }, Move { cert: Private(Ca), to: Gone }, Move { cert: Private(Bo), to: Gone }]",

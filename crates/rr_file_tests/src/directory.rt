@@ -1,7 +1,7 @@
 use rr_reading::dir::{ChainRef, Dir, Fault, KitChains, SnapshotEntry, TableEntry, Version};
 use rr_words::Name;
 use std::alloc::Global;
-use std::test::Fail;
+use std::process::Abort;
 
 // A directory: the chains of a kit, each a page in eight bytes and a length in four; how many tables there are; and one
 // table, with its name, stamp 3, floor 1, 2 kept commands and its chain.
@@ -57,47 +57,64 @@ fn three_snapshots() -> [SnapshotEntry; 3] {
 
 // The calls below have no contracts, so that what a test does costs its proof little.
 
+// A table's name and stamp, and how many commands it keeps.
+type Table<'a> = (&'a [u8], u64, u32);
+
+// The tables of a directory, if each has a name.
+fn entries(alloc: Global, tables: &[Table]) -> Option<Vec<TableEntry>> {
+    let mut entries = Vec::new(alloc);
+    for (name, stamp, kept) in tables {
+        entries.push(entry(name, *stamp, *kept)?).ok()?;
+    }
+    Some(entries)
+}
+
+fn written(alloc: Global, dir: &Dir) -> Option<Vec<u8>> {
+    if dir.tables.len() >= 65_536 || dir.snapshots.len() >= 65_536 {
+        return None;
+    }
+    let mut bytes = Vec::new(alloc);
+    dir.write(Version::One, &mut bytes).ok()?;
+    Some(bytes)
+}
+
 fn spelled(
     alloc: Global,
-    kit: KitChains,
-    entries: &[Option<TableEntry>],
+    board: u32,
+    tables: &[Table],
     snapshots: &[SnapshotEntry],
-) -> Result<Vec<u8>, Fail> {
-    let mut tables = Vec::new(alloc);
-    for entry in entries {
-        tables.push(entry.ok_or("no name")?)?;
-    }
-    let snapshots = snapshots.to_vec(alloc)?;
-    let mut bytes = Vec::new(alloc);
-    if tables.len() < 65_536 && snapshots.len() < 65_536 {
-        Dir {
-            kit,
-            tables,
-            snapshots,
-        }
-        .write(Version::One, &mut bytes)?;
-    }
-    Ok(bytes)
+) -> Option<Vec<u8>> {
+    let dir = Dir {
+        kit: kit(board),
+        tables: entries(alloc, tables)?,
+        snapshots: snapshots.to_vec(alloc).ok()?,
+    };
+    written(alloc, &dir)
 }
 
 // A directory of two tables, the first of which keeps so many commands and the second 3.
-fn with_snapshots(alloc: Global, kept: u32, snapshots: &[SnapshotEntry]) -> Result<Vec<u8>, Fail> {
-    let tables = [entry(b"g1", 3, kept), entry(b"h", 4, 3)];
-    spelled(alloc, kit(65_536), &tables, snapshots)
+fn with_snapshots(alloc: Global, kept: u32, snapshots: &[SnapshotEntry]) -> Option<Vec<u8>> {
+    spelled(alloc, 65_536, &[(b"g1", 3, kept), (b"h", 4, 3)], snapshots)
 }
 
 // So many snapshots, 4,096 of the first table and then one of the second.
-fn rising_snapshots(alloc: Global, count: u32) -> Result<Vec<SnapshotEntry>, Fail> {
+fn rising_snapshots(alloc: Global, count: u32) -> Option<Vec<SnapshotEntry>> {
     let mut snapshots = Vec::new(alloc);
     for place in 0..count {
-        let one = if place < 4_096 {
-            snapshot(0, place + 1, chain(518, 600))
+        let (table, kept) = if place < 4_096 {
+            (0, place + 1)
         } else {
-            snapshot(1, 1, chain(518, 600))
+            (1, 1)
         };
-        snapshots.push(one)?;
+        snapshots.push(snapshot(table, kept, chain(518, 600))).ok()?;
     }
-    Ok(snapshots)
+    Some(snapshots)
+}
+
+// A directory with so many.
+fn with_rising_snapshots(alloc: Global, count: u32) -> Option<Vec<u8>> {
+    let snapshots = rising_snapshots(alloc, count)?;
+    with_snapshots(alloc, 4_096, &snapshots)
 }
 
 fn read(alloc: Global, bytes: &[u8]) -> Result<Dir, Fault> {
@@ -108,13 +125,21 @@ fn is_damaged(alloc: Global, bytes: &[u8]) -> bool {
     matches!(read(alloc, bytes), Err(Fault::Damaged))
 }
 
+// A directory that was spelled is damaged.
+fn check_damaged(rt: &impl Abort, alloc: Global, spelled: Option<Vec<u8>>) {
+    let bytes = spelled.expect(rt, "a directory");
+    assert!(rt; is_damaged(alloc, &bytes));
+}
+
 fn front(bytes: &[u8], length: usize) -> &[u8] {
     &bytes[..length.min(bytes.len())]
 }
 
-fn is_damaged_with(alloc: Global, snapshots: &[SnapshotEntry]) -> Result<bool, Fail> {
-    let bytes = with_snapshots(alloc, 2, snapshots)?;
-    Ok(is_damaged(alloc, &bytes))
+// The same bytes and more.
+fn lengthened(alloc: Global, bytes: &[u8], more: &[u8]) -> Option<Vec<u8>> {
+    let mut longer = bytes.to_vec(alloc).ok()?;
+    longer.extend_from_slice(more).ok()?;
+    Some(longer)
 }
 
 fn is_same(snapshot: &SnapshotEntry, other: &SnapshotEntry) -> bool {
@@ -131,125 +156,129 @@ fn has_three_snapshots(dir: &Dir) -> bool {
     }
 }
 
-fn only_table(dir: &Dir) -> Option<TableEntry> {
+// Whether it is the table of `BYTES`.
+fn is_only_table(table: &TableEntry) -> bool {
+    let is_right = [
+        table.name.as_bytes() == b"g1".as_slice(),
+        table.stamp == 3,
+        table.floor == 1,
+        table.kept == 2,
+        table.chain == chain(517, 24),
+    ];
+    is_right == [true; 5]
+}
+
+// Whether a directory has that table alone, and no snapshot.
+fn has_only_table(dir: &Dir) -> bool {
     match dir.tables.as_slice() {
-        [table] => Some(*table),
-        _ => None,
+        [table] => is_only_table(table) && dir.snapshots.is_empty(),
+        _ => false,
     }
+}
+
+// A directory that was spelled as these bytes, as it is read.
+fn read_back(rt: &impl Abort, alloc: Global, spelled: Option<Vec<u8>>, wanted: &[u8]) -> Dir {
+    let bytes = spelled.expect(rt, "a directory");
+    assert!(rt; bytes.as_slice() == wanted);
+    read(alloc, &bytes).expect(rt, "a directory")
 }
 
 // A directory is read as it was written, byte by byte.
 #[test]
-fn directory_goes_both_ways(rt: HostRuntime) -> Result<(), Fail> {
+fn directory_goes_both_ways(rt: HostRuntime) {
     let alloc = rt.alloc();
-    let bytes = spelled(alloc, kit(65_536), &[entry(b"g1", 3, 2)], &[])?;
-    assert!(rt; bytes.as_slice() == BYTES);
-    let dir = read(alloc, &bytes)?;
-    assert!(rt; dir.kit.board == chain(0xffff, 65_536));
-    let table = only_table(&dir).ok_or("not one table")?;
-    assert!(rt; table.name.as_bytes() == b"g1".as_slice());
-    assert!(rt; table.stamp == 3);
-    assert!(rt; table.floor == 1);
-    assert!(rt; table.kept == 2);
-    assert!(rt; table.chain == chain(517, 24));
-    assert!(rt; dir.snapshots.is_empty());
-    Ok(())
+    let spelled = spelled(alloc, 65_536, &[(b"g1", 3, 2)], &[]);
+    let dir = read_back(&rt, alloc, spelled, BYTES);
+    let is_right = [dir.kit.board == chain(0xffff, 65_536), has_only_table(&dir)];
+    assert!(rt; is_right == [true; 2]);
 }
 
 #[test]
-fn directory_with_snapshots_goes_both_ways(rt: HostRuntime) -> Result<(), Fail> {
+fn directory_with_snapshots_goes_both_ways(rt: HostRuntime) {
     let alloc = rt.alloc();
-    let bytes = with_snapshots(alloc, 2, &three_snapshots())?;
-    assert!(rt; bytes.as_slice() == WITH_SNAPSHOTS);
-    let dir = read(alloc, &bytes)?;
-    assert!(rt; dir.tables.len() == 2);
-    assert!(rt; has_three_snapshots(&dir));
-    Ok(())
+    let spelled = with_snapshots(alloc, 2, &three_snapshots());
+    let dir = read_back(&rt, alloc, spelled, WITH_SNAPSHOTS);
+    assert!(rt; [dir.tables.len() == 2, has_three_snapshots(&dir)] == [true; 2]);
 }
+
+static CUT_LENGTHS: [usize; 6] = [0, 47, 48, 49, 50, 80];
 
 // A directory that is cut, also right behind its table count, or has a byte more.
 #[test]
-fn cut_directories_are_damaged(rt: HostRuntime) -> Result<(), Fail> {
+fn cut_directories_are_damaged(rt: HostRuntime) {
     let alloc = rt.alloc();
-    for length in [0, 47, 48, 49, 50, 80] {
-        assert!(rt; is_damaged(alloc, front(BYTES, length)));
+    for length in CUT_LENGTHS.iter() {
+        assert!(rt; is_damaged(alloc, front(BYTES, *length)));
     }
-    let mut longer = BYTES.to_vec(alloc)?;
-    longer.push(0)?;
-    assert!(rt; is_damaged(alloc, &longer));
+    check_damaged(&rt, alloc, lengthened(alloc, BYTES, b"\0"));
     // That there is no snapshot is told by the end alone.
-    longer.push(0)?;
-    assert!(rt; is_damaged(alloc, &longer));
-    Ok(())
+    check_damaged(&rt, alloc, lengthened(alloc, BYTES, b"\0\0"));
 }
+
+static CUT_LENGTHS_WITH_SNAPSHOTS: [usize; 6] = [112, 113, 130, 131, 149, 166];
 
 // The same behind tables: cut in the count, behind it, in a snapshot and behind the second; and a byte more.
 #[test]
-fn cut_snapshots_are_damaged(rt: HostRuntime) -> Result<(), Fail> {
+fn cut_snapshots_are_damaged(rt: HostRuntime) {
     let alloc = rt.alloc();
     assert!(rt; !is_damaged(alloc, front(WITH_SNAPSHOTS, 111)));
-    for length in [112, 113, 130, 131, 149, 166] {
-        assert!(rt; is_damaged(alloc, front(WITH_SNAPSHOTS, length)));
+    for length in CUT_LENGTHS_WITH_SNAPSHOTS.iter() {
+        assert!(rt; is_damaged(alloc, front(WITH_SNAPSHOTS, *length)));
     }
-    let mut longer = WITH_SNAPSHOTS.to_vec(alloc)?;
-    assert!(rt; longer.len() == 167);
-    longer.push(0)?;
-    assert!(rt; is_damaged(alloc, &longer));
-    Ok(())
+    assert!(rt; WITH_SNAPSHOTS.len() == 167);
+    check_damaged(&rt, alloc, lengthened(alloc, WITH_SNAPSHOTS, b"\0"));
 }
 
 // Of a table that isn't there, of no command, of more than the table keeps, and a byte too long.
 #[test]
-fn snapshots_past_a_limit_are_damaged(rt: HostRuntime) -> Result<(), Fail> {
+fn snapshots_past_a_limit_are_damaged(rt: HostRuntime) {
     let alloc = rt.alloc();
     for (table, kept, length) in [(2, 1, 600), (0, 0, 600), (0, 3, 600), (0, 1, 16_385)] {
-        assert!(rt; is_damaged_with(alloc, &[snapshot(table, kept, chain(518, length))])?);
+        let one = [snapshot(table, kept, chain(518, length))];
+        check_damaged(&rt, alloc, with_snapshots(alloc, 2, &one));
     }
-    Ok(())
 }
 
 // Each snapshot is of a later table than the one before it, or of more commands.
 #[test]
-fn snapshots_that_do_not_rise_are_damaged(rt: HostRuntime) -> Result<(), Fail> {
+fn snapshots_that_do_not_rise_are_damaged(rt: HostRuntime) {
     let alloc = rt.alloc();
     for (table, kept, before) in [(1, 2, 2), (1, 1, 2), (0, 2, 1)] {
         let pair = [
             snapshot(1, before, chain(518, 600)),
             snapshot(table, kept, chain(519, 600)),
         ];
-        assert!(rt; is_damaged_with(alloc, &pair)?);
+        check_damaged(&rt, alloc, with_snapshots(alloc, 2, &pair));
     }
-    Ok(())
 }
 
 #[test]
-fn directory_has_4096_snapshots_at_most(rt: HostRuntime) -> Result<(), Fail> {
+fn directory_has_4096_snapshots_at_most(rt: HostRuntime) {
     let alloc = rt.alloc();
-    let most = with_snapshots(alloc, 4_096, &rising_snapshots(alloc, 4_096)?)?;
+    let most = with_rising_snapshots(alloc, 4_096).expect(&rt, "a directory");
     assert!(rt; !is_damaged(alloc, &most));
-    let more = with_snapshots(alloc, 4_096, &rising_snapshots(alloc, 4_097)?)?;
-    assert!(rt; is_damaged(alloc, &more));
-    Ok(())
+    check_damaged(&rt, alloc, with_rising_snapshots(alloc, 4_097));
 }
+
+// How long the board's text is, and the tables: three that are past a limit, a name twice, and a text that is too long.
+static PAST_A_LIMIT: [(u32, &[Table]); 5] = [
+    (3, &[(b"g1", 4_000_000_001, 2)]),
+    (3, &[(b"g1", 3, 0)]),
+    (3, &[(b"g1", 3, 4_097)]),
+    (3, &[(b"g1", 3, 2), (b"h", 3, 2), (b"g1", 4, 2)]),
+    (65_537, &[]),
+];
+
+static TOO_MANY: [Table; 65] = [(b"a", 3, 2); 65];
 
 // Each directory has a table past a limit, a name twice, a long text or too many tables.
 #[test]
-fn directories_past_a_limit_are_damaged(rt: HostRuntime) -> Result<(), Fail> {
+fn directories_past_a_limit_are_damaged(rt: HostRuntime) {
     let alloc = rt.alloc();
-    for (stamp, kept) in [(4_000_000_001, 2), (3, 0), (3, 4_097)] {
-        assert!(rt;
-            is_damaged(
-                alloc,
-                &spelled(alloc, kit(3), &[entry(b"g1", stamp, kept)], &[])?
-            )
-        );
+    for (board, tables) in PAST_A_LIMIT.iter() {
+        check_damaged(&rt, alloc, spelled(alloc, *board, tables, &[]));
     }
-    let twice = [entry(b"g1", 3, 2), entry(b"h", 3, 2), entry(b"g1", 4, 2)];
-    assert!(rt; is_damaged(alloc, &spelled(alloc, kit(3), &twice, &[])?));
-    assert!(rt; is_damaged(alloc, &spelled(alloc, kit(65_537), &[], &[])?));
-    let many = [entry(b"a", 3, 2); 65];
-    assert!(rt; is_damaged(alloc, &spelled(alloc, kit(3), &many, &[])?));
-    Ok(())
+    check_damaged(&rt, alloc, spelled(alloc, 3, &TOO_MANY, &[]));
 }
 
 #[test]

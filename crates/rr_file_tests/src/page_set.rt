@@ -2,7 +2,7 @@ use rr_pages::{PageSet, ReachedPages};
 use std::alloc::{AllocError, Global};
 
 // How many pages there are, which one is the last, and which one the first.
-const ROWS: [(u32, Option<u32>, Option<u32>); 8] = [
+static ROWS: [(u32, Option<u32>, Option<u32>); 8] = [
     (0, None, None),
     (1, Some(0), Some(0)),
     (63, Some(62), Some(0)),
@@ -59,9 +59,9 @@ fn first_free_in_turn(
 
 // The first count of pages at which another page is told.
 fn unlike_first_free(alloc: Global) -> Result<Option<u32>, AllocError> {
-    for (pages, last, first) in ROWS {
-        if first_free_in_turn(alloc, pages, last, first)? != [None, last, first] {
-            return Ok(Some(pages));
+    for (pages, last, first) in ROWS.iter() {
+        if first_free_in_turn(alloc, *pages, *last, *first)? != [None, *last, *first] {
+            return Ok(Some(*pages));
         }
     }
     Ok(None)
@@ -90,8 +90,8 @@ fn unlike_joined(alloc: Global, pages: u32) -> Result<Option<u32>, AllocError> {
 
 #[test]
 fn sets_are_joined(rt: HostRuntime) {
-    for (pages, _, _) in ROWS {
-        let unlike = unlike_joined(rt.alloc(), pages).expect(&rt, "memory");
+    for (pages, _, _) in ROWS.iter() {
+        let unlike = unlike_joined(rt.alloc(), *pages).expect(&rt, "memory");
         assert!(rt; unlike == None);
     }
 }

@@ -1,25 +1,20 @@
 ghost use Rattle.std.specs.Prelude.{◌≤◌, ◌*◌};
 
-use crate::calls::{content, counts, in_memory, write};
+use crate::calls::{blank, content, counts, in_memory, write};
 use rr_disk::MemoryDisk;
 use rr_pages::journal::HalfIndex;
 use rr_pages::{
-    Damage, Fault, FreePages, FreshPage, ReachedPages, ReadChain, Root, Roots, Taken, chain_follow,
+    Damage, Fault, FreePages, FreshPage, ReachedPages, ReadChain, Root, Roots, chain_follow,
     chain_write, laws, read_pieces, shut, take_root,
 };
-use std::alloc::Global;
+use std::alloc::{AllocError, Global};
 use std::process::Abort;
 
-const PAGE: usize = 4096;
+// How many pages the files below have.
+const PAGES: usize = 516;
 
 // Room for a file of 520 pages, and for the calls of a test.
 const ROOM: usize = 1 << 22;
-
-// A file of 516 pages in which every byte is 0.
-fn blank(rt: &impl Abort, alloc: Global) -> MemoryDisk {
-    let bytes = vec![in alloc; 0u8; 516 * PAGE].expect(rt, "memory");
-    in_memory(alloc, ROOM, &bytes).expect(rt, "room")
-}
 
 // The calls below have almost no contracts, so that what a test does costs its proof little.
 
@@ -41,6 +36,49 @@ pub(crate) fn link(
     Ok(())
 }
 
+// A page of a chain: which one, the next one, and its used bytes.
+pub(crate) type PageOfChain<'a> = (u16, u64, &'a [u8]);
+
+pub(crate) fn lay_page(
+    disk: &mut MemoryDisk,
+    page: u16,
+    next: u64,
+    piece: &[u8],
+) -> Result<(), rr_disk::Fault> {
+    let used = u16::try_from(piece.len()).unwrap_or(u16::MAX);
+    link(disk, page, next, used)?;
+    write(disk, place_of(page) + 10, piece)
+}
+
+// A file of so many pages, of which those of a chain are laid.
+pub(crate) fn laid(
+    rt: &impl Abort,
+    alloc: Global,
+    count: usize,
+    pages: &[PageOfChain],
+) -> MemoryDisk {
+    let mut disk = blank(rt, alloc, count, ROOM);
+    for (page, next, piece) in pages {
+        lay_page(&mut disk, *page, *next, piece).expect(rt, "room");
+    }
+    disk
+}
+
+// A chain was read that has these pages and these bytes.
+pub(crate) fn check_chain(
+    rt: &impl Abort,
+    answer: Result<ReadChain, Fault>,
+    pages: &[u32],
+    bytes: &[u8],
+) {
+    let chain = answer.expect(rt, "a chain");
+    let is_right = [
+        chain.pages.as_slice() == pages,
+        chain.bytes.as_slice() == bytes,
+    ];
+    assert!(rt; is_right == [true; 2]);
+}
+
 fn read(
     alloc: Global,
     disk: &mut MemoryDisk,
@@ -52,21 +90,45 @@ fn read(
     read_pieces(alloc, disk, &followed.links)
 }
 
-fn lay(
-    alloc: Global,
-    free: &mut FreePages,
-    fresh: &mut Vec<FreshPage>,
-    bytes: &[u8],
-) -> Result<u32, Fault> {
-    chain_write(alloc, free, fresh, bytes)
+fn no_page_taken(alloc: Global) -> Result<FreePages, AllocError> {
+    FreePages::new(alloc, ReachedPages::new(alloc)?)
+}
+
+// Lays a chain where no page is taken: its first page, and how many it has.
+fn lay_fresh(alloc: Global, disk: &mut MemoryDisk, bytes: &[u8]) -> Result<(u32, usize), Fault> {
+    let mut free = no_page_taken(alloc)?;
+    let mut fresh = Vec::new(alloc);
+    let head = chain_write(alloc, &mut free, &mut fresh, bytes)?;
+    write_fresh(disk, &fresh)?;
+    Ok((head, fresh.len()))
+}
+
+fn write_fresh(disk: &mut MemoryDisk, fresh: &[FreshPage]) -> Result<(), rr_disk::Fault> {
+    for page in fresh {
+        write(disk, 4096 * u64::from(page.page), &page.bytes)?;
+    }
+    Ok(())
 }
 
 fn flip(disk: &mut MemoryDisk, roots: &mut Roots, root: &Root) -> Result<(), rr_disk::Fault> {
     roots.flip(disk, root)
 }
 
-fn take(disk: &mut MemoryDisk) -> Result<Taken, Fault> {
-    take_root(disk)
+// No root is taken, for this reason.
+fn check_no_root(rt: &impl Abort, disk: &mut MemoryDisk, fault: Fault) {
+    assert!(rt; take_root(disk).err() == Some(fault));
+}
+
+// Writes a root, which is taken then, from this side.
+fn check_flip(rt: &impl Abort, disk: &mut MemoryDisk, roots: &mut Roots, side: bool, root: &Root) {
+    flip(disk, roots, root).expect(rt, "room");
+    let taken = take_root(disk).expect(rt, "a root");
+    let is_right = [
+        taken.side == side,
+        taken.root.number == root.number,
+        taken.root.half == root.half,
+    ];
+    assert!(rt; is_right == [true; 3]);
 }
 
 fn check_damage(rt: &impl Abort, answer: Result<ReadChain, Fault>, damage: Damage, clause: u8) {
@@ -77,7 +139,7 @@ fn check_damage(rt: &impl Abort, answer: Result<ReadChain, Fault>, damage: Damag
 
 #[test]
 fn a_page_equal_to_the_page_count_is_outside(rt: HostRuntime) {
-    let mut disk = blank(&rt, rt.alloc());
+    let mut disk = blank(&rt, rt.alloc(), PAGES, ROOM);
     for head in [516, 513, 0] {
         let answer = read(rt.alloc(), &mut disk, head, None);
         check_damage(&rt, answer, Damage::PageOutside, 2);
@@ -86,7 +148,7 @@ fn a_page_equal_to_the_page_count_is_outside(rt: HostRuntime) {
 
 #[test]
 fn a_page_that_leads_to_itself_is_reached_twice(rt: HostRuntime) {
-    let mut disk = blank(&rt, rt.alloc());
+    let mut disk = blank(&rt, rt.alloc(), PAGES, ROOM);
     link(&mut disk, 514, 514, 0).expect(&rt, "room");
     let answer = read(rt.alloc(), &mut disk, 514, None);
     check_damage(&rt, answer, Damage::PageTwice, 3);
@@ -94,22 +156,19 @@ fn a_page_that_leads_to_itself_is_reached_twice(rt: HostRuntime) {
 
 #[test]
 fn a_page_has_no_more_used_bytes_than_room(rt: HostRuntime) {
-    let mut disk = blank(&rt, rt.alloc());
+    let mut disk = blank(&rt, rt.alloc(), PAGES, ROOM);
     link(&mut disk, 515, 0, 4087).expect(&rt, "room");
     let answer = read(rt.alloc(), &mut disk, 515, None);
     check_damage(&rt, answer, Damage::UsedBytes, 4);
 }
 
+static TWO_PAGES: [PageOfChain; 2] = [(515, 514, b"abc"), (514, 0, b"de")];
+
 #[test]
 fn a_chain_has_its_stated_length(rt: HostRuntime) {
-    let mut disk = blank(&rt, rt.alloc());
-    link(&mut disk, 515, 514, 3).expect(&rt, "room");
-    link(&mut disk, 514, 0, 2).expect(&rt, "room");
-    write(&mut disk, place_of(515) + 10, b"abc").expect(&rt, "room");
-    write(&mut disk, place_of(514) + 10, b"de").expect(&rt, "room");
-    let chain = read(rt.alloc(), &mut disk, 515, Some(5)).expect(&rt, "a chain");
-    assert!(rt; chain.bytes.as_slice() == b"abcde".as_slice());
-    assert!(rt; chain.pages.as_slice() == [515, 514].as_slice());
+    let mut disk = laid(&rt, rt.alloc(), PAGES, &TWO_PAGES);
+    let whole = read(rt.alloc(), &mut disk, 515, Some(5));
+    check_chain(&rt, whole, &[515, 514], b"abcde");
     for stated in [4, 6] {
         let answer = read(rt.alloc(), &mut disk, 515, Some(stated));
         check_damage(&rt, answer, Damage::Form, 5);
@@ -119,50 +178,47 @@ fn a_chain_has_its_stated_length(rt: HostRuntime) {
 #[test]
 fn what_was_laid_is_read(rt: HostRuntime) {
     let alloc = rt.alloc();
-    let mut disk = blank(&rt, alloc);
-    let mut free = FreePages::new(alloc, ReachedPages::new(alloc).expect(&rt, "memory")).expect(
-        &rt, "memory",
-    );
-    let mut fresh = Vec::new(alloc);
+    let mut disk = blank(&rt, alloc, PAGES, ROOM);
     let bytes = vec![in alloc; 7u8; 5000].expect(&rt, "memory");
-    assert!(rt; lay(alloc, &mut free, &mut fresh, &bytes) == Ok(514));
-    assert!(rt; fresh.len() == 2);
-    for page in &fresh {
-        write(&mut disk, 4096 * u64::from(page.page), &page.bytes).expect(&rt, "room");
+    let laid = lay_fresh(alloc, &mut disk, &bytes).expect(&rt, "pages");
+    assert!(rt; laid == (514, 2));
+    let chain = read(alloc, &mut disk, 514, Some(5000));
+    check_chain(&rt, chain, &[514, 515], &bytes);
+}
+
+// The number of each root that is written, its side and its half.
+static ROOTS: [(u64, bool, HalfIndex); 2] = [
+    (7, false, HalfIndex::First),
+    (8, true, HalfIndex::Second),
+];
+
+fn root(number: u64, half: HalfIndex) -> Root {
+    Root {
+        number,
+        directory: 514,
+        half,
+        first: 1,
+        pages: 516,
+        version: 1,
     }
-    let chain = read(alloc, &mut disk, 514, Some(5000)).expect(&rt, "a chain");
-    assert!(rt; chain.bytes.as_slice() == bytes.as_slice());
-    assert!(rt; chain.pages.as_slice() == [514, 515].as_slice());
 }
 
 #[test]
 fn the_root_that_was_written_last_is_taken(rt: HostRuntime) {
-    let mut disk = blank(&rt, rt.alloc());
-    assert!(rt; take(&mut disk).err() == Some(Fault::NotAStore));
+    let mut disk = blank(&rt, rt.alloc(), PAGES, ROOM);
+    check_no_root(&rt, &mut disk, Fault::NotAStore);
     let mut roots = Roots { taken: true };
-    for (number, side, half) in [(7, false, HalfIndex::First), (8, true, HalfIndex::Second)] {
-        let root = Root {
-            number,
-            directory: 514,
-            half,
-            first: 1,
-            pages: 516,
-            version: 1,
-        };
-        flip(&mut disk, &mut roots, &root).expect(&rt, "room");
-        let taken = take(&mut disk).expect(&rt, "a root");
-        assert!(rt; taken.side == side);
-        assert!(rt; taken.root.number == number);
-        assert!(rt; taken.root.half == half);
+    for (number, side, half) in ROOTS.iter() {
+        check_flip(&rt, &mut disk, &mut roots, *side, &root(*number, *half));
     }
     write(&mut disk, 4096 + 26, &517u64.to_be_bytes()).expect(&rt, "room");
-    assert!(rt; take(&mut disk).err() == Some(Fault::Damaged(Damage::RootField)));
+    check_no_root(&rt, &mut disk, Fault::Damaged(Damage::RootField));
 }
 
 // The first free page behind a page kept and one taken; once both are abandoned; once they are kept and taken anew, and
 // reclaimed; and once nothing is kept of them.
 fn free_in_turn(alloc: Global) -> Result<[Option<u32>; 4], Fault> {
-    let mut free = FreePages::new(alloc, ReachedPages::new(alloc)?)?;
+    let mut free = no_page_taken(alloc)?;
     free.keep(514);
     free.take()?;
     let taken = free.first_free();
@@ -194,8 +250,8 @@ fn counts_of_shut(disk: &mut MemoryDisk) -> Result<[[u64; 4]; 2], rr_disk::Fault
 fn an_open_gate_alone_is_written(rt: HostRuntime) {
     let mut disk = in_memory(rt.alloc(), 1000, b"a\xa5b").expect(&rt, "room");
     let told = counts_of_shut(&mut disk).expect(&rt, "room");
-    assert!(rt; told == [[0, 1, 1, 3], [0, 1, 2, 3]]);
-    assert!(rt; content(&disk) == b"a\0b".as_slice());
+    let is_shut = content(&disk) == b"a\0b".as_slice();
+    assert!(rt; [told == [[0, 1, 1, 3], [0, 1, 2, 3]], is_shut] == [true; 2]);
 }
 
 #[test]

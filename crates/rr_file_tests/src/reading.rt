@@ -1,16 +1,11 @@
-use crate::calls::{in_memory, write};
+use crate::calls::{Bytes, PAGE, in_memory, write_all};
 use rr_disk::MemoryDisk;
-use rr_pages::Damage;
+use rr_pages::{Damage, ReadChain};
 use rr_reading::{Contents, Fault, read_file};
 use std::alloc::Global;
 
-const PAGE: usize = 4096;
-
 // Room for a file of 522 pages, and for the calls of a test.
 const ROOM: usize = 1 << 22;
-
-// Bytes, and the place where they are written.
-type Bytes<'a> = (u64, &'a [u8]);
 
 // A root: its gate, number 1, its directory on page 514, half 0, first record 1, 522 pages, version 1.
 const ROOT: &[u8] = b"\xa5\0\0\0\0\0\0\0\x01\0\0\0\0\0\0\x02\x02\0\0\0\0\0\0\0\0\x01\
@@ -24,7 +19,7 @@ const DIRECTORY: &[u8] = b"\0\0\0\0\0\0\x02\x03\0\0\0\x05\0\0\0\0\0\0\x02\x04\0\
 \0\0\0\0\0\x01\0\0\0\0\0\0\x02\x08\0\0\0\x05\0\0\0\0\0\x02\0\0\0\0\0\0\x02\x09\0\0\0\x04";
 
 // A right file without a record. Each page ends its chain, and says how many of its bytes are used.
-const RIGHT: [Bytes; 10] = [
+static RIGHT: [Bytes; 10] = [
     (0, ROOT),
     (4096 * 514 + 8, b"\0\x77"),
     (4096 * 514 + 10, DIRECTORY),
@@ -39,19 +34,12 @@ const RIGHT: [Bytes; 10] = [
 
 // The calls below have no contracts, so that what a test does costs its proof little.
 
-fn written(disk: &mut MemoryDisk, all: &[Bytes]) -> Result<(), rr_disk::Fault> {
-    for (at, bytes) in all {
-        write(disk, *at, bytes)?;
-    }
-    Ok(())
-}
-
 // A right file that is altered.
 fn file(alloc: Global, alterations: &[Bytes]) -> Result<MemoryDisk, rr_disk::Fault> {
     let bytes = vec![in alloc; 0u8; 522 * PAGE]?;
     let mut disk = in_memory(alloc, ROOM, &bytes)?;
-    written(&mut disk, &RIGHT)?;
-    written(&mut disk, alterations)?;
+    write_all(&mut disk, &RIGHT)?;
+    write_all(&mut disk, alterations)?;
     Ok(disk)
 }
 
@@ -65,20 +53,27 @@ fn read(alloc: Global, alterations: &[Bytes]) -> Result<Contents, Fault> {
     }
 }
 
-// The snapshots' bytes with a bar behind each, and whether the pages 520 and 521 are reached.
-fn told(alloc: Global, alterations: &[Bytes]) -> Result<(Vec<u8>, [bool; 2]), Fault> {
-    let has = read(alloc, alterations)?;
-    let mut bytes = Vec::new(alloc);
-    for snapshot in &has.snapshots {
-        bytes.extend_from_slice(&snapshot.bytes)?;
-        bytes.push(b'|')?;
+// Whether these are the two snapshots of a right file, each with its bytes.
+fn are_both(snapshots: &[ReadChain]) -> bool {
+    match snapshots {
+        [early, late] => {
+            early.bytes.as_slice() == b"early".as_slice()
+                && late.bytes.as_slice() == b"late".as_slice()
+        }
+        _ => false,
     }
-    Ok((bytes, [has.reached.has(520), has.reached.has(521)]))
+}
+
+// How many snapshots a file tells, whether they are both, and whether the pages 520 and 521 are reached.
+fn told(alloc: Global, alterations: &[Bytes]) -> Result<(usize, bool, [bool; 2]), Fault> {
+    let has = read(alloc, alterations)?;
+    let reached = [has.reached.has(520), has.reached.has(521)];
+    Ok((has.snapshots.len(), are_both(&has.snapshots), reached))
 }
 
 // What is damaged of an altered file.
 fn damage(alloc: Global, alterations: &[Bytes]) -> Option<Damage> {
-    match read(alloc, alterations) {
+    match told(alloc, alterations) {
         Err(Fault::Damaged(damage)) => Some(damage),
         _ => None,
     }
@@ -88,12 +83,10 @@ fn damage(alloc: Global, alterations: &[Bytes]) -> Option<Damage> {
 #[test]
 fn snapshots_are_told_with_their_bytes(rt: HostRuntime) {
     let alloc = rt.alloc();
-    let (bytes, reached) = told(alloc, &[]).expect(&rt, "a right file");
-    assert!(rt; bytes.as_slice() == b"early|late|".as_slice());
-    assert!(rt; reached == [true, true]);
-    let (none, reached) = told(alloc, &[(4096 * 514 + 8, b"\0\x51")]).expect(&rt, "a right file");
-    assert!(rt; none.is_empty());
-    assert!(rt; reached == [false, false]);
+    let both = told(alloc, &[]).expect(&rt, "a right file");
+    assert!(rt; both == (2, true, [true, true]));
+    let none = told(alloc, &[(4096 * 514 + 8, b"\0\x51")]).expect(&rt, "a right file");
+    assert!(rt; none == (0, false, [false, false]));
 }
 
 // The second snapshot stands outside, on the first one's page, and is a byte longer than stated; and its page has more

@@ -1,8 +1,8 @@
 //! What corporations buy besides tiles and tokens, and what they give up over their limit.
-ghost use Rattle.std.specs.Prelude.{◌≡◌, true};
-ghost use Rattle.rr_trains.specs.Depot.Small.{IsSmall};
-
-use crate::fixtures::{A, B, ROSTER, fund, give, give_train, position, roster};
+use crate::fixtures::{
+    A, B, ROSTER, desk, fund, give, give_train, give_trains, has_small_price, number_of, position,
+    roster, settle, succeed,
+};
 use rr_books::{
     Act, Cert, Corp, Entry, Kind, Marker, Party, Place, Private, Seat, Train, TrainSource,
 };
@@ -73,166 +73,169 @@ fn purchase(price: u64, president: Seat, seller_president: Seat) -> Act {
     }
 }
 
-/// Whether the price is small, as that of each of these commands is.
-fn is_small(act: &Act) -> bool
-    ensures { result ≡ true → IsSmall act.now }
-{
-    match act {
-        Act::BuyTrainFrom { price, .. } => *price <= 10_000_000_000,
-        Act::TakePrivate { price, .. } => *price <= 10_000_000_000,
-        _ => true,
-    }
-}
-
-/// All trains of the kind, as many as this, go to the place.
-fn give_all(rt: &impl Abort, table: &mut Position, kind: Kind, count: u8, to: Place) {
-    for number in 1..=count {
-        give_train(rt, table, kind, number, to);
-    }
-}
-
 /// The NYC has all 2s but three, which the PRR has, the ERIE four 3s, the pool the last one.
 fn before_first_four(rt: &impl Abort, alloc: Global) -> Position {
     let mut table = position(rt, alloc, 2);
-    give_all(rt, &mut table, Kind::Two, 6, AT_NYC);
-    give_all(rt, &mut table, Kind::Two, 3, Place::Corp(PRR));
-    give_all(rt, &mut table, Kind::Three, 5, Place::Pool);
-    give_all(rt, &mut table, Kind::Three, 4, Place::Corp(ERIE));
+    give_trains(rt, &mut table, Kind::Two, 6, AT_NYC);
+    give_trains(rt, &mut table, Kind::Two, 3, Place::Corp(PRR));
+    give_trains(rt, &mut table, Kind::Three, 5, Place::Pool);
+    give_trains(rt, &mut table, Kind::Three, 4, Place::Corp(ERIE));
     table
 }
 
-/// The number of the refusal, or 0.
-fn refusal(roster: &Roster, table: &Position, order: Order) -> u8 {
-    match judge(roster, table, &command(order)) {
-        Ok(()) => 0,
-        Err(fault) => fault.number(),
-    }
-}
-
-/// Whether each of the commands is refused with its number.
-fn are_refused(roster: &Roster, table: &Position, orders: &[(Order, u8)]) -> bool {
-    for (order, number) in orders {
-        if refusal(roster, table, *order) != *number {
-            return false;
-        }
-    }
-    true
+/// The number of the refusal of a command, or 0.
+fn fault(roster: &Roster, table: &Position, order: Order) -> u8 {
+    number_of(judge(roster, table, &command(order)))
 }
 
 fn begins_with_words(entries: &[Entry]) -> bool {
     matches!(entries, [Entry::Step(Marker::Act(_)), ..])
 }
 
-/// How many entries a command adds, whether its words come first, and the table behind it.
-fn with(
+fn add(rt: &impl Abort, roster: &Roster, desk: &mut Desk, act: &Act) {
+    assert!(rt; has_small_price(act));
+    succeed(rt, play(roster, desk, act));
+}
+
+/// How many entries a command adds, and whether its words come first. The table is as it is behind it.
+fn added(
     rt: &impl Abort,
     alloc: Global,
     roster: &Roster,
-    table: Position,
+    table: &mut Position,
     order: Order,
-) -> ((usize, bool), Position) {
-    let act = command(order);
-    assert!(rt; is_small(&act));
-    let mut desk = Desk::new(alloc, &table).expect(rt, "memory");
-    play(roster, &mut desk, &act).expect(rt, "memory");
-    let (position, entries) = desk.into_parts();
-    let entries = entries.as_slice();
-    ((entries.len(), begins_with_words(entries)), *position)
+) -> (usize, bool) {
+    let mut desk = desk(rt, alloc, table);
+    add(rt, roster, &mut desk, &command(order));
+    let words = begins_with_words(desk.entries().as_slice());
+    (settle(desk, table), words)
 }
 
-fn cash(table: &Position, party: Party) -> i64 {
-    table.books().balance(party).0
+/// What comes of a command, and what holds of a table.
+#[derive(Clone, Copy)]
+enum Step {
+    /// The command is refused by the fault of this number, or allowed where it is 0.
+    Gets(Order, u8),
+    /// The command adds its words and so many entries in all, and the next step is behind it.
+    Adds(Order, usize),
+    /// The corporation or player has so much.
+    Has(Party, i64),
+    /// The train of this kind and number is there.
+    Holds(Kind, u8, Place),
+    /// The private is there.
+    Owns(Private, Place),
+    /// Whether a corporation is over its limit.
+    IsOver(bool),
 }
 
-fn cash_of(table: &Position, corp: Corp) -> i64 {
-    cash(table, Party::Corp(corp))
+use Step::{Adds, Gets, Has, Holds, IsOver, Owns};
+
+fn is_right(
+    rt: &impl Abort,
+    alloc: Global,
+    roster: &Roster,
+    table: &mut Position,
+    step: Step,
+) -> bool {
+    match step {
+        Gets(order, number) => fault(roster, table, order) == number,
+        Adds(order, count) => added(rt, alloc, roster, table, order) == (count, true),
+        Has(party, amount) => table.books().balance(party).0 == amount,
+        Holds(kind, number, place) => {
+            table.books().train_holder(Train { kind, number }) == Some(place)
+        }
+        Owns(private, place) => table.books().holder(Cert::Private(private)) == place,
+        IsOver(wanted) => is_over_limit_somewhere(table) == wanted,
+    }
 }
 
-/// Whether the train is in this place.
-fn is_held(table: &Position, kind: Kind, number: u8, place: Place) -> bool {
-    table.books().train_holder(Train { kind, number }) == Some(place)
+/// Whether the steps go as they say, one behind the other.
+fn goes_so(rt: &impl Abort, alloc: Global, table: &mut Position, steps: &[Step]) -> bool {
+    let roster = roster(rt, alloc, ROSTER);
+    for step in steps {
+        if !is_right(rt, alloc, &roster, table, *step) {
+            return false;
+        }
+    }
+    true
 }
 
-fn is_private_held(table: &Position, private: Private, place: Place) -> bool {
-    table.books().holder(Cert::Private(private)) == place
-}
-
-fn is_over(table: &Position) -> bool {
-    is_over_limit_somewhere(table)
-}
+static FIRST_FOUR: [Step; 7] = [
+    IsOver(false),
+    Gets(Buy(NYC, Kind::Four, TrainSource::Bank), 0),
+    Adds(Buy(NYC, Kind::Four, TrainSource::Bank), 9),
+    Has(Party::Corp(NYC), 0),
+    Holds(Kind::Four, 1, AT_NYC),
+    Holds(Kind::Two, 6, Place::Gone),
+    IsOver(true),
+];
 
 #[test]
 fn the_first_four_ends_the_twos(rt: HostRuntime) {
-    let roster = roster(&rt, rt.alloc(), ROSTER);
     let mut table = before_first_four(&rt, rt.alloc());
     fund(&rt, &mut table, Party::Corp(NYC), 300);
-    let four = Buy(NYC, Kind::Four, TrainSource::Bank);
-    assert!(rt; !is_over(&table) && refusal(&roster, &table, four) == 0);
-    let (added, table) = with(&rt, rt.alloc(), &roster, table, four);
-    let trains = is_held(&table, Kind::Four, 1, AT_NYC)
-        && is_held(&table, Kind::Two, 6, Place::Gone);
-    assert!(rt; added == (9, true) && cash_of(&table, NYC) == 0 && trains && is_over(&table));
+    assert!(rt; goes_so(&rt, rt.alloc(), &mut table, &FIRST_FOUR));
 }
+
+static WITHIN_THE_LIMIT: [Step; 1] = [Gets(Discard, 42)];
+
+static OVER_THE_LIMIT: [Step; 5] = [
+    Gets(Discard, 0),
+    Adds(Discard, 2),
+    Holds(Kind::Three, 1, Place::Pool),
+    IsOver(false),
+    Gets(Discard, 42),
+];
 
 #[test]
 fn a_train_too_many_goes_to_the_pool(rt: HostRuntime) {
-    let roster = roster(&rt, rt.alloc(), ROSTER);
     let mut table = before_first_four(&rt, rt.alloc());
-    assert!(rt; refusal(&roster, &table, Discard) == 42);
+    assert!(rt; goes_so(&rt, rt.alloc(), &mut table, &WITHIN_THE_LIMIT));
     give_train(&rt, &mut table, Kind::Four, 1, Place::Corp(Corp::Co));
-    assert!(rt; refusal(&roster, &table, Discard) == 0);
-    let (added, table) = with(&rt, rt.alloc(), &roster, table, Discard);
-    let given = is_held(&table, Kind::Three, 1, Place::Pool) && !is_over(&table);
-    assert!(rt; added == (2, true) && given && refusal(&roster, &table, Discard) == 42);
+    assert!(rt; goes_so(&rt, rt.alloc(), &mut table, &OVER_THE_LIMIT));
 }
 
-static PURCHASES: [(Order, u8); 5] = [
-    (Buy(PRR, Kind::Four, TrainSource::Bank), 2),
-    (Buy(PRR, Kind::Three, TrainSource::Pool), 0),
-    (Buy(PRR, Kind::Three, TrainSource::Bank), 44),
-    (Buy(PRR, Kind::Five, TrainSource::Bank), 44),
-    (Buy(ERIE, Kind::Three, TrainSource::Pool), 43),
+static PURCHASES: [Step; 5] = [
+    Gets(Buy(PRR, Kind::Four, TrainSource::Bank), 2),
+    Gets(Buy(PRR, Kind::Three, TrainSource::Pool), 0),
+    Gets(Buy(PRR, Kind::Three, TrainSource::Bank), 44),
+    Gets(Buy(PRR, Kind::Five, TrainSource::Bank), 44),
+    Gets(Buy(ERIE, Kind::Three, TrainSource::Pool), 43),
 ];
 
 #[test]
 fn what_bank_and_pool_refuse(rt: HostRuntime) {
-    let roster = roster(&rt, rt.alloc(), ROSTER);
     let mut table = before_first_four(&rt, rt.alloc());
     fund(&rt, &mut table, Party::Corp(PRR), 299);
-    assert!(rt; are_refused(&roster, &table, &PURCHASES));
+    assert!(rt; goes_so(&rt, rt.alloc(), &mut table, &PURCHASES));
 }
 
 /// The NYC has all 4s, the C&O the first 6.
 fn with_six(rt: &impl Abort, alloc: Global) -> Position {
     let mut table = position(rt, alloc, 2);
-    give_all(rt, &mut table, Kind::Four, 4, AT_NYC);
+    give_trains(rt, &mut table, Kind::Four, 4, AT_NYC);
     give_train(rt, &mut table, Kind::Six, 1, Place::Corp(Corp::Co));
     fund(rt, &mut table, Party::Corp(NYC), 800);
     table
 }
 
-static TRADES: [(Order, u8); 3] = [
-    (Trade(Kind::Four), 0),
-    (Trade(Kind::Three), 44),
-    (Trade(Kind::Five), 44),
+/// Behind the trade the 4s are gone, and the NYC has the first diesel.
+static TRADES: [Step; 9] = [
+    Gets(Trade(Kind::Four), 0),
+    Gets(Trade(Kind::Three), 44),
+    Gets(Trade(Kind::Five), 44),
+    Adds(Trade(Kind::Four), 7),
+    Holds(Kind::Four, 1, Place::Gone),
+    Holds(Kind::Four, 4, Place::Gone),
+    Holds(Kind::Diesel, 1, AT_NYC),
+    Has(Party::Corp(NYC), 0),
+    Gets(Trade(Kind::Four), 44),
 ];
-
-/// Whether the 4s are gone, and the NYC has the first diesel.
-fn has_traded(table: &Position) -> bool {
-    is_held(table, Kind::Four, 1, Place::Gone)
-        && is_held(table, Kind::Four, 4, Place::Gone)
-        && is_held(table, Kind::Diesel, 1, AT_NYC)
-}
 
 #[test]
 fn a_four_is_handed_in_for_a_diesel(rt: HostRuntime) {
-    let roster = roster(&rt, rt.alloc(), ROSTER);
-    let table = with_six(&rt, rt.alloc());
-    assert!(rt; are_refused(&roster, &table, &TRADES));
-    let trade = Trade(Kind::Four);
-    let (added, table) = with(&rt, rt.alloc(), &roster, table, trade);
-    let traded = has_traded(&table) && cash_of(&table, NYC) == 0;
-    assert!(rt; added == (7, true) && traded && refusal(&roster, &table, trade) == 44);
+    let mut table = with_six(&rt, rt.alloc());
+    assert!(rt; goes_so(&rt, rt.alloc(), &mut table, &TRADES));
 }
 
 /// Who leads, and who has which private.
@@ -253,42 +256,41 @@ fn with_presidents(rt: &impl Abort, alloc: Global) -> Position {
     table
 }
 
-static AGREED: [(Order, u8); 5] = [
-    (BuyOfErie(100, B, A), 0),
-    (BuyOfErie(101, B, A), 2),
-    (BuyOfErie(100, A, A), 20),
-    (BuyOfErie(100, B, B), 20),
-    (BuyOfErie(0, B, A), 45),
+static AGREED: [Step; 9] = [
+    Gets(BuyOfErie(100, B, A), 0),
+    Gets(BuyOfErie(101, B, A), 2),
+    Gets(BuyOfErie(100, A, A), 20),
+    Gets(BuyOfErie(100, B, B), 20),
+    Gets(BuyOfErie(0, B, A), 45),
+    Adds(BuyOfErie(100, B, A), 4),
+    Holds(Kind::Three, 1, Place::Corp(BO)),
+    Has(Party::Corp(ERIE), 100),
+    Owns(Private::Bo, Place::Gone),
 ];
 
 #[test]
 fn presidents_agree_on_a_train(rt: HostRuntime) {
-    let roster = roster(&rt, rt.alloc(), ROSTER);
-    let table = with_presidents(&rt, rt.alloc());
-    assert!(rt; are_refused(&roster, &table, &AGREED));
-    let (added, table) = with(&rt, rt.alloc(), &roster, table, BuyOfErie(100, B, A));
-    let sold = is_held(&table, Kind::Three, 1, Place::Corp(BO)) && cash_of(&table, ERIE) == 100;
-    assert!(rt; added == (4, true) && sold && is_private_held(&table, Private::Bo, Place::Gone));
+    let mut table = with_presidents(&rt, rt.alloc());
+    assert!(rt; goes_so(&rt, rt.alloc(), &mut table, &AGREED));
 }
 
-static TAKEN: [(Order, u8); 6] = [
-    (Take(BO, Private::Sv, 10), 0),
-    (Take(BO, Private::Sv, 9), 45),
-    (Take(BO, Private::Sv, 41), 45),
-    (Take(ERIE, Private::Sv, 40), 2),
-    (Take(BO, Private::Bo, 220), 22),
-    (Take(BO, Private::Csl, 40), 22),
+static TAKEN: [Step; 10] = [
+    Gets(Take(BO, Private::Sv, 10), 0),
+    Gets(Take(BO, Private::Sv, 9), 45),
+    Gets(Take(BO, Private::Sv, 41), 45),
+    Gets(Take(ERIE, Private::Sv, 40), 2),
+    Gets(Take(BO, Private::Bo, 220), 22),
+    Gets(Take(BO, Private::Csl, 40), 22),
+    Adds(Take(BO, Private::Sv, 40), 3),
+    Has(Party::Seat(A), 1240),
+    Has(Party::Corp(BO), 60),
+    Owns(Private::Sv, Place::Corp(BO)),
 ];
 
 #[test]
 fn a_private_goes_for_half_to_twice_its_face(rt: HostRuntime) {
-    let roster = roster(&rt, rt.alloc(), ROSTER);
-    let table = with_presidents(&rt, rt.alloc());
-    assert!(rt; are_refused(&roster, &table, &TAKEN));
-    let (added, table) = with(&rt, rt.alloc(), &roster, table, Take(BO, Private::Sv, 40));
-    let paid = cash(&table, Party::Seat(A)) == 1240 && cash_of(&table, BO) == 60;
-    assert!(rt; added == (3, true) && paid);
-    assert!(rt; is_private_held(&table, Private::Sv, Place::Corp(BO)));
+    let mut table = with_presidents(&rt, rt.alloc());
+    assert!(rt; goes_so(&rt, rt.alloc(), &mut table, &TAKEN));
 }
 
 #[test]

@@ -1,5 +1,7 @@
 //! Dividends of PRR, of which the first seat holds 60%, the pool 20% and the offering 20%.
-use crate::fixtures::{A, B, ROSTER, chart, fund, give, mark, position, roster};
+use crate::fixtures::{
+    A, B, ROSTER, chart, desk, fund, give, mark, number_of, position, roster, succeed,
+};
 use rr_books::{Act, Cell, Cert, Corp, Entry, Marker, Money, Party, Place, ShareNumber};
 use rr_desk::{Desk, Position};
 use rr_operate::dividends::laws::{
@@ -8,7 +10,6 @@ use rr_operate::dividends::laws::{
 };
 use rr_operate::dividends::{judge_pay, pay_out, withhold};
 use rr_roster::Roster;
-use rr_roster::chart::Chart;
 use std::alloc::Global;
 use std::process::Abort;
 
@@ -38,10 +39,10 @@ fn give_all(rt: &impl Abort, table: &mut Position, certificates: &[(Cert, Place)
 }
 
 /// Two players with 1,200 each, PRR's shares as said, its token on a cell, and a bank that spent so much.
-fn table(rt: &impl Abort, alloc: Global, spent: u16, row: u8, column: u8) -> Position {
+fn table(rt: &impl Abort, alloc: Global, spent: u16, at: Cell) -> Position {
     let mut table = position(rt, alloc, 2);
     give_all(rt, &mut table, &GIVEN);
-    mark(rt, &mut table, PRR, row, column);
+    mark(rt, &mut table, PRR, at.row, at.column);
     fund(rt, &mut table, Party::Corp(Corp::Nyc), spent);
     table
 }
@@ -70,52 +71,47 @@ fn outcome(desk: &Desk, roster: &Roster) -> Outcome {
     (money(position, roster), cell, entries)
 }
 
-fn pay(rt: &impl Abort, chart: &Chart, desk: &mut Desk) {
-    pay_out(desk, chart, PRR, Money(100)).expect(rt, "memory");
+/// A desk at which the bank spent so much, and PRR's token is on this cell.
+fn opened(rt: &impl Abort, alloc: Global, spent: u16, at: Cell) -> Desk {
+    desk(rt, alloc, &table(rt, alloc, spent, at))
 }
 
-fn keep(rt: &impl Abort, chart: &Chart, desk: &mut Desk, revenue: u8) {
-    withhold(desk, chart, PRR, Money(i64::from(revenue))).expect(rt, "memory");
+fn pay(rt: &impl Abort, alloc: Global, desk: &mut Desk) {
+    let paid = pay_out(desk, &chart(rt, alloc, CHART), PRR, Money(100));
+    succeed(rt, paid);
+}
+
+fn keep(rt: &impl Abort, alloc: Global, desk: &mut Desk, revenue: u8) {
+    let amount = Money(i64::from(revenue));
+    let held = withhold(desk, &chart(rt, alloc, CHART), PRR, amount);
+    succeed(rt, held);
 }
 
 /// What comes of 100 dollars paid out, where the bank spent so much and the token is on this cell.
-fn paid(
-    rt: &impl Abort,
-    alloc: Global,
-    chart: &Chart,
-    roster: &Roster,
-    start: (u16, u8, u8),
-) -> Outcome {
-    let (spent, row, column) = start;
-    let mut desk = Desk::new(alloc, &table(rt, alloc, spent, row, column)).expect(rt, "memory");
-    pay(rt, chart, &mut desk);
-    outcome(&desk, roster)
+fn paid(rt: &impl Abort, alloc: Global, spent: u16, at: Cell) -> Outcome {
+    let mut desk = opened(rt, alloc, spent, at);
+    pay(rt, alloc, &mut desk);
+    outcome(&desk, &roster(rt, alloc, ROSTER))
 }
 
 #[test]
 fn a_dividend_is_paid(rt: HostRuntime) {
-    let chart = chart(&rt, rt.alloc(), CHART);
-    let roster = roster(&rt, rt.alloc(), ROSTER);
-    let paid = paid(&rt, rt.alloc(), &chart, &roster, (0, 1, 0));
+    let paid = paid(&rt, rt.alloc(), 0, Cell { row: 1, column: 0 });
     let cell = Cell { row: 1, column: 1 };
     assert!(rt; paid == ([9520, 1260, 1200, 20], Some(cell), 5));
 }
 
 #[test]
 fn a_bank_with_50_owes_30(rt: HostRuntime) {
-    let chart = chart(&rt, rt.alloc(), CHART);
-    let roster = roster(&rt, rt.alloc(), ROSTER);
-    let paid = paid(&rt, rt.alloc(), &chart, &roster, (9550, 1, 1));
+    let paid = paid(&rt, rt.alloc(), 9550, Cell { row: 1, column: 1 });
     let cell = Cell { row: 0, column: 1 };
     assert!(rt; paid == ([-30, 1260, 1200, 20], Some(cell), 5));
 }
 
 #[test]
 fn a_token_stays_at_the_corner(rt: HostRuntime) {
-    let chart = chart(&rt, rt.alloc(), CHART);
-    let roster = roster(&rt, rt.alloc(), ROSTER);
-    let paid = paid(&rt, rt.alloc(), &chart, &roster, (0, 0, 1));
     let cell = Cell { row: 0, column: 1 };
+    let paid = paid(&rt, rt.alloc(), 0, cell);
     assert!(rt; paid == ([9520, 1260, 1200, 20], Some(cell), 4));
 }
 
@@ -138,25 +134,24 @@ static WITHHELD: [Row; 3] = [
     ),
 ];
 
+/// What comes of so much that is withheld, where the token is on this cell.
+fn withheld(rt: &impl Abort, alloc: Global, at: Cell, revenue: u8) -> Outcome {
+    let mut desk = opened(rt, alloc, 0, at);
+    keep(rt, alloc, &mut desk, revenue);
+    outcome(&desk, &roster(rt, alloc, ROSTER))
+}
+
 /// Whether PRR has what is withheld, its token is on that cell, and so many entries are added.
-fn is_withheld(rt: &impl Abort, alloc: Global, chart: &Chart, roster: &Roster, row: &Row) -> bool {
+fn is_withheld(rt: &impl Abort, alloc: Global, row: &Row) -> bool {
     let (at, revenue, cell, entries) = row;
-    let mut desk = Desk::new(alloc, &table(rt, alloc, 0, at.row, at.column)).expect(rt, "memory");
-    keep(rt, chart, &mut desk, *revenue);
-    let (money, token, added) = outcome(&desk, roster);
+    let (money, token, added) = withheld(rt, alloc, *at, *revenue);
     let right = money[1] == 1200 && money[3] == i64::from(*revenue);
     right && token == Some(*cell) && added == *entries
 }
 
-fn are_withheld(
-    rt: &impl Abort,
-    alloc: Global,
-    chart: &Chart,
-    roster: &Roster,
-    rows: &[Row],
-) -> bool {
+fn are_withheld(rt: &impl Abort, alloc: Global, rows: &[Row]) -> bool {
     for row in rows {
-        if !is_withheld(rt, alloc, chart, roster, row) {
+        if !is_withheld(rt, alloc, row) {
             return false;
         }
     }
@@ -165,40 +160,37 @@ fn are_withheld(
 
 #[test]
 fn what_is_withheld_goes_to_the_corporation(rt: HostRuntime) {
-    let chart = chart(&rt, rt.alloc(), CHART);
-    let roster = roster(&rt, rt.alloc(), ROSTER);
-    assert!(rt; are_withheld(&rt, rt.alloc(), &chart, &roster, &WITHHELD));
+    assert!(rt; are_withheld(&rt, rt.alloc(), &WITHHELD));
 }
 
 /// Whether the first entry is a pay-out's words, and the sixth those of a withholding.
 fn are_words_first(entries: &[Entry]) -> bool {
-    let paid = matches!(
-        entries.get(0),
-        Some(Entry::Step(Marker::Act(Act::PayOut { .. })))
-    );
-    let held = matches!(
-        entries.get(5),
-        Some(Entry::Step(Marker::Act(Act::Hold { .. })))
-    );
-    paid && held
+    matches!(
+        entries,
+        [
+            Entry::Step(Marker::Act(Act::PayOut { .. })),
+            _,
+            _,
+            _,
+            _,
+            Entry::Step(Marker::Act(Act::Hold { .. })),
+            ..,
+        ]
+    )
 }
 
 #[test]
 fn words_come_first(rt: HostRuntime) {
     let alloc = rt.alloc();
-    let chart = chart(&rt, alloc, CHART);
-    let mut desk = Desk::new(alloc, &table(&rt, alloc, 0, 1, 0)).expect(&rt, "memory");
-    pay(&rt, &chart, &mut desk);
-    keep(&rt, &chart, &mut desk, 0);
+    let mut desk = opened(&rt, alloc, 0, Cell { row: 1, column: 0 });
+    pay(&rt, alloc, &mut desk);
+    keep(&rt, alloc, &mut desk, 0);
     assert!(rt; are_words_first(desk.entries().as_slice()));
 }
 
 /// The number of the refusal of a pay-out, or 0.
 fn pay_fault(revenue: i64) -> u8 {
-    match judge_pay(Money(revenue)) {
-        Ok(()) => 0,
-        Err(fault) => fault.number(),
-    }
+    number_of(judge_pay(Money(revenue)))
 }
 
 #[test]

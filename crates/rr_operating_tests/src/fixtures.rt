@@ -1,9 +1,13 @@
 //! What several of the tests share. The helpers have almost no contract, so that their callers' proofs stay small.
-ghost use Rattle.std.specs.Prelude.{◌<◌};
+ghost use Rattle.std.specs.Prelude.{◌<◌, ◌≡◌, true};
 ghost use Rattle.rr_books.specs.State.{party_index};
+ghost use Rattle.rr_desk.specs.Position.Position.{Fits};
+ghost use Rattle.rr_trains.specs.Depot.Small.{IsSmall};
 
-use rr_books::{Cell, Cert, Corp, Entry, Kind, Marker, Money, Party, Place, Seat, Train};
-use rr_desk::Position;
+use rr_books::{
+    Act, Cell, Cert, Corp, Entry, Kind, Marker, Money, Party, Place, Refusal, Seat, Train,
+};
+use rr_desk::{Desk, Position};
 use rr_kit::Kit;
 use rr_roster::Roster;
 use rr_roster::chart::Chart;
@@ -68,6 +72,48 @@ pub(crate) fn position(rt: &impl Abort, alloc: Global, players: u8) -> Position 
     Position::open(players, &roster(rt, alloc, ROSTER))
 }
 
+/// The number of the refusal, or 0.
+pub(crate) fn number_of(verdict: Result<(), Refusal>) -> u8 {
+    match verdict {
+        Ok(()) => 0,
+        Err(fault) => fault.number(),
+    }
+}
+
+/// Whether the price is small, as that of each command of the tests is.
+pub(crate) fn has_small_price(act: &Act) -> bool
+    ensures { result ≡ true → IsSmall act.now }
+{
+    match act {
+        Act::BuyTrainFrom { price, .. } => *price <= 10_000_000_000,
+        Act::TakePrivate { price, .. } => *price <= 10_000_000_000,
+        _ => true,
+    }
+}
+
+/// What is done has succeeded.
+pub(crate) fn succeed(rt: &impl Abort, done: Result<(), Refusal>) {
+    done.expect(rt, "memory and room");
+}
+
+pub(crate) fn desk(rt: &impl Abort, alloc: Global, table: &Position) -> Desk {
+    Desk::new(alloc, table).expect(rt, "memory")
+}
+
+/// How many entries the desk has added. The table is as it is behind them.
+pub(crate) fn settle(desk: Desk, table: &mut Position) -> usize {
+    let (position, entries) = desk.into_parts();
+    *table = *position;
+    entries.as_slice().len()
+}
+
+/// The table follows an entry. The helpers below give theirs away, so that it is dropped here alone.
+pub(crate) fn follow(rt: &impl Abort, table: &mut Position, entry: Entry)
+    requires { Fits table.old entry }
+{
+    succeed(rt, table.follow(&entry));
+}
+
 /// The bank pays so much.
 pub(crate) fn fund(rt: &impl Abort, table: &mut Position, to: Party, amount: u16)
     requires { party_index to < 15 }
@@ -77,47 +123,48 @@ pub(crate) fn fund(rt: &impl Abort, table: &mut Position, to: Party, amount: u16
         to,
         amount: Money(i64::from(amount)),
     };
-    table.follow(&pay).expect(rt, "room");
+    follow(rt, table, pay);
 }
 
 pub(crate) fn give(rt: &impl Abort, table: &mut Position, cert: Cert, to: Place) {
-    table.follow(&Entry::Move { cert, to }).expect(rt, "room");
+    follow(rt, table, Entry::Move { cert, to });
 }
 
 pub(crate) fn give_train(rt: &impl Abort, table: &mut Position, kind: Kind, number: u8, to: Place) {
     let train = Train { kind, number };
     assert!(rt; table.books().has_train(train));
-    table.follow(&Entry::Train { train, to }).expect(rt, "room");
+    follow(rt, table, Entry::Train { train, to });
+}
+
+/// The first trains of the kind, as many as this, go to the place.
+pub(crate) fn give_trains(rt: &impl Abort, table: &mut Position, kind: Kind, count: u8, to: Place) {
+    for number in 1..=count {
+        give_train(rt, table, kind, number, to);
+    }
 }
 
 /// A token of the corporation stands in the first centre of a hex.
 pub(crate) fn station(rt: &impl Abort, table: &mut Position, corp: Corp, hex: &[u8]) {
     let hex = name(rt, hex);
     let centre = 1;
-    table
-        .follow(&Entry::Station { corp, hex, centre })
-        .expect(rt, "room");
+    follow(rt, table, Entry::Station { corp, hex, centre });
 }
 
 /// The corporation's token is put on a cell of the chart.
 pub(crate) fn mark(rt: &impl Abort, table: &mut Position, corp: Corp, row: u8, column: u8) {
     let cell = Cell { row, column };
-    table.follow(&Entry::Mark { corp, cell }).expect(rt, "room");
+    follow(rt, table, Entry::Mark { corp, cell });
 }
 
 /// The corporation floats, with its token on the first cell.
 pub(crate) fn float(rt: &impl Abort, table: &mut Position, corp: Corp) {
     mark(rt, table, corp, 0, 0);
-    table
-        .follow(&Entry::Step(Marker::Float(corp)))
-        .expect(rt, "room");
+    follow(rt, table, Entry::Step(Marker::Float(corp)));
 }
 
 /// An operating round begins.
 pub(crate) fn operate(rt: &impl Abort, table: &mut Position) {
-    table
-        .follow(&Entry::Step(Marker::Operating))
-        .expect(rt, "room");
+    follow(rt, table, Entry::Step(Marker::Operating));
 }
 
 /// PRR at home on the small board.

@@ -2,7 +2,10 @@
 ghost use Rattle.std.specs.Prelude.{◌≡◌, true};
 ghost use Rattle.rr_rules.specs.Forced.Small.{IsSmall};
 
-use crate::fixtures::{A, B, float, fund, give, give_train, kit, mark, operate, position, station};
+use crate::fixtures::{
+    A, B, desk, float, follow, fund, give, give_trains, kit, mark, number_of, operate, position,
+    settle, station, succeed,
+};
 use rr_books::{
     Act, Cert, Corp, Entry, Kind, Marker, Money, Party, Place, Seat, ShareNumber, TrainSource,
 };
@@ -75,14 +78,12 @@ fn leave(rt: &impl Abort, table: &mut Position, amount: u16) {
         to: Party::Bank,
         amount: Money(1200),
     };
-    table.follow(&spent).expect(rt, "room");
+    follow(rt, table, spent);
     fund(rt, table, Party::Seat(A), amount);
 }
 
 fn hold(rt: &impl Abort, table: &mut Position, corp: Corp) {
-    table
-        .follow(&Entry::Step(Marker::Act(Act::Hold { corp })))
-        .expect(rt, "room");
+    follow(rt, table, Entry::Step(Marker::Act(Act::Hold { corp })));
 }
 
 /// PRR has 50 dollars, its token in A, no train and may buy one; the first seat is its president.
@@ -100,36 +101,19 @@ fn in_need(rt: &impl Abort, alloc: Global, amount: u16) -> Position {
 
 /// The number of the fault of the command, or 0.
 fn fault(alloc: Global, kit: &Kit, table: &Position, order: Order) -> u8 {
-    match judge(alloc, kit, table, &command(order)) {
-        Ok(()) => 0,
-        Err(fault) => fault.number(),
-    }
+    number_of(judge(alloc, kit, table, &command(order)))
 }
 
-/// Whether each of the commands has the fault of its number.
-fn have_faults(alloc: Global, kit: &Kit, table: &Position, orders: &[(Order, u8)]) -> bool {
-    for (order, number) in orders {
-        if fault(alloc, kit, table, *order) != *number {
-            return false;
-        }
-    }
-    true
+fn add(rt: &impl Abort, kit: &Kit, desk: &mut Desk, act: &Act) {
+    assert!(rt; is_small(act));
+    succeed(rt, play(kit.roster(), kit.chart(), desk, act));
 }
 
-/// How many entries a command adds, and the table behind it.
-fn with(
-    rt: &impl Abort,
-    alloc: Global,
-    kit: &Kit,
-    table: Position,
-    order: Order,
-) -> (usize, Position) {
-    let act = command(order);
-    assert!(rt; is_small(&act));
-    let mut desk = Desk::new(alloc, &table).expect(rt, "memory");
-    play(kit.roster(), kit.chart(), &mut desk, &act).expect(rt, "memory");
-    let (position, entries) = desk.into_parts();
-    (entries.as_slice().len(), *position)
+/// How many entries a command adds. The table is as it is behind it.
+fn added(rt: &impl Abort, alloc: Global, kit: &Kit, table: &mut Position, order: Order) -> usize {
+    let mut desk = desk(rt, alloc, table);
+    add(rt, kit, &mut desk, &command(order));
+    settle(desk, table)
 }
 
 /// The train that the corporation due must buy, if one must.
@@ -153,33 +137,88 @@ fn amounts(rt: &impl Abort, alloc: Global, kit: &Kit, table: &Position) -> Optio
     Some([need.price, need.lack, need.shortfall])
 }
 
-fn cash(table: &Position, party: Party) -> i64 {
-    table.books().balance(party).0
+/// How much of the NYC is in the pool, and its price.
+fn told_of_nyc(kit: &Kit, table: &Position) -> (u8, Option<u16>) {
+    let share = table.books().share(Place::Pool, NYC);
+    (share, table.market().price(kit.chart(), NYC))
 }
+
+/// What holds of a table, and what comes of a command.
+#[derive(Clone, Copy)]
+enum Step {
+    /// A 2-train must be bought: its price, what the corporation due lacks, and what it and its president lack; or none.
+    Needs(Option<[u64; 3]>),
+    /// The command has the fault of this number, or none where it is 0.
+    Gets(Order, u8),
+    /// The command adds so many entries, and the next step is behind it.
+    Adds(Order, usize),
+    /// The party has so much.
+    Has(Party, i64),
+    /// So much of the NYC is in the pool, and this is its price.
+    Shows(u8, Option<u16>),
+    /// A 10% certificate of the corporation goes to a place.
+    Gives(Corp, ShareNumber, Place),
+    /// Whether a president is bankrupt.
+    IsBankrupt(bool),
+}
+
+use Step::{Adds, Gets, Gives, Has, IsBankrupt, Needs, Shows};
+
+fn is_right(rt: &impl Abort, alloc: Global, kit: &Kit, table: &mut Position, step: Step) -> bool {
+    match step {
+        Needs(wanted) => amounts(rt, alloc, kit, table) == wanted,
+        Gets(order, number) => fault(alloc, kit, table, order) == number,
+        Adds(order, count) => added(rt, alloc, kit, table, order) == count,
+        Has(party, amount) => table.books().balance(party).0 == amount,
+        Shows(share, price) => told_of_nyc(kit, table) == (share, price),
+        Gives(corp, number, to) => {
+            share(rt, table, corp, number, to);
+            true
+        }
+        IsBankrupt(wanted) => table.operations().is_bankrupt() == wanted,
+    }
+}
+
+/// Whether the steps go as they say, one behind the other.
+fn goes_so(rt: &impl Abort, alloc: Global, table: &mut Position, steps: &[Step]) -> bool {
+    let kit = need_kit(rt, alloc);
+    let mut right = true;
+    for step in steps {
+        right = right && is_right(rt, alloc, &kit, table, *step);
+    }
+    right
+}
+
+static FORCED: [Step; 8] = [
+    Needs(Some([80, 30, 0])),
+    Gets(Force(PRR), 0),
+    Gets(Force(NYC), 42),
+    // Words, the president's payment, the train, and its price.
+    Adds(Force(PRR), 4),
+    Has(Party::Corp(PRR), 0),
+    Has(Party::Seat(A), 10),
+    Gets(Force(PRR), 42),
+    Needs(None),
+];
 
 #[test]
 fn the_president_adds_what_is_lacking(rt: HostRuntime) {
     let alloc = rt.alloc();
-    let kit = need_kit(&rt, alloc);
-    let table = in_need(&rt, alloc, 40);
-    assert!(rt; amounts(&rt, alloc, &kit, &table) == Some([80, 30, 0]));
-    assert!(rt; have_faults(alloc, &kit, &table, &[(Force(PRR), 0), (Force(NYC), 42)]));
-    let (added, table) = with(&rt, alloc, &kit, table, Force(PRR));
-    // Words, the president's payment, the train, and its price.
-    let paid = cash(&table, Party::Corp(PRR)) == 0 && cash(&table, Party::Seat(A)) == 10;
-    assert!(rt; added == 4 && paid && fault(alloc, &kit, &table, Force(PRR)) == 42);
-    assert!(rt; amounts(&rt, alloc, &kit, &table).is_none());
+    let mut table = in_need(&rt, alloc, 40);
+    assert!(rt; goes_so(&rt, alloc, &mut table, &FORCED));
 }
+
+static LACKING_FIVE: [Step; 2] = [Needs(Some([80, 30, 5])), Gets(Force(PRR), 2)];
+
+static LACKING_NOTHING: [Step; 1] = [Gets(Force(PRR), 42)];
 
 #[test]
 fn a_president_with_too_little_is_refused(rt: HostRuntime) {
     let alloc = rt.alloc();
-    let kit = need_kit(&rt, alloc);
     let mut table = in_need(&rt, alloc, 25);
-    assert!(rt; amounts(&rt, alloc, &kit, &table) == Some([80, 30, 5]));
-    assert!(rt; fault(alloc, &kit, &table, Force(PRR)) == 2);
+    assert!(rt; goes_so(&rt, alloc, &mut table, &LACKING_FIVE));
     fund(&rt, &mut table, Party::Corp(PRR), 30);
-    assert!(rt; fault(alloc, &kit, &table, Force(PRR)) == 42);
+    assert!(rt; goes_so(&rt, alloc, &mut table, &LACKING_NOTHING));
 }
 
 /// PRR's president has 25 dollars and a share of the NYC, which stands at 100.
@@ -190,132 +229,97 @@ fn with_a_share(rt: &impl Abort, alloc: Global) -> Position {
     table
 }
 
-/// B isn't the president; A has one share of the NYC, and nobody else has 20% of the PRR; and A isn't bankrupt.
-static BEFORE_THE_SALE: [(Order, u8); 7] = [
-    (Raise(B, NYC, 1), 20),
-    (Raise(A, NYC, 2), 22),
-    (Raise(A, NYC, 0), 22),
-    (Raise(A, PRR, 1), 22),
-    (Bankrupt(A), 50),
-    (Bankrupt(B), 20),
-    (Raise(A, NYC, 1), 0),
+/// Before the sale, B isn't the president; A has one share of the NYC, and nobody else has 20% of the PRR; and A isn't
+/// bankrupt.
+static A_SALE: [Step; 13] = [
+    Gets(Raise(B, NYC, 1), 20),
+    Gets(Raise(A, NYC, 2), 22),
+    Gets(Raise(A, NYC, 0), 22),
+    Gets(Raise(A, PRR, 1), 22),
+    Gets(Bankrupt(A), 50),
+    Gets(Bankrupt(B), 20),
+    Gets(Raise(A, NYC, 1), 0),
+    // Words, the share, the payment, and the mark.
+    Adds(Raise(A, NYC, 1), 4),
+    Has(Party::Seat(A), 125),
+    Shows(10, Some(90)),
+    // 125 and 50 suffice for 80.
+    Gets(Raise(A, PRR, 1), 48),
+    Gets(Bankrupt(A), 50),
+    Gets(Force(PRR), 0),
 ];
-
-/// 125 and 50 suffice for 80.
-static BEHIND_THE_SALE: [(Order, u8); 3] = [
-    (Raise(A, PRR, 1), 48),
-    (Bankrupt(A), 50),
-    (Force(PRR), 0),
-];
-
-/// What the president has, how much of the NYC is in the pool, and its price.
-fn told_of_the_sale(kit: &Kit, table: &Position) -> (i64, u8, Option<u16>) {
-    let share = table.books().share(Place::Pool, NYC);
-    let price = table.market().price(kit.chart(), NYC);
-    (cash(table, Party::Seat(A)), share, price)
-}
 
 #[test]
 fn a_president_sells_shares_for_a_train(rt: HostRuntime) {
     let alloc = rt.alloc();
-    let kit = need_kit(&rt, alloc);
-    let table = with_a_share(&rt, alloc);
-    assert!(rt; have_faults(alloc, &kit, &table, &BEFORE_THE_SALE));
-    let (added, table) = with(&rt, alloc, &kit, table, Raise(A, NYC, 1));
-    // Words, the share, the payment, and the mark.
-    assert!(rt; added == 4 && told_of_the_sale(&kit, &table) == (125, 10, Some(90)));
-    assert!(rt; have_faults(alloc, &kit, &table, &BEHIND_THE_SALE));
+    let mut table = with_a_share(&rt, alloc);
+    assert!(rt; goes_so(&rt, alloc, &mut table, &A_SALE));
 }
 
-static OF_THE_POOL: [ShareNumber; 4] = [
-    ShareNumber::Two,
-    ShareNumber::Three,
-    ShareNumber::Four,
-    ShareNumber::Five,
+static FULL_POOL: [Step; 8] = [
+    Gives(NYC, ShareNumber::Two, Place::Pool),
+    Gives(NYC, ShareNumber::Three, Place::Pool),
+    Gives(NYC, ShareNumber::Four, Place::Pool),
+    Gives(NYC, ShareNumber::Five, Place::Pool),
+    Gets(Raise(A, NYC, 1), 0),
+    Gives(NYC, ShareNumber::Six, Place::Pool),
+    Gets(Raise(A, NYC, 1), 28),
+    Gets(Bankrupt(A), 0),
 ];
 
 #[test]
 fn a_full_pool_takes_no_forced_sale(rt: HostRuntime) {
     let alloc = rt.alloc();
-    let kit = need_kit(&rt, alloc);
     let mut table = with_a_share(&rt, alloc);
-    for number in &OF_THE_POOL {
-        share(&rt, &mut table, NYC, *number, Place::Pool);
-    }
-    assert!(rt; fault(alloc, &kit, &table, Raise(A, NYC, 1)) == 0);
-    share(&rt, &mut table, NYC, ShareNumber::Six, Place::Pool);
-    assert!(rt;
-        have_faults(
-            alloc,
-            &kit,
-            &table,
-            &[(Raise(A, NYC, 1), 28), (Bankrupt(A), 0)]
-        )
-    );
+    assert!(rt; goes_so(&rt, alloc, &mut table, &FULL_POOL));
 }
+
+static RIVAL: [Step; 7] = [
+    Gives(PRR, ShareNumber::One, Place::Seat(A)),
+    Gives(PRR, ShareNumber::Two, Place::Seat(B)),
+    Gives(PRR, ShareNumber::Three, Place::Seat(B)),
+    Gets(Raise(A, PRR, 1), 0),
+    Gives(PRR, ShareNumber::Four, Place::Seat(B)),
+    // A would have 20%, and B has 30%.
+    Gets(Raise(A, PRR, 1), 49),
+    Gets(Bankrupt(A), 0),
+];
 
 #[test]
 fn the_corporation_due_keeps_its_president(rt: HostRuntime) {
     let alloc = rt.alloc();
-    let kit = need_kit(&rt, alloc);
     let mut table = in_need(&rt, alloc, 25);
-    share(&rt, &mut table, PRR, ShareNumber::One, Place::Seat(A));
-    share(&rt, &mut table, PRR, ShareNumber::Two, Place::Seat(B));
-    share(&rt, &mut table, PRR, ShareNumber::Three, Place::Seat(B));
-    assert!(rt; fault(alloc, &kit, &table, Raise(A, PRR, 1)) == 0);
-    share(&rt, &mut table, PRR, ShareNumber::Four, Place::Seat(B));
-    // A would have 20%, and B has 30%.
-    assert!(rt;
-        have_faults(
-            alloc,
-            &kit,
-            &table,
-            &[(Raise(A, PRR, 1), 49), (Bankrupt(A), 0)]
-        )
-    );
+    assert!(rt; goes_so(&rt, alloc, &mut table, &RIVAL));
 }
 
-fn is_bankrupt(table: &Position) -> bool {
-    table.operations().is_bankrupt()
-}
+static BANKRUPTCY: [Step; 5] = [
+    IsBankrupt(false),
+    Gets(Bankrupt(A), 0),
+    Adds(Bankrupt(A), 1),
+    IsBankrupt(true),
+    Has(Party::Seat(A), 25),
+];
 
 #[test]
 fn a_president_is_bankrupt(rt: HostRuntime) {
     let alloc = rt.alloc();
-    let kit = need_kit(&rt, alloc);
-    let table = in_need(&rt, alloc, 25);
-    assert!(rt; !is_bankrupt(&table) && fault(alloc, &kit, &table, Bankrupt(A)) == 0);
-    let (added, table) = with(&rt, alloc, &kit, table, Bankrupt(A));
-    assert!(rt; added == 1 && is_bankrupt(&table) && cash(&table, Party::Seat(A)) == 25);
+    let mut table = in_need(&rt, alloc, 25);
+    assert!(rt; goes_so(&rt, alloc, &mut table, &BANKRUPTCY));
 }
+
+static AT_THE_TILE: [Step; 2] = [Gets(Raise(A, NYC, 1), 42), Gets(Bankrupt(A), 42)];
+
+static OVER_THE_LIMIT: [Step; 2] = [Gets(Raise(A, NYC, 1), 46), Gets(Bankrupt(A), 46)];
 
 #[test]
 fn steps_and_limits_come_before_a_forced_sale(rt: HostRuntime) {
     let alloc = rt.alloc();
-    let kit = need_kit(&rt, alloc);
     let mut table = with_a_share(&rt, alloc);
     operate(&rt, &mut table);
-    // The turn is at its tile.
-    assert!(rt;
-        have_faults(
-            alloc,
-            &kit,
-            &table,
-            &[(Raise(A, NYC, 1), 42), (Bankrupt(A), 42)]
-        )
-    );
-    for number in 1..=5 {
-        give_train(&rt, &mut table, Kind::Two, number, Place::Corp(NYC));
-    }
+    assert!(rt; goes_so(&rt, alloc, &mut table, &AT_THE_TILE));
+    give_trains(&rt, &mut table, Kind::Two, 5, Place::Corp(NYC));
     // Five trains are over the limit of four.
-    assert!(rt;
-        have_faults(
-            alloc,
-            &kit,
-            &table,
-            &[(Raise(A, NYC, 1), 46), (Bankrupt(A), 46)]
-        )
-    );
+    assert!(rt; goes_so(&rt, alloc, &mut table, &OVER_THE_LIMIT));
 }
 
 #[test]

@@ -1,8 +1,8 @@
 //! A turn of PRR on a small board, with its token in A.
-ghost use Rattle.std.specs.Prelude.{◌≡◌, true};
-ghost use Rattle.rr_trains.specs.Depot.Small.{IsSmall};
-
-use crate::fixtures::{float, fund, give_train, kit, name, operate, position, station};
+use crate::fixtures::{
+    desk, float, fund, give_train, give_trains, has_small_price, kit, name, number_of, operate,
+    position, settle, station, succeed,
+};
 use rr_books::{Act, Corp, Kind, Money, Party, Place, TrainSource, Words};
 use rr_desk::{Desk, Position};
 use rr_kit::Kit;
@@ -121,17 +121,6 @@ fn discard() -> Act {
     }
 }
 
-/// Whether the price is small, as that of each of these commands is.
-fn is_small(act: &Act) -> bool
-    ensures { result ≡ true → IsSmall act.now }
-{
-    match act {
-        Act::BuyTrainFrom { price, .. } => *price <= 10_000_000_000,
-        Act::TakePrivate { price, .. } => *price <= 10_000_000_000,
-        _ => true,
-    }
-}
-
 fn turn_kit(rt: &impl Abort, alloc: Global) -> Kit {
     kit(rt, alloc, b"100p\n", TILES, BOARD)
 }
@@ -171,88 +160,121 @@ fn judged(
 }
 
 /// The number of the fault of the command's order, or 0.
-fn order_fault(kit: &Kit, table: &Position, act: &Act) -> u8 {
-    match judge_order(kit, table, Money(0), act) {
-        Ok(()) => 0,
-        Err(fault) => fault.number(),
-    }
+fn order_fault(rt: &impl Abort, alloc: Global, kit: &Kit, table: &Position, order: Order) -> u8 {
+    number_of(judge_order(kit, table, Money(0), &command(rt, alloc, order)))
 }
 
-fn added(rt: &impl Abort, kit: &Kit, desk: &mut Desk, revenue: u8, act: &Act) {
-    assert!(rt; is_small(act));
-    play(kit, desk, Money(i64::from(revenue)), act).expect(rt, "memory");
+fn add(rt: &impl Abort, kit: &Kit, desk: &mut Desk, revenue: u8, act: &Act) {
+    assert!(rt; has_small_price(act));
+    succeed(rt, play(kit, desk, Money(i64::from(revenue)), act));
 }
 
-/// How many entries a command adds, and the table behind it.
-fn with(
+/// How many entries a command adds. The table is as it is behind it.
+fn added(
     rt: &impl Abort,
     alloc: Global,
     kit: &Kit,
-    table: Position,
+    table: &mut Position,
     order: Order,
     revenue: u8,
-) -> (usize, Position) {
-    let mut desk = Desk::new(alloc, &table).expect(rt, "memory");
-    added(rt, kit, &mut desk, revenue, &command(rt, alloc, order));
-    let (position, entries) = desk.into_parts();
-    (entries.as_slice().len(), *position)
+) -> usize {
+    let mut desk = desk(rt, alloc, table);
+    add(rt, kit, &mut desk, revenue, &command(rt, alloc, order));
+    settle(desk, table)
 }
+
+/// What comes of a command, where the trains have earned so much.
+#[derive(Clone, Copy)]
+enum Step {
+    /// It has this verdict.
+    Gets(Order, u8, Verdict),
+    /// Its order has the fault of this number.
+    Misses(Order, u8),
+    /// It adds so many entries, and the next step is behind it.
+    Adds(Order, u8, usize),
+}
+
+use Step::{Adds, Gets, Misses};
+
+fn is_right(rt: &impl Abort, alloc: Global, kit: &Kit, table: &mut Position, step: Step) -> bool {
+    match step {
+        Gets(order, revenue, wanted) => judged(rt, alloc, kit, table, order, revenue) == wanted,
+        Misses(order, number) => order_fault(rt, alloc, kit, table, order) == number,
+        Adds(order, revenue, count) => added(rt, alloc, kit, table, order, revenue) == count,
+    }
+}
+
+/// Whether the steps go as they say, one behind the other.
+fn goes_so(rt: &impl Abort, alloc: Global, table: &mut Position, steps: &[Step]) -> bool {
+    let kit = turn_kit(rt, alloc);
+    let mut right = true;
+    for step in steps {
+        right = right && is_right(rt, alloc, &kit, table, *step);
+    }
+    right
+}
+
+static A_TURN: [Step; 11] = [
+    Gets(Lay, 0, Ok(0)),
+    // Words and tile.
+    Adds(Lay, 0, 3),
+    Gets(Lay, 0, Err(42)),
+    Gets(Station, 0, Ok(0)),
+    // Words, payment and token.
+    Adds(Station, 0, 3),
+    // Words and payment.
+    Adds(Hold(PRR), 0, 2),
+    Gets(End(PRR), 0, Err(47)),
+    Gets(Train, 0, Ok(0)),
+    // Words, train and payment.
+    Adds(Train, 0, 3),
+    Gets(End(PRR), 0, Ok(0)),
+    // Words and NYC's token.
+    Adds(End(PRR), 0, 2),
+];
 
 #[test]
 fn a_turn_with_a_tile_a_token_and_a_train(rt: HostRuntime) {
     let alloc = rt.alloc();
-    let kit = turn_kit(&rt, alloc);
-    let table = operating(&rt, alloc);
-    let lay = judged(&rt, alloc, &kit, &table, Lay, 0);
-    let (laid, table) = with(&rt, alloc, &kit, table, Lay, 0);
-    let again = judged(&rt, alloc, &kit, &table, Lay, 0);
-    let station = judged(&rt, alloc, &kit, &table, Station, 0);
-    let (placed, table) = with(&rt, alloc, &kit, table, Station, 0);
-    assert!(rt; [lay, again, station] == [Ok(0), Err(42), Ok(0)]);
-    let (held, table) = with(&rt, alloc, &kit, table, Hold(PRR), 0);
-    let owing = judged(&rt, alloc, &kit, &table, End(PRR), 0);
-    let train = judged(&rt, alloc, &kit, &table, Train, 0);
-    let (bought, table) = with(&rt, alloc, &kit, table, Train, 0);
-    let end = judged(&rt, alloc, &kit, &table, End(PRR), 0);
-    assert!(rt; [owing, train, end] == [Err(47), Ok(0), Ok(0)]);
-    let (ended, _) = with(&rt, alloc, &kit, table, End(PRR), 0);
-    // Words and tile; words, payment and token; words and payment; words, train and payment; words and NYC's token.
-    assert!(rt; [laid, placed, held, bought, ended] == [3, 3, 2, 3, 2]);
+    let mut table = operating(&rt, alloc);
+    assert!(rt; goes_so(&rt, alloc, &mut table, &A_TURN));
 }
+
+static A_RUN: [Step; 7] = [
+    Gets(Run, 0, Ok(30)),
+    Gets(RunBest, 0, Ok(30)),
+    // The certificate and the words.
+    Adds(RunBest, 0, 2),
+    Gets(PayOut, 0, Err(42)),
+    Gets(PayOut, 30, Ok(30)),
+    // The words, two seats and the pool.
+    Adds(PayOut, 30, 4),
+    Gets(End(PRR), 30, Ok(0)),
+];
 
 #[test]
 fn a_run_is_paid_out(rt: HostRuntime) {
     let alloc = rt.alloc();
-    let kit = turn_kit(&rt, alloc);
     let mut table = operating(&rt, alloc);
     give_train(&rt, &mut table, Kind::Two, 1, Place::Corp(PRR));
-    let run = judged(&rt, alloc, &kit, &table, Run, 0);
-    let best = judged(&rt, alloc, &kit, &table, RunBest, 0);
-    let (ran, table) = with(&rt, alloc, &kit, table, RunBest, 0);
-    assert!(rt; [run, best] == [Ok(30), Ok(30)]);
-    let nothing = judged(&rt, alloc, &kit, &table, PayOut, 0);
-    let pay = judged(&rt, alloc, &kit, &table, PayOut, 30);
-    let (paid, table) = with(&rt, alloc, &kit, table, PayOut, 30);
-    let end = judged(&rt, alloc, &kit, &table, End(PRR), 30);
-    assert!(rt; [nothing, pay, end] == [Err(42), Ok(30), Ok(0)]);
-    // The certificate and the words; the words, two seats and the pool.
-    assert!(rt; [ran, paid] == [2, 4]);
+    assert!(rt; goes_so(&rt, alloc, &mut table, &A_RUN));
 }
+
+static WITHIN_THE_LIMIT: [Step; 3] = [
+    Misses(End(NYC), 42),
+    Misses(Hold(NYC), 20),
+    Gets(Discard, 0, Err(42)),
+];
+
+static OVER_THE_LIMIT: [Step; 2] = [Misses(End(NYC), 46), Gets(Discard, 0, Ok(0))];
 
 #[test]
 fn commands_come_in_their_order(rt: HostRuntime) {
     let alloc = rt.alloc();
-    let kit = turn_kit(&rt, alloc);
     let mut table = operating(&rt, alloc);
-    let end = Act::End { corp: NYC };
-    let hold = Act::Hold { corp: NYC };
-    assert!(rt; order_fault(&kit, &table, &end) == 42 && order_fault(&kit, &table, &hold) == 20);
-    assert!(rt; judged(&rt, alloc, &kit, &table, Discard, 0) == Err(42));
-    for number in 1..=5 {
-        give_train(&rt, &mut table, Kind::Two, number, Place::Corp(NYC));
-    }
-    assert!(rt; order_fault(&kit, &table, &end) == 46);
-    assert!(rt; judged(&rt, alloc, &kit, &table, Discard, 0) == Ok(0));
+    assert!(rt; goes_so(&rt, alloc, &mut table, &WITHIN_THE_LIMIT));
+    give_trains(&rt, &mut table, Kind::Two, 5, Place::Corp(NYC));
+    assert!(rt; goes_so(&rt, alloc, &mut table, &OVER_THE_LIMIT));
 }
 
 #[test]

@@ -134,57 +134,81 @@ fn opened(rt: &impl Abort, alloc: Global, kit: &Kit) -> Standing {
     Standing::open(alloc, 2, kit.roster()).expect(rt, "memory")
 }
 
-fn taken(rt: &impl Abort, alloc: Global, kit: &Kit, table: &Standing, act: &Act) -> Standing {
-    assert!(rt; is_small(act));
-    table
-        .take(alloc, kit, act)
-        .expect(rt, "a lawful command")
-        .standing
-}
-
-/// The table behind these commands.
-fn played(
-    rt: &impl Abort,
-    alloc: Global,
-    kit: &Kit,
-    table: Standing,
-    orders: &[Order],
-) -> Standing {
-    let mut next = table;
-    for order in orders {
-        next = taken(rt, alloc, kit, &next, &command(rt, alloc, *order));
-    }
-    next
-}
-
-/// The number of the fault of the command, or 0.
-fn fault(rt: &impl Abort, alloc: Global, kit: &Kit, table: &Standing, act: &Act) -> u8 {
+/// The number of the command's fault, or 0. The table is as it is behind a lawful one.
+fn fault(rt: &impl Abort, alloc: Global, kit: &Kit, table: &mut Standing, act: &Act) -> u8 {
     assert!(rt; is_small(act));
     match table.take(alloc, kit, act) {
-        Ok(_) => 0,
+        Ok(taken) => {
+            *table = taken.standing;
+            0
+        }
         Err(fault) => fault.number(),
     }
 }
 
-/// The first of the commands whose fault has another number.
-fn first_other(
+fn number(rt: &impl Abort, alloc: Global, kit: &Kit, table: &mut Standing, order: Order) -> u8 {
+    fault(rt, alloc, kit, table, &command(rt, alloc, order))
+}
+
+/// Whether these commands are lawful, one behind the other.
+fn are_lawful(
     rt: &impl Abort,
     alloc: Global,
     kit: &Kit,
-    table: &Standing,
-    orders: &[(Order, u8)],
-) -> Option<usize> {
-    for (index, (order, number)) in orders.iter().enumerate() {
-        let act = command(rt, alloc, *order);
-        if fault(rt, alloc, kit, table, &act) != *number {
-            return Some(index);
+    table: &mut Standing,
+    orders: &[Order],
+) -> bool {
+    for order in orders {
+        if number(rt, alloc, kit, table, *order) != 0 {
+            return false;
         }
     }
-    None
+    true
+}
+
+/// What the rules make of a table.
+#[derive(Clone, Copy)]
+enum Step {
+    /// The commands are lawful, and the next step is behind them.
+    Plays(&'static [Order]),
+    /// The command is refused, by the fault of this number.
+    Refuses(Order, u8),
+    /// The party has so much.
+    Has(Party, i64),
+    /// The trains have earned so much.
+    Earned(i64),
+    /// The game isn't over.
+    GoesOn,
+    /// A's purchase of the first private adds its words, the private and the payment, and leaves A so much.
+    Buys(i64),
+}
+
+use Step::{Buys, Earned, GoesOn, Has, Plays, Refuses};
+
+fn is_right(rt: &impl Abort, alloc: Global, kit: &Kit, table: &mut Standing, step: Step) -> bool {
+    match step {
+        Plays(orders) => are_lawful(rt, alloc, kit, table, orders),
+        Refuses(order, wanted) => number(rt, alloc, kit, table, order) == wanted,
+        Has(party, amount) => cash(table, party) == amount,
+        Earned(amount) => table.revenue().0 == amount,
+        GoesOn => !table.is_over(kit),
+        Buys(amount) => first_purchase(alloc, kit, table) == (true, amount),
+    }
+}
+
+/// Whether a game goes as these steps say, from its opening.
+fn goes_so(rt: &impl Abort, alloc: Global, steps: &[Step]) -> bool {
+    let kit = table_kit(rt, alloc);
+    let mut table = opened(rt, alloc, &kit);
+    let mut right = true;
+    for step in steps {
+        right = right && is_right(rt, alloc, &kit, &mut table, *step);
+    }
+    right
 }
 
 /// All privates are sold at their faces, and the B&O's par is 100: A has 950 dollars, B 830.
-static AUCTION: [Order; 7] = [
+const AUCTION: &[Order] = &[
     Private(A),
     Private(B),
     Private(A),
@@ -195,7 +219,7 @@ static AUCTION: [Order; 7] = [
 ];
 
 /// Then A gets 60% of the PRR, B of the B&O, which is due; each corporation has 1,000 dollars.
-static STOCK_ROUND: [Order; 18] = [
+const STOCK_ROUND: &[Order] = &[
     Par(A, PRR),
     Done(A),
     Share(B, BO),
@@ -216,27 +240,8 @@ static STOCK_ROUND: [Order; 18] = [
     Done(B),
 ];
 
-fn auctioned(rt: &impl Abort, alloc: Global, kit: &Kit) -> Standing {
-    played(rt, alloc, kit, opened(rt, alloc, kit), &AUCTION)
-}
-
-/// The first operating round.
-fn operating(rt: &impl Abort, alloc: Global, kit: &Kit) -> Standing {
-    played(rt, alloc, kit, auctioned(rt, alloc, kit), &STOCK_ROUND)
-}
-
 fn cash(table: &Standing, party: Party) -> i64 {
     table.position().books().balance(party).0
-}
-
-/// What A, B and the B&O have, and what the trains have earned.
-fn money(table: &Standing) -> [i64; 4] {
-    [
-        cash(table, Party::Seat(A)),
-        cash(table, Party::Seat(B)),
-        cash(table, Party::Corp(BO)),
-        table.revenue().0,
-    ]
 }
 
 fn is_of_a_purchase(entries: &[Entry]) -> bool {
@@ -255,7 +260,8 @@ fn is_of_a_purchase(entries: &[Entry]) -> bool {
 
 /// Whether the first purchase adds its words, its private and its payment, and what A has behind it.
 fn first_purchase(alloc: Global, kit: &Kit, table: &Standing) -> (bool, i64) {
-    match table.take(alloc, kit, &Act::BuyPrivate { seat: A }) {
+    let taken = table.take(alloc, kit, &Act::BuyPrivate { seat: A });
+    match taken {
         Ok(taken) => (
             is_of_a_purchase(taken.entries.as_slice()),
             cash(&taken.standing, Party::Seat(A)),
@@ -264,59 +270,66 @@ fn first_purchase(alloc: Global, kit: &Kit, table: &Standing) -> (bool, i64) {
     }
 }
 
+static A_PURCHASE: [Step; 1] = [Buys(1180)];
+
 #[test]
 fn a_command_hands_up_what_it_adds(rt: HostRuntime) {
-    let alloc = rt.alloc();
-    let kit = table_kit(&rt, alloc);
-    let table = opened(&rt, alloc, &kit);
-    assert!(rt; first_purchase(alloc, &kit, &table) == (true, 1180));
+    assert!(rt; goes_so(&rt, rt.alloc(), &A_PURCHASE));
 }
 
-/// A name that the kit lacks comes before the wrong step.
-static AT_THE_OPENING: [(Order, u8); 5] = [
-    (Lay("Z", 7), 1),
-    (Lay("F", 8), 1),
-    (Hold(BO), 42),
-    (Done(A), 42),
-    (Pass(B), 20),
+static AN_AUCTION: [Step; 12] = [
+    // A name that the kit lacks comes before the wrong step.
+    Refuses(Lay("Z", 7), 1),
+    Refuses(Lay("F", 8), 1),
+    Refuses(Hold(BO), 42),
+    Refuses(Done(A), 42),
+    Refuses(Pass(B), 20),
+    Plays(AUCTION),
+    Has(Party::Seat(A), 950),
+    Has(Party::Seat(B), 830),
+    Has(Party::Corp(BO), 0),
+    Earned(0),
+    Refuses(Pass(A), 42),
+    Refuses(Hold(BO), 42),
 ];
-
-static BEHIND_THE_AUCTION: [(Order, u8); 2] = [(Pass(A), 42), (Hold(BO), 42)];
 
 #[test]
 fn an_auction_by_its_rules(rt: HostRuntime) {
-    let alloc = rt.alloc();
-    let kit = table_kit(&rt, alloc);
-    let table = opened(&rt, alloc, &kit);
-    assert!(rt; first_other(&rt, alloc, &kit, &table, &AT_THE_OPENING).is_none());
-    let table = auctioned(&rt, alloc, &kit);
-    assert!(rt; money(&table) == [950, 830, 0, 0]);
-    assert!(rt; first_other(&rt, alloc, &kit, &table, &BEHIND_THE_AUCTION).is_none());
+    assert!(rt; goes_so(&rt, rt.alloc(), &AN_AUCTION));
 }
 
-/// The corporation runs nothing, buys a 2-train and ends its turn.
-static BO_IS_EQUIPPED: [Order; 3] = [Hold(BO), Train(BO), End(BO)];
-
-static AT_THE_TURN: [(Order, u8); 3] = [(Done(A), 42), (Hold(PRR), 20), (Force(BO), 42)];
+/// The first turn of the first operating round.
+static A_TURN: [Step; 18] = [
+    Plays(AUCTION),
+    Plays(STOCK_ROUND),
+    // 450 dollars and three incomes of 45 together, 430 and 60.
+    Has(Party::Seat(A), 495),
+    Has(Party::Seat(B), 490),
+    Has(Party::Corp(BO), 1000),
+    Earned(0),
+    Refuses(Done(A), 42),
+    Refuses(Hold(PRR), 20),
+    Refuses(Force(BO), 42),
+    // The corporation runs nothing, buys a 2-train, which it must, and ends its turn.
+    Plays(&[Hold(BO)]),
+    Refuses(End(BO), 47),
+    Plays(&[Train(BO), End(BO)]),
+    Has(Party::Seat(A), 495),
+    Has(Party::Seat(B), 490),
+    Has(Party::Corp(BO), 920),
+    Earned(0),
+    GoesOn,
+    Refuses(Hold(BO), 20),
+];
 
 #[test]
 fn an_operating_round_by_its_rules(rt: HostRuntime) {
-    let alloc = rt.alloc();
-    let kit = table_kit(&rt, alloc);
-    let table = operating(&rt, alloc, &kit);
-    // 450 dollars and three incomes of 45 together, 430 and 60.
-    assert!(rt; money(&table) == [495, 490, 1000, 0]);
-    assert!(rt; first_other(&rt, alloc, &kit, &table, &AT_THE_TURN).is_none());
-    let held = played(&rt, alloc, &kit, operating(&rt, alloc, &kit), &[Hold(BO)]);
-    assert!(rt; first_other(&rt, alloc, &kit, &held, &[(End(BO), 47)]).is_none());
-    let table = played(&rt, alloc, &kit, table, &BO_IS_EQUIPPED);
-    assert!(rt; money(&table) == [495, 490, 920, 0] && !table.is_over(&kit));
-    assert!(rt; first_other(&rt, alloc, &kit, &table, &[(Hold(BO), 20)]).is_none());
+    assert!(rt; goes_so(&rt, rt.alloc(), &A_TURN));
 }
 
 /// Both corporations are equipped, both players pass the second stock round, the incomes are paid again, and the B&O
 /// runs.
-static TO_A_RUN: [Order; 9] = [
+const TO_A_RUN: &[Order] = &[
     Hold(BO),
     Train(BO),
     End(BO),
@@ -328,19 +341,22 @@ static TO_A_RUN: [Order; 9] = [
     Run(BO),
 ];
 
+static A_RUN: [Step; 9] = [
+    Plays(AUCTION),
+    Plays(STOCK_ROUND),
+    Plays(TO_A_RUN),
+    Earned(30),
+    Plays(&[PayOut(BO)]),
+    // 490 dollars, 30 of two privates, as the B&O's went with the corporation's first train, and 18 for 60%.
+    Has(Party::Seat(B), 538),
+    Earned(30),
+    Plays(&[End(BO)]),
+    Earned(0),
+];
+
 #[test]
 fn what_a_run_earns_is_paid_out(rt: HostRuntime) {
-    let alloc = rt.alloc();
-    let kit = table_kit(&rt, alloc);
-    let table = operating(&rt, alloc, &kit);
-    let table = played(&rt, alloc, &kit, table, &TO_A_RUN);
-    assert!(rt; table.revenue().0 == 30);
-    let table = played(&rt, alloc, &kit, table, &[PayOut(BO)]);
-    // 490 dollars, 30 of two privates, as the B&O's went with the corporation's first train, and 18 for 60%.
-    assert!(rt; cash(&table, Party::Seat(B)) == 538);
-    assert!(rt; table.revenue().0 == 30);
-    let table = played(&rt, alloc, &kit, table, &[End(BO)]);
-    assert!(rt; table.revenue().0 == 0);
+    assert!(rt; goes_so(&rt, rt.alloc(), &A_RUN));
 }
 
 #[test]

@@ -9,7 +9,7 @@ use rr_running::{BestRun, judge_best_run, judge_run, kinds_held, net_now};
 use std::alloc::Global;
 use std::process::Abort;
 
-// The calls below have no contracts and assert nothing, so that what a test does costs its proof little.
+// The calls below have no contracts, so that what a test does costs its proof little.
 
 /// The revenue, or the fault's number.
 type Verdict = Result<i64, u8>;
@@ -21,16 +21,6 @@ fn judged(alloc: Global, kit: &Kit, table: &Position, words: &[u8]) -> Verdict {
     }
 }
 
-/// Whether each of the runs has its verdict.
-fn are_judged(alloc: Global, kit: &Kit, table: &Position, runs: &[(&[u8], Verdict)]) -> bool {
-    for (words, verdict) in runs {
-        if judged(alloc, kit, table, *words) != *verdict {
-            return false;
-        }
-    }
-    true
-}
-
 /// The verdict on a run with a certificate.
 fn shown(alloc: Global, kit: &Kit, table: &Position, words: &[u8], certificate: &[u8]) -> Verdict {
     let run = BestRun { words, certificate };
@@ -40,40 +30,10 @@ fn shown(alloc: Global, kit: &Kit, table: &Position, words: &[u8], certificate: 
     }
 }
 
-static OF_A_TWO: [(&[u8], Verdict); 4] = [
-    (b"2=1-2-3", Ok(30)),
-    (b"2=1-2-3-4-5", Err(39)),
-    (b"3=1-2-3", Err(39)),
-    (b"2=-", Ok(0)),
-];
-
-static OF_A_DIESEL: [(&[u8], Verdict); 1] = [(b"D=1-2-3-4-5-6-7", Ok(100))];
-
-#[test]
-fn a_sheet_earns_its_revenue(rt: HostRuntime) {
-    let alloc = rt.alloc();
-    let kit = small_kit(&rt, alloc);
-    let two = with_train(&rt, alloc, Kind::Two);
-    let diesel = with_train(&rt, alloc, Kind::Diesel);
-    assert!(rt; are_judged(alloc, &kit, &two, &OF_A_TWO));
-    assert!(rt; are_judged(alloc, &kit, &diesel, &OF_A_DIESEL));
-}
-
-static NO_SHEETS: [&[u8]; 6] = [b"2", b"2=", b"2=01-2", b" ", b"2=1-2-3 ", b"T=1"];
-
 /// Whether the words are no sheet, and a run by them is refused, with a certificate too.
 fn is_refused(alloc: Global, kit: &Kit, table: &Position, words: &[u8]) -> bool {
     let refused = judged(alloc, kit, table, words) == Err(39);
     refused && !is_sheet(words) && shown(alloc, kit, table, words, b"b") == Err(39)
-}
-
-fn are_refused(alloc: Global, kit: &Kit, table: &Position, sheets: &[&[u8]]) -> bool {
-    for words in sheets {
-        if !is_refused(alloc, kit, table, *words) {
-            return false;
-        }
-    }
-    true
 }
 
 /// Whether the run is refused for a wrong word, or memory is wanted.
@@ -83,13 +43,82 @@ fn has_wrong_word(alloc: Global, kit: &Kit, table: &Position, words: &[u8]) -> b
     judged == Err(clause) || judged == Err(Refusal::OutOfMemory)
 }
 
+/// How many trains and links the net has.
+fn sizes(alloc: Global, kit: &Kit, table: &Position) -> (usize, usize) {
+    match net_now(alloc, kit, table, Corp::Prr) {
+        Ok(net) => (net.trains().len(), net.links().len()),
+        Err(_) => (0, 0),
+    }
+}
+
+/// What is said of the runs of a train.
+#[derive(Clone, Copy)]
+enum Fact {
+    /// A run by this sheet has this verdict.
+    Gets(&'static [u8], Verdict),
+    /// A run by this sheet, with this certificate, has this verdict.
+    Shows(&'static [u8], &'static [u8], Verdict),
+    /// The words are no sheet.
+    IsNoSheet(&'static [u8]),
+    /// The sheet has a wrong word.
+    HasWrongWord(&'static [u8]),
+    /// The net has so many trains and links.
+    HasNet(usize, usize),
+}
+
+use Fact::{Gets, HasNet, HasWrongWord, IsNoSheet, Shows};
+
+fn is_right(alloc: Global, kit: &Kit, table: &Position, fact: Fact) -> bool {
+    match fact {
+        Gets(words, verdict) => judged(alloc, kit, table, words) == verdict,
+        Shows(words, certificate, verdict) => {
+            shown(alloc, kit, table, words, certificate) == verdict
+        }
+        IsNoSheet(words) => is_refused(alloc, kit, table, words),
+        HasWrongWord(words) => has_wrong_word(alloc, kit, table, words),
+        HasNet(trains, links) => sizes(alloc, kit, table) == (trains, links),
+    }
+}
+
+/// Whether all of this holds, where PRR has a train of this kind.
+fn hold(rt: &impl Abort, alloc: Global, kind: Kind, facts: &[Fact]) -> bool {
+    let kit = small_kit(rt, alloc);
+    let table = with_train(rt, alloc, kind);
+    let mut right = true;
+    for fact in facts {
+        right = right && is_right(alloc, &kit, &table, *fact);
+    }
+    right
+}
+
+static OF_A_TWO: [Fact; 4] = [
+    Gets(b"2=1-2-3", Ok(30)),
+    Gets(b"2=1-2-3-4-5", Err(39)),
+    Gets(b"3=1-2-3", Err(39)),
+    Gets(b"2=-", Ok(0)),
+];
+
+static OF_A_DIESEL: [Fact; 1] = [Gets(b"D=1-2-3-4-5-6-7", Ok(100))];
+
+#[test]
+fn a_sheet_earns_its_revenue(rt: HostRuntime) {
+    assert!(rt; hold(&rt, rt.alloc(), Kind::Two, &OF_A_TWO));
+    assert!(rt; hold(&rt, rt.alloc(), Kind::Diesel, &OF_A_DIESEL));
+}
+
+static NO_SHEETS: [Fact; 7] = [
+    IsNoSheet(b"2"),
+    IsNoSheet(b"2="),
+    IsNoSheet(b"2=01-2"),
+    IsNoSheet(b" "),
+    IsNoSheet(b"2=1-2-3 "),
+    IsNoSheet(b"T=1"),
+    HasWrongWord(b"2-1"),
+];
+
 #[test]
 fn words_that_spell_no_sheet_are_refused(rt: HostRuntime) {
-    let alloc = rt.alloc();
-    let kit = small_kit(&rt, alloc);
-    let table = with_train(&rt, alloc, Kind::Two);
-    assert!(rt; are_refused(alloc, &kit, &table, &NO_SHEETS));
-    assert!(rt; has_wrong_word(alloc, &kit, &table, b"2-1"));
+    assert!(rt; hold(&rt, rt.alloc(), Kind::Two, &NO_SHEETS));
 }
 
 static SHEETS: [(&[u8], bool); 3] = [
@@ -131,29 +160,16 @@ fn the_form_of_a_line_is_told_without_memory(rt: HostRuntime) {
 
 const TREE: &[u8] = b"s5 b s1 b s4 x1 x1";
 
-/// A sheet, a certificate, and the verdict.
-static SHOWN: [(&[u8], &[u8], Verdict); 4] = [
-    (b"2=1-2-3", TREE, Ok(30)),
-    (b"2=-", TREE, Err(40)),
-    (b"2=1-2-3", b"s5 b", Err(40)),
-    (b"2=1-2-3-4-5", TREE, Err(39)),
+static SHOWN: [Fact; 4] = [
+    Shows(b"2=1-2-3", TREE, Ok(30)),
+    Shows(b"2=-", TREE, Err(40)),
+    Shows(b"2=1-2-3", b"s5 b", Err(40)),
+    Shows(b"2=1-2-3-4-5", TREE, Err(39)),
 ];
-
-fn are_shown(alloc: Global, kit: &Kit, table: &Position, runs: &[(&[u8], &[u8], Verdict)]) -> bool {
-    for (words, certificate, verdict) in runs {
-        if shown(alloc, kit, table, *words, *certificate) != *verdict {
-            return false;
-        }
-    }
-    true
-}
 
 #[test]
 fn a_certificate_is_judged(rt: HostRuntime) {
-    let alloc = rt.alloc();
-    let kit = small_kit(&rt, alloc);
-    let table = with_train(&rt, alloc, Kind::Two);
-    assert!(rt; are_shown(alloc, &kit, &table, &SHOWN));
+    assert!(rt; hold(&rt, rt.alloc(), Kind::Two, &SHOWN));
 }
 
 /// Whether the corporation's one train is a 3.
@@ -164,20 +180,13 @@ fn holds_a_three(alloc: Global, table: &Position) -> bool {
     }
 }
 
-/// How many trains and links the net has.
-fn sizes(alloc: Global, kit: &Kit, table: &Position) -> (usize, usize) {
-    match net_now(alloc, kit, table, Corp::Prr) {
-        Ok(net) => (net.trains().len(), net.links().len()),
-        Err(_) => (0, 0),
-    }
-}
+static OF_A_THREE: [Fact; 1] = [HasNet(1, 7)];
 
 #[test]
 fn a_net_has_the_trains_of_the_corporation(rt: HostRuntime) {
     let alloc = rt.alloc();
-    let kit = small_kit(&rt, alloc);
-    let table = with_train(&rt, alloc, Kind::Three);
-    assert!(rt; holds_a_three(alloc, &table) && sizes(alloc, &kit, &table) == (1, 7));
+    assert!(rt; holds_a_three(alloc, &with_train(&rt, alloc, Kind::Three)));
+    assert!(rt; hold(&rt, alloc, Kind::Three, &OF_A_THREE));
 }
 
 #[test]

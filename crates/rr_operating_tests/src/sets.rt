@@ -1,5 +1,7 @@
 //! What follows by itself on a round, on a board where PRR alone has a home.
-use crate::fixtures::{A, float, give, give_train, kit, operate, position};
+use crate::fixtures::{
+    A, desk, float, follow, give, give_train, kit, operate, position, settle, succeed,
+};
 use rr_books::{Act, Cert, Corp, Entry, Kind, Marker, Place, Private};
 use rr_desk::{Desk, Position};
 use rr_kit::Kit;
@@ -29,37 +31,32 @@ fn end_with_a_token(entries: &[Entry]) -> bool {
 /// How many entries there are, and whether the last one begins a stock round or places a token.
 type Added = (usize, bool, bool);
 
-/// What a desk has added, and the position.
-fn done(desk: Desk) -> (Added, Position) {
-    let (position, entries) = desk.into_parts();
-    let entries = entries.as_slice();
+/// What a desk has added. The table is as it is behind that.
+fn done(desk: Desk, table: &mut Position) -> Added {
+    let entries = desk.entries().as_slice();
     let stock = end_in_a_stock_round(entries);
     let token = end_with_a_token(entries);
-    ((entries.len(), stock, token), *position)
+    (settle(desk, table), stock, token)
 }
 
-fn behind_stock_round(
-    rt: &impl Abort,
-    alloc: Global,
-    kit: &Kit,
-    table: Position,
-) -> (Added, Position) {
-    let mut desk = Desk::new(alloc, &table).expect(rt, "memory");
-    go_on_in_stock_round(&mut desk, kit).expect(rt, "memory");
-    done(desk)
+fn behind_stock_round(rt: &impl Abort, alloc: Global, table: &mut Position) -> Added {
+    let mut desk = desk(rt, alloc, table);
+    let went = go_on_in_stock_round(&mut desk, &home_kit(rt, alloc));
+    succeed(rt, went);
+    done(desk, table)
 }
 
 fn end_turn(rt: &impl Abort, table: &mut Position) {
     let end = Entry::Step(Marker::Act(Act::End { corp: Corp::Prr }));
-    table.follow(&end).expect(rt, "room");
+    follow(rt, table, end);
 }
 
-fn behind_turn(rt: &impl Abort, alloc: Global, kit: &Kit, table: Position) -> (Added, Position) {
-    let mut more = table;
-    end_turn(rt, &mut more);
-    let mut desk = Desk::new(alloc, &more).expect(rt, "memory");
-    go_on_in_operating_round(&mut desk, kit).expect(rt, "memory");
-    done(desk)
+fn behind_turn(rt: &impl Abort, alloc: Global, table: &mut Position) -> Added {
+    end_turn(rt, table);
+    let mut desk = desk(rt, alloc, table);
+    let went = go_on_in_operating_round(&mut desk, &home_kit(rt, alloc));
+    succeed(rt, went);
+    done(desk, table)
 }
 
 /// Two players, of whom a has the SV; the first 3 is sold, so that a set has two rounds; a stock round is under way.
@@ -67,42 +64,45 @@ fn stock_round(rt: &impl Abort, alloc: Global) -> Position {
     let mut table = position(rt, alloc, 2);
     give_train(rt, &mut table, Kind::Three, 1, Place::Gone);
     give(rt, &mut table, Cert::Private(Private::Sv), Place::Seat(A));
-    table.follow(&Entry::Step(Marker::Stock)).expect(rt, "room");
+    follow(rt, &mut table, Entry::Step(Marker::Stock));
     table
 }
 
 #[test]
 fn nothing_follows_within_a_stock_round(rt: HostRuntime) {
-    let kit = home_kit(&rt, rt.alloc());
-    let table = stock_round(&rt, rt.alloc());
-    let (added, _) = behind_stock_round(&rt, rt.alloc(), &kit, table);
+    let mut table = stock_round(&rt, rt.alloc());
+    let added = behind_stock_round(&rt, rt.alloc(), &mut table);
     assert!(rt; added == (0, false, false));
 }
 
 #[test]
 fn rounds_without_a_corporation_pass(rt: HostRuntime) {
-    let kit = home_kit(&rt, rt.alloc());
     let mut table = stock_round(&rt, rt.alloc());
     operate(&rt, &mut table);
-    let (added, _) = behind_stock_round(&rt, rt.alloc(), &kit, table);
+    let added = behind_stock_round(&rt, rt.alloc(), &mut table);
     // An income, the second round with its income, the next stock round.
     assert!(rt; added == (4, true, false));
 }
 
+/// What is added behind the stock round and each of two turns, and how many tokens are on the board behind the first of
+/// these.
+fn set_of_two(rt: &impl Abort, alloc: Global, table: &mut Position) -> ([Added; 3], usize) {
+    let begun = behind_stock_round(rt, alloc, table);
+    let tokens = table.layout().stations().len();
+    let second = behind_turn(rt, alloc, table);
+    let last = behind_turn(rt, alloc, table);
+    ([begun, second, last], tokens)
+}
+
 #[test]
 fn a_set_of_two_rounds(rt: HostRuntime) {
-    let kit = home_kit(&rt, rt.alloc());
     let mut table = stock_round(&rt, rt.alloc());
     float(&rt, &mut table, Corp::Prr);
     operate(&rt, &mut table);
-    let (added, table) = behind_stock_round(&rt, rt.alloc(), &kit, table);
-    // The income, and PRR's token at home.
-    assert!(rt; added == (2, false, true) && table.layout().stations().len() == 1);
-    let (added, table) = behind_turn(&rt, rt.alloc(), &kit, table);
-    // The second round and its income; PRR has its token.
-    assert!(rt; added == (2, false, false));
-    let (added, _) = behind_turn(&rt, rt.alloc(), &kit, table);
-    assert!(rt; added == (1, true, false));
+    let (added, tokens) = set_of_two(&rt, rt.alloc(), &mut table);
+    // The income, and PRR's token at home; the second round and its income, as PRR has its token; the stock round.
+    assert!(rt; added == [(2, false, true), (2, false, false), (1, true, false)]);
+    assert!(rt; tokens == 1);
 }
 
 #[test]

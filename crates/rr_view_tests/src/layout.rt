@@ -9,12 +9,40 @@ pub(crate) fn hex(rt: &impl Abort) -> HexName {
     HexName::read(b"E11").expect(rt, "a name")
 }
 
-/// The layout after one entry more, for which it has room.
-fn after(rt: &impl Abort, layout: Layout, entry: &Entry) -> Layout {
-    let mut next = layout;
-    assert!(rt; next.has_room(entry));
-    next.follow(entry);
-    next
+/// Follows one entry more, for which there is room.
+fn follow(rt: &impl Abort, layout: &mut Layout, entry: &Entry) {
+    assert!(rt; layout.has_room(entry));
+    layout.follow(entry);
+}
+
+/// Follows the entry so many times. It is let go here and in no test: that is proved once.
+fn follow_times(rt: &impl Abort, layout: &mut Layout, entry: Entry, times: usize) {
+    for _time in 0..times {
+        follow(rt, layout, &entry);
+    }
+    drop(entry);
+}
+
+fn has_room(layout: &Layout, entry: Entry) -> bool {
+    let has_room = layout.has_room(&entry);
+    drop(entry);
+    has_room
+}
+
+fn lay(rt: &impl Abort, tile: u16, turn: u8) -> Entry {
+    Entry::Lay {
+        hex: hex(rt),
+        tile,
+        turn,
+    }
+}
+
+fn token(rt: &impl Abort) -> Entry {
+    Entry::Station {
+        corp: Corp::Prr,
+        hex: hex(rt),
+        centre: 1,
+    }
 }
 
 /// The number and the turn of the tile that was laid behind so many others.
@@ -25,67 +53,35 @@ fn tile(layout: &Layout, before: usize) -> Option<(u16, u8)> {
 
 #[test]
 fn tiles_and_tokens_are_kept_in_their_order(rt: HostRuntime) {
-    let hex = hex(&rt);
+    let rt = &rt;
     let mut layout = Layout::new();
-    for entry in [
-        Entry::Lay {
-            hex,
-            tile: 57,
-            turn: 2,
-        },
-        Entry::Station {
-            corp: Corp::Prr,
-            hex,
-            centre: 1,
-        },
-        Entry::Step(Marker::Stock),
-        Entry::Lay {
-            hex,
-            tile: 14,
-            turn: 5,
-        },
-    ] {
-        layout = after(&rt, layout, &entry);
-    }
-    check(&rt, "first tile", tile(&layout, 0), Some((57, 2)));
-    check(&rt, "second tile", tile(&layout, 1), Some((14, 5)));
-    check(&rt, "third tile", tile(&layout, 2), None);
-    check(&rt, "tokens", layout.stations().len(), 1);
+    follow_times(rt, &mut layout, lay(rt, 57, 2), 1);
+    follow_times(rt, &mut layout, token(rt), 1);
+    follow_times(rt, &mut layout, Entry::Step(Marker::Stock), 1);
+    follow_times(rt, &mut layout, lay(rt, 14, 5), 1);
+    let tiles = [tile(&layout, 0), tile(&layout, 1), tile(&layout, 2)];
+    check(rt, "tiles", tiles, [Some((57, 2)), Some((14, 5)), None]);
+    check(rt, "tokens", layout.stations().len(), 1);
 }
 
 #[test]
 fn a_full_board_has_no_room_for_a_tile(rt: HostRuntime) {
-    let hex = hex(&rt);
-    let tile = Entry::Lay {
-        hex,
-        tile: 57,
-        turn: 0,
-    };
-    let token = Entry::Station {
-        corp: Corp::Prr,
-        hex,
-        centre: 1,
-    };
+    let rt = &rt;
     let mut layout = Layout::new();
-    for _tile in 0..MOST_LAYS {
-        layout = after(&rt, layout, &tile);
-    }
-    check(&rt, "tiles", layout.lays().len(), 600);
-    check(&rt, "room for a tile", layout.has_room(&tile), false);
-    check(&rt, "room for a token", layout.has_room(&token), true);
+    follow_times(rt, &mut layout, lay(rt, 57, 0), MOST_LAYS);
+    check(rt, "tiles", layout.lays().len(), 600);
+    let tile_fits = has_room(&layout, lay(rt, 57, 0));
+    check(rt, "room for a tile", tile_fits, false);
+    let token_fits = has_room(&layout, token(rt));
+    check(rt, "room for a token", token_fits, true);
 }
 
 #[test]
 fn a_board_has_room_for_48_tokens(rt: HostRuntime) {
-    let token = Entry::Station {
-        corp: Corp::Prr,
-        hex: hex(&rt),
-        centre: 1,
-    };
+    let rt = &rt;
     let mut layout = Layout::new();
-    for _token in 0..48 {
-        layout = after(&rt, layout, &token);
-    }
-    check(&rt, "tokens", layout.stations().len(), 48);
-    check(&rt, "room for a token", layout.has_room(&token), false);
+    follow_times(rt, &mut layout, token(rt), 48);
+    check(rt, "tokens", layout.stations().len(), 48);
+    let token_fits = has_room(&layout, token(rt));
+    check(rt, "room for a token", token_fits, false);
 }

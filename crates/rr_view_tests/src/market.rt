@@ -25,8 +25,10 @@ const NYC: Corp = Corp::Nyc;
 
 const CPR: Corp = Corp::Cpr;
 
-fn at(row: u8, column: u8) -> Cell {
-    Cell { row, column }
+/// The row and the column of a cell, as tests write it.
+fn spot(cell: Option<Cell>) -> Option<(u8, u8)> {
+    let cell = cell?;
+    Some((cell.row, cell.column))
 }
 
 fn chart(rt: &(impl Abort + AllocGlobal), text: &str) -> Chart {
@@ -47,18 +49,46 @@ enum Move {
 }
 
 /// Puts the token on the par cell of a price.
-fn put(market: &mut Market, chart: &Chart, corp: Corp, par: u16) -> Result<Cell, Refusal> {
-    market.set(chart, corp, par)
+fn put(market: &mut Market, chart: &Chart, corp: Corp, par: u16) -> Result<(u8, u8), Refusal> {
+    let cell = market.set(chart, corp, par)?;
+    Ok((cell.row, cell.column))
 }
 
 /// Moves the token, and says where its mark is.
-fn take(market: &mut Market, chart: &Chart, corp: Corp, step: Move) -> Option<Cell> {
-    match step {
+fn take(market: &mut Market, chart: &Chart, corp: Corp, step: Move) -> Option<(u8, u8)> {
+    let marked = match step {
         Move::Paid => market.paid(chart, corp),
         Move::Withheld => market.withheld(chart, corp),
         Move::Sold(shares) => market.sold(chart, corp, shares),
         Move::SoldOut => market.soldout(chart, corp),
-    }
+    };
+    spot(marked)
+}
+
+fn cell(market: &Market, corp: Corp) -> Option<(u8, u8)> {
+    spot(market.cell(corp))
+}
+
+/// Where the token of PRR would go by a payment, a withholding, a sale of two shares and a rise.
+fn next_cells(market: &Market, chart: &Chart) -> [Option<(u8, u8)>; 4] {
+    [
+        spot(market.cell_after_paying(chart, PRR)),
+        spot(market.cell_after_withholding(chart, PRR)),
+        spot(market.cell_after_sale(chart, PRR, 2)),
+        spot(market.cell_after_rise(chart, PRR)),
+    ]
+}
+
+/// Sells so many shares of PRR, and says where its mark is and its price.
+fn sell(market: &mut Market, chart: &Chart, shares: u8) -> (Option<(u8, u8)>, Option<u16>) {
+    let marked = take(market, chart, PRR, Move::Sold(shares));
+    (marked, market.price(chart, PRR))
+}
+
+/// Follows one entry more, which is let go here and in no test: that is proved once.
+pub(crate) fn follow(market: &mut Market, entry: Entry) {
+    market.follow(&entry);
+    drop(entry);
 }
 
 /// A market where PRR set a par, and its token moved so many times.
@@ -80,245 +110,233 @@ fn standing(market: &Market, chart: &Chart) -> (Option<u16>, Option<u16>, Option
     )
 }
 
-fn price(market: &Market, chart: &Chart) -> Option<u16> {
-    market.price(chart, PRR)
-}
-
 fn check_order(rt: &impl Abort, market: &Market, chart: &Chart, corps: &[Corp]) {
-    assert_eq!(rt; market.order(chart).as_slice(), corps);
+    check(rt, "order", market.order(chart).as_slice(), corps);
 }
 
 #[test]
 fn a_par_puts_the_token_on_the_chart(rt: HostRuntime) {
-    let chart = shipped(&rt);
+    let rt = &rt;
+    let chart = shipped(rt);
     let mut market = Market::new();
     check(
-        &rt,
+        rt,
         "move of none",
         take(&mut market, &chart, PRR, Move::Paid),
         None,
     );
-    check(&rt, "par", put(&mut market, &chart, PRR, 82), Ok(at(2, 6)));
+    check(rt, "par", put(&mut market, &chart, PRR, 82), Ok((2, 6)));
     check(
-        &rt,
+        rt,
         "no par",
         put(&mut market, &chart, NYC, 80),
         Err(Refusal::NotAPar),
     );
-    check(&rt, "cell of none", market.cell(NYC), None);
+    check(rt, "cell of none", market.cell(NYC), None);
+    drop(chart);
 }
+
+/// Moves from a par of 67 and how many; the cell behind them, its price and its zone.
+static STANDINGS: [(Move, u8, (u8, u8), u16, Zone); 5] = [
+    (Move::Paid, 0, (5, 6), 67, Zone::White),
+    (Move::Paid, 1, (5, 7), 71, Zone::White),
+    (Move::Withheld, 3, (5, 3), 50, Zone::Yellow),
+    (Move::Withheld, 5, (5, 1), 34, Zone::Orange),
+    (Move::Withheld, 7, (6, 0), 18, Zone::Brown),
+];
 
 #[test]
 fn par_price_and_zone_are_those_of_cells(rt: HostRuntime) {
-    let chart = shipped(&rt);
-    for (step, times, cell, price, zone) in [
-        (Move::Paid, 0, at(5, 6), 67, Zone::White),
-        (Move::Paid, 1, at(5, 7), 71, Zone::White),
-        (Move::Withheld, 3, at(5, 3), 50, Zone::Yellow),
-        (Move::Withheld, 5, at(5, 1), 34, Zone::Orange),
-        (Move::Withheld, 7, at(6, 0), 18, Zone::Brown),
-    ] {
-        let market = moved(&rt, &chart, 67, step, times);
-        check(&rt, "cell", market.cell(PRR), Some(cell));
-        check(
-            &rt,
-            "standing",
-            standing(&market, &chart),
-            (Some(price), Some(67), Some(zone)),
-        );
+    let rt = &rt;
+    let chart = shipped(rt);
+    for (case, &(step, times, spot, price, zone)) in STANDINGS.iter().enumerate() {
+        let market = moved(rt, &chart, 67, step, times);
+        check(rt, "cell", (case, cell(&market, PRR)), (case, Some(spot)));
+        let wanted = (Some(price), Some(67), Some(zone));
+        check(rt, "standing", standing(&market, &chart), wanted);
     }
+    drop(chart);
 }
 
 #[test]
 fn there_is_no_price_before_a_par(rt: HostRuntime) {
-    let chart = shipped(&rt);
+    let rt = &rt;
+    let chart = shipped(rt);
     check(
-        &rt,
+        rt,
         "standing",
         standing(&Market::new(), &chart),
         (None, None, None),
     );
+    drop(chart);
 }
+
+/// A par, moves from it and how many; another move, and where its mark is.
+static MOVES: [(u16, Move, u8, Move, Option<(u8, u8)>); 9] = [
+    (100, Move::Withheld, 6, Move::Withheld, Some((1, 0))),
+    (100, Move::Withheld, 13, Move::Withheld, None),
+    (82, Move::Paid, 9, Move::Paid, Some((1, 15))),
+    (100, Move::Paid, 12, Move::Paid, None),
+    (67, Move::Withheld, 5, Move::Sold(0), None),
+    (67, Move::Withheld, 5, Move::Sold(2), Some((7, 1))),
+    (67, Move::Withheld, 5, Move::Sold(9), Some((8, 1))),
+    (90, Move::SoldOut, 0, Move::SoldOut, Some((0, 6))),
+    (90, Move::SoldOut, 1, Move::SoldOut, None),
+];
 
 #[test]
 fn tokens_move_to_the_edges_and_stay(rt: HostRuntime) {
-    let chart = shipped(&rt);
-    for (par, first, times, step, cell) in [
-        (100, Move::Withheld, 6, Move::Withheld, Some(at(1, 0))),
-        (100, Move::Withheld, 13, Move::Withheld, None),
-        (82, Move::Paid, 9, Move::Paid, Some(at(1, 15))),
-        (100, Move::Paid, 12, Move::Paid, None),
-        (67, Move::Withheld, 5, Move::Sold(0), None),
-        (67, Move::Withheld, 5, Move::Sold(2), Some(at(7, 1))),
-        (67, Move::Withheld, 5, Move::Sold(9), Some(at(8, 1))),
-        (90, Move::SoldOut, 0, Move::SoldOut, Some(at(0, 6))),
-        (90, Move::SoldOut, 1, Move::SoldOut, None),
-    ] {
-        let mut market = moved(&rt, &chart, par, first, times);
-        check(
-            &rt,
-            "cell",
-            (par, times, take(&mut market, &chart, PRR, step)),
-            (par, times, cell),
-        );
+    let rt = &rt;
+    let chart = shipped(rt);
+    for (case, &(par, first, times, step, cell)) in MOVES.iter().enumerate() {
+        let mut market = moved(rt, &chart, par, first, times);
+        let marked = take(&mut market, &chart, PRR, step);
+        check(rt, "cell", (case, marked), (case, cell));
     }
+    drop(chart);
 }
 
 #[test]
 fn a_sale_stops_above_a_missing_cell(rt: HostRuntime) {
-    let chart = shipped(&rt);
-    let mut market = moved(&rt, &chart, 67, Move::Withheld, 5);
-    for (shares, cell, left) in [
-        (2, Some(at(7, 1)), 20),
-        (2, Some(at(8, 1)), 10),
-        (1, None, 10),
-    ] {
-        check(
-            &rt,
-            "cell",
-            take(&mut market, &chart, PRR, Move::Sold(shares)),
-            cell,
-        );
-        check(&rt, "price", price(&market, &chart), Some(left));
-    }
+    let rt = &rt;
+    let chart = shipped(rt);
+    let mut market = moved(rt, &chart, 67, Move::Withheld, 5);
+    let first = sell(&mut market, &chart, 2);
+    check(rt, "first", first, (Some((7, 1)), Some(20)));
+    let second = sell(&mut market, &chart, 2);
+    check(rt, "second", second, (Some((8, 1)), Some(10)));
+    check(rt, "third", sell(&mut market, &chart, 1), (None, Some(10)));
+    drop(chart);
 }
 
 #[test]
 fn equal_prices_are_in_order_by_their_cells(rt: HostRuntime) {
-    let chart = shipped(&rt);
-    let mut market = moved(&rt, &chart, 100, Move::Paid, 0);
-    check(
-        &rt,
-        "par of NYC",
+    let rt = &rt;
+    let chart = shipped(rt);
+    let mut market = moved(rt, &chart, 100, Move::Paid, 0);
+    let pars = [
         put(&mut market, &chart, NYC, 90),
-        Ok(at(1, 6)),
-    );
-    check(
-        &rt,
-        "par of CPR",
         put(&mut market, &chart, CPR, 82),
-        Ok(at(2, 6)),
+    ];
+    check(rt, "pars", pars, [Ok((1, 6)), Ok((2, 6))]);
+    check_order(rt, &market, &chart, &[PRR, NYC, CPR]);
+    let cells = [
+        take(&mut market, &chart, NYC, Move::Paid),
+        take(&mut market, &chart, CPR, Move::Paid),
+        take(&mut market, &chart, CPR, Move::Paid),
+    ];
+    check(
+        rt,
+        "cells",
+        cells,
+        [Some((1, 7)), Some((2, 7)), Some((2, 8))],
     );
-    check_order(&rt, &market, &chart, &[PRR, NYC, CPR]);
-    for (corp, cell) in [(NYC, at(1, 7)), (CPR, at(2, 7)), (CPR, at(2, 8))] {
-        check(
-            &rt,
-            "cell",
-            take(&mut market, &chart, corp, Move::Paid),
-            Some(cell),
-        );
-    }
-    check_order(&rt, &market, &chart, &[CPR, NYC, PRR]);
+    check_order(rt, &market, &chart, &[CPR, NYC, PRR]);
+    drop(chart);
 }
 
 #[test]
 fn in_one_cell_the_earlier_arrival_is_first(rt: HostRuntime) {
-    let chart = shipped(&rt);
+    let rt = &rt;
+    let chart = shipped(rt);
     let mut market = Market::new();
-    check_order(&rt, &market, &chart, &[]);
-    for corp in [NYC, PRR] {
-        check(
-            &rt,
-            "par",
-            put(&mut market, &chart, corp, 100),
-            Ok(at(0, 6)),
-        );
-    }
+    check_order(rt, &market, &chart, &[]);
+    let pars = [
+        put(&mut market, &chart, NYC, 100),
+        put(&mut market, &chart, PRR, 100),
+    ];
+    check(rt, "pars", pars, [Ok((0, 6)), Ok((0, 6))]);
     let before = market;
     let _cell = take(&mut market, &chart, NYC, Move::Paid);
-    check(
-        &rt,
-        "cell",
-        take(&mut market, &chart, NYC, Move::Withheld),
-        Some(at(0, 6)),
-    );
-    check_order(&rt, &market, &chart, &[PRR, NYC]);
-    check_order(&rt, &before, &chart, &[NYC, PRR]);
+    let back = take(&mut market, &chart, NYC, Move::Withheld);
+    check(rt, "cell", back, Some((0, 6)));
+    check_order(rt, &market, &chart, &[PRR, NYC]);
+    check_order(rt, &before, &chart, &[NYC, PRR]);
+    drop(chart);
 }
 
 #[test]
 fn in_one_column_the_upper_is_first(rt: HostRuntime) {
-    let chart = chart(&rt, "100p 110\n100 120\n90p\n");
-    let mut market = moved(&rt, &chart, 90, Move::SoldOut, 1);
-    check(&rt, "cell", market.cell(PRR), Some(at(1, 0)));
-    check(&rt, "par", put(&mut market, &chart, NYC, 100), Ok(at(0, 0)));
-    check_order(&rt, &market, &chart, &[NYC, PRR]);
+    let rt = &rt;
+    let chart = chart(rt, "100p 110\n100 120\n90p\n");
+    let mut market = moved(rt, &chart, 90, Move::SoldOut, 1);
+    check(rt, "cell", cell(&market, PRR), Some((1, 0)));
+    check(rt, "par", put(&mut market, &chart, NYC, 100), Ok((0, 0)));
+    check_order(rt, &market, &chart, &[NYC, PRR]);
+    drop(chart);
 }
 
 #[test]
 fn par_cells_are_those_of_the_chart(rt: HostRuntime) {
-    let chart = shipped(&rt);
-    check(&rt, "par cell", par_cell(&chart, 82), Some(at(2, 6)));
-    check(&rt, "no par cell", par_cell(&chart, 80), None);
+    let rt = &rt;
+    let chart = shipped(rt);
+    check(rt, "par cell", spot(par_cell(&chart, 82)), Some((2, 6)));
+    check(rt, "no par cell", par_cell(&chart, 80), None);
+    drop(chart);
+}
+
+fn mark(row: u8, column: u8) -> Entry {
+    Entry::Mark {
+        corp: PRR,
+        cell: Cell { row, column },
+    }
 }
 
 #[test]
 fn follows_the_marks_of_a_book(rt: HostRuntime) {
-    let chart = shipped(&rt);
+    let rt = &rt;
+    let chart = shipped(rt);
     let mut market = Market::new();
-    let entries = [
-        Entry::Mark {
-            corp: PRR,
-            cell: at(2, 6),
-        },
-        Entry::Step(Marker::Stock),
-        Entry::Mark {
-            corp: PRR,
-            cell: at(2, 7),
-        },
-    ];
-    for entry in &entries {
-        market.follow(entry);
-    }
+    follow(&mut market, mark(2, 6));
+    follow(&mut market, Entry::Step(Marker::Stock));
+    follow(&mut market, mark(2, 7));
     check(
-        &rt,
+        rt,
         "standing",
         standing(&market, &chart),
         (Some(90), Some(82), Some(Zone::White)),
     );
+    drop(chart);
 }
 
 #[test]
 fn the_next_cell_is_told_before_a_move(rt: HostRuntime) {
-    let chart = shipped(&rt);
-    let market = moved(&rt, &chart, 82, Move::Paid, 0);
-    for (found, wanted) in [
-        (market.cell(PRR), at(2, 6)),
-        (market.cell_after_paying(&chart, PRR), at(2, 7)),
-        (market.cell_after_withholding(&chart, PRR), at(2, 5)),
-        (market.cell_after_sale(&chart, PRR, 2), at(4, 6)),
-        (market.cell_after_rise(&chart, PRR), at(1, 6)),
-    ] {
-        check(&rt, "cell", found, Some(wanted));
-    }
+    let rt = &rt;
+    let chart = shipped(rt);
+    let market = moved(rt, &chart, 82, Move::Paid, 0);
+    check(rt, "cell", cell(&market, PRR), Some((2, 6)));
+    let wanted = [Some((2, 7)), Some((2, 5)), Some((4, 6)), Some((1, 6))];
+    check(rt, "next cells", next_cells(&market, &chart), wanted);
+    drop(chart);
 }
 
 #[test]
 fn a_token_that_stays_has_no_next_cell(rt: HostRuntime) {
-    let chart = shipped(&rt);
-    let right = moved(&rt, &chart, 100, Move::Paid, 12);
-    check(&rt, "paying", right.cell_after_paying(&chart, PRR), None);
-    check(&rt, "rise", right.cell_after_rise(&chart, PRR), None);
-    check(&rt, "other", right.cell_after_paying(&chart, NYC), None);
-    check(&rt, "other rise", right.cell_after_rise(&chart, NYC), None);
+    let rt = &rt;
+    let chart = shipped(rt);
+    let right = moved(rt, &chart, 100, Move::Paid, 12);
+    check(rt, "paying", right.cell_after_paying(&chart, PRR), None);
+    check(rt, "rise", right.cell_after_rise(&chart, PRR), None);
+    check(rt, "other", right.cell_after_paying(&chart, NYC), None);
+    check(rt, "other rise", right.cell_after_rise(&chart, NYC), None);
+    drop(chart);
 }
 
 #[test]
 fn one_entry_is_read_at_a_time(rt: HostRuntime) {
-    let chart = shipped(&rt);
+    let rt = &rt;
+    let chart = shipped(rt);
     let mut market = Market::new();
-    market.follow(&Entry::Step(Marker::Stock));
-    check(&rt, "cell", market.cell(PRR), None);
-    market.follow(&Entry::Mark {
-        corp: PRR,
-        cell: at(2, 6),
-    });
+    follow(&mut market, Entry::Step(Marker::Stock));
+    check(rt, "cell", market.cell(PRR), None);
+    follow(&mut market, mark(2, 6));
     check(
-        &rt,
+        rt,
         "standing",
         standing(&market, &chart),
         (Some(82), Some(82), Some(Zone::White)),
     );
+    drop(chart);
 }
 
 #[test]

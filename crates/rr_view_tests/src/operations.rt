@@ -132,12 +132,14 @@ fn after(rt: &(impl Abort + AllocGlobal), table: Table, events: &[Event]) -> Tab
 
 fn after_one(rt: &(impl Abort + AllocGlobal), table: Table, event: Event) -> Table {
     let entry = entry(rt, &table.books, event);
-    Table {
+    let next = Table {
         books: table.books,
         market: market_after(table.market, &entry),
         rounds: table.rounds,
         operations: follow(rt, &table, &entry),
-    }
+    };
+    drop(entry);
+    next
 }
 
 fn market_after(market: Market, entry: &Entry) -> Market {
@@ -193,9 +195,10 @@ fn turn(table: &Table) -> (TurnStep, bool) {
     (table.operations.step(), table.operations.has_run())
 }
 
-fn due(rt: &(impl Abort + AllocGlobal), table: &Table) -> Option<Corp> {
+/// Stops where another corporation is due.
+fn check_due(rt: &(impl Abort + AllocGlobal), table: &Table, wanted: Option<Corp>) {
     let chart = Chart::read(rt.alloc(), "60 70p 80 90\n").expect(rt, "a right chart");
-    table.operations.due(&chart)
+    check(rt, "due", table.operations.due(&chart), wanted);
 }
 
 /// Which of the PRR and the NYC had its turn.
@@ -217,115 +220,136 @@ fn begun(rt: &(impl Abort + AllocGlobal)) -> Table {
 
 #[test]
 fn a_table_opens_with_its_auction(rt: HostRuntime) {
-    let table = opened(&rt);
-    check(&rt, "stage", stage(&table), Stage::Auction);
-    check(&rt, "round", round(&table), (0, 0, 0));
-    check(&rt, "due", due(&rt, &table), None);
+    let rt = &rt;
+    let table = opened(rt);
+    check(rt, "stage", stage(&table), Stage::Auction);
+    check(rt, "round", round(&table), (0, 0, 0));
+    check_due(rt, &table, None);
 }
 
 #[test]
 fn corporations_are_due_in_operating_order(rt: HostRuntime) {
-    let table = begun(&rt);
-    check(&rt, "stage", stage(&table), Stage::Operating);
-    check(&rt, "round", round(&table), (1, 1, 1));
-    check(&rt, "due", due(&rt, &table), Some(PRR));
-    let table = after(&rt, table, &[End(PRR)]);
-    check(&rt, "due", due(&rt, &table), Some(NYC));
-    check(&rt, "turns", turns(&table), (true, false));
-    let table = after(&rt, table, &[End(NYC)]);
-    check(&rt, "due", due(&rt, &table), None);
+    let rt = &rt;
+    let table = begun(rt);
+    check(rt, "stage", stage(&table), Stage::Operating);
+    check(rt, "round", round(&table), (1, 1, 1));
+    check_due(rt, &table, Some(PRR));
+    let table = after(rt, table, &[End(PRR)]);
+    check_due(rt, &table, Some(NYC));
+    check(rt, "turns", turns(&table), (true, false));
+    let table = after(rt, table, &[End(NYC)]);
+    check_due(rt, &table, None);
 }
 
 #[test]
 fn a_mark_within_a_turn_counts_from_the_next_turn(rt: HostRuntime) {
-    let table = after(&rt, begun(&rt), &[Hold, Mark(PRR, 0)]);
-    check(&rt, "due", due(&rt, &table), Some(PRR));
-    let table = after(&rt, table, &[End(PRR), End(NYC), Operating]);
-    check(&rt, "due", due(&rt, &table), Some(NYC));
-    check(&rt, "turns", turns(&table), (false, false));
+    let rt = &rt;
+    let table = after(rt, begun(rt), &[Hold, Mark(PRR, 0)]);
+    check_due(rt, &table, Some(PRR));
+    let table = after(rt, table, &[End(PRR), End(NYC), Operating]);
+    check_due(rt, &table, Some(NYC));
+    check(rt, "turns", turns(&table), (false, false));
 }
 
 #[test]
 fn nobody_is_due_in_a_stock_round(rt: HostRuntime) {
-    let table = after(&rt, begun(&rt), &[Stock]);
-    check(&rt, "stage", stage(&table), Stage::Stock);
-    check(&rt, "due", due(&rt, &table), None);
+    let rt = &rt;
+    let table = after(rt, begun(rt), &[Stock]);
+    check(rt, "stage", stage(&table), Stage::Stock);
+    check_due(rt, &table, None);
+}
+
+/// The table after an event, at the step that is wanted of the turn, whose trains ran in it or did not.
+fn at_step(
+    rt: &(impl Abort + AllocGlobal),
+    table: Table,
+    event: Event,
+    wanted: (TurnStep, bool),
+) -> Table {
+    let next = after_one(rt, table, event);
+    check(rt, "step", turn(&next), wanted);
+    next
 }
 
 #[test]
 fn the_steps_of_a_turn_come_in_order(rt: HostRuntime) {
-    let table = begun(&rt);
-    check(&rt, "begun", turn(&table), (TurnStep::Lay, false));
-    let table = after(&rt, table, &[Lay]);
-    check(&rt, "laid", turn(&table), (TurnStep::Station, false));
-    let table = after(&rt, table, &[Station]);
-    check(&rt, "token", turn(&table), (TurnStep::Run, false));
-    let table = after(&rt, table, &[Run]);
-    check(&rt, "ran", turn(&table), (TurnStep::Pay, true));
-    let table = after(&rt, table, &[PayOut]);
-    check(&rt, "paid", turn(&table), (TurnStep::Train, true));
-    let table = after(&rt, table, &[End(PRR)]);
-    check(&rt, "ended", turn(&table), (TurnStep::Lay, false));
+    let rt = &rt;
+    let table = begun(rt);
+    check(rt, "begun", turn(&table), (TurnStep::Lay, false));
+    let table = at_step(rt, table, Lay, (TurnStep::Station, false));
+    let table = at_step(rt, table, Station, (TurnStep::Run, false));
+    let table = at_step(rt, table, Run, (TurnStep::Pay, true));
+    let table = at_step(rt, table, PayOut, (TurnStep::Train, true));
+    let _ended = at_step(rt, table, End(PRR), (TurnStep::Lay, false));
 }
 
 #[test]
 fn a_run_and_a_withholding_may_come_first(rt: HostRuntime) {
-    let table = after(&rt, begun(&rt), &[RunBest]);
-    check(&rt, "ran", turn(&table), (TurnStep::Pay, true));
-    let table = after(&rt, begun(&rt), &[Hold]);
-    check(&rt, "held", turn(&table), (TurnStep::Train, false));
+    let rt = &rt;
+    let _ran = at_step(rt, begun(rt), RunBest, (TurnStep::Pay, true));
+    let _held = at_step(rt, begun(rt), Hold, (TurnStep::Train, false));
 }
 
 #[test]
 fn a_set_has_the_rounds_of_the_phase_in_which_it_begins(rt: HostRuntime) {
-    let table = with_train(&rt, opened(&rt), Kind::Three);
-    let table = after(&rt, table, &[Stock, Operating]);
-    check(&rt, "first", round(&table), (1, 1, 2));
-    check(&rt, "more", has_more(&table), true);
-    let table = after(&rt, with_train(&rt, table, Kind::Five), &[Operating]);
-    check(&rt, "second", round(&table), (1, 2, 2));
-    check(&rt, "no more", has_more(&table), false);
-    let table = after(&rt, table, &[Stock, Operating]);
-    check(&rt, "next set", round(&table), (2, 1, 3));
+    let rt = &rt;
+    let table = with_train(rt, opened(rt), Kind::Three);
+    let table = after(rt, table, &[Stock, Operating]);
+    check(rt, "first", round(&table), (1, 1, 2));
+    check(rt, "more", has_more(&table), true);
+    let table = after(rt, with_train(rt, table, Kind::Five), &[Operating]);
+    check(rt, "second", round(&table), (1, 2, 2));
+    check(rt, "no more", has_more(&table), false);
+    let table = after(rt, table, &[Stock, Operating]);
+    check(rt, "next set", round(&table), (2, 1, 3));
 }
 
 #[test]
 fn the_bank_has_owed_once_its_balance_was_negative(rt: HostRuntime) {
+    let rt = &rt;
     // The bank of a table of two has 9,600.
-    let roster = opening::roster(&rt);
-    let table = after(&rt, opened(&rt), &[Pay(9600)]);
-    check(&rt, "spent", table.operations.bank_owed(&roster), false);
-    let table = after(&rt, table, &[Pay(9601), Pay(0), Stock]);
-    check(&rt, "owed", table.operations.bank_owed(&roster), true);
+    let roster = opening::roster(rt);
+    let table = after(rt, opened(rt), &[Pay(9600)]);
+    check(rt, "spent", table.operations.bank_owed(&roster), false);
+    let table = after(rt, table, &[Pay(9601), Pay(0), Stock]);
+    check(rt, "owed", table.operations.bank_owed(&roster), true);
 }
 
 fn takes(rt: &(impl Abort + AllocGlobal), step: TurnStep, event: Event) -> bool {
-    step.takes(&command(rt, event))
+    let command = command(rt, event);
+    let takes = step.takes(&command);
+    drop(command);
+    takes
 }
+
+/// Steps of a turn and events, and whether the step takes the event's command.
+static TAKEN: [(TurnStep, Event, bool); 9] = [
+    (TurnStep::Lay, Lay, true),
+    (TurnStep::Station, Lay, false),
+    (TurnStep::Lay, Station, true),
+    (TurnStep::Run, Run, true),
+    (TurnStep::Pay, Run, false),
+    (TurnStep::Run, PayOut, false),
+    (TurnStep::Run, Hold, true),
+    (TurnStep::Pay, End(PRR), false),
+    (TurnStep::Train, End(PRR), true),
+];
 
 #[test]
 fn steps_take_their_commands(rt: HostRuntime) {
-    for (step, event, wanted) in [
-        (TurnStep::Lay, Lay, true),
-        (TurnStep::Station, Lay, false),
-        (TurnStep::Lay, Station, true),
-        (TurnStep::Run, Run, true),
-        (TurnStep::Pay, Run, false),
-        (TurnStep::Run, PayOut, false),
-        (TurnStep::Run, Hold, true),
-        (TurnStep::Pay, End(PRR), false),
-        (TurnStep::Train, End(PRR), true),
-    ] {
-        check(&rt, "takes", takes(&rt, step, event), wanted);
+    let rt = &rt;
+    for (case, &(step, event, wanted)) in TAKEN.iter().enumerate() {
+        check(rt, "takes", (case, takes(rt, step, event)), (case, wanted));
     }
 }
 
 #[test]
 fn the_phase_is_that_of_the_greatest_train_sold(rt: HostRuntime) {
-    let books = with_train(&rt, opened(&rt), Kind::Four).books;
-    check(&rt, "phase", phase(&books), Kind::Four);
-    check(&rt, "sold", is_sold(&books, Kind::Five), false);
-    check(&rt, "rounds", rounds_in_set(Kind::Four), 2);
+    let rt = &rt;
+    let books = with_train(rt, opened(rt), Kind::Four).books;
+    check(rt, "phase", phase(&books), Kind::Four);
+    check(rt, "sold", is_sold(&books, Kind::Five), false);
+    check(rt, "rounds", rounds_in_set(Kind::Four), 2);
 }
 
 #[test]

@@ -75,28 +75,21 @@ fn command(event: Event) -> Act {
 }
 
 /// A table of three seats after these events.
-fn after(rt: &(impl Abort + AllocGlobal), events: &[Event]) -> Rounds {
-    let mut entries = Vec::new(rt.alloc());
-    for event in events {
-        entries.push(entry(*event)).expect(rt, "memory");
-    }
-    followed(rt, &entries)
-}
-
-fn followed(rt: &impl Abort, entries: &[Entry]) -> Rounds {
+fn after(rt: &impl Abort, events: &[Event]) -> Rounds {
     let mut rounds = Rounds::open(3);
-    for entry in entries {
-        follow(rt, &mut rounds, entry);
+    for event in events {
+        follow(rt, &mut rounds, entry(*event));
     }
     rounds
 }
 
 /// Follows one entry more, at a table of few turns and rounds.
-fn follow(rt: &impl Abort, rounds: &mut Rounds, entry: &Entry) {
+fn follow(rt: &impl Abort, rounds: &mut Rounds, entry: Entry) {
     let parts = rounds.parts();
     assert!(rt; parts.turns < 1000);
     assert!(rt; parts.begun < 1000);
-    rounds.follow(entry);
+    rounds.follow(&entry);
+    drop(entry);
 }
 
 /// Whether a round is under way, and whether it is the first.
@@ -129,67 +122,68 @@ fn sold(rounds: &Rounds, seat: Seat, corp: Corp) -> bool {
 
 #[test]
 fn a_par_is_a_purchase(rt: HostRuntime) {
-    let rounds = after(&rt, &[Stock, Par(A)]);
-    check(&rt, "round", round(&rounds), (true, true));
-    check(&rt, "trading", trading(&rounds), (true, false));
-    check(&rt, "purchases", rounds.purchases(), Purchases::Other);
-    check(&rt, "seats", seats(&rounds), (A, B));
+    let rt = &rt;
+    let rounds = after(rt, &[Stock, Par(A)]);
+    check(rt, "round", round(&rounds), (true, true));
+    check(rt, "trading", trading(&rounds), (true, false));
+    check(rt, "purchases", rounds.purchases(), Purchases::Other);
+    check(rt, "seats", seats(&rounds), (A, B));
 }
 
 #[test]
 fn the_first_round_ends_when_all_pass_after_a_par(rt: HostRuntime) {
-    let rounds = after(&rt, &[Stock, Par(A), Done(A), Done(B), Done(C)]);
-    check(&rt, "trading", trading(&rounds), (false, true));
-    check(&rt, "purchases", rounds.purchases(), Purchases::Nothing);
-    check(&rt, "seats", seats(&rounds), (A, B));
-    check(&rt, "counts", counts(&rounds), (2, 3));
+    let rt = &rt;
+    let rounds = after(rt, &[Stock, Par(A), Done(A), Done(B), Done(C)]);
+    check(rt, "trading", trading(&rounds), (false, true));
+    check(rt, "purchases", rounds.purchases(), Purchases::Nothing);
+    check(rt, "seats", seats(&rounds), (A, B));
+    check(rt, "counts", counts(&rounds), (2, 3));
 }
 
 #[test]
 fn the_second_round_begins_with_priority(rt: HostRuntime) {
-    let rounds = after(&rt, &[Stock, Par(A), Done(A), Operating, Stock]);
-    check(&rt, "round", round(&rounds), (true, false));
-    check(&rt, "seats", seats(&rounds), (B, B));
-    check(&rt, "counts", counts(&rounds), (0, 1));
+    let rt = &rt;
+    let rounds = after(rt, &[Stock, Par(A), Done(A), Operating, Stock]);
+    check(rt, "round", round(&rounds), (true, false));
+    check(rt, "seats", seats(&rounds), (B, B));
+    check(rt, "counts", counts(&rounds), (0, 1));
 }
 
 #[test]
 fn a_sale_is_remembered_in_its_round(rt: HostRuntime) {
-    let rounds = after(&rt, &[Stock, Sell(B), Done(B), Swap(C), Done(C)]);
-    for (seat, corp, has_sold) in [
-        (B, PRR, true),
-        (C, PRR, false),
-        (B, NYC, false),
-        (Seat(6), PRR, false),
-    ] {
-        check(
-            &rt,
-            "sold",
-            (seat, corp, sold(&rounds, seat, corp)),
-            (seat, corp, has_sold),
-        );
-    }
-    check(&rt, "seats", seats(&rounds), (A, C));
-    check(&rt, "counts", counts(&rounds), (1, 2));
+    let rt = &rt;
+    let rounds = after(rt, &[Stock, Sell(B), Done(B), Swap(C), Done(C)]);
+    let have_sold = [
+        sold(&rounds, B, PRR),
+        sold(&rounds, C, PRR),
+        sold(&rounds, B, NYC),
+        sold(&rounds, Seat(6), PRR),
+    ];
+    check(rt, "sold", have_sold, [true, false, false, false]);
+    check(rt, "seats", seats(&rounds), (A, C));
+    check(rt, "counts", counts(&rounds), (1, 2));
 }
 
 #[test]
 fn a_sale_is_forgotten_in_the_next_round(rt: HostRuntime) {
-    let rounds = after(&rt, &[Stock, Sell(B), Operating, Stock]);
-    assert!(rt; !sold(&rounds, B, PRR));
-    check(&rt, "turn", rounds.turn(), C);
+    let rt = &rt;
+    let rounds = after(rt, &[Stock, Sell(B), Operating, Stock]);
+    check(rt, "sold", sold(&rounds, B, PRR), false);
+    check(rt, "turn", rounds.turn(), C);
 }
 
 #[test]
 fn a_swap_alone_is_a_pass(rt: HostRuntime) {
-    let rounds = after(&rt, &[Stock, Done(A), Done(B), Swap(C)]);
-    check(&rt, "trading", trading(&rounds), (false, true));
-    check(&rt, "purchases", rounds.purchases(), Purchases::Nothing);
-    check(&rt, "seats", seats(&rounds), (C, A));
+    let rt = &rt;
+    let rounds = after(rt, &[Stock, Done(A), Done(B), Swap(C)]);
+    check(rt, "trading", trading(&rounds), (false, true));
+    check(rt, "purchases", rounds.purchases(), Purchases::Nothing);
+    check(rt, "seats", seats(&rounds), (C, A));
 }
 
 #[test]
 fn the_last_that_got_a_private_gives_priority_to_its_left(rt: HostRuntime) {
+    let rt = &rt;
     let auction = [
         Event::Private(A),
         Event::Private(C),
@@ -197,73 +191,69 @@ fn the_last_that_got_a_private_gives_priority_to_its_left(rt: HostRuntime) {
         Par(A),
         Done(A),
     ];
-    let rounds = after(&rt, &auction);
-    check(&rt, "round", round(&rounds), (false, false));
+    let rounds = after(rt, &auction);
+    check(rt, "round", round(&rounds), (false, false));
     check(
-        &rt,
+        rt,
         "priority and turns",
         (rounds.priority(), rounds.turns()),
         (C, 0),
     );
-    let begun = after(&rt, &[Event::Private(B), Event::Private(C), Stock]);
-    check(&rt, "seats", seats(&begun), (A, A));
+    let begun = after(rt, &[Event::Private(B), Event::Private(C), Stock]);
+    check(rt, "seats", seats(&begun), (A, A));
 }
 
 #[test]
 fn a_turn_may_hold_several_buys_from_the_pool(rt: HostRuntime) {
+    let rt = &rt;
     let pool = Buy(A, ShareSource::Pool);
-    let rounds = after(&rt, &[Stock, pool, pool]);
-    check(&rt, "purchases", rounds.purchases(), Purchases::PoolOf(PRR));
-    for (corp, source, in_brown, allowed) in [
-        (PRR, ShareSource::Pool, true, true),
-        (PRR, ShareSource::Pool, false, false),
-        (PRR, ShareSource::Offer, true, false),
-        (NYC, ShareSource::Pool, true, false),
-    ] {
-        check(
-            &rt,
-            "allowed",
-            (
-                corp,
-                source,
-                in_brown,
-                allows(&rounds, corp, source, in_brown),
-            ),
-            (corp, source, in_brown, allowed),
-        );
-    }
-    let ended = after(&rt, &[Stock, pool, Done(A)]);
-    assert!(rt; allows(&ended, NYC, ShareSource::Offer, false));
+    let rounds = after(rt, &[Stock, pool, pool]);
+    check(rt, "purchases", rounds.purchases(), Purchases::PoolOf(PRR));
+    let allowed = [
+        allows(&rounds, PRR, ShareSource::Pool, true),
+        allows(&rounds, PRR, ShareSource::Pool, false),
+        allows(&rounds, PRR, ShareSource::Offer, true),
+        allows(&rounds, NYC, ShareSource::Pool, true),
+    ];
+    check(rt, "allowed", allowed, [true, false, false, false]);
+    let ended = after(rt, &[Stock, pool, Done(A)]);
+    let allowed = allows(&ended, NYC, ShareSource::Offer, false);
+    check(rt, "allowed then", allowed, true);
 }
 
 #[test]
 fn a_turn_holds_one_buy_from_the_offer(rt: HostRuntime) {
-    let rounds = after(&rt, &[Stock, Buy(A, ShareSource::Offer)]);
-    check(&rt, "purchases", rounds.purchases(), Purchases::Other);
-    assert!(rt; !allows(&rounds, PRR, ShareSource::Pool, true));
+    let rt = &rt;
+    let rounds = after(rt, &[Stock, Buy(A, ShareSource::Offer)]);
+    check(rt, "purchases", rounds.purchases(), Purchases::Other);
+    let allowed = allows(&rounds, PRR, ShareSource::Pool, true);
+    check(rt, "allowed", allowed, false);
 }
 
 #[test]
 fn a_float_is_remembered(rt: HostRuntime) {
     let rounds = after(&rt, &[Stock, Float, Operating, Stock]);
-    assert!(rt; rounds.has_floated(NYC) && !rounds.has_floated(PRR));
+    let floated = [rounds.has_floated(NYC), rounds.has_floated(PRR)];
+    check(&rt, "floated", floated, [true, false]);
 }
 
 /// A table before its first entry, after a payment to `B` that opens it and a private for `B`.
-fn opened_by_payment() -> Rounds {
-    let mut rounds = Rounds::new();
-    rounds.follow(&Entry::Pay {
+fn opened_by_payment(rt: &impl Abort) -> Rounds {
+    let payment = Entry::Pay {
         from: Party::Bank,
         to: Party::Seat(B),
         amount: Money(1200),
-    });
-    rounds.follow(&entry(Event::Private(B)));
+    };
+    let mut rounds = Rounds::new();
+    follow(rt, &mut rounds, payment);
+    follow(rt, &mut rounds, entry(Event::Private(B)));
     rounds
 }
 
 #[test]
 fn a_table_has_the_seats_that_are_paid(rt: HostRuntime) {
-    check(&rt, "priority", opened_by_payment().priority(), A);
+    let rt = &rt;
+    check(rt, "priority", opened_by_payment(rt).priority(), A);
 }
 
 #[test]
