@@ -112,8 +112,8 @@ pub enum Refusal {
     /// The game is over.
     #[error("game is over")]
     GameOver,
-    /// A request for memory was refused, or the table has no room for what would follow: it has 400,000,000 entries, or
-    /// its board more than 65,536 centres.
+    /// A request for memory was refused, or the table has no room for what would follow: 400,000,000 entries, 600 tiles
+    /// or 48 tokens on its board, or more than 65,536 centres there.
     #[error("out of memory")]
     OutOfMemory,
 }

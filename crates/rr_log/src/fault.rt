@@ -9,7 +9,7 @@ pub enum Fault {
     /// The half of the journal in use has no room for the record.
     #[error("half full")]
     HalfFull,
-    /// Fewer pages are free than a checkpoint needs, or a number would be the last one.
+    /// Fewer pages are free than a checkpoint needs, or a number would be past the last.
     #[error("file full")]
     FileFull,
     /// A device call failed before: the file has to be opened again.

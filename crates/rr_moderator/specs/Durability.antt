@@ -112,49 +112,52 @@ pub data CommitsOnce {D : Type 0} (Honest Works : D → Type 0) (state : D → D
       → IsToldOf asked pending result reply
       → CommitsOnce Honest Works state past faults writes syncs old line pending new reply
 
--- What answering a line does. There is one request, or none, that is pending while it is answered, and a reply `ok` tells of
--- just that one. On an honest disk that carries what is held: a stop at any moment leaves a file that stands for the world
--- before the line, or for that with the pending request, and that keeps it, so that the next record may be written; and the
--- disk carries what is held then, unless the device failed. Of every disk: the number of the next record is one more behind an
--- `ok`, and else the same, unless the device failed; where the reply is a refusal by a rule, or the line gives no lawful
--- request, all is as it was; the reply says that the device failed exactly where the disk counts a fault and the store is
--- broken by it, and never on an honest disk that works and carries what is held; where the half in use has room for the
--- line's lawful request, three writes and three syncs are made at most, and two of each where no checkpoint is under way or to
--- begin; an `ok` then comes with the next step of a checkpoint that is under way, and where that was its last, each file that a
--- stop may leave takes a newer root, whose chains spell the world as the checkpoint began, and only the records since then stand
--- behind it; where the half has no room, an `ok` comes behind the first step of another checkpoint; whatever is to be done, three
--- of each are made at most, and one for each step left of the checkpoint under way, or of one begun then; and the reply says that
--- the file is full only where, behind the call, no checkpoint makes room for the request. All this by one call on the store at
--- most, a commit.
+-- What answering a line does, by one call on the store at most, a commit: of every disk, where nothing else is said.
 pub record Lasts {D : Type 0} (Honest Works : D → Type 0) (state : D → DiskState) (past : D → List DiskState) (faults writes syncs : D → ℕ)
     (old : Store D) (line : List ℕ) (new : Store D) (reply : List ℕ) : Type 0 where
+  -- one request, or none, is pending while the line is answered, and a reply `ok` tells of just that one
   pub pending : Option TableRequest
   pub pends : MayPend (held_of old) line pending
   pub accepted : tells_acceptance reply ≡ true → IsTaken (held_of old) line pending (held_of new) reply
   pub honest : Honest (disk_of new) → Honest (disk_of old)
+  -- on an honest disk that carries what is held: a stop at any moment leaves a file that stands for the world before the line,
+  -- or for that with the pending request, and that keeps it, so that the next record may be written; and the disk carries what
+  -- is held then, unless the device failed
   pub stops : Honest (disk_of new) → (texts : KitTexts) → Carries state old texts
       → LeavesOnly (past (disk_of old)) (state (disk_of old)) (past (disk_of new)) (state (disk_of new)) (BeforeOrAfter texts (held_of old).kit (held_of old).tables pending)
   pub keeps : Honest (disk_of new) → (texts : KitTexts) → Carries state old texts
       → LeavesOnly (past (disk_of old)) (state (disk_of old)) (past (disk_of new)) (state (disk_of new)) (KeepsTablesOr texts (held_of old).kit (held_of old).tables pending)
   pub carries : Honest (disk_of new) → (held_of new).broken ≡ false → (texts : KitTexts) → Carries state old texts → Carries state new texts
+  -- behind the last step of a checkpoint, where no other is begun, each file that a stop may leave takes a newer root, whose
+  -- chains spell the world as the checkpoint began; only the records since then stand behind it
   pub renews : (held_of new).broken ≡ false → ticks_left old ≡ 1 → ticks_left new ≡ 0 → Honest (disk_of new) → (texts : KitTexts) → (carries : Carries state old texts)
       → EachImage (state (disk_of new)) (TakesNewer table_files
       (layout_behind (tells_acceptance reply) pending carries.file.carried.layout (in_words texts (held_of new).tables)) (in_words texts (held_of new).tables))
+  -- the number of the next record is one more behind an `ok`, and else the same, unless the device failed
   pub number : tells_failure reply ≡ false → number_of_next new ≡ number_behind (tells_acceptance reply) (number_of_next old)
+  -- where the reply is a refusal by a rule, or the line gives no lawful request, all is as it was
   pub spares : reaches_file reply ≡ false → IsUnchanged old new
   pub untouched : ¬ MayAppend (held_of old) line → IsUnchanged old new
+  -- the reply says that the device failed exactly where the disk counts a fault and the store is broken by it, and never on an
+  -- honest disk that works and carries what is held
   pub breaks : tells_failure reply ≡ false → (held_of new).broken ≡ (held_of old).broken
   pub counts : CountsTold (faults (disk_of old)) (faults (disk_of new)) (tells_failure reply)
   pub works : Works (disk_of new) → Works (disk_of old)
   pub device : tells_failure reply ≡ true → Honest (disk_of new) → (texts : KitTexts) → Carries state old texts → Works (disk_of new) → ⊥
+  -- where the half in use has room for the line's lawful request, and there is a number for it, three writes and three syncs are
+  -- made at most, and two of each where no checkpoint is under way or to begin
   pub few_writes : (HasNoPlace old line old → ⊥) → writes (disk_of new) ≤ writes (disk_of old) + 3
   pub few_syncs : (HasNoPlace old line old → ⊥) → syncs (disk_of new) ≤ syncs (disk_of old) + 3
   pub own_writes : (HasNoPlace old line old → ⊥) → Rests old → writes (disk_of new) ≤ writes (disk_of old) + 2
   pub own_syncs : (HasNoPlace old line old → ⊥) → Rests old → syncs (disk_of new) ≤ syncs (disk_of old) + 2
+  -- whatever is to be done, three of each are made at most, and one for each step left of the checkpoint under way, or of one
+  -- begun then
   pub most_writes : MakesAtMost writes (lent_of old) (file_of old) (file_of new)
   pub most_syncs : MakesAtMost syncs (lent_of old) (file_of old) (file_of new)
+  -- with such room an `ok` comes with the next step of a checkpoint under way; without, behind the first step of another
   pub comes_on : tells_acceptance reply ≡ true → (HasNoPlace old line old → ⊥) → ComesOn (file_of old) (file_of new)
   pub makes_room : tells_acceptance reply ≡ true → MeetsFullHalf old pending → 4 ≤ ticks_left new
+  -- the file is told to be full only where, behind the call, no checkpoint makes room for the request
   pub full : tells_full reply ≡ true → CannotKeep old line new
   pub commits : CommitsOnce Honest Works state past faults writes syncs old line pending new reply
 

@@ -195,6 +195,7 @@ fn count_of<D: Disk + Drop>(store: &Store<D>) -> usize
 {
     match store.count() {
         Ok(count) => count,
+        // Only a store that is broken doesn't tell it.
         Err(_) => unreachable!(),
     }
 }
@@ -220,6 +221,7 @@ fn name_at<D: Disk + Drop>(store: &Store<D>, place: usize) -> Option<&Name>
 {
     match store.name(place) {
         Ok(found) => found,
+        // Only a store that is broken doesn't tell it.
         Err(_) => unreachable!(),
     }
 }
@@ -281,7 +283,7 @@ fn write_limit(table: &Table, reply: &mut Reply)
     reply.number(u64::from(table.game().limit()));
 }
 
-/// Writes what the cheapest private costs.
+/// Writes what is asked for the cheapest private of a table: `= -` once all are sold.
 fn write_cheapest(table: &Table, kit: &Kit, reply: &mut Reply)
     requires { reply.old ≡ [] }
     ensures text { IsPlayed kit.now table.now →
@@ -430,7 +432,7 @@ fn write_kind(kind: Kind, reply: &mut Reply)
     reply.word(kind.name().as_bytes());
 }
 
-/// Writes the trains of a corporation or of the pool.
+/// Writes the trains that a corporation or the pool has at a table: `= -` for none.
 fn write_trains(table: &Table, of: TrainHolder, reply: &mut Reply)
     requires { reply.old ≡ [] }
     ensures text { (kit : Kit) → IsPlayed kit table.now →
@@ -511,7 +513,7 @@ fn write_step(game: &Game, seat: Seat, step: &[u8], reply: &mut Reply)
     reply.word(step);
 }
 
-/// Writes what the cheapest private costs.
+/// Writes a private and what is asked for it, or `= -`.
 fn write_asked(asked: Option<(Private, Money)>, reply: &mut Reply)
     requires { reply.old ≡ [] }
     ensures text { reply.new ≡ answer_of (asked_words asked) }

@@ -35,8 +35,8 @@ pub enum Fault {
     /// The device failed. Whether the request under way was taken is known when the file is opened again.
     #[error("device failed")]
     DeviceFailed,
-    /// The file has no room for the request: a checkpoint would need more pages than are free, or a number would be the
-    /// last one.
+    /// The file has no room for the request: a checkpoint would need more pages than are free, or a number would be past
+    /// the last.
     #[error("file full")]
     FileFull,
     /// The file holds what no store of ours holds; the first clause that it breaks.

@@ -326,6 +326,7 @@ impl<D: Disk + Drop> State<D> {
         ensures played { GamesArePlayed self.old.store → GamesArePlayed self.new.store }
     {
         let run = find_best(self.alloc, &self.store, stamp, table, corp)?;
+        // What is found is in the words of an order.
         let order = Order::read(run.as_bytes()).unwrap();
         let request = Request::Play(Command::Order(order));
         self.commit(stamp, table, &request, run.sheet())

@@ -34,8 +34,7 @@ actor (A.Force c) = Some c
 actor (A.End c) = Some c
 actor _ = None
 
--- the command is one of a corporation's own turn: a forced purchase and what helps it have rules of their own, and `best` is
--- played as the run that it found
+-- the command is one of a corporation's own turn: a forced purchase and what helps it have rules of their own
 abbrev pub is_played : Act → Bool
 is_played (A.Lay c hex tile turn) = true
 is_played (A.Station c hex centre) = true

@@ -29,9 +29,9 @@ pub(crate) struct Turn {
 /// # Errors
 ///
 /// The first of these that applies: `MustDiscardFirst` where some corporation is over its train limit, for any command
-/// but `drop`; `WrongStep` where the step of the turn doesn't take the command, for one that isn't of a turn or that no
-/// line spells, and for `pay` without revenue; `NotYourTurn` where another corporation is due, or none, but for `drop`,
-/// which any corporation over its limit says.
+/// but `drop`; `WrongStep` where the step of the turn doesn't take the command, for one that isn't of a turn's own (a
+/// forced purchase and what helps it have rules apart), and for `pay` without revenue; `NotYourTurn` where another
+/// corporation is due, or none, but for `drop`, which any corporation over its limit says.
 pub fn judge_order(kit: &Kit, position: &Position, revenue: Money, act: &Act) -> Result<(), Refusal>
     ensures { (book : Book) → IsPositionOf book position.now → MatchResult result
         (λ _. order_verdict kit.now book revenue act.now ≡ None)
@@ -145,7 +145,7 @@ fn actor(act: &Act) -> Option<Corp>
     }
 }
 
-// Whether lines spell such a command of a turn.
+// Whether it is a command of a turn's own: a forced purchase, a sale for one and a bankruptcy have rules apart.
 fn is_played(act: &Act) -> bool
     ensures { result ≡ is_played act.now }
 {

@@ -18,14 +18,15 @@ pub enum Damage {
     #[error("4")]
     UsedBytes,
     /// A chain has another length than is stated, the bytes of the directory spell none, those of a table's chain
-    /// aren't as many commands as it says, or kept words of a table are no request's, and no `best`.
+    /// aren't as many commands as it says, kept words of a table are no request's, and no `best`, or a snapshot's bytes
+    /// are no game's that has played as many commands.
     #[error("5")]
     Form,
     /// A text of the kit is wrong.
     #[error("6")]
     Kit,
-    /// What a table keeps isn't an opening and then commands that are lawful, each after those before it; or its floor
-    /// is above the turns that ended in them.
+    /// What a table keeps behind its last snapshot, or all of it where snapshots lack, isn't an opening and then
+    /// commands that are lawful, each after those before it; or its floor is above the turns that ended in them.
     #[error("7")]
     Kept,
     /// A record spells no request that its table may take, or is damaged.
@@ -66,7 +67,7 @@ pub enum Fault {
     /// The file breaks a clause of its form.
     #[error("damaged {0}")]
     Damaged(Damage),
-    /// The file has no root, or one of a version that isn't known.
+    /// The file has fewer than 515 pages, no root, or one of a version that isn't known.
     #[error("not a store")]
     NotAStore,
     /// A device call failed.

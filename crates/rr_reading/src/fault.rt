@@ -9,7 +9,7 @@ pub enum Fault {
     /// The file breaks a clause of its form.
     #[error("damaged {0}")]
     Damaged(Damage),
-    /// The file has no root, or one of a version that isn't known.
+    /// The file has fewer than 515 pages, no root, or one of a version that isn't known.
     #[error("not a store")]
     NotAStore,
     /// A device call failed.

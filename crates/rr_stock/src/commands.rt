@@ -13,6 +13,9 @@ use rr_desk::Desk;
 use rr_roster::chart::Chart;
 use rr_shares::{float_if_due, sell_shares};
 
+// What a command adds is defined by the book before it, so prices, pars and whether a corporation had floated are read
+// before the first entry is pushed.
+
 /// The seat sets the corporation's par.
 pub(crate) fn play_par(
     desk: &mut Desk,
@@ -26,6 +29,7 @@ pub(crate) fn play_par(
     ensures fault { IfErr result (λ fault. fault ≡ Refusal.OutOfMemory) }
     ensures takes { OnOk result (Takes (λ book. sets_par chart.now (situation_of chart.now book) seat corp price book) desk.old desk.new) }
 {
+    // (at most 999)
     let par = price as u16;
     let floated = has_floated(desk.position(), corp);
     desk.push(Entry::Step(Marker::Act(Act::Par { seat, corp, price })))?;
@@ -68,6 +72,7 @@ pub(crate) fn play_sale(
     ensures fault { IfErr result (λ fault. fault ≡ Refusal.OutOfMemory) }
     ensures takes { OnOk result (Takes (λ book. sells chart.now (situation_of chart.now book) seat corp count book) desk.old desk.new) }
 {
+    // (at most 10)
     let shares = count as u8;
     let amount = proceeds(desk.position(), chart, corp, shares);
     let sale = Sale {

@@ -349,6 +349,7 @@ fn par_on_chart(chart: &Chart, price: u64) -> Option<u16>
     ensures small { OnSome result (price ≤ 999) }
 {
     let _cell = par_cell(chart, price)?;
+    // A chart has no greater price than 999.
     Some(price as u16)
 }
 

@@ -93,7 +93,8 @@ pub(crate) fn get_share(
     Ok(())
 }
 
-/// What a seat's new share brings about: another president, if it is due, and the corporation's float, if it is due.
+/// What a seat's new share brings about: another president, if it is due, and the corporation's float, if it is due and
+/// the corporation hadn't floated before the command.
 #[tactic(auto, unfolding(crate::specs::Effects::settles_corporation))]
 pub(crate) fn settle_corporation(
     desk: &mut Desk,

@@ -46,32 +46,18 @@ Spares old (Err F.FileFull) new = Unit {0}
 Spares old (Err F.OutOfMemory) new = Unit {0}
 Spares old (Err fault) new = IsUnchanged old new
 
--- What a commit does, by its result: what a store of played tables holds then, that they are played, and that they have their
--- snapshots if they had them; and, on an honest disk that carries what was held, what the disk passed through, that each file which a stop leaves keeps what was held or, of a lawful request, that with it, and that
--- the disk carries what is held now. Of every disk: the number of the next record; that a refusal by the rules changes nothing,
--- nor, where its tables were played, does want of memory, unless the request is lawful and behind the call the half in use has no room for its record, so that
--- none is refused for want of a checkpoint's memory that has room; and that a device fault is told exactly where the disk counts one.
--- The file is told to be full only where no checkpoint makes room for the request's record: it takes more than two slots, or
--- behind the call its number would be past the last, or the half in use has no room for it and a checkpoint finds too few free
--- pages or no number for its root. Where the half had room for the record, and there was a number for it, three writes and three
--- syncs are made at most, and two of each where no checkpoint was under way or to begin; and if the request was taken, a
--- checkpoint that was under way came on by a step, and else none is begun, or one that has four steps left at least, or three where
--- the opening found it begun, but none where none was to begin. Where the half had no room, and the request was taken, its record stands behind the first step of a
--- checkpoint, which has four left at least. Whatever is to be done, three of each are made at most, and one for each step left of
--- the checkpoint under way, or of one begun then. Where the last step of a checkpoint was made, and no other is begun, each file
--- that a stop may leave takes a newer root, whose chains spell the world as the checkpoint began; only the records since then stand
--- behind it. The file becomes longer only where no page under its end is free: where the half had room, as by one step
--- of a checkpoint, and whatever is to be done, as `GrowsInAll` says. Roots that have just the snapshots that their tables
--- are to have stay so, and so does the one that is coming, if what is lent to a checkpoint that begins is so; behind the
--- last step of one the root is so that was coming. What the opening played stays told. And an honest
--- disk that works, and carries what was held, is never told to have failed.
+-- What a commit does, by its result: of every disk, where nothing else is said.
 pub record Commits {D : Type 0} (Honest Works : D → Type 0) (state : D → DiskState) (past : D → List DiskState) (faults writes syncs : D → ℕ)
     (old : Store D) (name : List ℕ) (stamp : ℕ) (request : Request Command) (new : Store D) (result : Result ℕ Fault) : Type 0 where
+  -- what a store of played tables holds then; they are played, and have their snapshots if they had them
   pub takes : GamesArePlayed old → Takes (held_of old) stamp name request (held_of new) result
   pub played : GamesArePlayed old → GamesArePlayed new
   pub snapshots : GamesArePlayed old → GamesHaveSnapshots old → GamesHaveSnapshots new
+  -- a store that is broken answers so, and no other
   pub again : IsErrOf result F.OpenAgain ↔ IsTrue (held_of old).broken
   pub honest : Honest (disk_of new) → Honest (disk_of old)
+  -- on an honest disk that carries what was held: what it passed through; that each file which a stop leaves keeps what was
+  -- held or, of a lawful request, that with it; and that the disk carries what is held now
   pub allowed : Honest (disk_of new) → (texts : KitTexts) → Carries state old texts
       → Between (past (disk_of old)) (state (disk_of old)) (past (disk_of new)) (state (disk_of new))
       (λ moments. CommitAllows texts (held_of old).kit (held_of old).tables stamp (for_table name request) (state (disk_of old)) moments (state (disk_of new)) result)
@@ -79,31 +65,54 @@ pub record Commits {D : Type 0} (Honest Works : D → Type 0) (state : D → Dis
       → LeavesOnly (past (disk_of old)) (state (disk_of old)) (past (disk_of new)) (state (disk_of new))
       (KeepsTablesOr texts (held_of old).kit (held_of old).tables (Some (for_table name request)))
   pub carries : Honest (disk_of new) → (held_of new).broken ≡ false → (texts : KitTexts) → Carries state old texts → Carries state new texts
+  -- behind the last step of a checkpoint, where no other is begun, each file that a stop may leave takes a newer root, whose
+  -- chains spell the world as the checkpoint began; only the records since then stand behind it
   pub renews : (held_of new).broken ≡ false → ticks_left old ≡ 1 → ticks_left new ≡ 0 → Honest (disk_of new) → (texts : KitTexts) → (carries : Carries state old texts)
       → EachImage (state (disk_of new)) (TakesNewer table_files
       (layout_behind result carries.file.carried.layout (record_text name request) (in_words texts (held_of new).tables)) (in_words texts (held_of new).tables))
+  -- roots that have just the snapshots that their tables are to have stay so, and so does the one that is coming, if what is
+  -- lent to a checkpoint that begins is so; behind the last step of one the root is so that was coming
   pub names : Honest (disk_of new) → (held_of new).broken ≡ false → (texts : KitTexts) → Carries state old texts
       → ((ticks_left old ≡ 0) ⊎ IsFull old name request → LendsNamed old) → KeepsNames state old new texts
   pub renews_names : Honest (disk_of new) → (held_of new).broken ≡ false → ticks_left old ≡ 1 → ticks_left new ≡ 0 → (texts : KitTexts)
       → Carries state old texts → NamesComing state old texts → NamesRoots state new texts
+  -- the number of the next record
   pub number : NumberBehind result (number_of_next old) (number_of_next new)
+  -- a refusal by the rules changes nothing; nor, where the tables were played, does want of memory, unless the request is
+  -- lawful and behind the call the half in use has no room for its record: so no record that has room is refused for want of a
+  -- checkpoint's memory
   pub spares : Spares old result new
   pub wanting : GamesArePlayed old → result ≡ Err F.OutOfMemory → IsUnchanged old new
       ⊎ (IsVerdict (judgement_in (held_of old).kit (held_of old).tables stamp name request) None × HasNoRoom new name request)
+  -- a device fault is told exactly where the disk counts one
   pub counts : CountsEnd (faults (disk_of old)) (faults (disk_of new)) result
   pub works : Works (disk_of new) → Works (disk_of old)
+  -- where the half in use had room for the record, and there was a number for it, three writes and three syncs are made at
+  -- most, and two of each where no checkpoint was under way or to begin
   pub few_writes : (IsFull old name request → ⊥) → writes (disk_of new) ≤ writes (disk_of old) + 3
   pub few_syncs : (IsFull old name request → ⊥) → syncs (disk_of new) ≤ syncs (disk_of old) + 3
   pub own_writes : (IsFull old name request → ⊥) → Rests old → writes (disk_of new) ≤ writes (disk_of old) + 2
   pub own_syncs : (IsFull old name request → ⊥) → Rests old → syncs (disk_of new) ≤ syncs (disk_of old) + 2
+  -- whatever is to be done, three of each are made at most, and one for each step left of the checkpoint under way, or of one
+  -- begun then
   pub most_writes : MakesAtMost writes (lent_of old) (file_of old) (file_of new)
   pub most_syncs : MakesAtMost syncs (lent_of old) (file_of old) (file_of new)
+  -- if the request was taken, with such room and number, a checkpoint under way came on by a step; else none is begun, or one
+  -- that has four steps left at least, or three where the opening found it begun; and none where none was to begin
   pub comes_on : OnOk result ((IsFull old name request → ⊥) → ComesOn (file_of old) (file_of new))
+  -- if it was taken without room, its record stands behind the first step of a checkpoint, which has four left at least
   pub makes_room : OnOk result (HasNoRoom old name request → 4 ≤ ticks_left new)
+  -- the file becomes longer only where no page under its end is free: where the half had room, as by one step of a checkpoint,
+  -- and whatever is to be done, as `GrowsInAll` says
   pub grows : (IsFull old name request → ⊥) → Honest (disk_of new) → (texts : KitTexts) → Carries state old texts
       → Grows (length_on state) (file_of old) (file_of new)
   pub pages : (IsFull old name request → ⊥) → TakesPages (file_of old) (file_of new)
   pub grows_in_all : Honest (disk_of new) → (texts : KitTexts) → Carries state old texts → GrowsInAll state (file_of old) (file_of new)
+  -- what the opening played stays told
   pub replayed : replayed_of new ≡ replayed_of old
+  -- the file is told to be full only where no checkpoint makes room for the request's record: it takes more than two slots, or
+  -- behind the call its number would be past the last, or the half in use has no room for it and a checkpoint finds too few free
+  -- pages or no number for its root
   pub full : result ≡ Err F.FileFull → IsFullFor new (lent_of old) name request
+  -- an honest disk that works, and carries what was held, is never told to have failed
   pub device : OnDeviceFault result (Honest (disk_of new) → (texts : KitTexts) → Carries state old texts → Works (disk_of new) → ⊥)

@@ -70,59 +70,62 @@ pub record GrowsInAll {D R : Type 0} (state : D → DiskState) (old new : Log D 
   pub of_root : (pages ≡ present_of (free_of new)) ⊎ ((pages ≡ coming_of (free_of new)) × AreComing old new)
   pub full : GrowsWhereFull (present_of (free_of old)) pages (length_on state (disk_of old)) (length_on state (disk_of new))
 
--- What keeping a record does to an honest disk that carries a world of which these tables and snapshots are lent: a stop at any moment leaves a file that
--- keeps this world, or the one to which the record leads; and behind it the file carries the one that the answer tells. Of
--- every disk: the next record's number is one more behind a record that was kept; the log is broken exactly where the device
--- failed; a broken one refuses and stays as it is. That a half is full is never told; and that the file is, only where the
--- record takes more than two slots, or where behind the call its number would be past the last, or the half in use has no room
--- for it and a checkpoint finds too few free pages or no number for its root. Memory is wanted only before anything is changed, or
--- where behind the call the half in use has no room. Where there was room and a number, three writes and three syncs are made at
--- most, two of each where no checkpoint was under way or to begin, and a checkpoint comes on with a record that was kept. Where
--- there was no room, one that was under way may be ended, and a record that was kept stands behind
--- the first step of another, which has four left at least. Whatever is to be done, it makes at most the calls of `MakesAtMost`.
--- Where the last step of a checkpoint was made, and no other is begun, each file that a stop may leave takes a newer root, whose
--- chains spell the world as the checkpoint began; only the records since then stand behind it. The file becomes longer
--- only where no page under its end is free: where there was room, as by one step of a checkpoint, and whatever is to be
--- done, as `GrowsInAll` says. Roots that name just the snapshots that their tables are to have stay so, and so does the one
--- that is coming, if what is lent to a checkpoint that begins is so; behind the last step
--- of one the root is so that was coming. And an honest disk that works, and carries such a world, is never told to have
--- failed.
+-- What keeping a record does: of every disk, where nothing else is said.
 pub record Keeping {D : Type 0} (Honest Works : D → Type 0) (state : D → DiskState) (past : D → List DiskState) (faults writes syncs : D → ℕ)
     (old : Log D TableRules) (lent : Lent) (bytes : List ℕ) (result : Result (Unit {0}) Fault) (new : Log D TableRules) : Type 0 where
   pub honest : Honest (disk_of new) → Honest (disk_of old)
+  -- of an honest disk that carries a world of which these tables and snapshots are lent: a stop at any moment leaves a file that
+  -- keeps this world, or the one to which the record leads; and behind it the file carries the one that the answer tells
   pub stops : Honest (disk_of new) → (before behind : words.World) → Takes bytes before behind → AreLentOf table_rules before lent
       → Carries table_rules old (state (disk_of old)) before
       → LeavesEither table_files (past (disk_of old)) (state (disk_of old)) (past (disk_of new)) (state (disk_of new)) before behind
   pub carries : Honest (disk_of new) → is_broken new ≡ false → (before behind : words.World) → Takes bytes before behind → AreLentOf table_rules before lent
       → Carries table_rules old (state (disk_of old)) before → Carries table_rules new (state (disk_of new)) (world_behind result before behind)
+  -- behind the last step of a checkpoint, where no other is begun, each file that a stop may leave takes a newer root, whose
+  -- chains spell the world as the checkpoint began; only the records since then stand behind it
   pub renews : is_broken new ≡ false → ticks_left old ≡ 1 → ticks_left new ≡ 0 → Honest (disk_of new) → (before behind : words.World) → Takes bytes before behind
       → (carries : Carries table_rules old (state (disk_of old)) before)
       → EachImage (state (disk_of new)) (TakesNewer table_files (layout_behind result carries.carried.layout bytes behind) (world_behind result before behind))
+  -- roots that name just the snapshots that their tables are to have stay so, and so does the one that is coming, if what is
+  -- lent to a checkpoint that begins is so; behind the last step of one the root is so that was coming
   pub names : Honest (disk_of new) → is_broken new ≡ false → (kit : Kit) (before behind : words.World) → Takes bytes before behind → AreLentOf table_rules before lent
       → ((ticks_left old ≡ 0) ⊎ IsFull old bytes → AreTheirSnapshots kit before lent.snapshots)
       → KeepsNames kit state old before new (world_behind result before behind)
   pub renews_names : Honest (disk_of new) → is_broken new ≡ false → ticks_left old ≡ 1 → ticks_left new ≡ 0 → (kit : Kit) (before behind : words.World)
       → Takes bytes before behind → AreLentOf table_rules before lent
       → NamesComing kit old (state (disk_of old)) before → NamesRoots kit new (state (disk_of new)) (world_behind result before behind)
+  -- the next record's number is one more behind a record that was kept; a broken log refuses and stays as it is, and a log is
+  -- broken exactly where the device failed
   pub number : NumberBehind result (next_number old) (next_number new)
   pub again : IsErrOf result F.OpenAgain ↔ IsTrue (is_broken old)
   pub untouched : IsErrOf result F.OpenAgain → new ≡ old
   pub broken : is_broken new ≡ ends_broken result
+  -- the file is full only where the record takes more than two slots, or where behind the call its number would be past the
+  -- last, or the half in use has no room for it and a checkpoint finds too few free pages or no number for its root; that a half
+  -- is full is never told
   pub full : IsErrOf result F.FileFull → IsTooLong (length bytes) ⊎ MeetsFullFile new lent (length bytes)
   pub room : IsErrOf result F.HalfFull → ⊥
+  -- memory is wanted only before anything is changed, or where behind the call the half in use has no room
   pub memory : IsErrOf result F.OutOfMemory → (new ≡ old) ⊎ HasNoRoom (place_of new) (length bytes)
   pub counts : CountsFault (faults (disk_of old)) (faults (disk_of new)) result
   pub works : Works (disk_of new) → Works (disk_of old)
+  -- an honest disk that works, and carries such a world, is never told to have failed
   pub device : OnDeviceFault result (Honest (disk_of new) → (before behind : words.World) → Takes bytes before behind → AreLentOf table_rules before lent
       → Carries table_rules old (state (disk_of old)) before → Works (disk_of new) → ⊥)
+  -- where there was room and a number, three writes and three syncs are made at most, two of each where no checkpoint was under
+  -- way or to begin
   pub few_writes : (IsFull old bytes → ⊥) → writes (disk_of new) ≤ writes (disk_of old) + 3
   pub few_syncs : (IsFull old bytes → ⊥) → syncs (disk_of new) ≤ syncs (disk_of old) + 3
   pub own_writes : (IsFull old bytes → ⊥) → Rests old → writes (disk_of new) ≤ writes (disk_of old) + 2
   pub own_syncs : (IsFull old bytes → ⊥) → Rests old → syncs (disk_of new) ≤ syncs (disk_of old) + 2
   pub most_writes : MakesAtMost writes lent old new
   pub most_syncs : MakesAtMost syncs lent old new
+  -- so does a checkpoint come on then with a record that was kept; one kept without room stands behind the first step of
+  -- another, which has four left at least
   pub comes_on : OnOk result ((IsFull old bytes → ⊥) → ComesOn old new)
   pub makes_room : OnOk result (HasNoRoom (place_of old) (length bytes) → 4 ≤ ticks_left new)
+  -- the file becomes longer only where no page under its end is free: where there was room, as by one step of a checkpoint, and
+  -- whatever is to be done, as `GrowsInAll` says
   pub grows : (IsFull old bytes → ⊥) → Honest (disk_of new) → (world : words.World) → AreLentOf table_rules world lent
       → Carries table_rules old (state (disk_of old)) world → Grows (length_on state) old new
   pub pages : (IsFull old bytes → ⊥) → TakesPages old new

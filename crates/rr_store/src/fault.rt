@@ -29,8 +29,8 @@ pub enum Fault {
     /// The device failed. Whether the request under way was taken is known when the file is opened again.
     #[error("device failed")]
     DeviceFailed,
-    /// A record takes more than two slots, fewer pages are free than a checkpoint needs, or a number would be the last
-    /// one.
+    /// A record takes more than two slots, fewer pages are free than a checkpoint needs, or a number would be past the
+    /// last.
     #[error("file full")]
     FileFull,
     /// The file holds what no store of ours holds; the first clause that it breaks, from 1 to 8.

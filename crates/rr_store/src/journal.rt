@@ -30,6 +30,7 @@ impl<D: Disk + Drop> Journal for FileJournal<D> {
         }
         match spell(name, request, &mut self.buffer) {
             Ok(()) => {}
+            // (a request's words are always of its form)
             Err(_) => return Err(Fault::OutOfMemory),
         }
         keep_record(&mut self.file, tables, self.buffer.as_slice())?;

@@ -28,7 +28,8 @@ use rr_reading::lending::Commands;
 use rr_tables::Tables;
 use std::alloc::Global;
 
-/// The tables of the root, before its records. Each kept command is read once.
+/// The tables of the root, before its records. Each kept command is read once, and again where snapshots lack, or a
+/// refused file is asked for its form.
 pub(crate) fn recover_base<D: Disk>(
     alloc: Global,
     disk: &mut D,

@@ -98,7 +98,7 @@ pub(crate) fn play_all<D: Disk>(
     }
 }
 
-/// The table, for which so many commands were played, if none is left.
+/// The restored table, for which so many commands were played; `UNPLAYED` where commands are left over.
 fn whole(table: Table, left: usize, plays: u64) -> Result<Restored<Table>, Fault>
     ensures { MatchResult result (λ whole. (whole ≡ record { value = table; plays = plays }) × (left ≡ 0))
         (λ fault. (fault ≡ Fault.Damaged Damage.Kept) × (left ≢ 0)) }
@@ -188,6 +188,7 @@ fn recall<D: Disk>(
     keep_first(disk, chains, &mut kept, game.played())?;
     match Table::of_kept(kept, game) {
         Some(table) => Ok(table),
+        // As many commands are kept as the game has played.
         None => unreachable!(),
     }
 }
