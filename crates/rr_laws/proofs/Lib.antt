@@ -7,6 +7,7 @@ pub mod StockLeaves
 pub mod RoundLeaves
 pub mod TurnLeaves
 pub mod ForcedLeaves
+pub mod Joining
 pub mod StockOrder
 pub mod ForcedOrder
 pub mod MaySell
@@ -20,6 +21,5 @@ mod EachVerdict
 mod Sparing
 mod Wanting
 mod SoldAlong
-pub mod SequenceLemmas
 pub mod SoundnessLemmas
 pub mod TurnsLemmas

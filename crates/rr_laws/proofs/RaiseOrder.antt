@@ -51,6 +51,7 @@ use Rattle.rr_rules.specs.Forced.Rules.{IsRaiseVerdict}
 use Rattle.rr_rules.specs.Forced.Sales.{is_seat, president_verdict, raise_verdict, share_verdict}
 use Rattle.rr_laws.specs.Soundness.GoodOrder.{IsInGoodOrder}
 use Rattle.rr_laws.specs.Soundness.Presidencies.{AwaitsPar, IsGoverned, IsLed}
+use Rattle.rr_laws.proofs.Joining.{after_two}
 use Rattle.rr_laws.proofs.SoundnessLemmas.Corporations.{keeps_mark_at, keeps_sale}
 use Rattle.rr_laws.proofs.SoundnessLemmas.Going.{GoesOn, Keeps, keeps_paid, keeps_step, keeps_three, keeps_two, no_debt, solvent_without_debt, without_debt}
 use Rattle.rr_laws.proofs.SoundnessLemmas.GoodOrder.{sum_kept}
@@ -110,11 +111,6 @@ half_after rows book s c n told half d =
     (λ same. let of : share (holder book) L.Pool d ≡ share (holder book) L.Pool c = ap (λ (e : Corp). share (holder book) L.Pool e) (same_is d c same) in omega arith)
 
 -- the presidents
-
-after_two : (f g : Effect) (book : Book) → book ++ in_turn (f ∷ g ∷ []) book ≡ (book ++ f book) ++ g (book ++ f book)
-after_two f g book =
-    ap (λ (more : Book). book ++ (f book ++ more)) (append-nil (g (book ++ f book)))
-    ∙ sym (append_assoc book (f book) (g (book ++ f book)))
 
 after_three : (f g h : Effect) (book : Book) → book ++ in_turn (f ∷ g ∷ h ∷ []) book ≡ ((book ++ f book) ++ g (book ++ f book)) ++ h ((book ++ f book) ++ g (book ++ f book))
 after_three f g h book = sym (append_assoc book (f book) (in_turn (g ∷ h ∷ []) (book ++ f book))) ∙ after_two g h (book ++ f book)

@@ -30,9 +30,9 @@ use Rattle.rr_laws.specs.Soundness.Presidencies.{IsGovernedInAuction}
 use Rattle.rr_laws.proofs.SoundnessLemmas.AuctionPresidents.{governed_by_act}
 use Rattle.rr_laws.proofs.SoundnessLemmas.Auctioned.{half_after_act}
 use Rattle.rr_laws.proofs.SoundnessLemmas.GoodOrder.{sum_kept}
-use Rattle.rr_laws.proofs.SoundnessLemmas.PoolPlays.{half_after_bids}
-use Rattle.rr_laws.proofs.SoundnessLemmas.PresidentPlays.{governed_at_first, greatest_where_governed}
-use Rattle.rr_laws.proofs.SoundnessLemmas.SoundPlays.{solvent_by_cover}
+use Rattle.rr_laws.proofs.SoundnessLemmas.PoolOpened.{half_at_first}
+use Rattle.rr_laws.proofs.SoundnessLemmas.PresidentsGoverned.{governed_at_first, greatest_where_governed}
+use Rattle.rr_laws.proofs.SoundnessLemmas.Covered.{solvent_by_cover}
 use Rattle.rr_laws.specs.Turns.Turns.{IsEarned}
 use Rattle.rr_laws.proofs.TurnsLemmas.Commands.{earned_behind, order_by_act}
 use Rattle.rr_stock.specs.Rules as trading
@@ -226,7 +226,7 @@ stands_opened names kit order two =
         sound = record {
           solvent = solvent_by_cover n book covered;
           dealt = dealt_opened names kit.roster order;
-          pool = half_after_bids kit.roster kit.chart names [];
+          pool = half_at_first names kit.roster;
         };
         governed = ruled.governed;
       };

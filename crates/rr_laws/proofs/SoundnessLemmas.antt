@@ -2,10 +2,9 @@ pub mod Turns
 pub mod Going
 pub mod Corporations
 pub mod StockActs
-pub mod StockPlays
 pub mod Auctioned
-pub mod PoolPlays
-pub mod SoundPlays
+pub mod PoolOpened
+pub mod Covered
 pub mod Untouched
 pub mod Gaining
 pub mod AuctionPresidents
@@ -13,6 +12,6 @@ pub mod Bystanders
 pub mod Leaders
 pub mod PricedShares
 pub mod StockPresidents
-pub mod PresidentPlays
+pub mod PresidentsGoverned
 pub mod Priorities
 pub mod GoodOrder

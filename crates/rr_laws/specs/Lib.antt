@@ -2,6 +2,5 @@ pub mod Sound
 pub mod Best
 pub mod Verdicts
 pub mod SoldTrains
-pub mod Sequence
 pub mod Soundness
 pub mod Turns

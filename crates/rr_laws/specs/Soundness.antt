@@ -1,6 +1,5 @@
 pub mod Seating
 pub mod Sound
-pub mod Play
 pub mod Presidencies
 pub mod Priority
 pub mod GoodOrder

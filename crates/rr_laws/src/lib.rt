@@ -1,13 +1,11 @@
 //! The laws that every table is sound, whatever commands it accepted, that each run paid as best was best, that each
 //! command has a verdict, and that the phase is the greatest kind of which a train was ever sold. Its modules have laws
-//! on commands of stock rounds (`sequence`), on the auction and the stock rounds behind it (`soundness`), and on
-//! corporations' turns (`turns`).
+//! on the auction and on commands of stock rounds (`soundness`), and on corporations' turns (`turns`).
 //!
 //! Stands on `rr_game`, the rules and `rr_referee`; nothing of the program stands on it. Its promises: `sound`,
 //! `best_runs_were_best`, `each_command_has_a_verdict` and `phases_are_greatest_sold`.
 #![tactic(auto)]
 
-pub mod sequence;
 pub mod soundness;
 pub mod turns;
 
@@ -24,8 +22,8 @@ ghost use Rattle.rr_laws.specs.Verdicts.{EachCommandHasAVerdict, NoRuleWantsMemo
 pub fn sound()
     ensures { TablesStaySound }
 {
-    crate::sequence::laws::pool_stays_within_half();
-    crate::sequence::laws::lawful_sales_move_shares();
+    rr_stock::laws::pool_stays_within_half();
+    rr_stock::laws::lawful_sales_move_shares();
     rr_shares::laws::sales_move_shares();
 }
 

@@ -1,7 +1,6 @@
-//! What stays true of a table whatever lawful commands of the auction and of stock rounds are played: laws of the
+//! What stays true of a table with each lawful act of the auction and each lawful command of a stock round: laws of the
 //! definitions alone.
 //!
-//! Stands on the rules of both and on `sequence`. Its promise: money, places, presidents and the pool stay in order,
-//! each by a law.
+//! Stands on the rules of both. Its promise: money, places, presidents and the pool stay in order, each by a law.
 
 pub mod laws;

@@ -2,7 +2,6 @@
 use Rattle.std.specs.Prelude.{◌≡◌, ℕ, ◌*◌, Bool, true, false, List, [], ◌∷◌, ◌++◌, Some, map, option_map, refl, if◌then◌else◌}
 use Rattle.rr_roster.specs.declared.company.Private.{Private}
 use Rattle.rr_roster.specs.declared.company.Corp.{Corp}
-use Rattle.rr_roster.specs.Terms.{Terms}
 use Rattle.rr_roster.specs.Chart.Chart.{Row, par_place}
 use Rattle.rr_books.specs.declared.parties.Party.TheVariants as P
 use Rattle.rr_books.specs.declared.parties.Seat.{Seat}
@@ -14,18 +13,16 @@ use Rattle.rr_books.specs.declared.acts.Act.TheVariants as A
 use Rattle.rr_roster.specs.declared.sources.ShareSource.{ShareSource}
 use Rattle.rr_books.specs.Book.{holder}
 use Rattle.rr_books.specs.Same.{same_corp}
-use Rattle.rr_books.specs.Shares.{privates}
 use Rattle.rr_desk.specs.Effects.{adds, in_turn, moves_lowest_share}
-use Rattle.rr_desk.specs.Incomes.{dollars, pay_incomes}
+use Rattle.rr_desk.specs.Incomes.{dollars}
 use Rattle.rr_shares.specs.Effects.{float_if_due, presidency, sale_shares}
 use Rattle.rr_market.specs.Moves.{cell_above, cell_after_sale, cell_of, par_marks, sale_marks, sold_out_marks}
 use Rattle.rr_market.specs.Order.{operating_order}
 use Rattle.rr_rounds.specs.Round.{ends_round, has_floated}
 use Rattle.rr_stock.specs.Rules.{place_of_source, share_price}
-use Rattle.rr_stock.specs.Effects.{buys_share, gets_share, gives_up_private, is_sold_out, pays_bank, pays_seller, proceeds, rises, rises_among, rises_if_sold_out, says, sells, sets_par, settles_corporation, settles_in, swaps, takes_presidency}
-use Rattle.rr_laws.specs.Sequence.Whole.{ends_if, ends_stock_round, ends_turn, passes_operating_round}
+use Rattle.rr_stock.specs.Effects.{buys_share, ends_if, ends_stock_round, ends_turn, gets_share, gives_up_private, is_sold_out, pays_bank, pays_seller, proceeds, rises, rises_among, rises_if_sold_out, says, sells, sets_par, settles_corporation, settles_in, swaps, takes_presidency}
 use Rattle.rr_stock.specs.Situation.{Situation}
-use Rattle.rr_laws.proofs.SoundnessLemmas.Untouched.{IsUntouched, Spares, held_after, moved_private, promised_by, spares_float, spares_incomes, spares_lowest, spares_mark, spares_none, spares_pay, spares_president, spares_presidency, spares_sale, spares_step, spares_then, spares_three, spares_token, spares_two}
+use Rattle.rr_laws.proofs.SoundnessLemmas.Untouched.{IsUntouched, Spares, held_after, moved_private, promised_by, spares_float, spares_lowest, spares_mark, spares_none, spares_pay, spares_president, spares_presidency, spares_sale, spares_step, spares_then, spares_three, spares_token, spares_two}
 
 -- commands that concern another corporation
 pub par_spares : (c d : Corp) (rows : List Row) (t : Situation) (s : Seat) (m : ℕ) → same_corp c d ≡ false → Spares c (sets_par rows t s d m)
@@ -90,15 +87,11 @@ rises_spares : (c : Corp) (rows : List Row) → Spares c (rises rows)
 unfolding rises
 rises_spares c rows book = among_spares c rows (operating_order rows book) book
 
-operating_spares : (c : Corp) (roster : Terms) → Spares c (passes_operating_round roster)
-unfolding passes_operating_round
-operating_spares c roster = spares_three c (adds (E.Step M.Operating)) (pay_incomes roster) (adds (E.Step M.Stock)) (spares_step c M.Operating) (spares_incomes c roster privates) (spares_step c M.Stock)
-
-end_spares : (c : Corp) (roster : Terms) (rows : List Row) (ends : Bool) → Spares c (ends_if roster rows ends)
+end_spares : (c : Corp) (rows : List Row) (ends : Bool) → Spares c (ends_if rows ends)
 unfolding ends_stock_round
-end_spares c roster rows true = spares_two c (rises rows) (passes_operating_round roster) (rises_spares c rows) (operating_spares c roster)
-end_spares c roster rows false = spares_none c
+end_spares c rows true = spares_two c (rises rows) (adds (E.Step M.Operating)) (rises_spares c rows) (spares_step c M.Operating)
+end_spares c rows false = spares_none c
 
-pub done_spares : (c : Corp) (roster : Terms) (rows : List Row) (t : Situation) (s : Seat) → Spares c (ends_turn roster rows t s)
+pub done_spares : (c : Corp) (rows : List Row) (t : Situation) (s : Seat) → Spares c (ends_turn rows t s)
 unfolding ends_turn
-done_spares c roster rows t s = spares_two c (says (A.Done s)) (ends_if roster rows (ends_round t.progress)) (spares_step c (M.Act (A.Done s))) (end_spares c roster rows (ends_round t.progress))
+done_spares c rows t s = spares_two c (says (A.Done s)) (ends_if rows (ends_round t.progress)) (spares_step c (M.Act (A.Done s))) (end_spares c rows (ends_round t.progress))

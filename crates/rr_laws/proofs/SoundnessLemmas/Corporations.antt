@@ -1,12 +1,10 @@
 -- Effects by which nobody but the bank pays leave a table solvent.
 use Rattle.std.specs.Prelude.{◌≡◌, ℕ, zero, suc, ◌+◌, ◌*◌, ◌%◌, ◌<◌, Bool, true, false, nat_lt, List, [], ◌∷◌, Option, None, Some, find, map, refl, if◌then◌else◌}
-use Rattle.std.proofs.Common.{sym, ◌∙◌, ap, subst, arith, cond}
+use Rattle.std.proofs.Common.{sym, subst, arith, cond}
 use Rattle.std.proofs.Math.Nat.{mod-lt}
 use Rattle.std.proofs.lemmas.Bool.{lt-ltb}
 use Rattle.std.proofs.lemmas.Bool.Decides.{nat_tests}
-use Rattle.rr_roster.specs.declared.company.Private.{Private}
 use Rattle.rr_roster.specs.declared.company.Corp.{Corp}
-use Rattle.rr_roster.specs.Terms.{Terms, income_of}
 use Rattle.rr_books.specs.declared.parties.Seat.{Seat}
 use Rattle.rr_books.specs.declared.parties.Party.TheVariants as P
 use Rattle.rr_books.specs.declared.parties.Place.{Place}
@@ -20,13 +18,13 @@ use Rattle.rr_books.specs.Book.{Book, holder, players}
 use Rattle.rr_books.specs.Shares.{president}
 use Rattle.rr_books.specs.State.{has_place}
 use Rattle.rr_desk.specs.Effects.{Effect, adds, in_turn, lowest_share, moves_if, moves_lowest_share}
-use Rattle.rr_desk.specs.Incomes.{dollars, owner, pay_incomes_of, pays_if, pays_income}
+use Rattle.rr_desk.specs.Incomes.{dollars}
 use Rattle.rr_shares.specs.declared.succession.Handover.{Handover}
 use Rattle.rr_shares.specs.Holdings.{Percents, heir, percents, percents_after_sale, succeeds}
 use Rattle.rr_shares.specs.Succession.{at_table, handover_after_sale, handover_by, handover_due, handover_from}
 use Rattle.rr_shares.specs.Effects.{float, float_if_due, float_of, floats_now, hands_over, hands_over_if, moves_lowest_shares, presidency, presidency_after_sale, sale_shares}
 use Rattle.rr_market.specs.Moves.{mark_at}
-use Rattle.rr_laws.proofs.SoundnessLemmas.Going.{CanPay, Debts, GoesOn, Keeps, keeps_mark, keeps_move, keeps_none, keeps_paid, keeps_step, keeps_then, keeps_two}
+use Rattle.rr_laws.proofs.SoundnessLemmas.Going.{CanPay, Debts, GoesOn, Keeps, keeps_mark, keeps_move, keeps_none, keeps_paid, keeps_step, keeps_two}
 
 -- the seat, if there is one, is among the first n
 abbrev Within : ℕ → Option Seat → Type 0
@@ -129,24 +127,6 @@ keeps_float n c par floated o book h = keeps_chosen n (floats_now (holder book) 
 
 pub keeps_settled : (n : ℕ) → 0 < n → (c : Corp) (par : Option ℕ) (floated : Bool) → Keeps n (in_turn (presidency c ∷ float_if_due c par floated ∷ []))
 keeps_settled n some c par floated = keeps_two n (presidency c) (float_if_due c par floated) (keeps_presidency n some c) (keeps_float n c par floated)
-
-keeps_owner : (n k : ℕ) (place : Option Place) (amount : ℕ) → k ≡ n → Keeps n (pays_if (owner k place) amount)
-keeps_owner n k (Some (L.Seat s)) amount same = by_test (nat_lt s.0 k) refl
-  where
-    by_test : (b : Bool) → nat_lt s.0 k ≡ b → Keeps n (pays_if (cond b (Some (P.Seat s)) None) amount)
-    by_test true e = keeps_paid n (P.Seat s) amount (ap (λ (m : ℕ). nat_lt s.0 m) (sym same) ∙ e)
-    by_test false e = keeps_none n
-keeps_owner n k (Some (L.Corp c)) amount same = keeps_paid n (P.Corp c) amount refl
-keeps_owner n k _ amount same = keeps_none n
-
-keeps_income : (n : ℕ) (roster : Terms) (p : Private) → Keeps n (pays_income roster p)
-unfolding pays_income
-keeps_income n roster p o book h = keeps_owner n (players book) (holder book (C.Private p)) (income_of roster p) h.seated o book h
-
-pub keeps_incomes : (n : ℕ) (roster : Terms) (ps : List Private) → Keeps n (pay_incomes_of roster ps)
-unfolding pay_incomes_of
-keeps_incomes n roster [] = keeps_none n
-keeps_incomes n roster (x ∷ xs) = keeps_then n (pays_income roster x) (map (pays_income roster) xs) (keeps_income n roster x) (keeps_incomes n roster xs)
 
 pub keeps_mark_at : (n : ℕ) (c : Corp) (cell : Option Cell) (o : Debts) (book : Book) → CanPay n o book → GoesOn n o book (mark_at c cell)
 keeps_mark_at n c None = keeps_none n

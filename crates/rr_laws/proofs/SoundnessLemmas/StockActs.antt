@@ -1,12 +1,11 @@
 -- Lawful commands of a stock round leave a table solvent.
 use Rattle.std.specs.Prelude.{◌≡◌, ℕ, ◌*◌, ◌<◌, ℤ, pos, ◌≤ℤ◌, int_lt, Bool, true, false, not, List, [], ◌∷◌, Option, None, Some, map, option_and_then, option_map, refl, if◌then◌else◌}
 use Rattle.std.specs.Option.{option_or}
-use Rattle.std.proofs.Common.{sym, subst, arith}
+use Rattle.std.proofs.Common.{sym, arith}
 use Rattle.std.proofs.lemmas.Bool.{eqb-true, false≢true, lt-ltb}
 use Rattle.std.proofs.lemmas.Int.{ints}
 use Rattle.rr_roster.specs.declared.company.Private.{Private}
 use Rattle.rr_roster.specs.declared.company.Corp.{Corp}
-use Rattle.rr_roster.specs.Terms.{Terms}
 use Rattle.rr_roster.specs.Chart.Chart.{Row, par_place}
 use Rattle.rr_books.specs.declared.parties.Seat.{Seat}
 use Rattle.rr_books.specs.declared.parties.Party.TheVariants as P
@@ -19,9 +18,8 @@ use Rattle.rr_books.specs.declared.acts.Act.TheVariants as A
 use Rattle.rr_roster.specs.declared.sources.ShareSource.{ShareSource}
 use Rattle.rr_books.specs.Book.{Book, holder, players}
 use Rattle.rr_books.specs.Same.{same_seat}
-use Rattle.rr_books.specs.Shares.{privates}
 use Rattle.rr_desk.specs.Effects.{adds, in_turn, moves_lowest_share}
-use Rattle.rr_desk.specs.Incomes.{dollars, pay_incomes}
+use Rattle.rr_desk.specs.Incomes.{dollars}
 use Rattle.rr_shares.specs.Effects.{float_if_due, sale_shares}
 use Rattle.rr_market.specs.Marks.{mark_of}
 use Rattle.rr_market.specs.Moves.{cell_above, cell_after_sale, cell_of, par_marks, sale_marks, sold_out_marks}
@@ -30,15 +28,12 @@ use Rattle.rr_rounds.specs.Round.{ends_round, has_floated, progress}
 use Rattle.rr_books.specs.declared.refusal.Refusal.TheVariants as F
 use Rattle.rr_stock.specs.Rules as rules
 use Rattle.rr_stock.specs.Rules.{is_short, place_of_source, share_price, turn_verdict, verdict}
-use Rattle.rr_stock.specs.Effects.{buys_share, gets_share, gives_up_private, is_sold_out, pays_bank, pays_seller, proceeds, rises, rises_among, rises_if_sold_out, says, sells, sets_par, settles_corporation, settles_in, swaps, takes_presidency}
-use Rattle.rr_laws.specs.Sequence.Sequence as sequence
-use Rattle.rr_laws.proofs.SequenceLemmas.Whole.{entries_are_whole}
-use Rattle.rr_laws.specs.Sequence.Whole.{ends_if, ends_stock_round, ends_turn, entries_of, passes_operating_round}
+use Rattle.rr_stock.specs.Effects.{buys_share, ends_if, ends_stock_round, ends_turn, entries_of, gets_share, gives_up_private, is_sold_out, pays_bank, pays_seller, proceeds, rises, rises_among, rises_if_sold_out, says, sells, sets_par, settles_corporation, settles_in, swaps, takes_presidency}
 use Rattle.rr_stock.specs.Situation.{Situation, situation_of}
 use Rattle.rr_laws.specs.Soundness.Sound.{IsSolvent}
 use Rattle.rr_laws.proofs.SoundnessLemmas.Turns.{seated}
 use Rattle.rr_laws.proofs.SoundnessLemmas.Going.{GoesOn, Keeps, Settles, can_pay_debt, debt_of, keeps_move, keeps_none, keeps_paid, keeps_step, keeps_then, keeps_three, keeps_two, no_debt, settles_debt, settles_one, settles_then, without_debt}
-use Rattle.rr_laws.proofs.SoundnessLemmas.Corporations.{keeps_float, keeps_incomes, keeps_lowest, keeps_mark_at, keeps_sale, keeps_settled}
+use Rattle.rr_laws.proofs.SoundnessLemmas.Corporations.{keeps_float, keeps_lowest, keeps_mark_at, keeps_sale, keeps_settled}
 
 says_kept : (n : ℕ) (act : Act) → Keeps n (says act)
 says_kept n act = keeps_step n (M.Act act)
@@ -86,18 +81,14 @@ rises_kept : (n : ℕ) (rows : List Row) → Keeps n (rises rows)
 unfolding rises
 rises_kept n rows o book h = among_kept n rows (operating_order rows book) o book h
 
-operating_kept : (n : ℕ) (roster : Terms) → Keeps n (passes_operating_round roster)
-unfolding passes_operating_round
-operating_kept n roster = keeps_three n (adds (E.Step M.Operating)) (pay_incomes roster) (adds (E.Step M.Stock)) (keeps_step n M.Operating) (keeps_incomes n roster privates) (keeps_step n M.Stock)
-
-end_kept : (n : ℕ) (roster : Terms) (rows : List Row) (ends : Bool) → Keeps n (ends_if roster rows ends)
+end_kept : (n : ℕ) (rows : List Row) (ends : Bool) → Keeps n (ends_if rows ends)
 unfolding ends_stock_round
-end_kept n roster rows true = keeps_two n (rises rows) (passes_operating_round roster) (rises_kept n rows) (operating_kept n roster)
-end_kept n roster rows false = keeps_none n
+end_kept n rows true = keeps_two n (rises rows) (adds (E.Step M.Operating)) (rises_kept n rows) (keeps_step n M.Operating)
+end_kept n rows false = keeps_none n
 
-done_kept : (n : ℕ) (roster : Terms) (rows : List Row) (t : Situation) (s : Seat) → Keeps n (ends_turn roster rows t s)
+done_kept : (n : ℕ) (rows : List Row) (t : Situation) (s : Seat) → Keeps n (ends_turn rows t s)
 unfolding ends_turn
-done_kept n roster rows t s = keeps_two n (says (A.Done s)) (ends_if roster rows (ends_round t.progress)) (says_kept n (A.Done s)) (end_kept n roster rows (ends_round t.progress))
+done_kept n rows t s = keeps_two n (says (A.Done s)) (ends_if rows (ends_round t.progress)) (says_kept n (A.Done s)) (end_kept n rows (ends_round t.progress))
 
 presidency_paid : (n : ℕ) (rows : List Row) (s : Seat) (c : Corp) (m : ℕ) → s.0 < n → Settles n (debt_of s (2 * m)) no_debt (takes_presidency rows s c m)
 unfolding takes_presidency
@@ -189,29 +180,24 @@ purchase_covered t s c source lawful =
     not_below (t.money (P.Seat s)) (pos (share_price t c source)) last.0
 
 -- whatever command the rules of a stock round don't refuse
-goes_by_whole : (n : ℕ) (roster : Terms) (rows : List Row) (book : Book) (act : Act) → 0 < n → verdict rows book act ≡ None → IsSolvent n book → GoesOn n no_debt book (entries_of roster rows book act)
-goes_by_whole n roster rows book (A.Par s c m) some lawful h =
+pub goes_by_lawful : (n : ℕ) (rows : List Row) (book : Book) (act : Act) → 0 < n → verdict rows book act ≡ None → IsSolvent n book → GoesOn n no_debt book (entries_of rows book act)
+goes_by_lawful n rows book (A.Par s c m) some lawful h =
     let t = situation_of rows book in
     let parts = neither (turn_verdict t.progress s) (rules.par_verdict rows t s c m) lawful in
     let at = actor_there n some book s h.seated parts.0 in
     par_paid n rows t s c m at book (can_pay_debt n s (2 * m) book h (par_covered rows t s c m parts.1))
-goes_by_whole n roster rows book (A.BuyShare s c source) some lawful h =
+goes_by_lawful n rows book (A.BuyShare s c source) some lawful h =
     let t = situation_of rows book in
     let parts = neither (turn_verdict t.progress s) (rules.purchase_verdict t s c source) lawful in
     let at = actor_there n some book s h.seated parts.0 in
     purchase_paid n some t s c source at book (can_pay_debt n s (share_price t c source) book h (purchase_covered t s c source parts.1))
-goes_by_whole n roster rows book (A.Sell s c k) some lawful h =
+goes_by_lawful n rows book (A.Sell s c k) some lawful h =
     let t = situation_of rows book in
     let parts = neither (turn_verdict t.progress s) (rules.sale_verdict t s c k) lawful in
     sale_kept n some rows t s c k (actor_there n some book s h.seated parts.0) no_debt book (without_debt n book h)
-goes_by_whole n roster rows book (A.Swap s source) some lawful h =
+goes_by_lawful n rows book (A.Swap s source) some lawful h =
     let t = situation_of rows book in
     let parts = neither (turn_verdict t.progress s) (rules.swap_verdict t s source) lawful in
     swap_kept n some t s source (actor_there n some book s h.seated parts.0) no_debt book (without_debt n book h)
-goes_by_whole n roster rows book (A.Done s) some lawful h = done_kept n roster rows (situation_of rows book) s no_debt book (without_debt n book h)
-goes_by_whole n roster rows book _ some lawful h = absurd (cc)
-
--- with what follows on it
-pub goes_by_lawful : (n : ℕ) (roster : Terms) (rows : List Row) (book : Book) (act : Act) → 0 < n → verdict rows book act ≡ None → IsSolvent n book → GoesOn n no_debt book (sequence.entries_of roster rows book act)
-goes_by_lawful n roster rows book act some lawful h =
-    subst (GoesOn n no_debt book) (sym (entries_are_whole roster rows book act lawful)) (goes_by_whole n roster rows book act some lawful h)
+goes_by_lawful n rows book (A.Done s) some lawful h = done_kept n rows (situation_of rows book) s no_debt book (without_debt n book h)
+goes_by_lawful n rows book _ some lawful h = absurd (cc)

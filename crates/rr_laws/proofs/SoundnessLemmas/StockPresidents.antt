@@ -6,7 +6,6 @@ use Rattle.std.proofs.lemmas.Bool.{and_parts, false≢true, lt-ltb}
 use Rattle.std.proofs.lemmas.Bool.Decides.{nat_tests}
 use Rattle.rr_roster.specs.declared.company.Private.{Private}
 use Rattle.rr_roster.specs.declared.company.Corp.{Corp}
-use Rattle.rr_roster.specs.Terms.{Terms}
 use Rattle.rr_roster.specs.Chart.Chart.{Row}
 use Rattle.rr_books.specs.declared.parties.Seat.{Seat}
 use Rattle.rr_books.specs.declared.parties.Place.{Place}
@@ -25,15 +24,11 @@ use Rattle.rr_books.specs.State.{has_place}
 use Rattle.rr_shares.specs.Sales.{PresidentLeads}
 use Rattle.rr_market.specs.Marks.{par_of, price_of}
 use Rattle.rr_stock.specs.Rules.{verdict}
-use Rattle.rr_stock.specs.Effects.{buys_share, sells, sets_par, swaps}
-use Rattle.rr_laws.specs.Sequence.Whole as whole
-use Rattle.rr_laws.specs.Sequence.Whole.{ends_turn}
-use Rattle.rr_laws.specs.Sequence.Sequence.{entries_of}
-use Rattle.rr_laws.proofs.SequenceLemmas.Whole.{entries_are_whole}
-use Rattle.rr_laws.specs.Sequence.SoldShares.{LawfulSalesMoveShares}
+use Rattle.rr_stock.specs.Effects.{buys_share, ends_turn, entries_of, sells, sets_par, swaps}
+use Rattle.rr_stock.specs.SoldShares.{LawfulSalesMoveShares}
 use Rattle.rr_stock.specs.Situation.{Situation, situation_of}
 use Rattle.rr_laws.specs.Soundness.Presidencies.{AwaitsPar, IsGoverned, IsLed}
-use Rattle.rr_laws.specs.Soundness.Sound.{IsSolvent, is_placed, with_act}
+use Rattle.rr_laws.specs.Soundness.Sound.{IsSolvent, is_placed}
 use Rattle.rr_auction.specs.Dealt.{moves_within}
 use Rattle.rr_laws.proofs.SoundnessLemmas.StockActs.{goes_by_lawful}
 use Rattle.rr_laws.proofs.SoundnessLemmas.Untouched.{IsUntouched, awaits_still, awaiting, leads_still, same_is, spares_none}
@@ -69,43 +64,42 @@ led_with n book c b is none (inr led) = led
 headed : (n : ℕ) (book : Book) (c : Corp) → players book ≡ n → IsLed n book c → HasPresident n book c
 headed n book c same led = record { seat = led.seat; at_table = led.at_table; presides = led.presides; players = same }
 
--- the book once a command is taken down, told as one effect
-abbrev whole_act : Terms → List Row → Book → Act → Book
-whole_act roster rows book act = book ++ whole.entries_of roster rows book act
+-- the book once a command is taken down
+abbrev with_act : List Row → Book → Act → Book
+with_act rows book act = book ++ entries_of rows book act
 
-sale_leads : LawfulSalesMoveShares → (n : ℕ) (roster : Terms) (rows : List Row) (book : Book) (s : Seat) (c : Corp) (k : ℕ) → n ≤ 6 → verdict rows book (A.Sell s c k) ≡ None → players book ≡ n → IsLed n book c → PresidentLeads (whole_act roster rows book (A.Sell s c k)) c n
-sale_leads sales n roster rows book s c k few lawful same led =
-    let Led : ℕ → Type 0 = λ m. PresidentLeads (whole_act roster rows book (A.Sell s c k)) c m in
-    let Told : Book → Type 0 = λ es. PresidentLeads (book ++ es) c (players book) in
+sale_leads : LawfulSalesMoveShares → (n : ℕ) (rows : List Row) (book : Book) (s : Seat) (c : Corp) (k : ℕ) → n ≤ 6 → verdict rows book (A.Sell s c k) ≡ None → players book ≡ n → IsLed n book c → PresidentLeads (with_act rows book (A.Sell s c k)) c n
+sale_leads sales n rows book s c k few lawful same led =
+    let Led : ℕ → Type 0 = λ m. PresidentLeads (with_act rows book (A.Sell s c k)) c m in
     let at = led.at_table in
-    let sold = sales roster rows book led.seat s c k lawful led.presides (omega arith) (omega arith) in
-    subst Led same (subst Told (entries_are_whole roster rows book (A.Sell s c k) lawful) sold.1)
+    let sold = sales rows book led.seat s c k lawful led.presides (omega arith) (omega arith) in
+    subst Led same sold.1
 
 swap_left : (n : ℕ) (t : Situation) (s : Seat) (source : ShareSource) (book : Book) → n ≤ 6 → players book ≡ n → is_at (holder book (C.Private Private.Mh)) (L.Seat s) ≡ true → AwaitsPar book Corp.Nyc ⊎ IsLed n book Corp.Nyc → LedOrAwaits n (book ++ swaps t s source book) Corp.Nyc
 swap_left n t s source book few same has (inl awaits) = inl (swap_awaits t s source book has awaits)
 swap_left n t s source book few same has (inr led) = inr (swap_leads n t s source book few (headed n book Corp.Nyc same led))
 
-act_leaves : LawfulSalesMoveShares → (n : ℕ) (roster : Terms) (rows : List Row) (book : Book) (act : Act) → n ≤ 6 → verdict rows book act ≡ None → players book ≡ n → IsGoverned n book → (c : Corp) → LedOrAwaits n (whole_act roster rows book act) c
-act_leaves sales n roster rows book (A.Par s d m) few lawful same h c =
+act_leaves : LawfulSalesMoveShares → (n : ℕ) (rows : List Row) (book : Book) (act : Act) → n ≤ 6 → verdict rows book act ≡ None → players book ≡ n → IsGoverned n book → (c : Corp) → LedOrAwaits n (with_act rows book act) c
+act_leaves sales n rows book (A.Par s d m) few lawful same h c =
     let t = situation_of rows book in
     let awaits = awaiting n book d (h d) (par_offered rows book s d m lawful) in
     each_of n c d book (book ++ sets_par rows t s d m book) (h c) (λ apart. par_spares c d rows t s m apart book) (inr (par_leads n rows t s d m book awaits))
-act_leaves sales n roster rows book (A.BuyShare s d source) few lawful same h c =
+act_leaves sales n rows book (A.BuyShare s d source) few lawful same h c =
     let t = situation_of rows book in
     let led = led_with n book d (is_some (par_of rows book d)) (purchase_priced rows book s d source lawful) (λ awaits. parless rows book d awaits) (h d) in
     each_of n c d book (book ++ buys_share t s d source book) (h c) (λ apart. purchase_spares c d t s source apart book) (inr (purchase_leads n t s d source book few (headed n book d same led)))
-act_leaves sales n roster rows book (A.Sell s d k) few lawful same h c =
+act_leaves sales n rows book (A.Sell s d k) few lawful same h c =
     let t = situation_of rows book in
     let led = led_with n book d (is_some (price_of rows book d)) (sale_priced rows book s d k lawful) (λ awaits. unpriced rows book d awaits) (h d) in
-    each_of n c d book (book ++ sells rows t s d k book) (h c) (λ apart. sale_spares c d rows t s k apart book) (inr (sale_leads sales n roster rows book s d k few lawful same led))
-act_leaves sales n roster rows book (A.Swap s source) few lawful same h c =
+    each_of n c d book (book ++ sells rows t s d k book) (h c) (λ apart. sale_spares c d rows t s k apart book) (inr (sale_leads sales n rows book s d k few lawful same led))
+act_leaves sales n rows book (A.Swap s source) few lawful same h c =
     let t = situation_of rows book in
     each_of n c Corp.Nyc book (book ++ swaps t s source book) (h c) (λ apart. swap_spares c t s source apart book)
     (swap_left n t s source book few same (swap_owned rows book s source lawful) (h Corp.Nyc))
-act_leaves sales n roster rows book (A.Done s) few lawful same h c =
+act_leaves sales n rows book (A.Done s) few lawful same h c =
     let t = situation_of rows book in
-    left_alone n c book (book ++ ends_turn roster rows t s book) (done_spares c roster rows t s book) (h c)
-act_leaves sales n roster rows book _ few lawful same h c = left_alone n c book (book ++ []) (spares_none c book) (h c)
+    left_alone n c book (book ++ ends_turn rows t s book) (done_spares c rows t s book) (h c)
+act_leaves sales n rows book _ few lawful same h c = left_alone n c book (book ++ []) (spares_none c book) (h c)
 
 -- a certificate keeps a place of the table
 either_placed : (n : ℕ) (b : Bool) (to : Place) (x : Option Place) → has_place n to ≡ true → is_placed n x ≡ true → is_placed n (cond b (Some to) x) ≡ true
@@ -142,11 +136,9 @@ seated_after n book c placed (inr led) =
     })
 
 -- each lawful command of a stock round
-pub governed_by_command : LawfulSalesMoveShares → (n : ℕ) (roster : Terms) (rows : List Row) (book : Book) (act : Act) → 0 < n → n ≤ 6 → verdict rows book act ≡ None → IsSolvent n book → IsGoverned n book → IsGoverned n (with_act roster rows book act)
-governed_by_command sales n roster rows book act some few lawful solvent h c =
-    let es = entries_of roster rows book act in
-    let on = goes_by_lawful n roster rows book act some lawful solvent in
+pub governed_by_command : LawfulSalesMoveShares → (n : ℕ) (rows : List Row) (book : Book) (act : Act) → 0 < n → n ≤ 6 → verdict rows book act ≡ None → IsSolvent n book → IsGoverned n book → IsGoverned n (with_act rows book act)
+governed_by_command sales n rows book act some few lawful solvent h c =
+    let es = entries_of rows book act in
+    let on = goes_by_lawful n rows book act some lawful solvent in
     let placed = placed_after n (C.President c) es book on.within (placed_before n book c (h c)) in
-    let Left : Book → Type 0 = λ added. LedOrAwaits n (book ++ added) c in
-    let left = subst Left (sym (entries_are_whole roster rows book act lawful)) (act_leaves sales n roster rows book act few lawful solvent.seated h c) in
-    seated_after n (book ++ es) c placed left
+    seated_after n (book ++ es) c placed (act_leaves sales n rows book act few lawful solvent.seated h c)

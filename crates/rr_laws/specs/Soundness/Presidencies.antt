@@ -1,5 +1,5 @@
 -- Nobody has more of a corporation than its president.
-use Rattle.std.specs.Prelude.{◌≡◌, ℕ, ◌+◌, ◌<◌, ◌≤◌, ◌⊎◌, true, None, Some, is_some, List, length, if◌then◌else◌}
+use Rattle.std.specs.Prelude.{◌≡◌, ℕ, ◌+◌, ◌<◌, ◌≤◌, ◌++◌, ◌⊎◌, true, None, Some, is_some, List, length, if◌then◌else◌}
 use Rattle.rr_roster.specs.declared.company.Private.{Private}
 use Rattle.rr_roster.specs.declared.company.Corp.{Corp}
 use Rattle.rr_roster.specs.Terms.{Terms, IsOrder, order_of}
@@ -16,9 +16,9 @@ use Rattle.rr_auction.specs.Opening.{opened}
 use Rattle.rr_rounds.specs.Bids.Progress.{progress}
 use Rattle.rr_auction.specs.SoundMoney as auctions
 use Rattle.rr_rounds.specs.Bids.Unsold.{is_unsold}
+use Rattle.rr_stock.specs.Effects.{entries_of}
 use Rattle.rr_stock.specs.Rules.{verdict}
-use Rattle.rr_laws.specs.Soundness.Play.{auctioned}
-use Rattle.rr_laws.specs.Soundness.Sound.{AreLawful, IsSolvent, with_act, with_acts}
+use Rattle.rr_laws.specs.Soundness.Sound.{IsSolvent}
 
 -- the corporation's 20% certificate is in the offering
 abbrev pub IsOffered : Book → Corp → Type 0
@@ -65,23 +65,14 @@ abbrev pub AuctionStaysGoverned : Type 0
 AuctionStaysGoverned =
     (roster : Terms) (rows : List Row) (names : List (List ℕ)) (bids : List Act) → IsOrder (order_of roster) → 2 ≤ length names
     → auctions.AreLawful roster rows (opened names roster) bids
-    → IsGovernedInAuction (length names) (auctioned roster rows names bids)
+    → IsGovernedInAuction (length names) (auctions.with_acts roster rows (opened names roster) bids)
 
 -- a solvent table of six at most stays governed with each lawful command of a stock round
 abbrev pub StockStaysGoverned : Type 0
 StockStaysGoverned =
-    (n : ℕ) (roster : Terms) (rows : List Row) (book : Book) (act : Act) → 0 < n → n ≤ 6 → verdict rows book act ≡ None
-    → IsSolvent n book → IsGoverned n book → IsGoverned n (with_act roster rows book act)
+    (n : ℕ) (rows : List Row) (book : Book) (act : Act) → 0 < n → n ≤ 6 → verdict rows book act ≡ None
+    → IsSolvent n book → IsGoverned n book → IsGoverned n (book ++ entries_of rows book act)
 
 -- where it is governed, nobody has more of a corporation than its president
 abbrev pub GovernedHasGreatestPresidents : Type 0
 GovernedHasGreatestPresidents = (n : ℕ) (book : Book) → IsGoverned n book → HasGreatestPresidents n book
-
--- in a play from the opening on, at a table of two to six, nobody has more of a corporation than its president, whatever
--- lawful acts the auction took and whatever lawful commands of stock rounds followed
-abbrev pub PresidentsStayGreatest : Type 0
-PresidentsStayGreatest =
-    (roster : Terms) (rows : List Row) (names : List (List ℕ)) (bids trades : List Act)
-    → IsOrder (order_of roster) → 2 ≤ length names → length names ≤ 6
-    → auctions.AreLawful roster rows (opened names roster) bids → AreLawful roster rows (auctioned roster rows names bids) trades
-    → HasGreatestPresidents (length names) (with_acts roster rows (auctioned roster rows names bids) trades)

@@ -1,10 +1,9 @@
 //! Laws of the definitions, each the contract of a function that does nothing.
 ghost use Rattle.rr_laws.specs.Soundness.GoodOrder.{GoodOrderHasGreatestPresidents};
-ghost use Rattle.rr_laws.specs.Soundness.Play.{AuctionStaysWithinHalf, MoneyStaysAlongPlays, PoolStaysWithinHalfAlongPlays, SoundAlongPlays};
-ghost use Rattle.rr_laws.specs.Soundness.Presidencies.{AuctionStaysGoverned, GovernedHasGreatestPresidents, PresidentsStayGreatest, StockStaysGoverned};
+ghost use Rattle.rr_laws.specs.Soundness.Presidencies.{AuctionStaysGoverned, GovernedHasGreatestPresidents, StockStaysGoverned};
 ghost use Rattle.rr_laws.specs.Soundness.Priority.{FirstTurnIsOfPriority, PriorityIsOne};
 ghost use Rattle.rr_laws.specs.Soundness.Seating.{TurnIsAtTheTable};
-ghost use Rattle.rr_laws.specs.Soundness.Sound.{StockRoundsStaySound, StockStaysDealt, StockStaysSolvent};
+ghost use Rattle.rr_laws.specs.Soundness.Sound.{AuctionStaysWithinHalf, StockStaysDealt, StockStaysSolvent, StockStaysSound};
 
 /// Whatever the book, the seat in turn in a stock round and the seat with priority sit at the table.
 pub fn turn_is_at_the_table()
@@ -21,44 +20,18 @@ pub fn stock_stays_dealt()
     ensures { StockStaysDealt }
 {}
 
-/// Whatever lawful commands of stock rounds are played on a sound book, it stays sound: nobody but the bank has less
+/// Whatever lawful command of a stock round is played on a sound book, it stays sound: nobody but the bank has less
 /// than nothing, each certificate has a place of the table, and the pool has at most half of each corporation.
-pub fn stock_rounds_stay_sound()
-    ensures { StockRoundsStaySound }
+pub fn stock_stays_sound()
+    ensures { StockStaysSound }
 {
-    crate::sequence::laws::pool_stays_within_half();
+    rr_stock::laws::pool_stays_within_half();
 }
 
 /// Where the pool has at most half of each corporation, it has at most half of each after whatever act of the auction.
 pub fn auction_stays_within_half()
     ensures { AuctionStaysWithinHalf }
 {}
-
-/// At a table of two players or more, whatever lawful acts the auction takes and whatever lawful commands of stock
-/// rounds follow, bank, seats and corporations go on having together what the bank began with, and only the bank may
-/// have less than nothing.
-pub fn money_stays_along_plays()
-    ensures { MoneyStaysAlongPlays }
-{
-    rr_books::laws::money_is_kept();
-}
-
-/// From the opening of a table on, the pool never has more than half of a corporation, whatever acts the auction took
-/// and whatever lawful commands of stock rounds followed.
-pub fn pool_stays_within_half_along_plays()
-    ensures { PoolStaysWithinHalfAlongPlays }
-{
-    crate::sequence::laws::pool_stays_within_half();
-}
-
-/// At a table of two players or more, whose roster names each corporation, the book is sound from the opening on,
-/// whatever lawful acts the auction takes and whatever lawful commands of stock rounds follow: nobody but the bank has
-/// less than nothing, each certificate has a place of the table, and the pool has at most half of each corporation.
-pub fn sound_along_plays()
-    ensures { SoundAlongPlays }
-{
-    crate::sequence::laws::pool_stays_within_half();
-}
 
 /// From the opening of a table on, whatever lawful acts the auction takes, each corporation awaits its par, with no
 /// more than 20% of it at any seat, or is led by its president.
@@ -71,7 +44,7 @@ pub fn auction_stays_governed()
 pub fn stock_stays_governed()
     ensures { StockStaysGoverned }
 {
-    crate::sequence::laws::lawful_sales_move_shares();
+    rr_stock::laws::lawful_sales_move_shares();
 }
 
 /// Where each corporation awaits its par or is led by its president, each 20% certificate is in the offering, or with a
@@ -79,15 +52,6 @@ pub fn stock_stays_governed()
 pub fn governed_has_greatest_presidents()
     ensures { GovernedHasGreatestPresidents }
 {}
-
-/// From the opening of a table of two to six on, whatever lawful acts the auction takes and whatever lawful commands of
-/// stock rounds follow, each 20% certificate is in the offering, or with a player than whom no other holds more of that
-/// corporation.
-pub fn presidents_stay_greatest()
-    ensures { PresidentsStayGreatest }
-{
-    crate::sequence::laws::lawful_sales_move_shares();
-}
 
 /// The auction and the stock rounds name one and the same seat for priority until the first stock round begins, and in
 /// it until the first purchase or sale.

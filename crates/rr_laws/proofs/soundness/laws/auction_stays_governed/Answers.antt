@@ -1,7 +1,7 @@
 use Rattle.std.specs.Prelude.{length}
 use Rattle.rr_auction.specs.Opening.{opened}
 use Rattle.rr_auction.proofs.OpenedTable.{covered_opened}
-use Rattle.rr_laws.proofs.SoundnessLemmas.PresidentPlays.{governed_at_first, governed_by_bids}
+use Rattle.rr_laws.proofs.SoundnessLemmas.PresidentsGoverned.{governed_at_first, governed_by_bids}
 use Rattle.rr_laws.proofs.soundness.laws.auction_stays_governed.Goals as goal
 
 pub returns : goal.returns

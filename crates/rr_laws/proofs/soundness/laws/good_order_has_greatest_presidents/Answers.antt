@@ -1,4 +1,4 @@
-use Rattle.rr_laws.proofs.SoundnessLemmas.PresidentPlays.{greatest_where_governed}
+use Rattle.rr_laws.proofs.SoundnessLemmas.PresidentsGoverned.{greatest_where_governed}
 use Rattle.rr_laws.proofs.soundness.laws.good_order_has_greatest_presidents.Goals as goal
 
 pub returns : goal.returns

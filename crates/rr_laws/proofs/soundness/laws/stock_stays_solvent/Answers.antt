@@ -3,4 +3,4 @@ use Rattle.rr_laws.proofs.SoundnessLemmas.StockActs.{goes_by_lawful}
 use Rattle.rr_laws.proofs.soundness.laws.stock_stays_solvent.Goals as goal
 
 pub returns : goal.returns
-returns c n roster rows book act some lawful h = solvent_without_debt n _ (goes_by_lawful n roster rows book act some lawful h).later
+returns c n rows book act some lawful h = solvent_without_debt n _ (goes_by_lawful n rows book act some lawful h).later

@@ -1,10 +1,9 @@
--- Presidents along a whole play.
-use Rattle.std.specs.Prelude.{◌≡◌, ℕ, ◌<◌, ◌≤◌, ℤ, pos, ◌≤ℤ◌, Bool, true, false, cond, ◌⊎◌, List, [], ◌∷◌, ◌++◌, Option, None, Some, fold, is_some, length, map, refl}
+-- Presidents as a table opens, and through the auction.
+use Rattle.std.specs.Prelude.{◌≡◌, ℕ, ◌≤◌, Bool, true, false, cond, ◌⊎◌, List, [], ◌∷◌, ◌++◌, Option, None, Some, fold, is_some, length, map, refl}
 use Rattle.std.specs.List.{flat_map, range_with_len}
 use Rattle.std.proofs.Common.{sym, ◌∙◌, ap, arith, inl, inr}
 use Rattle.std.proofs.Math.Path.{fun_ext}
 use Rattle.std.proofs.lemmas.Bool.{false≢true}
-use Rattle.std.proofs.lemmas.Int.{ints}
 use Rattle.std.proofs.lemmas.List.Sums.{fold-append}
 use Rattle.rr_roster.specs.declared.company.Private.{Private}
 use Rattle.rr_roster.specs.declared.company.Corp.{Corp}
@@ -30,13 +29,8 @@ use Rattle.rr_rounds.specs.Bids.Progress.{Progress, beginning, progress}
 use Rattle.rr_auction.specs.SoundMoney as auctions
 use Rattle.rr_auction.proofs.Covers.{IsCoveredBook}
 use Rattle.rr_auction.proofs.Openings.{begins}
-use Rattle.rr_laws.specs.Sequence.SoldShares.{LawfulSalesMoveShares}
 use Rattle.rr_laws.specs.Soundness.Presidencies.{AwaitsPar, HasGreatestPresidents, IsGoverned, IsGovernedInAuction, IsLed, IsOffered, promised}
-use Rattle.rr_laws.specs.Soundness.Sound.{AreLawful, IsSolvent, with_acts}
 use Rattle.rr_laws.proofs.SoundnessLemmas.AuctionPresidents.{covered_by_act, governed_by_act}
-use Rattle.rr_laws.proofs.SoundnessLemmas.Going.{solvent_without_debt}
-use Rattle.rr_laws.proofs.SoundnessLemmas.StockActs.{goes_by_lawful}
-use Rattle.rr_laws.proofs.SoundnessLemmas.StockPresidents.{governed_by_command}
 
 -- at the opening each certificate is in the offering
 pub offered_at_first : (names : List (List ℕ)) (roster : Terms) (cert : Cert) → IsOrder (order_of roster) → holder (opened names roster) cert ≡ Some L.Offer
@@ -117,16 +111,6 @@ governed_by_bids n roster rows [] book lawful covered h = (covered, h)
 governed_by_bids n roster rows (act ∷ bids) book lawful covered h =
     governed_by_bids n roster rows bids (auctions.with_act roster rows book act) lawful.1 (covered_by_act n roster rows book act lawful.0 covered)
     (governed_by_act n roster rows book act lawful.0 covered h)
-
-no_less : (m : ℕ) (cash : ℤ) → pos m ≤ℤ cash → pos 0 ≤ℤ cash
-no_less m cash h = omega (arith, ints)
-
--- and whatever lawful commands of stock rounds follow
-pub governed_by_trades : LawfulSalesMoveShares → (n : ℕ) (roster : Terms) (rows : List Row) (trades : List Act) (book : Book) → 0 < n → n ≤ 6 → AreLawful roster rows book trades → IsSolvent n book → IsGoverned n book → IsGoverned n (with_acts roster rows book trades)
-governed_by_trades sales n roster rows [] book some few lawful solvent h = h
-governed_by_trades sales n roster rows (act ∷ trades) book some few lawful solvent h =
-    let on = goes_by_lawful n roster rows book act some lawful.0 solvent in
-    governed_by_trades sales n roster rows trades _ some few lawful.1 (solvent_without_debt n _ on.later) (governed_by_command sales n roster rows book act some few lawful.0 solvent h)
 
 -- nobody has more than the president
 greatest : (n : ℕ) (book : Book) (c : Corp) → AwaitsPar book c ⊎ IsLed n book c → IsOffered book c ⊎ IsLed n book c
