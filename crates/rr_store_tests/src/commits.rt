@@ -1,97 +1,65 @@
 //! Commits and refusals, and what is opened again.
-use crate::files::{
-    Row, Standing, State, checkpoint, commit, content, disk_of, disk_with, failing_after,
-    first_other, is_broken, is_named, is_nameless, new_store, opened, played_store, replayed,
-    standing, state, tick,
-};
+use crate::calls::{Call, check_calls};
+use crate::files::{check_file, disk_of, failing_after, new_store, played_file, with_bytes};
 use rr_disk::{FaultyDisk, MemoryDisk};
-use rr_store::{Fault, Store};
-use std::alloc::Global;
-use std::test::Fail;
+use rr_store::Fault;
+use std::process::Abort;
 
-const ROWS: [Row; 9] = [
-    (0, b"t1 open a b", Ok(1)),
-    (1, b"t1 buy a", Ok(2)),
-    (1, b"t1 pass b", Err(Fault::StaleStamp(2))),
-    (0, b"t1 open a b", Err(Fault::StaleStamp(2))),
-    (1, b"t2 open a b", Err(Fault::StaleStamp(0))),
-    (1, b"t2 pass a", Err(Fault::NoSuchTable)),
-    (
+static COMMITS: [Call; 10] = [
+    Call::Commit(0, b"t1 open a b", Ok(1)),
+    Call::Commit(1, b"t1 buy a", Ok(2)),
+    Call::Commit(1, b"t1 pass b", Err(Fault::StaleStamp(2))),
+    Call::Commit(0, b"t1 open a b", Err(Fault::StaleStamp(2))),
+    Call::Commit(1, b"t2 open a b", Err(Fault::StaleStamp(0))),
+    Call::Commit(1, b"t2 pass a", Err(Fault::NoSuchTable)),
+    Call::Commit(
         2,
         b"t1 pass c",
         Err(Fault::Game(rr_books::Refusal::NoSuchName)),
     ),
-    (2, b"t1 back 2", Err(Fault::TurnNotKept)),
-    (0, b"t2 open c d e", Ok(1)),
+    Call::Commit(2, b"t1 back 2", Err(Fault::TurnNotKept)),
+    Call::Commit(0, b"t2 open c d e", Ok(1)),
+    Call::Trade(800),
 ];
 
-// What a store of the two tables tells, and whether they have their names and no third one is there.
-type Told = (State, Standing, Standing, bool);
-
-fn two_tables(store: &Store<MemoryDisk>) -> Result<Told, Fault> {
-    let named = is_named(store, 0, b"t1") && is_named(store, 1, b"t2") && is_nameless(store, 2)?;
-    Ok((
-        state(store)?,
-        standing(store, b"t1")?,
-        standing(store, b"t2")?,
-        named,
-    ))
-}
-
-// The place of the first row that ends otherwise, what a store tells behind the rows and once it is opened again, and
-// the trade of the kit's diesel.
-type Kept = (Option<usize>, Result<Told, Fault>, Result<Told, Fault>, u16);
-
-fn kept(alloc: Global) -> Result<Kept, Fail> {
-    let mut store = new_store(alloc)?;
-    let other = first_other(&mut store, &ROWS);
-    let (told, trade) = (two_tables(&store), trade(&store));
-    let again = opened(alloc, disk_of(store))?;
-    Ok((other, told, two_tables(&again), trade))
-}
-
-fn trade(store: &Store<MemoryDisk>) -> u16 {
-    store.kit().roster().trade()
-}
+// What a store tells behind them, and once it is opened again.
+static TWO_TABLES: [Call; 6] = [
+    Call::State(Ok((2, 3, 0))),
+    Call::Stands(b"t1", Ok((2, 0, 1, 2))),
+    Call::Stands(b"t2", Ok((1, 0, 0, 1))),
+    Call::NameAt(0, Some(b"t1")),
+    Call::NameAt(1, Some(b"t2")),
+    Call::NameAt(2, None),
+];
 
 #[test]
-fn what_is_accepted_is_opened_again(rt: HostRuntime) -> Result<(), Fail> {
-    let whole = Ok(((2, 3, 0), (2, 0, 1, 2), (1, 0, 0, 1), true));
-    assert!(rt; kept(rt.alloc())? == (None, whole, whole, 800));
-    Ok(())
+fn what_is_accepted_is_opened_again(rt: HostRuntime) {
+    let rt = &rt;
+    let mut store = new_store(rt);
+    check_calls(rt, &mut store, &COMMITS);
+    check_calls(rt, &mut store, &TWO_TABLES);
+    check_file(rt, disk_of(store), &TWO_TABLES);
 }
+
+// What is told of the table that is taken back, and once the file is opened again behind a checkpoint.
+const TAKEN_BACK: Call = Call::Stands(b"t1", Ok((6, 1, 2, 3)));
 
 // Three turns have ended, and the table is taken back to the second, and the ends of those before the first forgotten.
-const BACK: [Row; 6] = [
-    (2, b"t1 pass b", Ok(3)),
-    (3, b"t1 pass a", Ok(4)),
-    (4, b"t1 back 2", Ok(5)),
-    (5, b"t1 forget 1", Ok(6)),
-    (6, b"t1 back 0", Err(Fault::TurnNotKept)),
-    (6, b"t1 back 3", Err(Fault::TurnNotKept)),
+static BACK: [Call; 8] = [
+    Call::Commit(2, b"t1 pass b", Ok(3)),
+    Call::Commit(3, b"t1 pass a", Ok(4)),
+    Call::Commit(4, b"t1 back 2", Ok(5)),
+    Call::Commit(5, b"t1 forget 1", Ok(6)),
+    Call::Commit(6, b"t1 back 0", Err(Fault::TurnNotKept)),
+    Call::Commit(6, b"t1 back 3", Err(Fault::TurnNotKept)),
+    TAKEN_BACK,
+    Call::Checkpoint,
 ];
 
-// The first row that ends otherwise, what is told behind the rows, and how a checkpoint ends then.
-type Back = (Option<usize>, Result<Standing, Fault>, Result<(), Fault>);
-
-fn take_back(store: &mut Store<MemoryDisk>) -> Back {
-    let other = first_other(store, &BACK);
-    (other, standing(store, b"t1"), checkpoint(store))
-}
-
-// The same, and what is told once the file is opened again.
-fn taken_back(alloc: Global) -> Result<(Back, Result<Standing, Fault>), Fail> {
-    let mut store = played_store(alloc)?;
-    let back = take_back(&mut store);
-    let again = opened(alloc, disk_of(store))?;
-    Ok((back, standing(&again, b"t1")))
-}
-
 #[test]
-fn back_and_forget_outlast_a_checkpoint(rt: HostRuntime) -> Result<(), Fail> {
-    let stands = Ok((6, 1, 2, 3));
-    assert!(rt; taken_back(rt.alloc())? == ((None, stands, Ok(())), stands));
-    Ok(())
+fn back_and_forget_outlast_a_checkpoint(rt: HostRuntime) {
+    let rt = &rt;
+    check_file(rt, played_file(rt, &BACK), &[TAKEN_BACK]);
 }
 
 // The calls of an opening of a file with two records: a sync, and reads of both roots, of the front and the bytes of
@@ -99,50 +67,36 @@ fn back_and_forget_outlast_a_checkpoint(rt: HostRuntime) -> Result<(), Fail> {
 // half.
 const OPENING: u64 = 19;
 
-// Whether a store is broken, how a commit and then each call ends, whether it is broken then, and how many commands its
-// opening played.
-type Ends = (bool, [Option<Fault>; 4], bool, u64);
-
-fn ends(store: &mut Store<FaultyDisk<MemoryDisk>>) -> Ends {
-    let before = is_broken(store);
-    let ends = [
-        commit(store, 2, b"t1 pass b").err(),
-        commit(store, 2, b"t1 pass b").err(),
-        tick(store).err(),
-        state(store).err(),
-    ];
-    (before, ends, is_broken(store), replayed(store))
-}
-
 // A disk whose device fails at the first call behind the opening.
-fn failing_disk(alloc: Global) -> Result<FaultyDisk<MemoryDisk>, Fail> {
-    let disk = disk_of(played_store(alloc)?);
-    Ok(failing_after(disk_with(alloc, content(&disk))?, OPENING))
+fn failing_disk(rt: &(impl Abort + AllocGlobal)) -> FaultyDisk<MemoryDisk> {
+    failing_after(with_bytes(rt, &played_file(rt, &[]), &[]), OPENING)
 }
 
-fn broken(alloc: Global) -> Result<Ends, Fail> {
-    let mut store = opened(alloc, failing_disk(alloc)?)?;
-    Ok(ends(&mut store))
-}
-
-#[test]
-fn a_store_whose_device_failed_is_to_be_opened_again(rt: HostRuntime) -> Result<(), Fail> {
-    let again = Some(Fault::OpenAgain);
-    let ends = [Some(Fault::DeviceFailed), again, again, again];
-    assert!(rt; broken(rt.alloc())? == (false, ends, true, 1));
-    Ok(())
-}
-
-// How many commands a store tells that its opening played, before and behind a commit that is taken.
-fn counted_around_a_commit(alloc: Global) -> Result<(u64, bool, u64), Fail> {
-    let mut store = opened(alloc, disk_of(played_store(alloc)?))?;
-    let before = replayed(&store);
-    let taken = commit(&mut store, 2, b"t1 pass b").is_ok();
-    Ok((before, taken, replayed(&store)))
-}
+// The first commit meets the failure. A broken store still tells how many commands its opening played.
+static FAILURE: [Call; 7] = [
+    Call::IsBroken(false),
+    Call::Commit(2, b"t1 pass b", Err(Fault::DeviceFailed)),
+    Call::Commit(2, b"t1 pass b", Err(Fault::OpenAgain)),
+    Call::Tick(Err(Fault::OpenAgain)),
+    Call::State(Err(Fault::OpenAgain)),
+    Call::IsBroken(true),
+    Call::Replayed(1),
+];
 
 #[test]
-fn a_commit_leaves_what_the_opening_played(rt: HostRuntime) -> Result<(), Fail> {
-    assert!(rt; counted_around_a_commit(rt.alloc())? == (1, true, 1));
-    Ok(())
+fn a_store_whose_device_failed_is_to_be_opened_again(rt: HostRuntime) {
+    let rt = &rt;
+    check_file(rt, failing_disk(rt), &FAILURE);
+}
+
+static AROUND_A_COMMIT: [Call; 3] = [
+    Call::Replayed(1),
+    Call::Commit(2, b"t1 pass b", Ok(3)),
+    Call::Replayed(1),
+];
+
+#[test]
+fn a_commit_leaves_what_the_opening_played(rt: HostRuntime) {
+    let rt = &rt;
+    check_file(rt, played_file(rt, &[]), &AROUND_A_COMMIT);
 }

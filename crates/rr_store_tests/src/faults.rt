@@ -1,10 +1,8 @@
 //! The texts of faults, and the numbers of the clauses of damage.
 use rr_pages::Damage;
 use rr_store::Fault;
-use std::alloc::Global;
-use std::test::Fail;
 
-const TEXTS: [(Fault, &str); 14] = [
+static TEXTS: [(Fault, &str); 14] = [
     (Fault::Kit(rr_kit::Fault::BadRoster), "bad roster"),
     (Fault::Game(rr_books::Refusal::GameOver), "game is over"),
     (Fault::StaleStamp(7), "stale stamp 7"),
@@ -21,16 +19,6 @@ const TEXTS: [(Fault, &str); 14] = [
     (Fault::OutOfMemory, "out of memory"),
 ];
 
-// The text of the first fault that has another one than it is to have.
-fn unlike(alloc: Global) -> Result<Option<&'static str>, Fail> {
-    for (fault, text) in TEXTS {
-        if fault.to_string(alloc)?.as_str() != text {
-            return Ok(Some(text));
-        }
-    }
-    Ok(None)
-}
-
 // The numbers of the clauses that only what stands above the file finds broken, behind that of its form.
 fn clauses() -> [u8; 4] {
     [
@@ -42,8 +30,10 @@ fn clauses() -> [u8; 4] {
 }
 
 #[test]
-fn faults_have_texts(rt: HostRuntime) -> Result<(), Fail> {
-    assert!(rt; unlike(rt.alloc())? == None);
+fn faults_have_texts(rt: HostRuntime) {
+    let rt = &rt;
+    for (fault, text) in TEXTS.iter() {
+        assert!(rt; fault.to_string(rt.alloc()).expect(rt, "memory").as_str() == *text);
+    }
     assert!(rt; clauses() == [5, 6, 7, 8]);
-    Ok(())
 }

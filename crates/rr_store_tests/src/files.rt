@@ -1,11 +1,10 @@
-//! Files in memory and the stores on them, by calls without their contracts, so that what a test does costs its proof
+//! Files in memory, and the stores on them. The functions have no contracts, so that what a test does costs its proof
 //! little.
-use rr_code::read_record;
+use crate::calls::{Call, check_calls};
 use rr_disk::{Disk, FaultyDisk, MemoryDisk};
-use rr_store::{Fault, Refused, Store, Table, Texts, Tick, format, open};
-use rr_words::Name;
+use rr_store::{Fault, Refused, Store, Texts, format, open};
 use std::alloc::Global;
-use std::test::Fail;
+use std::process::Abort;
 
 // The byte at which slot 0 of the second half begins.
 pub(crate) const FAR: u64 = 1_056_768;
@@ -40,32 +39,49 @@ fn texts() -> Texts<'static> {
     }
 }
 
-fn format_with(alloc: Global, disk: &mut MemoryDisk, texts: Texts<'_>) -> Result<(), Fault> {
-    format(alloc, disk, texts)
-}
-
-pub(crate) fn make(alloc: Global, disk: &mut MemoryDisk) -> Result<(), Fault> {
-    format_with(alloc, disk, texts())
+fn format_new(alloc: Global, disk: &mut MemoryDisk) -> Result<(), Fault> {
+    format(alloc, disk, texts())
 }
 
 // A new file: four texts on pages 514 to 517, and an empty directory on page 518.
-pub(crate) fn new_file(alloc: Global) -> Result<MemoryDisk, Fail> {
-    let mut disk = MemoryDisk::new(alloc, ROOM)?;
-    make(alloc, &mut disk)?;
-    Ok(disk)
+pub(crate) fn new_file(rt: &(impl Abort + AllocGlobal)) -> MemoryDisk {
+    let mut disk = MemoryDisk::new(rt.alloc(), ROOM).expect(rt, "memory");
+    format_new(rt.alloc(), &mut disk).expect(rt, "room");
+    disk
 }
 
+// Bytes, and the place where they are written.
+pub(crate) type Bytes<'a> = (u64, &'a [u8]);
+
 // A disk with these bytes, all of them settled, that has seen no call.
-pub(crate) fn disk_with(alloc: Global, bytes: &[u8]) -> Result<MemoryDisk, rr_disk::Fault> {
+fn disk_with(alloc: Global, bytes: &[u8]) -> Result<MemoryDisk, rr_disk::Fault> {
     MemoryDisk::from_bytes(alloc, ROOM, bytes)
 }
 
-pub(crate) fn write(disk: &mut MemoryDisk, at: u64, bytes: &[u8]) -> Result<(), rr_disk::Fault> {
+fn write(disk: &mut MemoryDisk, at: u64, bytes: &[u8]) -> Result<(), rr_disk::Fault> {
     disk.write_at(at, bytes)
+}
+
+fn write_all(disk: &mut MemoryDisk, all: &[Bytes]) -> Result<(), rr_disk::Fault> {
+    for (at, bytes) in all {
+        write(disk, *at, bytes)?;
+    }
+    Ok(())
 }
 
 pub(crate) fn content(disk: &MemoryDisk) -> &[u8] {
     disk.content()
+}
+
+// A copy of a file with other bytes at some places.
+pub(crate) fn with_bytes(
+    rt: &(impl Abort + AllocGlobal),
+    file: &MemoryDisk,
+    other: &[Bytes],
+) -> MemoryDisk {
+    let mut disk = disk_with(rt.alloc(), content(file)).expect(rt, "room");
+    write_all(&mut disk, other).expect(rt, "room");
+    disk
 }
 
 pub(crate) fn failing_after(disk: MemoryDisk, calls: u64) -> FaultyDisk<MemoryDisk> {
@@ -83,122 +99,43 @@ pub(crate) fn opened<D: Disk + Drop>(alloc: Global, disk: D) -> Result<Store<D>,
     }
 }
 
-pub(crate) fn new_store(alloc: Global) -> Result<Store<MemoryDisk>, Fail> {
-    let store = opened(alloc, new_file(alloc)?)?;
-    Ok(store)
+pub(crate) fn open_store<D: Disk + Drop>(rt: &(impl Abort + AllocGlobal), disk: D) -> Store<D> {
+    opened(rt.alloc(), disk).expect(rt, "a file of a store")
+}
+
+pub(crate) fn new_store(rt: &(impl Abort + AllocGlobal)) -> Store<MemoryDisk> {
+    open_store(rt, new_file(rt))
 }
 
 pub(crate) fn disk_of<D: Disk + Drop>(store: Store<D>) -> D {
     store.into_disk()
 }
 
-// Commits the request of this record with this stamp.
-pub(crate) fn commit<D: Disk + Drop>(
-    store: &mut Store<D>,
-    stamp: u64,
-    record: &[u8],
-) -> Result<u64, Fault> {
-    let Ok((name, request)) = read_record(record) else {
-        return Err(Fault::OutOfMemory);
-    };
-    store.commit(&name, stamp, &request)
+// The file behind these calls, for which it is opened.
+pub(crate) fn file_behind<D: Disk + Drop>(
+    rt: &(impl Abort + AllocGlobal),
+    file: D,
+    calls: &[Call],
+) -> D {
+    let mut store = open_store(rt, file);
+    check_calls(rt, &mut store, calls);
+    disk_of(store)
 }
 
-pub(crate) fn tick<D: Disk + Drop>(store: &mut Store<D>) -> Result<Tick, Fault> {
-    store.tick()
+// Opens a file for these calls. It is let go here and in no test, so that this is proved once.
+pub(crate) fn check_file<D: Disk + Drop>(rt: &(impl Abort + AllocGlobal), file: D, calls: &[Call]) {
+    drop(file_behind(rt, file, calls));
 }
 
-pub(crate) fn checkpoint<D: Disk + Drop>(store: &mut Store<D>) -> Result<(), Fault> {
-    store.checkpoint()
-}
+static PLAYED: [Call; 2] = [
+    Call::Commit(0, b"t1 open a b", Ok(1)),
+    Call::Commit(1, b"t1 buy a", Ok(2)),
+];
 
-pub(crate) fn ticks_left<D: Disk + Drop>(store: &Store<D>) -> usize {
-    store.ticks_left()
-}
-
-pub(crate) fn is_broken<D: Disk + Drop>(store: &Store<D>) -> bool {
-    store.is_broken()
-}
-
-pub(crate) fn replayed<D: Disk + Drop>(store: &Store<D>) -> u64 {
-    store.replayed()
-}
-
-pub(crate) fn table_count<D: Disk + Drop>(store: &Store<D>) -> Result<usize, Fault> {
-    store.count()
-}
-
-pub(crate) fn last_number<D: Disk + Drop>(store: &Store<D>) -> Result<u64, Fault> {
-    store.last()
-}
-
-// A stamp, a record, and how its commit ends.
-pub(crate) type Row = (u64, &'static [u8], Result<u64, Fault>);
-
-// The place of the first commit that ends otherwise.
-pub(crate) fn first_other<D: Disk + Drop>(store: &mut Store<D>, rows: &[Row]) -> Option<usize> {
-    for (index, (stamp, record, end)) in rows.iter().enumerate() {
-        if commit(store, *stamp, record) != *end {
-            return Some(index);
-        }
-    }
-    None
-}
-
-// How many tables there are, the number of the last request, and how many ticks are left.
-pub(crate) type State = (usize, u64, usize);
-
-pub(crate) fn state<D: Disk + Drop>(store: &Store<D>) -> Result<State, Fault> {
-    Ok((table_count(store)?, last_number(store)?, ticks_left(store)))
-}
-
-// The stamp, the floor, the turns and the number of kept commands of a table.
-pub(crate) type Standing = (u64, u64, u64, usize);
-
-pub(crate) fn standing<D: Disk + Drop>(store: &Store<D>, word: &[u8]) -> Result<Standing, Fault> {
-    let Some(name) = Name::table(word) else {
-        return Err(Fault::OutOfMemory);
-    };
-    Ok(standing_of(table(store, &name)?))
-}
-
-pub(crate) fn table<'a, D: Disk + Drop>(
-    store: &'a Store<D>,
-    name: &Name,
-) -> Result<&'a Table, Fault> {
-    store.table(name)
-}
-
-fn standing_of(table: &Table) -> Standing {
-    (
-        table.stamp(),
-        table.floor(),
-        table.turns(),
-        table.commands().len(),
-    )
-}
-
-// Whether no table stands at this place.
-pub(crate) fn is_nameless<D: Disk + Drop>(store: &Store<D>, place: usize) -> Result<bool, Fault> {
-    let name = store.name(place)?;
-    Ok(name.is_none())
-}
-
-// Whether the table at this place has this name.
-pub(crate) fn is_named<D: Disk + Drop>(store: &Store<D>, place: usize, word: &[u8]) -> bool {
-    match store.name(place) {
-        Ok(Some(name)) => name.as_bytes() == word,
-        _ => false,
-    }
-}
-
-const PLAYED: [Row; 2] = [(0, b"t1 open a b", Ok(1)), (1, b"t1 buy a", Ok(2))];
-
-// A store with the table t1, which has accepted two requests.
-pub(crate) fn played_store(alloc: Global) -> Result<Store<MemoryDisk>, Fail> {
-    let mut store = new_store(alloc)?;
-    match first_other(&mut store, &PLAYED) {
-        None => Ok(store),
-        Some(_) => Err(Fail::from("a request isn't accepted")),
-    }
+// The file of a new store that has accepted two requests for the table t1, behind these calls.
+pub(crate) fn played_file(rt: &(impl Abort + AllocGlobal), calls: &[Call]) -> MemoryDisk {
+    let mut store = new_store(rt);
+    check_calls(rt, &mut store, &PLAYED);
+    check_calls(rt, &mut store, calls);
+    disk_of(store)
 }

@@ -1,12 +1,12 @@
 //! The laws on files and worlds: each is called, beside a store on a new file.
-use crate::files::{new_store, table_count};
+use crate::calls::table_count;
+use crate::files::new_store;
 use rr_disk::Disk;
 use rr_store::Store;
 use rr_store::laws::{
     calls_are_events, few_are_left, numbers_are_in_the_file, one_world, openings_play_few,
     sessions_are_safe,
 };
-use std::test::Fail;
 
 // The calls below have no contracts, so that what the test does costs its proof little.
 
@@ -39,10 +39,9 @@ fn call_laws_of_a_store<D: Disk + Drop>(store: &Store<D>) {
 }
 
 #[test]
-fn laws_are_called(rt: HostRuntime) -> Result<(), Fail> {
-    let store = new_store(rt.alloc())?;
+fn laws_are_called(rt: HostRuntime) {
+    let store = new_store(&rt);
     call_laws_of_worlds();
     call_laws_of_a_store(&store);
     assert!(rt; table_count(&store) == Ok(0));
-    Ok(())
 }

@@ -1,6 +1,6 @@
 //! The tables in memory, and their recovery from a file.
 use crate::checkpoints::begun_file;
-use crate::files::{BOARD, CHART, ROSTER, disk_of, new_file, played_store, write};
+use crate::files::{BOARD, CHART, ROSTER, new_file, played_file, with_bytes};
 use rr_code::read_record;
 use rr_disk::MemoryDisk;
 use rr_kit::Kit;
@@ -12,22 +12,20 @@ use rr_tables::records::{self, TableRules};
 use rr_tables::{Fault, Standing, Tables};
 use rr_words::Name;
 use std::alloc::Global;
-use std::test::Fail;
+use std::process::Abort;
 
-fn read_kit(
-    alloc: Global,
-    chart: &[u8],
-    roster: &[u8],
-    tiles: &[u8],
-    board: &[u8],
-) -> Result<Kit, rr_kit::Fault> {
-    Kit::read(alloc, chart, roster, tiles, board)
+// The functions below have no contracts, so that what a test does costs its proof little.
+
+fn kit(rt: &(impl Abort + AllocGlobal)) -> Kit {
+    Kit::read(rt.alloc(), CHART, ROSTER, b"", BOARD).expect(rt, "a kit")
 }
 
-fn no_tables(alloc: Global) -> Result<Tables, Fail> {
-    let kit = read_kit(alloc, CHART, ROSTER, b"", BOARD)?;
-    let tables = Tables::new(alloc, kit)?;
-    Ok(tables)
+fn no_tables(rt: &(impl Abort + AllocGlobal)) -> Tables {
+    Tables::new(rt.alloc(), kit(rt)).expect(rt, "memory")
+}
+
+fn name(rt: &impl Abort, word: &[u8]) -> Name {
+    Name::table(word).expect(rt, "a name")
 }
 
 // Takes the request of this record: the new stamp, and how many commands were played.
@@ -44,28 +42,36 @@ fn take(
     Ok((taken.stamp, taken.plays))
 }
 
+// How many turns have ended at a table, if there is one.
+fn turns(tables: &Tables, name: &Name) -> Option<u64> {
+    match tables.table(name) {
+        Ok(table) => Some(table.turns()),
+        Err(_) => None,
+    }
+}
+
+// Whether there are two tables, of which this one is the last.
+fn is_last_of_two(tables: &Tables, name: &Name) -> bool {
+    tables.name(1) == Some(name) && tables.name(2).is_none()
+}
+
 // How many tables there are, the stamps of two tables, the second's turns, and whether it is the last.
 type State = (usize, u64, u64, Option<u64>, bool);
 
 fn state(tables: &Tables, first: &Name, second: &Name) -> State {
-    let turns = match tables.table(second) {
-        Ok(table) => Some(table.turns()),
-        Err(_) => None,
-    };
-    let last = tables.name(1) == Some(second) && tables.name(2).is_none();
     (
         tables.count(),
         tables.stamp(first),
         tables.stamp(second),
-        turns,
-        last,
+        turns(tables, second),
+        is_last_of_two(tables, second),
     )
 }
 
 // A stamp, a record, and how its request ends.
 type Row = (u64, &'static [u8], Result<(u64, usize), Fault>);
 
-const ROWS: [Row; 6] = [
+static ROWS: [Row; 6] = [
     (0, b"t1 open a b", Ok((1, 0))),
     (1, b"t1 buy a", Ok((2, 1))),
     (0, b"t2 open c d e", Ok((1, 0))),
@@ -96,41 +102,24 @@ fn first_other(alloc: Global, tables: &mut Tables) -> Option<usize> {
     None
 }
 
-// What is told of no table, the first row that ends otherwise, and what is told behind the rows.
-fn told(alloc: Global, first: &Name, second: &Name) -> Result<(State, Option<usize>, State), Fail> {
-    let mut tables = no_tables(alloc)?;
-    let none = state(&tables, first, second);
-    let other = first_other(alloc, &mut tables);
-    Ok((none, other, state(&tables, first, second)))
-}
-
 #[test]
-fn tables_take_requests(rt: HostRuntime) -> Result<(), Fail> {
-    let first = Name::table(b"t1").ok_or("no name")?;
-    let second = Name::table(b"t2").ok_or("no name")?;
-    let none = (0, 0, 0, None, false);
-    let told = told(rt.alloc(), &first, &second)?;
-    assert!(rt; told == (none, None, (2, 2, 1, Some(0), true)));
-    Ok(())
-}
-
-// How many tables are recovered, the first one's stamp, and whether a checkpoint is to be made anew of other tables.
-type Found = Result<(usize, u64, bool), recovery::Fault>;
-
-fn recovered(alloc: Global, mut disk: MemoryDisk) -> Result<Found, Fail> {
-    let mut opened = read(alloc, &mut disk)?;
-    Ok(match recover_tables(alloc, &mut disk, &mut opened) {
-        Ok(found) => Ok(told_of(&found)),
-        Err(fault) => Err(fault),
-    })
+fn tables_take_requests(rt: HostRuntime) {
+    let rt = &rt;
+    let first = name(rt, b"t1");
+    let second = name(rt, b"t2");
+    let mut tables = no_tables(rt);
+    let none = state(&tables, &first, &second);
+    let other = first_other(rt.alloc(), &mut tables);
+    let told = (none, other, state(&tables, &first, &second));
+    assert!(rt; told == ((0, 0, 0, None, false), None, (2, 2, 1, Some(0), true)));
 }
 
 pub(crate) fn read(
-    alloc: Global,
+    rt: &(impl Abort + AllocGlobal),
     disk: &mut MemoryDisk,
-) -> Result<Opened<Worlds<TableRules>>, Fail> {
-    let opened = open_file::<MemoryDisk, Worlds<TableRules>>(alloc, disk)?;
-    Ok(opened)
+) -> Opened<Worlds<TableRules>> {
+    let opened = open_file::<MemoryDisk, Worlds<TableRules>>(rt.alloc(), disk);
+    opened.expect(rt, "a file of a store")
 }
 
 fn recover_tables(
@@ -149,31 +138,37 @@ fn told_of(found: &Recovered) -> (usize, u64, bool) {
     (found.tables.count(), stamp, found.base.is_some())
 }
 
+// How many tables are recovered, the first one's stamp, and whether a checkpoint is to be made anew of other tables.
+type Found = Result<(usize, u64, bool), recovery::Fault>;
+
+fn recovered(rt: &(impl Abort + AllocGlobal), mut disk: MemoryDisk) -> Found {
+    let mut opened = read(rt, &mut disk);
+    match recover_tables(rt.alloc(), &mut disk, &mut opened) {
+        Ok(found) => Ok(told_of(&found)),
+        Err(fault) => Err(fault),
+    }
+}
+
 // A new file whose roster has a wrong key.
-fn file_of_a_wrong_kit(alloc: Global) -> Result<MemoryDisk, Fail> {
-    let mut new = new_file(alloc)?;
-    write(&mut new, 4096 * 515 + 10, b"q")?;
-    Ok(new)
+fn file_of_a_wrong_kit(rt: &(impl Abort + AllocGlobal)) -> MemoryDisk {
+    with_bytes(rt, &new_file(rt), &[(4096 * 515 + 10, b"q")])
 }
 
 // A new file, that one, one with a record in either half, and one with two in the first.
-fn recoveries(alloc: Global) -> Result<[Found; 4], Fail> {
-    Ok([
-        recovered(alloc, new_file(alloc)?)?,
-        recovered(alloc, file_of_a_wrong_kit(alloc)?)?,
-        recovered(alloc, begun_file(alloc)?)?,
-        recovered(alloc, disk_of(played_store(alloc)?))?,
-    ])
-}
-
 #[test]
-fn tables_are_recovered(rt: HostRuntime) -> Result<(), Fail> {
+fn tables_are_recovered(rt: HostRuntime) {
+    let rt = &rt;
     let found = [
+        recovered(rt, new_file(rt)),
+        recovered(rt, file_of_a_wrong_kit(rt)),
+        recovered(rt, begun_file(rt)),
+        recovered(rt, played_file(rt, &[])),
+    ];
+    let wanted = [
         Ok((0, 0, false)),
         Err(recovery::Fault::Damaged(Damage::Kit)),
         Ok((1, 3, true)),
         Ok((1, 2, false)),
     ];
-    assert!(rt; recoveries(rt.alloc())? == found);
-    Ok(())
+    assert!(rt; found == wanted);
 }
