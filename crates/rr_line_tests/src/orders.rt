@@ -1,15 +1,16 @@
 //! What is ordered in a corporation's turn.
+use crate::calls::{Form, check, check_refused};
 use rr_orders::Order;
 use rr_orders::laws::one_spelling;
 use rr_roster::Corp;
-use std::alloc::Global;
 use std::process::Abort;
-use std::test::Fail;
 
 // The calls below have no contracts, so that what a test does costs its proof little.
 
-fn is_order(text: &str) -> bool {
-    Order::read(text.as_bytes()).is_some()
+fn is_written(rt: &(impl Abort + AllocGlobal), order: &Order, text: &str) -> bool {
+    let mut written = Vec::new(rt.alloc());
+    order.write(&mut written).expect(rt, "memory");
+    written.as_slice() == text.as_bytes()
 }
 
 fn is_order_of(text: &str, corp: Option<Corp>) -> bool {
@@ -19,31 +20,17 @@ fn is_order_of(text: &str, corp: Option<Corp>) -> bool {
     }
 }
 
-// The first line of an order that isn't read, or is written otherwise, or is another corporation's than the PRR's.
-fn first_unlike<'a>(alloc: Global, lines: &'a str) -> Result<Option<&'a str>, Fail> {
-    for line in lines.lines() {
-        let Some(order) = Order::read(line.as_bytes()) else {
-            return Ok(Some(line));
-        };
-        let mut written = Vec::new(alloc);
-        order.write(&mut written)?;
-        let of_another = order.corp().is_some_and(|corp| corp != Corp::Prr);
-        if written.as_slice() != line.as_bytes() || of_another {
-            return Ok(Some(line));
+// Whether the text is read as an order that is written so, and is the PRR's or no corporation's.
+fn is_both(rt: &(impl Abort + AllocGlobal), text: &str) -> bool {
+    match Order::read(text.as_bytes()) {
+        Some(order) => {
+            is_written(rt, &order, text) && matches!(order.corp(), Some(Corp::Prr) | None)
         }
+        None => false,
     }
-    Ok(None)
 }
 
-fn first_taken(lines: &str) -> Option<&str> {
-    lines.lines().find(|line| is_order(line))
-}
-
-#[test]
-fn writes_what_it_reads(rt: HostRuntime) -> Result<(), Fail> {
-    let unlike = first_unlike(
-        rt.alloc(),
-        "lay PRR H12 57 5
+const LINES: &str = "lay PRR H12 57 5
 station PRR H12 1
 run PRR
 run PRR 2=1-2 D=-
@@ -61,15 +48,21 @@ end PRR
 force PRR
 raise ann NYC 0
 raise bob B&O 9999999999
-bankrupt ann",
-    )?;
-    assert!(rt; unlike.is_none());
-    Ok(())
+bankrupt ann";
+
+#[test]
+fn writes_what_it_reads(rt: HostRuntime) {
+    let rt = &rt;
+    for line in LINES.lines() {
+        check(rt, line, is_both(rt, line), true);
+    }
 }
 
 #[test]
 fn refuses_what_is_no_order(rt: HostRuntime) {
-    let taken = first_taken(
+    check_refused(
+        &rt,
+        Form::Order,
         "pay XYZ
 lay PRR H12 57 6
 lay PRR H12 0 5
@@ -83,12 +76,13 @@ run PRR 2=1-2 best b best
 end PRR now
 best PRR",
     );
-    assert!(rt; taken.is_none());
 }
 
 #[test]
 fn refuses_what_forces_no_train(rt: HostRuntime) {
-    let taken = first_taken(
+    check_refused(
+        &rt,
+        Form::Order,
         "force
 force ann
 force PRR 2
@@ -109,22 +103,23 @@ bankrupt bank
 bankrupt ann bob
 bankrupt  ann",
     );
-    assert!(rt; taken.is_none());
 }
+
+static WHOSE: [(&str, Option<Corp>); 4] = [
+    ("end NYC", Some(Corp::Nyc)),
+    ("force NYC", Some(Corp::Nyc)),
+    ("raise ann NYC 1", None),
+    ("bankrupt ann", None),
+];
 
 #[test]
 fn tells_whose_order_it_is(rt: HostRuntime) {
-    for (text, corp) in [
-        ("end NYC", Some(Corp::Nyc)),
-        ("force NYC", Some(Corp::Nyc)),
-        ("raise ann NYC 1", None),
-        ("bankrupt ann", None),
-    ] {
-        assert!(rt; is_order_of(text, corp));
+    for &(text, corp) in &WHOSE {
+        check(&rt, text, is_order_of(text, corp), true);
     }
 }
 
 #[test]
-fn laws_are_called(_rt: HostRuntime) {
+fn laws_are_called() {
     one_spelling();
 }

@@ -1,10 +1,10 @@
 //! The players of a table as bytes.
-use rr_code::{Command, Players};
+use crate::calls::{check, command, seated};
+use rr_code::Players;
 use rr_words::spelling::{Cursor, Spell};
-use std::alloc::Global;
 use std::process::Abort;
 
-// The calls below have no contracts and assert nothing, so that what a test does costs its proof little.
+// The calls below have no contracts, so that what a test does costs its proof little.
 
 // The value of which these are all the bytes.
 fn read<T: Spell + Copy>(bytes: &[u8]) -> Option<T> {
@@ -13,73 +13,55 @@ fn read<T: Spell + Copy>(bytes: &[u8]) -> Option<T> {
     if cursor.is_empty() { Some(value) } else { None }
 }
 
-fn spelled<T: Spell>(rt: &impl Abort, alloc: Global, value: &T) -> Vec<u8> {
-    let mut bytes = Vec::new(alloc);
+fn spelled<T: Spell>(rt: &(impl Abort + AllocGlobal), value: &T) -> Vec<u8> {
+    let mut bytes = Vec::new(rt.alloc());
     value.write(&mut bytes).expect(rt, "memory");
     bytes
 }
 
-fn command<'a>(rt: &impl Abort, text: &'a str) -> Command<'a> {
-    Command::read(text.as_bytes()).expect(rt, "a command")
-}
-
 // Whether these are the bytes of the players that the command seats, who are read from them again.
-fn is_spelled_by(rt: &impl Abort, alloc: Global, opening: Command, bytes: &[u8]) -> bool {
-    match opening {
-        Command::Open { players } => {
-            spelled(rt, alloc, &players).as_slice() == bytes
-                && read::<Players>(bytes) == Some(players)
-        }
-        _ => false,
-    }
+fn is_spelled(rt: &(impl Abort + AllocGlobal), opening: &str, bytes: &[u8]) -> bool {
+    let players = seated(command(rt, opening)).expect(rt, "players");
+    spelled(rt, &players).as_slice() == bytes && read::<Players>(bytes) == Some(players)
 }
 
-fn is_spelled(rt: &impl Abort, alloc: Global, opening: &str, bytes: &[u8]) -> bool {
-    is_spelled_by(rt, alloc, command(rt, opening), bytes)
-}
-
-// The first of these that are the bytes of players.
-fn first_players<'a>(rows: &[&'a [u8]]) -> Option<&'a [u8]> {
-    for bytes in rows {
-        if read::<Players>(*bytes).is_some() {
-            return Some(*bytes);
-        }
-    }
-    None
-}
+static OPENINGS: [(&str, &[u8]); 3] = [
+    ("open a b", b"\x02\x01a\x01b"),
+    ("open ann b9 a", b"\x03\x03ann\x02b9\x01a"),
+    (
+        "open f e abcdefghijkl d c b",
+        b"\x06\x01f\x01e\x0cabcdefghijkl\x01d\x01c\x01b",
+    ),
+];
 
 #[test]
 fn players_are_spelled(rt: HostRuntime) {
-    let alloc = rt.alloc();
-    assert!(rt; is_spelled(&rt, alloc, "open a b", b"\x02\x01a\x01b"));
-    assert!(rt; is_spelled(&rt, alloc, "open ann b9 a", b"\x03\x03ann\x02b9\x01a"));
-    let six = b"\x06\x01f\x01e\x0cabcdefghijkl\x01d\x01c\x01b";
-    assert!(rt; is_spelled(&rt, alloc, "open f e abcdefghijkl d c b", six));
+    let rt = &rt;
+    for &(opening, bytes) in &OPENINGS {
+        check(rt, opening, is_spelled(rt, opening, bytes), true);
+    }
 }
+
+/// Bytes that no players have, and what they tell.
+static NO_PLAYERS: [(&str, &[u8]); 13] = [
+    ("nothing", b""),
+    ("no player", b"\x00"),
+    ("one player", b"\x01\x01a"),
+    ("seven players", b"\x07\x01a\x01b\x01c\x01d\x01e\x01f\x01g"),
+    ("one twice", b"\x03\x01a\x01b\x01a"),
+    ("a capital letter", b"\x02\x01a\x01B"),
+    ("no letter", b"\x02\x01a\x00"),
+    ("a word that stands for another", b"\x02\x01a\x04bank"),
+    ("a letter too many", b"\x02\x01a\x0dabcdefghijklm"),
+    ("no name of two", b"\x02"),
+    ("one name of two", b"\x02\x01a"),
+    ("one letter of two", b"\x02\x01a\x02b"),
+    ("a byte more", b"\x02\x01a\x01b\x00"),
+];
 
 #[test]
 fn bytes_that_no_players_have_are_refused(rt: HostRuntime) {
-    let numbers: [&[u8]; 4] = [
-        b"",
-        b"\x00",
-        b"\x01\x01a",
-        b"\x07\x01a\x01b\x01c\x01d\x01e\x01f\x01g",
-    ];
-    assert!(rt; first_players(&numbers).is_none());
-    // one twice, a capital letter, no letter, a word that stands for another, and a letter too many
-    let names: [&[u8]; 5] = [
-        b"\x03\x01a\x01b\x01a",
-        b"\x02\x01a\x01B",
-        b"\x02\x01a\x00",
-        b"\x02\x01a\x04bank",
-        b"\x02\x01a\x0dabcdefghijklm",
-    ];
-    assert!(rt; first_players(&names).is_none());
-    let ends: [&[u8]; 4] = [
-        b"\x02",
-        b"\x02\x01a",
-        b"\x02\x01a\x02b",
-        b"\x02\x01a\x01b\x00",
-    ];
-    assert!(rt; first_players(&ends).is_none());
+    for &(what, bytes) in &NO_PLAYERS {
+        check(&rt, what, read::<Players>(bytes).is_some(), false);
+    }
 }

@@ -1,5 +1,5 @@
-//! The small board as it is read: a city, a track, a town, a city and an off-board area in a row, and a hex without
-//! tracks.
+//! The small board as it is read, with what is put on it: a city, a track, a town, a city and an off-board area in a
+//! row, and a hex without tracks.
 use rr_desk::layout::{Lay, Layout, MOST_LAYS, MOST_STATIONS, Station};
 use rr_kit::board::Board;
 use rr_roster::Corp;
@@ -31,14 +31,31 @@ pub(crate) fn tiles(rt: &impl Abort, alloc: Global) -> Manifest {
     Manifest::read(alloc, "green 23 x3 0-3 0-4").expect(rt, "tiles")
 }
 
-// PRR's token in A
-pub(crate) fn prr_at_home(rt: &impl Abort) -> Layout {
+/// What is put on the board.
+#[derive(Clone, Copy)]
+pub(crate) enum Piece {
+    /// PRR's token, in A.
+    Prr,
+    /// NYC's token, in D.
+    Nyc,
+    /// Tile 23 on B, turned so far.
+    Tile(u8),
+}
+
+/// What lies on the board once these are put there, one after the other.
+pub(crate) fn laid(rt: &impl Abort, pieces: &[Piece]) -> Layout {
     let mut layout = Layout::new();
-    station(rt, &mut layout, Corp::Prr, b"A");
+    for piece in pieces {
+        match piece {
+            Piece::Prr => station(rt, &mut layout, Corp::Prr, b"A"),
+            Piece::Nyc => station(rt, &mut layout, Corp::Nyc, b"D"),
+            Piece::Tile(turn) => lay(rt, &mut layout, *turn),
+        }
+    }
     layout
 }
 
-pub(crate) fn station(rt: &impl Abort, layout: &mut Layout, corp: Corp, hex: &[u8]) {
+fn station(rt: &impl Abort, layout: &mut Layout, corp: Corp, hex: &[u8]) {
     let hex = name(rt, hex);
     assert!(rt; layout.stations().len() < MOST_STATIONS);
     layout.station(Station {
@@ -48,8 +65,7 @@ pub(crate) fn station(rt: &impl Abort, layout: &mut Layout, corp: Corp, hex: &[u
     });
 }
 
-// tile 23 on B
-pub(crate) fn lay(rt: &impl Abort, layout: &mut Layout, turn: u8) {
+fn lay(rt: &impl Abort, layout: &mut Layout, turn: u8) {
     let hex = name(rt, b"B");
     assert!(rt; layout.lays().len() < MOST_LAYS);
     layout.lay(Lay {

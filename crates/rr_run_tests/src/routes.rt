@@ -1,6 +1,6 @@
 //! The laws of routes, and how many nodes a certificate has.
+use rr_routes::sheets::read_certificate;
 use rr_routes::{CertTree, laws};
-use std::alloc::AllocError;
 
 #[test]
 fn laws_are_called() {
@@ -14,16 +14,16 @@ fn laws_are_called() {
     laws::refused_rows();
 }
 
+// A tree of seven nodes, in which splits are the last children of splits.
 #[test]
-fn nodes_are_counted(rt: HostRuntime) -> Result<(), AllocError> {
-    let alloc = rt.alloc();
-    let deepest = vec![in alloc; CertTree::Bad(0), CertTree::Bad(0)]?;
-    let middle = vec![in alloc; CertTree::Bound, CertTree::Split(3, deepest)]?;
-    let outer = vec![in alloc; CertTree::Full, CertTree::Split(0, middle)]?;
-    let tree = CertTree::Split(4, outer);
-    for (budget, left) in [(1024, Some(1017)), (7, Some(0)), (6, None)] {
-        assert!(rt; tree.nodes_left(budget) == left);
-    }
-    assert!(rt; CertTree::Full.nodes_left(0).is_none());
-    Ok(())
+fn nodes_are_counted(rt: HostRuntime) {
+    let rt = &rt;
+    let tree = read_certificate(rt.alloc(), 1, b"s5 f s1 b s4 x1 x1").expect(rt, "a certificate");
+    let left = [
+        tree.nodes_left(1024),
+        tree.nodes_left(7),
+        tree.nodes_left(6),
+        CertTree::Full.nodes_left(0),
+    ];
+    assert!(rt; left == [Some(1017), Some(0), None, None]);
 }

@@ -1,239 +1,301 @@
 //! What the search finds on the small nets, and beside plain enumeration on nets that look random.
-ghost use Rattle.std.specs.Prelude.{◌≤◌};
 ghost use Rattle.rr_search.specs.Found.{IsModest};
 
-use crate::small::{links, net_of, small_net};
-use rr_checker::{CentreLimit, Link, Net, Node, check};
+use crate::sheets::{add_word, is_word};
+use crate::small::{EXPRESS, Plan, ROW, THREE, TWO, net_of, net_of_row, net_over};
+use rr_checker::{CentreLimit, CertTree, Link, Net, Node, check};
 use rr_guesses::guess;
-use rr_referee::legal;
+use rr_referee::{legal, limit_of_kind};
 use rr_roster::Kind;
-use rr_routes::sheets::{LinkNumbers, Sheet, TrainWord};
+use rr_routes::sheets::Sheet;
 use rr_search::{Fault, best};
-use std::alloc::Global;
+use std::alloc::{AllocError, Global};
 use std::process::Abort;
 
-// the search finds this word of one train, and shows that it earns so much and nothing earns more
-fn finds(rt: &impl Abort, alloc: Global, net: &Net, kind: Kind, links: &[u64], revenue: usize)
-    requires { IsModest net.now }
-{
-    let (sheet, tree) = best(alloc, net, 1024).expect(rt, "a run");
-    let words = sheet.as_slice();
-    assert!(rt; words.len() == 1);
-    assert!(rt; words[0].kind == kind);
-    assert!(rt; words[0].links.as_slice() == links);
-    assert!(rt; check(alloc, net, revenue, &tree).expect(rt, "memory"));
-    let less = revenue.saturating_sub(1);
-    assert!(rt; !check(alloc, net, less, &tree).expect(rt, "memory"));
+// The calls below have as few contracts as they can, so that what a test does costs its proof little.
+
+/// The run of one train: its kind, its links, and what it earns.
+type Run = (Kind, &'static [u64], usize);
+
+/// Whether the sheet has one word, that of a train of the kind with these links.
+fn is_sheet(sheet: &Sheet, kind: Kind, links: &[u64]) -> bool {
+    match sheet.as_slice() {
+        [word] => is_word(word, kind, links),
+        _ => false,
+    }
 }
+
+/// Stops where another run was found, or the tree doesn't show that nothing earns more than this one.
+fn check_run(rt: &impl Abort, alloc: Global, net: &Net, found: &(Sheet, CertTree), wanted: Run) {
+    let (sheet, tree) = found;
+    let (kind, links, revenue) = wanted;
+    assert!(rt; is_sheet(sheet, kind, links));
+    assert!(rt; is_shown(rt, alloc, net, revenue, tree));
+    assert!(rt; !is_shown(rt, alloc, net, revenue.saturating_sub(1), tree));
+}
+
+/// Whether the tree shows that nothing earns more than so much.
+fn is_shown(rt: &impl Abort, alloc: Global, net: &Net, claim: usize, tree: &CertTree) -> bool {
+    check(alloc, net, claim, tree).expect(rt, "memory")
+}
+
+const TO_THE_TOWN: Run = (Kind::Two, &[1, 2, 3], 30);
 
 #[test]
 fn guesses_a_run_and_its_certificate(rt: HostRuntime) {
-    let net = small_net(&rt, rt.alloc(), CentreLimit::AtMost(2));
-    let guessed = guess(rt.alloc(), &net, &[Kind::Two], 1024).expect(&rt, "memory");
-    let (sheet, tree) = guessed.expect(&rt, "a guess");
-    let words = sheet.as_slice();
-    assert!(rt; words.len() == 1);
-    assert!(rt; words[0].links.as_slice() == [1, 2, 3].as_slice());
-    assert!(rt; check(rt.alloc(), &net, 30, &tree).expect(&rt, "memory"));
+    let rt = &rt;
+    let alloc = rt.alloc();
+    let net = net_of_row(rt, alloc, TWO);
+    let guessed = guess(alloc, &net, &[Kind::Two], 1024).expect(rt, "memory");
+    let found = guessed.expect(rt, "a guess");
+    check_run(rt, alloc, &net, &found, TO_THE_TOWN);
+}
+
+/// Stops where the search doesn't find this run of one train, with its certificate.
+fn check_best(rt: &impl Abort, alloc: Global, plan: &Plan, wanted: Run) {
+    let (kind, _, _) = wanted;
+    let net = net_of(rt, alloc, plan, &[limit_of_kind(kind)]);
+    let found = best(alloc, &net, 1024).expect(rt, "a run");
+    check_run(rt, alloc, &net, &found, wanted);
 }
 
 #[test]
 fn runs_a_two_to_the_town(rt: HostRuntime) {
-    let net = small_net(&rt, rt.alloc(), CentreLimit::AtMost(2));
-    finds(&rt, rt.alloc(), &net, Kind::Two, &[1, 2, 3], 30);
+    check_best(&rt, rt.alloc(), &ROW, TO_THE_TOWN);
 }
+
+const OFF_THE_BOARD: Run = (Kind::Diesel, &[1, 2, 3, 4, 5, 6, 7], 100);
 
 #[test]
 fn runs_a_diesel_off_the_board(rt: HostRuntime) {
-    let net = small_net(&rt, rt.alloc(), CentreLimit::Unlimited);
-    let links = [1, 2, 3, 4, 5, 6, 7];
-    finds(&rt, rt.alloc(), &net, Kind::Diesel, &links, 100);
+    check_best(&rt, rt.alloc(), &ROW, OFF_THE_BOARD);
 }
 
-// A diesel on eleven links in a row: the tree that splits each of them has 4,095 nodes.
+/// Eleven links in a row.
+const LONG_ROW: Plan = Plan {
+    links: "00c0 10s1 21c1 22c1 32s3 43c2 44c2 54s5 65c3 66c3 76c4",
+    token: 2,
+    terminals: &[4],
+};
+
+const ALL_ALONG: Run = (Kind::Diesel, &[1, 2, 3, 4, 5, 6, 7, 8, 9, 10, 11], 150);
+
+// The tree that splits each of the links for a diesel has 4,095 nodes.
 #[test]
 fn finds_more_than_the_whole_tree_shows(rt: HostRuntime) {
-    let text = "00c0 10s1 21c1 22c1 32s3 43c2 44c2 54s5 65c3 66c3 76c4";
-    let links = links(&rt, rt.alloc(), text);
-    let net = net_of(&rt, rt.alloc(), links, 2, &[4], &[CentreLimit::Unlimited]);
-    let all = [1, 2, 3, 4, 5, 6, 7, 8, 9, 10, 11];
-    finds(&rt, rt.alloc(), &net, Kind::Diesel, &all, 150);
+    check_best(&rt, rt.alloc(), &LONG_ROW, ALL_ALONG);
 }
 
-// why nothing is found for a train of that limit, within so many nodes
-fn refusal(rt: &impl Abort, alloc: Global, centres: usize, nodes: usize) -> Option<Fault>
-    requires { nodes ≤ 1024 }
-{
-    let net = small_net(rt, alloc, CentreLimit::AtMost(centres));
+/// Why nothing is found for a train that counts so many centres, within so many nodes.
+fn refusal(rt: &impl Abort, alloc: Global, centres: usize, nodes: usize) -> Option<Fault> {
+    assert!(rt; nodes <= 1024);
+    let net = net_of_row(rt, alloc, CentreLimit::AtMost(centres));
     best(alloc, &net, nodes).err()
 }
 
 #[test]
 fn gives_up_where_it_may(rt: HostRuntime) {
-    let no_tree = refusal(&rt, rt.alloc(), 2, 0);
-    assert!(rt; no_tree == Some(Fault::NoCertificate));
-    let no_kind = refusal(&rt, rt.alloc(), 7, 1024);
-    assert!(rt; no_kind == Some(Fault::NoCertificate));
+    let rt = &rt;
+    // each tree has a node, and no kind of train counts seven centres
+    let no_tree = refusal(rt, rt.alloc(), 2, 0);
+    let no_kind = refusal(rt, rt.alloc(), 7, 1024);
+    assert!(rt; [no_tree, no_kind] == [Some(Fault::NoCertificate); 2]);
 }
 
-// numbers that look random: a linear congruence
+/// Numbers that look random: a linear congruence.
 #[derive(Drop)]
 struct Dice {
     state: u64,
 }
 
 impl Dice {
-    // one of the first so many numbers
-    fn below(&mut self, count: usize) -> usize {
+    /// A number from 0 to 3.
+    fn roll(&mut self) -> usize {
         self.state = self.state.wrapping_mul(1_103_515_245).wrapping_add(12_345);
-        ((self.state >> 16) as usize)
-            .checked_rem(count)
-            .unwrap_or(0)
+        (self.state >> 16) as usize % 4
     }
 }
 
-// so many links in four hexes, between four hexsides and four centres
-fn random_links(rt: &impl Abort, alloc: Global, dice: &mut Dice, count: usize) -> Vec<Link> {
-    let mut links = Vec::new(alloc);
-    for _link in 0..count {
-        let hex = dice.below(4);
-        let side = dice.below(4);
-        let end = dice.below(4);
-        let is_track = dice.below(4) == 0;
-        let other = if is_track {
-            Node::Hexside(end)
-        } else {
-            Node::Centre(end)
-        };
-        links.push(Link { hex, side, other }).expect(rt, "memory");
-    }
-    links
+/// A link in one of four hexes, from one of four hexsides to another or to one of four centres.
+fn random_link(dice: &mut Dice) -> Link {
+    let hex = dice.roll();
+    let side = dice.roll();
+    let end = dice.roll();
+    let other = match dice.roll() {
+        0 => Node::Hexside(end),
+        _ => Node::Centre(end),
+    };
+    Link { hex, side, other }
 }
 
-// the words that are one link longer than this one: it has so many to choose from, and takes none twice
-fn add_longer(
+fn random_net(
     rt: &impl Abort,
     alloc: Global,
-    word: &[u64],
+    dice: &mut Dice,
+    count: u64,
+    limits: &[CentreLimit],
+) -> Net
+    ensures { IsModest result }
+{
+    let mut links = Vec::new(alloc);
+    for _link in 0..count {
+        links.push(random_link(dice)).expect(rt, "memory");
+    }
+    let token = dice.roll();
+    net_over(rt, alloc, links, token, &[3], limits)
+}
+
+/// The most links that a word below has.
+const MOST_LINKS: usize = 6;
+
+/// Different links in order.
+#[derive(Clone, Copy)]
+struct Word {
+    links: [u64; MOST_LINKS],
     count: usize,
-    words: &mut Vec<Vec<u64>>,
-) {
-    for link in 1..=count {
-        let number = link as u64;
-        if word.contains(&number) {
-            continue;
+}
+
+impl Word {
+    fn as_slice(&self) -> &[u64] {
+        &self.links[..self.count.min(MOST_LINKS)]
+    }
+
+    /// The word with one link more, if there is room for that and the word hasn't it.
+    fn with(&self, link: u64) -> Option<Word> {
+        if self.count >= MOST_LINKS {
+            return None;
         }
-        let mut longer = Vec::from_slice(alloc, word).expect(rt, "memory");
-        longer.push(number).expect(rt, "memory");
-        words.push(longer).expect(rt, "memory");
+        if self.as_slice().contains(&link) {
+            return None;
+        }
+        let mut longer = *self;
+        longer.links[self.count] = link;
+        longer.count = self.count + 1;
+        Some(longer)
     }
 }
 
-// each list of different links of so many, from the shortest to the longest
-fn all_words(rt: &impl Abort, alloc: Global, count: usize) -> Vec<Vec<u64>> {
+/// Adds the words that are one link longer than this one, which has so many to choose from.
+fn add_longer(words: &mut Vec<Word>, word: &Word, count: u64) -> Result<(), AllocError> {
+    for link in 1..=count {
+        if let Some(longer) = word.with(link) {
+            words.push(longer)?;
+        }
+    }
+    Ok(())
+}
+
+/// Each list of different links of so many, from the shortest to the longest.
+fn all_words(alloc: Global, count: u64) -> Result<Vec<Word>, AllocError> {
     let mut words = Vec::new(alloc);
-    words.push(Vec::new(alloc)).expect(rt, "memory");
+    words.push(Word {
+        links: [0; MOST_LINKS],
+        count: 0,
+    })?;
     // 2,000 words are more than there are of six links
     for place in 0..2000 {
         let Some(word) = words.get(place) else {
             break;
         };
-        let word = Vec::from_slice(alloc, word).expect(rt, "memory");
-        add_longer(rt, alloc, &word, count, &mut words);
+        let word = *word;
+        add_longer(&mut words, &word, count)?;
     }
-    words
+    Ok(words)
 }
 
-// the sheet on which one train has these links, and each other those
-fn sheet_of(
-    rt: &impl Abort,
-    alloc: Global,
-    kinds: &[Kind],
-    train: usize,
-    numbers: &[u64],
-    others: &[u64],
-) -> Sheet {
+/// The sheet on which the first train has the one word, and the other, if there is one, the other word.
+fn sheet_of(rt: &impl Abort, alloc: Global, kinds: &[Kind], word: &[u64], other: &[u64]) -> Sheet {
     let mut sheet = Sheet::new(alloc);
     for (place, kind) in kinds.iter().enumerate() {
-        let own = if place == train { numbers } else { others };
-        let links = links_of(rt, alloc, own);
-        let word = TrainWord { kind: *kind, links };
-        sheet.push(word).expect(rt, "memory");
+        let links = if place == 0 { word } else { other };
+        add_word(rt, alloc, &mut sheet, *kind, links);
     }
     sheet
 }
 
-fn links_of(rt: &impl Abort, alloc: Global, numbers: &[u64]) -> LinkNumbers {
-    let mut links = LinkNumbers::new(alloc);
-    for number in numbers {
-        links.push(*number).expect(rt, "memory");
-    }
-    links
-}
-
-// what the run earns, if it is legal
-fn revenue_of(alloc: Global, net: &Net, sheet: &Sheet) -> Option<usize>
+/// What the run by these words earns, if it is legal.
+fn revenue(
+    rt: &impl Abort,
+    alloc: Global,
+    net: &Net,
+    kinds: &[Kind],
+    words: [&[u64]; 2],
+) -> Option<usize>
     requires { IsModest net.now }
 {
-    legal(alloc, net, sheet).ok()
+    let [word, other] = words;
+    let sheet = sheet_of(rt, alloc, kinds, word, other);
+    legal(alloc, net, &sheet).ok()
 }
 
-// those of the words that are routes of the train, where the other stays
+/// Which of two trains.
+#[derive(Clone, Copy)]
+enum Train {
+    First,
+    Second,
+}
+
+/// The words where this train runs, and the other one stays.
+fn alone(train: Train, word: &Word) -> [&[u64]; 2] {
+    match train {
+        Train::First => [word.as_slice(), &[]],
+        Train::Second => [&[], word.as_slice()],
+    }
+}
+
+/// Those of the words that are routes of the train, where the other one stays.
 fn routes(
     rt: &impl Abort,
     alloc: Global,
     net: &Net,
     kinds: &[Kind],
-    train: usize,
-    words: &[Vec<u64>],
-) -> Vec<Vec<u64>>
+    train: Train,
+    words: &[Word],
+) -> Vec<Word>
     requires { IsModest net.now }
 {
     let mut routes = Vec::new(alloc);
     for word in words {
-        let sheet = sheet_of(rt, alloc, kinds, train, word, &[]);
-        if revenue_of(alloc, net, &sheet).is_some() {
-            let route = Vec::from_slice(alloc, word).expect(rt, "memory");
-            routes.push(route).expect(rt, "memory");
+        if revenue(rt, alloc, net, kinds, alone(train, word)).is_some() {
+            routes.push(*word).expect(rt, "memory");
         }
     }
     routes
 }
 
-// the most that a run earns which has this route of the first train, and one of these of the other
+/// The most that a run earns which has this route of the first train, and one of these of the other.
 fn most_beside(
     rt: &impl Abort,
     alloc: Global,
     net: &Net,
     kinds: &[Kind],
-    route: &[u64],
-    others: &[Vec<u64>],
+    route: &Word,
+    others: &[Word],
 ) -> usize
     requires { IsModest net.now }
 {
     let mut most = 0;
     for other in others {
-        let sheet = sheet_of(rt, alloc, kinds, 0, route, other);
-        if let Some(revenue) = revenue_of(alloc, net, &sheet) {
-            most = revenue.max(most);
-        }
+        let words = [route.as_slice(), other.as_slice()];
+        let earned = revenue(rt, alloc, net, kinds, words);
+        most = earned.unwrap_or(0).max(most);
     }
     most
 }
 
-// the most that any run earns whose trains have words of these, by trying them all
+/// The most that any run earns whose trains have words of these, by trying them all.
 fn most_of_all(
     rt: &impl Abort,
     alloc: Global,
     net: &Net,
     kinds: &[Kind],
-    words: &[Vec<u64>],
-    others: &[Vec<u64>],
+    words: &[Word],
+    others: &[Word],
 ) -> usize
     requires { IsModest net.now }
 {
-    let first = routes(rt, alloc, net, kinds, 0, words);
-    let second = routes(rt, alloc, net, kinds, 1, others);
+    let first = routes(rt, alloc, net, kinds, Train::First, words);
+    let second = routes(rt, alloc, net, kinds, Train::Second, others);
     let mut most = 0;
     for route in &first {
         most = most_beside(rt, alloc, net, kinds, route, &second).max(most);
@@ -241,61 +303,62 @@ fn most_of_all(
     most
 }
 
-// compares what is found with plain enumeration
-fn judge(
-    rt: &impl Abort,
-    alloc: Global,
-    net: &Net,
-    kinds: &[Kind],
-    words: &[Vec<u64>],
-    others: &[Vec<u64>],
-)
+/// What the run earns that the search finds, with a certificate that nothing earns more.
+fn best_revenue(rt: &impl Abort, alloc: Global, net: &Net) -> usize
     requires { IsModest net.now }
 {
     let (sheet, tree) = best(alloc, net, 1024).expect(rt, "a run");
-    let revenue = revenue_of(alloc, net, &sheet).expect(rt, "a legal sheet");
-    assert!(rt; revenue == most_of_all(rt, alloc, net, kinds, words, others));
-    assert!(rt; check(alloc, net, revenue, &tree).expect(rt, "memory"));
+    let revenue = legal(alloc, net, &sheet).expect(rt, "a legal sheet");
+    assert!(rt; is_shown(rt, alloc, net, revenue, &tree));
+    revenue
 }
 
-// fifty nets of six links, so small that each has a certificate
+/// Nets that look random, and the trains on them.
+struct Series {
+    /// With what the dice begin.
+    seed: u64,
+    /// How many links each net has: so few that it has a certificate.
+    links: u64,
+    /// How many of them a second train has to choose from, if there is one.
+    others: u64,
+    kinds: &'static [Kind],
+    limits: &'static [CentreLimit],
+}
+
+/// Compares what is found with plain enumeration, on each of fifty nets.
+fn compare(rt: &impl Abort, alloc: Global, series: &Series) {
+    let words = all_words(alloc, series.links).expect(rt, "memory");
+    let others = all_words(alloc, series.others).expect(rt, "memory");
+    let mut dice = Dice { state: series.seed };
+    for _net in 0..50 {
+        let net = random_net(rt, alloc, &mut dice, series.links, series.limits);
+        let most = most_of_all(rt, alloc, &net, series.kinds, &words, &others);
+        assert!(rt; best_revenue(rt, alloc, &net) == most);
+    }
+}
+
+static ONE_TRAIN: Series = Series {
+    seed: 1830,
+    links: 6,
+    others: 0,
+    kinds: &[Kind::Three],
+    limits: &[THREE],
+};
+
 #[test]
 fn agrees_with_all_runs_of_one_train(rt: HostRuntime) {
-    let mut dice = Dice { state: 1830 };
-    let words = all_words(&rt, rt.alloc(), 6);
-    let none = all_words(&rt, rt.alloc(), 0);
-    for _net in 0..50 {
-        let links = random_links(&rt, rt.alloc(), &mut dice, 6);
-        let token = dice.below(4);
-        let net = net_of(
-            &rt,
-            rt.alloc(),
-            links,
-            token,
-            &[3],
-            &[CentreLimit::AtMost(3)],
-        );
-        judge(&rt, rt.alloc(), &net, &[Kind::Three], &words, &none);
-    }
+    compare(&rt, rt.alloc(), &ONE_TRAIN);
 }
 
-// fifty nets of five links
+static TWO_TRAINS: Series = Series {
+    seed: 1846,
+    links: 5,
+    others: 5,
+    kinds: &[Kind::Two, Kind::Diesel],
+    limits: &[TWO, EXPRESS],
+};
+
 #[test]
 fn agrees_with_all_runs_of_two_trains(rt: HostRuntime) {
-    let mut dice = Dice { state: 1846 };
-    let words = all_words(&rt, rt.alloc(), 5);
-    let limits = [CentreLimit::AtMost(2), CentreLimit::Unlimited];
-    for _net in 0..50 {
-        let links = random_links(&rt, rt.alloc(), &mut dice, 5);
-        let token = dice.below(4);
-        let net = net_of(&rt, rt.alloc(), links, token, &[3], &limits);
-        judge(
-            &rt,
-            rt.alloc(),
-            &net,
-            &[Kind::Two, Kind::Diesel],
-            &words,
-            &words,
-        );
-    }
+    compare(&rt, rt.alloc(), &TWO_TRAINS);
 }

@@ -1,19 +1,47 @@
 //! Nets small enough to be judged by hand.
-ghost use Rattle.std.specs.Prelude.{◌≤◌, length};
 ghost use Rattle.rr_search.specs.Found.{IsModest};
 
 use rr_checker::{CentreLimit, Link, Net, Node};
 use std::alloc::Global;
 use std::process::Abort;
 
-// a city, a track, a town, a city and an off-board area in a row
-const ROW: &str = "00c0 10s1 21c1 22c1 32c2 33c2 43c3";
+pub(crate) const TWO: CentreLimit = CentreLimit::AtMost(2);
 
-// Links, each as its hex, the hexside at one end, and the hexside or the centre at the other.
+pub(crate) const THREE: CentreLimit = CentreLimit::AtMost(3);
+
+pub(crate) const EXPRESS: CentreLimit = CentreLimit::Unlimited;
+
+/// A net but for its trains.
+#[derive(Clone, Copy)]
+pub(crate) struct Plan {
+    /// Each link as its hex, the hexside at one end, and the hexside or the centre at the other.
+    pub(crate) links: &'static str,
+    /// The one centre with a token.
+    pub(crate) token: usize,
+    /// The centres that no route passes.
+    pub(crate) terminals: &'static [usize],
+}
+
+const LINKS_OF_ROW: &str = "00c0 10s1 21c1 22c1 32c2 33c2 43c3";
+
+/// A city with the token, a track, a town, a city and an off-board area in a row.
+pub(crate) const ROW: Plan = Plan {
+    links: LINKS_OF_ROW,
+    token: 0,
+    terminals: &[3],
+};
+
+/// The row, where others fill the second city.
+pub(crate) const FILLED_ROW: Plan = Plan {
+    links: LINKS_OF_ROW,
+    token: 0,
+    terminals: &[2, 3],
+};
+
 pub(crate) fn links(rt: &impl Abort, alloc: Global, text: &str) -> Vec<Link> {
     let mut links = Vec::new(alloc);
-    for word in text.as_bytes().split(|c| *c == b' ') {
-        links.push(link(rt, word)).expect(rt, "memory");
+    for word in text.split_ascii_whitespace() {
+        links.push(link(rt, word.as_bytes())).expect(rt, "memory");
     }
     links
 }
@@ -36,8 +64,25 @@ fn digit(character: u8) -> usize {
     usize::from(character.wrapping_sub(b'0'))
 }
 
-// a net with one token, and with what each of its first centres is worth
-pub(crate) fn net_of(
+/// What a net has beside its links.
+pub(crate) struct Centres {
+    pub(crate) tokens: &'static [usize],
+    pub(crate) terminals: &'static [usize],
+    pub(crate) values: &'static [u32],
+    pub(crate) trains: &'static [CentreLimit],
+}
+
+impl Centres {
+    pub(crate) fn are_those_of(&self, net: &Net) -> bool {
+        net.tokens() == self.tokens
+            && net.terminals() == self.terminals
+            && net.values() == self.values
+            && net.trains() == self.trains
+    }
+}
+
+/// A net with one token, and with what each of its first centres is worth.
+pub(crate) fn net_over(
     rt: &impl Abort,
     alloc: Global,
     links: Vec<Link>,
@@ -45,32 +90,27 @@ pub(crate) fn net_of(
     terminals: &[usize],
     limits: &[CentreLimit],
 ) -> Net
-    requires { length limits.now ≤ 1000 }
     ensures { IsModest result }
 {
-    let tokens = vec![in alloc; token].expect(rt, "memory");
+    assert!(rt; limits.len() <= 1000);
+    let tokens = Vec::from_slice(alloc, &[token]).expect(rt, "memory");
     let terminals = Vec::from_slice(alloc, terminals).expect(rt, "memory");
-    let values = vec![in alloc; 20, 10, 30, 40, 50].expect(rt, "memory");
+    let values = Vec::from_slice(alloc, &[20, 10, 30, 40, 50]).expect(rt, "memory");
     let trains = Vec::from_slice(alloc, limits).expect(rt, "memory");
     Net::new(links, tokens, terminals, values, trains)
 }
 
-// the row, with a token in the first city
-pub(crate) fn row(
-    rt: &impl Abort,
-    alloc: Global,
-    terminals: &[usize],
-    limits: &[CentreLimit],
-) -> Net
-    requires { length limits.now ≤ 1000 }
+/// The net of the row, for one train that counts so many centres.
+pub(crate) fn net_of_row(rt: &impl Abort, alloc: Global, limit: CentreLimit) -> Net
     ensures { IsModest result }
 {
-    net_of(rt, alloc, links(rt, alloc, ROW), 0, terminals, limits)
+    net_of(rt, alloc, &ROW, &[limit])
 }
 
-// the row for one train, which runs no further than to the off-board area
-pub(crate) fn small_net(rt: &impl Abort, alloc: Global, limit: CentreLimit) -> Net
+/// The net of the plan, for trains that count so many centres.
+pub(crate) fn net_of(rt: &impl Abort, alloc: Global, plan: &Plan, limits: &[CentreLimit]) -> Net
     ensures { IsModest result }
 {
-    row(rt, alloc, &[3], &[limit])
+    let links = links(rt, alloc, plan.links);
+    net_over(rt, alloc, links, plan.token, plan.terminals, limits)
 }

@@ -1,16 +1,45 @@
 //! Lines, and records of the journal.
-use super::{first_command, first_line, is_line, is_record, is_request_written, player, table};
-use rr_code::{
-    Account, Command, Fault, Line, Owner, Query, Request, TrainHolder, laws, read_record,
-};
+use super::{Deed, is_asked, is_best, is_query, is_record, is_request_written};
+use crate::calls::{Form, check, check_refused, check_shown, command, player, seated, table};
+use rr_code::{Account, Command, Fault, Owner, Query, Request, TrainHolder, laws};
 use rr_roster::{Corp, Private};
+use rr_words::Name;
 use std::process::Abort;
-use std::test::Fail;
+
+// The calls below have no contracts, so that what a test does costs its proof little.
+
+// Stops at a text that isn't read as its query.
+fn check_queries(rt: &impl Abort, queries: &[(&str, Query)]) {
+    for &(text, query) in queries {
+        check(rt, text, is_query(text, query), true);
+    }
+}
+
+fn cash(table: Name, of: Account) -> Query {
+    Query::Cash { table, of }
+}
+
+fn privates(table: Name, of: Owner) -> Query {
+    Query::Privates { table, of }
+}
+
+fn trains(table: Name, of: TrainHolder) -> Query {
+    Query::Trains { table, of }
+}
+
+// The request, where ann does what is played.
+fn by_ann(rt: &impl Abort, request: Request<Deed>) -> Request<Command<'static>> {
+    match request {
+        Request::Play(deed) => Request::Play(deed.command_of(player(rt, "ann"))),
+        Request::Back(turn) => Request::Back(turn),
+        Request::Forget(turn) => Request::Forget(turn),
+    }
+}
 
 #[test]
 fn reads_each_query(rt: HostRuntime) {
     let table = table(&rt);
-    for (text, query) in [
+    let queries = [
         ("tables", Query::Tables),
         ("stamp t1", Query::Stamp { table }),
         ("turns t1", Query::Turns { table }),
@@ -20,75 +49,77 @@ fn reads_each_query(rt: HostRuntime) {
         ("order t1", Query::Order { table }),
         ("phase t1", Query::Phase { table }),
         ("iou t1", Query::Iou { table }),
-    ] {
-        assert!(rt; is_line(text, &Line::Query(query)));
-    }
+    ];
+    check_queries(&rt, &queries);
 }
 
 #[test]
 fn reads_each_query_of_an_owner(rt: HostRuntime) {
     let table = table(&rt);
-    let ann = player(&rt, "ann");
-    for (text, of) in [
-        ("cash t1 bank", Account::Bank),
-        ("cash t1 B&O", Account::Corp(Corp::Bo)),
-        ("cash t1 ann", Account::Player(ann)),
-    ] {
-        assert!(rt; is_line(text, &Line::Query(Query::Cash { table, of })));
-    }
-    for (text, of) in [
-        ("privates t1 ERIE", Owner::Corp(Corp::Erie)),
-        ("privates t1 ann", Owner::Player(ann)),
-    ] {
-        assert!(rt; is_line(text, &Line::Query(Query::Privates { table, of })));
-    }
+    let player = player(&rt, "ann");
     let holds = Query::Holds {
         table,
-        player: ann,
+        player,
         corp: Corp::Nyc,
     };
-    assert!(rt; is_line("holds t1 ann NYC", &Line::Query(holds)));
     let corp = Corp::Co;
-    assert!(rt; is_line("price t1 C&O", &Line::Query(Query::Price { table, corp })));
+    let queries = [
+        ("cash t1 bank", cash(table, Account::Bank)),
+        ("cash t1 B&O", cash(table, Account::Corp(Corp::Bo))),
+        ("cash t1 ann", cash(table, Account::Player(player))),
+        ("privates t1 ERIE", privates(table, Owner::Corp(Corp::Erie))),
+        ("privates t1 ann", privates(table, Owner::Player(player))),
+        ("holds t1 ann NYC", holds),
+        ("price t1 C&O", Query::Price { table, corp }),
+    ];
+    check_queries(&rt, &queries);
 }
 
 #[test]
 fn reads_queries_of_trains_and_worth(rt: HostRuntime) {
     let table = table(&rt);
-    for (text, of) in [
-        ("trains t1 pool", TrainHolder::Pool),
-        ("trains t1 B&M", TrainHolder::Corp(Corp::Bm)),
-    ] {
-        assert!(rt; is_line(text, &Line::Query(Query::Trains { table, of })));
-    }
     let player = player(&rt, "ann");
-    assert!(rt; is_line("worth t1 ann", &Line::Query(Query::Worth { table, player })));
+    let queries = [
+        ("trains t1 pool", trains(table, TrainHolder::Pool)),
+        ("trains t1 B&M", trains(table, TrainHolder::Corp(Corp::Bm))),
+        ("worth t1 ann", Query::Worth { table, player }),
+    ];
+    check_queries(&rt, &queries);
 }
+
+/// A line that wants a best run at the table t1, with its stamp and its corporation.
+static BEST_RUNS: [(&str, u64, Corp); 2] = [
+    ("7 t1 best PRR", 7, Corp::Prr),
+    ("9999999999 t1 best B&O", 9_999_999_999, Corp::Bo),
+];
 
 #[test]
 fn reads_that_the_best_run_is_wanted(rt: HostRuntime) {
     let table = table(&rt);
-    for (text, stamp, corp) in [
-        ("7 t1 best PRR", 7, Corp::Prr),
-        ("9999999999 t1 best B&O", 9_999_999_999, Corp::Bo),
-    ] {
-        assert!(rt; is_line(text, &Line::Best { stamp, table, corp }));
+    for &(text, stamp, corp) in &BEST_RUNS {
+        check(&rt, text, is_best(text, (stamp, table, corp)), true);
     }
 }
 
 #[test]
 fn keeps_no_best_run_to_be_found(rt: HostRuntime) {
-    for text in ["t1 best PRR", "t1 best PRR best"] {
-        let refused = matches!(read_record(text.as_bytes()), Err(Fault::Malformed));
-        assert!(rt; refused);
-    }
-    let read = first_command(
+    let rt = &rt;
+    check_refused(
+        rt,
+        Form::Record,
+        "t1 best PRR
+t1 best PRR best",
+    );
+    check_refused(
+        rt,
+        Form::Command,
         "best PRR
 best
 best PRR 2=1-2",
     );
-    assert!(rt; read.is_none());
-    let read = first_line(
+    check_refused(
+        rt,
+        Form::Line,
         "7 t1 best
 7 t1 best\x20
 7 t1 best XYZ
@@ -105,68 +136,78 @@ best PRR 2=1-2",
 best t1 PRR
 t1 best PRR",
     );
-    assert!(rt; read.is_none());
 }
+
+/// A line with its stamp and its request at the table t1.
+static STAMPED: [(&str, u64, Request<Deed>); 4] = [
+    (
+        "9999999999 t1 buy ann",
+        9_999_999_999,
+        Request::Play(Deed::BuyPrivate),
+    ),
+    (
+        "0 t1 par ann B&O 67",
+        0,
+        Request::Play(Deed::Par(Corp::Bo, 67)),
+    ),
+    ("57 t1 back 2", 57, Request::Back(2)),
+    (
+        "57 t1 forget 9999999999",
+        57,
+        Request::Forget(9_999_999_999),
+    ),
+];
 
 #[test]
 fn reads_stamped_requests(rt: HostRuntime) {
-    let table = table(&rt);
-    let ann = player(&rt, "ann");
-    let buy = Command::BuyPrivate { player: ann };
-    let par = Command::Par {
-        player: ann,
-        corp: Corp::Bo,
-        price: 67,
-    };
-    for (text, stamp, request) in [
-        ("9999999999 t1 buy ann", 9_999_999_999, Request::Play(buy)),
-        ("0 t1 par ann B&O 67", 0, Request::Play(par)),
-        ("57 t1 back 2", 57, Request::Back(2)),
-        (
-            "57 t1 forget 9999999999",
-            57,
-            Request::Forget(9_999_999_999),
-        ),
-    ] {
-        let line = Line::Request {
-            stamp,
-            table,
-            request,
-        };
-        assert!(rt; is_line(text, &line));
+    let rt = &rt;
+    let table = table(rt);
+    for &(text, stamp, request) in &STAMPED {
+        let is_read = is_asked(text, (stamp, table), &by_ann(rt, request));
+        check(rt, text, is_read, true);
+    }
+}
+
+static RECORDS: [(&str, Request<Deed>); 4] = [
+    ("t1 buy ann", Request::Play(Deed::BuyPrivate)),
+    (
+        "t1 bid ann B&O 225",
+        Request::Play(Deed::Bid(Private::Bo, 225)),
+    ),
+    ("t1 back 0", Request::Back(0)),
+    ("t1 forget 31", Request::Forget(31)),
+];
+
+#[test]
+fn reads_records(rt: HostRuntime) {
+    let rt = &rt;
+    for &(text, request) in &RECORDS {
+        let is_read = is_record(rt, text, &by_ann(rt, request));
+        check(rt, text, is_read, true);
+    }
+    check_refused(rt, Form::Record, "t1  buy ann");
+}
+
+static REQUESTS: [(&str, Request<Deed>); 3] = [
+    ("done ann", Request::Play(Deed::Done)),
+    ("back 10", Request::Back(10)),
+    ("forget 0", Request::Forget(0)),
+];
+
+#[test]
+fn writes_requests(rt: HostRuntime) {
+    let rt = &rt;
+    for &(text, request) in &REQUESTS {
+        let is_written = is_request_written(rt, &by_ann(rt, request), text);
+        check(rt, text, is_written, true);
     }
 }
 
 #[test]
-fn reads_records(rt: HostRuntime) {
-    let ann = player(&rt, "ann");
-    let buy = Command::BuyPrivate { player: ann };
-    assert!(rt; is_record(&rt, "t1 buy ann", &Request::Play(buy)));
-    let bid = Command::Bid {
-        player: ann,
-        private: Private::Bo,
-        amount: 225,
-    };
-    assert!(rt; is_record(&rt, "t1 bid ann B&O 225", &Request::Play(bid)));
-    assert!(rt; is_record(&rt, "t1 back 0", &Request::Back(0)));
-    assert!(rt; is_record(&rt, "t1 forget 31", &Request::Forget(31)));
-    let two_spaces = matches!(read_record(b"t1  buy ann"), Err(Fault::Malformed));
-    assert!(rt; two_spaces);
-}
-
-#[test]
-fn writes_requests(rt: HostRuntime) {
-    let alloc = rt.alloc();
-    let ann = player(&rt, "ann");
-    let done = Request::Play(Command::Done { player: ann });
-    assert!(rt; is_request_written(&rt, alloc, &done, "done ann"));
-    assert!(rt; is_request_written(&rt, alloc, &Request::Back(10), "back 10"));
-    assert!(rt; is_request_written(&rt, alloc, &Request::Forget(0), "forget 0"));
-}
-
-#[test]
 fn refuses_other_requests_for_turns(rt: HostRuntime) {
-    let read = first_line(
+    check_refused(
+        &rt,
+        Form::Line,
         "7 t1 back
 7 t1 back\x20
 7 t1 back x
@@ -179,24 +220,24 @@ fn refuses_other_requests_for_turns(rt: HostRuntime) {
 7 t1 forget t1
 back t1 1",
     );
-    assert!(rt; read.is_none());
 }
 
 #[test]
-fn reads_six_players(rt: HostRuntime) -> Result<(), Fail> {
-    let Command::Open { players } = Command::read(b"open f e d c b a")? else {
-        return Err(Fault::Malformed)?;
-    };
+fn reads_six_players(rt: HostRuntime) {
+    let rt = &rt;
+    let players = seated(command(rt, "open f e d c b a")).expect(rt, "players");
     let names = players.as_slice();
-    assert!(rt; names.len() == 6);
-    assert!(rt; names[0] == player(&rt, "f"));
-    assert!(rt; names[5] == player(&rt, "a"));
-    Ok(())
+    check(rt, "players", names.len(), 6);
+    let ends = [names.first().copied(), names.last().copied()];
+    let wanted = [Some(player(rt, "f")), Some(player(rt, "a"))];
+    check(rt, "first and last", ends, wanted);
 }
 
 #[test]
 fn refuses_other_queries(rt: HostRuntime) {
-    let read = first_line(
+    check_refused(
+        &rt,
+        Form::Line,
         "
 \x20
 tables\x20
@@ -232,12 +273,13 @@ worth t1 PRR
 worth t1 pool
 worth t1 ann bob",
     );
-    assert!(rt; read.is_none());
 }
 
 #[test]
 fn refuses_other_stamped_commands(rt: HostRuntime) {
-    let read = first_line(
+    check_refused(
+        &rt,
+        Form::Line,
         "7 t1 BUY b
  7 t1 buy a
 7  t1 buy a
@@ -254,21 +296,17 @@ t1 buy a
 1 t1 open a b c d e f g
 1 t1 tables",
     );
-    assert!(rt; read.is_none());
 }
+
+static FAULTS: [(Fault, &str); 2] = [
+    (Fault::Malformed, "malformed line"),
+    (Fault::OutOfMemory, "out of memory"),
+];
 
 #[test]
 fn shows_faults(rt: HostRuntime) {
-    for (fault, text) in [
-        (Fault::Malformed, "malformed line"),
-        (Fault::OutOfMemory, "out of memory"),
-    ] {
-        assert!(rt;
-            format!(in rt.alloc(); "{fault}")
-                .expect(&rt, "memory")
-                .as_str()
-                == text
-        );
+    for (fault, words) in &FAULTS {
+        check_shown(&rt, fault, words);
     }
     laws::one_meaning();
     laws::one_spelling();

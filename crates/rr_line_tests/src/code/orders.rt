@@ -1,76 +1,97 @@
 //! Orders among the lines and the records.
-use super::{first_line, is_line, is_request_written, table};
-use rr_code::{Command, Line, Order, Request, read_record};
+use super::{is_asked, is_request_written};
+use crate::calls::{Form, check, check_refused, table};
+use rr_code::{Command, Order, Request, read_record};
 use rr_roster::Corp;
 use rr_words::HexName;
 use std::process::Abort;
-use std::test::Fail;
 
 #[test]
 fn reads_an_order_with_its_stamp(rt: HostRuntime) {
-    let table = table(&rt);
-    let hex = HexName::read(b"E5").expect(&rt, "a hex's name");
+    let rt = &rt;
+    let hex = HexName::read(b"E5").expect(rt, "a hex's name");
     let order = Order::Lay {
         corp: Corp::Prr,
         hex,
         tile: 57,
         turn: 3,
     };
-    let line = Line::Request {
-        stamp: 7,
-        table,
-        request: Request::Play(Command::Order(order)),
-    };
-    assert!(rt; is_line("7 t1 lay PRR E5 57 3", &line));
+    let request = Request::Play(Command::Order(order));
+    let is_read = is_asked("7 t1 lay PRR E5 57 3", (7, table(rt)), &request);
+    check(rt, "line", is_read, true);
+}
+
+// Whether it is the PRR's run, with a sheet and a certificate of these words.
+fn is_best_run(request: &Request<Command>, sheet_words: &str, certificate_words: &str) -> bool {
+    match request {
+        Request::Play(
+            Command::Order(
+                Order::RunBest {
+                    corp,
+                    sheet,
+                    certificate,
+                },
+            ),
+        ) => {
+            *corp == Corp::Prr
+                && sheet.as_bytes() == sheet_words.as_bytes()
+                && certificate.as_bytes() == certificate_words.as_bytes()
+        }
+        _ => false,
+    }
 }
 
 #[test]
-fn reads_the_record_of_a_best_run(rt: HostRuntime) -> Result<(), Fail> {
-    let (name, request) = read_record(b"t1 run PRR 2=1-2 best s1 b f")?;
-    assert!(rt; name == table(&rt));
-    assert!(rt; is_request_written(&rt, rt.alloc(), &request, "run PRR 2=1-2 best s1 b f"));
-    let Request::Play(
-        Command::Order(
-            Order::RunBest {
-                corp,
-                sheet,
-                certificate,
-            },
-        ),
-    ) = request
-    else {
-        return Err("it is read as another request")?;
-    };
-    assert!(rt; corp == Corp::Prr);
-    assert!(rt; sheet.as_bytes() == b"2=1-2".as_slice());
-    assert!(rt; certificate.as_bytes() == b"s1 b f".as_slice());
-    Ok(())
+fn reads_the_record_of_a_best_run(rt: HostRuntime) {
+    let rt = &rt;
+    let record = b"t1 run PRR 2=1-2 best s1 b f";
+    let (name, request) = read_record(record).expect(rt, "a record");
+    let text = "run PRR 2=1-2 best s1 b f";
+    let is_right = [
+        name == table(rt),
+        is_request_written(rt, &request, text),
+        is_best_run(&request, "2=1-2", "s1 b f"),
+    ];
+    check(rt, "record", is_right, [true; 3]);
 }
+
+// Whether the request of the record is written so.
+fn is_written_of(rt: &(impl Abort + AllocGlobal), record: &str, text: &str) -> bool {
+    match read_record(record.as_bytes()) {
+        Ok((_table, request)) => is_request_written(rt, &request, text),
+        Err(_) => false,
+    }
+}
+
+/// A record of an order, and what is written of its request.
+static RECORDS: [(&str, &str); 12] = [
+    ("t1 station PRR H12 1", "station PRR H12 1"),
+    ("t1 run PRR", "run PRR"),
+    ("t1 pay PRR", "pay PRR"),
+    ("t1 hold PRR", "hold PRR"),
+    ("t1 train PRR 2 bank", "train PRR 2 bank"),
+    ("t1 trade PRR 4", "trade PRR 4"),
+    ("t1 drop PRR 2", "drop PRR 2"),
+    ("t1 private PRR SV 40", "private PRR SV 40"),
+    ("t1 end PRR", "end PRR"),
+    ("t1 force PRR", "force PRR"),
+    ("t1 raise ann PRR 2", "raise ann PRR 2"),
+    ("t1 bankrupt ann", "bankrupt ann"),
+];
 
 #[test]
 fn reads_records_of_orders(rt: HostRuntime) {
-    for (record, text) in [
-        ("t1 station PRR H12 1", "station PRR H12 1"),
-        ("t1 run PRR", "run PRR"),
-        ("t1 pay PRR", "pay PRR"),
-        ("t1 hold PRR", "hold PRR"),
-        ("t1 train PRR 2 bank", "train PRR 2 bank"),
-        ("t1 trade PRR 4", "trade PRR 4"),
-        ("t1 drop PRR 2", "drop PRR 2"),
-        ("t1 private PRR SV 40", "private PRR SV 40"),
-        ("t1 end PRR", "end PRR"),
-        ("t1 force PRR", "force PRR"),
-        ("t1 raise ann PRR 2", "raise ann PRR 2"),
-        ("t1 bankrupt ann", "bankrupt ann"),
-    ] {
-        let (_table, request) = read_record(record.as_bytes()).expect(&rt, "a record");
-        assert!(rt; is_request_written(&rt, rt.alloc(), &request, text));
+    let rt = &rt;
+    for &(record, text) in &RECORDS {
+        check(rt, record, is_written_of(rt, record, text), true);
     }
 }
 
 #[test]
 fn refuses_other_orders(rt: HostRuntime) {
-    let read = first_line(
+    check_refused(
+        &rt,
+        Form::Line,
         "7 t1 lay PRR E5 57 3 4
 7 t1 lay PRR E5 57
 7 lay PRR E5 57 3
@@ -84,5 +105,4 @@ lay PRR E5 57 3
 7 t1 raise PRR ann 2
 7 t1 bankrupt PRR",
     );
-    assert!(rt; read.is_none());
 }

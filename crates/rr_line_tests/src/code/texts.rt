@@ -1,131 +1,137 @@
 //! Texts of commands, and how each is read and written.
-use super::{first_command, is_both, is_written, player};
-use rr_code::Command;
+use super::{Deed, check_deeds, is_written};
+use crate::calls::{Form, check, check_refused, command};
 use rr_roster::{Corp, Private, ShareSource};
+
+static TEXTS: [&str; 6] = [
+    "open ann bob",
+    "open a b c d e f",
+    "buy ann",
+    "bid ann C&SL 45",
+    "pass ann",
+    "par ann B&O 100",
+];
 
 #[test]
 fn writes_what_it_reads(rt: HostRuntime) {
-    for text in [
-        "open ann bob",
-        "open a b c d e f",
-        "buy ann",
-        "bid ann C&SL 45",
-        "pass ann",
-        "par ann B&O 100",
-    ] {
-        let command = Command::read(text.as_bytes()).expect(&rt, "a command");
-        assert!(rt; is_written(&rt, rt.alloc(), &command, text));
+    let rt = &rt;
+    for &text in &TEXTS {
+        check(rt, text, is_written(rt, &command(rt, text), text), true);
     }
 }
+
+// The tables below have texts, and what a player does by each.
+
+static BIDS: [(&str, Deed); 8] = [
+    ("bid ann SV 25", Deed::Bid(Private::Sv, 25)),
+    ("bid ann C&SL 45", Deed::Bid(Private::Csl, 45)),
+    ("bid ann D&H 75", Deed::Bid(Private::Dh, 75)),
+    ("bid ann M&H 115", Deed::Bid(Private::Mh, 115)),
+    ("bid ann C&A 165", Deed::Bid(Private::Ca, 165)),
+    ("bid ann B&O 225", Deed::Bid(Private::Bo, 225)),
+    ("bid ann B&O 0", Deed::Bid(Private::Bo, 0)),
+    (
+        "bid ann B&O 9999999999",
+        Deed::Bid(Private::Bo, 9_999_999_999),
+    ),
+];
 
 #[test]
 fn reads_bids(rt: HostRuntime) {
-    let player = player(&rt, "ann");
-    for (text, private, amount) in [
-        ("bid ann SV 25", Private::Sv, 25),
-        ("bid ann C&SL 45", Private::Csl, 45),
-        ("bid ann D&H 75", Private::Dh, 75),
-        ("bid ann M&H 115", Private::Mh, 115),
-        ("bid ann C&A 165", Private::Ca, 165),
-        ("bid ann B&O 225", Private::Bo, 225),
-        ("bid ann B&O 0", Private::Bo, 0),
-        ("bid ann B&O 9999999999", Private::Bo, 9_999_999_999),
-    ] {
-        let bid = Command::Bid {
-            player,
-            private,
-            amount,
-        };
-        assert!(rt; is_both(&rt, rt.alloc(), text, &bid));
-    }
+    check_deeds(&rt, "ann", &BIDS);
 }
+
+static PARS: [(&str, Deed); 8] = [
+    ("par bob PRR 100", Deed::Par(Corp::Prr, 100)),
+    ("par bob NYC 90", Deed::Par(Corp::Nyc, 90)),
+    (
+        "par bob CPR 9999999999",
+        Deed::Par(Corp::Cpr, 9_999_999_999),
+    ),
+    ("par bob B&O 67", Deed::Par(Corp::Bo, 67)),
+    ("par bob C&O 0", Deed::Par(Corp::Co, 0)),
+    ("par bob ERIE 82", Deed::Par(Corp::Erie, 82)),
+    ("par bob NYNH 71", Deed::Par(Corp::Nynh, 71)),
+    ("par bob B&M 76", Deed::Par(Corp::Bm, 76)),
+];
 
 #[test]
 fn reads_pars(rt: HostRuntime) {
-    let player = player(&rt, "bob");
-    for (text, corp, price) in [
-        ("par bob PRR 100", Corp::Prr, 100),
-        ("par bob NYC 90", Corp::Nyc, 90),
-        ("par bob CPR 9999999999", Corp::Cpr, 9_999_999_999),
-        ("par bob B&O 67", Corp::Bo, 67),
-        ("par bob C&O 0", Corp::Co, 0),
-        ("par bob ERIE 82", Corp::Erie, 82),
-        ("par bob NYNH 71", Corp::Nynh, 71),
-        ("par bob B&M 76", Corp::Bm, 76),
-    ] {
-        let par = Command::Par {
-            player,
-            corp,
-            price,
-        };
-        assert!(rt; is_both(&rt, rt.alloc(), text, &par));
-    }
+    check_deeds(&rt, "bob", &PARS);
 }
+
+static OF_ANN: [(&str, Deed); 2] = [("buy ann", Deed::BuyPrivate), ("pass ann", Deed::Pass)];
+
+static OF_A1: [(&str, Deed); 2] = [("buy a1", Deed::BuyPrivate), ("pass a1", Deed::Pass)];
+
+static OF_TWELVE_LETTERS: [(&str, Deed); 2] = [
+    ("buy abcdefghijkl", Deed::BuyPrivate),
+    ("pass abcdefghijkl", Deed::Pass),
+];
 
 #[test]
 fn reads_purchases_and_passes(rt: HostRuntime) {
-    for (bought, passed, name) in [
-        ("buy ann", "pass ann", "ann"),
-        ("buy a1", "pass a1", "a1"),
-        ("buy abcdefghijkl", "pass abcdefghijkl", "abcdefghijkl"),
-    ] {
-        let player = player(&rt, name);
-        assert!(rt; is_both(&rt, rt.alloc(), bought, &Command::BuyPrivate { player }));
-        assert!(rt; is_both(&rt, rt.alloc(), passed, &Command::Pass { player }));
-    }
+    let rt = &rt;
+    check_deeds(rt, "ann", &OF_ANN);
+    check_deeds(rt, "a1", &OF_A1);
+    check_deeds(rt, "abcdefghijkl", &OF_TWELVE_LETTERS);
 }
+
+static SHARE_PURCHASES: [(&str, Deed); 4] = [
+    (
+        "buy ann PRR offer",
+        Deed::BuyShare(Corp::Prr, ShareSource::Offer),
+    ),
+    (
+        "buy ann B&O pool",
+        Deed::BuyShare(Corp::Bo, ShareSource::Pool),
+    ),
+    (
+        "buy ann NYNH pool",
+        Deed::BuyShare(Corp::Nynh, ShareSource::Pool),
+    ),
+    (
+        "buy ann B&M offer",
+        Deed::BuyShare(Corp::Bm, ShareSource::Offer),
+    ),
+];
 
 #[test]
 fn reads_share_purchases(rt: HostRuntime) {
-    let player = player(&rt, "ann");
-    for (text, corp, source) in [
-        ("buy ann PRR offer", Corp::Prr, ShareSource::Offer),
-        ("buy ann B&O pool", Corp::Bo, ShareSource::Pool),
-        ("buy ann NYNH pool", Corp::Nynh, ShareSource::Pool),
-        ("buy ann B&M offer", Corp::Bm, ShareSource::Offer),
-    ] {
-        let buy = Command::BuyShare {
-            player,
-            corp,
-            source,
-        };
-        assert!(rt; is_both(&rt, rt.alloc(), text, &buy));
-    }
+    check_deeds(&rt, "ann", &SHARE_PURCHASES);
 }
+
+static SALES: [(&str, Deed); 4] = [
+    ("sell bob ERIE 1", Deed::Sell(Corp::Erie, 1)),
+    ("sell bob C&O 5", Deed::Sell(Corp::Co, 5)),
+    ("sell bob CPR 0", Deed::Sell(Corp::Cpr, 0)),
+    (
+        "sell bob NYC 9999999999",
+        Deed::Sell(Corp::Nyc, 9_999_999_999),
+    ),
+];
 
 #[test]
 fn reads_sales(rt: HostRuntime) {
-    let player = player(&rt, "bob");
-    for (text, corp, count) in [
-        ("sell bob ERIE 1", Corp::Erie, 1),
-        ("sell bob C&O 5", Corp::Co, 5),
-        ("sell bob CPR 0", Corp::Cpr, 0),
-        ("sell bob NYC 9999999999", Corp::Nyc, 9_999_999_999),
-    ] {
-        let sell = Command::Sell {
-            player,
-            corp,
-            count,
-        };
-        assert!(rt; is_both(&rt, rt.alloc(), text, &sell));
-    }
+    check_deeds(&rt, "bob", &SALES);
 }
+
+static SWAPS_AND_AN_END: [(&str, Deed); 3] = [
+    ("swap cat9 offer", Deed::Swap(ShareSource::Offer)),
+    ("swap cat9 pool", Deed::Swap(ShareSource::Pool)),
+    ("done cat9", Deed::Done),
+];
 
 #[test]
 fn reads_swaps_and_the_end_of_a_turn(rt: HostRuntime) {
-    let player = player(&rt, "cat9");
-    for (text, source) in [
-        ("swap cat9 offer", ShareSource::Offer),
-        ("swap cat9 pool", ShareSource::Pool),
-    ] {
-        assert!(rt; is_both(&rt, rt.alloc(), text, &Command::Swap { player, source }));
-    }
-    assert!(rt; is_both(&rt, rt.alloc(), "done cat9", &Command::Done { player }));
+    check_deeds(&rt, "cat9", &SWAPS_AND_AN_END);
 }
 
 #[test]
 fn refuses_other_openings(rt: HostRuntime) {
-    let read = first_command(
+    check_refused(
+        &rt,
+        Form::Command,
         "open
 open\x20
 open ann
@@ -144,12 +150,13 @@ open ann 1bob
 open ann,bob
 Open ann bob",
     );
-    assert!(rt; read.is_none());
 }
 
 #[test]
 fn refuses_other_purchases_and_passes(rt: HostRuntime) {
-    let read = first_command(
+    check_refused(
+        &rt,
+        Form::Command,
         "
 buy
 buy\x20
@@ -173,12 +180,13 @@ pass pool
 pass ann 5
 Pass ann",
     );
-    assert!(rt; read.is_none());
 }
 
 #[test]
 fn refuses_other_bids(rt: HostRuntime) {
-    let read = first_command(
+    check_refused(
+        &rt,
+        Form::Command,
         "bid ann B&O 10000000000
 bid ann B&O 0225
 bid ann B&O 00
@@ -202,12 +210,13 @@ bid
 bid ann
 Bid ann B&O 225",
     );
-    assert!(rt; read.is_none());
 }
 
 #[test]
 fn refuses_other_pars(rt: HostRuntime) {
-    let read = first_command(
+    check_refused(
+        &rt,
+        Form::Command,
         "par
 par ann
 par ann B&O
@@ -226,12 +235,13 @@ par ann B&O -67
 parann B&O 67
 Par ann B&O 67",
     );
-    assert!(rt; read.is_none());
 }
 
 #[test]
 fn refuses_other_share_purchases(rt: HostRuntime) {
-    let read = first_command(
+    check_refused(
+        &rt,
+        Form::Command,
         "buy ann PRR
 buy ann PRR\x20
 buy ann PRR bank
@@ -247,12 +257,13 @@ buy ann pool
 buy pool PRR offer
 buy PRR offer",
     );
-    assert!(rt; read.is_none());
 }
 
 #[test]
 fn refuses_other_sales_and_swaps(rt: HostRuntime) {
-    let read = first_command(
+    check_refused(
+        &rt,
+        Form::Command,
         "sell
 sell bob ERIE
 sell bob ERIE\x20
@@ -276,5 +287,4 @@ done cat\x20
 done pool
 donecat",
     );
-    assert!(rt; read.is_none());
 }
