@@ -1,5 +1,7 @@
-//! What several of the tests share. The helpers have no contract, so that their callers' proofs stay small.
-use rr_books::Seat;
+//! What several of the tests share. The helpers have almost no contract, so that their callers' proofs stay small.
+ghost use Rattle.rr_desk.specs.Position.Position.{Fits};
+
+use rr_books::{Cert, Entry, Marker, Place, Seat};
 use rr_desk::Position;
 use rr_roster::Roster;
 use rr_roster::chart::Chart;
@@ -25,8 +27,9 @@ pub(crate) const A: Seat = Seat(0);
 
 pub(crate) const B: Seat = Seat(1);
 
-pub(crate) fn roster(rt: &impl Abort, alloc: Global, text: &str) -> Roster {
-    Roster::read(alloc, text).expect(rt, "a roster")
+/// The roster of the usual numbers.
+pub(crate) fn roster(rt: &impl Abort, alloc: Global) -> Roster {
+    Roster::read(alloc, ROSTER).expect(rt, "a roster")
 }
 
 pub(crate) fn chart(rt: &impl Abort, alloc: Global, text: &str) -> Chart {
@@ -37,5 +40,20 @@ pub(crate) fn chart(rt: &impl Abort, alloc: Global, text: &str) -> Chart {
 pub(crate) fn position(rt: &impl Abort, alloc: Global, players: u8) -> Position {
     assert!(rt; players >= 2);
     assert!(rt; players <= 6);
-    Position::open(players, &roster(rt, alloc, ROSTER))
+    Position::open(players, &roster(rt, alloc))
+}
+
+/// The table follows an entry. The callers give theirs away, so that it is dropped here alone.
+pub(crate) fn follow(rt: &impl Abort, table: &mut Position, entry: Entry)
+    requires { Fits table.old entry }
+{
+    table.follow(&entry).expect(rt, "room");
+}
+
+pub(crate) fn give(rt: &impl Abort, table: &mut Position, cert: Cert, to: Place) {
+    follow(rt, table, Entry::Move { cert, to });
+}
+
+pub(crate) fn begin_stock_round(rt: &impl Abort, table: &mut Position) {
+    follow(rt, table, Entry::Step(Marker::Stock));
 }

@@ -1,6 +1,6 @@
 //! Rows on a small chart that has each zone.
-use crate::fixtures::{A, B, chart, position};
-use rr_books::{Cell, Cert, Corp, Entry, Marker, Place, Private, Refusal, Seat, ShareNumber};
+use crate::fixtures::{A, B, begin_stock_round, chart, follow, give, position};
+use rr_books::{Cert, Corp, Entry, Place, Private, Refusal, Seat, ShareNumber};
 use rr_desk::Position;
 use rr_market::par_cell;
 use rr_roster::chart::Chart;
@@ -33,196 +33,219 @@ enum At {
     Brown,
 }
 
-/// The corporation's certificates that a place gets: the president's, if asked, and so many shares from a number on.
-type Lot = (Corp, bool, usize, usize, Place);
+// The calls below have no contracts, so that what a test does costs its proof little.
 
-#[derive(Drop)]
-struct Table {
-    position: Position,
-    chart: Chart,
-}
-
-impl Table {
-    /// A table of so many players, with these privates and shares given, and these tokens put on the chart.
-    fn dealt(
-        rt: &impl Abort,
-        alloc: Global,
-        players: u8,
-        privates: &[(Private, Place)],
-        lots: &[Lot],
-        tokens: &[(Corp, At)],
-    ) -> Table {
-        let mut table = Table {
-            position: position(rt, alloc, players),
-            chart: chart(rt, alloc, CHART),
-        };
-        for (private, to) in privates {
-            table.give(rt, Cert::Private(*private), *to);
-        }
-        for lot in lots {
-            table.give_lot(rt, *lot);
-        }
-        for (corp, at) in tokens {
-            table.put(rt, *corp, *at);
-        }
-        table
-    }
-
-    fn give(&mut self, rt: &impl Abort, cert: Cert, to: Place) {
-        let entry = Entry::Move { cert, to };
-        self.position.follow(&entry).expect(rt, "room");
-    }
-
-    fn give_lot(&mut self, rt: &impl Abort, lot: Lot) {
-        let (corp, president, first, count, to) = lot;
-        if president {
-            self.give(rt, Cert::President(corp), to);
-        }
-        for number in ShareNumber::ALL.iter().skip(first).take(count) {
-            self.give(rt, Cert::Share(corp, *number), to);
-        }
-    }
-
-    fn put(&mut self, rt: &impl Abort, corp: Corp, at: At) {
-        match at {
-            At::Nowhere => (),
-            At::White => self.begin(rt, corp),
-            At::Yellow => self.fall(rt, corp, 0),
-            At::Orange => self.fall(rt, corp, 1),
-            At::Brown => self.fall(rt, corp, 2),
-        }
-    }
-
-    fn begin(&mut self, rt: &impl Abort, corp: Corp) {
-        let cell = par_cell(&self.chart, 67).expect(rt, "a par");
-        self.mark(rt, corp, cell);
-    }
-
-    fn mark(&mut self, rt: &impl Abort, corp: Corp, cell: Cell) {
-        let entry = Entry::Mark { corp, cell };
-        self.position.follow(&entry).expect(rt, "room");
-    }
-
-    fn fall(&mut self, rt: &impl Abort, corp: Corp, rows: u8) {
-        self.begin(rt, corp);
-        self.step_left(rt, corp);
-        self.step_down(rt, corp, rows);
-    }
-
-    fn step_left(&mut self, rt: &impl Abort, corp: Corp) {
-        let market = self.position.market();
-        if let Some(cell) = market.cell_after_withholding(&self.chart, corp) {
-            self.mark(rt, corp, cell);
-        }
-    }
-
-    fn step_down(&mut self, rt: &impl Abort, corp: Corp, rows: u8) {
-        let market = self.position.market();
-        if let Some(cell) = market.cell_after_sale(&self.chart, corp, rows) {
-            self.mark(rt, corp, cell);
-        }
-    }
-
-    fn begin_round(&mut self, rt: &impl Abort) {
-        let entry = Entry::Step(Marker::Stock);
-        self.position.follow(&entry).expect(rt, "room");
-    }
-
-    fn counted(&self, seat: Seat) -> u8 {
-        certificates_counted(&self.position, &self.chart, seat)
-    }
-
-    fn is_over_certificates(&self, seat: Seat) -> bool {
-        is_over_certificates(&self.position, &self.chart, seat)
-    }
-
-    fn takes_too_many(&self, seat: Seat, corp: Corp) -> bool {
-        would_be_over_certificates(&self.position, &self.chart, seat, corp)
-    }
-
-    fn is_over_sixty(&self, seat: Seat, corp: Corp) -> bool {
-        is_over_sixty(&self.position, &self.chart, seat, corp)
-    }
-
-    fn takes_too_much(&self, seat: Seat, corp: Corp, added: u8) -> bool {
-        would_be_over_sixty(&self.position, &self.chart, seat, corp, added)
-    }
-
-    fn is_over(&self, seat: Seat) -> bool {
-        is_over_limit(&self.position, &self.chart, seat)
-    }
-
-    fn sale(&self, seat: Seat, corp: Corp, count: u64) -> Result<(), Refusal> {
-        judge_sale(&self.position, &self.chart, seat, corp, count)
-    }
-
-    fn sell(&self, seat: Seat, corp: Corp) -> Result<(), Refusal> {
-        judge_sale_in_round(&self.position, &self.chart, seat, corp, 1)
-    }
-
-    /// Whether the seat has a lawful sale, and whether it must sell first.
-    fn selling(&self, seat: Seat) -> (bool, bool) {
-        let can_sell = has_lawful_sale(&self.position, &self.chart, seat);
-        (can_sell, must_sell_first(&self.position, &self.chart, seat))
+/// So many shares of the corporation, behind its first ones, go to a place.
+fn give_shares(
+    rt: &impl Abort,
+    table: &mut Position,
+    corp: Corp,
+    first: usize,
+    count: usize,
+    to: Place,
+) {
+    for number in ShareNumber::ALL.iter().skip(first).take(count) {
+        give(rt, table, Cert::Share(corp, *number), to);
     }
 }
 
-static SIX_PRIVATES: [(Private, Place); 3] = [
-    (Private::Sv, AT_A),
-    (Private::Bo, AT_A),
-    (Private::Csl, AT_B),
-];
+/// Puts the corporation's token into the white zone.
+fn begin(rt: &impl Abort, table: &mut Position, chart: &Chart, corp: Corp) {
+    let cell = par_cell(chart, 67).expect(rt, "a par");
+    follow(rt, table, Entry::Mark { corp, cell });
+}
 
-static SIX_LOTS: [Lot; 3] = [
-    (PRR, true, 0, 3, AT_A),
-    (NYC, true, 0, 4, AT_A),
-    (Corp::Bm, false, 0, 2, AT_A),
+/// Puts it into the yellow zone, on the left of the white one.
+fn step_left(rt: &impl Abort, table: &mut Position, chart: &Chart, corp: Corp) {
+    begin(rt, table, chart, corp);
+    let left = table.market().cell_after_withholding(chart, corp);
+    let cell = left.expect(rt, "a cell on the left");
+    follow(rt, table, Entry::Mark { corp, cell });
+}
+
+/// Puts it so many rows below the yellow zone.
+fn step_down(rt: &impl Abort, table: &mut Position, chart: &Chart, corp: Corp, rows: u8) {
+    step_left(rt, table, chart, corp);
+    let below = table.market().cell_after_sale(chart, corp, rows);
+    let cell = below.expect(rt, "a cell below");
+    follow(rt, table, Entry::Mark { corp, cell });
+}
+
+fn put(rt: &impl Abort, table: &mut Position, chart: &Chart, corp: Corp, at: At) {
+    match at {
+        At::Nowhere => (),
+        At::White => begin(rt, table, chart, corp),
+        At::Yellow => step_left(rt, table, chart, corp),
+        At::Orange => step_down(rt, table, chart, corp, 1),
+        At::Brown => step_down(rt, table, chart, corp, 2),
+    }
+}
+
+type Verdict = Result<(), Refusal>;
+
+/// What holds of a table.
+#[derive(Clone, Copy)]
+enum Fact {
+    /// So many certificates of the seat are counted.
+    Counts(Seat, u8),
+    /// Whether A has too many certificates.
+    HasTooMany(bool),
+    /// Whether it would have with one of the corporation more.
+    WouldHaveTooMany(Corp, bool),
+    /// Whether A has more than 60% of the PRR where it may not.
+    IsOverSixty(bool),
+    /// Whether it would have with so many percent more.
+    WouldBeOverSixty(u8, bool),
+    /// Whether A is over a limit.
+    IsOverLimit(bool),
+    /// A sale of so many of A's shares of the PRR has this verdict.
+    Sells(u64, Verdict),
+    /// A sale of one of them in the round under way has this verdict.
+    SellsInRound(Verdict),
+    /// Whether the seat can sell a share, and whether it must sell first.
+    CanAndMustSell(Seat, bool, bool),
+}
+
+use Fact::{
+    CanAndMustSell, Counts, HasTooMany, IsOverLimit, IsOverSixty, Sells, SellsInRound,
+    WouldBeOverSixty, WouldHaveTooMany,
+};
+
+/// Whether the seat has a lawful sale, and whether it must sell first.
+fn selling(table: &Position, chart: &Chart, seat: Seat) -> [bool; 2] {
+    let can_sell = has_lawful_sale(table, chart, seat);
+    [can_sell, must_sell_first(table, chart, seat)]
+}
+
+fn holds(table: &Position, chart: &Chart, fact: Fact) -> bool {
+    match fact {
+        Counts(seat, count) => certificates_counted(table, chart, seat) == count,
+        HasTooMany(wanted) => is_over_certificates(table, chart, A) == wanted,
+        WouldHaveTooMany(corp, wanted) => {
+            would_be_over_certificates(table, chart, A, corp) == wanted
+        }
+        IsOverSixty(wanted) => is_over_sixty(table, chart, A, PRR) == wanted,
+        WouldBeOverSixty(added, wanted) => {
+            would_be_over_sixty(table, chart, A, PRR, added) == wanted
+        }
+        IsOverLimit(wanted) => is_over_limit(table, chart, A) == wanted,
+        Sells(count, verdict) => judge_sale(table, chart, A, PRR, count) == verdict,
+        SellsInRound(verdict) => judge_sale_in_round(table, chart, A, PRR, 1) == verdict,
+        CanAndMustSell(seat, can, must) => selling(table, chart, seat) == [can, must],
+    }
+}
+
+/// What a table is dealt, and what is so then.
+#[derive(Clone, Copy)]
+enum Step {
+    /// The certificate goes to a place.
+    Gives(Cert, Place),
+    /// So many shares of the corporation, behind its first ones, go to a place.
+    Shares(Corp, usize, usize, Place),
+    /// The corporation's token is put into a zone.
+    Puts(Corp, At),
+    /// A stock round begins.
+    Begins,
+    /// This holds of it.
+    Then(Fact),
+}
+
+use Step::{Begins, Gives, Puts, Shares, Then};
+
+fn is_right(rt: &impl Abort, table: &mut Position, chart: &Chart, step: Step) -> bool {
+    match step {
+        Gives(cert, to) => {
+            give(rt, table, cert, to);
+            true
+        }
+        Shares(corp, first, count, to) => {
+            give_shares(rt, table, corp, first, count, to);
+            true
+        }
+        Puts(corp, at) => {
+            put(rt, table, chart, corp, at);
+            true
+        }
+        Begins => {
+            begin_stock_round(rt, table);
+            true
+        }
+        Then(fact) => holds(table, chart, fact),
+    }
+}
+
+/// Whether the steps go as they say, one behind the other.
+fn goes_so(rt: &impl Abort, alloc: Global, table: &mut Position, steps: &[Step]) -> bool {
+    let chart = chart(rt, alloc, CHART);
+    let mut right = true;
+    for step in steps {
+        right = right && is_right(rt, table, &chart, *step);
+    }
+    right
+}
+
+static COLOURED: [Step; 13] = [
+    Gives(Cert::Private(Private::Sv), AT_A),
+    Gives(Cert::Private(Private::Bo), AT_A),
+    Gives(Cert::Private(Private::Csl), AT_B),
+    Gives(Cert::President(PRR), AT_A),
+    Shares(PRR, 0, 3, AT_A),
+    Gives(Cert::President(NYC), AT_A),
+    Shares(NYC, 0, 4, AT_A),
+    Shares(Corp::Bm, 0, 2, AT_A),
+    Puts(PRR, At::White),
+    Then(Counts(A, 13)),
+    Puts(NYC, At::Yellow),
+    Then(Counts(A, 8)),
+    Then(Counts(B, 1)),
 ];
 
 #[test]
 fn certificates_in_a_coloured_zone_are_not_counted(rt: HostRuntime) {
-    let tokens = [(PRR, At::White)];
-    let mut table = Table::dealt(&rt, rt.alloc(), 6, &SIX_PRIVATES, &SIX_LOTS, &tokens);
-    let white = table.counted(A);
-    table.put(&rt, NYC, At::Yellow);
-    assert!(rt; [white, table.counted(A), table.counted(B)] == [13, 8, 1]);
+    let rt = &rt;
+    let mut table = position(rt, rt.alloc(), 6);
+    assert!(rt; goes_so(rt, rt.alloc(), &mut table, &COLOURED));
 }
 
-static PRIVATES: [(Private, Place); 2] = [(Private::Sv, AT_A), (Private::Csl, AT_A)];
+/// A has eleven certificates, and the NYC's token is in a coloured zone.
+static ELEVEN: [Step; 5] = [
+    Gives(Cert::Private(Private::Sv), AT_A),
+    Gives(Cert::Private(Private::Csl), AT_A),
+    Gives(Cert::President(PRR), AT_A),
+    Shares(PRR, 0, 8, AT_A),
+    Puts(NYC, At::Yellow),
+];
 
-/// Whether A, of so many players, with eleven certificates is over the limit; would be with one of the B&M, and of the
-/// NYC; and is with one more.
-fn limits_of_eleven(rt: &impl Abort, alloc: Global, players: u8) -> [bool; 4] {
-    let lots = [(PRR, true, 0, 8, AT_A)];
-    let mut table = Table::dealt(rt, alloc, players, &PRIVATES, &lots, &[(NYC, At::Yellow)]);
-    let eleven = table.is_over_certificates(A);
-    let white = table.takes_too_many(A, Corp::Bm);
-    let yellow = table.takes_too_many(A, NYC);
-    table.give(rt, Cert::Private(Private::Dh), AT_A);
-    [eleven, white, yellow, table.is_over_certificates(A)]
+static OF_SIX: [Step; 5] = [
+    Then(HasTooMany(false)),
+    Then(WouldHaveTooMany(Corp::Bm, true)),
+    Then(WouldHaveTooMany(NYC, false)),
+    Gives(Cert::Private(Private::Dh), AT_A),
+    Then(HasTooMany(true)),
+];
+
+static OF_FIVE: [Step; 5] = [
+    Then(HasTooMany(false)),
+    Then(WouldHaveTooMany(Corp::Bm, false)),
+    Then(WouldHaveTooMany(NYC, false)),
+    Gives(Cert::Private(Private::Dh), AT_A),
+    Then(HasTooMany(false)),
+];
+
+/// A table of so many players, where A has eleven certificates.
+fn with_eleven(rt: &impl Abort, alloc: Global, players: u8) -> Position {
+    let mut table = position(rt, alloc, players);
+    assert!(rt; goes_so(rt, alloc, &mut table, &ELEVEN));
+    table
 }
 
 #[test]
 fn six_players_hold_eleven_certificates(rt: HostRuntime) {
-    assert!(rt; limits_of_eleven(&rt, rt.alloc(), 6) == [false, true, false, true]);
-    assert!(rt; limits_of_eleven(&rt, rt.alloc(), 5) == [false; 4]);
-}
-
-/// Whether A with 60% is over the limit of 60%, would be with no more, and with 10% more; is then; and is over a limit.
-fn limits_at(rt: &impl Abort, alloc: Global, at: At) -> [bool; 5] {
-    let lots = [(PRR, true, 0, 4, AT_A)];
-    let mut table = Table::dealt(rt, alloc, 3, &[], &lots, &[(PRR, at)]);
-    let sixty = table.is_over_sixty(A, PRR);
-    let same = table.takes_too_much(A, PRR, 0);
-    let more = table.takes_too_much(A, PRR, 10);
-    table.give_lot(rt, (PRR, false, 4, 1, AT_A));
-    [
-        sixty,
-        same,
-        more,
-        table.is_over_sixty(A, PRR),
-        table.is_over(A),
-    ]
+    let rt = &rt;
+    let mut six = with_eleven(rt, rt.alloc(), 6);
+    assert!(rt; goes_so(rt, rt.alloc(), &mut six, &OF_SIX));
+    let mut five = with_eleven(rt, rt.alloc(), 5);
+    assert!(rt; goes_so(rt, rt.alloc(), &mut five, &OF_FIVE));
 }
 
 /// Zones, and whether more than 60% is too much there.
@@ -234,78 +257,91 @@ static ZONES: [(At, bool); 5] = [
     (At::Brown, false),
 ];
 
-fn are_limited(rt: &impl Abort, alloc: Global, zones: &[(At, bool)]) -> bool {
-    for (at, is_over) in zones {
-        let over = *is_over;
-        if limits_at(rt, alloc, *at) != [false, false, over, over, over] {
-            return false;
-        }
-    }
-    true
+/// A has 60% of the PRR, whose token is in this zone, and then 70%.
+fn sixty_and_seventy(at: At, is_over: bool) -> [Step; 9] {
+    [
+        Gives(Cert::President(PRR), AT_A),
+        Shares(PRR, 0, 4, AT_A),
+        Puts(PRR, at),
+        Then(IsOverSixty(false)),
+        Then(WouldBeOverSixty(0, false)),
+        Then(WouldBeOverSixty(10, is_over)),
+        Shares(PRR, 4, 1, AT_A),
+        Then(IsOverSixty(is_over)),
+        Then(IsOverLimit(is_over)),
+    ]
 }
 
 #[test]
 fn more_than_sixty_percent_is_held_in_orange_and_brown(rt: HostRuntime) {
-    assert!(rt; are_limited(&rt, rt.alloc(), &ZONES));
-}
-
-/// A verdict on a sale of so many shares.
-type Verdict = (u64, Result<(), Refusal>);
-
-static TO_THE_POOL: [Verdict; 5] = [
-    (3, Err(Refusal::PoolOverHalf)),
-    (2, Ok(())),
-    (0, Err(Refusal::NotForSale)),
-    (4, Err(Refusal::NotForSale)),
-    (1844674407370955162, Err(Refusal::NotForSale)),
-];
-
-/// Whether each of A's sales of the PRR has its verdict.
-fn are_judged(table: &Table, verdicts: &[Verdict]) -> bool {
-    for (count, verdict) in verdicts {
-        if table.sale(A, PRR, *count) != *verdict {
-            return false;
-        }
+    let rt = &rt;
+    for (at, is_over) in &ZONES {
+        let mut table = position(rt, rt.alloc(), 3);
+        let steps = sixty_and_seventy(*at, *is_over);
+        assert!(rt; goes_so(rt, rt.alloc(), &mut table, &steps));
     }
-    true
 }
+
+static TO_THE_POOL: [Step; 9] = [
+    Shares(PRR, 0, 3, Place::Pool),
+    Shares(PRR, 3, 3, AT_A),
+    Then(Sells(1, Err(Refusal::NotForSale))),
+    Puts(PRR, At::White),
+    Then(Sells(3, Err(Refusal::PoolOverHalf))),
+    Then(Sells(2, Ok(()))),
+    Then(Sells(0, Err(Refusal::NotForSale))),
+    Then(Sells(4, Err(Refusal::NotForSale))),
+    Then(Sells(1844674407370955162, Err(Refusal::NotForSale))),
+];
 
 #[test]
 fn the_pool_holds_half(rt: HostRuntime) {
-    let lots = [(PRR, false, 0, 3, Place::Pool), (PRR, false, 3, 3, AT_A)];
-    let mut table = Table::dealt(&rt, rt.alloc(), 3, &[], &lots, &[]);
-    assert!(rt; table.sale(A, PRR, 1) == Err(Refusal::NotForSale));
-    table.put(&rt, PRR, At::White);
-    assert!(rt; are_judged(&table, &TO_THE_POOL));
+    let rt = &rt;
+    let mut table = position(rt, rt.alloc(), 3);
+    assert!(rt; goes_so(rt, rt.alloc(), &mut table, &TO_THE_POOL));
 }
+
+static SUCCESSION: [Step; 8] = [
+    Gives(Cert::President(PRR), AT_A),
+    Shares(PRR, 0, 1, AT_A),
+    Shares(PRR, 1, 1, AT_B),
+    Puts(PRR, At::White),
+    Then(Sells(1, Ok(()))),
+    Then(Sells(2, Err(Refusal::NotForSale))),
+    Shares(PRR, 2, 1, AT_B),
+    Then(Sells(2, Ok(()))),
+];
 
 #[test]
 fn a_president_leaves_a_successor(rt: HostRuntime) {
-    let lots = [(PRR, true, 0, 1, AT_A), (PRR, false, 1, 1, AT_B)];
-    let mut table = Table::dealt(&rt, rt.alloc(), 3, &[], &lots, &[(PRR, At::White)]);
-    let one = table.sale(A, PRR, 1);
-    let two = table.sale(A, PRR, 2);
-    table.give_lot(&rt, (PRR, false, 2, 1, AT_B));
-    let again = table.sale(A, PRR, 2);
-    assert!(rt; [one, two, again] == [Ok(()), Err(Refusal::NotForSale), Ok(())]);
+    let rt = &rt;
+    let mut table = position(rt, rt.alloc(), 3);
+    assert!(rt; goes_so(rt, rt.alloc(), &mut table, &SUCCESSION));
 }
+
+static FIRST_ROUNDS: [Step; 12] = [
+    Gives(Cert::President(NYC), AT_A),
+    Shares(NYC, 0, 5, AT_A),
+    Puts(NYC, At::White),
+    Begins,
+    Then(SellsInRound(Err(Refusal::FirstStockRound))),
+    Then(CanAndMustSell(A, false, false)),
+    Begins,
+    Then(SellsInRound(Err(Refusal::NotForSale))),
+    Then(CanAndMustSell(A, true, true)),
+    Then(CanAndMustSell(B, false, false)),
+    Shares(NYC, 0, 1, Place::Pool),
+    Then(CanAndMustSell(A, true, false)),
+];
 
 #[test]
 fn nothing_is_sold_in_the_first_stock_round(rt: HostRuntime) {
-    let lots = [(NYC, true, 0, 5, AT_A)];
-    let mut table = Table::dealt(&rt, rt.alloc(), 3, &[], &lots, &[(NYC, At::White)]);
-    table.begin_round(&rt);
-    let first = (table.sell(A, PRR), table.selling(A));
-    assert!(rt; first == (Err(Refusal::FirstStockRound), (false, false)));
-    table.begin_round(&rt);
-    let second = (table.sell(A, PRR), table.selling(A));
-    assert!(rt; second == (Err(Refusal::NotForSale), (true, true)));
-    let other = table.selling(B);
-    table.give_lot(&rt, (NYC, false, 0, 1, Place::Pool));
-    assert!(rt; [other, table.selling(A)] == [(false, false), (true, false)]);
+    let rt = &rt;
+    let mut table = position(rt, rt.alloc(), 3);
+    assert!(rt; goes_so(rt, rt.alloc(), &mut table, &FIRST_ROUNDS));
 }
 
 #[test]
-fn the_law_is_called(_rt: HostRuntime) {
+fn the_law_is_called() {
     one_share_suffices();
 }

@@ -1,6 +1,6 @@
 //! Tiles and tokens on the small board, with PRR's first token in A.
-use crate::fixtures::{B, ROSTER, position};
-use rr_books::{Cert, Corp, Entry, Kind, Marker, Money, Party, Place, Private, Refusal, Train};
+use crate::fixtures::{B, ROSTER, follow, give, position};
+use rr_books::{Cert, Corp, Entry, Kind, Marker, Money, Party, Place, Private, Train};
 use rr_desk::layout::{Lay, Station};
 use rr_desk::{Desk, Position};
 use rr_kit::Kit;
@@ -34,34 +34,9 @@ green 23 x3 0-3 0-4
 green 24 x3 0-3 0-2
 ";
 
-/// The fault's number, or 0, how many entries there are, whether the command's words come first, and PRR's money.
-type Outcome = (u8, usize, bool, i64);
+const PRR: Corp = Corp::Prr;
 
 // The calls below have no contracts, so that what a test does costs its proof little.
-
-/// Two players, and PRR with 100 dollars. This place has SV, and this one the first 3.
-fn funded(rt: &impl Abort, alloc: Global, sv: Place, three: Place) -> Position {
-    let mut funded = position(rt, alloc, 2);
-    let pay = Entry::Pay {
-        from: Party::Bank,
-        to: Party::Corp(Corp::Prr),
-        amount: Money(100),
-    };
-    funded.follow(&pay).expect(rt, "room");
-    let private = Entry::Move {
-        cert: Cert::Private(Private::Sv),
-        to: sv,
-    };
-    funded.follow(&private).expect(rt, "room");
-    let train = Train {
-        kind: Kind::Three,
-        number: 1,
-    };
-    assert!(rt; funded.books().has_train(train));
-    let first = Entry::Train { train, to: three };
-    funded.follow(&first).expect(rt, "room");
-    funded
-}
 
 /// The kit with this board.
 fn kit(rt: &impl Abort, alloc: Global, board: &str) -> Kit {
@@ -72,43 +47,63 @@ fn name(rt: &impl Abort, word: &str) -> HexName {
     HexName::read(word.as_bytes()).expect(rt, "a hex's name")
 }
 
+/// The first 3 goes to a place.
+fn give_three(rt: &impl Abort, table: &mut Position, to: Place) {
+    let kind = Kind::Three;
+    let train = Train { kind, number: 1 };
+    assert!(rt; table.books().has_train(train));
+    follow(rt, table, Entry::Train { train, to });
+}
+
+/// A token of the corporation stands in the first centre of a hex.
+fn station(rt: &impl Abort, table: &mut Position, corp: Corp, hex: &str) {
+    let hex = name(rt, hex);
+    let centre = 1;
+    follow(rt, table, Entry::Station { corp, hex, centre });
+}
+
+/// Two players, and PRR at home with 100 dollars. The first place has the SV, the second one the first 3.
+fn at_home(rt: &impl Abort, alloc: Global, sv: Place, three: Place) -> Position {
+    let mut table = position(rt, alloc, 2);
+    let pay = Entry::Pay {
+        from: Party::Bank,
+        to: Party::Corp(PRR),
+        amount: Money(100),
+    };
+    follow(rt, &mut table, pay);
+    give(rt, &mut table, Cert::Private(Private::Sv), sv);
+    give_three(rt, &mut table, three);
+    station(rt, &mut table, PRR, "A");
+    table
+}
+
+/// How many entries a command added, whether its words come first, and PRR's money then.
+type Added = (usize, bool, i64);
+
+/// What a command added, or the number of its fault.
+type Outcome = Result<Added, u8>;
+
 fn begins_with_words(entries: &[Entry]) -> bool {
     matches!(entries, [Entry::Step(Marker::Act(_)), ..])
 }
 
-fn refused(fault: Refusal) -> Outcome {
-    (fault.number(), 0, false, 0)
-}
-
-/// What was taken.
-fn taken(desk: Desk) -> (Outcome, Position) {
+/// What was taken. The table is as it is behind it.
+fn settle(desk: Desk, table: &mut Position) -> Added {
     let (position, entries) = desk.into_parts();
+    *table = *position;
     let entries = entries.as_slice();
-    let cash = position.books().balance(Party::Corp(Corp::Prr)).0;
-    let outcome = (0, entries.len(), begins_with_words(entries), cash);
-    (outcome, *position)
+    let cash = table.books().balance(Party::Corp(PRR)).0;
+    (entries.len(), begins_with_words(entries), cash)
 }
-
-/// A tile on a hex, turned.
-type Tile = (&'static str, u16, u8);
 
 /// Lays a tile for PRR.
-fn lay(
-    rt: &impl Abort,
-    alloc: Global,
-    kit: &Kit,
-    position: Position,
-    tile: Tile,
-) -> (Outcome, Position) {
-    let (hex, tile, turn) = tile;
-    let hex = name(rt, hex);
-    let lay = Lay { hex, tile, turn };
-    if let Err(fault) = rr_lay::judge_lay(alloc, kit, &position, Corp::Prr, &lay) {
-        return (refused(fault), position);
+fn lay(rt: &impl Abort, alloc: Global, kit: &Kit, table: &mut Position, lay: &Lay) -> Outcome {
+    if let Err(fault) = rr_lay::judge_lay(alloc, kit, table, PRR, lay) {
+        return Err(fault.number());
     }
-    let mut desk = Desk::new(alloc, &position).expect(rt, "memory");
-    rr_lay::play_lay(kit, &mut desk, Corp::Prr, &lay).expect(rt, "memory");
-    taken(desk)
+    let mut desk = Desk::new(alloc, table).expect(rt, "memory");
+    rr_lay::play_lay(kit, &mut desk, PRR, lay).expect(rt, "memory");
+    Ok(settle(desk, table))
 }
 
 /// Places PRR's token in a centre of a hex.
@@ -116,168 +111,162 @@ fn place(
     rt: &impl Abort,
     alloc: Global,
     kit: &Kit,
-    position: Position,
-    hex: &str,
-    centre: u64,
-) -> (Outcome, Position) {
+    table: &mut Position,
+    station: &Station,
+) -> Outcome {
+    if let Err(fault) = rr_lay::judge_station(alloc, kit, table, station) {
+        return Err(fault.number());
+    }
+    let mut desk = Desk::new(alloc, table).expect(rt, "memory");
+    rr_lay::play_station(&mut desk, station).expect(rt, "memory");
+    Ok(settle(desk, table))
+}
+
+/// A tile on the hex of this name, turned.
+fn tile_on(rt: &impl Abort, hex: &str, tile: u16, turn: u8) -> Lay {
     let hex = name(rt, hex);
-    let corp = Corp::Prr;
-    let station = Station { corp, hex, centre };
-    if let Err(fault) = rr_lay::judge_station(alloc, kit, &position, &station) {
-        return (refused(fault), position);
-    }
-    let mut desk = Desk::new(alloc, &position).expect(rt, "memory");
-    rr_lay::play_station(&mut desk, &station).expect(rt, "memory");
-    taken(desk)
+    Lay { hex, tile, turn }
 }
 
-/// The position with a token on the first centre of a hex.
-fn with_token(rt: &impl Abort, position: Position, corp: Corp, hex: &str) -> Position {
-    let mut more = position;
-    let token = Entry::Station {
-        corp,
-        hex: name(rt, hex),
-        centre: 1,
-    };
-    more.follow(&token).expect(rt, "room");
-    more
+/// PRR's token in a centre of the hex of this name.
+fn token_in(rt: &impl Abort, hex: &str, centre: u64) -> Station {
+    let hex = name(rt, hex);
+    let corp = PRR;
+    Station { corp, hex, centre }
 }
 
-/// PRR at home, with what `funded` says.
-fn at_home(rt: &impl Abort, alloc: Global, sv: Place, three: Place) -> Position {
-    with_token(rt, funded(rt, alloc, sv, three), Corp::Prr, "A")
+/// How many tiles were laid, and how many tokens are on the board.
+fn sizes(table: &Position) -> (usize, usize) {
+    let layout = table.layout();
+    (layout.lays().len(), layout.stations().len())
 }
 
-/// How many tiles were laid.
-fn lays(position: &Position) -> usize {
-    position.layout().lays().len()
+/// What comes of a tile and of a token, and what is on the board.
+#[derive(Clone, Copy)]
+enum Step {
+    /// PRR lays this tile on the hex of this name, turned so.
+    Lays(&'static str, u16, u8, Outcome),
+    /// PRR places a token in this centre of the hex of this name.
+    Places(&'static str, u64, Outcome),
+    /// NYC's token comes into the first centre of D.
+    FillsD,
+    /// So many tiles were laid, and so many tokens are on the board.
+    Has(usize, usize),
 }
 
-/// Where the first 3 is, a tile, and why it is refused while the SV is in the offering.
-static REFUSED_TILES: [(Place, Tile, u8); 6] = [
-    (Place::Offer, ("B", 23, 2), 32),
-    (Place::Gone, ("B", 24, 2), 34),
-    (Place::Gone, ("Z", 7, 0), 1),
-    (Place::Gone, ("F", 8, 0), 1),
-    (Place::Gone, ("A", 23, 0), 32),
-    (Place::Gone, ("F", 7, 0), 34),
-];
+use Step::{FillsD, Has, Lays, Places};
 
-fn is_tile_refused(
-    rt: &impl Abort,
-    alloc: Global,
-    kit: &Kit,
-    three: Place,
-    tile: Tile,
-    fault: u8,
-) -> bool {
-    let start = at_home(rt, alloc, Place::Offer, three);
-    let (outcome, after) = lay(rt, alloc, kit, start, tile);
-    outcome == (fault, 0, false, 0) && lays(&after) == 0
-}
-
-fn are_tiles_refused(
-    rt: &impl Abort,
-    alloc: Global,
-    kit: &Kit,
-    rows: &[(Place, Tile, u8)],
-) -> bool {
-    for (three, tile, fault) in rows {
-        if !is_tile_refused(rt, alloc, kit, *three, *tile, *fault) {
-            return false;
+fn is_right(rt: &impl Abort, alloc: Global, kit: &Kit, table: &mut Position, step: Step) -> bool {
+    match step {
+        Lays(hex, tile, turn, wanted) => {
+            lay(rt, alloc, kit, table, &tile_on(rt, hex, tile, turn)) == wanted
         }
+        Places(hex, centre, wanted) => {
+            place(rt, alloc, kit, table, &token_in(rt, hex, centre)) == wanted
+        }
+        FillsD => {
+            station(rt, table, Corp::Nyc, "D");
+            true
+        }
+        Has(tiles, tokens) => sizes(table) == (tiles, tokens),
     }
-    true
 }
+
+/// Where the SV is, and where the first 3 is.
+type Start = (Place, Place);
+
+/// Whether the steps go as they say on this board, one behind the other.
+fn goes_so(rt: &impl Abort, alloc: Global, board: &str, start: Start, steps: &[Step]) -> bool {
+    let kit = kit(rt, alloc, board);
+    let (sv, three) = start;
+    let mut table = at_home(rt, alloc, sv, three);
+    let mut right = true;
+    for step in steps {
+        right = right && is_right(rt, alloc, &kit, &mut table, *step);
+    }
+    right
+}
+
+/// Where the first 3 is, and a tile that is refused while the SV is in the offering.
+static REFUSED_TILES: [(Place, Step); 6] = [
+    (Place::Offer, Lays("B", 23, 2, Err(32))),
+    (Place::Gone, Lays("B", 24, 2, Err(34))),
+    (Place::Gone, Lays("Z", 7, 0, Err(1))),
+    (Place::Gone, Lays("F", 8, 0, Err(1))),
+    (Place::Gone, Lays("A", 23, 0, Err(32))),
+    (Place::Gone, Lays("F", 7, 0, Err(34))),
+];
 
 #[test]
 fn what_there_is_not_cannot_be_laid(rt: HostRuntime) {
-    let kit = kit(&rt, rt.alloc(), SMALL);
-    assert!(rt; are_tiles_refused(&rt, rt.alloc(), &kit, &REFUSED_TILES));
+    for (three, step) in &REFUSED_TILES {
+        let steps = [*step, Has(0, 1)];
+        assert!(rt; goes_so(&rt, rt.alloc(), SMALL, (Place::Offer, *three), &steps));
+    }
 }
+
+static A_GREEN_TILE: [Step; 2] = [Lays("B", 23, 2, Ok((3, true, 100))), Has(1, 1)];
 
 #[test]
 fn green_from_the_first_3(rt: HostRuntime) {
-    let kit = kit(&rt, rt.alloc(), SMALL);
-    let start = at_home(&rt, rt.alloc(), Place::Offer, Place::Gone);
-    let (outcome, after) = lay(&rt, rt.alloc(), &kit, start, ("B", 23, 2));
-    assert!(rt; outcome == (0, 3, true, 100) && lays(&after) == 1);
+    let start = (Place::Offer, Place::Gone);
+    assert!(rt; goes_so(&rt, rt.alloc(), SMALL, start, &A_GREEN_TILE));
 }
 
-/// The fault of a tile on F behind one on B, and PRR's money, where SV is at a place.
-fn blocked(rt: &impl Abort, alloc: Global, kit: &Kit, sv: Place) -> (u8, i64) {
-    let start = at_home(rt, alloc, sv, Place::Gone);
-    let (_, track) = lay(rt, alloc, kit, start, ("B", 23, 2));
-    let (outcome, _) = lay(rt, alloc, kit, track, ("F", 7, 3));
-    let (fault, _, _, cash) = outcome;
-    (fault, cash)
-}
+/// A tile on F behind one on B, where a player has the SV.
+static BLOCKED: [Step; 2] = [
+    Lays("B", 23, 2, Ok((3, true, 100))),
+    Lays("F", 7, 3, Err(36)),
+];
+
+/// The same where PRR has it.
+static NOT_BLOCKED: [Step; 2] = [
+    Lays("B", 23, 2, Ok((3, true, 100))),
+    Lays("F", 7, 3, Ok((3, true, 70))),
+];
 
 #[test]
 fn a_private_blocks_while_a_player_holds_it(rt: HostRuntime) {
-    let kit = kit(&rt, rt.alloc(), SMALL);
-    assert!(rt; blocked(&rt, rt.alloc(), &kit, Place::Seat(B)) == (36, 0));
-    assert!(rt; blocked(&rt, rt.alloc(), &kit, Place::Corp(Corp::Prr)) == (0, 70));
+    let of_player = (Place::Seat(B), Place::Gone);
+    assert!(rt; goes_so(&rt, rt.alloc(), SMALL, of_player, &BLOCKED));
+    let of_prr = (Place::Corp(PRR), Place::Gone);
+    assert!(rt; goes_so(&rt, rt.alloc(), SMALL, of_prr, &NOT_BLOCKED));
 }
 
-/// Whether a token in a centre of a hex is refused for this.
-fn is_token_refused(
-    rt: &impl Abort,
-    alloc: Global,
-    kit: &Kit,
-    start: Position,
-    token: (&str, u64, u8),
-) -> bool {
-    let (hex, centre, fault) = token;
-    let (outcome, _) = place(rt, alloc, kit, start, hex, centre);
-    outcome == (fault, 0, false, 0)
-}
+/// The SV and the first 3 are in the offering.
+const AT_FIRST: Start = (Place::Offer, Place::Offer);
 
-static REFUSED_TOKENS: [(&str, u64, u8); 3] = [("Z", 1, 1), ("C", 1, 37), ("D", 1, 37)];
-
-fn are_tokens_refused(
-    rt: &impl Abort,
-    alloc: Global,
-    kit: &Kit,
-    start: Position,
-    tokens: &[(&str, u64, u8)],
-) -> bool {
-    for token in tokens {
-        if !is_token_refused(rt, alloc, kit, start, *token) {
-            return false;
-        }
-    }
-    true
-}
+static REFUSED_TOKENS: [Step; 3] = [
+    Places("Z", 1, Err(1)),
+    Places("C", 1, Err(37)),
+    Places("D", 1, Err(37)),
+];
 
 #[test]
 fn the_second_token_has_its_places(rt: HostRuntime) {
-    let kit = kit(&rt, rt.alloc(), SMALL);
-    let start = at_home(&rt, rt.alloc(), Place::Offer, Place::Offer);
-    assert!(rt; are_tokens_refused(&rt, rt.alloc(), &kit, start, &REFUSED_TOKENS));
+    assert!(rt; goes_so(&rt, rt.alloc(), SMALL, AT_FIRST, &REFUSED_TOKENS));
 }
+
+static A_SECOND_TOKEN: [Step; 3] = [
+    Places("D", 257, Err(37)),
+    Places("D", 1, Ok((3, true, 60))),
+    Places("D", 1, Err(37)),
+];
 
 #[test]
 fn the_second_token(rt: HostRuntime) {
-    let wider = kit(&rt, rt.alloc(), WIDER);
-    let start = at_home(&rt, rt.alloc(), Place::Offer, Place::Offer);
-    assert!(rt; is_token_refused(&rt, rt.alloc(), &wider, start, ("D", 257, 37)));
-    let (outcome, after) = place(&rt, rt.alloc(), &wider, start, "D", 1);
-    assert!(rt; outcome == (0, 3, true, 60));
-    assert!(rt; is_token_refused(&rt, rt.alloc(), &wider, after, ("D", 1, 37)));
+    assert!(rt; goes_so(&rt, rt.alloc(), WIDER, AT_FIRST, &A_SECOND_TOKEN));
 }
+
+static A_FILLED_CITY: [Step; 3] = [FillsD, Places("D", 1, Err(37)), Has(0, 2)];
 
 #[test]
 fn a_filled_city_takes_no_token(rt: HostRuntime) {
-    let kit = kit(&rt, rt.alloc(), SMALL);
-    let start = at_home(&rt, rt.alloc(), Place::Offer, Place::Offer);
-    let filled = with_token(&rt, start, Corp::Nyc, "D");
-    let (outcome, after) = place(&rt, rt.alloc(), &kit, filled, "D", 1);
-    assert!(rt; outcome == (37, 0, false, 0) && after.layout().stations().len() == 2);
+    assert!(rt; goes_so(&rt, rt.alloc(), SMALL, AT_FIRST, &A_FILLED_CITY));
 }
 
 #[test]
-fn laws_are_called(_rt: HostRuntime) {
+fn laws_are_called() {
     one_verdict_on_a_tile();
     one_verdict_on_a_token();
 }

@@ -6,7 +6,7 @@ use rr_laws::soundness::laws::{
 };
 
 #[test]
-fn laws_are_called(_rt: HostRuntime) {
+fn laws_are_called() {
     turn_is_at_the_table();
     stock_stays_solvent();
     stock_stays_dealt();

@@ -5,7 +5,7 @@ use rr_laws::turns::laws::{
 };
 
 #[test]
-fn laws_of_turns_are_called(_rt: HostRuntime) {
+fn laws_of_turns_are_called() {
     lawful_commands_are_of_turns();
     turns_keep_good_order();
     revenue_is_never_negative();
@@ -13,6 +13,6 @@ fn laws_of_turns_are_called(_rt: HostRuntime) {
 }
 
 #[test]
-fn law_of_good_order_is_called(_rt: HostRuntime) {
+fn law_of_good_order_is_called() {
     rr_laws::soundness::laws::good_order_has_greatest_presidents();
 }
