@@ -96,7 +96,7 @@ fn an_opened_game_is_spelled(rt: HostRuntime) {
     assert!(rt; is_right == [true; 4]);
 }
 
-/// How many commands a game has played, how many turns have ended, what it waits for, and whether a is its first player.
+/// How many commands a game has played, how many turns have ended, what it waits for, and whether a sits first.
 type Told = (u32, u64, Due, bool);
 
 fn told(game: &Game, kit: &Kit) -> Told {
