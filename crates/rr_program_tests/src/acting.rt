@@ -1,140 +1,132 @@
 //! What the program does with a plan, over a disk in memory. Whole games stand in the folder `games` of the repository.
 //! What is refused at the start and what becomes of the standard streams is tried on the built program by
 //! `tools/try-the-program`, failures of the device by `tools/stop-anywhere`.
-use crate::kits::{ROOM, ROSTER, formatted, texts};
-use rr_cli::{Ending, Plan, act, refuse, status};
-use rr_disk::{Disk, MemoryDisk};
+use crate::calls::{carry_out, content, empty_writer, has_written, reader_of, refuse_to};
+use crate::kits::{ROSTER, empty, formatted, texts};
+use crate::plans::{Asked, plan_of};
+use rr_cli::{Ending, status};
+use rr_disk::Disk;
 use rr_moderator::Fault;
-use rr_serve::{CountingReader, CountingWriter, Input, Output};
-use std::alloc::{AllocError, Global};
-use std::test::Fail;
+use std::alloc::Global;
+use std::process::Abort;
 
-fn format_plan(alloc: Global) -> Result<Plan, AllocError> {
-    Ok(Plan::Format {
-        file: String::from_str(alloc, "f")?,
-        chart: String::from_str(alloc, "c")?,
-        roster: String::from_str(alloc, "r")?,
-        tiles: String::from_str(alloc, "t")?,
-        board: String::from_str(alloc, "b")?,
-    })
+/// What is asked for, the roster's text and what there is to read; with which status the program ends, and what it
+/// writes.
+struct Run {
+    asked: Asked,
+    roster: &'static [u8],
+    input: &'static [u8],
+    status: u8,
+    told: &'static [u8],
 }
 
-fn serve_plan(alloc: Global) -> Result<Plan, AllocError> {
-    Ok(Plan::Serve {
-        file: String::from_str(alloc, "f")?,
-    })
+// The calls below have no contracts, so that what a test does costs its proof little.
+
+/// The disk after a run, which is to end and to write as it says.
+fn after<D: Disk + Drop>(rt: &(impl Abort + AllocGlobal), run: &Run, disk: D) -> D {
+    let alloc = rt.alloc();
+    let plan = plan_of(alloc, &run.asked).expect(rt, "memory");
+    let mut reader = reader_of(run.input);
+    let mut writer = empty_writer(alloc);
+    let texts = texts(run.roster);
+    let (status, left) = carry_out(alloc, &plan, texts, disk, &mut reader, &mut writer);
+    let is_right = [status == run.status, has_written(writer, run.told)];
+    assert!(rt; is_right == [true; 2]);
+    left
 }
 
-fn check_plan(alloc: Global) -> Result<Plan, AllocError> {
-    Ok(Plan::Check {
-        file: String::from_str(alloc, "f")?,
-    })
-}
+const FORMAT: Asked = Asked::Format {
+    file: "f",
+    chart: "c",
+    roster: "r",
+    tiles: "t",
+    board: "b",
+};
 
-// The calls below have no contracts and assert nothing, so that what a test does costs its proof little.
+static WITH_A_BAD_ROSTER: Run = Run {
+    asked: FORMAT,
+    roster: b"private = []",
+    input: b"",
+    status: 3,
+    told: b"no 4 bad roster\n",
+};
 
-/// Carries a plan out over any streams, which costs a proof less than over certain ones.
-fn act_on<D: Disk + Drop, I: Input, O: Output>(
-    alloc: Global,
-    plan: &Plan,
-    roster: &[u8],
-    disk: D,
-    reader: &mut I,
-    writer: &mut O,
-) -> (u8, D) {
-    act(alloc, plan, texts(roster), disk, reader, writer)
-}
+static WITH_A_ROSTER: Run = Run {
+    asked: FORMAT,
+    roster: ROSTER,
+    input: b"",
+    status: 0,
+    told: b"ok\n",
+};
 
-/// Carries a plan out: whether it ends with this status and writes this, and the disk.
-fn acted<D: Disk + Drop>(
-    alloc: Global,
-    plan: &Plan,
-    roster: &[u8],
-    disk: D,
-    input: &[u8],
-    expected: (u8, &[u8]),
-) -> (bool, D) {
-    let mut reader = CountingReader::new(input);
-    let mut output = CountingWriter::new(Vec::new(alloc));
-    let (status, disk) = act_on(alloc, plan, roster, disk, &mut reader, &mut output);
-    let right = status == expected.0 && output.into_inner().as_slice() == expected.1;
-    (right, disk)
-}
+static ONCE_MORE: Run = Run {
+    asked: FORMAT,
+    roster: ROSTER,
+    input: b"",
+    status: 3,
+    told: b"no 64 not empty\n",
+};
 
-/// Whether the disk isn't made a file with another roster, is made one with this roster, and not again.
-fn is_formatted_once(alloc: Global, plan: &Plan, empty: MemoryDisk) -> bool {
-    let refused = (3, b"no 4 bad roster\n".as_slice());
-    let (first, disk) = acted(alloc, plan, b"private = []", empty, b"", refused);
-    let untouched = disk.content().is_empty();
-    let (second, disk) = acted(alloc, plan, ROSTER, disk, b"", (0, b"ok\n"));
-    let again = (3, b"no 64 not empty\n".as_slice());
-    let (third, _) = acted(alloc, plan, ROSTER, disk, b"", again);
-    first && untouched && second && third
-}
-
+// A disk isn't made a file with another roster, is made one with this roster, and not again.
 #[test]
-fn formats_once(rt: HostRuntime) -> Result<(), Fail> {
-    let empty = MemoryDisk::new(rt.alloc(), ROOM)?;
-    let plan = format_plan(rt.alloc())?;
-    assert!(rt; is_formatted_once(rt.alloc(), &plan, empty));
-    Ok(())
+fn formats_once(rt: HostRuntime) {
+    let rt = &rt;
+    let untouched = after(rt, &WITH_A_BAD_ROSTER, empty(rt));
+    assert!(rt; content(&untouched).is_empty());
+    let new = after(rt, &WITH_A_ROSTER, untouched);
+    drop(after(rt, &ONCE_MORE, new));
 }
 
-/// Whether a new file is served, and a check then tells what it holds and reads no line.
-fn is_served_and_checked(alloc: Global, serve: &Plan, check: &Plan, new: MemoryDisk) -> bool {
-    let input = b"0 g1 open a b\n1 g1 buy a\n0 g2 open c d\n";
-    let replies = (0, b"ok g1 1\nok g1 2\nok g2 1\n".as_slice());
-    let (served, disk) = acted(alloc, serve, b"", new, input, replies);
-    let told = (0, b"ok 2 3\n".as_slice());
-    let (checked, _) = acted(alloc, check, b"", disk, b"0 g3 open a b\n", told);
-    served && checked
-}
+static SERVED: Run = Run {
+    asked: Asked::Serve("f"),
+    roster: b"",
+    input: b"0 g1 open a b\n1 g1 buy a\n0 g2 open c d\n",
+    status: 0,
+    told: b"ok g1 1\nok g1 2\nok g2 1\n",
+};
 
+static CHECKED: Run = Run {
+    asked: Asked::Check("f"),
+    roster: b"",
+    input: b"0 g3 open a b\n",
+    status: 0,
+    told: b"ok 2 3\n",
+};
+
+// A new file is served, and a check then tells what it holds and reads no line.
 #[test]
-fn serves_and_checks(rt: HostRuntime) -> Result<(), Fail> {
-    let new = formatted(rt.alloc())?;
-    let serve = serve_plan(rt.alloc())?;
-    let check = check_plan(rt.alloc())?;
-    assert!(rt; is_served_and_checked(rt.alloc(), &serve, &check, new));
-    Ok(())
+fn serves_and_checks(rt: HostRuntime) {
+    let rt = &rt;
+    let served = after(rt, &SERVED, formatted(rt));
+    drop(after(rt, &CHECKED, served));
 }
 
-/// How the program ends, and what it writes, where it is refused before a plan.
-fn refused(alloc: Global, fault: Fault) -> (Ending, Vec<u8>) {
-    let mut output = CountingWriter::new(Vec::new(alloc));
-    let ending = refuse(fault, &mut output);
-    (ending, output.into_inner())
+/// Whether a refusal before a plan ends the program so, and is written so.
+fn is_refused(alloc: Global, fault: Fault, told: &[u8]) -> bool {
+    let mut writer = empty_writer(alloc);
+    let ending = refuse_to(fault, &mut writer);
+    let is_right = [ending == Ending::Faulted(fault), has_written(writer, told)];
+    is_right == [true; 2]
 }
 
-fn is_told(alloc: Global) -> bool {
-    let (ending, told) = refused(alloc, Fault::StreamFailed);
-    ending == Ending::Faulted(Fault::StreamFailed)
-        && told.as_slice() == b"no 69 stream failed\n".as_slice()
-}
-
-/// The first of the endings that has another status.
-fn first_other_status(endings: &[(Ending, u8)]) -> Option<usize> {
-    for (index, (ending, expected)) in endings.iter().enumerate() {
-        if status(*ending) != *expected {
-            return Some(index);
-        }
-    }
-    None
-}
+/// How the program ends, and its status then.
+static STATUSES: [(Ending, u8); 9] = [
+    (Ending::Done, 0),
+    (Ending::WordsRefused, 2),
+    (Ending::Faulted(Fault::Kit(rr_kit::Fault::BadRoster)), 3),
+    (Ending::Faulted(Fault::Damaged(4)), 3),
+    (Ending::Faulted(Fault::NotAStore), 3),
+    (Ending::Faulted(Fault::NotEmpty), 3),
+    (Ending::Faulted(Fault::DeviceFailed), 4),
+    (Ending::Faulted(Fault::StreamFailed), 4),
+    (Ending::Faulted(Fault::OutOfMemory), 4),
+];
 
 #[test]
 fn refusals_and_statuses(rt: HostRuntime) {
-    assert!(rt; is_told(rt.alloc()));
-    let endings = [
-        (Ending::Done, 0),
-        (Ending::WordsRefused, 2),
-        (Ending::Faulted(Fault::Kit(rr_kit::Fault::BadRoster)), 3),
-        (Ending::Faulted(Fault::Damaged(4)), 3),
-        (Ending::Faulted(Fault::NotAStore), 3),
-        (Ending::Faulted(Fault::NotEmpty), 3),
-        (Ending::Faulted(Fault::DeviceFailed), 4),
-        (Ending::Faulted(Fault::StreamFailed), 4),
-        (Ending::Faulted(Fault::OutOfMemory), 4),
-    ];
-    assert!(rt; first_other_status(&endings).is_none());
+    let rt = &rt;
+    assert!(rt; is_refused(rt.alloc(), Fault::StreamFailed, b"no 69 stream failed\n"));
+    for (ending, wanted) in STATUSES.iter() {
+        assert!(rt; status(*ending) == *wanted);
+    }
 }

@@ -1,84 +1,90 @@
 //! What words ask for. The texts of refused words are compared by `tools/try-the-program`, on the built program.
+use crate::plans::{Asked, plan_of};
 use rr_cli::{Ending, Fault, Plan, plan};
-use std::alloc::{AllocError, Global};
-use std::test::Fail;
+use std::alloc::Global;
+use std::process::Abort;
 
-fn text(alloc: Global, text: &str) -> Result<String, AllocError> {
-    String::from_str(alloc, text)
+/// Words, and what they ask for.
+static REQUESTS: [(&[&str], Asked); 4] = [
+    (
+        &[
+            "format",
+            "t.store",
+            "--chart",
+            "c.txt",
+            "--roster",
+            "r.toml",
+            "--tiles",
+            "m.txt",
+            "--board=b.txt",
+        ],
+        Asked::Format {
+            file: "t.store",
+            chart: "c.txt",
+            roster: "r.toml",
+            tiles: "m.txt",
+            board: "b.txt",
+        },
+    ),
+    (&["serve", "t.store"], Asked::Serve("t.store")),
+    (&["serve", "--", "--chart"], Asked::Serve("--chart")),
+    (&["check", "t.store"], Asked::Check("t.store")),
+];
+
+// The calls below have no contracts, so that what a test does costs its proof little.
+
+fn planned(alloc: Global, words: &[&str]) -> Result<Plan, Fault> {
+    plan(alloc, words)
 }
 
-// The calls below have no contracts and assert nothing, so that what a test does costs its proof little.
-
-fn is_planned(alloc: Global, words: &[&str], expected: &Plan) -> bool {
-    match plan(alloc, words) {
-        Ok(planned) => planned == *expected,
-        Err(_) => false,
-    }
-}
-
-fn is_served(alloc: Global, words: &[&str], file: &str) -> Result<bool, AllocError> {
-    let file = text(alloc, file)?;
-    Ok(is_planned(alloc, words, &Plan::Serve { file }))
-}
-
-fn is_check_planned(alloc: Global) -> Result<bool, AllocError> {
-    let file = text(alloc, "t.store")?;
-    Ok(is_planned(alloc, &["check", "t.store"], &Plan::Check { file }))
-}
-
-fn is_formatted(alloc: Global) -> Result<bool, AllocError> {
-    let words = [
-        "format",
-        "t.store",
-        "--chart",
-        "c.txt",
-        "--roster",
-        "r.toml",
-        "--tiles",
-        "m.txt",
-        "--board=b.txt",
-    ];
-    let expected = Plan::Format {
-        file: text(alloc, "t.store")?,
-        chart: text(alloc, "c.txt")?,
-        roster: text(alloc, "r.toml")?,
-        tiles: text(alloc, "m.txt")?,
-        board: text(alloc, "b.txt")?,
-    };
-    Ok(is_planned(alloc, &words, &expected))
+/// Stops where the words give another plan.
+fn check_plan(rt: &(impl Abort + AllocGlobal), words: &[&str], asked: &Asked) {
+    let wanted = plan_of(rt.alloc(), asked).expect(rt, "memory");
+    let found = planned(rt.alloc(), words).expect(rt, "a plan");
+    assert!(rt; found == wanted);
 }
 
 #[test]
-fn words_that_are_planned(rt: HostRuntime) -> Result<(), Fail> {
-    assert!(rt; is_formatted(rt.alloc())?);
-    assert!(rt; is_served(rt.alloc(), &["serve", "t.store"], "t.store")?);
-    assert!(rt; is_served(rt.alloc(), &["serve", "--", "--chart"], "--chart")?);
-    assert!(rt; is_check_planned(rt.alloc())?);
-    Ok(())
+fn words_that_are_planned(rt: HostRuntime) {
+    let rt = &rt;
+    for (words, asked) in REQUESTS.iter() {
+        check_plan(rt, words, asked);
+    }
+}
+
+/// The number of a fault, and how a run ends with it.
+fn number_and_ending(fault: &Fault) -> (Option<u8>, Ending) {
+    (fault.number(), fault.ending())
 }
 
 /// Whether the words are refused, by a fault without a number.
 fn are_refused(alloc: Global, words: &[&str]) -> bool {
-    match plan(alloc, words) {
-        Err(fault) => fault.number().is_none() && fault.ending() == Ending::WordsRefused,
+    match planned(alloc, words) {
+        Err(fault) => number_and_ending(&fault) == (None, Ending::WordsRefused),
         Ok(_) => false,
     }
 }
 
-fn is_want_of_memory_told(alloc: Global) -> Result<bool, Fail> {
+const OUT_OF_MEMORY: Ending = Ending::Faulted(rr_moderator::Fault::OutOfMemory);
+
+/// Stops where want of memory has another text, number or ending.
+fn check_want_of_memory(rt: &(impl Abort + AllocGlobal)) {
     let fault = Fault::OutOfMemory;
-    let words = format!(in alloc; "{fault}")?;
-    Ok(
-        words.as_str() == "out of memory"
-            && fault.number() == Some(70)
-            && fault.ending() == Ending::Faulted(rr_moderator::Fault::OutOfMemory),
-    )
+    let text = format!(in rt.alloc(); "{fault}").expect(rt, "memory");
+    let is_right = [
+        text.as_str() == "out of memory",
+        number_and_ending(&fault) == (Some(70), OUT_OF_MEMORY),
+    ];
+    assert!(rt; is_right == [true; 2]);
 }
 
 #[test]
-fn words_that_are_refused(rt: HostRuntime) -> Result<(), Fail> {
-    assert!(rt; are_refused(rt.alloc(), &["serve", "a", "b"]));
-    assert!(rt; are_refused(rt.alloc(), &["check"]));
-    assert!(rt; is_want_of_memory_told(rt.alloc())?);
-    Ok(())
+fn words_that_are_refused(rt: HostRuntime) {
+    let rt = &rt;
+    let are_refused = [
+        are_refused(rt.alloc(), &["serve", "a", "b"]),
+        are_refused(rt.alloc(), &["check"]),
+    ];
+    assert!(rt; are_refused == [true; 2]);
+    check_want_of_memory(rt);
 }

@@ -1,15 +1,15 @@
 //! A kit, and files that are made with it.
+use crate::calls::{format_with, open};
 use rr_disk::{Disk, MemoryDisk};
-use rr_moderator::{Fault, Moderator, Refused, Texts, format};
-use std::alloc::Global;
-use std::test::Fail;
+use rr_moderator::{Moderator, Texts};
+use std::process::Abort;
 
 /// Room for a file of 519 pages and for all that is written when it is made.
-pub(crate) const ROOM: usize = 1 << 23;
+const ROOM: usize = 1 << 23;
 
-pub(crate) const CHART: &[u8] = b"# two rows\n90 100p 112\n. 80y\n";
+const CHART: &[u8] = b"# two rows\n90 100p 112\n. 80y\n";
 
-pub(crate) const BOARD: &[u8] = b"hex A 0,0 grey c20/1:5\n";
+const BOARD: &[u8] = b"hex A 0,0 grey c20/1:5\n";
 
 pub(crate) const ROSTER: &[u8] = b"private = [
  {name=\"SV\", face=20, income=5}, {name=\"C&SL\", face=40, income=10},
@@ -35,30 +35,19 @@ pub(crate) fn texts(roster: &[u8]) -> Texts<'_> {
     }
 }
 
-// The calls below have no contracts and assert nothing, so that what a test does costs its proof little.
-
-pub(crate) fn format_with(
-    alloc: Global,
-    disk: &mut MemoryDisk,
-    texts: Texts<'_>,
-) -> Result<(), rr_store::Fault> {
-    format(alloc, disk, texts)
+/// A disk without a file.
+pub(crate) fn empty(rt: &(impl Abort + AllocGlobal)) -> MemoryDisk {
+    MemoryDisk::new(rt.alloc(), ROOM).expect(rt, "memory")
 }
 
 /// A disk with a new file.
-pub(crate) fn formatted(alloc: Global) -> Result<MemoryDisk, Fail> {
-    let mut disk = MemoryDisk::new(alloc, ROOM)?;
-    format_with(alloc, &mut disk, texts(ROSTER))?;
-    Ok(disk)
+pub(crate) fn formatted(rt: &(impl Abort + AllocGlobal)) -> MemoryDisk {
+    let mut disk = empty(rt);
+    format_with(rt.alloc(), &mut disk, texts(ROSTER)).expect(rt, "a new file");
+    disk
 }
 
-fn open_on<D: Disk + Drop>(alloc: Global, disk: D) -> Result<Moderator<D>, Refused<D>> {
-    Moderator::open(alloc, disk)
-}
-
-pub(crate) fn opened<D: Disk + Drop>(alloc: Global, disk: D) -> Result<Moderator<D>, Fault> {
-    match open_on(alloc, disk) {
-        Ok(moderator) => Ok(moderator),
-        Err(refused) => Err(Fault::from(refused.fault)),
-    }
+/// The moderator of a file.
+pub(crate) fn opened<D: Disk + Drop>(rt: &(impl Abort + AllocGlobal), disk: D) -> Moderator<D> {
+    open(rt.alloc(), disk).ok().expect(rt, "a file")
 }

@@ -1,36 +1,16 @@
 //! The moderator's replies. Whole games stand in the folder `games` of the repository. What a failure of its streams or
 //! of the device leaves is tried on the built program by `tools/try-the-program` and `tools/stop-anywhere`, and in
 //! which order it writes, syncs and answers by `tools/try-the-file`.
+use crate::calls::{
+    disk_of, empty_writer, has_written, make_checkpoint, reader_of, serve, sum_up, write_reply,
+};
 use crate::kits::{formatted, opened};
-use rr_disk::{Disk, MemoryDisk};
-use rr_moderator::{Fault, Moderator, Reply, Summary};
-use rr_serve::{CountingReader, CountingWriter, Input, Output};
+use rr_disk::Disk;
+use rr_moderator::{Moderator, Reply, Summary};
 use std::alloc::Global;
-use std::test::Fail;
+use std::process::Abort;
 
-// The calls below have no contracts and assert nothing, so that what a test does costs its proof little.
-
-// The calls over any streams, which cost a proof less than those over certain ones.
-
-fn serve<D: Disk + Drop, I: Input, O: Output>(
-    moderator: &mut Moderator<D>,
-    reader: &mut I,
-    writer: &mut O,
-) -> Result<(), Fault> {
-    moderator.serve(reader, writer)
-}
-
-fn write_reply<D: Disk + Drop, O: Output>(
-    moderator: &mut Moderator<D>,
-    line: &[u8],
-    writer: &mut O,
-) -> Result<(), Fault> {
-    moderator.line(line, writer)
-}
-
-fn disk_of<D: Disk + Drop>(moderator: Moderator<D>) -> D {
-    moderator.into_disk()
-}
+// The calls below have no contracts, so that what a test does costs its proof little.
 
 /// Whether this input is served to its end with these replies.
 fn is_served<D: Disk + Drop>(
@@ -39,10 +19,10 @@ fn is_served<D: Disk + Drop>(
     input: &[u8],
     replies: &[u8],
 ) -> bool {
-    let mut reader = CountingReader::new(input);
-    let mut writer = CountingWriter::new(Vec::new(alloc));
-    let result = serve(moderator, &mut reader, &mut writer);
-    result == Ok(()) && writer.into_inner().as_slice() == replies
+    let mut reader = reader_of(input);
+    let mut writer = empty_writer(alloc);
+    let is_whole = serve(moderator, &mut reader, &mut writer).is_ok();
+    [is_whole, has_written(writer, replies)] == [true; 2]
 }
 
 /// Whether the line is answered so.
@@ -57,73 +37,65 @@ fn is_written<D: Disk + Drop>(
     line: &[u8],
     reply: &[u8],
 ) -> bool {
-    let mut writer = CountingWriter::new(Vec::new(alloc));
-    let result = write_reply(moderator, line, &mut writer);
-    result == Ok(()) && writer.into_inner().as_slice() == reply
+    let mut writer = empty_writer(alloc);
+    let is_whole = write_reply(moderator, line, &mut writer).is_ok();
+    [is_whole, has_written(writer, reply)] == [true; 2]
 }
 
 const INPUT: &[u8] = b"0 t1 open ann bob\n1 t1 buy ann\n";
 
 const REPLIES: &[u8] = b"ok t1 1\nok t1 2\n";
 
-/// Whether a new file is served, and its disk.
-fn with_two_commands(alloc: Global) -> Result<(bool, MemoryDisk), Fail> {
-    let mut moderator = opened(alloc, formatted(alloc)?)?;
-    let served = is_served(alloc, &mut moderator, INPUT, REPLIES);
-    Ok((served, disk_of(moderator)))
+/// A disk whose new file has served two commands.
+fn with_two_commands<D: Disk + Drop>(rt: &(impl Abort + AllocGlobal), new: D) -> D {
+    let mut moderator = opened(rt, new);
+    assert!(rt; is_served(rt.alloc(), &mut moderator, INPUT, REPLIES));
+    disk_of(moderator)
 }
 
-/// Whether a table goes on where it stopped.
-fn goes_on(alloc: Global) -> Result<bool, Fail> {
-    let (served, disk) = with_two_commands(alloc)?;
-    let mut again = opened(alloc, disk)?;
-    let stands = is_answered(&mut again, b"stamp t1", b"= 2\n");
-    let taken = is_answered(&mut again, b"2 t1 buy bob", b"ok t1 3\n");
-    let told = is_written(alloc, &mut again, b"privates t1 bob", b"= C&SL\n");
-    Ok(served && stands && taken && told)
-}
-
-fn made<D: Disk + Drop>(moderator: &mut Moderator<D>) -> Result<(), rr_store::Fault> {
-    moderator.checkpoint()
-}
-
-fn summary<D: Disk + Drop>(moderator: &Moderator<D>) -> Result<Summary, Fault> {
-    moderator.summary()
-}
-
-/// Whether a summary is told so.
-fn is_told(alloc: Global, summary: Summary, told: &[u8]) -> Result<bool, Fail> {
-    let mut reply = Reply::new(alloc)?;
-    summary.write(&mut reply);
-    Ok(reply.as_bytes() == told)
-}
-
+/// What two commands leave of one table.
 const WHOLE: Summary = Summary { tables: 1, last: 2 };
 
-/// Whether a checkpoint is made, and the summary behind it is this.
-fn are_summed_up<D: Disk + Drop>(moderator: &mut Moderator<D>) -> bool {
-    let made = made(moderator);
-    made == Ok(()) && summary(moderator) == Ok(WHOLE)
+fn is_summed_up<D: Disk + Drop>(moderator: &Moderator<D>) -> bool {
+    sum_up(moderator) == Ok(WHOLE)
 }
 
-/// Whether a table and two commands are summed up behind a checkpoint, and once the file is opened again.
-fn is_summed_up(alloc: Global) -> Result<bool, Fail> {
-    let (_, disk) = with_two_commands(alloc)?;
-    let mut moderator = opened(alloc, disk)?;
-    let first = are_summed_up(&mut moderator);
-    let again = opened(alloc, disk_of(moderator))?;
-    Ok(first && summary(&again) == Ok(WHOLE))
+/// Stops where a table and two commands aren't summed up behind a checkpoint, and once the file is opened again.
+fn check_summaries<D: Disk + Drop>(rt: &(impl Abort + AllocGlobal), disk: D) {
+    let mut moderator = opened(rt, disk);
+    make_checkpoint(&mut moderator).expect(rt, "a checkpoint");
+    assert!(rt; is_summed_up(&moderator));
+    let again = opened(rt, disk_of(moderator));
+    assert!(rt; is_summed_up(&again));
+}
+
+/// Stops where a summary is told otherwise.
+fn check_told(rt: &(impl Abort + AllocGlobal), summary: Summary, told: &[u8]) {
+    let mut reply = Reply::new(rt.alloc()).expect(rt, "memory");
+    summary.write(&mut reply);
+    assert!(rt; reply.as_bytes() == told);
 }
 
 #[test]
-fn sums_up_what_it_holds(rt: HostRuntime) -> Result<(), Fail> {
-    assert!(rt; is_summed_up(rt.alloc())?);
-    assert!(rt; is_told(rt.alloc(), WHOLE, b"ok 1 2\n")?);
-    Ok(())
+fn sums_up_what_it_holds(rt: HostRuntime) {
+    let rt = &rt;
+    check_summaries(rt, with_two_commands(rt, formatted(rt)));
+    check_told(rt, WHOLE, b"ok 1 2\n");
+}
+
+/// Stops where a table doesn't go on where it stopped.
+fn check_next_lines<D: Disk + Drop>(rt: &(impl Abort + AllocGlobal), disk: D) {
+    let mut again = opened(rt, disk);
+    let is_right = [
+        is_answered(&mut again, b"stamp t1", b"= 2\n"),
+        is_answered(&mut again, b"2 t1 buy bob", b"ok t1 3\n"),
+        is_written(rt.alloc(), &mut again, b"privates t1 bob", b"= C&SL\n"),
+    ];
+    assert!(rt; is_right == [true; 3]);
 }
 
 #[test]
-fn goes_on_where_it_stopped(rt: HostRuntime) -> Result<(), Fail> {
-    assert!(rt; goes_on(rt.alloc())?);
-    Ok(())
+fn goes_on_where_it_stopped(rt: HostRuntime) {
+    let rt = &rt;
+    check_next_lines(rt, with_two_commands(rt, formatted(rt)));
 }
