@@ -120,7 +120,7 @@ pub record Keeping {D : Type 0} (Honest Works : D → Type 0) (state : D → Dis
   pub own_syncs : (IsFull old bytes → ⊥) → Rests old → syncs (disk_of new) ≤ syncs (disk_of old) + 2
   pub most_writes : MakesAtMost writes lent old new
   pub most_syncs : MakesAtMost syncs lent old new
-  -- so does a checkpoint come on then with a record that was kept; one kept without room stands behind the first step of
+  -- with a record that was kept in such room a checkpoint comes on; one that was kept without stands behind the first step of
   -- another, which has four left at least
   pub comes_on : OnOk result ((IsFull old bytes → ⊥) → ComesOn old new)
   pub makes_room : OnOk result (HasNoRoom (place_of old) (length bytes) → 4 ≤ ticks_left new)
