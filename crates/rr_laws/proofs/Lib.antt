@@ -16,10 +16,12 @@ mod SoundTables
 mod AuctionAdds
 mod BestCommands
 mod BestEntries
+mod Dividends
 mod SheetVerdicts
 mod EachVerdict
 mod Sparing
 mod Wanting
 mod SoldAlong
+pub mod SizeLemmas
 pub mod SoundnessLemmas
 pub mod TurnsLemmas
