@@ -1,5 +1,5 @@
 -- There is a verdict on each command.
-use Rattle.std.specs.Prelude.{◌≡◌, ℕ, Bool, true, false, List, Option, None, Some, refl}
+use Rattle.std.specs.Prelude.{◌≡◌, ℕ, Bool, true, false, List, Option, None, Some, option_map, refl}
 use Rattle.std.proofs.Common.{inl, inr}
 use Rattle.std.proofs.lemmas.Bool.{false≢true}
 use Rattle.rr_roster.specs.declared.company.Corp.{Corp}
@@ -36,10 +36,17 @@ use Rattle.rr_rules.specs.Forced.Rules as force
 use Rattle.rr_rules.specs.Forced.Sales.{CanRaise, bankrupt_verdict, raise_verdict}
 use Rattle.rr_rules.specs.Judging.{force_judgement, judgement, judgement_in, name_verdict, operating_judgement, stage, turn_judgement}
 use Rattle.rr_rules.specs.State.{GameState}
+use Rattle.rr_game.specs.History.Fault.{of_game}
+use Rattle.rr_game.specs.History.Playing.{game_judgement}
+use Rattle.rr_game.specs.History.Verdict.{own_judgement, request_judgement, room_verdict, stamp_verdict, turn_verdict}
 use Rattle.rr_game.specs.Names.{act_of}
+use Rattle.rr_game.specs.Play.{play, players_of}
 use Rattle.rr_game.specs.Verdict.{act_judgement, command_judgement, command_judgement_in_play, over_verdict}
-use Rattle.rr_turns.specs.Judgement.{IsFirstOrBehind, IsVerdict, Judgement, judgement_behind, settled}
-use Rattle.rr_laws.specs.Verdicts.{EachCommandHasAVerdict, HasAVerdict}
+use Rattle.rr_turns.specs.declared.request.Request.{Request}
+use Rattle.rr_turns.specs.declared.request.Request.TheVariants.{Back, Forget, Play}
+use Rattle.rr_turns.specs.Judgement.{IsFirstOrBehind, IsVerdict, Judgement, judgement_behind, judgement_map, settled}
+use Rattle.rr_turns.specs.Kept.{Kept}
+use Rattle.rr_laws.specs.Verdicts.{EachCommandHasAVerdict, EachRequestHasAVerdict, HasAVerdict}
 use Rattle.rr_laws.proofs.SheetVerdicts.{best_judged, words_judged}
 
 -- something has the property: it can't be that nothing has it
@@ -64,6 +71,12 @@ settled_has o = first_or o (λ other. other ≡ None) (λ none. none None refl)
 behind_has : {F : Type 0} (check : Option F) (j : Judgement F) → Judged j → Judged (judgement_behind check j)
 behind_has None j h = h
 behind_has (Some fault) j h = λ none. none (Some fault) refl
+
+-- (behind the map of a verdict stands the map of what was found)
+map_has : {F G : Type 0} (f : F → G) (first : Option F) (Behind : Option F → Type 0) → Judged (record { first = first; Behind = Behind })
+    → Judged (judgement_map f (record { first = first; Behind = Behind }))
+map_has f None Behind h = λ none. h (λ found is. none (option_map f found) (found, is, refl))
+map_has f (Some fault) Behind h = λ none. none (Some (f fault)) refl
 
 -- tiles and tokens
 
@@ -167,3 +180,16 @@ lawful_or_refused {F} j h neither = h each
 
 pub each_has : EachCommandHasAVerdict
 each_has kit players state command = lawful_or_refused (command_judgement kit players state command) (command_has kit players state command)
+
+own_has : (kit : Kit) (table : Kept Command) (request : Request Command) → Judged (own_judgement kit table request)
+own_has kit table (Play command) =
+    let j = game_judgement kit table.commands command in
+    behind_has (room_verdict table) (judgement_map of_game j)
+    (map_has of_game j.first j.Behind (command_has kit (players_of table.commands) (play kit table.commands) command))
+own_has kit table (Back k) = settled_has (turn_verdict kit table k)
+own_has kit table (Forget k) = settled_has (turn_verdict kit table k)
+
+pub each_request_has : EachRequestHasAVerdict
+each_request_has kit table stamp request =
+    lawful_or_refused (request_judgement kit table stamp request)
+    (behind_has (stamp_verdict table stamp) (own_judgement kit table request) (own_has kit table request))

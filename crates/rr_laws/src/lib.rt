@@ -1,19 +1,24 @@
 //! The laws that every table is sound, whatever commands it accepted, that each run paid as best was best, that each
-//! command has a verdict, and that the phase is the greatest kind of which a train was ever sold. Its modules have laws
-//! on the auction and on commands of stock rounds (`soundness`), and on corporations' turns (`turns`).
+//! dividend was shared by percents, that each command and each request has a verdict, that the phase is the greatest kind
+//! of which a train was ever sold, and that a game's bytes are few. Its modules have laws on the auction and on commands
+//! of stock rounds (`soundness`), and on corporations' turns (`turns`).
 //!
 //! Stands on `rr_game`, the rules and `rr_referee`; nothing of the program stands on it. Its promises: `sound`,
-//! `best_runs_were_best`, `each_command_has_a_verdict` and `phases_are_greatest_sold`.
+//! `best_runs_were_best`, `dividends_were_right`, `each_command_has_a_verdict`, `each_request_has_a_verdict`,
+//! `phases_are_greatest_sold` and `games_are_short`.
 #![tactic(auto)]
 
 pub mod soundness;
 pub mod turns;
 
+ghost use Rattle.rr_game.specs.History.Laws.{RequestsHaveOneVerdict};
 ghost use Rattle.rr_game.specs.Laws.{CommandsHaveOneVerdict};
 ghost use Rattle.rr_laws.specs.Best.{BestCommandsWereBest, BestRunsWereBest};
+ghost use Rattle.rr_laws.specs.Dividends.{DividendsWereRight, HeldRevenuesWereWithheld, RevenuesAreInTens};
+ghost use Rattle.rr_laws.specs.Sizes.{GamesAreNoShorter, GamesAreShort};
 ghost use Rattle.rr_laws.specs.SoldTrains.{PhasesAreGreatestSold};
 ghost use Rattle.rr_laws.specs.Sound.{KitsNameCorporations, PlaysGoOn, TablesStaySound};
-ghost use Rattle.rr_laws.specs.Verdicts.{EachCommandHasAVerdict, NoRuleWantsMemory};
+ghost use Rattle.rr_laws.specs.Verdicts.{EachCommandHasAVerdict, EachRequestHasAVerdict, NoRuleWantsMemory};
 
 /// Whatever two to six players open a table, with a kit whose roster names each corporation, and whatever commands it
 /// accepts then, bank, seats and corporations have together what the bank began with and only the bank may have less
@@ -36,6 +41,19 @@ pub fn best_runs_were_best()
     rr_referee::laws::optimal();
 }
 
+/// With a right kit each run earns a multiple of ten, and so each dividend that a table ever paid was shared by percents:
+/// the bank lost just what seats and pool were due, and nobody was paid for the offering. What a corporation held back it
+/// got whole.
+pub fn dividends_were_right()
+    ensures revenues { RevenuesAreInTens }
+    ensures dividends { DividendsWereRight }
+    ensures withheld { HeldRevenuesWereWithheld }
+{
+    rr_operate::dividends::laws::pays_each_holder();
+    rr_operate::dividends::laws::nobody_is_paid_for_the_offering();
+    rr_operate::dividends::laws::withholding_pays_the_corporation();
+}
+
 /// The roster of each right kit names each corporation.
 pub fn kits_name_corporations()
     ensures { KitsNameCorporations }
@@ -56,8 +74,24 @@ pub fn each_command_has_a_verdict()
     rr_game::laws::commands_have_one_verdict();
 }
 
+/// So has each request to a table, a command with its stamp or one to go back or to forget, whatever the table keeps:
+/// it is taken, or it is refused with one fault. It can't be that it is neither.
+pub fn each_request_has_a_verdict()
+    ensures some { EachRequestHasAVerdict }
+    ensures one { RequestsHaveOneVerdict }
+{
+    rr_game::history::laws::requests_have_one_verdict();
+}
+
 /// Whatever commands a table is played with, the phase, which is told by where the trains are, is the greatest kind of
 /// which some entry of the book took a train out of the offering, or the 2 where no entry did.
 pub fn phases_are_greatest_sold()
     ensures { PhasesAreGreatestSold }
+{}
+
+/// However a game stands, its plain values take 1,412 to 7,223 bytes. What makes the difference is above all the room for
+/// 600 tiles and 48 tokens on the board.
+pub fn games_are_short()
+    ensures most { GamesAreShort }
+    ensures least { GamesAreNoShorter }
 {}

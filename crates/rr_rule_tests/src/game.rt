@@ -168,9 +168,12 @@ fn a_corporation_is_due_in_an_operating_round(rt: HostRuntime) {
 fn laws_are_called() {
     rr_laws::sound();
     rr_laws::best_runs_were_best();
+    rr_laws::dividends_were_right();
     rr_laws::kits_name_corporations();
     rr_laws::plays_go_on();
     rr_laws::each_command_has_a_verdict();
+    rr_laws::each_request_has_a_verdict();
     rr_laws::phases_are_greatest_sold();
+    rr_laws::games_are_short();
     rr_game::laws::commands_have_one_verdict();
 }

@@ -4,3 +4,4 @@ pub mod Stamps
 pub mod Sessions
 pub mod Services
 pub mod Times
+pub mod FewPlays

@@ -1,3 +1,4 @@
 pub mod Worlds
 pub mod Sessions
 pub mod Services
+pub mod FewPlays

@@ -1,20 +1,25 @@
 //! Laws on files and worlds: whatever comes to a store's file, each world that it keeps is sound; a file opens or is
-//! refused and never both; two fronts of the accepted requests never have one world; and whatever lines are served are
-//! calls of a store. The calls do nothing: their contracts hold of all files, worlds and schedules.
+//! refused and never both; two fronts of the accepted requests never have one world; whatever lines are served are
+//! calls of a store; and few commands are played to open a file behind calls that returned. The calls do nothing, but
+//! for the one that opens a file: their contracts hold of all files, worlds and schedules.
 //!
 //! Stands on `rr_moderator`, `rr_store`, `rr_tables` and `rr_laws`; nothing of the program stands on it. Its promises:
-//! `whatever_comes_is_sound` and `services_go_on`.
+//! `whatever_comes_is_sound`, `services_go_on` and `histories_play_few`.
 #![tactic(auto)]
 
+ghost use Rattle.std.specs.Prelude.{IfOk};
 ghost use Rattle.rr_kit.specs.Kits.{KitTexts};
 ghost use Rattle.rr_store.specs.Allowing.{Keeps};
+ghost use Rattle.rr_store.specs.Events.{Opens};
 ghost use Rattle.rr_store.specs.Holding.{Carries, disk_of, held_of};
+ghost use Rattle.rr_world_laws.specs.FewPlays.{HistoriesBegin, HistoriesGoOn, HistoriesNameSnapshots, HistoriesPlayFew, KitsHaveShortSnapshots, OpensNamed};
 ghost use Rattle.rr_world_laws.specs.Services.{ProgramsGoOn, ServicesGoOn, ServicesKeepInTime, SessionsJoin};
 ghost use Rattle.rr_world_laws.specs.Sessions.{SafeSessionsGoOn, SessionsAreSound, SessionsGoOn, SoundSessionsGoOn};
 ghost use Rattle.rr_world_laws.specs.Worlds.{FilesAreSound, RightKitsAreNotWrong, StandingFilesOpen, WhateverComesIsSound, WorldsAreSound, WorldsDiffer};
 
 use rr_disk::Disk;
-use rr_store::Store;
+use rr_store::{Refused, Store, open};
+use std::alloc::Global;
 
 /// Whatever commits, steps of checkpoints, faults, stops and openings come to a new file: each image keeps the world of
 /// the acknowledged requests, or that with the pending one. In it each table is in order, and no run of a corporation's
@@ -125,3 +130,40 @@ pub fn carried_files_stand<D: Disk + Drop>(store: &Store<D>)
 pub fn worlds_differ()
     ensures { WorldsDiffer }
 {}
+
+/// Whatever the kit, no snapshot of tables that were played by its rules is too long for a file: so a checkpoint is lent
+/// each.
+pub fn snapshots_are_short()
+    ensures { KitsHaveShortSnapshots }
+{
+    rr_laws::games_are_short();
+}
+
+/// An opening is one of which histories speak.
+///
+/// # Errors
+/// As of `rr_store::open`.
+pub fn open_in_a_history<D: Disk + Drop>(alloc: Global, disk: D) -> Result<Store<D>, Refused<D>>
+    ensures opens { Opens D.Honest D.state D.past disk result }
+    ensures named { IfOk result (λ store. OpensNamed D.Honest D.state disk store) }
+{
+    open(alloc, disk)
+}
+
+/// Few commands are played to open a file behind calls that returned. Whatever programs open a new file, one after another,
+/// and whatever commits, ticks and checkpoints of theirs return: what a stop leaves between two calls keeps tables, and its
+/// root has of each just the snapshots that it is to have. Nothing is said of what a stop leaves within a call, nor once a
+/// call on the device failed.
+pub fn histories_play_few<D: Disk>()
+    // So a file begins that is formatted, and so it goes on where a program ends.
+    ensures begin { HistoriesBegin D.Honest D.Works D.state D.past D.fault_count D.write_count D.sync_count }
+    ensures go_on { HistoriesGoOn D.Honest D.Works D.state D.past D.fault_count D.write_count D.sync_count }
+
+    // Its root is so, and each opening plays few commands.
+    ensures named { HistoriesNameSnapshots D.Honest D.Works D.state D.past D.fault_count D.write_count D.sync_count }
+    ensures few { HistoriesPlayFew D.Honest D.Works D.state D.past D.fault_count D.write_count D.sync_count }
+{
+    snapshots_are_short();
+    rr_store::laws::openings_play_few();
+    rr_store::laws::named_roots_play_few::<D>();
+}

@@ -1,0 +1,3 @@
+pub mod FormSizes
+pub mod PartSizes
+pub mod GameSizes
