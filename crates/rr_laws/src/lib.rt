@@ -89,7 +89,7 @@ pub fn phases_are_greatest_sold()
     ensures { PhasesAreGreatestSold }
 {}
 
-/// However a game stands, its plain values take 1,412 to 7,223 bytes. What makes the difference is above all the room for
+/// A game's plain values, each of its form, take 1,412 to 7,223 bytes. What makes the difference is above all the room for
 /// 600 tiles and 48 tokens on the board.
 pub fn games_are_short()
     ensures most { GamesAreShort }
