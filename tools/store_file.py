@@ -50,7 +50,7 @@ class Store:
     reached: list = field(default_factory=list)
 
     def accepted(self):
-        """What each table keeps by its chain and by the records, none of which takes a table back."""
+        """What each table keeps by its chain, and then the requests of its records: a `back` among them drops nothing here."""
         kept = {table.name: list(table.kept) for table in self.tables}
         for record in self.near + self.far:
             name, _, words = record.partition(" ")

@@ -7,6 +7,7 @@ use Rattle.rr_books.specs.declared.refusal.Refusal.{Refusal}
 use Rattle.rr_books.specs.declared.refusal.Refusal.TheVariants as G
 use Rattle.rr_books.specs.Refusal.{clause_number}
 use Rattle.rr_books.specs.Refusal as numbers
+use Rattle.rr_pages.specs.Faults.{clause_of}
 use Rattle.rr_code.specs.declared.fault.Fault as code
 use Rattle.rr_code.specs.declared.fault.Fault.TheVariants as C
 use Rattle.rr_tables.specs.declared.records.fault.Fault as judge
@@ -31,7 +32,7 @@ number_of F.TooManyCommands = 54
 number_of F.MalformedLine = 55
 number_of F.DeviceFailed = 60
 number_of F.FileFull = 62
-number_of (F.Damaged clause) = 63
+number_of (F.Damaged damage) = 63
 number_of F.NotAStore = 64
 number_of F.NotEmpty = 64
 number_of F.OpenAgain = 65
@@ -96,7 +97,7 @@ words_of F.TooManyCommands = codes "too many commands"
 words_of F.MalformedLine = codes "malformed line"
 words_of F.DeviceFailed = codes "device failed"
 words_of F.FileFull = codes "file full"
-words_of (F.Damaged clause) = codes "damaged"
+words_of (F.Damaged damage) = codes "damaged"
 words_of F.NotAStore = codes "not a store"
 words_of F.NotEmpty = codes "not empty"
 words_of F.OpenAgain = codes "open again"
@@ -123,7 +124,7 @@ abbrev pub data_of : Fault → List ℕ
 data_of (F.Kit fault) = kit_data fault
 data_of (F.Game fault) = game_data fault
 data_of (F.StaleStamp stamp) = codes " " ++ decimal stamp
-data_of (F.Damaged clause) = codes " " ++ decimal clause
+data_of (F.Damaged damage) = codes " " ++ decimal (clause_of damage)
 data_of _ = []
 
 -- the reply that refuses, with its LF
@@ -147,7 +148,7 @@ of_store T.TurnNotKept = F.TurnNotKept
 of_store T.TooManyCommands = F.TooManyCommands
 of_store T.DeviceFailed = F.DeviceFailed
 of_store T.FileFull = F.FileFull
-of_store (T.Damaged clause) = F.Damaged clause
+of_store (T.Damaged damage) = F.Damaged damage
 of_store T.NotAStore = F.NotAStore
 of_store T.NotEmpty = F.NotEmpty
 of_store T.OpenAgain = F.OpenAgain

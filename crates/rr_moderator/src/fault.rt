@@ -4,6 +4,7 @@ ghost use Rattle.rr_moderator.specs.declared.fault.Fault.TheVariants.{OutOfMemor
 
 use crate::reply::{Reply, ShortReply};
 use rr_books::Refusal;
+use rr_pages::Damage;
 use rr_tables::records;
 use std::alloc::{AllocError, AllocFailed};
 use thiserror::Error;
@@ -41,7 +42,7 @@ pub enum Fault {
     FileFull,
     /// The file holds what no store of ours holds; the first clause that it breaks.
     #[error("damaged {0}")]
-    Damaged(u8),
+    Damaged(Damage),
     /// The file is no store.
     #[error("not a store")]
     NotAStore,
@@ -132,9 +133,9 @@ impl Fault {
                 reply.text(b" ");
                 reply.number(number);
             }
-            Fault::Damaged(number) => {
+            Fault::Damaged(damage) => {
                 reply.text(b" ");
-                reply.number(u64::from(number));
+                reply.number(u64::from(damage.clause()));
             }
             _ => {}
         }
@@ -304,7 +305,7 @@ impl From<rr_store::Fault> for Fault {
             rr_store::Fault::TooManyCommands => Fault::TooManyCommands,
             rr_store::Fault::DeviceFailed => Fault::DeviceFailed,
             rr_store::Fault::FileFull => Fault::FileFull,
-            rr_store::Fault::Damaged(clause) => Fault::Damaged(clause),
+            rr_store::Fault::Damaged(damage) => Fault::Damaged(damage),
             rr_store::Fault::NotAStore => Fault::NotAStore,
             rr_store::Fault::NotEmpty => Fault::NotEmpty,
             rr_store::Fault::OpenAgain => Fault::OpenAgain,

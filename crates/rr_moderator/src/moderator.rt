@@ -75,8 +75,9 @@ impl<D: Disk + Drop> Moderator<D> {
     /// `DeviceFailed`; `NotAStore` where the file has no roots of this version; `Damaged` with the least clause that it
     /// breaks; `OutOfMemory`, and only where a root is taken.
     pub fn open(alloc: Global, disk: D) -> Result<Moderator<D>, Refused<D>>
-        // The moderator holds what the file stands for, if it stands for a world; else the file breaks a clause, or the
-        // device failed or memory was wanted. Whatever is answered, the sync was made, unless the device failed.
+        // The moderator holds what the file stands for; it stands for a world, unless a snapshot shows another game than
+        // its commands play. Else the file breaks a clause, or the device failed or memory was wanted. Whatever is
+        // answered, the sync was made, unless the device failed.
         ensures opened { IfOk result (λ moderator. D.Honest (disk_under moderator) → (texts : KitTexts) (tables : World)
             → StandsFor (D.state disk).content texts tables → Opens (D.state disk).content (held_of moderator)) }
         ensures stands { IfOk result (λ moderator. D.Honest (disk_under moderator) → (texts : KitTexts)

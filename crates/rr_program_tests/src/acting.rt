@@ -7,6 +7,7 @@ use crate::plans::{Asked, plan_of};
 use rr_cli::{Ending, status};
 use rr_disk::Disk;
 use rr_moderator::Fault;
+use rr_pages::Damage;
 use std::alloc::Global;
 use std::process::Abort;
 
@@ -114,7 +115,7 @@ static STATUSES: [(Ending, u8); 9] = [
     (Ending::Done, 0),
     (Ending::WordsRefused, 2),
     (Ending::Faulted(Fault::Kit(rr_kit::Fault::BadRoster)), 3),
-    (Ending::Faulted(Fault::Damaged(4)), 3),
+    (Ending::Faulted(Fault::Damaged(Damage::UsedBytes)), 3),
     (Ending::Faulted(Fault::NotAStore), 3),
     (Ending::Faulted(Fault::NotEmpty), 3),
     (Ending::Faulted(Fault::DeviceFailed), 4),

@@ -9,30 +9,22 @@ mod runs;
 mod schedule;
 mod worlds;
 
-use crate::stopping::images::{stop_behind, try_failures, try_stop};
-use crate::stopping::judging::judged;
-use crate::stopping::openings::{try_openings, try_whole};
+use crate::stopping::images::{check_failures, check_stop, stop_behind};
+use crate::stopping::judging::{Seen, judged};
+use crate::stopping::lines::{Line, all_lines, world_of};
+use crate::stopping::openings::{check_openings, check_whole};
 use crate::stopping::runs::{Plan, whole_plan};
-use crate::stopping::worlds::world_of;
 use rr_store::Fault;
-use std::alloc::{AllocError, AllocFailed, Global};
-use std::test::Fail;
+use std::process::Abort;
 
 /// What isn't as it is to be.
 #[derive(Clone, Copy, Debug, Drop)]
 pub(crate) enum Wrong {
-    /// A call of the store was refused.
-    Refused(Fault),
-    /// A disk in memory has no room.
-    Disk,
-    Memory,
-    /// The rows of the first table.
-    Rows,
+    /// How a commit ended, or a tick.
+    Commit(Result<u64, Fault>),
+    Tick(Fault),
     /// There is another command to be made.
     Commands,
-    Name,
-    /// The stamp of a reply.
-    Stamp,
     /// What a store holds: the number of its last command, its tables, their numbers, commands and games.
     Last,
     Tables,
@@ -46,196 +38,167 @@ pub(crate) enum Wrong {
     Answer,
     AnswerBehind,
     CallsBehind,
-    /// What a stop may keep.
-    Choice,
+    /// An opening whose device call of this number failed, or that made so many.
+    Opening(u64),
 }
 
-impl From<Fault> for Wrong {
-    fn from(fault: Fault) -> Wrong {
-        Wrong::Refused(fault)
+/// That nothing is wrong, or what is.
+pub(crate) type Told = Result<(), Wrong>;
+
+/// Stops where something is wrong, where the run was stopped behind so many calls.
+pub(crate) fn check(rt: &impl Abort, calls: usize, told: Told) {
+    if let Err(wrong) = told {
+        panic!(rt; "{wrong:?} behind {calls} calls");
     }
 }
 
-impl From<rr_disk::Fault> for Wrong {
-    fn from(_: rr_disk::Fault) -> Wrong {
-        Wrong::Disk
-    }
+/// What is told of something that is to hold.
+pub(crate) fn unless(holds: bool, wrong: Wrong) -> Told {
+    if holds { Ok(()) } else { Err(wrong) }
 }
 
-impl From<AllocError> for Wrong {
-    fn from(_: AllocError) -> Wrong {
-        Wrong::Memory
-    }
-}
-
-impl<T: Drop> From<AllocFailed<T>> for Wrong {
-    fn from(_: AllocFailed<T>) -> Wrong {
-        Wrong::Memory
-    }
-}
-
-/// What is wrong where the run was stopped behind so many calls.
-#[derive(Clone, Copy, Debug, Drop)]
-struct At {
-    calls: usize,
-    wrong: Wrong,
-}
-
-// The stops behind so many calls of the run, and the failure of the next one.
-fn try_calls(alloc: Global, plan: &Plan, calls: usize) -> Result<(), Wrong> {
-    let Some(stop) = stop_behind(&plan.schedule.events, calls) else {
-        return Err(Wrong::Calls);
-    };
-    try_stop(alloc, plan, &stop)?;
-    try_failures(alloc, plan, &stop)
-}
-
-fn try_at(alloc: Global, plan: &Plan, calls: usize) -> Result<(), At> {
-    match try_calls(alloc, plan, calls) {
-        Ok(()) => Ok(()),
-        Err(wrong) => Err(At { calls, wrong }),
-    }
-}
-
-// So many tests share the calls out. (Most commits make four, so that each test has all kinds.)
-const PARTS: usize = 11;
-
-fn try_part(alloc: Global, part: usize) -> Result<(), Fail> {
-    let plan = whole_plan(alloc)?;
-    for calls in 0..plan.schedule.calls.len() {
-        if calls % PARTS == part {
-            try_at(alloc, &plan, calls)?;
+/// The first of these that is wrong. All are asked before one is looked at, so that functions have one place of return;
+/// what comes behind a wrong one says nothing.
+pub(crate) fn first_wrong(all: &[Told]) -> Told {
+    for told in all {
+        if told.is_err() {
+            return *told;
         }
     }
     Ok(())
 }
 
-fn try_run(alloc: Global) -> Result<(usize, usize), Fail> {
-    let plan = whole_plan(alloc)?;
-    try_whole(alloc, &plan)?;
-    Ok((plan.schedule.begun, plan.schedule.calls.len()))
-}
+// So many tests share the calls out. (Most commits make four, so that each test has all kinds.)
+const PARTS: usize = 11;
 
-// How many commands the second table keeps at its floor behind so many of all.
-fn kept_at_floor(alloc: Global, plan: &Plan, count: usize) -> Result<usize, Wrong> {
-    let world = world_of(alloc, &plan.lines, count)?;
-    match world.sides.get(1) {
-        Some(side) => Ok(side.kept_at_floor()),
-        None => Err(Wrong::Tables),
+// The stops behind each call of a part, and the failure of the next one.
+fn check_calls(rt: &(impl Abort + AllocGlobal), plan: &Plan, part: usize) {
+    for calls in 0..plan.schedule.calls.len() {
+        if calls % PARTS == part {
+            let stop = stop_behind(&plan.schedule.events, calls);
+            check_stop(rt, plan, &stop);
+            check_failures(rt, plan, &stop);
+        }
     }
 }
 
-fn floors(alloc: Global) -> Result<(usize, usize), Fail> {
-    let plan = whole_plan(alloc)?;
-    let third = kept_at_floor(alloc, &plan, 3 * 128)?;
-    let fourth = kept_at_floor(alloc, &plan, 4 * 128)?;
-    Ok((third, fourth))
+fn check_part(rt: &(impl Abort + AllocGlobal), part: usize) {
+    check_calls(rt, &whole_plan(rt), part);
 }
 
-fn tried_openings(alloc: Global) -> Result<[u64; 8], Fail> {
-    let plan = whole_plan(alloc)?;
-    let counts = try_openings(alloc, &plan)?;
-    Ok(counts)
-}
-
-fn judged_files(alloc: Global) -> Result<[bool; 6], Fail> {
-    let plan = whole_plan(alloc)?;
-    let seen = judged(alloc, &plan)?;
-    Ok(seen)
+fn judged_files(rt: &(impl Abort + AllocGlobal)) -> [Seen; 6] {
+    judged(rt, &whole_plan(rt))
 }
 
 #[test]
-fn wrong_files_are_seen(rt: HostRuntime) -> Result<(), Fail> {
-    assert!(rt; judged_files(rt.alloc())? == [true; 6]);
-    Ok(())
+fn wrong_files_are_seen(rt: HostRuntime) {
+    let seen = judged_files(&rt);
+    assert!(rt;
+        seen == [
+            Seen::Nothing,
+            Seen::Last,
+            Seen::Last,
+            Seen::Last,
+            Seen::Words,
+            Seen::Turn
+        ]
+    );
+}
+
+fn whole_run(rt: &(impl Abort + AllocGlobal)) -> (usize, usize) {
+    let plan = whole_plan(rt);
+    check_whole(rt, &plan);
+    (plan.schedule.begun, plan.schedule.calls.len())
 }
 
 // Four checkpoints were begun. 525 commits make four calls each, the first checkpoint 12, the next two, which lay one
 // snapshot each, 15, and the last one 14.
 #[test]
-fn the_run_makes_the_calls_of_its_schedule(rt: HostRuntime) -> Result<(), Fail> {
-    assert!(rt; try_run(rt.alloc())? == (4, 2156));
-    Ok(())
+fn the_run_makes_the_calls_of_its_schedule(rt: HostRuntime) {
+    assert!(rt; whole_run(&rt) == (4, 2156));
+}
+
+// How many commands the second table keeps at its floor behind so many of all.
+fn kept_at_floor(lines: &[Line], count: usize) -> usize {
+    let side = world_of(lines, count).sides[1];
+    side.kept_at(side.floor)
+}
+
+fn floors(rt: &(impl Abort + AllocGlobal)) -> (usize, usize) {
+    let lines = all_lines(rt);
+    (
+        kept_at_floor(&lines, 3 * 128),
+        kept_at_floor(&lines, 4 * 128),
+    )
 }
 
 // As the third checkpoint begins the snapshot behind 64 commands is still wanted, for turns before the one that ended
 // behind 128; as the fourth does it isn't, and that checkpoint leaves its pages.
 #[test]
-fn the_last_checkpoint_drops_a_snapshot(rt: HostRuntime) -> Result<(), Fail> {
-    assert!(rt; floors(rt.alloc())? == (126, 186));
-    Ok(())
+fn the_last_checkpoint_drops_a_snapshot(rt: HostRuntime) {
+    assert!(rt; floors(&rt) == (126, 186));
 }
 
-// A sync and 14 reads of a new file, and two reads of each record; of the others so many reads at least.
-#[test]
-fn openings_that_fail_change_nothing(rt: HostRuntime) -> Result<(), Fail> {
-    let counts = tried_openings(rt.alloc())?;
-    assert!(rt; counts[0] == 15 && counts[1] == 135 && counts.iter().all(|count| *count >= 15));
-    Ok(())
+fn check_each_opening(rt: &(impl Abort + AllocGlobal)) {
+    check_openings(rt, &whole_plan(rt));
 }
 
 #[test]
-fn stops_and_failures_at_calls_from_0(rt: HostRuntime) -> Result<(), Fail> {
-    try_part(rt.alloc(), 0)?;
-    Ok(())
+fn openings_that_fail_change_nothing(rt: HostRuntime) {
+    check_each_opening(&rt);
 }
 
 #[test]
-fn stops_and_failures_at_calls_from_1(rt: HostRuntime) -> Result<(), Fail> {
-    try_part(rt.alloc(), 1)?;
-    Ok(())
+fn stops_and_failures_at_calls_from_0(rt: HostRuntime) {
+    check_part(&rt, 0);
 }
 
 #[test]
-fn stops_and_failures_at_calls_from_2(rt: HostRuntime) -> Result<(), Fail> {
-    try_part(rt.alloc(), 2)?;
-    Ok(())
+fn stops_and_failures_at_calls_from_1(rt: HostRuntime) {
+    check_part(&rt, 1);
 }
 
 #[test]
-fn stops_and_failures_at_calls_from_3(rt: HostRuntime) -> Result<(), Fail> {
-    try_part(rt.alloc(), 3)?;
-    Ok(())
+fn stops_and_failures_at_calls_from_2(rt: HostRuntime) {
+    check_part(&rt, 2);
 }
 
 #[test]
-fn stops_and_failures_at_calls_from_4(rt: HostRuntime) -> Result<(), Fail> {
-    try_part(rt.alloc(), 4)?;
-    Ok(())
+fn stops_and_failures_at_calls_from_3(rt: HostRuntime) {
+    check_part(&rt, 3);
 }
 
 #[test]
-fn stops_and_failures_at_calls_from_5(rt: HostRuntime) -> Result<(), Fail> {
-    try_part(rt.alloc(), 5)?;
-    Ok(())
+fn stops_and_failures_at_calls_from_4(rt: HostRuntime) {
+    check_part(&rt, 4);
 }
 
 #[test]
-fn stops_and_failures_at_calls_from_6(rt: HostRuntime) -> Result<(), Fail> {
-    try_part(rt.alloc(), 6)?;
-    Ok(())
+fn stops_and_failures_at_calls_from_5(rt: HostRuntime) {
+    check_part(&rt, 5);
 }
 
 #[test]
-fn stops_and_failures_at_calls_from_7(rt: HostRuntime) -> Result<(), Fail> {
-    try_part(rt.alloc(), 7)?;
-    Ok(())
+fn stops_and_failures_at_calls_from_6(rt: HostRuntime) {
+    check_part(&rt, 6);
 }
 
 #[test]
-fn stops_and_failures_at_calls_from_8(rt: HostRuntime) -> Result<(), Fail> {
-    try_part(rt.alloc(), 8)?;
-    Ok(())
+fn stops_and_failures_at_calls_from_7(rt: HostRuntime) {
+    check_part(&rt, 7);
 }
 
 #[test]
-fn stops_and_failures_at_calls_from_9(rt: HostRuntime) -> Result<(), Fail> {
-    try_part(rt.alloc(), 9)?;
-    Ok(())
+fn stops_and_failures_at_calls_from_8(rt: HostRuntime) {
+    check_part(&rt, 8);
 }
 
 #[test]
-fn stops_and_failures_at_calls_from_10(rt: HostRuntime) -> Result<(), Fail> {
-    try_part(rt.alloc(), 10)?;
-    Ok(())
+fn stops_and_failures_at_calls_from_9(rt: HostRuntime) {
+    check_part(&rt, 9);
+}
+
+#[test]
+fn stops_and_failures_at_calls_from_10(rt: HostRuntime) {
+    check_part(&rt, 10);
 }

@@ -46,10 +46,10 @@ use Rattle.rr_store.specs.Holding.{Carries, GamesArePlayed, GamesHaveSnapshots, 
 use Rattle.rr_store.specs.Named.{NamesComing, NamesRoots, NamesSnapshots, SnapshotsAreShort}
 use Rattle.rr_store.specs.NamedRoots.{NamesBase}
 use Rattle.rr_store.specs.Replayed.{ReplaysFile}
-use Rattle.rr_store.specs.Opening.{IsFound, IsNoVerdict, IsSyncedFirst, OpenAllows, Refuses, SyncsAtMost, SyncsFirst}
+use Rattle.rr_store.specs.Opening.{IsFound, IsNoVerdict, IsSyncedFirst, OpenAllows, Refuses, ShowsGamesAsPlayed, SyncsAtMost, SyncsFirst}
 use Rattle.rr_store.specs.World.{World}
 use Rattle.rr_store.proofs.NamedRoots.{names_root}
-use Rattle.rr_store.proofs.Recovering.{base_named, only_recovered, recovered_played, recovered_snapshots}
+use Rattle.rr_store.proofs.Recovering.{base_named, only_recovered, recovered_played, recovered_snapshots, stands_now}
 use Rattle.rr_store.proofs.Trusting.{standing_true}
 
 -- refusals of the layers below
@@ -63,7 +63,7 @@ calm_read R.OutOfMemory none = inr refl
 
 module _ (file : List ℕ) (has : Held) (holds : Holds file has) where
   pub refuses_recovered : (fault : recovery.Fault) → recovers.Refuses has fault → Refuses file (of_recovery fault)
-  refuses_recovered (C.Damaged damage) broken = inr (record { has = has; holds = holds; damage = damage; broken = broken; numbered = refl })
+  refuses_recovered (C.Damaged damage) broken = inr (record { has = has; holds = holds; broken = broken })
   refuses_recovered (C.Disk D.DeviceFailed) broken = tt
   refuses_recovered (C.Disk D.OutOfMemory) broken = (has.side, has.root, holds.chains.has_directory.taken)
   refuses_recovered C.OutOfMemory broken = (has.side, has.root, holds.chains.has_directory.taken)
@@ -74,7 +74,7 @@ module _ (file : List ℕ) (has : Held) (holds : Holds file has) where
 
 -- a disk's fault is the device's
 pub refuses_read : (file : List ℕ) (old new : ℕ) (fault : reading.Fault) → reading_of.CountsFault {T = Unit {0}} old new (Err fault) → reading_says.Refuses file fault → Refuses file (of_reading fault)
-refuses_read file old new (R.Damaged damage) counts refused = inl (damage, refused, refl)
+refuses_read file old new (R.Damaged damage) counts refused = inl refused
 refuses_read file old new R.NotAStore counts refused = refused
 refuses_read file old new (R.Disk D.DeviceFailed) counts refused = tt
 refuses_read file old new (R.Disk D.OutOfMemory) counts refused = let never : D.OutOfMemory ≡ D.DeviceFailed = counts.0 in absurd (cc never)
@@ -126,8 +126,9 @@ carries_along {T} old new before after world same_state same_writer same_held re
 -- the moments of an opening
 pub opened_by : (past_old : List DiskState) (old : DiskState) (past_new : List DiskState) (new : DiskState) (texts : KitTexts) (tables : World) → WasSynced past_old old past_new new
     → HasRoot old.content → ((others : KitTexts) (kept : World) → StandsFor old.content others kept → ◌≡◌ {A = KitTexts × World} (texts, tables) (others, kept))
+    → (ShowsGamesAsPlayed old.content → StandsFor old.content texts tables)
     → Between past_old old past_new new (λ moments. OpenAllows old moments new (Ok (texts, tables)))
-opened_by past_old old past_new new texts tables was root only =
+opened_by past_old old past_new new texts tables was root only shown =
     record {
       moments = after_sync old ∷ [];
       passed = λ i. was.settled i ∷ was.passed i;
@@ -138,6 +139,7 @@ opened_by past_old old past_new new texts tables was root only =
           same = only others kept stands;
           keeps = subst (λ (state : DiskState). Keeps state others kept) (sym was.settled) (each_synced old (λ image. StandsFor image others kept) stands);
         },
+        shown,
       );
     }
 
@@ -192,7 +194,8 @@ module _ {D : Type 0} (Honest : D → Type 0) (state : D → DiskState) (past : 
       let r = (is_found honest).recovered in
       let root : HasRoot (state old).content = (has.side, has.root, holds.chains.has_directory.taken) in
       let opened = opened_by (past old) (state old) (past then) (state then) r.texts (world_of found.recovered.tables) (was honest) root
-      (λ others kept stands. only_recovered (state old).content has found.recovered holds r others kept stands) in
+      (λ others kept stands. only_recovered (state old).content has found.recovered holds r others kept stands)
+      (λ shows. stands_now has r.texts found.recovered (r.told (shows has holds)) (state old).content holds) in
       let of_store = subst (λ (w : World). Between (past old) (state old) (past then) (state then) (λ moments. OpenAllows (state old) moments (state then) (Ok (r.texts, w)))) (sym tables_are) opened in (
         r.texts,
         subst (λ (d : D). Between (past old) (state old) (past d) (state d) (λ moments. OpenAllows (state old) moments (state d) (Ok (r.texts, (held_of store).tables)))) (sym disk_is) of_store,

@@ -11,7 +11,6 @@ use Rattle.rr_pages.specs.declared.fault.Fault as pages
 use Rattle.rr_pages.specs.declared.fault.Fault.TheVariants as P
 use Rattle.rr_reading.specs.declared.fault.Fault as reading
 use Rattle.rr_reading.specs.declared.fault.Fault.TheVariants as R
-use Rattle.rr_pages.specs.Faults.{clause_of}
 use Rattle.rr_store.specs.declared.recovery.fault.Fault as recovery
 use Rattle.rr_store.specs.declared.recovery.fault.Fault.TheVariants as V
 use Rattle.rr_tables.specs.declared.records.fault.Fault as rules
@@ -56,21 +55,21 @@ of_disk D.OutOfMemory = F.OutOfMemory
 abbrev pub of_pages : pages.Fault → Fault
 of_pages P.FileFull = F.FileFull
 of_pages P.HalfFull = F.FileFull
-of_pages (P.Damaged damage) = F.Damaged (clause_of damage)
+of_pages (P.Damaged damage) = F.Damaged damage
 of_pages P.NotAStore = F.NotAStore
 of_pages (P.Disk fault) = of_disk fault
 of_pages P.OutOfMemory = F.OutOfMemory
 
 -- the bytes of a file
 abbrev pub of_reading : reading.Fault → Fault
-of_reading (R.Damaged damage) = F.Damaged (clause_of damage)
+of_reading (R.Damaged damage) = F.Damaged damage
 of_reading R.NotAStore = F.NotAStore
 of_reading (R.Disk fault) = of_disk fault
 of_reading R.OutOfMemory = F.OutOfMemory
 
 -- what the rules of the game say of a file
 abbrev pub of_recovery : recovery.Fault → Fault
-of_recovery (V.Damaged damage) = F.Damaged (clause_of damage)
+of_recovery (V.Damaged damage) = F.Damaged damage
 of_recovery (V.Disk fault) = of_disk fault
 of_recovery V.OutOfMemory = F.OutOfMemory
 

@@ -7,7 +7,6 @@ use Rattle.rr_log.specs.Opening.Opened.{held_by}
 use Rattle.rr_log.specs.Opening.Syncing.{WasSynced}
 use Rattle.rr_pages.specs.Choosing.{IsNoStore}
 use Rattle.rr_pages.specs.declared.fault.Damage.{Damage}
-use Rattle.rr_pages.specs.Faults.{clause_of}
 use Rattle.rr_reading.specs.Held.{Held}
 use Rattle.rr_reading.specs.Reading as reading
 use Rattle.rr_reading.specs.Reading.{HasRoot, Holds}
@@ -20,28 +19,23 @@ use Rattle.rr_store.specs.Allowing.{Keeps}
 use Rattle.rr_store.specs.Files.{StandsFor}
 use Rattle.rr_store.specs.World.{World}
 
--- this clause, 1 to 5, is the least that the bytes of the file break
-abbrev pub BreaksForm : List ℕ → ℕ → Type 0
-BreaksForm file clause = (damage : Damage) × reading.IsDamage file damage × (clause ≡ clause_of damage)
-
--- the bytes break none, and this clause, 5 to 8, is the least that they break by the rules of the game, where the snapshots
+-- the bytes break no clause, and this one, 5 to 8, is the least that they break by the rules of the game, where the snapshots
 -- show the games that the commands play
-pub record BreaksRules (file : List ℕ) (clause : ℕ) : Type 0 where
+pub record BreaksRules (file : List ℕ) (damage : Damage) : Type 0 where
   pub has : Held
   pub holds : Holds file has
-  pub damage : Damage
   pub broken : recovery.IsDamage has damage
-  pub numbered : clause ≡ clause_of damage
 
-abbrev pub IsDamagedFile : List ℕ → ℕ → Type 0
-IsDamagedFile file clause = BreaksForm file clause ⊎ BreaksRules file clause
+-- this clause is the least that the file breaks: one of its form, 1 to 5, or one of the rules
+abbrev pub IsDamagedFile : List ℕ → Damage → Type 0
+IsDamagedFile file damage = reading.IsDamage file damage ⊎ BreaksRules file damage
 
 -- why a file isn't opened. The device may fail at any file, and memory is wanted only where a root is taken
 abbrev pub Refuses : List ℕ → Fault → Type 0
 Refuses file F.DeviceFailed = Unit {0}
 Refuses file F.OutOfMemory = HasRoot file
 Refuses file F.NotAStore = IsNoStore file
-Refuses file (F.Damaged clause) = IsDamagedFile file clause
+Refuses file (F.Damaged damage) = IsDamagedFile file damage
 Refuses file _ = ⊥
 
 -- the device failed, or memory was wanted
@@ -62,14 +56,19 @@ pub record IsOnlyWorld (old new : DiskState) (found : KitTexts × World) (texts 
   pub same : found ≡ (texts, tables)
   pub keeps : Keeps new texts tables
 
+-- each snapshot of the file shows the game that the commands before it play
+abbrev pub ShowsGamesAsPlayed : List ℕ → Type 0
+ShowsGamesAsPlayed file = (has : Held) → Holds file has → recovery.HasTrueSnapshots has
+
 -- What an opening may do, and what it may answer, behind a sync: texts and a world, where a root is taken, which are those
--- for which the file stands if it stands for any (an opening trusts snapshots, and a file whose snapshots show other games
--- than its commands play stands for none); or why it stands for none, or that memory was wanted. Or the device failed, at
--- the sync or behind it.
+-- for which the file stands if it stands for any, as it does where its snapshots show the games as they were played (an
+-- opening trusts them, and a file with others stands for none); or why it stands for none, or that memory was wanted. Or the
+-- device failed, at the sync or behind it.
 abbrev pub OpenAllows : DiskState → List DiskState → DiskState → Result (KitTexts × World) Fault → Type 0
 OpenAllows old moments new (Ok found) =
     (moments ≡ after_sync old ∷ []) × HasRoot old.content
     × ((texts : KitTexts) (tables : World) → StandsFor old.content texts tables → IsOnlyWorld old new found texts tables)
+    × (ShowsGamesAsPlayed old.content → StandsFor old.content found.0 found.1)
 OpenAllows old moments new (Err fault) = SyncsFirst fault old moments × Refuses old.content fault
 
 -- what the disk went through then

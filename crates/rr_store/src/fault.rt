@@ -4,6 +4,7 @@ ghost use Rattle.rr_store.specs.declared.fault.Fault.TheVariants.{OutOfMemory};
 
 use crate::recovery;
 use rr_books::Refusal;
+use rr_pages::Damage;
 use rr_tables::records;
 use std::alloc::{AllocError, AllocFailed};
 use thiserror::Error;
@@ -33,9 +34,9 @@ pub enum Fault {
     /// last.
     #[error("file full")]
     FileFull,
-    /// The file holds what no store of ours holds; the first clause that it breaks, from 1 to 8.
+    /// The file holds what no store of ours holds; the first clause that it breaks.
     #[error("damaged {0}")]
-    Damaged(u8),
+    Damaged(Damage),
     /// The file is no store.
     #[error("not a store")]
     NotAStore,
@@ -117,7 +118,7 @@ impl From<rr_pages::Fault> for Fault {
     fn from(fault: rr_pages::Fault) -> Fault {
         match fault {
             rr_pages::Fault::FileFull | rr_pages::Fault::HalfFull => Fault::FileFull,
-            rr_pages::Fault::Damaged(damage) => Fault::Damaged(damage.clause()),
+            rr_pages::Fault::Damaged(damage) => Fault::Damaged(damage),
             rr_pages::Fault::NotAStore => Fault::NotAStore,
             rr_pages::Fault::Disk(rr_disk::Fault::DeviceFailed) => Fault::DeviceFailed,
             rr_pages::Fault::Disk(rr_disk::Fault::OutOfMemory) => Fault::OutOfMemory,
@@ -132,7 +133,7 @@ impl From<rr_reading::Fault> for Fault {
 
     fn from(fault: rr_reading::Fault) -> Fault {
         match fault {
-            rr_reading::Fault::Damaged(damage) => Fault::Damaged(damage.clause()),
+            rr_reading::Fault::Damaged(damage) => Fault::Damaged(damage),
             rr_reading::Fault::NotAStore => Fault::NotAStore,
             rr_reading::Fault::Disk(rr_disk::Fault::DeviceFailed) => Fault::DeviceFailed,
             rr_reading::Fault::Disk(rr_disk::Fault::OutOfMemory) => Fault::OutOfMemory,
@@ -147,7 +148,7 @@ impl From<recovery::Fault> for Fault {
 
     fn from(fault: recovery::Fault) -> Fault {
         match fault {
-            recovery::Fault::Damaged(damage) => Fault::Damaged(damage.clause()),
+            recovery::Fault::Damaged(damage) => Fault::Damaged(damage),
             recovery::Fault::Disk(rr_disk::Fault::DeviceFailed) => Fault::DeviceFailed,
             recovery::Fault::Disk(rr_disk::Fault::OutOfMemory) => Fault::OutOfMemory,
             recovery::Fault::OutOfMemory => Fault::OutOfMemory,

@@ -54,8 +54,9 @@ pub struct Refused<D: Drop> {
 /// that its table could take. Of a file with a snapshot that shows another game than its commands play, either of the
 /// last two may be told. Else `OutOfMemory` alone, and only where a root is taken.
 pub fn open<D: Disk + Drop>(alloc: Global, disk: D) -> Result<Store<D>, Refused<D>>
-    // The store holds the world for which the file stands, if it stands for one; else the file breaks a clause, or the
-    // device failed or memory was wanted. Whatever is answered, the sync was made, unless the device failed.
+    // The store holds the world for which the file stands; it stands for one, unless a snapshot shows another game than
+    // its commands play. Else the file breaks a clause, or the device failed or memory was wanted. Whatever is answered,
+    // the sync was made, unless the device failed.
     ensures opened { IfOk result (λ store. D.Honest (disk_of store) → (texts : KitTexts)
         × Between (D.past disk) (D.state disk) (D.past (disk_of store)) (D.state (disk_of store))
         (λ moments. OpenAllows (D.state disk) moments (D.state (disk_of store)) (Ok (texts, (held_of store).tables)))

@@ -10,7 +10,7 @@ static TEXTS: [(Fault, &str); 14] = [
     (Fault::TooManyCommands, "too many commands"),
     (Fault::DeviceFailed, "device failed"),
     (Fault::FileFull, "file full"),
-    (Fault::Damaged(4), "damaged 4"),
+    (Fault::Damaged(Damage::UsedBytes), "damaged 4"),
     (Fault::NotAStore, "not a store"),
     (Fault::NotEmpty, "not empty"),
     (Fault::OpenAgain, "open again"),

@@ -4,6 +4,7 @@ use crate::files::{Bytes, check_file, content, file_behind, opened, played_file,
 use crate::tables::read;
 use rr_disk::MemoryDisk;
 use rr_log::opening::Opened;
+use rr_pages::Damage;
 use rr_reading::worlds::Worlds;
 use rr_store::Fault;
 use rr_tables::records::TableRules;
@@ -79,7 +80,7 @@ fn refusal(alloc: Global, file: MemoryDisk) -> Option<Fault> {
 fn commands_behind_a_snapshot_are_judged(rt: HostRuntime) {
     let rt = &rt;
     let told = refusal(rt.alloc(), file_with_byte(rt, BEHIND, b"b"));
-    assert!(rt; told == Some(Fault::Damaged(7)));
+    assert!(rt; told == Some(Fault::Damaged(Damage::Kept)));
 }
 
 // Nine players are at no table; and the letter of a player's name may be no digit.
@@ -88,7 +89,7 @@ fn bytes_of_no_game_are_damage(rt: HostRuntime) {
     let rt = &rt;
     let players = refusal(rt.alloc(), file_with_byte(rt, SNAPSHOT, b"\x09"));
     let name = refusal(rt.alloc(), file_with_byte(rt, SNAPSHOT + 2, b"1"));
-    assert!(rt; [players, name] == [Some(Fault::Damaged(5)); 2]);
+    assert!(rt; [players, name] == [Some(Fault::Damaged(Damage::Form)); 2]);
 }
 
 // What a root names: the page of its directory, that of the table's commands, and of each snapshot how many of these it

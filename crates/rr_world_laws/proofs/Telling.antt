@@ -114,10 +114,10 @@ pub standing_files_open : StandingFilesOpen
 standing_files_open file texts tables S.DeviceFailed stands refused = inl refl
 standing_files_open file texts tables S.OutOfMemory stands refused = inr refl
 standing_files_open file texts tables S.NotAStore stands refused = absurd (taken_store file stands.stands.side stands.stands.root stands.stands.stale stands.stands.taken refused)
-standing_files_open file texts tables (S.Damaged clause) stands (inl form) =
-    absurd (stands_no_verdict table_files file (R.Damaged form.0) form.1 files_are_exact names_chains (forms_spelled table_rules) (in_words texts tables) stands.stands)
-standing_files_open file texts tables (S.Damaged clause) stands (inr rules) =
-    absurd (keeps_rules file texts stands.kit tables stands.right stands.tables_of_kit stands.stands rules.has rules.holds rules.damage rules.broken)
+standing_files_open file texts tables (S.Damaged damage) stands (inl broken) =
+    absurd (stands_no_verdict table_files file (R.Damaged damage) broken files_are_exact names_chains (forms_spelled table_rules) (in_words texts tables) stands.stands)
+standing_files_open file texts tables (S.Damaged damage) stands (inr rules) =
+    absurd (keeps_rules file texts stands.kit tables stands.right stands.tables_of_kit stands.stands rules.has rules.holds damage rules.broken)
 standing_files_open file texts tables (S.Kit fault) stands refused = absurd refused
 standing_files_open file texts tables (S.Game fault) stands refused = absurd refused
 standing_files_open file texts tables (S.StaleStamp stamp) stands refused = absurd refused

@@ -1,14 +1,17 @@
 //! Files that a stop leaves, or a call that failed, and what an opening makes of them.
-use crate::files::{commit, content, disk_of, disk_with, failing_after, last_number, opened};
-use crate::stopping::Wrong;
-use crate::stopping::lines::{Step, name_at};
+use crate::files::{
+    beneath, commit, content, counts, disk_of, failing_after, failing_once, last_number,
+    open_store, refuses,
+};
+use crate::stopping::lines::{back, first, record_of, world_of};
 use crate::stopping::openings::fails_once;
-use crate::stopping::runs::{Plan, commit_line, holds, holds_table, refuses, run};
+use crate::stopping::runs::{Plan, commit_at, gives, holds, holds_table, run};
 use crate::stopping::schedule::{Call, DUE, Event};
-use crate::stopping::worlds::{World, go_on, world_of};
-use rr_disk::{Choice, Disk, FaultyDisk, Kept, MemoryDisk};
+use crate::stopping::worlds::{Side, Step, World};
+use crate::stopping::{Told, Wrong, check, first_wrong, unless};
+use rr_disk::{Choice, Disk, Kept, MemoryDisk};
 use rr_store::{Fault, Store};
-use std::alloc::Global;
+use std::process::Abort;
 
 /// The calls of the opening of a new file: a sync, and reads of both roots, of the front and the bytes of the
 /// directory's page and of four texts, and of the gates of both slots 0.
@@ -28,9 +31,9 @@ pub(crate) struct Stop {
 }
 
 impl Stop {
-    // How many calls an opening makes here at least, where it takes the root that was there as the checkpoint under way
-    // began: those of a new file, and two reads of each record since the last whole checkpoint began.
-    fn opening(&self) -> usize {
+    /// How many calls an opening makes here at least, where it takes the root that was there as the checkpoint under way
+    /// began: those of a new file, and two reads of each record since the last whole checkpoint began.
+    pub(crate) fn opening(&self) -> usize {
         let since = self.count % DUE;
         let before = if self.within { DUE } else { 0 };
         since
@@ -39,85 +42,98 @@ impl Stop {
             .saturating_add(OPENING)
     }
 
-    // A number for each of a few files that are left here.
-    fn number(&self, index: usize) -> usize {
-        self.calls
-            .saturating_mul(WAYS.len().saturating_add(1))
-            .saturating_add(index)
+    // Whether a store may hold so many commands: those that were acknowledged, or with the one under way.
+    fn allows(&self, count: usize) -> bool {
+        count == self.count || (self.pending && count == self.count.saturating_add(1))
     }
-}
 
-/// The stop behind so many calls, if the run has more.
-pub(crate) fn stop_behind(events: &[Event], calls: usize) -> Option<Stop> {
-    let mut count = 0usize;
-    for (done, event) in events.iter().enumerate() {
-        let pending = event.place.is_some();
-        if event.calls > calls {
-            let within = event.within;
-            return Some(Stop {
-                calls,
-                done,
-                count,
-                pending,
-                within,
-            });
+    // The first of the numbers of a few files that are left here.
+    fn number(&self) -> usize {
+        self.calls.saturating_mul(WAYS.len().saturating_add(1))
+    }
+
+    // As if no checkpoint were under way: a table is taken back to one turn at once.
+    fn at_once(&self) -> Stop {
+        Stop {
+            within: false,
+            ..*self
         }
-        count = count.saturating_add(usize::from(pending));
     }
-    None
 }
 
-pub(crate) fn beneath(disk: FaultyDisk<MemoryDisk>) -> MemoryDisk {
-    disk.into_inner()
-}
-
-pub(crate) fn failing_once(disk: MemoryDisk, calls: u64, bytes: usize) -> FaultyDisk<MemoryDisk> {
-    FaultyDisk::once(disk, calls, bytes)
-}
-
-pub(crate) fn counts<D: Disk>(disk: &D) -> (u64, u64) {
-    (disk.writes(), disk.syncs())
+/// The stop behind so many calls. Behind all calls of the run no event is under way.
+pub(crate) fn stop_behind(events: &[Event], calls: usize) -> Stop {
+    let mut stop = Stop {
+        calls,
+        done: 0,
+        count: 0,
+        pending: false,
+        within: false,
+    };
+    for event in events {
+        let is_commit = event.place.is_some();
+        if event.calls > calls {
+            stop.pending = is_commit;
+            stop.within = event.within;
+            return stop;
+        }
+        stop.done = stop.done.saturating_add(1);
+        stop.count = stop.count.saturating_add(usize::from(is_commit));
+    }
+    stop
 }
 
 fn unsynced(disk: &MemoryDisk) -> &[(u64, u64)] {
     disk.unsynced()
 }
 
-// Runs on this disk until the device fails, as it is to do, and gives the disk.
-fn run_to<D: Disk + Drop>(alloc: Global, plan: &Plan, disk: D, stop: &Stop) -> Result<D, Wrong> {
-    let mut store = opened(alloc, disk)?;
-    let (done, wrong) = run(&mut store, plan);
-    if done != stop.done {
-        return Err(Wrong::Calls);
-    }
-    match wrong {
-        Some(Wrong::Refused(Fault::DeviceFailed)) => {}
-        _ => return Err(Wrong::Answer),
-    }
-    if !refuses(&mut store) {
-        return Err(Wrong::AnswerBehind);
-    }
-    Ok(disk_of(store))
+// That the run stops as the device fails, and each call is refused behind that.
+fn judge_run<D: Disk + Drop>(plan: &Plan, store: &mut Store<D>, stop: &Stop) -> Told {
+    let (done, told) = run(store, plan);
+    first_wrong(&[
+        unless(done == stop.done, Wrong::Calls),
+        unless(has_failed(told), Wrong::Answer),
+        unless(refuses(store), Wrong::AnswerBehind),
+    ])
 }
 
-// The disk behind the calls of the run up to a stop.
-pub(crate) fn disk_at(alloc: Global, plan: &Plan, stop: &Stop) -> Result<MemoryDisk, Wrong> {
+fn has_failed(told: Told) -> bool {
+    matches!(
+        told,
+        Err(Wrong::Commit(Err(Fault::DeviceFailed)) | Wrong::Tick(Fault::DeviceFailed))
+    )
+}
+
+// Runs on this disk until the device fails, as it is to do, and gives the disk.
+fn run_to<D: Disk + Drop>(rt: &(impl Abort + AllocGlobal), plan: &Plan, disk: D, stop: &Stop) -> D {
+    let mut store = open_store(rt, disk, 0);
+    check(rt, stop.calls, judge_run(plan, &mut store, stop));
+    disk_of(store)
+}
+
+/// The disk behind the calls of the run up to a stop.
+pub(crate) fn disk_at(rt: &(impl Abort + AllocGlobal), plan: &Plan, stop: &Stop) -> MemoryDisk {
     let calls = OPENING.saturating_add(stop.calls) as u64;
-    let disk = failing_after(disk_with(alloc, &plan.file)?, calls);
-    Ok(beneath(run_to(alloc, plan, disk, stop)?))
+    beneath(run_to(rt, plan, failing_after(rt, &plan.file, calls), stop))
 }
 
 // How many writes wait for a sync behind these calls, and the bytes of the last of them.
 fn pending_of(calls: &[Call]) -> (usize, u64) {
-    let mut pending = (0usize, 0u64);
+    let (mut waiting, mut last) = (0usize, 0u64);
     for call in calls {
-        pending = match call {
-            Call::Read => pending,
-            Call::Write(bytes) => (pending.0.saturating_add(1), *bytes as u64),
-            Call::Sync => (0, 0),
-        };
+        match call {
+            Call::Read => {}
+            Call::Write(bytes) => {
+                waiting = waiting.saturating_add(1);
+                last = *bytes as u64;
+            }
+            Call::Sync => {
+                waiting = 0;
+                last = 0;
+            }
+        }
     }
-    pending
+    (waiting, last)
 }
 
 // The same of a disk.
@@ -130,12 +146,13 @@ fn waiting_in(disk: &MemoryDisk) -> (usize, u64) {
     (ranges.len(), bytes)
 }
 
-fn stopped(disk: &MemoryDisk, kept: &[Kept], len: u64) -> Result<MemoryDisk, Wrong> {
+// The disk as a stop leaves it with this choice, if that is one.
+fn stopped(disk: &MemoryDisk, kept: &[Kept], len: u64) -> Result<MemoryDisk, rr_disk::Fault> {
     let choice = Choice { kept, len };
     if !disk.allows(choice) {
-        return Err(Wrong::Choice);
+        return Err(rr_disk::Fault::DeviceFailed);
     }
-    Ok(disk.stop(choice)?)
+    disk.stop(choice)
 }
 
 // What a stop keeps of a write.
@@ -152,7 +169,7 @@ enum Way {
 }
 
 // Of a gate, which is one byte, the last two are the first two.
-const WAYS: [Way; 6] = [
+static WAYS: [Way; 6] = [
     Way::Nothing,
     Way::All,
     Way::Zeros,
@@ -161,13 +178,13 @@ const WAYS: [Way; 6] = [
     Way::First,
 ];
 
-// How many of these ways are tried where so many bytes are the last write that waits for a sync, if one does, and the
-// only one or not.
-fn ways_of(waiting: usize, bytes: u64) -> usize {
-    match (waiting, bytes) {
-        (0, _) => 1,
-        (1, 1) => 4,
-        _ => WAYS.len(),
+// The ways that are tried of a disk: where a write waits for a sync it goes by its bytes, and whether it is the only
+// one.
+fn ways_in(disk: &MemoryDisk) -> &'static [Way] {
+    match waiting_in(disk) {
+        (0, _) => &WAYS[..1],
+        (1, 1) => &WAYS[..4],
+        _ => &WAYS,
     }
 }
 
@@ -182,102 +199,140 @@ fn kept_of(way: Way, range: (u64, u64)) -> Kept {
     }
 }
 
+// At most so many writes wait for a sync.
+const MOST: usize = 16;
+
+// What is kept of these writes, of the last one in one way and of those before it in another.
+fn kept_in(ranges: &[(u64, u64)], before: Way, last: Way) -> [Kept; MOST] {
+    let mut kept = [Kept::Old; MOST];
+    let mut place = 0usize;
+    for range in ranges {
+        let behind = place.saturating_add(1);
+        let way = if behind == ranges.len() { last } else { before };
+        if place < MOST {
+            kept[place] = kept_of(way, *range);
+        }
+        place = behind;
+    }
+    kept
+}
+
 // The disk as a stop leaves it that keeps the last write in one way and those before it in another. The file is as
 // short as may be, or as long.
-fn left(alloc: Global, disk: &MemoryDisk, before: Way, last: Way) -> Result<MemoryDisk, Wrong> {
-    let mut kept = Vec::new(alloc);
+fn left(rt: &impl Abort, disk: &MemoryDisk, before: Way, last: Way) -> MemoryDisk {
     let ranges = unsynced(disk);
-    for (index, range) in ranges.iter().enumerate() {
-        let is_last = index.saturating_add(1) == ranges.len();
-        kept.push(kept_of(if is_last { last } else { before }, *range))?;
-    }
+    let kept = kept_in(ranges, before, last);
     let len = match last {
         Way::Nothing | Way::Zeros => disk.settled(),
         _ => disk.len(),
     };
-    stopped(disk, &kept, len)
+    stopped(disk, first(&kept, ranges.len()), len).expect(rt, "a choice")
 }
 
-// First an opening of the image fails. Within a checkpoint the same image is opened twice: to go back turn by turn, and
-// to one turn at once.
-fn try_image(
-    alloc: Global,
+// An opening of the file fails, and the next one is right.
+fn check_file(
+    rt: &(impl Abort + AllocGlobal),
+    plan: &Plan,
+    disk: MemoryDisk,
+    stop: &Stop,
+    number: usize,
+) {
+    fails_once(rt, content(&disk), stop, number);
+    check_opened(rt, plan, disk, stop);
+}
+
+// Within a checkpoint the same image is opened twice: to go back turn by turn, and to one turn at once.
+fn check_image(
+    rt: &(impl Abort + AllocGlobal),
     plan: &Plan,
     disk: &MemoryDisk,
     ways: (Way, Way),
     stop: &Stop,
     number: usize,
-) -> Result<(), Wrong> {
-    let image = left(alloc, disk, ways.0, ways.1)?;
-    fails_once(alloc, content(&image), stop.opening(), number)?;
-    try_opened(alloc, plan, opened(alloc, image)?, stop)?;
-    if !stop.within {
-        return Ok(());
+) {
+    check_file(rt, plan, left(rt, disk, ways.0, ways.1), stop, number);
+    if stop.within {
+        check_opened(rt, plan, left(rt, disk, ways.0, ways.1), &stop.at_once());
     }
-    let stop = Stop {
-        within: false,
-        ..*stop
-    };
-    let image = left(alloc, disk, ways.0, ways.1)?;
-    try_opened(alloc, plan, opened(alloc, image)?, &stop)
 }
 
 // The last write is kept in this way, and those before it in the same; or they are kept not at all, or whole.
-fn try_way(
-    alloc: Global,
+fn check_way(
+    rt: &(impl Abort + AllocGlobal),
     plan: &Plan,
     disk: &MemoryDisk,
     way: Way,
     stop: &Stop,
     number: usize,
-) -> Result<(), Wrong> {
-    try_image(alloc, plan, disk, (way, way), stop, number)?;
+) {
+    check_image(rt, plan, disk, (way, way), stop, number);
     if unsynced(disk).len() > 1 {
-        try_image(alloc, plan, disk, (Way::Nothing, way), stop, number)?;
-        try_image(alloc, plan, disk, (Way::All, way), stop, number)?;
+        check_image(rt, plan, disk, (Way::Nothing, way), stop, number);
+        check_image(rt, plan, disk, (Way::All, way), stop, number);
     }
-    Ok(())
+}
+
+// That as much waits for a sync as is to.
+fn judge_waiting(plan: &Plan, disk: &MemoryDisk, stop: &Stop) -> Told {
+    let made = first(&plan.schedule.calls, stop.calls);
+    unless(waiting_in(disk) == pending_of(made), Wrong::LastCall)
+}
+
+// The disk behind the calls up to a stop is left in each way.
+fn check_ways(rt: &(impl Abort + AllocGlobal), plan: &Plan, disk: &MemoryDisk, stop: &Stop) {
+    check(rt, stop.calls, judge_waiting(plan, disk, stop));
+    let mut number = stop.number();
+    for way in ways_in(disk) {
+        check_way(rt, plan, disk, *way, stop, number);
+        number = number.saturating_add(1);
+    }
 }
 
 /// Each file that a stop behind the calls up to this one, or within the last of them, may leave. A stop within a sync
 /// leaves what one behind the write before it leaves.
-pub(crate) fn try_stop(alloc: Global, plan: &Plan, stop: &Stop) -> Result<(), Wrong> {
-    let disk = disk_at(alloc, plan, stop)?;
-    match plan.schedule.calls.as_slice().split_at_checked(stop.calls) {
-        Some((made, _)) if waiting_in(&disk) == pending_of(made) => {}
-        _ => return Err(Wrong::LastCall),
-    }
-    let (waiting, bytes) = waiting_in(&disk);
-    for (index, way) in WAYS.iter().enumerate().take(ways_of(waiting, bytes)) {
-        try_way(alloc, plan, &disk, *way, stop, stop.number(index))?;
-    }
-    Ok(())
+pub(crate) fn check_stop(rt: &(impl Abort + AllocGlobal), plan: &Plan, stop: &Stop) {
+    check_ways(rt, plan, &disk_at(rt, plan, stop), stop);
 }
 
-// Where the run's next call alone fails, a write behind so many of its bytes, no call is made behind it, and the same
-// disk is opened again, the first time in vain.
-fn try_failure(
-    alloc: Global,
+// The disk where the run's next call alone fails, a write behind so many of its bytes. No call is made behind it.
+fn failed_disk(
+    rt: &(impl Abort + AllocGlobal),
     plan: &Plan,
     bytes: usize,
     stop: &Stop,
-    number: usize,
-) -> Result<(), Wrong> {
+) -> MemoryDisk {
     let calls = OPENING.saturating_add(stop.calls) as u64;
-    let disk = failing_once(disk_with(alloc, &plan.file)?, calls, bytes);
-    let disk = run_to(alloc, plan, disk, stop)?;
-    if counts(&disk) != counts_of(&plan.schedule.calls, stop.calls.saturating_add(1)) {
-        return Err(Wrong::CallsBehind);
-    }
-    let disk = beneath(disk);
-    fails_once(alloc, content(&disk), stop.opening(), number)?;
-    try_opened(alloc, plan, opened(alloc, disk)?, stop)
+    let disk = run_to(rt, plan, failing_once(rt, &plan.file, calls, bytes), stop);
+    let made = first(&plan.schedule.calls, stop.calls.saturating_add(1));
+    let are_made = counts(&disk) == counts_of(made);
+    check(rt, stop.calls, unless(are_made, Wrong::CallsBehind));
+    beneath(disk)
 }
 
-/// How many writes and syncs an opening and the first so many calls of the run are.
-pub(crate) fn counts_of(calls: &[Call], count: usize) -> (u64, u64) {
+// Behind how many of its bytes a write fails, in turn: behind none of them, one, half, all but one, and all. Each other
+// call fails once.
+fn bytes_of(call: Option<&Call>) -> ([usize; 5], usize) {
+    match call {
+        Some(Call::Write(1)) => ([0, 1, 0, 0, 0], 2),
+        Some(Call::Write(bytes)) => ([0, 1, *bytes / 2, bytes.saturating_sub(1), *bytes], 5),
+        _ => ([0; 5], 1),
+    }
+}
+
+/// The run's next call alone fails, and the same disk is opened again, the first time in vain.
+pub(crate) fn check_failures(rt: &(impl Abort + AllocGlobal), plan: &Plan, stop: &Stop) {
+    let (bytes, ways) = bytes_of(plan.schedule.calls.get(stop.calls));
+    let mut number = stop.number();
+    for bytes in first(&bytes, ways) {
+        check_file(rt, plan, failed_disk(rt, plan, *bytes, stop), stop, number);
+        number = number.saturating_add(1);
+    }
+}
+
+/// How many writes and syncs an opening and these calls of the run are.
+pub(crate) fn counts_of(calls: &[Call]) -> (u64, u64) {
     let (mut writes, mut syncs) = (0u64, 1u64);
-    for call in calls.iter().take(count) {
+    for call in calls {
         match call {
             Call::Read => {}
             Call::Write(_) => writes = writes.saturating_add(1),
@@ -287,151 +342,123 @@ pub(crate) fn counts_of(calls: &[Call], count: usize) -> (u64, u64) {
     (writes, syncs)
 }
 
-// The run's next call alone fails, a write of so many bytes behind none of them, one, half, all but one, or all.
-fn try_failures_of_write(
-    alloc: Global,
-    plan: &Plan,
-    bytes: usize,
-    stop: &Stop,
-) -> Result<(), Wrong> {
-    let ways = if bytes == 1 { 2 } else { 5 };
-    let out = [0, 1, bytes / 2, bytes.saturating_sub(1), bytes];
-    for (index, out) in out.iter().enumerate().take(ways) {
-        try_failure(alloc, plan, *out, stop, stop.number(index))?;
+// How many commands a store holds.
+fn count_in(store: &Store<MemoryDisk>) -> usize {
+    match last_number(store) {
+        Ok(last) => last as usize,
+        Err(_) => usize::MAX,
     }
-    Ok(())
-}
-
-/// The run's next call alone fails.
-pub(crate) fn try_failures(alloc: Global, plan: &Plan, stop: &Stop) -> Result<(), Wrong> {
-    match plan.schedule.calls.get(stop.calls) {
-        Some(Call::Write(bytes)) => try_failures_of_write(alloc, plan, *bytes, stop),
-        _ => try_failure(alloc, plan, 0, stop, stop.number(0)),
-    }
-}
-
-// The world that a store holds: that of the acknowledged commands, or with the one under way.
-fn world_in<D: Disk + Drop>(
-    alloc: Global,
-    plan: &Plan,
-    store: &Store<D>,
-    stop: &Stop,
-) -> Result<World, Wrong> {
-    let last = last_number(store)?;
-    let most = stop.count.saturating_add(usize::from(stop.pending));
-    if last < stop.count as u64 || last > most as u64 {
-        return Err(Wrong::Last);
-    }
-    let world = world_of(alloc, &plan.lines, last as usize)?;
-    holds(alloc, store, plan, &world)?;
-    Ok(world)
-}
-
-// A store takes the next command of the run.
-fn take_next<D: Disk + Drop>(
-    alloc: Global,
-    plan: &Plan,
-    store: &mut Store<D>,
-    world: &mut World,
-) -> Result<(), Wrong> {
-    let Some(line) = plan.lines.get(world.count) else {
-        return Ok(());
-    };
-    commit_line(store, line)?;
-    go_on(world, &plan.lines)?;
-    holds(alloc, store, plan, world)
 }
 
 /// That a store holds what it is to hold, takes one command more, and takes tables back.
-pub(crate) fn try_opened<D: Disk + Drop>(
-    alloc: Global,
+pub(crate) fn try_opened(
+    rt: &(impl Abort + AllocGlobal),
     plan: &Plan,
-    store: Store<D>,
+    store: &mut Store<MemoryDisk>,
     stop: &Stop,
-) -> Result<(), Wrong> {
-    let mut store = store;
-    let mut world = world_in(alloc, plan, &store, stop)?;
-    take_next(alloc, plan, &mut store, &mut world)?;
-    if stop.within {
-        try_each_turn(alloc, plan, &mut store, &mut world)
-    } else {
-        try_one_turn(alloc, plan, &mut store, &mut world, stop.calls as u64)
-    }
+) -> Told {
+    let count = count_in(store);
+    let now = world_of(&plan.lines, count);
+    let next = world_of(&plan.lines, count.saturating_add(1));
+    first_wrong(&[
+        unless(stop.allows(count), Wrong::Last),
+        holds(rt, plan, store, &now),
+        commit_at(store, &plan.lines, count),
+        holds(rt, plan, store, &next),
+        go_back_from(rt, plan, store, &next, stop),
+    ])
 }
 
-/// Takes a table back to a turn.
-pub(crate) fn go_back<D: Disk + Drop>(
-    alloc: Global,
+/// That the file opens, and so on.
+pub(crate) fn check_opened(
+    rt: &(impl Abort + AllocGlobal),
     plan: &Plan,
-    store: &mut Store<D>,
-    world: &mut World,
+    disk: MemoryDisk,
+    stop: &Stop,
+) {
+    let mut store = open_store(rt, disk, stop.calls);
+    check(rt, stop.calls, try_opened(rt, plan, &mut store, stop));
+}
+
+// Commits that the table at a place is taken back.
+fn commit_back(
+    rt: &(impl Abort + AllocGlobal),
+    store: &mut Store<MemoryDisk>,
     index: usize,
+    stamp: u64,
     turn: u64,
-) -> Result<(), Wrong> {
-    let Some(side) = world.sides.get_mut(index) else {
-        return Err(Wrong::Tables);
-    };
-    let name = name_at(index);
-    let record = format!(in alloc; "{name} back {turn}")?;
-    if commit(store, side.stamp, record.as_str().as_bytes())? != side.stamp.saturating_add(1) {
-        return Err(Wrong::Stamp);
-    }
-    side.take(0, Step::Back(turn))?;
-    holds_table(alloc, store, plan, index, side)
+) -> Result<u64, Fault> {
+    commit(store, stamp, record_of(rt, index, back(turn)).as_bytes())
 }
 
-// Where the table at this place is open, its floor and its turns.
-fn turns_in(world: &World, index: usize) -> Option<(u64, u64)> {
-    let side = world.sides.get(index)?;
-    side.last()?;
-    Some((side.floor, side.turns()))
-}
-
-// Takes a table back to each turn between its turns and its floor, the last one first.
-fn try_turns<D: Disk + Drop>(
-    alloc: Global,
+/// Takes the table at a place back to a turn.
+pub(crate) fn go_back(
+    rt: &(impl Abort + AllocGlobal),
     plan: &Plan,
-    store: &mut Store<D>,
-    world: &mut World,
+    store: &mut Store<MemoryDisk>,
     index: usize,
-) -> Result<(), Wrong> {
-    let Some((floor, turns)) = turns_in(world, index) else {
-        return Ok(());
-    };
-    for less in 0..=turns.saturating_sub(floor) {
-        go_back(alloc, plan, store, world, index, turns.saturating_sub(less))?;
-    }
-    Ok(())
+    side: &mut Side,
+    turn: u64,
+) -> Told {
+    let end = commit_back(rt, store, index, side.stamp, turn);
+    side.take(0, Step::Back(turn));
+    first_wrong(&[
+        gives(end, side.stamp),
+        holds_table(rt, plan, store, index, side),
+    ])
 }
 
-fn try_each_turn<D: Disk + Drop>(
-    alloc: Global,
+// Takes a table, where it is open, back to each turn between its turns and its floor, the last one first.
+fn try_turns(
+    rt: &(impl Abort + AllocGlobal),
     plan: &Plan,
-    store: &mut Store<D>,
-    world: &mut World,
-) -> Result<(), Wrong> {
-    for index in 0..3 {
-        try_turns(alloc, plan, store, world, index)?;
+    store: &mut Store<MemoryDisk>,
+    index: usize,
+    side: &Side,
+) -> Told {
+    let mut side = *side;
+    let mut told = Ok(());
+    let turns = side.turns();
+    for less in 0..side.ways_back() {
+        let turn = turns.saturating_sub(less);
+        told = first_wrong(&[told, go_back(rt, plan, store, index, &mut side, turn)]);
     }
-    Ok(())
+    told
 }
 
-// Takes one table back to one turn, by this number.
-fn try_one_turn<D: Disk + Drop>(
-    alloc: Global,
+// Takes one table, where it is open, back to one turn, by this number.
+fn try_one_turn(
+    rt: &(impl Abort + AllocGlobal),
     plan: &Plan,
-    store: &mut Store<D>,
-    world: &mut World,
+    store: &mut Store<MemoryDisk>,
+    world: &World,
     number: u64,
-) -> Result<(), Wrong> {
+) -> Told {
     let index = (number % 3) as usize;
-    let Some((floor, turns)) = turns_in(world, index) else {
-        return Ok(());
-    };
-    let ways = turns.saturating_sub(floor).saturating_add(1);
-    let turn = match (number / 3).checked_rem(ways) {
-        Some(behind) => floor.saturating_add(behind),
-        None => floor,
-    };
-    go_back(alloc, plan, store, world, index, turn)
+    let mut side = world.sides[index];
+    match (number / 3).checked_rem(side.ways_back()) {
+        Some(behind) => {
+            let turn = side.floor.saturating_add(behind);
+            go_back(rt, plan, store, index, &mut side, turn)
+        }
+        None => Ok(()),
+    }
+}
+
+// Within a checkpoint each table is taken back turn by turn, and else one to one turn at once.
+fn go_back_from(
+    rt: &(impl Abort + AllocGlobal),
+    plan: &Plan,
+    store: &mut Store<MemoryDisk>,
+    world: &World,
+    stop: &Stop,
+) -> Told {
+    if !stop.within {
+        return try_one_turn(rt, plan, store, world, stop.calls as u64);
+    }
+    first_wrong(&[
+        try_turns(rt, plan, store, 0, &world.sides[0]),
+        try_turns(rt, plan, store, 1, &world.sides[1]),
+        try_turns(rt, plan, store, 2, &world.sides[2]),
+    ])
 }

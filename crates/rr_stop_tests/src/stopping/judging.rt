@@ -1,12 +1,12 @@
 //! What is wrong is seen: files that lack an acknowledged command, or have another one, and turns that haven't ended.
-use crate::files::{content, disk_with, opened, write};
-use crate::stopping::Wrong;
+use crate::files::{content, disk_with, disk_with_byte, open_store};
 use crate::stopping::images::{Stop, disk_at, go_back, stop_behind, try_opened};
+use crate::stopping::lines::world_of;
 use crate::stopping::runs::Plan;
-use crate::stopping::worlds::world_of;
+use crate::stopping::{Told, Wrong};
 use rr_disk::MemoryDisk;
 use rr_store::Fault;
-use std::alloc::Global;
+use std::process::Abort;
 
 // The calls and the number of the first commits.
 const CALLS: usize = 240;
@@ -19,7 +19,8 @@ const LAST_GATE: u64 = 61 * 4096;
 
 const LAST_DIGIT: u64 = 60 * 4096 + 28;
 
-fn tried(alloc: Global, plan: &Plan, disk: MemoryDisk, count: usize) -> Result<(), Wrong> {
+// What is told of this file, where so many commands are to be in it.
+fn tried(rt: &(impl Abort + AllocGlobal), plan: &Plan, disk: MemoryDisk, count: usize) -> Told {
     let stop = Stop {
         calls: CALLS,
         done: 0,
@@ -27,55 +28,55 @@ fn tried(alloc: Global, plan: &Plan, disk: MemoryDisk, count: usize) -> Result<(
         pending: false,
         within: false,
     };
-    try_opened(alloc, plan, opened(alloc, disk)?, &stop)
+    let mut store = open_store(rt, disk, CALLS);
+    try_opened(rt, plan, &mut store, &stop)
 }
 
-// The file with another byte at a place.
-fn spoiled(alloc: Global, bytes: &[u8], at: u64, byte: u8) -> Result<MemoryDisk, Wrong> {
-    let mut disk = disk_with(alloc, bytes)?;
-    write(&mut disk, at, &[byte])?;
-    Ok(disk)
+fn back_to_a_later_turn(rt: &(impl Abort + AllocGlobal), plan: &Plan, disk: MemoryDisk) -> Told {
+    let mut store = open_store(rt, disk, CALLS);
+    let mut side = world_of(&plan.lines, COUNT).sides[1];
+    let later = side.turns().saturating_add(1);
+    go_back(rt, plan, &mut store, 1, &mut side, later)
 }
 
-fn back_to_a_later_turn(alloc: Global, plan: &Plan, bytes: &[u8]) -> Result<(), Wrong> {
-    let mut store = opened(alloc, disk_with(alloc, bytes)?)?;
-    let mut world = world_of(alloc, &plan.lines, COUNT)?;
-    let turns = match world.sides.get(1) {
-        Some(side) => side.turns(),
-        None => 0,
-    };
-    let later = turns.saturating_add(1);
-    go_back(alloc, plan, &mut store, &mut world, 1, later)
+/// What is seen to be wrong.
+#[derive(Clone, Copy, PartialEq)]
+pub(crate) enum Seen {
+    Nothing,
+    Last,
+    Words,
+    /// The turn to which a table was to be taken back.
+    Turn,
+    Other,
 }
 
-fn is_last(tried: Result<(), Wrong>) -> bool {
-    matches!(tried, Err(Wrong::Last))
+fn told_as(told: Told) -> Seen {
+    match told {
+        Ok(()) => Seen::Nothing,
+        Err(Wrong::Last) => Seen::Last,
+        Err(Wrong::Words) => Seen::Words,
+        Err(Wrong::Commit(Err(Fault::TurnNotKept))) => Seen::Turn,
+        Err(_) => Seen::Other,
+    }
 }
 
-fn is_words(tried: Result<(), Wrong>) -> bool {
-    matches!(tried, Err(Wrong::Words))
+// What is seen of this right file; of a command too few in it, and of one too many; of a last record that is shut, of
+// another bid, and of a turn that hasn't ended.
+fn judged_file(rt: &(impl Abort + AllocGlobal), plan: &Plan, file: &[u8]) -> [Seen; 6] {
+    let shut = disk_with_byte(rt, file, LAST_GATE, 0);
+    let other = disk_with_byte(rt, file, LAST_DIGIT, b'1');
+    [
+        told_as(tried(rt, plan, disk_with(rt, file), COUNT)),
+        told_as(tried(rt, plan, disk_with(rt, file), COUNT + 1)),
+        told_as(tried(rt, plan, disk_with(rt, file), COUNT - 1)),
+        told_as(tried(rt, plan, shut, COUNT)),
+        told_as(tried(rt, plan, other, COUNT)),
+        told_as(back_to_a_later_turn(rt, plan, disk_with(rt, file))),
+    ]
 }
 
-fn is_turn(tried: Result<(), Wrong>) -> bool {
-    matches!(tried, Err(Wrong::Refused(Fault::TurnNotKept)))
-}
-
-/// Whether a right file is taken; and a command too few is seen, one too many, a last record that is shut, another bid,
-/// and a turn that hasn't ended.
-pub(crate) fn judged(alloc: Global, plan: &Plan) -> Result<[bool; 6], Wrong> {
-    let Some(stop) = stop_behind(&plan.schedule.events, CALLS) else {
-        return Err(Wrong::Calls);
-    };
-    let disk = disk_at(alloc, plan, &stop)?;
-    let file = content(&disk);
-    let shut = spoiled(alloc, file, LAST_GATE, 0)?;
-    let other = spoiled(alloc, file, LAST_DIGIT, b'1')?;
-    Ok([
-        tried(alloc, plan, disk_with(alloc, file)?, COUNT).is_ok(),
-        is_last(tried(alloc, plan, disk_with(alloc, file)?, COUNT + 1)),
-        is_last(tried(alloc, plan, disk_with(alloc, file)?, COUNT - 1)),
-        is_last(tried(alloc, plan, shut, COUNT)),
-        is_words(tried(alloc, plan, other, COUNT)),
-        is_turn(back_to_a_later_turn(alloc, plan, file)),
-    ])
+/// The same of the file behind so many calls.
+pub(crate) fn judged(rt: &(impl Abort + AllocGlobal), plan: &Plan) -> [Seen; 6] {
+    let disk = disk_at(rt, plan, &stop_behind(&plan.schedule.events, CALLS));
+    judged_file(rt, plan, content(&disk))
 }

@@ -1,7 +1,6 @@
 //! The device calls that the run is to make, in order, by what docs/FORMATS.md says of commits and checkpoints.
-use crate::stopping::Wrong;
 use crate::stopping::lines::COUNT;
-use std::alloc::{AllocError, Global};
+use std::process::Abort;
 
 /// A checkpoint begins where so many slots of the half in use are used.
 pub(crate) const DUE: usize = 128;
@@ -26,6 +25,22 @@ pub(crate) enum Call {
     Sync,
 }
 
+// A record behind its shut gate, and its gate.
+static RECORD: [Call; 4] = [Call::Write(PAGE), Call::Sync, Call::Write(1), Call::Sync];
+
+// The gate of slot 0 of the other half, or that of the stale root, is shut. It is read first: where it is shut, as both
+// are in a new file, it isn't written.
+static SHUT: [Call; 3] = [Call::Read, Call::Write(1), Call::Sync];
+
+static FIND_SHUT: [Call; 2] = [Call::Read, Call::Sync];
+
+// A page is synced with what comes behind it.
+static LAY: [Call; 1] = [Call::Write(PAGE)];
+
+static PUT_ROOT: [Call; 2] = [Call::Write(ROOT), Call::Sync];
+
+static PUT_GATE: [Call; 2] = [Call::Write(1), Call::Sync];
+
 /// A commit of the command at a place, or a tick.
 #[derive(Clone, Copy)]
 pub(crate) struct Event {
@@ -42,90 +57,77 @@ pub(crate) struct Schedule {
     pub(crate) calls: Vec<Call>,
     /// How many checkpoints were begun.
     pub(crate) begun: usize,
-    /// How many steps the last of them has, and how many of these are left.
+}
+
+// How many checkpoints were begun, how many steps the last of them has, how many of these are left, and how many slots
+// of the half in use are used.
+#[derive(Clone, Copy)]
+struct Progress {
+    begun: usize,
     steps: usize,
     left: usize,
-    /// How many slots of the half in use are used.
     used: usize,
 }
 
-impl Schedule {
-    fn put(&mut self, bytes: usize) -> Result<(), AllocError> {
-        self.calls.push(Call::Write(bytes))?;
-        self.calls.push(Call::Sync)?;
-        Ok(())
-    }
+// The calls of an event, and whether a checkpoint is under way before it or behind it.
+#[derive(Clone, Copy)]
+struct Made {
+    step: &'static [Call],
+    record: &'static [Call],
+    within: bool,
+}
 
-    // The gate of slot 0 of the other half, or that of the stale root, is shut. It is read first: where it is shut, as
-    // both are in a new file, it isn't written.
-    fn shut(&mut self) -> Result<(), AllocError> {
-        self.calls.push(Call::Read)?;
-        if self.begun > 1 {
-            self.calls.push(Call::Write(1))?;
-        }
-        self.calls.push(Call::Sync)?;
-        Ok(())
-    }
-
+impl Progress {
     // The step that has so many behind it: the last ones shut the stale root, write it behind its gate, and open that.
-    // Pages are synced with what comes behind them.
-    fn make(&mut self, behind: usize) -> Result<(), AllocError> {
+    fn calls_of(&self, behind: usize) -> &'static [Call] {
+        let shuts = behind == 2 || behind.saturating_add(1) == self.steps;
         match behind {
-            0 => self.put(1),
-            1 => self.put(ROOT),
-            2 => self.shut(),
-            _ if behind.saturating_add(1) == self.steps => self.shut(),
-            _ => {
-                self.calls.push(Call::Write(PAGE))?;
-                Ok(())
-            }
+            0 => &PUT_GATE,
+            1 => &PUT_ROOT,
+            _ if !shuts => &LAY,
+            _ if self.begun > 1 => &SHUT,
+            _ => &FIND_SHUT,
         }
     }
 
     // A step of a checkpoint, where one is under way or due.
-    fn step(&mut self) -> Result<(), AllocError> {
+    fn step(&mut self) -> &'static [Call] {
         if self.left == 0 && self.used >= DUE {
             self.steps = steps_behind(self.begun);
             self.left = self.steps;
             self.begun = self.begun.saturating_add(1);
             self.used = 0;
         }
-        let Some(behind) = self.left.checked_sub(1) else {
-            return Ok(());
-        };
-        self.left = behind;
-        self.make(behind)
+        match self.left.checked_sub(1) {
+            None => &[],
+            Some(behind) => {
+                self.left = behind;
+                self.calls_of(behind)
+            }
+        }
     }
 
-    // A record behind its shut gate, and its gate.
-    fn record(&mut self) -> Result<(), AllocError> {
+    // A commit is a step, and a record.
+    fn commit(&mut self) -> Made {
+        let before = self.left;
+        let step = self.step();
         self.used = self.used.saturating_add(1);
-        self.put(PAGE)?;
-        self.put(1)
+        Made {
+            step,
+            record: &RECORD,
+            within: before > 0 || self.left > 0,
+        }
     }
 
-    fn end(&mut self, place: Option<usize>, before: usize) -> Result<(), AllocError> {
-        let within = before > 0 || self.left > 0;
-        let calls = self.calls.len();
-        self.events.push(Event {
-            place,
-            calls,
-            within,
-        })?;
-        Ok(())
-    }
-
-    fn commit(&mut self, place: usize) -> Result<(), AllocError> {
+    // A tick is a step.
+    fn tick(&mut self) -> Made {
         let before = self.left;
-        self.step()?;
-        self.record()?;
-        self.end(Some(place), before)
-    }
-
-    fn tick(&mut self) -> Result<(), AllocError> {
-        let before = self.left;
-        self.step()?;
-        self.end(None, before)
+        let step = self.step();
+        Made {
+            step,
+            record: &[],
+            within: before > 0 || self.left > 0,
+        }
     }
 }
 
@@ -147,26 +149,52 @@ fn ticks_behind(place: usize) -> usize {
     if place == 255 { STEPS_WITH_SNAPSHOT } else { 0 }
 }
 
-fn go_through(schedule: &mut Schedule, place: usize) -> Result<(), AllocError> {
-    schedule.commit(place)?;
-    for _ in 0..ticks_behind(place) {
-        schedule.tick()?;
+fn add_calls(rt: &impl Abort, calls: &mut Vec<Call>, more: &[Call]) {
+    calls.extend_from_slice(more).expect(rt, "memory");
+}
+
+fn add_event(rt: &impl Abort, events: &mut Vec<Event>, event: Event) {
+    events.push(event).expect(rt, "memory");
+}
+
+impl Schedule {
+    // The event at a place makes these calls.
+    fn add(&mut self, rt: &impl Abort, place: Option<usize>, made: Made) {
+        add_calls(rt, &mut self.calls, made.step);
+        add_calls(rt, &mut self.calls, made.record);
+        let event = Event {
+            place,
+            calls: self.calls.len(),
+            within: made.within,
+        };
+        add_event(rt, &mut self.events, event);
     }
-    Ok(())
+
+    // The command at a place, and the ticks behind it.
+    fn go_through(&mut self, rt: &impl Abort, progress: &mut Progress, place: usize) {
+        self.add(rt, Some(place), progress.commit());
+        for _ in 0..ticks_behind(place) {
+            self.add(rt, None, progress.tick());
+        }
+    }
 }
 
 /// All events of the run, and its calls.
-pub(crate) fn whole_schedule(alloc: Global) -> Result<Schedule, Wrong> {
+pub(crate) fn whole_schedule(rt: &(impl Abort + AllocGlobal)) -> Schedule {
     let mut schedule = Schedule {
-        events: Vec::new(alloc),
-        calls: Vec::new(alloc),
+        events: Vec::new(rt.alloc()),
+        calls: Vec::new(rt.alloc()),
+        begun: 0,
+    };
+    let mut progress = Progress {
         begun: 0,
         steps: 0,
         left: 0,
         used: 0,
     };
     for place in 0..COUNT {
-        go_through(&mut schedule, place)?;
+        schedule.go_through(rt, &mut progress, place);
     }
-    Ok(schedule)
+    schedule.begun = progress.begun;
+    schedule
 }
