@@ -1,3 +1,4 @@
+pub mod ReadingLemmas
 pub mod WordLemmas
 pub mod FormLemmas
 pub mod PlayingLemmas

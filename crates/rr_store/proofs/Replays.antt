@@ -13,16 +13,18 @@ use Rattle.rr_reading.specs.Reading.{Holds}
 use Rattle.rr_tables.specs.declared.tables.Tables.{Tables}
 use Rattle.rr_tables.specs.Records.Words.{in_words}
 use Rattle.rr_tables.specs.Tables.{ArePlayed, HaveTheirSnapshots, world_of}
+use Rattle.rr_store.specs.declared.recovery.plays.Restored.{Restored}
 use Rattle.rr_store.specs.Files.{StandsFor}
-use Rattle.rr_store.specs.Recovery.Base.{IsRightBase, Named, ShowsThem}
+use Rattle.rr_store.specs.Recovery.Base.{IsOfDirectory, IsRightBase, Named, ShowsThem, named_of}
+use Rattle.rr_store.specs.Recovery.Recovered.{IsRestored}
 use Rattle.rr_store.specs.Recovery.Telling.{HasTrueSnapshots}
 use Rattle.rr_store.specs.Replayed.{IsReplayed, PlaysRecords, PlaysTables, counts_at, counts_named}
 use Rattle.rr_store.specs.World.{World}
 use Rattle.rr_kit.specs.Kits.{KitTexts}
 use Rattle.rr_store.proofs.Trusting.{standing_true}
-use Rattle.rr_store.proofs.RecoveryLemmas.BaseLemmas.{each_snapshot, named_of, told_base}
+use Rattle.rr_store.proofs.RecoveryLemmas.BaseLemmas.{each_snapshot, told_base}
 use Rattle.rr_store.proofs.RecoveryLemmas.PlaysLemmas.{counts_same, few_records}
-use Rattle.rr_store.proofs.RecoveryLemmas.Recovered.{PlaysThem, base_played, shows_them}
+use Rattle.rr_store.proofs.RecoveryLemmas.Recovered.{PlaysThem, base_played, right_read, shows_them}
 
 -- so many commands are played of the tables before the records, where the snapshots show their play
 abbrev pub PlaysSo : Named → Tables → ℕ → Type 0
@@ -33,6 +35,18 @@ few_in : (file : List ℕ) (half : HalfIndex) (number : ℕ) (lines : List (List
 few_in file half number lines end run = omega (arith, run_fits file half 0 number lines end (omega arith) run, few_lines lines)
 
 module _ (file : List ℕ) (has : Held) (holds : Holds file has) where
+  -- what was restored of a root that names this
+  pub restored_of : (named : Named) (restored : Restored Tables) → named ≡ named_of has → (IsOfDirectory named → IsRightBase named has.texts restored.value.kit (world_of restored.value)) → PlaysThem named restored.value
+      → HaveTheirSnapshots restored.value → PlaysSo named restored.value restored.plays → restored.plays ≤ MOST_TABLES * 2 ^ 33 → IsRestored has restored
+  restored_of named restored same right played snapshots counted few =
+      record {
+        right = right_read file has holds named restored.value.kit (world_of restored.value) same right;
+        played = subst (λ (n : Named). PlaysThem n restored.value) same played;
+        snapshots = snapshots;
+        counted = subst (λ (n : Named). PlaysSo n restored.value restored.plays) same counted;
+        few = few;
+      }
+
   counts_are : counts_named (named_of has) ≡ counts_at has.directory.snapshots
   counts_are = λ i place. counts_same has.directory.snapshots has.snapshots place (each_snapshot file has holds) i
 

@@ -1,4 +1,5 @@
 pub mod Fault
+pub mod Reading
 pub mod Kept
 pub mod Shown
 pub mod Told

@@ -152,6 +152,19 @@ fn find<D: Disk>(alloc: Global, disk: &mut D) -> Result<Found, Fault>
 {
     let mut opened = open_file::<D, Worlds<TableRules>>(alloc, disk)?;
     let recovered = recover::<D, TableRules>(alloc, disk, &mut opened)?;
+    let found = with_buffer(alloc, opened, recovered)?;
+    Ok(found)
+}
+
+/// The same with room for a line.
+fn with_buffer(
+    alloc: Global,
+    opened: Opened<Worlds<TableRules>>,
+    recovered: Recovered,
+) -> Result<Found, Fault>
+    ensures found { IfOk result (λ found. (found.opened ≡ opened) × (found.recovered ≡ recovered)) }
+    ensures memory { IfErr result (λ fault. fault ≡ Fault.OutOfMemory) }
+{
     let buffer = make_buffer(alloc)?;
     Ok(Found {
         opened,

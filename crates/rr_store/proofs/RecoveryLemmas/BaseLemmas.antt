@@ -25,7 +25,7 @@ use Rattle.rr_reading.specs.Worlds.Spelling.{ShowGames, SpellsTable, SpellsTable
 use Rattle.rr_reading.specs.Worlds.World.{Table, WorldRules}
 use Rattle.rr_reading.specs.Worlds.World as words
 use Rattle.rr_reading.proofs.DirLemmas.VersionLemmas.{one_version}
-use Rattle.rr_store.specs.Recovery.Base.{HasWords, IsOfDirectory, IsWellFormed, Named, ShowsThem}
+use Rattle.rr_store.specs.Recovery.Base.{HasWords, IsOfDirectory, IsWellFormed, Named, ShowsThem, named_of}
 use Rattle.rr_store.specs.Recovery.Shown.{SpellsItsGame, shown_at, shown_in}
 use Rattle.rr_store.specs.Recovery.Telling.{IsBase, IsWorded, IsWritten, SpellBy, any_bytes, any_game}
 use Rattle.rr_store.specs.Recovery.Texts.{NameTexts, texts_in}
@@ -179,15 +179,6 @@ as_many_spelled : (entries : List TableEntry) (texts : List (List ℕ)) (tables 
 as_many_spelled [] texts tables spells = ap (λ (ts : List (List ℕ)). length ts) spells.0
 as_many_spelled (entry ∷ entries) texts tables spells =
     ap (λ (ts : List (List ℕ)). length ts) spells.4 ∙ ap suc (as_many_spelled entries spells.2 spells.3 spells.7)
-
--- the entries and chains that a root names
-abbrev pub named_of : Held → Named
-named_of has = record {
-  entries = has.directory.tables;
-  chains = has.tables;
-  snapshot_entries = has.directory.snapshots;
-  snapshot_chains = has.snapshots;
-}
 
 module _ (file : List ℕ) (has : Held) (holds : Holds file has) where
   form : IsDirectory has.root.version has.chain.text has.directory

@@ -18,14 +18,14 @@ use Rattle.rr_pages.specs.declared.fault.Damage.{Damage}
 use Rattle.rr_pages.specs.declared.fault.Damage.TheVariants as D
 use Rattle.rr_store.specs.declared.recovery.fault.Fault.{Fault}
 use Rattle.rr_store.specs.declared.recovery.fault.Fault.TheVariants as F
-use Rattle.rr_store.specs.Recovery.Base.{HasUnplayed, HasWords, IsOfDirectory, IsRightBase, IsWellFormed, Named, RefusesBase, ShowsThem, TellsInPlace}
+use Rattle.rr_store.specs.Recovery.Base.{HasUnplayed, HasWords, IsOfDirectory, IsRightBase, IsWellFormed, Named, RefusesBase, ShowsThem, TellsInPlace, named_of}
 use Rattle.rr_store.specs.Recovery.Fault.{IsOfDevice, IsOrBreaks}
 use Rattle.rr_store.specs.Recovery.Recovered.{IsRecoveredFrom, IsTold}
 use Rattle.rr_store.specs.Recovery.Telling.{HasBadRecord, HasTrueSnapshots, IsRecovered, Refuses}
 use Rattle.rr_store.specs.Recovery.Replaying.{AreReplayed, BreaksOff, IsTranscriptBefore, Replays}
 use Rattle.rr_store.specs.Recovery.Texts.{NameTexts, texts_in}
 use Rattle.rr_store.specs.Recovery.Told.{TellTables}
-use Rattle.rr_store.proofs.RecoveryLemmas.BaseLemmas.{base_told, each_chain, formed_written, named_of, snapshots_limited, snapshots_play, tables_limited, texts_named, told_base, words_worded, written_formed}
+use Rattle.rr_store.proofs.RecoveryLemmas.BaseLemmas.{base_told, each_chain, formed_written, snapshots_limited, snapshots_play, tables_limited, texts_named, told_base, words_worded, written_formed}
 use Rattle.rr_store.proofs.RecoveryLemmas.ReplayLemmas.{StopsAt}
 
 -- why there are no tables of a root: the device failed, or some table wasn't played

@@ -1,5 +1,5 @@
 -- The tables of a directory, restored one after another.
-use Rattle.std.proofs.Common.{◌≡◌, ◌≢◌, ℕ, zero, suc, ◌+◌, ◌*◌, ◌^◌, ◌<◌, ◌≤◌, Bool, true, false, cond, List, [], ◌∷◌, ◌++◌, All, length, take, get_or, Option, None, Some, bytes_eq, refl, sym, ap, subst, ◌∙◌, length-append, arith}
+use Rattle.std.proofs.Common.{◌≡◌, ◌≢◌, ℕ, zero, suc, ◌+◌, ◌^◌, ◌<◌, ◌≤◌, Bool, true, false, cond, List, [], ◌∷◌, ◌++◌, All, length, take, get_or, Option, None, Some, bytes_eq, refl, sym, ap, subst, ◌∙◌, length-append, arith}
 use Rattle.std.proofs.lemmas.List.{get_or-take, length-take-le, take_more}
 use Rattle.std.proofs.lemmas.Slice.Eq.{bytes_eq-Decides}
 use Rattle.rr_code.specs.declared.command.Command.{Command}
@@ -19,9 +19,6 @@ use Rattle.rr_tables.specs.Records.World.{TableState, World, table_named}
 use Rattle.rr_tables.specs.Tables.{ArePlayed, world_of}
 use Rattle.rr_tables.specs.Writable.{IsWritable}
 use Rattle.rr_turns.specs.Turns.{ended_turns}
-use Rattle.rr_pages.specs.declared.page.TheConstants.{PAGE_BYTES}
-use Rattle.rr_store.specs.declared.recovery.fault.Fault.{Fault}
-use Rattle.rr_store.specs.Recovery.Fault.{WhereDeviceTold}
 use Rattle.rr_store.specs.Recovery.Kept.{HoldsCommands}
 use Rattle.rr_store.specs.Recovery.Restoring.{IsFreeFor, Puts}
 use Rattle.rr_store.specs.Recovery.Shown.{ShowPlays, Shown, ShowsPlayOf, shown_at}
@@ -208,12 +205,6 @@ above_turns kit shown entry bytes table floor turns holds was_played floor_is en
     let counted = ended (was_played (subst (λ (cs : List Command). All (ShowsPlayOf kit cs) shown) same shows)) in
     let floored = subst (λ (cs : List Command). state.floor ≤ ended_turns (ends_turn kit) cs) same played.floored in
     omega (arith, floored, counted, above, floor_is, tells.floored)
-
--- a device that failed behind what was read before and stayed
-pub device_behind : (W : Type 0) (old middle count kept : ℕ) (fault : Fault) → middle ≡ old → kept ≡ count → WhereDeviceTold fault (W → middle < PAGE_BYTES * kept) → WhereDeviceTold fault (W → old < PAGE_BYTES * count)
-device_behind W old middle count kept fault same also told =
-    subst (λ (n : ℕ). WhereDeviceTold fault (W → n < PAGE_BYTES * count)) same
-    (subst (λ (n : ℕ). WhereDeviceTold fault (W → middle < PAGE_BYTES * n)) also told)
 
 -- a table that goes on with a floor which isn't above them
 pub resumed : (kit : Kit) (shown : List Shown) (old new : Table) (floor turns : ℕ) → (All (ShowsPlayOf kit (kept_in old).commands) shown → IsPlayed kit old) → (IsPlayed kit old → IsPlayed kit new)

@@ -1,7 +1,7 @@
 -- The tables of a root before its records, by its directory's entries, its chains and its snapshots.
 use Rattle.std.specs.Prelude.{◌≡◌, ℕ, All, List, length}
 use Rattle.rr_checkpoint.specs.Plan.Standing.{standing_chains}
-use Rattle.rr_reading.specs.Held.{tables_in}
+use Rattle.rr_reading.specs.Held.{Held, tables_in}
 use Rattle.rr_reading.specs.declared.lending.commands.Commands.{Commands}
 use Rattle.rr_store.specs.declared.recovery.shown.Snapshots.{Snapshots}
 use Rattle.rr_reading.specs.Dir.Directory.{AreTables, IsSnapshot}
@@ -26,6 +26,16 @@ pub record Named : Type 0 where
   pub chains : List HeldChain
   pub snapshot_entries : List SnapshotEntry
   pub snapshot_chains : List HeldChain
+
+-- by what an opening read
+abbrev pub named_of : Held → Named
+named_of has =
+    record {
+      entries = has.directory.tables;
+      chains = has.tables;
+      snapshot_entries = has.directory.snapshots;
+      snapshot_chains = has.snapshots;
+    }
 
 -- as a directory names them: each table has a chain, and each snapshot is of one of the tables
 pub record IsOfDirectory (named : Named) : Type 0 where

@@ -1,13 +1,12 @@
 //! The tables of a root before its records: what was read is taken as it comes, and where it is refused, it is asked
 //! first whether the file's form is broken.
-ghost use Rattle.std.specs.Prelude.{◌≡◌, ◌↔◌, ◌*◌, ◌^◌, ◌<◌, ◌≤◌, IfOk, IfErr, IsTrue};
+ghost use Rattle.std.specs.Prelude.{◌↔◌, ◌*◌, ◌^◌, ◌≤◌, IfOk, IfErr, IsTrue};
 ghost use Rattle.rr_kit.specs.Kits.{SpellsKit};
-ghost use Rattle.rr_pages.specs.declared.page.TheConstants.{PAGE_BYTES};
 ghost use Rattle.rr_reading.specs.declared.dir.directory.TheConstants.{MOST_TABLES};
 ghost use Rattle.rr_reading.specs.Held.{TextChains, chains_held};
-ghost use Rattle.rr_reading.specs.Lending.Chains.{all_of, count_of};
 ghost use Rattle.rr_store.specs.Recovery.Base.{IsOfDirectory, IsRightBase, IsWellFormed, RefusesBase, TellsInPlace, named_by};
-ghost use Rattle.rr_store.specs.Recovery.Fault.{CountsFault, CountsTold, IsOfDevice, OnDeviceFault, WhereDeviceTold};
+ghost use Rattle.rr_store.specs.Recovery.Fault.{IsOfDevice};
+ghost use Rattle.rr_store.specs.Recovery.Reading.{OnlyReads, OnlyReadsTold};
 ghost use Rattle.rr_store.specs.Recovery.Shown.{AreShown, shown_of};
 ghost use Rattle.rr_store.specs.Recovery.Texts.{texts_in};
 ghost use Rattle.rr_store.specs.Replayed.{PlaysTables, counts_shown};
@@ -56,17 +55,7 @@ pub(crate) fn recover_base<D: Disk>(
         → IsOfDirectory (named_by (D.state disk.old).content entries.now chains.old snapshots.entry)
         → RefusesBase (named_by (D.state disk.old).content entries.now chains.old snapshots.entry)
         (chains_held texts.now) fault) }
-    ensures all { all_of chains.new.chains ≡ all_of chains.old.chains }
-    ensures pages { count_of chains.new.chains ≡ count_of chains.old.chains }
-    ensures fault { CountsFault (D.fault_count disk.old) (D.fault_count disk.new) result }
-    ensures honest { D.Honest disk.new → D.Honest disk.old }
-    ensures same_state { D.Honest disk.new → D.state disk.new ≡ D.state disk.old }
-    ensures same_past { D.Honest disk.new → D.past disk.new ≡ D.past disk.old }
-    ensures writes { D.write_count disk.new ≡ D.write_count disk.old }
-    ensures syncs { D.sync_count disk.new ≡ D.sync_count disk.old }
-    ensures device { OnDeviceFault result (D.Works disk.new → D.file_len disk.old < PAGE_BYTES * count_of chains.old.chains) }
-    ensures works { D.Works disk.new → D.Works disk.old }
-    ensures same_len { D.file_len disk.new ≡ D.file_len disk.old }
+    ensures only_reads { OnlyReads D.Disk disk.old disk.new chains.old chains.new result }
 {
     match restore_base(alloc, disk, entries, texts, chains, snapshots) {
         Ok(restored) => Ok(restored),
@@ -110,17 +99,7 @@ fn restore_base<D: Disk>(
         → IsWellFormed (named_by (D.state disk.old).content entries.now chains.old snapshots.entry)
         → RefusesBase (named_by (D.state disk.old).content entries.now chains.old snapshots.entry)
         (chains_held texts.now) fault) }
-    ensures all { all_of chains.new.chains ≡ all_of chains.old.chains }
-    ensures pages { count_of chains.new.chains ≡ count_of chains.old.chains }
-    ensures fault { CountsFault (D.fault_count disk.old) (D.fault_count disk.new) result }
-    ensures honest { D.Honest disk.new → D.Honest disk.old }
-    ensures same_state { D.Honest disk.new → D.state disk.new ≡ D.state disk.old }
-    ensures same_past { D.Honest disk.new → D.past disk.new ≡ D.past disk.old }
-    ensures writes { D.write_count disk.new ≡ D.write_count disk.old }
-    ensures syncs { D.sync_count disk.new ≡ D.sync_count disk.old }
-    ensures device { OnDeviceFault result (D.Works disk.new → D.file_len disk.old < PAGE_BYTES * count_of chains.old.chains) }
-    ensures works { D.Works disk.new → D.Works disk.old }
-    ensures same_len { D.file_len disk.new ≡ D.file_len disk.old }
+    ensures only_reads { OnlyReads D.Disk disk.old disk.new chains.old chains.new result }
 {
     let kit = read_kit(alloc, texts)?;
     let restored = restore_tables(alloc, disk, kit, entries, chains, snapshots)?;
@@ -139,17 +118,7 @@ fn refusal<D: Disk>(
     ensures told { D.Honest disk.new
         → IsOfDirectory (named_by (D.state disk.old).content entries.now chains.old snapshots.entry)
         → TellsInPlace (named_by (D.state disk.old).content entries.now chains.old snapshots.entry) refused result }
-    ensures all { all_of chains.new.chains ≡ all_of chains.old.chains }
-    ensures pages { count_of chains.new.chains ≡ count_of chains.old.chains }
-    ensures fault { CountsTold (D.fault_count disk.old) (D.fault_count disk.new) result }
-    ensures honest { D.Honest disk.new → D.Honest disk.old }
-    ensures same_state { D.Honest disk.new → D.state disk.new ≡ D.state disk.old }
-    ensures same_past { D.Honest disk.new → D.past disk.new ≡ D.past disk.old }
-    ensures writes { D.write_count disk.new ≡ D.write_count disk.old }
-    ensures syncs { D.sync_count disk.new ≡ D.sync_count disk.old }
-    ensures device { WhereDeviceTold result (D.Works disk.new → D.file_len disk.old < PAGE_BYTES * count_of chains.old.chains) }
-    ensures works { D.Works disk.new → D.Works disk.old }
-    ensures same_len { D.file_len disk.new ≡ D.file_len disk.old }
+    ensures only_reads { OnlyReadsTold D.Disk disk.old disk.new chains.old chains.new result }
 {
     match tell_form(disk, entries, chains, snapshots) {
         Ok(true) => refused,
@@ -171,17 +140,7 @@ fn tell_form<D: Disk>(
     // Memory is wanted behind right words alone.
     ensures refused { IfErr result (λ fault. D.Honest disk.new → (texts : TextChains)
         → RefusesBase (named_by (D.state disk.old).content entries.now chains.old snapshots.entry) texts fault) }
-    ensures all { all_of chains.new.chains ≡ all_of chains.old.chains }
-    ensures pages { count_of chains.new.chains ≡ count_of chains.old.chains }
-    ensures fault { CountsFault (D.fault_count disk.old) (D.fault_count disk.new) result }
-    ensures honest { D.Honest disk.new → D.Honest disk.old }
-    ensures same_state { D.Honest disk.new → D.state disk.new ≡ D.state disk.old }
-    ensures same_past { D.Honest disk.new → D.past disk.new ≡ D.past disk.old }
-    ensures writes { D.write_count disk.new ≡ D.write_count disk.old }
-    ensures syncs { D.sync_count disk.new ≡ D.sync_count disk.old }
-    ensures device { OnDeviceFault result (D.Works disk.new → D.file_len disk.old < PAGE_BYTES * count_of chains.old.chains) }
-    ensures works { D.Works disk.new → D.Works disk.old }
-    ensures same_len { D.file_len disk.new ≡ D.file_len disk.old }
+    ensures only_reads { OnlyReads D.Disk disk.old disk.new chains.old chains.new result }
 {
     let told = tell_words(disk, entries, chains)?;
     if !told {

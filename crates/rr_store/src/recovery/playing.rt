@@ -1,5 +1,5 @@
 //! One table: its kept commands are kept again up to its last snapshot, and played from there, or from the opening.
-ghost use Rattle.std.specs.Prelude.{◌≡◌, ◌≢◌, ◌⊎◌, ◌+◌, ◌*◌, ◌^◌, ◌<◌, ◌≤◌, ℕ, List, [], ◌∷◌, ◌++◌, None, All, length, IsTrue, IfOk, IfErr, OnErr, OnOk, MatchOption, MatchResult};
+ghost use Rattle.std.specs.Prelude.{◌≡◌, ◌≢◌, ◌⊎◌, ◌+◌, ◌^◌, ◌<◌, ◌≤◌, ℕ, List, [], ◌∷◌, ◌++◌, None, All, length, IsTrue, IfOk, IfErr, OnErr, OnOk, MatchOption, MatchResult};
 ghost use Rattle.std.specs.Bool.{OnTrue, OnFalse};
 ghost use Rattle.rr_code.specs.Command.{IsCommand, SpellsCommand};
 ghost use Rattle.rr_code.specs.declared.command.Command.{Command as Line};
@@ -7,13 +7,12 @@ ghost use Rattle.rr_game.specs.declared.history.fault.Fault.TheVariants as Histo
 ghost use Rattle.rr_game.specs.History.Playing.{ArePlayed, ends_turn};
 ghost use Rattle.rr_game.specs.History.Tables.{HasItsSnapshots, IsPlayed, kept_in};
 ghost use Rattle.rr_game.specs.History.Verdict.{request_judgement};
-ghost use Rattle.rr_pages.specs.declared.page.TheConstants.{PAGE_BYTES};
 ghost use Rattle.rr_reading.specs.declared.dir.directory.TheConstants.{MOST_KEPT};
-ghost use Rattle.rr_reading.specs.Lending.Chains.{all_of, count_of};
 ghost use Rattle.rr_reading.specs.Lending.Commands.{bytes_at, rest_of, steps_left_of};
-ghost use Rattle.rr_store.specs.Recovery.Fault.{CountsFault, IsOrBreaks, OnDeviceFault, of_chain, of_table};
+ghost use Rattle.rr_store.specs.Recovery.Fault.{IsOrBreaks, of_chain, of_table};
 ghost use Rattle.rr_store.specs.Recovery.Kept.{AreWorded, HasPlayed, HasRoom, HoldsCommands, IsBegunBy, IsUnlawfulAfter, SpellsNoOpening};
 ghost use Rattle.rr_store.specs.Recovery.Playing.{BeginsNoTable, BeginsTable, IsFrontOf, KeepsFront, KeepsNext, KeepsNoMore, PlaysNext, PlaysNoMore, Recalls, ShowsNext};
+ghost use Rattle.rr_store.specs.Recovery.Reading.{OnlyReads};
 ghost use Rattle.rr_store.specs.Recovery.Shown.{IsPlayWithin, ShowsPlayOf, SpellsItsGame, shown_of};
 ghost use Rattle.rr_store.specs.Replayed.{begins_behind, counts_played, counts_shown, plays_behind, with_due};
 ghost use Rattle.rr_turns.specs.Judgement.{IsVerdict, MayFind};
@@ -67,17 +66,7 @@ pub(crate) fn play_all<D: Disk>(
         → (commands : List Line) → HoldsCommands (bytes_at (D.state disk.old).content chains.old index) count commands
         → All (ShowsPlayOf kit.now commands) (shown_of index snapshots.entry)
         → ∥ ArePlayed kit.now commands ∥₁ → ⊥)) }
-    ensures all { all_of chains.new.chains ≡ all_of chains.old.chains }
-    ensures pages { count_of chains.new.chains ≡ count_of chains.old.chains }
-    ensures fault { CountsFault (D.fault_count disk.old) (D.fault_count disk.new) result }
-    ensures honest { D.Honest disk.new → D.Honest disk.old }
-    ensures same_state { D.Honest disk.new → D.state disk.new ≡ D.state disk.old }
-    ensures same_past { D.Honest disk.new → D.past disk.new ≡ D.past disk.old }
-    ensures writes { D.write_count disk.new ≡ D.write_count disk.old }
-    ensures syncs { D.sync_count disk.new ≡ D.sync_count disk.old }
-    ensures device { OnDeviceFault result (D.Works disk.new → D.file_len disk.old < PAGE_BYTES * count_of chains.old.chains) }
-    ensures works { D.Works disk.new → D.Works disk.old }
-    ensures same_len { D.file_len disk.new ≡ D.file_len disk.old }
+    ensures only_reads { OnlyReads D.Disk disk.old disk.new chains.old chains.new result }
 {
     let kept = snapshots_at(alloc, index, snapshots.entries, snapshots.chains)?;
     chains.turn_to(index);
@@ -137,17 +126,7 @@ fn begin_at<D: Disk>(
     ensures refused { IfErr result (IsOrBreaks Damage.Kept (D.Honest disk.new → (count : ℕ) → count ≤ MOST_KEPT
         → (commands : List Line) → HoldsCommands (rest_of (D.state disk.old).content chains.old) count commands
         → All (IsPlayWithin kit.now commands) kept.snapshots → ∥ ArePlayed kit.now commands ∥₁ → ⊥)) }
-    ensures all { all_of chains.new.chains ≡ all_of chains.old.chains }
-    ensures pages { count_of chains.new.chains ≡ count_of chains.old.chains }
-    ensures fault { CountsFault (D.fault_count disk.old) (D.fault_count disk.new) result }
-    ensures honest { D.Honest disk.new → D.Honest disk.old }
-    ensures same_state { D.Honest disk.new → D.state disk.new ≡ D.state disk.old }
-    ensures same_past { D.Honest disk.new → D.past disk.new ≡ D.past disk.old }
-    ensures writes { D.write_count disk.new ≡ D.write_count disk.old }
-    ensures syncs { D.sync_count disk.new ≡ D.sync_count disk.old }
-    ensures device { OnDeviceFault result (D.Works disk.new → D.file_len disk.old < PAGE_BYTES * count_of chains.old.chains) }
-    ensures works { D.Works disk.new → D.Works disk.old }
-    ensures same_len { D.file_len disk.new ≡ D.file_len disk.old }
+    ensures only_reads { OnlyReads D.Disk disk.old disk.new chains.old chains.new result }
 {
     let last = last_game(alloc, kept.snapshots())?;
     match last {
@@ -172,17 +151,7 @@ fn recall<D: Disk>(
     ensures refused { IfErr result (IsOrBreaks Damage.Kept (D.Honest disk.new → (count : ℕ) → count ≤ MOST_KEPT
         → (commands : List Line) → HoldsCommands (rest_of (D.state disk.old).content chains.old) count commands
         → game.played ≤ count → ⊥)) }
-    ensures all { all_of chains.new.chains ≡ all_of chains.old.chains }
-    ensures pages { count_of chains.new.chains ≡ count_of chains.old.chains }
-    ensures fault { CountsFault (D.fault_count disk.old) (D.fault_count disk.new) result }
-    ensures honest { D.Honest disk.new → D.Honest disk.old }
-    ensures same_state { D.Honest disk.new → D.state disk.new ≡ D.state disk.old }
-    ensures same_past { D.Honest disk.new → D.past disk.new ≡ D.past disk.old }
-    ensures writes { D.write_count disk.new ≡ D.write_count disk.old }
-    ensures syncs { D.sync_count disk.new ≡ D.sync_count disk.old }
-    ensures device { OnDeviceFault result (D.Works disk.new → D.file_len disk.old < PAGE_BYTES * count_of chains.old.chains) }
-    ensures works { D.Works disk.new → D.Works disk.old }
-    ensures same_len { D.file_len disk.new ≡ D.file_len disk.old }
+    ensures only_reads { OnlyReads D.Disk disk.old disk.new chains.old chains.new result }
 {
     let mut kept = kept;
     keep_first(disk, chains, &mut kept, game.played())?;
@@ -210,17 +179,7 @@ fn keep_first<D: Disk>(
         → (commands : List Line) → HoldsCommands (rest_of (D.state disk.old).content chains.old) total commands
         → count ≤ total → ⊥)) }
     ensures snapshots { kept.new.snapshots ≡ kept.old.snapshots }
-    ensures all { all_of chains.new.chains ≡ all_of chains.old.chains }
-    ensures pages { count_of chains.new.chains ≡ count_of chains.old.chains }
-    ensures fault { CountsFault (D.fault_count disk.old) (D.fault_count disk.new) result }
-    ensures honest { D.Honest disk.new → D.Honest disk.old }
-    ensures same_state { D.Honest disk.new → D.state disk.new ≡ D.state disk.old }
-    ensures same_past { D.Honest disk.new → D.past disk.new ≡ D.past disk.old }
-    ensures writes { D.write_count disk.new ≡ D.write_count disk.old }
-    ensures syncs { D.sync_count disk.new ≡ D.sync_count disk.old }
-    ensures device { OnDeviceFault result (D.Works disk.new → D.file_len disk.old < PAGE_BYTES * count_of chains.old.chains) }
-    ensures works { D.Works disk.new → D.Works disk.old }
-    ensures same_len { D.file_len disk.new ≡ D.file_len disk.old }
+    ensures only_reads { OnlyReads D.Disk disk.old disk.new chains.old chains.new result }
 {
     for _done in 0..count {
         keep_next(disk, chains, kept)?;
@@ -241,17 +200,7 @@ fn keep_next<D: Disk>(
     ensures refused { IfErr result (IsOrBreaks Damage.Kept (D.Honest disk.new
         → length kept.old.commands < MOST_KEPT → KeepsNoMore (rest_of (D.state disk.old).content chains.old))) }
     ensures snapshots { kept.new.snapshots ≡ kept.old.snapshots }
-    ensures all { all_of chains.new.chains ≡ all_of chains.old.chains }
-    ensures pages { count_of chains.new.chains ≡ count_of chains.old.chains }
-    ensures fault { CountsFault (D.fault_count disk.old) (D.fault_count disk.new) result }
-    ensures honest { D.Honest disk.new → D.Honest disk.old }
-    ensures same_state { D.Honest disk.new → D.state disk.new ≡ D.state disk.old }
-    ensures same_past { D.Honest disk.new → D.past disk.new ≡ D.past disk.old }
-    ensures writes { D.write_count disk.new ≡ D.write_count disk.old }
-    ensures syncs { D.sync_count disk.new ≡ D.sync_count disk.old }
-    ensures device { OnDeviceFault result (D.Works disk.new → D.file_len disk.old < PAGE_BYTES * count_of chains.old.chains) }
-    ensures works { D.Works disk.new → D.Works disk.old }
-    ensures same_len { D.file_len disk.new ≡ D.file_len disk.old }
+    ensures only_reads { OnlyReads D.Disk disk.old disk.new chains.old chains.new result }
 {
     match chains.next(disk) {
         Ok(Some(words)) => keep_command(kept, words),
@@ -290,17 +239,7 @@ fn begin_first<D: Disk>(
     ensures worded { IfOk result (λ table. AreWorded (kept_in table).commands) }
     ensures refused { IfErr result (IsOrBreaks Damage.Kept (D.Honest disk.new
         → BeginsNoTable (rest_of (D.state disk.old).content chains.old))) }
-    ensures all { all_of chains.new.chains ≡ all_of chains.old.chains }
-    ensures pages { count_of chains.new.chains ≡ count_of chains.old.chains }
-    ensures fault { CountsFault (D.fault_count disk.old) (D.fault_count disk.new) result }
-    ensures honest { D.Honest disk.new → D.Honest disk.old }
-    ensures same_state { D.Honest disk.new → D.state disk.new ≡ D.state disk.old }
-    ensures same_past { D.Honest disk.new → D.past disk.new ≡ D.past disk.old }
-    ensures writes { D.write_count disk.new ≡ D.write_count disk.old }
-    ensures syncs { D.sync_count disk.new ≡ D.sync_count disk.old }
-    ensures device { OnDeviceFault result (D.Works disk.new → D.file_len disk.old < PAGE_BYTES * count_of chains.old.chains) }
-    ensures works { D.Works disk.new → D.Works disk.old }
-    ensures same_len { D.file_len disk.new ≡ D.file_len disk.old }
+    ensures only_reads { OnlyReads D.Disk disk.old disk.new chains.old chains.new result }
 {
     match chains.next(disk) {
         Ok(Some(words)) => begin(alloc, kit, words),
@@ -332,17 +271,7 @@ fn play_next<D: Disk>(
     ensures worded { IfOk result (λ more. AreWorded (kept_in table.old).commands → AreWorded (kept_in table.new).commands) }
     ensures refused { IfErr result (IsOrBreaks Damage.Kept (IsPlayed kit.now table.old → D.Honest disk.new
         → PlaysNoMore kit.now (rest_of (D.state disk.old).content chains.old) table.old left)) }
-    ensures all { all_of chains.new.chains ≡ all_of chains.old.chains }
-    ensures pages { count_of chains.new.chains ≡ count_of chains.old.chains }
-    ensures fault { CountsFault (D.fault_count disk.old) (D.fault_count disk.new) result }
-    ensures honest { D.Honest disk.new → D.Honest disk.old }
-    ensures same_state { D.Honest disk.new → D.state disk.new ≡ D.state disk.old }
-    ensures same_past { D.Honest disk.new → D.past disk.new ≡ D.past disk.old }
-    ensures writes { D.write_count disk.new ≡ D.write_count disk.old }
-    ensures syncs { D.sync_count disk.new ≡ D.sync_count disk.old }
-    ensures device { OnDeviceFault result (D.Works disk.new → D.file_len disk.old < PAGE_BYTES * count_of chains.old.chains) }
-    ensures works { D.Works disk.new → D.Works disk.old }
-    ensures same_len { D.file_len disk.new ≡ D.file_len disk.old }
+    ensures only_reads { OnlyReads D.Disk disk.old disk.new chains.old chains.new result }
 {
     match chains.next(disk) {
         Ok(Some(words)) => play_one(alloc, kit, table, words, left),

@@ -1,11 +1,10 @@
-ghost use Rattle.std.specs.Prelude.{◌≡◌, ◌*◌, ◌<◌, ℕ, List, IfOk, IfErr};
+ghost use Rattle.std.specs.Prelude.{◌≡◌, ℕ, List, IfOk, IfErr};
 ghost use Rattle.rr_kit.specs.Kits.{KitTexts as AnyTexts, SpellsKit};
 ghost use Rattle.rr_log.specs.Opening.Opened.{held_by};
-ghost use Rattle.rr_pages.specs.declared.page.TheConstants.{PAGE_BYTES};
-ghost use Rattle.rr_reading.specs.Lending.Chains.{count_of};
 ghost use Rattle.rr_reading.specs.Reading.{Holds};
-ghost use Rattle.rr_store.specs.Recovery.Fault.{CountsFault, OnDeviceFault};
-ghost use Rattle.rr_store.specs.Recovery.Recovered.{IsRecoveredFrom};
+ghost use Rattle.rr_store.specs.Recovery.Fault.{IsOfDevice};
+ghost use Rattle.rr_store.specs.Recovery.Reading.{OnlyReads};
+ghost use Rattle.rr_store.specs.Recovery.Recovered.{IsRecoveredFrom, IsRestored};
 ghost use Rattle.rr_store.specs.Recovery.Telling.{HasTrueSnapshots, Refuses};
 ghost use Rattle.rr_store.specs.Replayed.{IsReplayed};
 
@@ -74,21 +73,13 @@ pub fn recover<D: Disk, R: Rules>(
     // What was opened stays.
     ensures same_held { (file : List ℕ) → held_by file opened.new ≡ held_by file opened.old }
     ensures same_writer { opened.new.writer ≡ opened.old.writer }
-    ensures fault { CountsFault (D.fault_count disk.old) (D.fault_count disk.new) result }
-    ensures honest { D.Honest disk.new → D.Honest disk.old }
-    ensures same_state { D.Honest disk.new → D.state disk.new ≡ D.state disk.old }
-    ensures same_past { D.Honest disk.new → D.past disk.new ≡ D.past disk.old }
-    ensures writes { D.write_count disk.new ≡ D.write_count disk.old }
-    ensures syncs { D.sync_count disk.new ≡ D.sync_count disk.old }
-    ensures device { OnDeviceFault result (D.Works disk.new → D.file_len disk.old < PAGE_BYTES * count_of opened.old.tables.chains) }
-    ensures works { D.Works disk.new → D.Works disk.old }
-    ensures same_len { D.file_len disk.new ≡ D.file_len disk.old }
+    ensures only_reads { OnlyReads D.Disk disk.old disk.new opened.old.tables opened.new.tables result }
 {
     let snapshots = Snapshots {
         entries: &opened.dir.snapshots,
         chains: &opened.snapshots,
     };
-    let Restored { value, plays } = recover_base(
+    let restored = recover_base(
         alloc,
         disk,
         &opened.dir.tables,
@@ -96,6 +87,27 @@ pub fn recover<D: Disk, R: Rules>(
         &mut opened.tables,
         snapshots,
     )?;
+    let recovered = take_records(alloc, restored, opened)?;
+    Ok(recovered)
+}
+
+/// What is recovered of the file whose tables before its records were restored so.
+fn take_records<R: Rules>(
+    alloc: Global,
+    restored: Restored<Tables>,
+    opened: &Opened<Worlds<R>>,
+) -> Result<Recovered, Fault>
+    ensures recovered { IfOk result (λ recovered. (file : List ℕ) → Holds file (held_by file opened.now)
+        → IsRestored (held_by file opened.now) restored → IsRecoveredFrom (held_by file opened.now) recovered) }
+    ensures refused { IfErr result (λ fault. (file : List ℕ) → Holds file (held_by file opened.now)
+        → IsRestored (held_by file opened.now) restored → Refuses (held_by file opened.now) fault) }
+    ensures replayed { IfOk result (λ recovered. (file : List ℕ) → Holds file (held_by file opened.now)
+        → IsRestored (held_by file opened.now) restored → HasTrueSnapshots (held_by file opened.now)
+        → IsReplayed (held_by file opened.now) recovered.tables.kit recovered.replayed) }
+    ensures kit { IfOk result (λ recovered. recovered.tables.kit ≡ restored.value.kit) }
+    ensures no_device { IfErr result (λ fault. IsOfDevice fault → ⊥) }
+{
+    let Restored { value, plays } = restored;
     let mut tables = value;
     let replayed = replay_halves(
         alloc,

@@ -1,19 +1,19 @@
 //! All tables of a directory, in its order.
-ghost use Rattle.std.specs.Prelude.{◌≡◌, ◌↔◌, ℕ, ◌+◌, ◌*◌, ◌^◌, ◌<◌, ◌≤◌, [], All, length, IsTrue, IfOk, IfErr};
+ghost use Rattle.std.specs.Prelude.{◌≡◌, ◌↔◌, ℕ, ◌+◌, ◌*◌, ◌^◌, ◌<◌, ◌≤◌, [], ◌∷◌, ◌++◌, None, All, length, IsTrue, IfOk, IfErr, OnOk};
 ghost use Rattle.rr_game.specs.History.Tables.{HasItsSnapshots, IsPlayed, kept_in};
-ghost use Rattle.rr_pages.specs.declared.page.TheConstants.{PAGE_BYTES};
 ghost use Rattle.rr_reading.specs.Dir.Directory.{AreTables};
 ghost use Rattle.rr_reading.specs.declared.dir.directory.TheConstants.{MOST_KEPT};
 ghost use Rattle.rr_reading.specs.Held.{tables_in};
-ghost use Rattle.rr_reading.specs.Lending.Chains.{all_of, count_of};
+ghost use Rattle.rr_reading.specs.Lending.Chains.{all_of};
 ghost use Rattle.rr_reading.specs.Lending.Commands.{bytes_at};
-ghost use Rattle.rr_store.specs.Recovery.Fault.{CountsFault, IsOrBreaks, OnDeviceFault};
+ghost use Rattle.rr_store.specs.Recovery.Fault.{IsOrBreaks};
+ghost use Rattle.rr_store.specs.Recovery.Reading.{OnlyReads};
 ghost use Rattle.rr_store.specs.Recovery.Restoring.{IsFreeFor, Puts};
 ghost use Rattle.rr_store.specs.Recovery.Shown.{AreShown, ShowsPlayOf, SpellsItsGame, shown_of};
 ghost use Rattle.rr_store.specs.Recovery.Told.{TellTables, TellsTable};
 ghost use Rattle.rr_store.specs.Replayed.{AreItsCounts, PlaysTable, PlaysTables, counts_shown, counts_then, plays_behind};
 ghost use Rattle.rr_tables.specs.Records.Played.{ArePlayedTables, IsPlayedTable};
-ghost use Rattle.rr_tables.specs.Records.World.{TableState, World};
+ghost use Rattle.rr_tables.specs.Records.World.{TableState, World, table_named};
 ghost use Rattle.rr_tables.specs.Tables.{ArePlayed, HaveTheirSnapshots, world_of};
 ghost use Rattle.rr_tables.specs.Writable.{IsWritable};
 
@@ -29,6 +29,7 @@ use rr_reading::dir::TableEntry;
 use rr_reading::lending::Commands;
 use rr_tables::{MOST_TABLES, Tables};
 use rr_turns::LAST_STAMP;
+use rr_words::Name;
 use std::alloc::Global;
 
 /// The tables of these entries, each played from its chain.
@@ -57,17 +58,7 @@ pub(crate) fn restore_tables<D: Disk>(
     ensures refused { IfErr result (IsOrBreaks Damage.Kept (D.Honest disk.new
         → length entries.now ≡ length (all_of chains.old.chains) → AreTables entries.now → (tables : World) → TellTables entries.now (tables_in (D.state disk.old).content chains.old) tables
         → AreShown kit snapshots.entry tables → ArePlayedTables kit tables → ⊥)) }
-    ensures all { all_of chains.new.chains ≡ all_of chains.old.chains }
-    ensures pages { count_of chains.new.chains ≡ count_of chains.old.chains }
-    ensures fault { CountsFault (D.fault_count disk.old) (D.fault_count disk.new) result }
-    ensures honest { D.Honest disk.new → D.Honest disk.old }
-    ensures same_state { D.Honest disk.new → D.state disk.new ≡ D.state disk.old }
-    ensures same_past { D.Honest disk.new → D.past disk.new ≡ D.past disk.old }
-    ensures writes { D.write_count disk.new ≡ D.write_count disk.old }
-    ensures syncs { D.sync_count disk.new ≡ D.sync_count disk.old }
-    ensures device { OnDeviceFault result (D.Works disk.new → D.file_len disk.old < PAGE_BYTES * count_of chains.old.chains) }
-    ensures works { D.Works disk.new → D.Works disk.old }
-    ensures same_len { D.file_len disk.new ≡ D.file_len disk.old }
+    ensures only_reads { OnlyReads D.Disk disk.old disk.new chains.old chains.new result }
 {
     let mut tables = no_tables(alloc, kit)?;
     let mut plays = 0;
@@ -121,22 +112,12 @@ fn restore_table<D: Disk>(
         → All (ShowsPlayOf tables.old.kit state.commands) (shown_of index snapshots.entry)
         → IsPlayedTable tables.old.kit state → ⊥)) }
     ensures kit { tables.new.kit ≡ tables.old.kit }
-    ensures all { all_of chains.new.chains ≡ all_of chains.old.chains }
-    ensures pages { count_of chains.new.chains ≡ count_of chains.old.chains }
-    ensures fault { CountsFault (D.fault_count disk.old) (D.fault_count disk.new) result }
-    ensures honest { D.Honest disk.new → D.Honest disk.old }
-    ensures same_state { D.Honest disk.new → D.state disk.new ≡ D.state disk.old }
-    ensures same_past { D.Honest disk.new → D.past disk.new ≡ D.past disk.old }
-    ensures writes { D.write_count disk.new ≡ D.write_count disk.old }
-    ensures syncs { D.sync_count disk.new ≡ D.sync_count disk.old }
-    ensures device { OnDeviceFault result (D.Works disk.new → D.file_len disk.old < PAGE_BYTES * count_of chains.old.chains) }
-    ensures works { D.Works disk.new → D.Works disk.old }
-    ensures same_len { D.file_len disk.new ≡ D.file_len disk.old }
+    ensures only_reads { OnlyReads D.Disk disk.old disk.new chains.old chains.new result }
 {
     if !is_free_for(tables, entry) {
         return Err(Fault::Damaged(Damage::Kept));
     }
-    let Restored { value, plays } = restore(
+    let Restored { value, plays } = restore_whole(
         alloc,
         disk,
         tables.kit(),
@@ -145,7 +126,7 @@ fn restore_table<D: Disk>(
         index,
         snapshots,
     )?;
-    tables.put(entry.name, value);
+    put_table(alloc, tables, entry.name, value)?;
     Ok(plays)
 }
 
@@ -159,51 +140,20 @@ fn is_free_for(tables: &Tables, entry: &TableEntry) -> bool
     tables.table(&entry.name).is_err()
 }
 
-/// The table of an entry, in a box: a map moves its values about.
-fn restore<D: Disk>(
-    alloc: Global,
-    disk: &mut D,
-    kit: &Kit,
-    entry: &TableEntry,
-    chains: &mut Commands,
-    index: usize,
-    snapshots: Snapshots,
-) -> Result<Restored<Box<Table>>, Fault>
-    requires { entry.now.stamp ≤ LAST_STAMP }
-    ensures told { IfOk result (λ restored. D.Honest disk.new → TellsTable entry.now
-        (bytes_at (D.state disk.old).content chains.old index) (entry.now.name, kept_in restored.value.value)) }
-    ensures played { IfOk result (λ restored.
-        All (ShowsPlayOf kit.now (kept_in restored.value.value).commands) (shown_of index snapshots.entry)
-        → IsPlayed kit.now restored.value.value × IsPlayedTable kit.now (kept_in restored.value.value)) }
-    ensures named { IfOk result (λ restored. HasItsSnapshots restored.value.value) }
-    ensures writable { IfOk result (λ restored. IsWritable (kept_in restored.value.value)) }
-    ensures plays { IfOk result (λ restored. D.Honest disk.new
-        → All (ShowsPlayOf kit.now (kept_in restored.value.value).commands) (shown_of index snapshots.entry)
-        → PlaysTable kit.now (kept_in restored.value.value) (counts_shown (shown_of index snapshots.entry)) restored.plays) }
-    ensures few_plays { IfOk result (λ restored. restored.plays < 2 ^ 33) }
-    ensures games { IfOk result (λ restored. All SpellsItsGame (shown_of index snapshots.entry)) }
-    ensures refused { IfErr result (IsOrBreaks Damage.Kept (D.Honest disk.new → entry.now.kept ≤ MOST_KEPT
-        → (state : TableState)
-        → TellsTable entry.now (bytes_at (D.state disk.old).content chains.old index) (entry.now.name, state)
-        → All (ShowsPlayOf kit.now state.commands) (shown_of index snapshots.entry)
-        → IsPlayedTable kit.now state → ⊥)) }
-    ensures all { all_of chains.new.chains ≡ all_of chains.old.chains }
-    ensures pages { count_of chains.new.chains ≡ count_of chains.old.chains }
-    ensures fault { CountsFault (D.fault_count disk.old) (D.fault_count disk.new) result }
-    ensures honest { D.Honest disk.new → D.Honest disk.old }
-    ensures same_state { D.Honest disk.new → D.state disk.new ≡ D.state disk.old }
-    ensures same_past { D.Honest disk.new → D.past disk.new ≡ D.past disk.old }
-    ensures writes { D.write_count disk.new ≡ D.write_count disk.old }
-    ensures syncs { D.sync_count disk.new ≡ D.sync_count disk.old }
-    ensures device { OnDeviceFault result (D.Works disk.new → D.file_len disk.old < PAGE_BYTES * count_of chains.old.chains) }
-    ensures works { D.Works disk.new → D.Works disk.old }
-    ensures same_len { D.file_len disk.new ≡ D.file_len disk.old }
+/// Puts a table behind the others, in a box: a map moves its values about.
+fn put_table(alloc: Global, tables: &mut Tables, name: Name, table: Table) -> Result<(), Fault>
+    requires few { length (world_of tables.old) < MOST_TABLES }
+    requires own_name { table_named (world_of tables.old) name ≡ None }
+    requires writable { IsWritable (kept_in table) }
+    ensures last { OnOk result (world_of tables.new ≡ world_of tables.old ++ (name, kept_in table) ∷ []) }
+    ensures played { OnOk result (ArePlayed tables.old → IsPlayed tables.old.kit table → ArePlayed tables.new) }
+    ensures snapshots { OnOk result (HaveTheirSnapshots tables.old → HasItsSnapshots table → HaveTheirSnapshots tables.new) }
+    ensures kit { tables.new.kit ≡ tables.old.kit }
+    ensures memory { IfErr result (λ fault. fault ≡ Fault.OutOfMemory) }
 {
-    let Restored { value, plays } = restore_whole(
-        alloc, disk, kit, entry, chains, index, snapshots,
-    )?;
-    let value = Box::new(alloc, value)?;
-    Ok(Restored { value, plays })
+    let boxed = Box::new(alloc, table)?;
+    tables.put(name, boxed);
+    Ok(())
 }
 
 /// The table of an entry with the snapshots that it is to have: where the file's don't make them all, it is played
@@ -235,17 +185,7 @@ fn restore_whole<D: Disk>(
         → TellsTable entry.now (bytes_at (D.state disk.old).content chains.old index) (entry.now.name, state)
         → All (ShowsPlayOf kit.now state.commands) (shown_of index snapshots.entry)
         → IsPlayedTable kit.now state → ⊥)) }
-    ensures all { all_of chains.new.chains ≡ all_of chains.old.chains }
-    ensures pages { count_of chains.new.chains ≡ count_of chains.old.chains }
-    ensures fault { CountsFault (D.fault_count disk.old) (D.fault_count disk.new) result }
-    ensures honest { D.Honest disk.new → D.Honest disk.old }
-    ensures same_state { D.Honest disk.new → D.state disk.new ≡ D.state disk.old }
-    ensures same_past { D.Honest disk.new → D.past disk.new ≡ D.past disk.old }
-    ensures writes { D.write_count disk.new ≡ D.write_count disk.old }
-    ensures syncs { D.sync_count disk.new ≡ D.sync_count disk.old }
-    ensures device { OnDeviceFault result (D.Works disk.new → D.file_len disk.old < PAGE_BYTES * count_of chains.old.chains) }
-    ensures works { D.Works disk.new → D.Works disk.old }
-    ensures same_len { D.file_len disk.new ≡ D.file_len disk.old }
+    ensures only_reads { OnlyReads D.Disk disk.old disk.new chains.old chains.new result }
 {
     let told = restore_from(alloc, disk, kit, entry, chains, index, snapshots)?;
     if told.value.has_its_snapshots() {
@@ -293,17 +233,7 @@ fn restore_from<D: Disk>(
         → TellsTable entry.now (bytes_at (D.state disk.old).content chains.old index) (entry.now.name, state)
         → All (ShowsPlayOf kit.now state.commands) (shown_of index snapshots.entry)
         → IsPlayedTable kit.now state → ⊥)) }
-    ensures all { all_of chains.new.chains ≡ all_of chains.old.chains }
-    ensures pages { count_of chains.new.chains ≡ count_of chains.old.chains }
-    ensures fault { CountsFault (D.fault_count disk.old) (D.fault_count disk.new) result }
-    ensures honest { D.Honest disk.new → D.Honest disk.old }
-    ensures same_state { D.Honest disk.new → D.state disk.new ≡ D.state disk.old }
-    ensures same_past { D.Honest disk.new → D.past disk.new ≡ D.past disk.old }
-    ensures writes { D.write_count disk.new ≡ D.write_count disk.old }
-    ensures syncs { D.sync_count disk.new ≡ D.sync_count disk.old }
-    ensures device { OnDeviceFault result (D.Works disk.new → D.file_len disk.old < PAGE_BYTES * count_of chains.old.chains) }
-    ensures works { D.Works disk.new → D.Works disk.old }
-    ensures same_len { D.file_len disk.new ≡ D.file_len disk.old }
+    ensures only_reads { OnlyReads D.Disk disk.old disk.new chains.old chains.new result }
 {
     let Restored { value, plays } = play_all(
         alloc, disk, kit, chains, index, entry.kept, snapshots,

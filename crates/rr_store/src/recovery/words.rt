@@ -1,13 +1,13 @@
 //! Whether the words of the kept commands are words that lines have behind a table's name. That needs no rule of the
 //! game.
-ghost use Rattle.std.specs.Prelude.{◌≡◌, ◌≢◌, ◌⊎◌, ◌↔◌, ◌*◌, ◌<◌, ℕ, List, [], ◌∷◌, length, IsTrue, IfOk, IfErr, MatchOption};
+ghost use Rattle.std.specs.Prelude.{◌≡◌, ◌≢◌, ◌⊎◌, ◌↔◌, ◌<◌, ℕ, List, [], ◌∷◌, length, IsTrue, IfOk, IfErr, MatchOption};
 ghost use Rattle.rr_code.specs.Command.{SpellsCommand};
 ghost use Rattle.rr_code.specs.declared.command.Command.{Command as Played};
-ghost use Rattle.rr_pages.specs.declared.page.TheConstants.{PAGE_BYTES};
 ghost use Rattle.rr_reading.specs.Held.{tables_in};
-ghost use Rattle.rr_reading.specs.Lending.Chains.{all_of, count_of};
+ghost use Rattle.rr_reading.specs.Lending.Chains.{all_of};
 ghost use Rattle.rr_reading.specs.Lending.Commands.{bytes_at, steps_left_of};
-ghost use Rattle.rr_store.specs.Recovery.Fault.{CountsFault, IsOfDevice, OnDeviceFault};
+ghost use Rattle.rr_store.specs.Recovery.Fault.{IsOfDevice};
+ghost use Rattle.rr_store.specs.Recovery.Reading.{OnlyReads};
 ghost use Rattle.rr_store.specs.Recovery.Spelling.{ReadsWords, TellsSpelled, of_cut};
 ghost use Rattle.rr_store.specs.Recovery.Told.{EachHas, IsSpelled, SpellsBest, SpellsRequest, TellsWords};
 ghost use Rattle.rr_roster.specs.declared.company.Corp.{Corp};
@@ -45,17 +45,7 @@ pub(crate) fn tell_words<D: Disk>(
         × EachHas TellsWords entries.now (tables_in (D.state disk.old).content chains.old)))) }
     ensures as_many { IfOk result (λ told. IsTrue told → length entries.now ≡ length (all_of chains.old.chains)) }
     ensures only { IfErr result IsOfDevice }
-    ensures all { all_of chains.new.chains ≡ all_of chains.old.chains }
-    ensures pages { count_of chains.new.chains ≡ count_of chains.old.chains }
-    ensures fault { CountsFault (D.fault_count disk.old) (D.fault_count disk.new) result }
-    ensures honest { D.Honest disk.new → D.Honest disk.old }
-    ensures same_state { D.Honest disk.new → D.state disk.new ≡ D.state disk.old }
-    ensures same_past { D.Honest disk.new → D.past disk.new ≡ D.past disk.old }
-    ensures writes { D.write_count disk.new ≡ D.write_count disk.old }
-    ensures syncs { D.sync_count disk.new ≡ D.sync_count disk.old }
-    ensures device { OnDeviceFault result (D.Works disk.new → D.file_len disk.old < PAGE_BYTES * count_of chains.old.chains) }
-    ensures works { D.Works disk.new → D.Works disk.old }
-    ensures same_len { D.file_len disk.new ≡ D.file_len disk.old }
+    ensures only_reads { OnlyReads D.Disk disk.old disk.new chains.old chains.new result }
 {
     if entries.len() != chains.chain_count() {
         return Ok(false);
@@ -78,17 +68,7 @@ fn tells_words<D: Disk>(
     ensures told { IfOk result (λ told. D.Honest disk.new
         → (IsTrue told ↔ TellsWords entry.now (bytes_at (D.state disk.old).content chains.old index))) }
     ensures only { IfErr result IsOfDevice }
-    ensures all { all_of chains.new.chains ≡ all_of chains.old.chains }
-    ensures pages { count_of chains.new.chains ≡ count_of chains.old.chains }
-    ensures fault { CountsFault (D.fault_count disk.old) (D.fault_count disk.new) result }
-    ensures honest { D.Honest disk.new → D.Honest disk.old }
-    ensures same_state { D.Honest disk.new → D.state disk.new ≡ D.state disk.old }
-    ensures same_past { D.Honest disk.new → D.past disk.new ≡ D.past disk.old }
-    ensures writes { D.write_count disk.new ≡ D.write_count disk.old }
-    ensures syncs { D.sync_count disk.new ≡ D.sync_count disk.old }
-    ensures device { OnDeviceFault result (D.Works disk.new → D.file_len disk.old < PAGE_BYTES * count_of chains.old.chains) }
-    ensures works { D.Works disk.new → D.Works disk.old }
-    ensures same_len { D.file_len disk.new ≡ D.file_len disk.old }
+    ensures only_reads { OnlyReads D.Disk disk.old disk.new chains.old chains.new result }
 {
     chains.turn_to(index);
     let mut left = entry.kept;
@@ -113,17 +93,7 @@ fn read_words<D: Disk>(disk: &mut D, chains: &mut Commands) -> Result<Next, Faul
     ensures reads { IfOk result (λ next. D.Honest disk.new → ReadsWords (D.state disk.old).content chains.old next chains.new) }
     ensures fewer { IfOk result (λ next. next ≡ Next.Spelled → steps_left_of chains.new < steps_left_of chains.old) }
     ensures only { IfErr result IsOfDevice }
-    ensures all { all_of chains.new.chains ≡ all_of chains.old.chains }
-    ensures pages { count_of chains.new.chains ≡ count_of chains.old.chains }
-    ensures fault { CountsFault (D.fault_count disk.old) (D.fault_count disk.new) result }
-    ensures honest { D.Honest disk.new → D.Honest disk.old }
-    ensures same_state { D.Honest disk.new → D.state disk.new ≡ D.state disk.old }
-    ensures same_past { D.Honest disk.new → D.past disk.new ≡ D.past disk.old }
-    ensures writes { D.write_count disk.new ≡ D.write_count disk.old }
-    ensures syncs { D.sync_count disk.new ≡ D.sync_count disk.old }
-    ensures device { OnDeviceFault result (D.Works disk.new → D.file_len disk.old < PAGE_BYTES * count_of chains.old.chains) }
-    ensures works { D.Works disk.new → D.Works disk.old }
-    ensures same_len { D.file_len disk.new ≡ D.file_len disk.old }
+    ensures only_reads { OnlyReads D.Disk disk.old disk.new chains.old chains.new result }
 {
     match chains.next(disk) {
         Ok(Some(words)) => Ok(spelled(words)),

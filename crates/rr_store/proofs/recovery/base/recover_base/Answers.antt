@@ -20,17 +20,17 @@ named_with entries shown read chains = record { entries = entries; chains = chai
 pub returns-in-Err-Damaged-clause-refused : goal.returns-in-Err-Damaged-clause-refused
 unfolding content
 returns-in-Err-Damaged-clause-refused g c = λ honest.
-    let before = c.refusal.ensures.honest honest in
+    let before = c.refusal.ensures.only_reads.honest honest in
     let named = named_with c.args.entries.now c.args.snapshots.entries.now (standing_chains c.args.snapshots.chains.now) in
     let chains : tables_in (g.D.Disk.state c.restore_base.new.disk).content c.restore_base.new.chains ≡ tables_in (g.D.Disk.state c.args.disk.now).content c.args.chains.now =
-    λ i. all_held_in (content (c.in-Err-Damaged.ensures.same_state before i)) (c.in-Err-Damaged.ensures.all i) in
+    λ i. all_held_in (content (c.in-Err-Damaged.ensures.only_reads.same_state before i)) (c.in-Err-Damaged.ensures.only_reads.all i) in
     told_instead _ _ (chains_held c.args.texts.now) c.in-Err-Damaged.field-0 _ c.refusal.result (ap named chains) (sym c.in-Err-Damaged.field-0-is) (c.refusal.ensures.told honest) (c.in-Err-Damaged.ensures.refused before)
 
 pub returns-in-Err-OutOfMemory-clause-refused : goal.returns-in-Err-OutOfMemory-clause-refused
 unfolding content
 returns-in-Err-OutOfMemory-clause-refused g c = λ honest.
-    let before = c.refusal-in-Err-OutOfMemory.ensures.honest honest in
+    let before = c.refusal-in-Err-OutOfMemory.ensures.only_reads.honest honest in
     let named = named_with c.args.entries.now c.args.snapshots.entries.now (standing_chains c.args.snapshots.chains.now) in
     let chains : tables_in (g.D.Disk.state c.restore_base.new.disk).content c.restore_base.new.chains ≡ tables_in (g.D.Disk.state c.args.disk.now).content c.args.chains.now =
-    λ i. all_held_in (content (c.in-Err-OutOfMemory.ensures.same_state before i)) (c.in-Err-OutOfMemory.ensures.all i) in
+    λ i. all_held_in (content (c.in-Err-OutOfMemory.ensures.only_reads.same_state before i)) (c.in-Err-OutOfMemory.ensures.only_reads.all i) in
     told_instead _ _ (chains_held c.args.texts.now) c.in-Err-OutOfMemory.field-0 _ c.refusal-in-Err-OutOfMemory.result (ap named chains) (sym c.in-Err-OutOfMemory.field-0-is) (c.refusal-in-Err-OutOfMemory.ensures.told honest) (c.in-Err-OutOfMemory.ensures.refused before)

@@ -14,6 +14,7 @@ use Rattle.rr_store.specs.Recovery.Texts.{texts_in}
 use Rattle.rr_store.specs.Replayed.{PlaysTables, counts_shown}
 use Rattle.rr_store.proofs.RecoveryLemmas.BaseLemmas.{told_formed}
 use Rattle.rr_store.proofs.RecoveryLemmas.Recovered.{kept_refuses, kit_refuses}
+use Rattle.rr_store.proofs.RecoveryLemmas.ReadingLemmas.{failed, valued}
 use Rattle.rr_store.proofs.recovery.base.restore_base.Goals as goal
 
 pub returns-in_err-kit-clause-refused : goal.returns-in_err-kit-clause-refused
@@ -60,3 +61,11 @@ returns-clause-plays g c =
     let counts : ℕ → List ℕ = λ place. counts_shown (shown_of place c.args.snapshots) in
     subst (λ (kit : Kit). g.D.Disk.Honest c.restore_tables.new.disk → AreShown kit c.args.snapshots (world_of restored.value) → PlaysTables kit counts 0 (world_of restored.value) restored.plays) (sym c.in_ok-restored.ensures.kit)
     c.in_ok-restored.ensures.plays
+
+pub returns-in_err-restored-clause-only_reads : goal.returns-in_err-restored-clause-only_reads
+returns-in_err-restored-clause-only_reads g c =
+    let p = err_from_is_err_and c.from_residual-in_err-restored.result c.from_residual-in_err-restored.ensures.1 in
+    rw (p.1, p.2) (failed c.in_err-restored.ensures.only_reads)
+
+pub returns-clause-only_reads : goal.returns-clause-only_reads
+returns-clause-only_reads g c = valued c.in_ok-restored.ensures.only_reads

@@ -59,3 +59,9 @@ returns-in-None-clause-shown g c =
     let none : games ≡ [] =
     subst (λ (last : Option Game). IsLast games last) c.in-None.is (subst (λ (gs : List Game). IsLast gs c.in_ok-last.last) c.snapshots.ensures c.in_ok-last.ensures.last) in
     first_shown games none c.begin_first.result c.begin_first.ensures.named c.begin_first.ensures.alone
+
+pub returns-in-Some-clause-only_reads : goal.returns-in-Some-clause-only_reads
+returns-in-Some-clause-only_reads g c = c.recall.ensures.only_reads
+
+pub returns-in-None-clause-only_reads : goal.returns-in-None-clause-only_reads
+returns-in-None-clause-only_reads g c = c.begin_first.ensures.only_reads

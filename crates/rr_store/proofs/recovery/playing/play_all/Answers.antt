@@ -1,23 +1,25 @@
-use Rattle.std.proofs.Common.{◌≡◌, ◌≢◌, ◌<◌, ◌≤◌, ◌-◌, ◌^◌, ℕ, List, [], length, Result, Ok, Err, IfOk, IfErr, MatchResult, All, ap, refl, sym, subst, ◌∙◌, arith, rules}
+use Rattle.std.proofs.Common.{◌≡◌, ◌≢◌, ◌<◌, ◌≤◌, ◌-◌, ◌^◌, ℕ, List, [], length, Result, Ok, Err, IfOk, IfErr, MatchResult, All, ap, refl, sym, subst, ◌∙◌, arith}
 use Rattle.std.proofs.lemmas.Result.{err_from_is_err_and}
 use Rattle.rr_disk.specs.Disk.{DiskState}
 use Rattle.rr_game.specs.declared.history.table.Table.{Table}
 use Rattle.rr_game.specs.History.Tables.{HasItsSnapshots, IsPlayed, kept_in}
 use Rattle.rr_pages.specs.declared.fault.Damage.TheVariants as D
-use Rattle.rr_reading.specs.Lending.Chains.{count_of}
 use Rattle.rr_reading.specs.Lending.Commands.{bytes_at, rest_of}
 use Rattle.rr_reading.proofs.LendingLemmas.CommandLemmas.{at_false, at_true}
 use Rattle.rr_store.specs.declared.recovery.fault.Fault.{Fault}
 use Rattle.rr_store.specs.declared.recovery.fault.Fault.TheVariants as F
 use Rattle.rr_store.specs.declared.recovery.plays.Restored.{Restored}
-use Rattle.rr_store.specs.Recovery.Fault.{IsOrBreaks}
+use Rattle.rr_store.specs.Recovery.Fault.{IsOfDevice, IsOrBreaks}
 use Rattle.rr_store.specs.Recovery.Kept.{AreWorded, HoldsCommands}
 use Rattle.rr_store.specs.Recovery.Playing.{KeepsFront, PlaysNext, PlaysNoMore, ShowsNext}
 use Rattle.rr_store.specs.Recovery.Shown.{ShowsPlayOf, SpellsItsGame, shown_of}
 use Rattle.rr_store.specs.Replayed.{begins_behind, counts_played, counts_shown, plays_behind, with_due}
+use Rattle.rr_disk.specs.declared.disk.Disk.{Ghosts}
+use Rattle.rr_reading.specs.declared.lending.commands.Commands.{Commands}
+use Rattle.rr_store.specs.Recovery.Reading.{OnlyReads}
 use Rattle.rr_store.proofs.RecoveryLemmas.PlaysLemmas.{counts_read, due_first, next_shown}
 use Rattle.rr_store.proofs.RecoveryLemmas.PlayingLemmas.{breaks, breaks_so, ends, ends_early, front_before, goes_on, held_front, or_breaks, played_whole, starts, too_many}
-use Rattle.rr_store.proofs.RecoveryLemmas.RestoringLemmas.{device_behind}
+use Rattle.rr_store.proofs.RecoveryLemmas.ReadingLemmas.{failed, reads_on, refused, turned, valued}
 use Rattle.rr_store.proofs.RecoveryLemmas.ShownLemmas.{are_within, none_read, read_are_games, show_games}
 use Rattle.rr_store.proofs.recovery.playing.play_all.Goals as goal
 
@@ -92,16 +94,7 @@ commands-init g c =
           ∙ ap (with_due (counts_shown (shown_of c.args.index c.args.snapshots))) (sym behind);
       floor = c.in_ok-table.ensures.floor;
       worded = c.in_ok-table.ensures.worded;
-      all = c.in_ok-table.ensures.all ∙ c.turn_to.ensures.all;
-      pages = c.in_ok-table.ensures.pages ∙ c.turn_to.ensures.pages;
-      honest = search rules;
-      same_state = search rules;
-      same_past = search rules;
-      faults = search rules;
-      writes = search rules;
-      syncs = search rules;
-      works = search rules;
-      same_len = search rules;
+      only_reads = reads_on (turned c.turn_to.ensures.all c.turn_to.ensures.pages) (valued c.in_ok-table.ensures.only_reads);
     }
 
 pub commands-preserved : goal.commands-preserved
@@ -114,9 +107,9 @@ commands-preserved g c =
     let some = at_true (0 < c.commands.left) c.if-not-more.false c.in_ok-more.ensures.some in
     record {
       so_far = λ honest.
-          let before = c.in_ok-more.ensures.honest honest in
+          let before = c.in_ok-more.ensures.only_reads.honest honest in
           let next = at_true (g.D.Disk.Honest c.play_next.new.disk → PlaysNext c.args.kit.now (g.D.Disk.state c.commands.disk).content old c.commands.table c.play_next.new.chains c.play_next.new.table) c.if-not-more.false c.in_ok-more.ensures.more honest in
-          let plays = subst (λ (f : List ℕ). PlaysNext c.args.kit.now f old c.commands.table c.play_next.new.chains c.play_next.new.table) (ap content (c.commands.invariant.same_state before)) next in
+          let plays = subst (λ (f : List ℕ). PlaysNext c.args.kit.now f old c.commands.table c.play_next.new.chains c.play_next.new.table) (ap content (c.commands.invariant.only_reads.same_state before)) next in
           goes_on c.args.kit.now bytes (rest_of file old) (rest_of file c.play_next.new.chains) plays.words c.commands.left (c.commands.left - 1) c.args.count c.commands.table c.play_next.new.table (c.commands.invariant.so_far before) plays.passed (omega (arith, some)) plays.has_played;
       played = λ commands front shown.
           c.in_ok-more.ensures.played (c.commands.invariant.played commands (front_before _ _ _ c.in_ok-more.ensures.front front) shown);
@@ -128,16 +121,7 @@ commands-preserved g c =
       shown = next_shown (counts_shown (shown_of c.args.index c.args.snapshots)) c.commands.table c.play_next.new.table next c.commands.invariant.low c.commands.invariant.shown;
       floor = c.in_ok-more.ensures.floor ∙ c.commands.invariant.floor;
       worded = c.in_ok-more.ensures.worded c.commands.invariant.worded;
-      all = c.in_ok-more.ensures.all ∙ c.commands.invariant.all;
-      pages = c.in_ok-more.ensures.pages ∙ c.commands.invariant.pages;
-      honest = search rules;
-      same_state = search rules;
-      same_past = search rules;
-      faults = search rules;
-      writes = search rules;
-      syncs = search rules;
-      works = search rules;
-      same_len = search rules;
+      only_reads = reads_on c.commands.invariant.only_reads (valued c.in_ok-more.ensures.only_reads);
     }
 
 pub returns-in_err-more-clause-refused : goal.returns-in_err-more-clause-refused
@@ -149,11 +133,11 @@ returns-in_err-more-clause-refused g c =
     let bytes = bytes_at file c.args.chains.now c.args.index in
     rw (p.1, p.2)
     (breaks_so _ c.in_err-more.ensures.refused (λ refused honest few commands holds shown played.
-    let before = c.in_err-more.ensures.honest honest in
+    let before = c.in_err-more.ensures.only_reads.honest honest in
     let so_far = c.commands.invariant.so_far before in
     let front = held_front bytes (rest_of file old) c.args.count so_far.counts.front (kept_in c.commands.table).commands commands so_far.counts.spells so_far.spelled holds in
     let was_played = c.commands.invariant.played commands front shown in
-    let ends_so = subst (λ (f : List ℕ). PlaysNoMore c.args.kit.now (rest_of f old) c.commands.table c.commands.left) (ap content (c.commands.invariant.same_state before)) (refused was_played honest) in
+    let ends_so = subst (λ (f : List ℕ). PlaysNoMore c.args.kit.now (rest_of f old) c.commands.table c.commands.left) (ap content (c.commands.invariant.only_reads.same_state before)) (refused was_played honest) in
     breaks c.args.kit.now bytes (rest_of file old) c.commands.left c.args.count c.commands.table so_far was_played ends_so few (record { commands = commands; kept = holds; played = played })))
 
 pub returns-then-not-more-clause-restored : goal.returns-then-not-more-clause-restored
@@ -162,9 +146,9 @@ returns-then-not-more-clause-restored g c =
     let file = (g.D.Disk.state c.args.disk.now).content in
     let old = c.commands.chains in
     whole_is _ (one_of c.play_next.new.table c.commands.plays) c.commands.left c.whole.result c.whole.ensures (λ none honest.
-    let before = c.in_ok-more.ensures.honest honest in
+    let before = c.in_ok-more.ensures.only_reads.honest honest in
     let end = at_false (g.D.Disk.Honest c.play_next.new.disk → rest_of (g.D.Disk.state c.commands.disk).content old ≡ []) c.if-not-more.true c.in_ok-more.ensures.end honest in
-    let ends_here : rest_of file old ≡ [] = subst (λ (f : List ℕ). rest_of f old ≡ []) (ap content (c.commands.invariant.same_state before)) end in
+    let ends_here : rest_of file old ≡ [] = subst (λ (f : List ℕ). rest_of f old ≡ []) (ap content (c.commands.invariant.only_reads.same_state before)) end in
     let same = at_false (c.play_next.new.table ≡ c.commands.table) c.if-not-more.true c.in_ok-more.ensures.same in
     let bytes = bytes_at file c.args.chains.now c.args.index in
     subst (λ (table : Table). HoldsCommands bytes c.args.count (kept_in table).commands) (sym same)
@@ -201,9 +185,9 @@ returns-then-not-more-clause-refused g c =
     let file = (g.D.Disk.state c.args.disk.now).content in
     let old = c.commands.chains in
     whole_breaks _ (one_of c.play_next.new.table c.commands.plays) c.commands.left c.whole.result c.whole.ensures (λ some honest few commands holds shown played.
-    let before = c.in_ok-more.ensures.honest honest in
+    let before = c.in_ok-more.ensures.only_reads.honest honest in
     let end = at_false (g.D.Disk.Honest c.play_next.new.disk → rest_of (g.D.Disk.state c.commands.disk).content old ≡ []) c.if-not-more.true c.in_ok-more.ensures.end honest in
-    let ends_here : rest_of file old ≡ [] = subst (λ (f : List ℕ). rest_of f old ≡ []) (ap content (c.commands.invariant.same_state before)) end in
+    let ends_here : rest_of file old ≡ [] = subst (λ (f : List ℕ). rest_of f old ≡ []) (ap content (c.commands.invariant.only_reads.same_state before)) end in
     ends_early c.args.kit.now (bytes_at file c.args.chains.now c.args.index) (rest_of file old) c.commands.left c.args.count c.commands.table (c.commands.invariant.so_far before) ends_here some (record { commands = commands; kept = holds; played = played }))
 
 pub returns-then-not-more-clause-plays : goal.returns-then-not-more-clause-plays
@@ -229,9 +213,23 @@ returns-then-not-more-clause-counted g c =
     let same = at_false (c.play_next.new.table ≡ c.commands.table) c.if-not-more.true c.in_ok-more.ensures.same in
     omega (arith, none, c.commands.invariant.counted, ap (λ (table : Table). length (kept_in table).commands) same))
 
-pub returns-in_err-more-clause-device : goal.returns-in_err-more-clause-device
-returns-in_err-more-clause-device g c =
+pub returns-in_err-table-clause-only_reads : goal.returns-in_err-table-clause-only_reads
+returns-in_err-table-clause-only_reads g c =
+    let p = err_from_is_err_and c.from_residual-in_err-table.result c.from_residual-in_err-table.ensures.1 in
+    rw (p.1, p.2) (reads_on (turned c.turn_to.ensures.all c.turn_to.ensures.pages) (failed c.in_err-table.ensures.only_reads))
+
+pub returns-in_err-more-clause-only_reads : goal.returns-in_err-more-clause-only_reads
+returns-in_err-more-clause-only_reads g c =
     let p = err_from_is_err_and c.from_residual-in_err-more.result c.from_residual-in_err-more.ensures.1 in
-    rw (p.1, p.2)
-    (device_behind (g.D.Disk.Works c.play_next.new.disk) (g.D.Disk.file_len c.args.disk.now) (g.D.Disk.file_len c.commands.disk) (count_of c.args.chains.now.chains) (count_of c.commands.chains.chains) _
-    c.commands.invariant.same_len c.commands.invariant.pages c.in_err-more.ensures.device)
+    rw (p.1, p.2) (reads_on c.commands.invariant.only_reads (failed c.in_err-more.ensures.only_reads))
+
+pub returns-then-done-count-clause-only_reads : goal.returns-then-done-count-clause-only_reads
+returns-then-done-count-clause-only_reads g c = refused _ (λ never. never) (reads_on (turned c.turn_to.ensures.all c.turn_to.ensures.pages) c.in_ok-table.ensures.only_reads)
+
+whole_reads : {Device : Type 0} {seen : Ghosts Device} {old new : Device} {lent later : Commands} (one : Restored Table) (left : ℕ) (whole : Result (Restored Table) Fault)
+    → MatchResult whole (λ w. (w ≡ one) × (left ≡ 0)) (λ fault. (fault ≡ F.Damaged D.Kept) × (left ≢ 0)) → OnlyReads {T = Unit {0}} seen old new lent later (Ok tt) → OnlyReads seen old new lent later whole
+whole_reads one left (Ok w) is reads = valued reads
+whole_reads one left (Err fault) is reads = refused fault (subst (λ (f : Fault). IsOfDevice f → ⊥) (sym is.0) (λ never. never)) reads
+
+pub returns-then-not-more-clause-only_reads : goal.returns-then-not-more-clause-only_reads
+returns-then-not-more-clause-only_reads g c = whole_reads (one_of c.play_next.new.table c.commands.plays) c.commands.left c.whole.result c.whole.ensures (reads_on c.commands.invariant.only_reads (valued c.in_ok-more.ensures.only_reads))

@@ -9,6 +9,7 @@ use Rattle.rr_store.proofs.RecoveryLemmas.PlayingLemmas.{breaks_so}
 use Rattle.rr_store.proofs.RecoveryLemmas.PlaysLemmas.{resumed_named}
 use Rattle.rr_store.proofs.RecoveryLemmas.RestoringLemmas.{above_turns, is_writable, resumed}
 use Rattle.rr_store.proofs.RecoveryLemmas.ShownLemmas.{show_nothing}
+use Rattle.rr_store.proofs.RecoveryLemmas.ReadingLemmas.{failed, refused, valued}
 use Rattle.rr_store.proofs.recovery.tables.restore_from.Goals as goal
 
 pub returns-in_err-value-clause-refused : goal.returns-in_err-value-clause-refused
@@ -59,3 +60,14 @@ returns-clause-shown g c = λ shows.
     let due = c.in_ok-value.ensures.shown ∙ ap (with_due (counts_shown shown)) (sym c.in_ok-value.ensures.counted) in
     resumed_named kit old c.resume.new.self c.from-floor.result (counts_shown shown) old_played (c.resume.ensures.played kit old_played) c.resume.ensures.commands c.resume.ensures.floor
     c.resume.ensures.snapshots below due
+
+pub returns-in_err-value-clause-only_reads : goal.returns-in_err-value-clause-only_reads
+returns-in_err-value-clause-only_reads g c =
+    let p = err_from_is_err_and c.from_residual.result c.from_residual.ensures.1 in
+    rw (p.1, p.2) (failed c.in_err-value.ensures.only_reads)
+
+pub returns-then-floor-turns-clause-only_reads : goal.returns-then-floor-turns-clause-only_reads
+returns-then-floor-turns-clause-only_reads g c = refused _ (λ never. never) c.in_ok-value.ensures.only_reads
+
+pub returns-clause-only_reads : goal.returns-clause-only_reads
+returns-clause-only_reads g c = valued c.in_ok-value.ensures.only_reads

@@ -1,4 +1,4 @@
-use Rattle.std.proofs.Common.{◌≡◌, ◌+◌, ◌<◌, ◌∙◌, ℕ, All, List, length, refl, arith, below_more, rules}
+use Rattle.std.proofs.Common.{◌≡◌, ◌+◌, ◌<◌, ◌∙◌, ℕ, All, List, length, refl, subst, arith, below_more}
 use Rattle.std.proofs.lemmas.List.{length-map}
 use Rattle.std.proofs.lemmas.Result.{err_from_is_err_and}
 use Rattle.rr_disk.specs.Disk.{DiskState}
@@ -12,8 +12,11 @@ use Rattle.rr_reading.specs.Lending.Pages.{joined}
 use Rattle.rr_reading.proofs.FormLemmas.{get_held, held_at}
 use Rattle.rr_tables.specs.Tables.{world_of}
 use Rattle.rr_store.specs.Recovery.Shown.{SpellsItsGame, shown_of}
+use Rattle.rr_store.specs.declared.recovery.fault.Fault.{Fault}
+use Rattle.rr_store.specs.Recovery.Fault.{IsOfDevice}
 use Rattle.rr_store.proofs.RecoveryLemmas.PlayingLemmas.{breaks_so}
 use Rattle.rr_store.proofs.RecoveryLemmas.PlaysLemmas.{plays_put}
+use Rattle.rr_store.proofs.RecoveryLemmas.ReadingLemmas.{failed, reads_on, refused, turned, valued}
 use Rattle.rr_store.proofs.RecoveryLemmas.RestoringLemmas.{count_put, played_put, told_end, told_put}
 use Rattle.rr_store.proofs.recovery.tables.restore_tables.Goals as goal
 
@@ -32,8 +35,8 @@ returns-in_err-played-clause-refused g c =
     rw (p.1, p.2)
     (breaks_so _ c.in_err-played.ensures.refused (λ refused honest as_many.
     let chain_in : index < length all = omega (arith, within, as_many) in
-    let before = c.in_err-played.ensures.honest honest in
-    let bytes : bytes_at now c.loop-index.chains index ≡ joined file (links_at all index) = λ i. joined (content (c.loop-index.invariant.same_state before i)) (links_at (c.loop-index.invariant.all i) index) in
+    let before = c.in_err-played.ensures.only_reads.honest honest in
+    let bytes : bytes_at now c.loop-index.chains index ≡ joined file (links_at all index) = λ i. joined (content (c.loop-index.invariant.only_reads.same_state before i)) (links_at (c.loop-index.invariant.only_reads.all i) index) in
     told_end c.args.kit c.args.snapshots.entries.now (standing_chains c.args.snapshots.chains.now) c.loop-index.tables.kit c.args.entries.now (tables_in file c.args.chains.now) index c.index-entries-index.result
     (held_at file all index) (bytes_at now c.loop-index.chains index) (world_of c.loop-index.tables) within (omega (arith, chain_in, length-map all (held_in file))) c.index-entries-index.is
     (get_held file all index (held_at file all index) chain_in) bytes c.loop-index.invariant.kit (c.loop-index.invariant.told before as_many) (refused honest)))
@@ -53,8 +56,8 @@ loop-index-preserved g c =
     record {
       told = λ honest as_many.
           let chain_in : index < length all = omega (arith, within, as_many) in
-          let before = c.in_ok-played.ensures.honest honest in
-          let bytes : bytes_at now c.loop-index.chains index ≡ joined file (links_at all index) = λ i. joined (content (c.loop-index.invariant.same_state before i)) (links_at (c.loop-index.invariant.all i) index) in
+          let before = c.in_ok-played.ensures.only_reads.honest honest in
+          let bytes : bytes_at now c.loop-index.chains index ≡ joined file (links_at all index) = λ i. joined (content (c.loop-index.invariant.only_reads.same_state before i)) (links_at (c.loop-index.invariant.only_reads.all i) index) in
           told_put c.args.entries.now (tables_in file c.args.chains.now) index entry (held_at file all index) (bytes_at now c.loop-index.chains index) old new put.0 within
           (omega (arith, chain_in, length-map all (held_in file))) c.index-entries-index.is (get_held file all index (held_at file all index) chain_in) bytes
           (c.loop-index.invariant.told before as_many) put.1 (put.2 honest);
@@ -66,20 +69,24 @@ loop-index-preserved g c =
       games = below_more (λ place. All SpellsItsGame (shown_of place c.args.snapshots)) index c.loop-index.invariant.games c.in_ok-played.ensures.games;
       plays = λ honest.
           plays_put c.args.kit c.args.snapshots.entries.now (standing_chains c.args.snapshots.chains.now) c.loop-index.tables.kit index entry old new put.0 c.loop-index.plays c.in_ok-played.played (c.loop-index.plays + c.in_ok-played.played)
-          c.loop-index.invariant.kit put.1 c.loop-index.invariant.counted refl (c.loop-index.invariant.plays (c.in_ok-played.ensures.honest honest)) (put.4 honest);
+          c.loop-index.invariant.kit put.1 c.loop-index.invariant.counted refl (c.loop-index.invariant.plays (c.in_ok-played.ensures.only_reads.honest honest)) (put.4 honest);
       bounded = omega (arith, c.loop-index.invariant.bounded, c.in_ok-played.ensures.few_plays);
       room = omega (arith, c.loop-index.invariant.counted, c.in_ok-played.ensures.few_tables);
-      all = c.restore_table.ensures.all ∙ c.loop-index.invariant.all;
-      pages = c.restore_table.ensures.pages ∙ c.loop-index.invariant.pages;
-      honest = search rules;
-      same_state = search rules;
-      same_past = search rules;
-      faults = search rules;
-      writes = search rules;
-      syncs = search rules;
-      works = search rules;
-      same_len = search rules;
+      only_reads = reads_on c.loop-index.invariant.only_reads (valued c.in_ok-played.ensures.only_reads);
     }
 
 pub returns-clause-games : goal.returns-clause-games
 returns-clause-games g c = λ place within. c.loop-index.invariant.games place (omega (arith, within, c.loop-index-test.false))
+
+pub returns-in_err-tables-clause-only_reads : goal.returns-in_err-tables-clause-only_reads
+returns-in_err-tables-clause-only_reads g c =
+    let p = err_from_is_err_and c.from_residual.result c.from_residual.ensures.1 in
+    rw (p.1, p.2) (refused _ (subst (λ (f : Fault). IsOfDevice f) c.in_err-tables.ensures.memory) (turned refl refl))
+
+pub returns-in_err-played-clause-only_reads : goal.returns-in_err-played-clause-only_reads
+returns-in_err-played-clause-only_reads g c =
+    let p = err_from_is_err_and c.from_residual-in_err-played.result c.from_residual-in_err-played.ensures.1 in
+    rw (p.1, p.2) (reads_on c.loop-index.invariant.only_reads (failed c.in_err-played.ensures.only_reads))
+
+pub returns-clause-only_reads : goal.returns-clause-only_reads
+returns-clause-only_reads g c = valued c.loop-index.invariant.only_reads

@@ -1,8 +1,9 @@
-use Rattle.std.proofs.Common.{◌≡◌, ℕ, ◌*◌, ◌^◌, ◌<◌, ◌≤◌, All, length, take}
+use Rattle.std.proofs.Common.{◌≡◌, ℕ, ◌*◌, ◌^◌, ◌<◌, ◌≤◌, All, length, take, Ok}
 use Rattle.rr_reading.specs.Held.{tables_in}
-use Rattle.rr_reading.specs.Lending.Chains.{all_of, count_of}
+use Rattle.rr_reading.specs.Lending.Chains.{all_of}
 use Rattle.rr_tables.specs.Records.Played.{ArePlayedTables}
 use Rattle.rr_tables.specs.Tables.{ArePlayed, HaveTheirSnapshots, world_of}
+use Rattle.rr_store.specs.Recovery.Reading.{OnlyReads}
 use Rattle.rr_store.specs.Recovery.Shown.{AreShown, SpellsItsGame, shown_of}
 use Rattle.rr_store.specs.Recovery.Told.{TellTables}
 use Rattle.rr_store.specs.Replayed.{PlaysTables, counts_shown}
@@ -21,14 +22,5 @@ invariant-loop-index g l =
       plays : g.D.Disk.Honest l.disk → AreShown l.fn.kit l.snapshots (world_of l.tables) → PlaysTables l.fn.kit (λ place. counts_shown (shown_of place l.snapshots)) 0 (world_of l.tables) l.plays;
       bounded : l.plays ≤ l.index * 2 ^ 33;
       room : l.index ≤ MOST_TABLES;
-      all : all_of l.chains.chains ≡ all_of l.fn.chains.chains;
-      pages : count_of l.chains.chains ≡ count_of l.fn.chains.chains;
-      honest : g.D.Disk.Honest l.disk → g.D.Disk.Honest l.fn.disk;
-      same_state : g.D.Disk.Honest l.disk → g.D.Disk.state l.disk ≡ g.D.Disk.state l.fn.disk;
-      same_past : g.D.Disk.Honest l.disk → g.D.Disk.past l.disk ≡ g.D.Disk.past l.fn.disk;
-      faults : g.D.Disk.fault_count l.disk ≡ g.D.Disk.fault_count l.fn.disk;
-      writes : g.D.Disk.write_count l.disk ≡ g.D.Disk.write_count l.fn.disk;
-      syncs : g.D.Disk.sync_count l.disk ≡ g.D.Disk.sync_count l.fn.disk;
-      works : g.D.Disk.Works l.disk → g.D.Disk.Works l.fn.disk;
-      same_len : g.D.Disk.file_len l.disk ≡ g.D.Disk.file_len l.fn.disk;
+      only_reads : OnlyReads {T = Unit {0}} g.D.Disk l.fn.disk l.disk l.fn.chains l.chains (Ok tt);
     }

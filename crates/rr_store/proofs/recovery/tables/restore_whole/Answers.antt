@@ -3,7 +3,6 @@ use Rattle.std.proofs.lemmas.List.Elements.{All-nil}
 use Rattle.std.proofs.lemmas.Result.{err_from_is_err_and}
 use Rattle.rr_disk.specs.Disk.{DiskState}
 use Rattle.rr_game.specs.History.Tables.{kept_in}
-use Rattle.rr_reading.specs.Lending.Chains.{count_of}
 use Rattle.rr_reading.specs.Lending.Commands.{bytes_at}
 use Rattle.rr_reading.specs.Lending.Fitting.{links_at}
 use Rattle.rr_reading.specs.Lending.Pages.{joined}
@@ -13,7 +12,8 @@ use Rattle.rr_store.specs.Replayed.{AreItsCounts, counts_shown, counts_then, pla
 use Rattle.rr_tables.specs.Records.World.{TableState}
 use Rattle.rr_store.proofs.RecoveryLemmas.PlayingLemmas.{breaks_so}
 use Rattle.rr_store.proofs.RecoveryLemmas.PlaysLemmas.{tells_counted}
-use Rattle.rr_store.proofs.RecoveryLemmas.RestoringLemmas.{device_behind, one_told}
+use Rattle.rr_store.proofs.RecoveryLemmas.ReadingLemmas.{failed, reads_on, valued}
+use Rattle.rr_store.proofs.RecoveryLemmas.RestoringLemmas.{one_told}
 use Rattle.rr_store.proofs.recovery.tables.restore_whole.Goals as goal
 
 content : DiskState → List ℕ
@@ -28,16 +28,17 @@ returns-in_err-played-clause-refused g c =
     let now = (g.D.Disk.state c.restore_from.new.disk).content in
     rw (p.1, p.2)
     (breaks_so _ c.in_err-played.ensures.refused (λ none honest few state tells shown.
-    let before = c.in_err-played.ensures.honest honest in
-    let bytes : bytes_at now c.restore_from.new.chains index ≡ bytes_at file c.args.chains.now index = λ i. joined (content (c.in_ok-told.ensures.same_state before i)) (links_at (c.in_ok-told.ensures.all i) index) in
+    let before = c.in_err-played.ensures.only_reads.honest honest in
+    let bytes : bytes_at now c.restore_from.new.chains index ≡ bytes_at file c.args.chains.now index = λ i. joined (content (c.in_ok-told.ensures.only_reads.same_state before i)) (links_at (c.in_ok-told.ensures.only_reads.all i) index) in
     none honest few state (subst (λ (bs : List ℕ). TellsTable c.args.entry.now bs (c.args.entry.now.name, state)) (sym bytes) tells) (All-nil (ShowsPlayOf c.args.kit.now state.commands))))
 
-pub returns-in_err-played-clause-device : goal.returns-in_err-played-clause-device
-returns-in_err-played-clause-device g c =
+pub returns-in_err-played-clause-only_reads : goal.returns-in_err-played-clause-only_reads
+returns-in_err-played-clause-only_reads g c =
     let p = err_from_is_err_and c.from_residual-in_err-played.result c.from_residual-in_err-played.ensures.1 in
-    rw (p.1, p.2)
-    (device_behind (g.D.Disk.Works c.restore_from-2.new.disk) (g.D.Disk.file_len c.args.disk.now) (g.D.Disk.file_len c.restore_from.new.disk) (count_of c.args.chains.now.chains) (count_of c.restore_from.new.chains.chains) _
-    c.in_ok-told.ensures.same_len c.in_ok-told.ensures.pages c.in_err-played.ensures.device)
+    rw (p.1, p.2) (reads_on c.in_ok-told.ensures.only_reads (failed c.in_err-played.ensures.only_reads))
+
+pub returns-clause-only_reads : goal.returns-clause-only_reads
+returns-clause-only_reads g c = reads_on c.in_ok-told.ensures.only_reads (valued c.in_ok-played.ensures.only_reads)
 
 pub returns-clause-told : goal.returns-clause-told
 unfolding content
@@ -45,8 +46,8 @@ returns-clause-told g c = λ honest.
     let index = c.args.index in
     let file = (g.D.Disk.state c.args.disk.now).content in
     let now = (g.D.Disk.state c.restore_from.new.disk).content in
-    let before = c.in_ok-played.ensures.honest honest in
-    let bytes : bytes_at now c.restore_from.new.chains index ≡ bytes_at file c.args.chains.now index = λ i. joined (content (c.in_ok-told.ensures.same_state before i)) (links_at (c.in_ok-told.ensures.all i) index) in
+    let before = c.in_ok-played.ensures.only_reads.honest honest in
+    let bytes : bytes_at now c.restore_from.new.chains index ≡ bytes_at file c.args.chains.now index = λ i. joined (content (c.in_ok-told.ensures.only_reads.same_state before i)) (links_at (c.in_ok-told.ensures.only_reads.all i) index) in
     subst (λ (bs : List ℕ). TellsTable c.args.entry.now bs (c.args.entry.now.name, kept_in c.in_ok-played.played.value)) bytes (c.in_ok-played.ensures.told honest)
 
 pub returns-clause-played : goal.returns-clause-played
@@ -75,8 +76,8 @@ returns-clause-plays g c = λ honest shows.
     let now = (g.D.Disk.state c.restore_from.new.disk).content in
     let first = kept_in c.in_ok-told.told.value in
     let second = kept_in c.in_ok-played.played.value in
-    let before = c.in_ok-played.ensures.honest honest in
-    let bytes : bytes_at now c.restore_from.new.chains index ≡ bytes_at file c.args.chains.now index = λ i. joined (content (c.in_ok-told.ensures.same_state before i)) (links_at (c.in_ok-told.ensures.all i) index) in
+    let before = c.in_ok-played.ensures.only_reads.honest honest in
+    let bytes : bytes_at now c.restore_from.new.chains index ≡ bytes_at file c.args.chains.now index = λ i. joined (content (c.in_ok-told.ensures.only_reads.same_state before i)) (links_at (c.in_ok-told.ensures.only_reads.all i) index) in
     let tells = subst (λ (bs : List ℕ). TellsTable entry bs (entry.name, second)) bytes (c.in_ok-played.ensures.told honest) in
     let same : second ≡ first = one_told entry (bytes_at file c.args.chains.now index) second first tells (c.in_ok-told.ensures.told before) in
     let counted = tells_counted entry (bytes_at file c.args.chains.now index) second tells in
@@ -87,3 +88,16 @@ returns-clause-plays g c = λ honest shows.
       twice = λ others.
           omega (arith, c.in_ok-told.ensures.plays, c.in_ok-played.ensures.plays, ap (λ (n : ℕ). plays_behind n (counts_shown shown)) counted, ap (λ (n : ℕ). plays_behind n []) counted);
     }
+
+pub returns-in_err-told-clause-only_reads : goal.returns-in_err-told-clause-only_reads
+returns-in_err-told-clause-only_reads g c =
+    let p = err_from_is_err_and c.from_residual.result c.from_residual.ensures.1 in
+    rw (p.1, p.2) (failed c.in_err-told.ensures.only_reads)
+
+pub returns-then-has_its_snapshots-clause-only_reads : goal.returns-then-has_its_snapshots-clause-only_reads
+returns-then-has_its_snapshots-clause-only_reads g c = c.in_ok-told.ensures.only_reads
+
+pub returns-in_err-told-clause-refused : goal.returns-in_err-told-clause-refused
+returns-in_err-told-clause-refused g c =
+    let p = err_from_is_err_and c.from_residual.result c.from_residual.ensures.1 in
+    rw (p.1, p.2) c.in_err-told.ensures.refused

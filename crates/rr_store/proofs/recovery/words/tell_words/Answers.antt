@@ -1,4 +1,5 @@
-use Rattle.std.proofs.Common.{◌≡◌, ◌<◌, ◌∙◌, ℕ, List, length, sym, subst, arith, rules}
+use Rattle.std.proofs.Common.{◌≡◌, ◌<◌, ℕ, List, length, refl, sym, subst, arith}
+use Rattle.std.proofs.lemmas.Result.{err_from_is_err_and}
 use Rattle.std.proofs.lemmas.Bool.{iff_false}
 use Rattle.rr_disk.specs.Disk.{DiskState}
 use Rattle.rr_reading.specs.Lending.Chains.{all_of}
@@ -6,6 +7,7 @@ use Rattle.rr_reading.specs.Lending.Commands.{bytes_at}
 use Rattle.rr_reading.specs.Lending.Fitting.{links_at}
 use Rattle.rr_reading.specs.Lending.Pages.{joined}
 use Rattle.rr_store.specs.Recovery.Told.{TellsWords}
+use Rattle.rr_store.proofs.RecoveryLemmas.ReadingLemmas.{failed, reads_on, turned, valued}
 use Rattle.rr_store.proofs.RecoveryLemmas.TellingLemmas.{left_more, left_none}
 use Rattle.rr_store.proofs.recovery.words.tell_words.Goals as goal
 
@@ -21,8 +23,8 @@ returns-then-not-told-clause-told g c = λ honest.
     let chain_in : index < length all = omega (arith, within, c.if-entries-chain_count.false, c.chain_count.ensures) in
     let file = (g.D.Disk.state c.args.disk.now).content in
     let now = (g.D.Disk.state c.loop-index.disk).content in
-    let before = c.in_ok-told.ensures.honest honest in
-    let bytes : bytes_at now c.loop-index.chains index ≡ joined file (links_at all index) = λ i. joined (content (c.loop-index.invariant.same_state before i)) (links_at (c.loop-index.invariant.all i) index) in
+    let before = c.in_ok-told.ensures.only_reads.honest honest in
+    let bytes : bytes_at now c.loop-index.chains index ≡ joined file (links_at all index) = λ i. joined (content (c.loop-index.invariant.only_reads.same_state before i)) (links_at (c.loop-index.invariant.only_reads.all i) index) in
     let entry = c.index-entries-index.result in (
       λ h. absurd (cc h),
       λ told.
@@ -42,18 +44,23 @@ loop-index-preserved g c =
     let entry = c.index-entries-index.result in
     record {
       decide = λ honest.
-          let before = c.in_ok-told.ensures.honest honest in
-          let bytes : bytes_at now c.loop-index.chains index ≡ joined file (links_at all index) = λ i. joined (content (c.loop-index.invariant.same_state before i)) (links_at (c.loop-index.invariant.all i) index) in
+          let before = c.in_ok-told.ensures.only_reads.honest honest in
+          let bytes : bytes_at now c.loop-index.chains index ≡ joined file (links_at all index) = λ i. joined (content (c.loop-index.invariant.only_reads.same_state before i)) (links_at (c.loop-index.invariant.only_reads.all i) index) in
           left_more TellsWords file c.args.entries.now all index entry within chain_in c.index-entries-index.is (c.loop-index.invariant.decide before)
           (subst (λ (bs : List ℕ). TellsWords entry bs) bytes ((c.in_ok-told.ensures.told honest).0 c.if-not-told.false));
-      all = c.in_ok-told.ensures.all ∙ c.loop-index.invariant.all;
-      pages = c.in_ok-told.ensures.pages ∙ c.loop-index.invariant.pages;
-      honest = search rules;
-      same_state = search rules;
-      same_past = search rules;
-      faults = search rules;
-      writes = search rules;
-      syncs = search rules;
-      works = search rules;
-      same_len = search rules;
+      only_reads = reads_on c.loop-index.invariant.only_reads (valued c.in_ok-told.ensures.only_reads);
     }
+
+pub returns-then-entries-chain_count-clause-only_reads : goal.returns-then-entries-chain_count-clause-only_reads
+returns-then-entries-chain_count-clause-only_reads g c = valued (turned refl refl)
+
+pub returns-in_err-told-clause-only_reads : goal.returns-in_err-told-clause-only_reads
+returns-in_err-told-clause-only_reads g c =
+    let p = err_from_is_err_and c.from_residual.result c.from_residual.ensures.1 in
+    rw (p.1, p.2) (reads_on c.loop-index.invariant.only_reads (failed c.in_err-told.ensures.only_reads))
+
+pub returns-then-not-told-clause-only_reads : goal.returns-then-not-told-clause-only_reads
+returns-then-not-told-clause-only_reads g c = reads_on c.loop-index.invariant.only_reads (valued c.in_ok-told.ensures.only_reads)
+
+pub returns-clause-only_reads : goal.returns-clause-only_reads
+returns-clause-only_reads g c = valued c.loop-index.invariant.only_reads

@@ -1,6 +1,6 @@
-use Rattle.std.proofs.Common.{◌≡◌}
-use Rattle.rr_reading.specs.Lending.Chains.{all_of, count_of}
+use Rattle.std.proofs.Common.{Ok}
 use Rattle.rr_reading.specs.Lending.Commands.{bytes_at, rest_of, steps_left_of}
+use Rattle.rr_store.specs.Recovery.Reading.{OnlyReads}
 use Rattle.rr_store.proofs.RecoveryLemmas.WordLemmas.{SpellsSo}
 use Rattle.rr_store.proofs.recovery.words.tells_words.Given as goal
 
@@ -8,16 +8,7 @@ abbrev pub invariant-commands : goal.invariant-commands
 invariant-commands g l =
     record {
       spells : g.D.Disk.Honest l.disk → SpellsSo (bytes_at (g.D.Disk.state l.fn.disk).content l.fn.chains l.fn.index) (rest_of (g.D.Disk.state l.fn.disk).content l.chains) l.left l.fn.entry.kept;
-      all : all_of l.chains.chains ≡ all_of l.fn.chains.chains;
-      pages : count_of l.chains.chains ≡ count_of l.fn.chains.chains;
-      honest : g.D.Disk.Honest l.disk → g.D.Disk.Honest l.fn.disk;
-      same_state : g.D.Disk.Honest l.disk → g.D.Disk.state l.disk ≡ g.D.Disk.state l.fn.disk;
-      same_past : g.D.Disk.Honest l.disk → g.D.Disk.past l.disk ≡ g.D.Disk.past l.fn.disk;
-      faults : g.D.Disk.fault_count l.disk ≡ g.D.Disk.fault_count l.fn.disk;
-      writes : g.D.Disk.write_count l.disk ≡ g.D.Disk.write_count l.fn.disk;
-      syncs : g.D.Disk.sync_count l.disk ≡ g.D.Disk.sync_count l.fn.disk;
-      works : g.D.Disk.Works l.disk → g.D.Disk.Works l.fn.disk;
-      same_len : g.D.Disk.file_len l.disk ≡ g.D.Disk.file_len l.fn.disk;
+      only_reads : OnlyReads {T = Unit {0}} g.D.Disk l.fn.disk l.disk l.fn.chains l.chains (Ok tt);
     }
 
 abbrev pub decreases-commands : goal.decreases-commands
